@@ -1,0 +1,58 @@
+-- What a game is, apart from its text and from how the code keeps it.
+use Rattle.std.specs.Prelude.{ℕ, ◌+◌, ◌≡◌, ◌≤◌, List, ◌++◌, length, bit_and, bit_or, slice_index, slice_index_or, take}
+use Rattle.std.specs.Int.{from_be_bytes, to_be_bytes, w8, w16, w32, w64}
+use Rattle.sha2.specs.Sha256.{sha256}
+use Rattle.c8_game.specs.declared.row.Row.{Row}
+
+-- the rules of a game: a mask for each of four players, 0 for one who is not in the game
+pub record Rules : Type 0 where
+  pub players : ℕ
+  pub ipf : ℕ
+  pub frames : ℕ
+  pub delay : ℕ
+  pub window : ℕ
+  pub seed : ℕ
+  pub masks : List ℕ
+  pub program : List ℕ
+
+-- the numbers lie in their ranges
+pub record AreInRange (rules : Rules) : Type 0 where
+  pub at_least_two : 2 ≤ rules.players
+  pub at_most_four : rules.players ≤ 4
+  pub some_instructions : 1 ≤ rules.ipf
+  pub instructions : rules.ipf ≤ 100
+  pub some_frames : 1 ≤ rules.frames
+  pub frames : rules.frames ≤ 262144
+  pub delay : rules.delay ≤ 4
+  pub some_window : 1 ≤ rules.window
+  pub window : rules.window ≤ 12
+  pub masks : length rules.masks ≡ 4
+  pub some_program : 1 ≤ length rules.program
+  pub program : length rules.program ≤ 3584
+
+-- the keys of player q + 1 in a row, less those that the player's mask lacks
+abbrev pub masked : Rules → Row → ℕ → ℕ
+masked rules row q = bit_and (slice_index_or row.sets q (record { 0 = 0 })).0 (slice_index rules.masks q)
+
+-- the keys of a frame: the union over the players; the mask of one who is not in the game is 0
+abbrev pub joined : Rules → Row → ℕ
+joined rules row = bit_or (masked rules row 0) (bit_or (masked rules row 1) (bit_or (masked rules row 2) (masked rules row 3)))
+
+-- the greatest length of a player's list of inputs
+abbrev pub limit_of : Rules → ℕ
+limit_of rules = rules.frames + rules.delay
+
+-- the numbers of the rules, in 26 bytes, each number with its most significant byte first
+unfoldable pub number_bytes : Rules → List ℕ
+number_bytes rules =
+    to_be_bytes w8 rules.players ++ to_be_bytes w8 rules.ipf ++ to_be_bytes w32 rules.frames ++ to_be_bytes w8 rules.delay ++ to_be_bytes w8 rules.window
+    ++ to_be_bytes w64 rules.seed ++ to_be_bytes w16 (slice_index rules.masks 0) ++ to_be_bytes w16 (slice_index rules.masks 1)
+    ++ to_be_bytes w16 (slice_index rules.masks 2) ++ to_be_bytes w16 (slice_index rules.masks 3) ++ to_be_bytes w16 (length rules.program)
+
+-- the digest by which peers know that they play the same game
+abbrev pub id_of : Rules → List ℕ
+id_of rules = sha256 (number_bytes rules ++ rules.program)
+
+-- the first 8 bytes of the digest of the game's id and the room, as a number
+abbrev pub session_of : Rules → ℕ → ℕ
+session_of rules room = from_be_bytes w64 (take 8 (sha256 (id_of rules ++ to_be_bytes w64 room)))

@@ -1,0 +1,208 @@
+//! A game: the program that is played, and the numbers that all its players agree on.
+ghost use Rattle.std.specs.Prelude.{◌≡◌, ◌≤◌, ◌-◌, ◌++◌, Some, length, slice_get};
+ghost use Rattle.sha2.specs.Sha256.{sha256};
+ghost use Rattle.c8_game.specs.Rules.{joined, limit_of, number_bytes, id_of, session_of};
+
+use crate::row::{Keys, Player, Row};
+use sha2::{Digest, Sha256};
+use std::marker::Model;
+
+/// A game, as its text gives it. Contracts see it as its `Rules` (`specs/Rules.antt`).
+#[derive(Drop)]
+pub struct Game {
+    players: u8,
+    ipf: u8,
+    frames: u32,
+    delay: u8,
+    window: u8,
+    seed: u64,
+    masks: [u16; 4],
+    program: Vec<u8>,
+}
+
+impl Model for Game {
+    ghost use Rattle.std.specs.Prelude.{ℕ};
+    ghost use Rattle.c8_game.specs.Rules.{Rules, AreInRange};
+
+    ghost Value = { Rules };
+
+    ghost view = { λ g. record {
+      players = g.players;
+      ipf = g.ipf;
+      frames = g.frames;
+      delay = g.delay;
+      window = g.window;
+      seed = g.seed;
+      masks = g.masks;
+      program = g.program.items;
+    } };
+
+    ghost invariant = { λ g. AreInRange (record {
+      players = g.players;
+      ipf = g.ipf;
+      frames = g.frames;
+      delay = g.delay;
+      window = g.window;
+      seed = g.seed;
+      masks = g.masks;
+      program = g.program.items;
+    }) };
+}
+
+impl Game {
+    /// How many players there are, 2 to 4.
+    pub fn players(&self) -> u8
+        ensures value { result ≡ self.now.players }
+        ensures least { 2 ≤ result }
+        ensures greatest { result ≤ 4 }
+    {
+        self.players
+    }
+
+    /// How many instructions a frame has at most, 1 to 100.
+    pub fn ipf(&self) -> u8
+        ensures value { result ≡ self.now.ipf }
+        ensures least { 1 ≤ result }
+        ensures greatest { result ≤ 100 }
+    {
+        self.ipf
+    }
+
+    /// The number of frames, 1 to 262144.
+    pub fn frames(&self) -> u32
+        ensures value { result ≡ self.now.frames }
+        ensures least { 1 ≤ result }
+        ensures greatest { result ≤ 262144 }
+    {
+        self.frames
+    }
+
+    /// How many empty sets begin each player's inputs, 0 to 4.
+    pub fn delay(&self) -> u8
+        ensures value { result ≡ self.now.delay }
+        ensures greatest { result ≤ 4 }
+    {
+        self.delay
+    }
+
+    /// How many frames a peer may run ahead of the confirmed ones, 1 to 12.
+    pub fn window(&self) -> u8
+        ensures value { result ≡ self.now.window }
+        ensures least { 1 ≤ result }
+        ensures greatest { result ≤ 12 }
+    {
+        self.window
+    }
+
+    /// What the machine's random bytes are drawn from.
+    pub fn seed(&self) -> u64
+        ensures { result ≡ self.now.seed }
+    {
+        self.seed
+    }
+
+    /// The keys that a player may hold down, none for a player who is not in the game.
+    pub fn mask(&self, player: Player) -> Keys
+        ensures { slice_get self.now.masks (player.number - 1) ≡ Some result.0 }
+    {
+        Keys(self.masks[usize::from(player.number - 1)])
+    }
+
+    /// The program, 1 to 3584 bytes, which a machine has from address 200 (hexadecimal) on.
+    pub fn program(&self) -> &[u8]
+        ensures value { result.now ≡ self.now.program }
+        ensures least { 1 ≤ length result.now }
+        ensures greatest { length result.now ≤ 3584 }
+    {
+        &self.program
+    }
+
+    /// The greatest length of a player's list of inputs: that of the frames, and the delay's sets.
+    pub fn limit(&self) -> u32
+        ensures value { result ≡ limit_of self.now }
+        ensures greatest { result ≤ 262148 }
+    {
+        self.frames + u32::from(self.delay)
+    }
+
+    /// The keys of a frame: the union over the players of set and mask.
+    pub fn joined(&self, row: &Row) -> Keys
+        ensures { result.0 ≡ joined self.now row.now }
+    {
+        let [one, two, three, four] = row.sets;
+        let [mask_one, mask_two, mask_three, mask_four] = self.masks;
+        Keys(
+            (one.0 & mask_one)
+                | ((two.0 & mask_two) | ((three.0 & mask_three) | (four.0 & mask_four))),
+        )
+    }
+
+    /// SHA-256 (FIPS 180-4) over the rules: players (1 byte), ipf (1), frames (4), delay (1),
+    /// window (1), seed (8), the four masks (2 each), the program's length (2) and the program, each
+    /// number with its most significant byte first.
+    pub fn id(&self) -> [u8; 32]
+        ensures { result ≡ id_of self.now }
+    {
+        digest_of_both(&self.number_bytes(), self.program())
+    }
+
+    #[tactic(auto, unfolding(crate::specs::Rules::number_bytes))]
+    fn number_bytes(&self) -> [u8; 26]
+        ensures { result ≡ number_bytes self.now }
+    {
+        let [f0, f1, f2, f3] = self.frames.to_be_bytes();
+        let [s0, s1, s2, s3, s4, s5, s6, s7] = self.seed.to_be_bytes();
+        let [a0, a1] = self.masks[0].to_be_bytes();
+        let [b0, b1] = self.masks[1].to_be_bytes();
+        let [c0, c1] = self.masks[2].to_be_bytes();
+        let [d0, d1] = self.masks[3].to_be_bytes();
+        let [n0, n1] = (self.program.len() as u16).to_be_bytes();
+        [
+            self.players,
+            self.ipf,
+            f0,
+            f1,
+            f2,
+            f3,
+            self.delay,
+            self.window,
+            s0,
+            s1,
+            s2,
+            s3,
+            s4,
+            s5,
+            s6,
+            s7,
+            a0,
+            a1,
+            b0,
+            b1,
+            c0,
+            c1,
+            d0,
+            d1,
+            n0,
+            n1,
+        ]
+    }
+
+    /// What tells one match of this game from another: the first 8 bytes of SHA-256 over the id and
+    /// the room (8 bytes), as a number.
+    pub fn session(&self, room: u64) -> u64
+        ensures { result ≡ session_of self.now room }
+    {
+        let [a, b, c, d, e, f, g, h, ..] = digest_of_both(&self.id(), &room.to_be_bytes());
+        u64::from_be_bytes([a, b, c, d, e, f, g, h])
+    }
+}
+
+/// The digest of two pieces taken as one message.
+fn digest_of_both(first: &[u8], second: &[u8]) -> [u8; 32]
+    ensures { result ≡ sha256 (first.now ++ second.now) }
+{
+    let mut hasher = Sha256::new();
+    hasher.update(first);
+    hasher.update(second);
+    hasher.finalize()
+}

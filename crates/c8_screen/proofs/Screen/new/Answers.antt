@@ -1,0 +1,5 @@
+use Rattle.c8_screen.proofs.PointLemmas.{points_of-dark}
+use Rattle.c8_screen.proofs.Screen.new.Goals as goal
+
+pub returns : goal.returns
+returns c = points_of-dark
