@@ -1,1 +1,5 @@
 pub mod Rules
+pub mod Lines
+pub mod Fields
+pub mod GameText
+pub mod Draft

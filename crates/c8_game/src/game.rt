@@ -1,23 +1,29 @@
 //! A game: the program that is played, and the numbers that all its players agree on.
-ghost use Rattle.std.specs.Prelude.{◌≡◌, ◌≤◌, ◌-◌, ◌++◌, Some, length, slice_get};
+ghost use Rattle.std.specs.Prelude.{◌≡◌, ◌≤◌, ◌-◌, ◌++◌, ◌⊎◌, IfOk, IfErr, Some, length, slice_get};
 ghost use Rattle.sha2.specs.Sha256.{sha256};
+ghost use Rattle.c8_game.specs.GameText.{Spells, refusal};
+ghost use Rattle.c8_game.specs.declared.error.GameError.TheVariants.{Memory};
 ghost use Rattle.c8_game.specs.Rules.{joined, limit_of, number_bytes, id_of, session_of};
 
+use crate::error::GameError;
 use crate::row::{Keys, Player, Row};
+use crate::text::draft::Draft;
+use crate::text::lines::Lines;
 use sha2::{Digest, Sha256};
+use std::alloc::Global;
 use std::marker::Model;
 
 /// A game, as its text gives it. Contracts see it as its `Rules` (`specs/Rules.antt`).
 #[derive(Drop)]
 pub struct Game {
-    players: u8,
-    ipf: u8,
-    frames: u32,
-    delay: u8,
-    window: u8,
-    seed: u64,
-    masks: [u16; 4],
-    program: Vec<u8>,
+    pub(crate) players: u8,
+    pub(crate) ipf: u8,
+    pub(crate) frames: u32,
+    pub(crate) delay: u8,
+    pub(crate) window: u8,
+    pub(crate) seed: u64,
+    pub(crate) masks: [u16; 4],
+    pub(crate) program: Vec<u8>,
 }
 
 impl Model for Game {
@@ -50,6 +56,24 @@ impl Model for Game {
 }
 
 impl Game {
+    /// The game that a text spells. Lines end before a line feed, and one carriage return before it is
+    /// dropped; empty lines and lines that begin with `#` say nothing; every other line is a name, one
+    /// space and a value.
+    ///
+    /// Lines are judged in order, within a line first for `Line`, then `Twice`, then `Hex` or `Range`;
+    /// after the last line come `Missing`, then `Range` for the program's length and for a mask of a
+    /// player who is not in the game. `Memory` comes only where a growth was refused.
+    pub fn read(alloc: Global, text: &[u8]) -> Result<Game, GameError>
+        ensures game { IfOk result (λ game. Spells text.now game) }
+        ensures refused { IfErr result (λ e. (e ≡ Memory) ⊎ (refusal text.now ≡ Some e)) }
+    {
+        let mut draft = Draft::new(alloc);
+        for line in Lines::new(text) {
+            draft.add(alloc, line)?;
+        }
+        draft.finish()
+    }
+
     /// How many players there are, 2 to 4.
     pub fn players(&self) -> u8
         ensures value { result ≡ self.now.players }

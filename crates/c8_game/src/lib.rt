@@ -1,11 +1,16 @@
 //! What is played: key sets and players, and the game that its text describes.
 //!
-//! `Game` is read from a text by `Game::read`, once; nothing else here takes memory. Its contract is
-//! in the words of `specs/`: `Rules` is a game apart from its text.
+//! `Game` is read from a text by `Game::read`, once; nothing else here takes memory. Contracts see a
+//! game as its `Rules` (`specs/Rules.antt`); `specs/GameText.antt` says which text spells which rules,
+//! and which fault refuses every other text.
 #![tactic(auto)]
 
+mod error;
 mod game;
 mod row;
+mod text;
 
+pub use error::GameError;
 pub use game::Game;
 pub use row::{Keys, Player, Row};
+pub use text::lines::Lines;

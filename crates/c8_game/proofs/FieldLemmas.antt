@@ -1,0 +1,59 @@
+-- A list of numbers by field, after one of them is set.
+use Rattle.std.proofs.Common.{◌≡◌, ◌≢◌, ℕ, ◌<◌, nat_eq, cond, length, List, Option, Some, None, refl, ap, sym, ◌∙◌, arith, get_or-set_same, get_or-set_other, inl, inr}
+use Rattle.std.proofs.lemmas.Bool.{cases_eq}
+use Rattle.std.specs.Prelude.{slice_set}
+use Rattle.c8_game.specs.declared.text.field.Field.{Field}
+use Rattle.c8_game.specs.declared.text.field.Field.TheVariants.{Players, Ipf, Frames, Delay, Window, Seed, Mask1, Mask2, Mask3, Mask4}
+use Rattle.c8_game.specs.Fields.{index_of, IsWithin, value_at}
+
+field_at : ℕ → Field
+field_at n =
+    cond (nat_eq n 0) Players (cond (nat_eq n 1) Ipf (cond (nat_eq n 2) Frames (cond (nat_eq n 3) Delay (cond (nat_eq n 4) Window
+    (cond (nat_eq n 5) Seed (cond (nat_eq n 6) Mask1 (cond (nat_eq n 7) Mask2 (cond (nat_eq n 8) Mask3 Mask4))))))))
+
+field_at-index : (field : Field) → field_at (index_of field) ≡ field
+unfolding field_at
+field_at-index Players = refl
+field_at-index Ipf = refl
+field_at-index Frames = refl
+field_at-index Delay = refl
+field_at-index Window = refl
+field_at-index Seed = refl
+field_at-index Mask1 = refl
+field_at-index Mask2 = refl
+field_at-index Mask3 = refl
+field_at-index Mask4 = refl
+
+pub same_field : (f g : Field) → index_of f ≡ index_of g → f ≡ g
+same_field f g same = sym (field_at-index f) ∙ ap field_at same ∙ field_at-index g
+
+pub index_of-small : (f : Field) → index_of f < 10
+index_of-small Players = omega arith
+index_of-small Ipf = omega arith
+index_of-small Frames = omega arith
+index_of-small Delay = omega arith
+index_of-small Window = omega arith
+index_of-small Seed = omega arith
+index_of-small Mask1 = omega arith
+index_of-small Mask2 = omega arith
+index_of-small Mask3 = omega arith
+index_of-small Mask4 = omega arith
+
+-- one field's number was set, and the others stay
+pub value_at-set_same : (values : List (Option ℕ)) (field : Field) (number : ℕ) → length values ≡ 10 → value_at (slice_set values (index_of field) (Some number)) field ≡ Some number
+value_at-set_same values field number size = let within : index_of field < length values = omega (arith, index_of-small field) in get_or-set_same values (index_of field) (Some number) None within
+
+pub value_at-set_other : (values : List (Option ℕ)) (field other : Field) (number : ℕ) → index_of other ≢ index_of field → value_at (slice_set values (index_of field) (Some number)) other ≡ value_at values other
+value_at-set_other values field other number apart = get_or-set_other values (index_of field) (index_of other) (Some number) None apart
+
+-- the numbers stay in their ranges
+pub ranges_kept : (values : List (Option ℕ)) (field : Field) (number : ℕ) → length values ≡ 10 → ((f : Field) (n : ℕ) → value_at values f ≡ Some n → IsWithin f n) → IsWithin field number → (f : Field) (n : ℕ) → value_at (slice_set values (index_of field) (Some number)) f ≡ Some n → IsWithin f n
+ranges_kept values field number size kept within f n has =
+    elim (cases_eq (index_of f) (index_of field)) [
+      | inl same ↦ let is : f ≡ field = same_field f field same in
+          let set_here : value_at (slice_set values (index_of field) (Some number)) f ≡ Some number = rw is (value_at-set_same values field number size) in
+          let value : Some number ≡ Some n = sym set_here ∙ has in
+          let number_is : number ≡ n = cc in
+          rw (is, ← number_is) within
+      | inr apart ↦ kept f n (sym (value_at-set_other values field f number apart) ∙ has)
+    ]

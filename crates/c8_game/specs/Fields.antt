@@ -1,0 +1,113 @@
+-- The fields of a game text: each has a word, and a number that its value spells.
+use Rattle.std.specs.Prelude.{ℕ, ◌≤◌, ◌+◌, ◌-◌, ◌*◌, ◌&&◌, Bool, nat_lt, nat_le, List, [], ◌∷◌, length, codes, fold, Option, None, is_ok, unwrap_or, slice_index_or, if◌then◌else◌}
+use Rattle.std.specs.List.{find, list_all}
+use Rattle.std.specs.Char.{is_ascii_digit}
+use Rattle.std.specs.Str.{bytes_eq}
+use Rattle.std.specs.Int.{from_be_bytes, w16}
+use Rattle.std.specs.Result.{result_unwrap_or}
+use Rattle.hex.specs.Hex.{decode_sized}
+use Rattle.c8_game.specs.declared.text.field.Field.{Field}
+use Rattle.c8_game.specs.declared.text.field.Field.TheVariants.{Players, Ipf, Frames, Delay, Window, Seed, Mask1, Mask2, Mask3, Mask4}
+
+abbrev pub fields : List Field
+fields = Players ∷ Ipf ∷ Frames ∷ Delay ∷ Window ∷ Seed ∷ Mask1 ∷ Mask2 ∷ Mask3 ∷ Mask4 ∷ []
+
+abbrev pub word_of : Field → List ℕ
+word_of Players = codes "players"
+word_of Ipf = codes "ipf"
+word_of Frames = codes "frames"
+word_of Delay = codes "delay"
+word_of Window = codes "window"
+word_of Seed = codes "seed"
+word_of Mask1 = codes "mask1"
+word_of Mask2 = codes "mask2"
+word_of Mask3 = codes "mask3"
+word_of Mask4 = codes "mask4"
+
+-- the place of a field among the fields
+abbrev pub index_of : Field → ℕ
+index_of Players = 0
+index_of Ipf = 1
+index_of Frames = 2
+index_of Delay = 3
+index_of Window = 4
+index_of Seed = 5
+index_of Mask1 = 6
+index_of Mask2 = 7
+index_of Mask3 = 8
+index_of Mask4 = 9
+
+-- the player whose mask the field is; 0 for a field that every game has
+abbrev pub owner_of : Field → ℕ
+owner_of Players = 0
+owner_of Ipf = 0
+owner_of Frames = 0
+owner_of Delay = 0
+owner_of Window = 0
+owner_of Seed = 0
+owner_of Mask1 = 1
+owner_of Mask2 = 2
+owner_of Mask3 = 3
+owner_of Mask4 = 4
+
+abbrev pub is_mask : Field → Bool
+is_mask field = nat_lt 0 (owner_of field)
+
+-- the range of a field's number
+abbrev pub least_of : Field → ℕ
+least_of Players = 2
+least_of Ipf = 1
+least_of Frames = 1
+least_of Delay = 0
+least_of Window = 1
+least_of Seed = 0
+least_of Mask1 = 0
+least_of Mask2 = 0
+least_of Mask3 = 0
+least_of Mask4 = 0
+
+abbrev pub greatest_of : Field → ℕ
+greatest_of Players = 4
+greatest_of Ipf = 100
+greatest_of Frames = 262144
+greatest_of Delay = 4
+greatest_of Window = 12
+greatest_of Seed = 18446744073709551615
+greatest_of Mask1 = 65535
+greatest_of Mask2 = 65535
+greatest_of Mask3 = 65535
+greatest_of Mask4 = 65535
+
+-- the number lies in the field's range
+abbrev pub IsWithin : Field → ℕ → Type 0
+IsWithin field number = (least_of field ≤ number) × (number ≤ greatest_of field)
+
+-- the field that a word names
+abbrev pub field_named : List ℕ → Option Field
+field_named word = find (λ field. bytes_eq (word_of field) word) fields
+
+-- the number that a list has for a field, if it has one
+abbrev pub value_at : List (Option ℕ) → Field → Option ℕ
+value_at values field = slice_index_or values (index_of field) None
+
+-- that number, 0 if there is none
+abbrev pub told_by : List (Option ℕ) → Field → ℕ
+told_by values field = unwrap_or (value_at values field) 0
+
+-- a decimal has 1 to 20 digits
+abbrev pub is_decimal : List ℕ → Bool
+is_decimal text = nat_lt 0 (length text) && nat_le (length text) 20 && list_all is_ascii_digit text
+
+abbrev pub decimal_number : List ℕ → ℕ
+decimal_number text = fold (λ number digit. number * 10 + (digit - 48)) 0 text
+
+-- a mask has four hexadecimal digits, the most significant first
+abbrev pub is_mask_text : List ℕ → Bool
+is_mask_text text = is_ok (decode_sized text 2)
+
+abbrev pub mask_number : List ℕ → ℕ
+mask_number text = from_be_bytes w16 (result_unwrap_or (decode_sized text 2) [])
+
+-- the number that a field's value spells
+abbrev pub number_of : Field → List ℕ → ℕ
+number_of field value = if is_mask field then mask_number value else decimal_number value

@@ -1,0 +1,178 @@
+//! A game in the making: what the lines so far say.
+ghost use Rattle.std.specs.Prelude.{◌≡◌, ◌≤◌, ◌⊎◌, ◌++◌, ◌∷◌, ◌&&◌, true, false, [], Some, None, OnOk, IfErr, IfOk, IsSome, IsTrue, MatchResult, IfNone, IfSome, is_none, is_some, is_ok, nat_lt, nat_le, unwrap_or, slice_set};
+ghost use Rattle.std.specs.List.{list_any};
+ghost use Rattle.std.specs.Option.{ForSome};
+ghost use Rattle.std.specs.Result.{result_unwrap_or};
+ghost use Rattle.hex.specs.Hex.{decode_of};
+ghost use Rattle.c8_game.specs.Fields.{fields, index_of, owner_of, least_of, greatest_of, IsWithin, value_at, told_by};
+ghost use Rattle.c8_game.specs.GameText.{is_skipped, is_name_and_value, name_in, value_in, field_fault};
+ghost use Rattle.c8_game.specs.declared.error.GameError.TheVariants.{Hex, Memory};
+ghost use Rattle.c8_game.specs.declared.text.field.Field.{Field};
+ghost use Rattle.c8_game.specs.declared.text.field.Field.TheVariants.{Mask1, Mask2, Mask3, Mask4};
+
+use crate::error::GameError;
+use crate::game::Game;
+use crate::text::field::{FIELDS, Field};
+use crate::text::lines::cut_at;
+use crate::text::value::{is_decimal, number};
+use std::alloc::Global;
+
+/// What the lines so far say: a number for each field that they name, and the program's bytes.
+#[derive(Drop)]
+pub struct Draft {
+    values: [Option<u64>; 10],
+    program: Vec<u8>,
+    ghost ranges: { (field : Field) → ForSome (value_at values field) (IsWithin field) },
+}
+
+impl Draft {
+    ghost use Rattle.c8_game.specs.Fields.{number_of};
+    ghost use Rattle.c8_game.specs.Draft.{Holds, AddsLine, Finishes};
+
+    /// What no line says.
+    pub fn new(alloc: Global) -> Self
+        ensures { Holds result [] }
+    {
+        Draft {
+            values: [None; 10],
+            program: Vec::new(alloc),
+        }
+    }
+
+    /// Takes in one more line. After an error the draft is of no more use.
+    pub fn add(&mut self, alloc: Global, line: &[u8]) -> Result<(), GameError>
+        ensures { AddsLine self.old self.new line.now result }
+    {
+        if is_skipped(line) {
+            return Ok(());
+        }
+        let Some((name, value)) = name_and_value(line) else {
+            return Err(GameError::Line);
+        };
+        if name == b"code".as_slice() {
+            return self.add_code(alloc, value);
+        }
+        match Field::named(name) {
+            Some(field) => self.add_field(field, value),
+            None => Err(GameError::Line),
+        }
+    }
+
+    fn add_code(&mut self, alloc: Global, value: &[u8]) -> Result<(), GameError>
+        ensures code { OnOk result (is_ok (decode_of value.now) ≡ true) }
+        ensures program { OnOk result (self.new.program.items ≡ self.old.program.items ++ result_unwrap_or (decode_of value.now) []) }
+        ensures values { OnOk result (self.new.values ≡ self.old.values) }
+        ensures fault { IfErr result (λ e. (e ≡ Memory) ⊎ ((is_ok (decode_of value.now) ≡ false) × (e ≡ Hex))) }
+    {
+        let bytes = match hex::decode(alloc, value) {
+            Ok(bytes) => bytes,
+            Err(hex::FromHexError::OutOfMemory) => return Err(GameError::Memory),
+            Err(_) => return Err(GameError::Hex),
+        };
+        self.program.extend_from_slice(&bytes)?;
+        Ok(())
+    }
+
+    fn add_field(&mut self, field: Field, value: &[u8]) -> Result<(), GameError>
+        ensures fault { MatchResult result (λ _. field_fault field (value_at self.old.values field) value.now ≡ None) (λ e. field_fault field (value_at self.old.values field) value.now ≡ Some e) }
+        ensures values { OnOk result (self.new.values ≡ slice_set self.old.values (index_of field) (Some (number_of field value.now))) }
+        ensures program { OnOk result (self.new.program.items ≡ self.old.program.items) }
+    {
+        if !field.is_mask() && !is_decimal(value) {
+            return Err(GameError::Line);
+        }
+        if self.value(field).is_some() {
+            return Err(GameError::Twice);
+        }
+        let number = number(field, value)?;
+        self.values[field.index()] = Some(number);
+        Ok(())
+    }
+
+    /// The game that the lines say, now that there are no more.
+    pub fn finish(self) -> Result<Game, GameError>
+        ensures { Finishes self result }
+    {
+        let players = self.told(Field::Players);
+        if self.lacks(players) || self.program.is_empty() {
+            return Err(GameError::Missing);
+        }
+        if self.program.len() > 3584 || self.strays(players) {
+            return Err(GameError::Range);
+        }
+        Ok(Game {
+            players: players as u8,
+            ipf: self.told(Field::Ipf) as u8,
+            frames: self.told(Field::Frames) as u32,
+            delay: self.told(Field::Delay) as u8,
+            window: self.told(Field::Window) as u8,
+            seed: self.told(Field::Seed),
+            masks: self.masks(),
+            program: self.program,
+        })
+    }
+
+    fn masks(&self) -> [u16; 4]
+        ensures { result ≡ told_by self.now.values Mask1 ∷ told_by self.now.values Mask2 ∷ told_by self.now.values Mask3 ∷ told_by self.now.values Mask4 ∷ [] }
+    {
+        [
+            self.told(Field::Mask1) as u16,
+            self.told(Field::Mask2) as u16,
+            self.told(Field::Mask3) as u16,
+            self.told(Field::Mask4) as u16,
+        ]
+    }
+
+    /// A field's number, if the lines say it.
+    fn value(&self, field: Field) -> Option<u64>
+        ensures { result ≡ value_at self.now.values field }
+    {
+        self.values[field.index()]
+    }
+
+    /// A field's number, 0 if the lines don't say it.
+    fn told(&self, field: Field) -> u64
+        ensures value { result ≡ told_by self.now.values field }
+        ensures least { IsSome (value_at self.now.values field) → least_of field ≤ result }
+        ensures greatest { result ≤ greatest_of field }
+    {
+        self.value(field).unwrap_or(0)
+    }
+
+    /// Whether a field that every game of so many players has is not said.
+    fn lacks(&self, players: u64) -> bool
+        ensures { result ≡ list_any (λ field. nat_le (owner_of field) players && is_none (value_at self.now.values field)) fields }
+    {
+        FIELDS.iter().any(|field| field.owner() <= players && self.value(*field).is_none())
+    }
+
+    /// Whether a mask of a player beyond so many is said.
+    fn strays(&self, players: u64) -> bool
+        ensures { result ≡ list_any (λ field. nat_lt players (owner_of field) && is_some (value_at self.now.values field)) fields }
+    {
+        FIELDS.iter().any(|field| field.owner() > players && self.value(*field).is_some())
+    }
+}
+
+/// Whether a line is empty or a comment.
+fn is_skipped(line: &[u8]) -> bool
+    ensures { result ≡ is_skipped line.now }
+{
+    match line {
+        [] => true,
+        [first, ..] => *first == b'#',
+    }
+}
+
+/// The two parts of a line that is a name, one space and a value that is not empty and has no space.
+fn name_and_value(line: &[u8]) -> Option<(&[u8], &[u8])>
+    ensures none { IfNone result (is_name_and_value line.now ≡ false) }
+    ensures some { IfSome result (λ parts. is_name_and_value line.now ≡ true) }
+    ensures name { IfSome result (λ parts. parts.0.now ≡ name_in line.now) }
+    ensures value { IfSome result (λ parts. parts.1.now ≡ value_in line.now) }
+{
+    match cut_at(line, b' ') {
+        Some((name, value)) if !value.is_empty() && !value.contains(&b' ') => Some((name, value)),
+        _ => None,
+    }
+}

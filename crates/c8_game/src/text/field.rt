@@ -1,0 +1,114 @@
+//! The fields of a game text: every name but `code`, each with one number.
+ghost use Rattle.std.specs.Prelude.{◌≡◌, ◌<◌, List, List};
+
+/// A name that stands once in a game text.
+#[derive(Clone, Copy)]
+pub enum Field {
+    Players,
+    Ipf,
+    Frames,
+    Delay,
+    Window,
+    Seed,
+    Mask1,
+    Mask2,
+    Mask3,
+    Mask4,
+}
+
+/// How many fields there are.
+pub const FIELD_COUNT: usize = 10;
+
+/// All fields, each at its index.
+pub const FIELDS: [Field; 10] = [
+    Field::Players,
+    Field::Ipf,
+    Field::Frames,
+    Field::Delay,
+    Field::Window,
+    Field::Seed,
+    Field::Mask1,
+    Field::Mask2,
+    Field::Mask3,
+    Field::Mask4,
+];
+
+impl Field {
+    ghost use Rattle.c8_game.specs.Fields.{fields, word_of, index_of, owner_of, is_mask, least_of, greatest_of, field_named};
+
+    /// The field that a word names.
+    pub fn named(word: &[u8]) -> Option<Field>
+        ensures { result ≡ field_named word.now }
+    {
+        FIELDS.iter().copied().find(|field| field.word() == word)
+    }
+
+    pub fn word(self) -> &'static [u8]
+        ensures { result.now ≡ word_of self }
+    {
+        match self {
+            Field::Players => b"players",
+            Field::Ipf => b"ipf",
+            Field::Frames => b"frames",
+            Field::Delay => b"delay",
+            Field::Window => b"window",
+            Field::Seed => b"seed",
+            Field::Mask1 => b"mask1",
+            Field::Mask2 => b"mask2",
+            Field::Mask3 => b"mask3",
+            Field::Mask4 => b"mask4",
+        }
+    }
+
+    /// The place of the field among `FIELDS`.
+    pub fn index(self) -> usize
+        ensures value { result ≡ index_of self }
+        ensures small { result < 10 }
+    {
+        self as usize
+    }
+
+    /// The player whose mask the field is; 0 for a field that every game has.
+    pub fn owner(self) -> u64
+        ensures { result ≡ owner_of self }
+    {
+        match self {
+            Field::Mask1 => 1,
+            Field::Mask2 => 2,
+            Field::Mask3 => 3,
+            Field::Mask4 => 4,
+            _ => 0,
+        }
+    }
+
+    pub fn is_mask(self) -> bool
+        ensures { result ≡ is_mask self }
+    {
+        self.owner() > 0
+    }
+
+    /// The least number that the field may have.
+    pub fn least(self) -> u64
+        ensures { result ≡ least_of self }
+    {
+        match self {
+            Field::Players => 2,
+            Field::Ipf | Field::Frames | Field::Window => 1,
+            _ => 0,
+        }
+    }
+
+    /// The greatest number that the field may have.
+    pub fn greatest(self) -> u64
+        ensures { result ≡ greatest_of self }
+    {
+        match self {
+            Field::Players | Field::Delay => 4,
+            Field::Ipf => 100,
+            Field::Frames => 262_144,
+            Field::Window => 12,
+            Field::Seed => u64::MAX,
+            Field::Mask1 | Field::Mask2 | Field::Mask3 | Field::Mask4 => 65535,
+        }
+    }
+}

@@ -1,0 +1,65 @@
+//! What the value of a field spells.
+ghost use Rattle.std.specs.Prelude.{◌≡◌, true, false, Some, None, IfOk, IsTrue, MatchOption, MatchResult};
+ghost use Rattle.std.specs.Char.{is_ascii_digit};
+ghost use Rattle.std.specs.List.{list_all};
+ghost use Rattle.c8_game.specs.Fields.{is_mask, is_decimal, decimal_number, is_mask_text, mask_number, number_of, IsWithin};
+ghost use Rattle.c8_game.specs.GameText.{value_fault};
+
+use crate::error::GameError;
+use crate::text::field::Field;
+
+/// Whether the text is 1 to 20 digits.
+pub fn is_decimal(text: &[u8]) -> bool
+    ensures { result ≡ is_decimal text.now }
+{
+    (!text.is_empty() && text.len() <= 20) && are_digits(text)
+}
+
+fn are_digits(text: &[u8]) -> bool
+    ensures { result ≡ list_all is_ascii_digit text.now }
+{
+    text.iter().all(|byte| byte.is_ascii_digit())
+}
+
+/// The number that 1 to 20 digits spell.
+pub fn decimal_number(text: &[u8]) -> u128
+    requires { IsTrue (is_decimal text.now) }
+    ensures { result ≡ decimal_number text.now }
+{
+    let mut number = 0;
+    for digit in text {
+        number = number * 10 + u128::from(*digit - b'0');
+    }
+    number
+}
+
+/// The key set that four hexadecimal digits spell.
+pub fn mask(text: &[u8]) -> Option<u16>
+    ensures { MatchOption result (is_mask_text text.now ≡ false) (λ n. (is_mask_text text.now ≡ true) × (n ≡ mask_number text.now)) }
+{
+    let mut bytes = [0; 2];
+    match hex::decode_to_slice(text, &mut bytes) {
+        Ok(()) => Some(u16::from_be_bytes(bytes)),
+        Err(_) => None,
+    }
+}
+
+/// The number that the value of `field` spells, a mask's digits or a decimal, if it is in range.
+pub fn number(field: Field, value: &[u8]) -> Result<u64, GameError>
+    requires { is_mask field ≡ false → is_decimal value.now ≡ true }
+    ensures value { IfOk result (λ n. n ≡ number_of field value.now) }
+    ensures within { IfOk result (λ n. IsWithin field n) }
+    ensures fault { MatchResult result (λ _. value_fault field value.now ≡ None) (λ e. value_fault field value.now ≡ Some e) }
+{
+    if field.is_mask() {
+        return match mask(value) {
+            Some(keys) => Ok(u64::from(keys)),
+            None => Err(GameError::Hex),
+        };
+    }
+    let number = decimal_number(value);
+    if number < u128::from(field.least()) || number > u128::from(field.greatest()) {
+        return Err(GameError::Range);
+    }
+    Ok(number as u64)
+}
