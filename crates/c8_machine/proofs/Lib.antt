@@ -1,0 +1,4 @@
+pub mod KeyLemmas
+pub mod ChainLemmas
+pub mod MemoryLemmas
+pub mod FrameLemmas

@@ -1,0 +1,7 @@
+use Rattle.std.proofs.Common.{rules}
+use Rattle.c8_machine.specs.State.{state}
+use Rattle.c8_machine.proofs.FrameLemmas.{frame_once}
+use Rattle.c8_machine.proofs.machine.Machine.frame.Goals as goal
+
+pub returns-clause-function : goal.returns-clause-function
+returns-clause-function c = frame_once c.args.game.now c.args.keys.0 (state c.args.self.now) (state c.end.new.self) (search rules)

@@ -1,0 +1,190 @@
+//! The machine: its parts, its step and its frame.
+ghost use Rattle.std.specs.Prelude.{◌≡◌, ℕ, ◌<◌, ◌≤◌, IfSome, length, slice_index};
+ghost use Rattle.std.specs.Option.{ForSome};
+
+use crate::memory::first_memory;
+use c8_game::{Game, Keys};
+use c8_screen::Screen;
+
+mod frames;
+mod steps;
+
+/// Why a machine has stopped for good.
+#[derive(Clone, Copy, Debug, PartialEq, Eq)]
+pub enum Stop {
+    /// A code that is no instruction, or a call of machine language.
+    UnknownInstruction = 1,
+    /// A seventeenth nested call.
+    StackFull = 2,
+    /// A return with no place to return to.
+    StackEmpty = 3,
+}
+
+/// What became of one step.
+#[derive(Clone, Copy, Debug, PartialEq, Eq)]
+pub enum Step {
+    /// The instruction was done, and another one of the frame may follow.
+    Went,
+    /// The instruction drew on the screen, which ends the frame's instructions.
+    Drew,
+    /// The machine waits for a key from now on.
+    Waits,
+    /// The machine stopped at the instruction, which changed nothing else.
+    Stopped,
+    /// The machine waits or had stopped: nothing was done.
+    Held,
+}
+
+impl Step {
+    ghost use Rattle.c8_machine.specs.Frames.{goes_on};
+
+    #[inline(always)]
+    fn goes_on(self) -> bool
+        ensures { result ≡ goes_on self }
+    {
+        match self {
+            Step::Went => true,
+            _ => false,
+        }
+    }
+}
+
+/// A machine of 4096 bytes of memory, 16 registers and a stack of 16 places. It is a plain value: a
+/// copy of it is a snapshot.
+#[derive(Clone, Copy)]
+pub struct Machine {
+    memory: [u8; 4096],
+    registers: [u8; 16],
+    address: u16,
+    counter: u16,
+    places: [u16; 16],
+    /// How many of the places are in use.
+    depth: u8,
+    screen: Screen,
+    timer: u8,
+    tone: u8,
+    keys: Keys,
+    waits: Option<u8>,
+    draws: u64,
+    stop: Option<Stop>,
+    ghost address_in: { address < 4096 },
+    ghost counter_in: { counter < 4096 },
+    ghost places_in: { (k : ℕ) → slice_index places k < 4096 },
+    ghost depth_in: { depth ≤ 16 },
+    ghost waits_in: { ForSome waits (λ x. x < 16) },
+}
+
+impl Machine {
+    ghost use Rattle.c8_screen.specs.Points.{points_of};
+    ghost use Rattle.c8_machine.specs.State.{state, first_state};
+
+    /// The machine before its first frame: the patterns of the digits and the program in its memory,
+    /// the counter at the program's first byte, and all else 0.
+    pub fn start(game: &Game) -> Self
+        ensures { state result ≡ first_state game.now }
+    {
+        Machine {
+            memory: first_memory(game.program()),
+            registers: [0; 16],
+            address: 0,
+            counter: 0x200,
+            places: [0; 16],
+            depth: 0,
+            screen: Screen::new(),
+            timer: 0,
+            tone: 0,
+            keys: Keys(0),
+            waits: None,
+            draws: 0,
+            stop: None,
+        }
+    }
+
+    /// The byte at each address.
+    pub fn memory(&self) -> &[u8; 4096]
+        ensures { slice_index result.now ≡ (state self.now).memory }
+    {
+        &self.memory
+    }
+
+    /// The registers V0 to VF.
+    pub fn registers(&self) -> &[u8; 16]
+        ensures { result.now ≡ (state self.now).registers }
+    {
+        &self.registers
+    }
+
+    /// The register I, an address below 4096.
+    pub fn address(&self) -> u16
+        ensures value { result ≡ (state self.now).address }
+        ensures range { result < 4096 }
+    {
+        self.address
+    }
+
+    /// The program counter, an address below 4096.
+    pub fn counter(&self) -> u16
+        ensures value { result ≡ (state self.now).counter }
+        ensures range { result < 4096 }
+    {
+        self.counter
+    }
+
+    /// The places to return to, at most 16, oldest first.
+    pub fn stack(&self) -> &[u16]
+        ensures value { result.now ≡ (state self.now).stack }
+        ensures length { length result.now ≤ 16 }
+    {
+        &self.places[..usize::from(self.depth)]
+    }
+
+    /// What is seen.
+    pub fn screen(&self) -> &Screen
+        ensures { points_of result.now ≡ (state self.now).screen }
+    {
+        &self.screen
+    }
+
+    /// The timer, in frames left.
+    pub fn timer(&self) -> u8
+        ensures { result ≡ (state self.now).timer }
+    {
+        self.timer
+    }
+
+    /// The tone, in frames left.
+    pub fn tone(&self) -> u8
+        ensures { result ≡ (state self.now).tone }
+    {
+        self.tone
+    }
+
+    /// The keys of the last frame.
+    pub fn keys(&self) -> Keys
+        ensures { result.0 ≡ (state self.now).keys }
+    {
+        self.keys
+    }
+
+    /// The register that a key is waited for, 0 to 15, or `None` where the machine doesn't wait.
+    pub fn waits(&self) -> Option<u8>
+        ensures value { result ≡ (state self.now).waits }
+        ensures range { IfSome result (λ x. x < 16) }
+    {
+        self.waits
+    }
+
+    /// How many random bytes were drawn, modulo 2 to the 64.
+    pub fn draws(&self) -> u64
+        ensures { result ≡ (state self.now).draws }
+    {
+        self.draws
+    }
+
+    /// Why the machine has stopped, or `None` where it has not.
+    pub fn stopped(&self) -> Option<Stop>
+        ensures { result ≡ (state self.now).stop }
+    {
+        self.stop
+    }
+}
