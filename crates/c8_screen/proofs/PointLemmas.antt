@@ -1,11 +1,10 @@
 -- What the points of a screen are, by its rows.
-use Rattle.std.proofs.Common.{◌≡◌, ℕ, ◌<◌, ◌-◌, ◌&&◌, Bool, true, false, nat_eq, nat_lt, cond, get_or, refl, ap, ◌∙◌, inl, inr, length}
+use Rattle.std.proofs.Common.{◌≡◌, ℕ, ◌-◌, ◌&&◌, Bool, true, false, nat_eq, nat_lt, cond, get_or, refl, ap, ◌∙◌, inl, inr}
 use Rattle.std.proofs.Math.ListN.{replicate}
 use Rattle.std.proofs.Math.Path.{fun_ext}
 use Rattle.std.proofs.lemmas.List.{get_or-replicate, get_or_past}
 use Rattle.std.proofs.lemmas.Bool.{cases_lt}
 use Rattle.std.proofs.lemmas.Nat.Bits.{bit_at-zero}
-use Rattle.c8_screen.specs.declared.Screen.{Screen}
 use Rattle.c8_screen.specs.Points.{points_of, no_points, row_has}
 
 -- each of 32 rows of nothing is nothing, and so is what lies past them

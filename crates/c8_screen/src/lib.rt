@@ -4,7 +4,8 @@
 //! nothing of how the rows are kept.
 #![tactic(auto)]
 
-ghost use Rattle.std.specs.Prelude.{◌≡◌, ℕ, ◌<◌};
+ghost use Rattle.std.specs.Prelude.{◌≡◌, ℕ, ◌%◌, ◌<◌, ◌==◌, not, bit_and, bit_xor, length, slice_index};
+ghost use Rattle.c8_screen.specs.Strip.{strip};
 
 /// How many points a row has.
 pub const WIDTH: u8 = 64;
@@ -20,7 +21,7 @@ pub struct Screen {
 }
 
 impl Screen {
-    ghost use Rattle.c8_screen.specs.Points.{points_of, no_points, row_has};
+    ghost use Rattle.c8_screen.specs.Points.{points_of, no_points, row_has, sprite, clipped, exclusive_or, meets};
 
     /// A dark screen.
     pub fn new() -> Self
@@ -52,4 +53,42 @@ impl Screen {
     {
         &self.rows[usize::from(y)]
     }
+
+    /// Draws a sprite: each byte is a row of 8 points, its highest bit leftmost, and stands below the
+    /// one before it. The upper left point is in column `x` modulo 64 of row `y` modulo 32, and what
+    /// lies past the right or the lower edge is left out. Each point of the sprite is put out where
+    /// it was lit, and else lit; the answer is whether a lit point was put out.
+    pub fn draw(&mut self, x: u8, y: u8, bytes: &[u8]) -> bool
+        ensures points { points_of self.new ≡ exclusive_or (points_of self.old) (clipped (sprite (length bytes.now) (slice_index bytes.now) (x % 64) (y % 32))) }
+        ensures put_out { result ≡ meets (points_of self.old) (clipped (sprite (length bytes.now) (slice_index bytes.now) (x % 64) (y % 32))) }
+    {
+        let left = x % 64;
+        let top = usize::from(y % 32);
+        let count = bytes.len().min(32 - top);
+        let mut met = false;
+        for k in 0..count {
+            met |= draw_row(&mut self.rows[top + k], strip(bytes[k], left));
+        }
+        met
+    }
+}
+
+/// The 8 points of a byte in a row, the leftmost in column `left`, without what lies past column 63.
+#[inline(always)]
+fn strip(byte: u8, left: u8) -> u64
+    requires { left < 64 }
+    ensures { result ≡ strip byte left }
+{
+    (u64::from(byte) << 56) >> left
+}
+
+/// Turns over the points of a row that a strip has, and says whether one of them was lit.
+#[inline(always)]
+fn draw_row(row: &mut u64, strip: u64) -> bool
+    ensures row { row.new ≡ bit_xor row.old strip }
+    ensures met { result ≡ not (bit_and row.old strip == 0) }
+{
+    let met = *row & strip != 0;
+    *row ^= strip;
+    met
 }
