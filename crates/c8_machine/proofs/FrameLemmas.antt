@@ -1,9 +1,9 @@
 -- A machine has one frame for the keys that are down, and no other.
-use Rattle.std.proofs.Common.{◌≡◌, ℕ, zero, suc, ◌<◌, true, false, Option, Some, None, MatchOption, List, [], ◌∷◌, ◌++◌, replicate, ap, sym, ◌∙◌, subst, inl, inr, refl, arith}
+use Rattle.std.proofs.Common.{Bool, MatchBool, length, nat_lt, ◌≡◌, ℕ, zero, suc, ◌<◌, true, false, Option, Some, None, MatchOption, List, [], ◌∷◌, ◌++◌, replicate, ap, sym, ◌∙◌, subst, inl, inr, refl, arith}
 use Rattle.std.proofs.lemmas.Bool.{true≢false, cases_Bool}
 use Rattle.c8_game.specs.Rules.{Rules}
 use Rattle.c8_machine.specs.declared.instruction.Instruction.{Instruction}
-use Rattle.c8_machine.specs.declared.instruction.Instruction.TheVariants.{Unknown}
+use Rattle.c8_machine.specs.declared.instruction.Instruction.TheVariants.{Return, Call}
 use Rattle.c8_machine.specs.declared.machine.Step.{Step}
 use Rattle.c8_machine.specs.declared.machine.Step.TheVariants.{Went}
 use Rattle.c8_machine.specs.declared.machine.Stop.{Stop}
@@ -18,9 +18,15 @@ record Same (s t : State) (step other : Step) : Type 0 where
   machine : s ≡ t
   what : step ≡ other
 
+by_test : (test : Bool) (v w : State) (when_true when_false : Step) (t u : State) (step other : Step)
+    → MatchBool test ((step ≡ when_true) × (t ≡ v)) ((step ≡ when_false) × (t ≡ w)) → MatchBool test ((other ≡ when_true) × (u ≡ v)) ((other ≡ when_false) × (u ≡ w)) → Same t u step other
+by_test true v w when_true when_false t u step other (a, b) (c, d) = record { machine = b ∙ sym d; what = a ∙ sym c }
+by_test false v w when_true when_false t u step other (a, b) (c, d) = record { machine = b ∙ sym d; what = a ∙ sym c }
+
 -- an instruction makes one thing of a machine
 does_once : (rules : Rules) (keys : ℕ) (i : Instruction) (s t u : State) (step other : Step) → Does rules keys i s t step → Does rules keys i s u other → Same t u step other
-does_once rules keys Unknown s t u step other (a, b) (c, d) = record { machine = b ∙ sym d; what = a ∙ sym c }
+does_once rules keys Return s t u step other a b = by_test (nat_lt 0 (length s.stack)) _ _ _ _ t u step other a b
+does_once rules keys (Call to) s t u step other a b = by_test (nat_lt (length s.stack) 16) _ _ _ _ t u step other a b
 does_once rules keys i s t u step other (a, b) (c, d) = record { machine = b ∙ sym d; what = a ∙ sym c }
 
 -- steps that fill a frame of none are none

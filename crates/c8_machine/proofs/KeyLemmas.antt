@@ -6,7 +6,8 @@ use Rattle.std.proofs.lemmas.Nat.Bits.{bit_at-zero, bit_at_and, bit_at_not, bit_
 use Rattle.std.specs.Prelude.{bit_and}
 use Rattle.std.specs.Int.{w16, bit_at, bit_not, trailing_zeros}
 use Rattle.std.specs.List.{find, range_with_len}
-use Rattle.c8_machine.specs.Frames.{is_down, lowest_released}
+use Rattle.c8_machine.specs.Steps.{is_down}
+use Rattle.c8_machine.specs.Frames.{lowest_released}
 
 -- the first number of a range that passes a test
 find_first : (p : ℕ → Bool) (from n k : ℕ) → from ≤ k → k < from + n → p k ≡ true → ((j : ℕ) → j < k → p j ≡ false) → find p (range_with_len from n) ≡ Some k

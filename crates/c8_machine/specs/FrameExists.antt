@@ -1,9 +1,9 @@
 -- Every machine has a frame, whatever keys are down. Only the type of `framed` is known elsewhere.
-use Rattle.std.specs.Prelude.{◌≡◌, ℕ, zero, suc, false, Option, Some, None, MatchOption, List, [], ◌∷◌}
-use Rattle.std.proofs.Common.{zero-le, suc-le-suc, ap, inl, inr, refl}
+use Rattle.std.specs.Prelude.{MatchBool, length, nat_lt, ◌≡◌, ℕ, zero, suc, false, Option, Some, None, MatchOption, List, [], ◌∷◌}
+use Rattle.std.proofs.Common.{Bool, true, false, zero-le, suc-le-suc, ap, inl, inr, refl}
 use Rattle.c8_game.specs.Rules.{Rules}
 use Rattle.c8_machine.specs.declared.instruction.Instruction.{Instruction}
-use Rattle.c8_machine.specs.declared.instruction.Instruction.TheVariants.{Unknown}
+use Rattle.c8_machine.specs.declared.instruction.Instruction.TheVariants.{Return, Call}
 use Rattle.c8_machine.specs.declared.machine.Step.{Step}
 use Rattle.c8_machine.specs.declared.machine.Step.TheVariants.{Went}
 use Rattle.c8_machine.specs.declared.machine.Stop.{Stop}
@@ -12,9 +12,16 @@ use Rattle.c8_machine.specs.State.{State}
 use Rattle.c8_machine.specs.Steps.{Does, IsStep, code_at}
 use Rattle.c8_machine.specs.Frames.{IsFrame, IsLiveFrame, IsChain, Runs, FillsFrame, settled, ended, goes_on}
 
+-- what an instruction does that goes by a test
+one_or_other : (test : Bool) (s t : State) (when_true when_false : Step)
+    → (u : State) × (step : Step) × MatchBool test ((step ≡ when_true) × (u ≡ s)) ((step ≡ when_false) × (u ≡ t))
+one_or_other true s t when_true when_false = (s, when_true, (refl, refl))
+one_or_other false s t when_true when_false = (t, when_false, (refl, refl))
+
 -- what an instruction makes of a machine
 does : (rules : Rules) (keys : ℕ) (i : Instruction) (s : State) → (t : State) × (step : Step) × Does rules keys i s t step
-does rules keys Unknown s = (_, _, (refl, refl))
+does rules keys Return s = one_or_other (nat_lt 0 (length s.stack)) _ _ _ _
+does rules keys (Call to) s = one_or_other (nat_lt (length s.stack) 16) _ _ _ _
 does rules keys i s = (_, _, (refl, refl))
 
 record Run (rules : Rules) (keys n : ℕ) (s : State) : Type 0 where

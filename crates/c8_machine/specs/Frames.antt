@@ -1,18 +1,14 @@
 -- What one frame does, as a relation over chains of steps.
-use Rattle.std.specs.Prelude.{◌≡◌, ℕ, ◌-◌, ◌<◌, ◌==◌, ◌&&◌, ◌⊎◌, Bool, true, false, not, Option, Some, None, MatchOption, List, [], ◌∷◌, ◌++◌, find, replicate}
-use Rattle.std.specs.Int.{bit_at}
+use Rattle.std.specs.Prelude.{◌≡◌, ℕ, ◌-◌, ◌<◌, ◌&&◌, ◌⊎◌, Bool, true, false, not, Option, Some, None, MatchOption, List, [], ◌∷◌, ◌++◌, find, replicate}
 use Rattle.c8_game.specs.Rules.{Rules}
 use Rattle.c8_machine.specs.declared.machine.Step.{Step}
 use Rattle.c8_machine.specs.declared.machine.Step.TheVariants.{Went, Drew, Waits, Stopped, Held}
 use Rattle.c8_machine.specs.State.{State}
-use Rattle.c8_machine.specs.Steps.{IsStep, with_register}
+use Rattle.c8_machine.specs.Steps.{IsStep, is_down, with_register}
 
 -- the sixteen keys, lowest first
 abbrev pub all_keys : List ℕ
 all_keys = 0x0 ∷ 0x1 ∷ 0x2 ∷ 0x3 ∷ 0x4 ∷ 0x5 ∷ 0x6 ∷ 0x7 ∷ 0x8 ∷ 0x9 ∷ 0xA ∷ 0xB ∷ 0xC ∷ 0xD ∷ 0xE ∷ 0xF ∷ []
-
-abbrev pub is_down : ℕ → ℕ → Bool
-is_down keys key = bit_at keys key == 1
 
 -- the lowest key that was down and is down no longer
 unfoldable pub lowest_released : ℕ → ℕ → Option ℕ

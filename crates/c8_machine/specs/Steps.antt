@@ -1,45 +1,132 @@
 -- What one instruction does: a relation between the machine before and after it, one case for each
 -- row of the instruction table.
-use Rattle.std.specs.Prelude.{◌≡◌, ℕ, ◌*◌, ◌+◌, ◌%◌, Some, slice_index, slice_set}
+use Rattle.std.specs.Prelude.{◌≡◌, ℕ, ◌+◌, ◌-◌, ◌*◌, ◌/◌, ◌%◌, ◌^◌, ◌==◌, ◌&&◌, Bool, not, MatchBool, Some, List, [], ◌∷◌, ◌++◌, length, take, drop, map, nat_le, nat_lt, bit_and, bit_or, bit_xor, slice_index, slice_set, if◌then◌else◌}
+use Rattle.std.specs.Int.{bit_at, to_be_bytes, w64}
+use Rattle.std.specs.List.{range_with_len}
+use Rattle.sha2.specs.Sha256.{sha256}
+use Rattle.c8_screen.specs.Points.{Points, no_points, sprite, clipped, exclusive_or, meets}
 use Rattle.c8_game.specs.Rules.{Rules}
 use Rattle.c8_machine.specs.declared.instruction.Instruction.{Instruction}
-use Rattle.c8_machine.specs.declared.instruction.Instruction.TheVariants.{Jump, SetValue, AddValue, Unknown}
+use Rattle.c8_machine.specs.declared.instruction.Instruction.TheVariants.{Clear, Return, Jump, Call, SkipIfValue, SkipUnlessValue, SkipIfSame, SetValue, AddValue, Set, Or, And, ExclusiveOr, Add, Subtract, ShiftRight, SubtractFrom, ShiftLeft, SkipUnlessSame, SetAddress, JumpFrom, Random, Draw, SkipIfDown, SkipIfUp, ReadTimer, AwaitKey, SetTimer, SetTone, AddAddress, PointAtDigit, StoreDigits, StoreRegisters, LoadRegisters, Unknown}
 use Rattle.c8_machine.specs.declared.machine.Step.{Step}
-use Rattle.c8_machine.specs.declared.machine.Step.TheVariants.{Went, Stopped}
+use Rattle.c8_machine.specs.declared.machine.Step.TheVariants.{Went, Drew, Waits, Stopped}
 use Rattle.c8_machine.specs.declared.machine.Stop.{Stop}
-use Rattle.c8_machine.specs.declared.machine.Stop.TheVariants.{UnknownInstruction}
+use Rattle.c8_machine.specs.declared.machine.Stop.TheVariants.{UnknownInstruction, StackFull, StackEmpty}
 use Rattle.c8_machine.specs.Instructions.{instruction_of}
-use Rattle.c8_machine.specs.State.{State}
+use Rattle.c8_machine.specs.State.{State, Memory}
+
+-- ---- parts of a machine
 
 -- the two bytes at the counter
 abbrev pub code_at : State → ℕ
 code_at s = s.memory s.counter * 0x100 + s.memory ((s.counter + 1) % 0x1000)
 
--- the address after the instruction
-abbrev pub next : State → ℕ
-next s = (s.counter + 2) % 0x1000
+-- the byte k places behind I
+abbrev pub byte_at : State → ℕ → ℕ
+byte_at s k = s.memory ((s.address + k) % 0x1000)
 
--- V0 to VF
 abbrev pub register : State → ℕ → ℕ
 register s x = slice_index s.registers x
 
 abbrev pub with_register : State → ℕ → ℕ → State
 with_register s x value = record s { registers = slice_set s.registers x value }
 
--- the instruction was done, and the counter stands at the next one
+-- VF, the flag
+abbrev pub with_flag : State → ℕ → State
+with_flag s flag = with_register s 0xF flag
+
+abbrev pub flag_if : Bool → ℕ
+flag_if test = if test then 1 else 0
+
+abbrev pub is_down : ℕ → ℕ → Bool
+is_down keys key = bit_at keys key == 1
+
+-- the address after the instruction
+abbrev pub next : State → ℕ
+next s = (s.counter + 2) % 0x1000
+
+-- the counter stands at the next instruction
 abbrev pub passed : State → State
 passed s = record s { counter = next s }
+
+-- the counter stands at the next instruction, or at the one after it
+abbrev pub skipped_if : Bool → State → State
+skipped_if test s = record s { counter = if test then (s.counter + 4) % 0x1000 else next s }
 
 -- the counter stays at the instruction, which changed nothing else
 abbrev pub stopped : Stop → State → State
 stopped why s = record s { stop = Some why }
 
+-- the memory with bytes stored from an address on; after the last address comes the first
+abbrev pub stored : List ℕ → ℕ → Memory → Memory
+stored bytes from memory at =
+    let behind = (at + 0x1000 - from) % 0x1000 in
+    if nat_lt at 0x1000 && nat_lt behind (length bytes) then slice_index bytes behind else memory at
+
+-- random byte number n of a game
+unfoldable pub random_byte : ℕ → ℕ → ℕ
+random_byte seed n = slice_index (sha256 (to_be_bytes w64 seed ++ to_be_bytes w64 n)) 0
+
+-- what DXYN draws
+abbrev pub drawing : State → ℕ → ℕ → ℕ → Points
+drawing s x y rows = clipped (sprite rows (byte_at s) (register s x % 64) (register s y % 32))
+
+-- ---- the table
+
 -- what an instruction makes of the machine s, with the game's rules and the keys of the frame: the
 -- machine t, and what the step is told to be
 abbrev pub Does : Rules → ℕ → Instruction → State → State → Step → Type 0
+Does rules keys Clear s t step = (step ≡ Went) × (t ≡ record (passed s) { screen = no_points })
+Does rules keys Return s t step =
+    MatchBool (nat_lt 0 (length s.stack))
+    ((step ≡ Went) × (t ≡ record s { counter = slice_index s.stack (length s.stack - 1); stack = take (length s.stack - 1) s.stack }))
+    ((step ≡ Stopped) × (t ≡ stopped StackEmpty s))
 Does rules keys (Jump to) s t step = (step ≡ Went) × (t ≡ record s { counter = to })
+Does rules keys (Call to) s t step =
+    MatchBool (nat_lt (length s.stack) 16)
+    ((step ≡ Went) × (t ≡ record s { counter = to; stack = s.stack ++ next s ∷ [] }))
+    ((step ≡ Stopped) × (t ≡ stopped StackFull s))
+Does rules keys (SkipIfValue x value) s t step = (step ≡ Went) × (t ≡ skipped_if (register s x == value) s)
+Does rules keys (SkipUnlessValue x value) s t step = (step ≡ Went) × (t ≡ skipped_if (not (register s x == value)) s)
+Does rules keys (SkipIfSame x y) s t step = (step ≡ Went) × (t ≡ skipped_if (register s x == register s y) s)
+Does rules keys (SkipUnlessSame x y) s t step = (step ≡ Went) × (t ≡ skipped_if (not (register s x == register s y)) s)
 Does rules keys (SetValue x value) s t step = (step ≡ Went) × (t ≡ with_register (passed s) x value)
 Does rules keys (AddValue x value) s t step = (step ≡ Went) × (t ≡ with_register (passed s) x ((register s x + value) % 0x100))
+Does rules keys (Set x y) s t step = (step ≡ Went) × (t ≡ with_register (passed s) x (register s y))
+Does rules keys (Or x y) s t step = (step ≡ Went) × (t ≡ with_flag (with_register (passed s) x (bit_or (register s x) (register s y))) 0)
+Does rules keys (And x y) s t step = (step ≡ Went) × (t ≡ with_flag (with_register (passed s) x (bit_and (register s x) (register s y))) 0)
+Does rules keys (ExclusiveOr x y) s t step = (step ≡ Went) × (t ≡ with_flag (with_register (passed s) x (bit_xor (register s x) (register s y))) 0)
+Does rules keys (Add x y) s t step =
+    let sum = register s x + register s y in
+    (step ≡ Went) × (t ≡ with_flag (with_register (passed s) x (sum % 0x100)) (flag_if (nat_lt 0xFF sum)))
+Does rules keys (Subtract x y) s t step =
+    (step ≡ Went) × (t ≡ with_flag (with_register (passed s) x ((register s x + 0x100 - register s y) % 0x100)) (flag_if (nat_le (register s y) (register s x))))
+Does rules keys (ShiftRight x y) s t step = (step ≡ Went) × (t ≡ with_flag (with_register (passed s) x (register s y / 2)) (register s y % 2))
+Does rules keys (SubtractFrom x y) s t step =
+    (step ≡ Went) × (t ≡ with_flag (with_register (passed s) x ((register s y + 0x100 - register s x) % 0x100)) (flag_if (nat_le (register s x) (register s y))))
+Does rules keys (ShiftLeft x y) s t step = (step ≡ Went) × (t ≡ with_flag (with_register (passed s) x (register s y * 2 % 0x100)) (register s y / 0x80))
+Does rules keys (SetAddress to) s t step = (step ≡ Went) × (t ≡ record (passed s) { address = to })
+Does rules keys (JumpFrom to) s t step = (step ≡ Went) × (t ≡ record s { counter = (to + register s 0) % 0x1000 })
+Does rules keys (Random x value) s t step =
+    (step ≡ Went) × (t ≡ with_register (record (passed s) { draws = (s.draws + 1) % 2 ^ 64 }) x (bit_and (random_byte rules.seed s.draws) value))
+Does rules keys (Draw x y rows) s t step =
+    let points = drawing s x y rows in
+    (step ≡ Drew) × (t ≡ with_flag (record (passed s) { screen = exclusive_or s.screen points }) (flag_if (meets s.screen points)))
+Does rules keys (SkipIfDown x) s t step = (step ≡ Went) × (t ≡ skipped_if (is_down keys (register s x % 0x10)) s)
+Does rules keys (SkipIfUp x) s t step = (step ≡ Went) × (t ≡ skipped_if (not (is_down keys (register s x % 0x10))) s)
+Does rules keys (ReadTimer x) s t step = (step ≡ Went) × (t ≡ with_register (passed s) x s.timer)
+Does rules keys (AwaitKey x) s t step = (step ≡ Waits) × (t ≡ record (passed s) { waits = Some x })
+Does rules keys (SetTimer x) s t step = (step ≡ Went) × (t ≡ record (passed s) { timer = register s x })
+Does rules keys (SetTone x) s t step = (step ≡ Went) × (t ≡ record (passed s) { tone = register s x })
+Does rules keys (AddAddress x) s t step = (step ≡ Went) × (t ≡ record (passed s) { address = (s.address + register s x) % 0x1000 })
+Does rules keys (PointAtDigit x) s t step = (step ≡ Went) × (t ≡ record (passed s) { address = 0x50 + 5 * (register s x % 0x10) })
+Does rules keys (StoreDigits x) s t step =
+    let digits = register s x / 100 ∷ register s x / 10 % 10 ∷ register s x % 10 ∷ [] in
+    (step ≡ Went) × (t ≡ record (passed s) { memory = stored digits s.address s.memory })
+Does rules keys (StoreRegisters x) s t step =
+    (step ≡ Went) × (t ≡ record (passed s) { memory = stored (take (x + 1) s.registers) s.address s.memory; address = (s.address + x + 1) % 0x1000 })
+Does rules keys (LoadRegisters x) s t step =
+    (step ≡ Went) × (t ≡ record (passed s) { registers = map (byte_at s) (range_with_len 0 (x + 1)) ++ drop (x + 1) s.registers; address = (s.address + x + 1) % 0x1000 })
 Does rules keys Unknown s t step = (step ≡ Stopped) × (t ≡ stopped UnknownInstruction s)
 
 -- one step of a machine that neither waits nor has stopped: the instruction at its counter

@@ -1,17 +1,79 @@
 //! The instructions, read from their codes.
 ghost use Rattle.std.specs.Prelude.{◌≡◌};
-ghost use Rattle.c8_machine.specs.Instructions.{instruction_of, IsInRange};
+ghost use Rattle.c8_machine.specs.Instructions.{instruction_of, system_instruction, arithmetic_instruction, key_instruction, register_instruction, IsInRange};
 
-/// What a code of two bytes means. X and Y are numbers of registers, 0 to 15.
+/// What a code of two bytes means: X and Y are numbers of registers, 0 to 15.
 #[derive(Clone, Copy)]
 pub enum Instruction {
-    /// 1MMM
+    /// 00E0: puts out every point.
+    Clear,
+    /// 00EE: goes back to the last place of the stack.
+    Return,
+    /// 1MMM: goes on at an address.
     Jump { to: u16 },
-    /// 6XKK
+    /// 2MMM: goes on at an address, and puts the place to return to on the stack.
+    Call { to: u16 },
+    /// 3XKK: skips if VX is the value.
+    SkipIfValue { x: u8, value: u8 },
+    /// 4XKK: skips if VX is not the value.
+    SkipUnlessValue { x: u8, value: u8 },
+    /// 5XY0: skips if VX and VY are the same.
+    SkipIfSame { x: u8, y: u8 },
+    /// 6XKK: VX is the value.
     SetValue { x: u8, value: u8 },
-    /// 7XKK
+    /// 7XKK: adds the value to VX, without a flag.
     AddValue { x: u8, value: u8 },
-    /// Any code that is in no other row.
+    /// 8XY0: VX is VY.
+    Set { x: u8, y: u8 },
+    /// 8XY1: VX or VY, bit by bit.
+    Or { x: u8, y: u8 },
+    /// 8XY2: VX and VY, bit by bit.
+    And { x: u8, y: u8 },
+    /// 8XY3: VX or VY but not both, bit by bit.
+    ExclusiveOr { x: u8, y: u8 },
+    /// 8XY4: adds VY to VX; the flag is the carry.
+    Add { x: u8, y: u8 },
+    /// 8XY5: takes VY from VX; the flag says that nothing was borrowed.
+    Subtract { x: u8, y: u8 },
+    /// 8XY6: VX is VY shifted right; the flag is the bit that fell out.
+    ShiftRight { x: u8, y: u8 },
+    /// 8XY7: VX is VY less VX; the flag says that nothing was borrowed.
+    SubtractFrom { x: u8, y: u8 },
+    /// 8XYE: VX is VY shifted left; the flag is the bit that fell out.
+    ShiftLeft { x: u8, y: u8 },
+    /// 9XY0: skips if VX and VY differ.
+    SkipUnlessSame { x: u8, y: u8 },
+    /// AMMM: I is an address.
+    SetAddress { to: u16 },
+    /// BMMM: goes on V0 bytes behind an address.
+    JumpFrom { to: u16 },
+    /// CXKK: VX is a random byte, cut by a mask.
+    Random { x: u8, value: u8 },
+    /// DXYN: draws the bytes from I on.
+    Draw { x: u8, y: u8, rows: u8 },
+    /// EX9E: skips if the key that VX names is down.
+    SkipIfDown { x: u8 },
+    /// EXA1: skips if the key that VX names is up.
+    SkipIfUp { x: u8 },
+    /// FX07: VX is the timer.
+    ReadTimer { x: u8 },
+    /// FX0A: waits for a key, which VX gets.
+    AwaitKey { x: u8 },
+    /// FX15: the timer is VX.
+    SetTimer { x: u8 },
+    /// FX18: the tone is VX.
+    SetTone { x: u8 },
+    /// FX1E: adds VX to I.
+    AddAddress { x: u8 },
+    /// FX29: I is the address of the pattern of VX's low digit.
+    PointAtDigit { x: u8 },
+    /// FX33: stores the three decimal digits of VX.
+    StoreDigits { x: u8 },
+    /// FX55: stores V0 to VX, and moves I behind them.
+    StoreRegisters { x: u8 },
+    /// FX65: loads V0 to VX, and moves I behind them.
+    LoadRegisters { x: u8 },
+    /// Any other code.
     Unknown,
 }
 
@@ -23,11 +85,97 @@ pub fn decode(code: u16) -> Instruction
     ensures parts { IsInRange result }
 {
     let x = (code / 0x100 % 0x10) as u8;
+    let y = (code / 0x10 % 0x10) as u8;
+    let last = (code % 0x10) as u8;
     let value = (code % 0x100) as u8;
+    let to = code % 0x1000;
     match code / 0x1000 {
-        0x1 => Instruction::Jump { to: code % 0x1000 },
+        0x0 => decode_system(code),
+        0x1 => Instruction::Jump { to },
+        0x2 => Instruction::Call { to },
+        0x3 => Instruction::SkipIfValue { x, value },
+        0x4 => Instruction::SkipUnlessValue { x, value },
+        0x5 if last == 0 => Instruction::SkipIfSame { x, y },
         0x6 => Instruction::SetValue { x, value },
         0x7 => Instruction::AddValue { x, value },
+        0x8 => decode_arithmetic(code),
+        0x9 if last == 0 => Instruction::SkipUnlessSame { x, y },
+        0xa => Instruction::SetAddress { to },
+        0xb => Instruction::JumpFrom { to },
+        0xc => Instruction::Random { x, value },
+        0xd => Instruction::Draw { x, y, rows: last },
+        0xe => decode_key(code),
+        0xf => decode_register(code),
+        _ => Instruction::Unknown,
+    }
+}
+
+#[inline(always)]
+#[tactic(auto, unfolding(crate::specs::Instructions::system_instruction))]
+fn decode_system(code: u16) -> Instruction
+    ensures value { result ≡ system_instruction code }
+    ensures parts { IsInRange result }
+{
+    match code {
+        0x00e0 => Instruction::Clear,
+        0x00ee => Instruction::Return,
+        _ => Instruction::Unknown,
+    }
+}
+
+#[inline(always)]
+#[tactic(auto, unfolding(crate::specs::Instructions::arithmetic_instruction))]
+fn decode_arithmetic(code: u16) -> Instruction
+    ensures value { result ≡ arithmetic_instruction code }
+    ensures parts { IsInRange result }
+{
+    let x = (code / 0x100 % 0x10) as u8;
+    let y = (code / 0x10 % 0x10) as u8;
+    match code % 0x10 {
+        0x0 => Instruction::Set { x, y },
+        0x1 => Instruction::Or { x, y },
+        0x2 => Instruction::And { x, y },
+        0x3 => Instruction::ExclusiveOr { x, y },
+        0x4 => Instruction::Add { x, y },
+        0x5 => Instruction::Subtract { x, y },
+        0x6 => Instruction::ShiftRight { x, y },
+        0x7 => Instruction::SubtractFrom { x, y },
+        0xe => Instruction::ShiftLeft { x, y },
+        _ => Instruction::Unknown,
+    }
+}
+
+#[inline(always)]
+#[tactic(auto, unfolding(crate::specs::Instructions::key_instruction))]
+fn decode_key(code: u16) -> Instruction
+    ensures value { result ≡ key_instruction code }
+    ensures parts { IsInRange result }
+{
+    let x = (code / 0x100 % 0x10) as u8;
+    match code % 0x100 {
+        0x9e => Instruction::SkipIfDown { x },
+        0xa1 => Instruction::SkipIfUp { x },
+        _ => Instruction::Unknown,
+    }
+}
+
+#[inline(always)]
+#[tactic(auto, unfolding(crate::specs::Instructions::register_instruction))]
+fn decode_register(code: u16) -> Instruction
+    ensures value { result ≡ register_instruction code }
+    ensures parts { IsInRange result }
+{
+    let x = (code / 0x100 % 0x10) as u8;
+    match code % 0x100 {
+        0x07 => Instruction::ReadTimer { x },
+        0x0a => Instruction::AwaitKey { x },
+        0x15 => Instruction::SetTimer { x },
+        0x18 => Instruction::SetTone { x },
+        0x1e => Instruction::AddAddress { x },
+        0x29 => Instruction::PointAtDigit { x },
+        0x33 => Instruction::StoreDigits { x },
+        0x55 => Instruction::StoreRegisters { x },
+        0x65 => Instruction::LoadRegisters { x },
         _ => Instruction::Unknown,
     }
 }

@@ -6,7 +6,10 @@ use crate::memory::first_memory;
 use c8_game::{Game, Keys};
 use c8_screen::Screen;
 
+mod arithmetic;
+mod flow;
 mod frames;
+mod memory;
 mod steps;
 
 /// Why a machine has stopped for good.

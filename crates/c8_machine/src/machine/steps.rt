@@ -1,8 +1,8 @@
-//! One step of the machine.
+//! One step of the machine, and which part of it does which instruction.
 ghost use Rattle.std.specs.Prelude.{◌≡◌, ◌+◌, ◌%◌, ◌<◌, IsSome};
 ghost use Rattle.c8_machine.specs.Instructions.{IsInRange};
 ghost use Rattle.c8_machine.specs.State.{state};
-ghost use Rattle.c8_machine.specs.Steps.{code_at, next, passed, stopped, register, with_register, Does, IsStep};
+ghost use Rattle.c8_machine.specs.Steps.{code_at, next, stopped, register, Does, IsStep};
 
 use crate::instruction::{Instruction, decode};
 use crate::machine::{Machine, Step, Stop};
@@ -40,20 +40,52 @@ impl Machine {
     }
 
     #[inline(always)]
-    fn perform(&mut self, _game: &Game, _keys: Keys, instruction: Instruction) -> Step
+    fn perform(&mut self, game: &Game, keys: Keys, instruction: Instruction) -> Step
         requires { IsInRange instruction }
-        ensures { Does _game.now _keys.0 instruction (state self.old) (state self.new) result }
+        ensures { Does game.now keys.0 instruction (state self.old) (state self.new) result }
     {
         match instruction {
+            Instruction::Clear => self.clear(),
+            Instruction::Return => self.go_back(),
             Instruction::Jump { to } => self.jump(to),
-            Instruction::SetValue { x, value } => self.set_value(x, value),
+            Instruction::Call { to } => self.call(to),
+            Instruction::SkipIfValue { x, value } => self.skip_if_value(x, value),
+            Instruction::SkipUnlessValue { x, value } => self.skip_unless_value(x, value),
+            Instruction::SkipIfSame { x, y } => self.skip_if_same(x, y),
+            Instruction::SetValue { x, value } => self.put(x, value),
             Instruction::AddValue { x, value } => self.add_value(x, value),
+            Instruction::Set { x, y } => self.set(x, y),
+            Instruction::Or { x, y } => self.or(x, y),
+            Instruction::And { x, y } => self.and(x, y),
+            Instruction::ExclusiveOr { x, y } => self.exclusive_or(x, y),
+            Instruction::Add { x, y } => self.add(x, y),
+            Instruction::Subtract { x, y } => self.subtract(x, y),
+            Instruction::ShiftRight { x, y } => self.shift_right(x, y),
+            Instruction::SubtractFrom { x, y } => self.subtract_from(x, y),
+            Instruction::ShiftLeft { x, y } => self.shift_left(x, y),
+            Instruction::SkipUnlessSame { x, y } => self.skip_unless_same(x, y),
+            Instruction::SetAddress { to } => self.point_at(to),
+            Instruction::JumpFrom { to } => self.jump_from(to),
+            Instruction::Random { x, value } => self.random(game.seed(), x, value),
+            Instruction::Draw { x, y, rows } => self.draw(x, y, rows),
+            Instruction::SkipIfDown { x } => self.skip_if_down(keys, x),
+            Instruction::SkipIfUp { x } => self.skip_if_up(keys, x),
+            Instruction::ReadTimer { x } => self.put(x, self.timer),
+            Instruction::AwaitKey { x } => self.await_key(x),
+            Instruction::SetTimer { x } => self.set_timer(x),
+            Instruction::SetTone { x } => self.set_tone(x),
+            Instruction::AddAddress { x } => self.add_address(x),
+            Instruction::PointAtDigit { x } => self.point_at_digit(x),
+            Instruction::StoreDigits { x } => self.store_digits(x),
+            Instruction::StoreRegisters { x } => self.store_registers(x),
+            Instruction::LoadRegisters { x } => self.load_registers(x),
             Instruction::Unknown => self.stop_with(Stop::UnknownInstruction),
         }
     }
 
+    /// The address after the instruction.
     #[inline(always)]
-    fn next(&self) -> u16
+    pub(crate) fn next(&self) -> u16
         ensures value { result ≡ next (state self.now) }
         ensures range { result < 4096 }
     {
@@ -61,44 +93,19 @@ impl Machine {
     }
 
     #[inline(always)]
-    fn stop_with(&mut self, stop: Stop) -> Step
-        ensures result { result ≡ Step.Stopped }
+    pub(crate) fn register(&self, x: u8) -> u8
+        requires { x < 16 }
+        ensures { result ≡ register (state self.now) x }
+    {
+        self.registers[usize::from(x)]
+    }
+
+    #[inline(always)]
+    pub(crate) fn stop_with(&mut self, stop: Stop) -> Step
+        ensures step { result ≡ Step.Stopped }
         ensures state { state self.new ≡ stopped stop (state self.old) }
     {
         self.stop = Some(stop);
         Step::Stopped
-    }
-
-    #[inline(always)]
-    fn jump(&mut self, to: u16) -> Step
-        requires { to < 4096 }
-        ensures result { result ≡ Step.Went }
-        ensures state { state self.new ≡ record (state self.old) { counter = to } }
-    {
-        self.counter = to;
-        Step::Went
-    }
-
-    #[inline(always)]
-    fn set_value(&mut self, x: u8, value: u8) -> Step
-        requires { x < 16 }
-        ensures result { result ≡ Step.Went }
-        ensures state { state self.new ≡ with_register (passed (state self.old)) x value }
-    {
-        self.counter = self.next();
-        self.registers[usize::from(x)] = value;
-        Step::Went
-    }
-
-    #[inline(always)]
-    fn add_value(&mut self, x: u8, value: u8) -> Step
-        requires { x < 16 }
-        ensures result { result ≡ Step.Went }
-        ensures state { state self.new ≡ with_register (passed (state self.old)) x ((register (state self.old) x + value) % 0x100) }
-    {
-        self.counter = self.next();
-        let x = usize::from(x);
-        self.registers[x] = self.registers[x].wrapping_add(value);
-        Step::Went
     }
 }

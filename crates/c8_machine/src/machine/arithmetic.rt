@@ -1,0 +1,196 @@
+//! The instructions that reckon with registers and timers. A flag is written after the result.
+ghost use Rattle.std.specs.Prelude.{◌≡◌, ◌+◌, ◌-◌, ◌*◌, ◌/◌, ◌%◌, ◌^◌, ◌<◌, ◌++◌, nat_le, nat_lt, bit_and, bit_or, bit_xor};
+ghost use Rattle.sha2.specs.Sha256.{sha256};
+ghost use Rattle.c8_machine.specs.State.{state};
+ghost use Rattle.c8_machine.specs.Steps.{passed, register, with_register, with_flag, flag_if, random_byte};
+
+use crate::machine::{Machine, Step};
+use sha2::{Digest, Sha256};
+
+impl Machine {
+    #[inline(always)]
+    pub(crate) fn put(&mut self, x: u8, value: u8) -> Step
+        requires { x < 16 }
+        ensures step { result ≡ Step.Went }
+        ensures state { state self.new ≡ with_register (passed (state self.old)) x value }
+    {
+        self.counter = self.next();
+        self.registers[usize::from(x)] = value;
+        Step::Went
+    }
+
+    #[inline(always)]
+    fn put_with_flag(&mut self, x: u8, value: u8, flag: u8) -> Step
+        requires { x < 16 }
+        ensures step { result ≡ Step.Went }
+        ensures state { state self.new ≡ with_flag (with_register (passed (state self.old)) x value) flag }
+    {
+        self.counter = self.next();
+        self.registers[usize::from(x)] = value;
+        self.registers[0xf] = flag;
+        Step::Went
+    }
+
+    #[inline(always)]
+    pub(crate) fn add_value(&mut self, x: u8, value: u8) -> Step
+        requires { x < 16 }
+        ensures step { result ≡ Step.Went }
+        ensures state { state self.new ≡ with_register (passed (state self.old)) x ((register (state self.old) x + value) % 0x100) }
+    {
+        self.put(x, self.register(x).wrapping_add(value))
+    }
+
+    #[inline(always)]
+    pub(crate) fn set(&mut self, x: u8, y: u8) -> Step
+        requires x { x < 16 }
+        requires y { y < 16 }
+        ensures step { result ≡ Step.Went }
+        ensures state { state self.new ≡ with_register (passed (state self.old)) x (register (state self.old) y) }
+    {
+        self.put(x, self.register(y))
+    }
+
+    #[inline(always)]
+    pub(crate) fn or(&mut self, x: u8, y: u8) -> Step
+        requires x { x < 16 }
+        requires y { y < 16 }
+        ensures step { result ≡ Step.Went }
+        ensures state { let s = state self.old in state self.new ≡ with_flag (with_register (passed s) x (bit_or (register s x) (register s y))) 0 }
+    {
+        self.put_with_flag(x, self.register(x) | self.register(y), 0)
+    }
+
+    #[inline(always)]
+    pub(crate) fn and(&mut self, x: u8, y: u8) -> Step
+        requires x { x < 16 }
+        requires y { y < 16 }
+        ensures step { result ≡ Step.Went }
+        ensures state { let s = state self.old in state self.new ≡ with_flag (with_register (passed s) x (bit_and (register s x) (register s y))) 0 }
+    {
+        self.put_with_flag(x, self.register(x) & self.register(y), 0)
+    }
+
+    #[inline(always)]
+    pub(crate) fn exclusive_or(&mut self, x: u8, y: u8) -> Step
+        requires x { x < 16 }
+        requires y { y < 16 }
+        ensures step { result ≡ Step.Went }
+        ensures state { let s = state self.old in state self.new ≡ with_flag (with_register (passed s) x (bit_xor (register s x) (register s y))) 0 }
+    {
+        self.put_with_flag(x, self.register(x) ^ self.register(y), 0)
+    }
+
+    #[inline(always)]
+    pub(crate) fn add(&mut self, x: u8, y: u8) -> Step
+        requires x { x < 16 }
+        requires y { y < 16 }
+        ensures step { result ≡ Step.Went }
+        ensures state { let s = state self.old in let sum = register s x + register s y in state self.new ≡ with_flag (with_register (passed s) x (sum % 0x100)) (flag_if (nat_lt 0xFF sum)) }
+    {
+        let sum = u16::from(self.register(x)) + u16::from(self.register(y));
+        self.put_with_flag(x, (sum % 0x100) as u8, flag_if(sum > 0xff))
+    }
+
+    #[inline(always)]
+    pub(crate) fn subtract(&mut self, x: u8, y: u8) -> Step
+        requires x { x < 16 }
+        requires y { y < 16 }
+        ensures step { result ≡ Step.Went }
+        ensures state { let s = state self.old in state self.new ≡ with_flag (with_register (passed s) x ((register s x + 0x100 - register s y) % 0x100)) (flag_if (nat_le (register s y) (register s x))) }
+    {
+        let (from, less) = (self.register(x), self.register(y));
+        self.put_with_flag(x, from.wrapping_sub(less), flag_if(from >= less))
+    }
+
+    #[inline(always)]
+    pub(crate) fn subtract_from(&mut self, x: u8, y: u8) -> Step
+        requires x { x < 16 }
+        requires y { y < 16 }
+        ensures step { result ≡ Step.Went }
+        ensures state { let s = state self.old in state self.new ≡ with_flag (with_register (passed s) x ((register s y + 0x100 - register s x) % 0x100)) (flag_if (nat_le (register s x) (register s y))) }
+    {
+        let (from, less) = (self.register(y), self.register(x));
+        self.put_with_flag(x, from.wrapping_sub(less), flag_if(from >= less))
+    }
+
+    #[inline(always)]
+    pub(crate) fn shift_right(&mut self, x: u8, y: u8) -> Step
+        requires x { x < 16 }
+        requires y { y < 16 }
+        ensures step { result ≡ Step.Went }
+        ensures state { let s = state self.old in state self.new ≡ with_flag (with_register (passed s) x (register s y / 2)) (register s y % 2) }
+    {
+        let value = self.register(y);
+        self.put_with_flag(x, value / 2, value % 2)
+    }
+
+    #[inline(always)]
+    pub(crate) fn shift_left(&mut self, x: u8, y: u8) -> Step
+        requires x { x < 16 }
+        requires y { y < 16 }
+        ensures step { result ≡ Step.Went }
+        ensures state { let s = state self.old in state self.new ≡ with_flag (with_register (passed s) x (register s y * 2 % 0x100)) (register s y / 0x80) }
+    {
+        let value = self.register(y);
+        self.put_with_flag(x, value.wrapping_mul(2), value / 0x80)
+    }
+
+    pub(crate) fn random(&mut self, seed: u64, x: u8, value: u8) -> Step
+        requires { x < 16 }
+        ensures step { result ≡ Step.Went }
+        ensures state { let s = state self.old in state self.new ≡ with_register (record (passed s) { draws = (s.draws + 1) % 2 ^ 64 }) x (bit_and (random_byte seed s.draws) value) }
+    {
+        let byte = random_byte(seed, self.draws);
+        self.draws = self.draws.wrapping_add(1);
+        self.put(x, byte & value)
+    }
+
+    #[inline(always)]
+    pub(crate) fn set_timer(&mut self, x: u8) -> Step
+        requires { x < 16 }
+        ensures step { result ≡ Step.Went }
+        ensures state { state self.new ≡ record (passed (state self.old)) { timer = register (state self.old) x } }
+    {
+        self.counter = self.next();
+        self.timer = self.register(x);
+        Step::Went
+    }
+
+    #[inline(always)]
+    pub(crate) fn set_tone(&mut self, x: u8) -> Step
+        requires { x < 16 }
+        ensures step { result ≡ Step.Went }
+        ensures state { state self.new ≡ record (passed (state self.old)) { tone = register (state self.old) x } }
+    {
+        self.counter = self.next();
+        self.tone = self.register(x);
+        Step::Went
+    }
+}
+
+/// 1 where the test holds, else 0.
+#[inline(always)]
+pub(crate) fn flag_if(test: bool) -> u8
+    ensures { result ≡ flag_if test }
+{
+    if test { 1 } else { 0 }
+}
+
+/// Random byte number `n` of the game with this seed.
+#[tactic(auto, unfolding(crate::specs::Steps::random_byte))]
+fn random_byte(seed: u64, n: u64) -> u8
+    ensures { result ≡ random_byte seed n }
+{
+    let [first, ..] = digest_of_both(&seed.to_be_bytes(), &n.to_be_bytes());
+    first
+}
+
+/// The digest of two pieces taken as one message.
+fn digest_of_both(first: &[u8], second: &[u8]) -> [u8; 32]
+    ensures { result ≡ sha256 (first.now ++ second.now) }
+{
+    let mut hasher = Sha256::new();
+    hasher.update(first);
+    hasher.update(second);
+    hasher.finalize()
+}

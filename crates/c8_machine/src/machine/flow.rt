@@ -1,0 +1,147 @@
+//! The instructions that say where the machine goes on.
+ghost use Rattle.std.specs.Prelude.{◌≡◌, ◌+◌, ◌-◌, ◌%◌, ◌<◌, ◌==◌, not, MatchBool, [], ◌∷◌, ◌++◌, length, take, nat_lt, slice_index};
+ghost use Rattle.c8_machine.specs.State.{state};
+ghost use Rattle.c8_machine.specs.Steps.{next, passed, skipped_if, stopped, register, is_down};
+
+use crate::machine::{Machine, Step, Stop};
+use c8_game::Keys;
+
+impl Machine {
+    #[inline(always)]
+    pub(crate) fn jump(&mut self, to: u16) -> Step
+        requires { to < 4096 }
+        ensures step { result ≡ Step.Went }
+        ensures state { state self.new ≡ record (state self.old) { counter = to } }
+    {
+        self.counter = to;
+        Step::Went
+    }
+
+    #[inline(always)]
+    pub(crate) fn jump_from(&mut self, to: u16) -> Step
+        requires { to < 4096 }
+        ensures step { result ≡ Step.Went }
+        ensures state { state self.new ≡ record (state self.old) { counter = (to + register (state self.old) 0) % 0x1000 } }
+    {
+        self.counter = (to + u16::from(self.register(0))) % 4096;
+        Step::Went
+    }
+
+    #[inline(always)]
+    pub(crate) fn call(&mut self, to: u16) -> Step
+        requires { to < 4096 }
+        ensures { MatchBool (nat_lt (length (state self.old).stack) 16)
+            ((result ≡ Step.Went) × (state self.new ≡ record (state self.old) { counter = to; stack = (state self.old).stack ++ next (state self.old) ∷ [] }))
+            ((result ≡ Step.Stopped) × (state self.new ≡ stopped Stop.StackFull (state self.old))) }
+    {
+        if self.depth == 16 {
+            return self.stop_with(Stop::StackFull);
+        }
+        self.places[usize::from(self.depth)] = self.next();
+        self.depth += 1;
+        self.counter = to;
+        Step::Went
+    }
+
+    #[inline(always)]
+    pub(crate) fn go_back(&mut self) -> Step
+        ensures { let stack = (state self.old).stack in MatchBool (nat_lt 0 (length stack))
+            ((result ≡ Step.Went) × (state self.new ≡ record (state self.old) { counter = slice_index stack (length stack - 1); stack = take (length stack - 1) stack }))
+            ((result ≡ Step.Stopped) × (state self.new ≡ stopped Stop.StackEmpty (state self.old))) }
+    {
+        if self.depth == 0 {
+            return self.stop_with(Stop::StackEmpty);
+        }
+        self.depth -= 1;
+        self.counter = self.places[usize::from(self.depth)];
+        Step::Went
+    }
+
+    #[inline(always)]
+    fn skip_if(&mut self, test: bool) -> Step
+        ensures step { result ≡ Step.Went }
+        ensures state { state self.new ≡ skipped_if test (state self.old) }
+    {
+        self.counter = if test {
+            (self.counter + 4) % 4096
+        } else {
+            self.next()
+        };
+        Step::Went
+    }
+
+    #[inline(always)]
+    pub(crate) fn skip_if_value(&mut self, x: u8, value: u8) -> Step
+        requires { x < 16 }
+        ensures step { result ≡ Step.Went }
+        ensures state { state self.new ≡ skipped_if (register (state self.old) x == value) (state self.old) }
+    {
+        self.skip_if(self.register(x) == value)
+    }
+
+    #[inline(always)]
+    pub(crate) fn skip_unless_value(&mut self, x: u8, value: u8) -> Step
+        requires { x < 16 }
+        ensures step { result ≡ Step.Went }
+        ensures state { state self.new ≡ skipped_if (not (register (state self.old) x == value)) (state self.old) }
+    {
+        self.skip_if(self.register(x) != value)
+    }
+
+    #[inline(always)]
+    pub(crate) fn skip_if_same(&mut self, x: u8, y: u8) -> Step
+        requires x { x < 16 }
+        requires y { y < 16 }
+        ensures step { result ≡ Step.Went }
+        ensures state { state self.new ≡ skipped_if (register (state self.old) x == register (state self.old) y) (state self.old) }
+    {
+        self.skip_if(self.register(x) == self.register(y))
+    }
+
+    #[inline(always)]
+    pub(crate) fn skip_unless_same(&mut self, x: u8, y: u8) -> Step
+        requires x { x < 16 }
+        requires y { y < 16 }
+        ensures step { result ≡ Step.Went }
+        ensures state { state self.new ≡ skipped_if (not (register (state self.old) x == register (state self.old) y)) (state self.old) }
+    {
+        self.skip_if(self.register(x) != self.register(y))
+    }
+
+    #[inline(always)]
+    pub(crate) fn skip_if_down(&mut self, keys: Keys, x: u8) -> Step
+        requires { x < 16 }
+        ensures step { result ≡ Step.Went }
+        ensures state { state self.new ≡ skipped_if (is_down keys.0 (register (state self.old) x % 0x10)) (state self.old) }
+    {
+        self.skip_if(is_down(keys, self.register(x)))
+    }
+
+    #[inline(always)]
+    pub(crate) fn skip_if_up(&mut self, keys: Keys, x: u8) -> Step
+        requires { x < 16 }
+        ensures step { result ≡ Step.Went }
+        ensures state { state self.new ≡ skipped_if (not (is_down keys.0 (register (state self.old) x % 0x10))) (state self.old) }
+    {
+        self.skip_if(!is_down(keys, self.register(x)))
+    }
+
+    #[inline(always)]
+    pub(crate) fn await_key(&mut self, x: u8) -> Step
+        requires { x < 16 }
+        ensures step { result ≡ Step.Waits }
+        ensures state { state self.new ≡ record (passed (state self.old)) { waits = Some x } }
+    {
+        self.counter = self.next();
+        self.waits = Some(x);
+        Step::Waits
+    }
+}
+
+/// Whether the key that the low digit of `name` names is down.
+#[inline(always)]
+fn is_down(keys: Keys, name: u8) -> bool
+    ensures { result ≡ is_down keys.0 (name % 0x10) }
+{
+    (keys.0 >> (name % 16)) & 1 == 1
+}
