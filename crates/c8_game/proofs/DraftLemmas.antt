@@ -12,10 +12,10 @@ use Rattle.c8_game.specs.declared.error.GameError.{GameError}
 use Rattle.c8_game.specs.declared.error.GameError.TheVariants.{Line, Twice, Memory, Hex}
 use Rattle.c8_game.specs.declared.text.draft.Draft.{Draft}
 use Rattle.c8_game.specs.declared.text.field.Field.{Field}
-use Rattle.c8_game.specs.Fields.{index_of, number_of, value_at, field_named, is_mask, is_decimal}
+use Rattle.c8_game.specs.Fields.{index_of, number_of, number_at, field_named, is_mask, is_decimal}
 use Rattle.c8_game.specs.GameText.{is_skipped, is_name_and_value, name_in, value_in, is_code, field_in, is_field, said, code_bytes, program_of, value_fault, field_fault, named_fault, code_fault, line_fault}
 use Rattle.c8_game.specs.Draft.{Holds, AddsLine}
-use Rattle.c8_game.proofs.FieldLemmas.{same_field, value_at-set_same, value_at-set_other}
+use Rattle.c8_game.proofs.FieldLemmas.{same_field, number_at-set_same, number_at-set_other}
 use Rattle.std.proofs.Common.{add-one}
 
 -- what one line says of a field
@@ -81,7 +81,7 @@ coded_unnamed line coded = ap field_named ((bytes_eq-Decides (name_in line) (cod
 code_more : (old new : Draft) (before : List (List ℕ)) (line : List ℕ) → Holds old before → is_code line ≡ true → new.values ≡ old.values → new.program.items ≡ old.program.items ++ result_unwrap_or (decode_of (value_in line)) [] → Holds new (before ++ line ∷ [])
 unfolding said_by
 code_more old new before line holds coded same longer = record {
-  values = λ field. ap (λ values. value_at values field) same ∙ holds.values field ∙ sym (option_or-none (said field before))
+  values = λ field. ap (λ values. number_at values field) same ∙ holds.values field ∙ sym (option_or-none (said field before))
       ∙ ap (λ named. option_or (said field before) (cond (is_field named field) (Some (number_of field (value_in line))) None)) (sym (coded_unnamed line coded)) ∙ sym (said_more field before line);
   program = longer ∙ ap (λ bytes. bytes ++ result_unwrap_or (decode_of (value_in line)) []) holds.program
       ∙ ap (λ coded. program_of before ++ cond coded (result_unwrap_or (decode_of (value_in line)) []) []) (sym coded) ∙ sym (program_more before line);
@@ -115,9 +115,9 @@ field_more : (old new : Draft) (before : List (List ℕ)) (line : List ℕ) (fie
 field_more old new before line field size holds uncoded named fresh set same = record {
   values = λ f. elim (cases_eq (index_of f) (index_of field)) [
     | inl here ↦ let is : f ≡ field = same_field f field here in
-        rw is (ap (λ values. value_at values field) set ∙ value_at-set_same old.values field (number_of field (value_in line)) size ∙ sym (said_by-same line field named)
+        rw is (ap (λ values. number_at values field) set ∙ number_at-set_same old.values field (number_of field (value_in line)) size ∙ sym (said_by-same line field named)
         ∙ ap (λ earlier. option_or earlier (said_by field line)) (sym fresh) ∙ sym (said_more field before line))
-    | inr apart ↦ ap (λ values. value_at values f) set ∙ value_at-set_other old.values field f (number_of field (value_in line)) apart ∙ holds.values f
+    | inr apart ↦ ap (λ values. number_at values f) set ∙ number_at-set_other old.values field f (number_of field (value_in line)) apart ∙ holds.values f
         ∙ sym (option_or-none (said f before)) ∙ ap (λ more. option_or (said f before) more) (sym (said_by-other line field f named apart)) ∙ sym (said_more f before line)
   ];
   program = same ∙ holds.program ∙ sym (append-nil (program_of before)) ∙ ap (λ coded. program_of before ++ cond coded (result_unwrap_or (decode_of (value_in line)) []) []) (sym uncoded) ∙ sym (program_more before line);
@@ -128,7 +128,7 @@ named_twice true rest fine = cc
 named_twice false rest fine = cc
 
 fault_of_field : (old : Draft) (before : List (List ℕ)) (line : List ℕ) (field : Field) → Holds old before → is_skipped line ≡ false → is_name_and_value line ≡ true → is_code line ≡ false → field_in line ≡ Some field
-    → line_fault before line ≡ field_fault field (value_at old.values field) (value_in line)
+    → line_fault before line ≡ field_fault field (number_at old.values field) (value_in line)
 fault_of_field old before line field holds said shaped uncoded named =
     fault_named before line said shaped uncoded ∙ ap (λ found. named_fault before found (value_in line)) named ∙ ap (λ earlier. field_fault field earlier (value_in line)) (sym (holds.values field))
 
@@ -138,10 +138,10 @@ fresh_field field None value fine = refl
 fresh_field field (Some n) value fine = absurd (named_twice (not (is_mask field) && not (is_decimal value)) (value_fault field value) fine)
 
 pub named_line : (old new : Draft) (line : List ℕ) (field : Field) (result : Result (Unit {0}) GameError) → length old.values ≡ 10 → is_skipped line ≡ false → is_name_and_value line ≡ true → is_code line ≡ false → field_in line ≡ Some field
-    → MatchResult result (λ _. field_fault field (value_at old.values field) (value_in line) ≡ None) (λ e. field_fault field (value_at old.values field) (value_in line) ≡ Some e)
+    → MatchResult result (λ _. field_fault field (number_at old.values field) (value_in line) ≡ None) (λ e. field_fault field (number_at old.values field) (value_in line) ≡ Some e)
     → OnOk result (new.values ≡ slice_set old.values (index_of field) (Some (number_of field (value_in line)))) → OnOk result (new.program.items ≡ old.program.items) → AddsLine old new line result
 named_line old new line field (Ok u) size said shaped uncoded named fault set same before holds = (
   fault_of_field old before line field holds said shaped uncoded named ∙ fault,
-  field_more old new before line field size holds uncoded named (sym (holds.values field) ∙ fresh_field field (value_at old.values field) (value_in line) fault) set same,
+  field_more old new before line field size holds uncoded named (sym (holds.values field) ∙ fresh_field field (number_at old.values field) (value_in line) fault) set same,
 )
 named_line old new line field (Err e) size said shaped uncoded named fault set same before holds = inr (fault_of_field old before line field holds said shaped uncoded named ∙ fault)

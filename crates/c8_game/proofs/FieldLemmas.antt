@@ -4,7 +4,7 @@ use Rattle.std.proofs.lemmas.Bool.{cases_eq}
 use Rattle.std.specs.Prelude.{slice_set}
 use Rattle.c8_game.specs.declared.text.field.Field.{Field}
 use Rattle.c8_game.specs.declared.text.field.Field.TheVariants.{Players, Ipf, Frames, Delay, Window, Seed, Mask1, Mask2, Mask3, Mask4}
-use Rattle.c8_game.specs.Fields.{index_of, IsWithin, value_at}
+use Rattle.c8_game.specs.Fields.{index_of, IsWithin, number_at}
 
 field_at : ℕ → Field
 field_at n =
@@ -40,20 +40,20 @@ index_of-small Mask3 = omega arith
 index_of-small Mask4 = omega arith
 
 -- one field's number was set, and the others stay
-pub value_at-set_same : (values : List (Option ℕ)) (field : Field) (number : ℕ) → length values ≡ 10 → value_at (slice_set values (index_of field) (Some number)) field ≡ Some number
-value_at-set_same values field number size = let within : index_of field < length values = omega (arith, index_of-small field) in get_or-set_same values (index_of field) (Some number) None within
+pub number_at-set_same : (values : List (Option ℕ)) (field : Field) (number : ℕ) → length values ≡ 10 → number_at (slice_set values (index_of field) (Some number)) field ≡ Some number
+number_at-set_same values field number size = let within : index_of field < length values = omega (arith, index_of-small field) in get_or-set_same values (index_of field) (Some number) None within
 
-pub value_at-set_other : (values : List (Option ℕ)) (field other : Field) (number : ℕ) → index_of other ≢ index_of field → value_at (slice_set values (index_of field) (Some number)) other ≡ value_at values other
-value_at-set_other values field other number apart = get_or-set_other values (index_of field) (index_of other) (Some number) None apart
+pub number_at-set_other : (values : List (Option ℕ)) (field other : Field) (number : ℕ) → index_of other ≢ index_of field → number_at (slice_set values (index_of field) (Some number)) other ≡ number_at values other
+number_at-set_other values field other number apart = get_or-set_other values (index_of field) (index_of other) (Some number) None apart
 
 -- the numbers stay in their ranges
-pub ranges_kept : (values : List (Option ℕ)) (field : Field) (number : ℕ) → length values ≡ 10 → ((f : Field) (n : ℕ) → value_at values f ≡ Some n → IsWithin f n) → IsWithin field number → (f : Field) (n : ℕ) → value_at (slice_set values (index_of field) (Some number)) f ≡ Some n → IsWithin f n
+pub ranges_kept : (values : List (Option ℕ)) (field : Field) (number : ℕ) → length values ≡ 10 → ((f : Field) (n : ℕ) → number_at values f ≡ Some n → IsWithin f n) → IsWithin field number → (f : Field) (n : ℕ) → number_at (slice_set values (index_of field) (Some number)) f ≡ Some n → IsWithin f n
 ranges_kept values field number size kept within f n has =
     elim (cases_eq (index_of f) (index_of field)) [
       | inl same ↦ let is : f ≡ field = same_field f field same in
-          let set_here : value_at (slice_set values (index_of field) (Some number)) f ≡ Some number = rw is (value_at-set_same values field number size) in
+          let set_here : number_at (slice_set values (index_of field) (Some number)) f ≡ Some number = rw is (number_at-set_same values field number size) in
           let value : Some number ≡ Some n = sym set_here ∙ has in
           let number_is : number ≡ n = cc in
           rw (is, ← number_is) within
-      | inr apart ↦ kept f n (sym (value_at-set_other values field f number apart) ∙ has)
+      | inr apart ↦ kept f n (sym (number_at-set_other values field f number apart) ∙ has)
     ]

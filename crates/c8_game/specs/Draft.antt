@@ -4,13 +4,13 @@ use Rattle.c8_game.specs.declared.error.GameError.{GameError}
 use Rattle.c8_game.specs.declared.error.GameError.TheVariants.{Memory}
 use Rattle.c8_game.specs.declared.text.draft.Draft.{Draft}
 use Rattle.c8_game.specs.declared.text.field.Field.{Field}
-use Rattle.c8_game.specs.Fields.{value_at}
+use Rattle.c8_game.specs.Fields.{number_at}
 use Rattle.c8_game.specs.GameText.{said, program_of, line_fault, end_fault, IsToldBy}
 use Rattle.c8_game.specs.Rules.{Rules}
 
 -- the draft has what these lines say
 pub record Holds (draft : Draft) (text_lines : List (List ℕ)) : Type 0 where
-  pub values : (field : Field) → value_at draft.values field ≡ said field text_lines
+  pub values : (field : Field) → number_at draft.values field ≡ said field text_lines
   pub program : draft.program.items ≡ program_of text_lines
 
 -- a line was added to those before it, or its fault was found

@@ -1,4 +1,5 @@
--- The fields of a game text: each has a word, and a number that its value spells.
+-- The fields of a game text, which are all its names but `code`: each has a word, and a number that its
+-- value spells.
 use Rattle.std.specs.Prelude.{ℕ, ◌≤◌, ◌+◌, ◌-◌, ◌*◌, ◌&&◌, Bool, nat_lt, nat_le, List, [], ◌∷◌, length, codes, fold, Option, None, is_ok, unwrap_or, slice_index_or, if◌then◌else◌}
 use Rattle.std.specs.List.{find, list_all}
 use Rattle.std.specs.Char.{is_ascii_digit}
@@ -87,12 +88,12 @@ abbrev pub field_named : List ℕ → Option Field
 field_named word = find (λ field. bytes_eq (word_of field) word) fields
 
 -- the number that a list has for a field, if it has one
-abbrev pub value_at : List (Option ℕ) → Field → Option ℕ
-value_at values field = slice_index_or values (index_of field) None
+abbrev pub number_at : List (Option ℕ) → Field → Option ℕ
+number_at values field = slice_index_or values (index_of field) None
 
 -- that number, 0 if there is none
 abbrev pub told_by : List (Option ℕ) → Field → ℕ
-told_by values field = unwrap_or (value_at values field) 0
+told_by values field = unwrap_or (number_at values field) 0
 
 -- a decimal has 1 to 20 digits
 abbrev pub is_decimal : List ℕ → Bool

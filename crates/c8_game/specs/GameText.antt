@@ -28,7 +28,7 @@ name_in line = before_first is_space line
 abbrev pub value_in : List ℕ → List ℕ
 value_in line = after_first is_space line
 
--- the value is not empty and has no space
+-- there is a space, and the value behind the first one is not empty and has none
 abbrev pub is_name_and_value : List ℕ → Bool
 is_name_and_value line = is_some (position is_space line) && nat_lt 0 (length (value_in line)) && not (list_any is_space (value_in line))
 
@@ -44,7 +44,7 @@ abbrev pub is_field : Option Field → Field → Bool
 is_field None field = false
 is_field (Some named) field = index_of named == index_of field
 
--- what the lines say of a field: the number of the first line that names it
+-- what the lines say of a field: the number that the first line naming it spells
 abbrev pub said : Field → List (List ℕ) → Option ℕ
 said field [] = None
 said field (line ∷ more) = if is_field (field_in line) field then Some (number_of field (value_in line)) else said field more
@@ -58,25 +58,26 @@ program_of text_lines = flat_map code_bytes text_lines
 
 -- ---- faults
 
--- a value of the right shape: a number in its range, or a mask
+-- Hex for a mask that is none, Range for a number outside its range
 abbrev pub value_fault : Field → List ℕ → Option GameError
 value_fault field value =
     if is_mask field then (if is_mask_text value then None else Some Hex)
     else if nat_le (least_of field) (number_of field value) && nat_le (number_of field value) (greatest_of field) then None
     else Some Range
 
--- a decimal that is none is a fault of the line; then a field has one number
+-- Line for a decimal that is none, then Twice for a field that was said, then Hex or Range
 abbrev pub field_fault : Field → Option ℕ → List ℕ → Option GameError
 field_fault field earlier value =
     if not (is_mask field) && not (is_decimal value) then Some Line
     else if is_some earlier then Some Twice
     else value_fault field value
 
--- a name that is no field's is a fault of the line
+-- Line for a name that is no field's
 abbrev pub named_fault : List (List ℕ) → Option Field → List ℕ → Option GameError
 named_fault before None value = Some Line
 named_fault before (Some field) value = field_fault field (said field before) value
 
+-- Hex for code that is not pairs of digits
 abbrev pub code_fault : List ℕ → Option GameError
 code_fault value = if is_ok (decode_of value) then None else Some Hex
 
@@ -97,10 +98,11 @@ first_fault before (line ∷ more) = option_or (line_fault before line) (first_f
 abbrev pub told : Field → List (List ℕ) → ℕ
 told field text_lines = unwrap_or (said field text_lines) 0
 
--- every game has all fields but the masks of players who are not in it
+-- every game has all fields but the masks of players who are not in it: whether one is not said
 abbrev pub is_lacking : List (List ℕ) → Field → Bool
 is_lacking text_lines field = nat_le (owner_of field) (told Players text_lines) && is_none (said field text_lines)
 
+-- whether the mask of a player who is not in the game is said
 abbrev pub is_stray : List (List ℕ) → Field → Bool
 is_stray text_lines field = nat_lt (told Players text_lines) (owner_of field) && is_some (said field text_lines)
 

@@ -27,12 +27,13 @@ pub record AreInRange (rules : Rules) : Type 0 where
   pub some_window : 1 ≤ rules.window
   pub window : rules.window ≤ 12
   pub masks : length rules.masks ≡ 4
+  pub absent : (place : ℕ) → rules.players ≤ place → slice_index rules.masks place ≡ 0
   pub some_program : 1 ≤ length rules.program
   pub program : length rules.program ≤ 3584
 
--- the keys of player q + 1 in a row, less those that the player's mask lacks
+-- the keys at a place of a row, player 1's at place 0, less those that the player's mask lacks
 abbrev pub masked : Rules → Row → ℕ → ℕ
-masked rules row q = bit_and (slice_index_or row.sets q (record { 0 = 0 })).0 (slice_index rules.masks q)
+masked rules row place = bit_and (slice_index_or row.sets place (record { 0 = 0 })).0 (slice_index rules.masks place)
 
 -- the keys of a frame: the union over the players; the mask of one who is not in the game is 0
 abbrev pub joined : Rules → Row → ℕ

@@ -16,7 +16,7 @@ pub enum GameError {
     /// not in the game.
     #[error("2 Range")]
     Range,
-    /// A name that has to be there is not, after the last line.
+    /// No line has a name that a game must have. This is judged after the last line.
     #[error("3 Missing")]
     Missing,
     /// A name other than `code` for the second time.

@@ -1,5 +1,5 @@
 //! A game: the program that is played, and the numbers that all its players agree on.
-ghost use Rattle.std.specs.Prelude.{◌≡◌, ◌≤◌, ◌-◌, ◌++◌, ◌⊎◌, IfOk, IfErr, Some, length, slice_get};
+ghost use Rattle.std.specs.Prelude.{◌≡◌, ◌<◌, ◌≤◌, ◌-◌, ◌++◌, ◌⊎◌, IfOk, IfErr, Some, length, slice_get};
 ghost use Rattle.sha2.specs.Sha256.{sha256};
 ghost use Rattle.c8_game.specs.GameText.{Spells, refusal};
 ghost use Rattle.c8_game.specs.declared.error.GameError.TheVariants.{Memory};
@@ -56,8 +56,8 @@ impl Model for Game {
 }
 
 impl Game {
-    /// The game that a text spells. Lines end before a line feed, and one carriage return before it is
-    /// dropped; empty lines and lines that begin with `#` say nothing; every other line is a name, one
+    /// The game that a text spells. Lines end at a line feed, which the last one may lack, and one
+    /// carriage return before it is dropped; empty lines and lines that begin with `#` say nothing; every other line is a name, one
     /// space and a value.
     ///
     /// Lines are judged in order, within a line first for `Line`, then `Twice`, then `Hex` or `Range`;
@@ -125,9 +125,10 @@ impl Game {
         self.seed
     }
 
-    /// The keys that a player may hold down, none for a player who is not in the game.
+    /// The keys of a player that count, none for a player who is not in the game.
     pub fn mask(&self, player: Player) -> Keys
-        ensures { slice_get self.now.masks (player.number - 1) ≡ Some result.0 }
+        ensures value { slice_get self.now.masks (player.number - 1) ≡ Some result.0 }
+        ensures absent { self.now.players < player.number → result.0 ≡ 0 }
     {
         Keys(self.masks[usize::from(player.number - 1)])
     }
@@ -141,7 +142,7 @@ impl Game {
         &self.program
     }
 
-    /// The greatest length of a player's list of inputs: that of the frames, and the delay's sets.
+    /// The greatest length of a player's list of inputs: `frames` and `delay`.
     pub fn limit(&self) -> u32
         ensures value { result ≡ limit_of self.now }
         ensures greatest { result ≤ 262148 }
@@ -170,10 +171,12 @@ impl Game {
         digest_of_both(&self.number_bytes(), self.program())
     }
 
+    #[rattlefmt::skip]
     #[tactic(auto, unfolding(crate::specs::Rules::number_bytes))]
     fn number_bytes(&self) -> [u8; 26]
         ensures { result ≡ number_bytes self.now }
     {
+        let [players, ipf, delay, window] = [self.players, self.ipf, self.delay, self.window];
         let [f0, f1, f2, f3] = self.frames.to_be_bytes();
         let [s0, s1, s2, s3, s4, s5, s6, s7] = self.seed.to_be_bytes();
         let [a0, a1] = self.masks[0].to_be_bytes();
@@ -182,32 +185,8 @@ impl Game {
         let [d0, d1] = self.masks[3].to_be_bytes();
         let [n0, n1] = (self.program.len() as u16).to_be_bytes();
         [
-            self.players,
-            self.ipf,
-            f0,
-            f1,
-            f2,
-            f3,
-            self.delay,
-            self.window,
-            s0,
-            s1,
-            s2,
-            s3,
-            s4,
-            s5,
-            s6,
-            s7,
-            a0,
-            a1,
-            b0,
-            b1,
-            c0,
-            c1,
-            d0,
-            d1,
-            n0,
-            n1,
+            players, ipf, f0, f1, f2, f3, delay, window, s0, s1, s2, s3, s4, s5, s6, s7,
+            a0, a1, b0, b1, c0, c1, d0, d1, n0, n1,
         ]
     }
 

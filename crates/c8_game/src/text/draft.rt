@@ -4,7 +4,7 @@ ghost use Rattle.std.specs.List.{list_any};
 ghost use Rattle.std.specs.Option.{ForSome};
 ghost use Rattle.std.specs.Result.{result_unwrap_or};
 ghost use Rattle.hex.specs.Hex.{decode_of};
-ghost use Rattle.c8_game.specs.Fields.{fields, index_of, owner_of, least_of, greatest_of, IsWithin, value_at, told_by};
+ghost use Rattle.c8_game.specs.Fields.{fields, index_of, owner_of, least_of, greatest_of, IsWithin, number_at, told_by};
 ghost use Rattle.c8_game.specs.GameText.{is_skipped, is_name_and_value, name_in, value_in, field_fault};
 ghost use Rattle.c8_game.specs.declared.error.GameError.TheVariants.{Hex, Memory};
 ghost use Rattle.c8_game.specs.declared.text.field.Field.{Field};
@@ -22,7 +22,7 @@ use std::alloc::Global;
 pub struct Draft {
     values: [Option<u64>; 10],
     program: Vec<u8>,
-    ghost ranges: { (field : Field) → ForSome (value_at values field) (IsWithin field) },
+    ghost ranges: { (field : Field) → ForSome (number_at values field) (IsWithin field) },
 }
 
 impl Draft {
@@ -74,7 +74,7 @@ impl Draft {
     }
 
     fn add_field(&mut self, field: Field, value: &[u8]) -> Result<(), GameError>
-        ensures fault { MatchResult result (λ _. field_fault field (value_at self.old.values field) value.now ≡ None) (λ e. field_fault field (value_at self.old.values field) value.now ≡ Some e) }
+        ensures fault { MatchResult result (λ _. field_fault field (number_at self.old.values field) value.now ≡ None) (λ e. field_fault field (number_at self.old.values field) value.now ≡ Some e) }
         ensures values { OnOk result (self.new.values ≡ slice_set self.old.values (index_of field) (Some (number_of field value.now))) }
         ensures program { OnOk result (self.new.program.items ≡ self.old.program.items) }
     {
@@ -125,7 +125,7 @@ impl Draft {
 
     /// A field's number, if the lines say it.
     fn value(&self, field: Field) -> Option<u64>
-        ensures { result ≡ value_at self.now.values field }
+        ensures { result ≡ number_at self.now.values field }
     {
         self.values[field.index()]
     }
@@ -133,7 +133,7 @@ impl Draft {
     /// A field's number, 0 if the lines don't say it.
     fn told(&self, field: Field) -> u64
         ensures value { result ≡ told_by self.now.values field }
-        ensures least { IsSome (value_at self.now.values field) → least_of field ≤ result }
+        ensures least { IsSome (number_at self.now.values field) → least_of field ≤ result }
         ensures greatest { result ≤ greatest_of field }
     {
         self.value(field).unwrap_or(0)
@@ -141,14 +141,14 @@ impl Draft {
 
     /// Whether a field that every game of so many players has is not said.
     fn lacks(&self, players: u64) -> bool
-        ensures { result ≡ list_any (λ field. nat_le (owner_of field) players && is_none (value_at self.now.values field)) fields }
+        ensures { result ≡ list_any (λ field. nat_le (owner_of field) players && is_none (number_at self.now.values field)) fields }
     {
         FIELDS.iter().any(|field| field.owner() <= players && self.value(*field).is_none())
     }
 
     /// Whether a mask of a player beyond so many is said.
     fn strays(&self, players: u64) -> bool
-        ensures { result ≡ list_any (λ field. nat_lt players (owner_of field) && is_some (value_at self.now.values field)) fields }
+        ensures { result ≡ list_any (λ field. nat_lt players (owner_of field) && is_some (number_at self.now.values field)) fields }
     {
         FIELDS.iter().any(|field| field.owner() > players && self.value(*field).is_some())
     }

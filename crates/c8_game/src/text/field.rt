@@ -1,7 +1,7 @@
 //! The fields of a game text: every name but `code`, each with one number.
-ghost use Rattle.std.specs.Prelude.{◌≡◌, ◌<◌, List, List};
+ghost use Rattle.std.specs.Prelude.{◌≡◌, ◌<◌};
 
-/// A name that stands once in a game text.
+/// A name that stands at most once in a game text.
 #[derive(Clone, Copy)]
 pub enum Field {
     Players,

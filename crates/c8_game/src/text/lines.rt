@@ -4,8 +4,9 @@ ghost use Rattle.std.specs.Iterator.{YieldsFirstRef, item_count};
 ghost use Rattle.std.specs.List.{before_first, after_first};
 ghost use Rattle.std.specs.Str.Lines.{lines, strip_carriage_return};
 
-/// The lines of a text that are still to come. A line ends before a line feed, and one carriage
-/// return before that is dropped with it. Nothing behind the last line feed is no line.
+/// The lines of a text that are still to come. A line ends at a line feed, and one carriage return
+/// before that is dropped with it. If nothing follows the last line feed, no line begins there; a last
+/// line that no line feed ends keeps its carriage return.
 #[derive(Clone, Copy)]
 pub struct Lines<'a> {
     rest: &'a [u8],
@@ -41,7 +42,7 @@ impl<'a> Iterator for Lines<'a> {
     }
 }
 
-/// The first line of a text that is not empty, and what follows its line feed.
+/// The first line of a non-empty text, and what follows its line feed.
 fn first_line(text: &[u8]) -> (&[u8], &[u8])
     requires { 0 < length text.now }
     ensures { lines text.now ≡ result.0.now ∷ lines result.1.now }

@@ -1,0 +1,46 @@
+//! c8play: CHIP-8 programs, played by two to four people who agree on every frame.
+//!
+//! `cli` says what the command line is; each command is a function over texts already read, in a file
+//! of its own, with a writer for what it prints and one for why it refuses.
+#![tactic(auto)]
+
+mod cli;
+mod keys;
+mod refusal;
+mod report;
+mod run;
+mod text;
+
+use refusal::{Refusal, Status};
+use std::io::ErrorKind;
+use std::process::ExitCode;
+use std::{env, io};
+
+fn main(rt: HostRuntime) -> io::Result<ExitCode> {
+    match obey(&rt) {
+        Ok(code) => Ok(code),
+        Err(error) if error.kind() == ErrorKind::OutOfMemory => {
+            Ok(Refusal::Memory.tell(&mut rt.stderr())?.into())
+        }
+        Err(error) => Err(error),
+    }
+}
+
+/// Reads the command line, and does what it asks for.
+fn obey(rt: &HostRuntime) -> io::Result<ExitCode> {
+    let words: Vec<String> = env::args(rt)?.collect(rt.alloc())?;
+    let command = cli::command(rt.alloc())?;
+    match command.try_get_matches_from(words.as_slice()) {
+        Ok(matches) => Ok(cli::carry_out(rt, &matches)?.into()),
+        Err(error) => {
+            error.print(rt)?;
+            Ok(ExitCode::from(error.exit_code() as u8))
+        }
+    }
+}
+
+impl From<Status> for ExitCode {
+    fn from(status: Status) -> ExitCode {
+        ExitCode::from(status.code())
+    }
+}

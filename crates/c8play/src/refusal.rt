@@ -1,0 +1,55 @@
+//! Why a command refuses what it was given, and the status with which it ends.
+
+use crate::keys::KeysError;
+use c8_game::GameError;
+use std::io;
+use std::io::Write;
+use thiserror::Error;
+
+/// How a command ended.
+#[derive(Clone, Copy, Debug, PartialEq, Eq)]
+pub enum Status {
+    /// It did what it was asked.
+    Done,
+    /// It refused its input.
+    Refused,
+    /// A disk or a socket failed it.
+    Failed,
+}
+
+impl Status {
+    /// The exit status of the program. 2 is the command line's own.
+    pub fn code(self) -> u8 {
+        match self {
+            Status::Done => 0,
+            Status::Refused => 1,
+            Status::Failed => 3,
+        }
+    }
+}
+
+/// Why a command refuses its input. It prints as the one line that a refusal is.
+#[derive(Clone, Copy, Debug, PartialEq, Eq, Error)]
+pub enum Refusal {
+    #[error("refused: game {0}")]
+    Game(GameError),
+    #[error("refused: keys {0}")]
+    Keys(KeysError),
+    /// A file that cannot be read, or is too long for a text.
+    #[error("refused: disk 1 Failed")]
+    Disk,
+    /// There was no memory for the program to start with.
+    #[error("refused: open 5 Memory")]
+    Memory,
+}
+
+impl Refusal {
+    /// Writes the refusal's line, and answers the status that goes with it.
+    pub fn tell<W: Write>(self, out: &mut W) -> io::Result<Status> {
+        writeln!(out, "{self}")?;
+        Ok(match self {
+            Refusal::Game(_) | Refusal::Keys(_) | Refusal::Memory => Status::Refused,
+            Refusal::Disk => Status::Failed,
+        })
+    }
+}
