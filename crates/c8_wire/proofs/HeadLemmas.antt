@@ -1,0 +1,63 @@
+-- The header: its bytes are those of what it says, and what it says is read again.
+use Rattle.std.proofs.Common.{◌≡◌, ℕ, ◌+◌, ◌^◌, ◌<◌, ◌≤◌, List, [], ◌∷◌, ◌++◌, length, drop, get_or, slice_index, Some, refl, ap, ◌∙◌, arith}
+use Rattle.std.proofs.lemmas.List.{drop_more}
+use Rattle.byteorder.specs.Endian.{big_bytes}
+use Rattle.byteorder.specs.Numbers.{big_number-reads_back}
+use Rattle.c8_wire.specs.declared.head.Kind.{Kind}
+use Rattle.c8_wire.specs.Kinds.{code_of}
+use Rattle.c8_wire.specs.Packet.{HeadValue, IsHead}
+use Rattle.c8_wire.specs.Spelling.{header_bytes}
+use Rattle.c8_wire.specs.Reading.{number_at, kind_at, size_at, head_at}
+use Rattle.c8_wire.proofs.NumberLemmas.{IsBytes, spelled_at}
+use Rattle.c8_wire.proofs.TableLemmas.{kind_of_its_code}
+
+-- what is spelled by a front and a rest, and the rest by what it is
+pub then : (front : List ℕ) {whole rest others : List ℕ} → whole ≡ front ++ rest → rest ≡ others → whole ≡ front ++ others
+then front e f = e ∙ ap (λ (r : List ℕ). front ++ r) f
+
+pub byte_here : (place next : ℕ) (bytes : List ℕ) → place + 1 ≡ next → next ≤ length bytes → drop place bytes ≡ slice_index bytes place ∷ [] ++ drop next bytes
+byte_here place next bytes ends long = drop_more bytes place 0 (omega arith) ∙ ap (λ (k : ℕ). get_or bytes place 0 ∷ drop k bytes) ends
+
+-- a header that begins a datagram's bytes spells what it says
+pub spelled_header : (kind : Kind) (bytes : List ℕ) → IsBytes bytes → 24 ≤ length bytes → number_at 0 2 bytes ≡ 0x4338 → slice_index bytes 2 ≡ 1 → slice_index bytes 3 ≡ code_of kind
+    → bytes ≡ header_bytes (head_at kind bytes) (size_at bytes) ++ drop 24 bytes
+spelled_header kind bytes fits long magic version code =
+    let first : bytes ≡ big_bytes 2 0x4338 ++ drop 2 bytes = spelled_at 0 2 2 bytes refl (omega arith) fits ∙ ap (λ (n : ℕ). big_bytes 2 n ++ drop 2 bytes) magic in
+    let second : drop 2 bytes ≡ 1 ∷ [] ++ drop 3 bytes = byte_here 2 3 bytes refl (omega arith) ∙ ap (λ (n : ℕ). n ∷ drop 3 bytes) version in
+    let third : drop 3 bytes ≡ code_of kind ∷ [] ++ drop 4 bytes = byte_here 3 4 bytes refl (omega arith) ∙ ap (λ (n : ℕ). n ∷ drop 4 bytes) code in
+    then (big_bytes 2 0x4338) first
+    (then (1 ∷ []) second
+    (then (code_of kind ∷ []) third
+    (then (big_bytes 8 (number_at 4 8 bytes)) (spelled_at 4 8 12 bytes refl (omega arith) fits)
+    (then (slice_index bytes 12 ∷ []) (byte_here 12 13 bytes refl (omega arith))
+    (then (slice_index bytes 13 ∷ []) (byte_here 13 14 bytes refl (omega arith))
+    (then (big_bytes 2 (number_at 14 2 bytes)) (spelled_at 14 2 16 bytes refl (omega arith) fits)
+    (then (big_bytes 4 (number_at 16 4 bytes)) (spelled_at 16 4 20 bytes refl (omega arith) fits)
+    (spelled_at 20 4 24 bytes refl long fits))))))))
+
+-- the bytes begin with this header, before a body of so many bytes
+pub record HasHead (bytes : List ℕ) (head : HeadValue) (size : ℕ) : Type 0 where
+  pub magic : number_at 0 2 bytes ≡ 0x4338
+  pub version : slice_index bytes 2 ≡ 1
+  pub kind : kind_at bytes ≡ Some head.kind
+  pub from : slice_index bytes 12 ≡ head.from
+  pub to : slice_index bytes 13 ≡ head.to
+  pub sized : size_at bytes ≡ size
+  pub values : head_at head.kind bytes ≡ head
+
+pub headed : (head : HeadValue) (length : ℕ) (body : List ℕ) → IsHead head → length < 2 ^ 16 → HasHead (header_bytes head length ++ body) head length
+unfolding number_at
+headed head length body is short =
+    let rest : List ℕ = big_bytes 4 head.sender_epoch ++ big_bytes 4 head.addressee_epoch ++ body in
+    let session = big_number-reads_back 8 head.session (head.from ∷ head.to ∷ [] ++ big_bytes 2 length ++ rest) is.session in
+    let sender = big_number-reads_back 4 head.sender_epoch (big_bytes 4 head.addressee_epoch ++ body) is.sender_epoch in
+    let addressee = big_number-reads_back 4 head.addressee_epoch body is.addressee_epoch in
+    record {
+      magic = refl;
+      version = refl;
+      kind = kind_of_its_code head.kind;
+      from = refl;
+      to = refl;
+      sized = big_number-reads_back 2 length rest short;
+      values = λ i. record { kind = head.kind; session = session i; from = head.from; to = head.to; sender_epoch = sender i; addressee_epoch = addressee i };
+    }

@@ -1,0 +1,85 @@
+-- What the table of refusals says where none applies, and where its first ones don't.
+use Rattle.std.proofs.Common.{◌≡◌, ℕ, ◌⊎◌, Bool, true, false, cond, List, [], ◌∷◌, ◌++◌, Option, Some, None, refl, sym, ap, ◌∙◌, inl, inr}
+use Rattle.std.specs.Prelude.{◌==◌, find}
+use Rattle.std.proofs.lemmas.Bool.{eqb-true}
+use Rattle.c8_wire.specs.declared.refusal.WireError.{WireError}
+use Rattle.c8_wire.specs.declared.refusal.WireError.TheVariants as errors
+use Rattle.c8_wire.specs.declared.head.Kind.{Kind}
+use Rattle.c8_wire.specs.declared.head.Kind.TheVariants as kinds
+use Rattle.c8_wire.specs.Kinds.{code_of, all_kinds, kind_of_code}
+use Rattle.c8_wire.specs.Reading.{kind_at}
+use Rattle.c8_wire.specs.Refusal.{applies, first_of, front_refusals, body_refusals, refusal}
+
+found_in : {A : Type 0} (test : Bool) (x y : A) (others : Option A) → cond test (Some x) others ≡ Some y → ((test ≡ true) × (x ≡ y)) ⊎ (others ≡ Some y)
+found_in true x y others e = inl (refl, cc)
+found_in false x y others e = inr e
+
+-- what is found passes the test
+find_passes : {A : Type 0} (test : A → Bool) (xs : List A) (x : A) → find test xs ≡ Some x → test x ≡ true
+find_passes test [] x e = absurd cc
+find_passes test (y ∷ ys) x e = elim (found_in (test y) y x (find test ys) e) [ inl here ↦ ap test (sym here.1) ∙ here.0 | inr later ↦ find_passes test ys x later ]
+
+none_in : {A : Type 0} (test : Bool) (x : A) (others : Option A) → cond test (Some x) others ≡ None → (test ≡ false) × (others ≡ None)
+none_in true x others e = absurd cc
+none_in false x others e = (refl, e)
+
+skipped : {A : Type 0} (test : Bool) (x : A) (others : Option A) → test ≡ false → cond test (Some x) others ≡ others
+skipped test x others e = rw e refl
+
+pub refused_or_not : (refused : Option WireError) (error : WireError) → refused ≡ None → refused ≡ Some error → ⊥
+refused_or_not refused error none some = cc
+
+-- a number's kind has that number
+pub code_of_found : (code : ℕ) (kind : Kind) → kind_of_code code ≡ Some kind → code ≡ code_of kind
+unfolding kind_of_code
+code_of_found code kind e = sym (eqb-true _ _ (find_passes (λ k. code_of k == code) all_kinds kind e))
+
+pub kind_of_its_code : (kind : Kind) → kind_of_code (code_of kind) ≡ Some kind
+unfolding kind_of_code
+kind_of_its_code kinds.Data = refl
+
+-- no refusal applies to a datagram of this kind
+pub record IsAccepted (kind : Kind) (bytes : List ℕ) : Type 0 where
+  pub short : applies errors.Short (Some kind) bytes ≡ false
+  pub magic : applies errors.Magic (Some kind) bytes ≡ false
+  pub version : applies errors.Version (Some kind) bytes ≡ false
+  pub length : applies errors.Length (Some kind) bytes ≡ false
+  pub player : applies errors.Player (Some kind) bytes ≡ false
+  pub reserved : applies errors.Reserved (Some kind) bytes ≡ false
+  pub count : applies errors.Count (Some kind) bytes ≡ false
+  pub beyond : applies errors.Beyond (Some kind) bytes ≡ false
+
+pub accepted : (kind : Kind) (bytes : List ℕ) → kind_at bytes ≡ Some kind → refusal bytes ≡ None → IsAccepted kind bytes
+accepted kind bytes named none =
+    let found : first_of (front_refusals ++ body_refusals) (Some kind) bytes ≡ None = ap (λ (k : Option Kind). first_of (front_refusals ++ body_refusals) k bytes) (sym named) ∙ none in
+    let a = none_in _ _ _ found in
+    let b = none_in _ _ _ a.1 in
+    let c = none_in _ _ _ b.1 in
+    let d = none_in _ _ _ c.1 in
+    let e = none_in _ _ _ d.1 in
+    let f = none_in _ _ _ e.1 in
+    let g = none_in _ _ _ f.1 in
+    let h = none_in _ _ _ g.1 in
+    let i = none_in _ _ _ h.1 in
+    record { short = a.0; magic = b.0; version = c.0; length = e.0; player = f.0; reserved = g.0; count = h.0; beyond = i.0 }
+
+names_a_kind : (kind : Kind) (bytes : List ℕ) → applies errors.Kind (Some kind) bytes ≡ false
+unfolding applies
+names_a_kind kind bytes = refl
+
+-- no byte of these kinds is reserved
+pub none_reserved : (kind : Kind) (bytes : List ℕ) → applies errors.Reserved (Some kind) bytes ≡ false
+unfolding applies
+none_reserved kind bytes = refl
+
+-- a header that is right leaves the refusals of the body
+pub past_front : (kind : Kind) (bytes : List ℕ) → kind_at bytes ≡ Some kind → applies errors.Short (Some kind) bytes ≡ false → applies errors.Magic (Some kind) bytes ≡ false → applies errors.Version (Some kind) bytes ≡ false
+    → refusal bytes ≡ first_of body_refusals (Some kind) bytes
+past_front kind bytes named short magic version =
+    ap (λ (k : Option Kind). first_of (front_refusals ++ body_refusals) k bytes) named
+    ∙ skipped _ _ _ short ∙ skipped _ _ _ magic ∙ skipped _ _ _ version ∙ skipped _ _ _ (names_a_kind kind bytes)
+
+pub not_refused : (kind : Kind) (bytes : List ℕ) → kind_at bytes ≡ Some kind → IsAccepted kind bytes → refusal bytes ≡ None
+not_refused kind bytes named a =
+    past_front kind bytes named a.short a.magic a.version
+    ∙ skipped _ _ _ a.length ∙ skipped _ _ _ a.player ∙ skipped _ _ _ a.reserved ∙ skipped _ _ _ a.count ∙ skipped _ _ _ a.beyond

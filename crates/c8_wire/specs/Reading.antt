@@ -1,0 +1,50 @@
+-- What stands where in a datagram's bytes.
+use Rattle.std.specs.Prelude.{ℕ, ◌+◌, ◌*◌, List, [], ◌∷◌, take, drop, slice_index, Option}
+use Rattle.byteorder.specs.Endian.{big_number}
+use Rattle.c8_wire.specs.declared.head.Kind.{Kind}
+use Rattle.c8_wire.specs.declared.head.Kind.TheVariants as kinds
+use Rattle.c8_wire.specs.Kinds.{kind_of_code}
+use Rattle.c8_wire.specs.Packet.{HeadValue, DataMessage, Message, Data, Packet}
+
+-- the number in so many bytes from a place on
+unfoldable pub number_at : ℕ → ℕ → List ℕ → ℕ
+number_at place width bytes = big_number width (drop place bytes)
+
+-- the kind that byte 3 names
+abbrev pub kind_at : List ℕ → Option Kind
+kind_at bytes = kind_of_code (slice_index bytes 3)
+
+-- the length of the body, as the header says it
+abbrev pub size_at : List ℕ → ℕ
+size_at bytes = number_at 14 2 bytes
+
+abbrev pub head_at : Kind → List ℕ → HeadValue
+head_at kind bytes = record {
+  kind = kind;
+  session = number_at 4 8 bytes;
+  from = slice_index bytes 12;
+  to = slice_index bytes 13;
+  sender_epoch = number_at 16 4 bytes;
+  addressee_epoch = number_at 20 4 bytes;
+}
+
+-- the key sets that a run's bytes spell, two bytes each
+unfoldable pub words_of : List ℕ → List ℕ
+words_of [] = []
+words_of (high ∷ []) = []
+words_of (high ∷ low ∷ rest) = (high * 256 + low) ∷ words_of rest
+
+abbrev pub data_at : List ℕ → DataMessage
+data_at bytes = record {
+  ack = number_at 24 4 bytes;
+  mark_frame = number_at 28 4 bytes;
+  mark = take 8 (drop 32 bytes);
+  start = number_at 40 4 bytes;
+  words = words_of (drop 46 bytes);
+}
+
+abbrev pub message_at : Kind → List ℕ → Message
+message_at kinds.Data bytes = Data (data_at bytes)
+
+abbrev pub packet_at : Kind → List ℕ → Packet
+packet_at kind bytes = record { head = head_at kind bytes; message = message_at kind bytes }

@@ -1,0 +1,23 @@
+-- The packet that a caller asks to be written.
+use Rattle.c8_wire.specs.declared.head.Head.{Head}
+use Rattle.c8_wire.specs.declared.said.Body.{Body}
+use Rattle.c8_wire.specs.declared.said.Body.TheVariants as bodies
+use Rattle.c8_wire.specs.declared.said.Said.{Said}
+use Rattle.c8_wire.specs.Packet.{HeadValue, Message, Data, Packet}
+
+-- the values of a head
+abbrev pub head_value : Head → HeadValue
+head_value head = record {
+  kind = head.kind;
+  session = head.session;
+  from = head.from.number;
+  to = head.to.number;
+  sender_epoch = head.sender_epoch;
+  addressee_epoch = head.addressee_epoch;
+}
+
+abbrev pub message_of : Body → Message
+message_of (bodies.Data ack mark_frame mark start run) = Data (record { ack = ack; mark_frame = mark_frame; mark = mark; start = start; words = run.now })
+
+abbrev pub packet_said : Said → Packet
+packet_said said = record { head = head_value said.head; message = message_of said.body }

@@ -1,0 +1,27 @@
+-- The one spelling of each packet.
+use Rattle.std.specs.Prelude.{◌≡◌, ℕ, List, [], ◌∷◌, ◌++◌, length}
+use Rattle.std.specs.List.{flat_map}
+use Rattle.byteorder.specs.Endian.{big_bytes}
+use Rattle.c8_wire.specs.Kinds.{code_of}
+use Rattle.c8_wire.specs.Packet.{HeadValue, Message, Data, Packet, IsPacket}
+
+-- the header of a datagram whose body has so many bytes
+abbrev pub header_bytes : HeadValue → ℕ → List ℕ
+header_bytes head size =
+    0x43 ∷ 0x38 ∷ 1 ∷ code_of head.kind ∷ [] ++ big_bytes 8 head.session ++ head.from ∷ head.to ∷ []
+    ++ big_bytes 2 size ++ big_bytes 4 head.sender_epoch ++ big_bytes 4 head.addressee_epoch
+
+-- a run: where it starts, how many inputs it has, and their key sets
+abbrev pub run_bytes : ℕ → List ℕ → List ℕ
+run_bytes start words = big_bytes 4 start ++ big_bytes 2 (length words) ++ flat_map (big_bytes 2) words
+
+abbrev pub body_bytes : Message → List ℕ
+body_bytes (Data m) = big_bytes 4 m.ack ++ big_bytes 4 m.mark_frame ++ m.mark ++ run_bytes m.start m.words
+
+unfoldable pub spelling : Packet → List ℕ
+spelling p = header_bytes p.head (length (body_bytes p.message)) ++ body_bytes p.message
+
+-- these bytes are the datagram that says this
+pub record Spells (bytes : List ℕ) (p : Packet) : Type 0 where
+  pub packet : IsPacket p
+  pub spelled : bytes ≡ spelling p

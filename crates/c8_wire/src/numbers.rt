@@ -1,0 +1,32 @@
+//! Numbers in bytes, the most significant byte first.
+ghost use Rattle.std.specs.Prelude.{◌≡◌, ◌+◌, ◌≤◌, length};
+ghost use Rattle.c8_wire.specs.Reading.{number_at};
+
+use byteorder::{BigEndian, ByteOrder};
+
+#[tactic(auto, unfolding(crate::specs::Reading::number_at))]
+pub(crate) fn u16_at(bytes: &[u8], place: usize) -> u16
+    requires { place + 2 ≤ length bytes.now }
+    ensures { result ≡ number_at place 2 bytes.now }
+{
+    let (_, rest) = bytes.split_at(place);
+    BigEndian::read_u16(rest)
+}
+
+#[tactic(auto, unfolding(crate::specs::Reading::number_at))]
+pub(crate) fn u32_at(bytes: &[u8], place: usize) -> u32
+    requires { place + 4 ≤ length bytes.now }
+    ensures { result ≡ number_at place 4 bytes.now }
+{
+    let (_, rest) = bytes.split_at(place);
+    BigEndian::read_u32(rest)
+}
+
+#[tactic(auto, unfolding(crate::specs::Reading::number_at))]
+pub(crate) fn u64_at(bytes: &[u8], place: usize) -> u64
+    requires { place + 8 ≤ length bytes.now }
+    ensures { result ≡ number_at place 8 bytes.now }
+{
+    let (_, rest) = bytes.split_at(place);
+    BigEndian::read_u64(rest)
+}

@@ -1,0 +1,156 @@
+//! Bytes are a datagram, or refused.
+ghost use Rattle.std.specs.Prelude.{◌≡◌, ◌+◌, ◌≤◌, not, length, Option, Some, None, MatchResult, IfOk, IfErr, OnOk, IsOkAnd};
+ghost use Rattle.c8_wire.specs.Kinds.{fixed_size};
+ghost use Rattle.std.specs.Bool.{OnFalse};
+ghost use Rattle.c8_wire.specs.declared.refusal.WireError.TheVariants as errors;
+ghost use Rattle.c8_wire.specs.Packet.{Packet};
+ghost use Rattle.c8_wire.specs.Spelling.{Spells};
+ghost use Rattle.c8_wire.specs.Reading.{kind_at, size_at};
+ghost use Rattle.c8_wire.specs.Refusal.{applies, first_of, body_refusals, refusal, start_at, count_at};
+ghost use Rattle.c8_wire.specs.Lent.{bytes_of, packet_of};
+
+use crate::bodies::Data;
+use crate::datagram::Datagram;
+use crate::head::Kind;
+use crate::numbers::{u16_at, u32_at};
+use crate::refusal::WireError;
+
+/// The greatest length of a list of inputs, in any game.
+const MOST_INPUTS: u32 = 262148;
+
+/// The datagram that the bytes spell, lent from them; else the first refusal of `WireError`.
+pub fn view(bytes: &[u8]) -> Result<Datagram<'_>, WireError>
+    // What is answered is spelled by the bytes.
+    ensures found { IfOk result (λ datagram. Spells bytes.now (packet_of datagram)) }
+    // What the bytes spell is answered.
+    ensures only { (p : Packet) → Spells bytes.now p → IsOkAnd result (λ datagram. packet_of datagram ≡ p) }
+    ensures refused { IfErr result (λ error. refusal bytes.now ≡ Some error) }
+    ensures lent { IfOk result (λ datagram. bytes_of datagram ≡ bytes.now) }
+{
+    match checked_kind(bytes)? {
+        Kind::Data => Ok(Datagram::Data(Data { bytes })),
+    }
+}
+
+/// The kind of the datagram that the bytes spell.
+fn checked_kind(bytes: &[u8]) -> Result<Kind, WireError>
+    ensures { MatchResult result
+        (λ kind. (kind_at bytes.now ≡ Some kind) × (refusal bytes.now ≡ None))
+        (λ error. refusal bytes.now ≡ Some error) }
+{
+    let kind = named_kind(bytes)?;
+    match body_refusal(kind, bytes) {
+        Some(error) => Err(error),
+        None => Ok(kind),
+    }
+}
+
+/// The kind that the header names, if none of the first four refusals applies.
+#[tactic(auto, unfolding(crate::specs::Refusal::applies))]
+fn named_kind(bytes: &[u8]) -> Result<Kind, WireError>
+    ensures long { OnOk result (24 ≤ length bytes.now) }
+    ensures kind { IfOk result (λ kind. kind_at bytes.now ≡ Some kind) }
+    ensures rest { IfOk result (λ kind. refusal bytes.now ≡ first_of body_refusals (Some kind) bytes.now) }
+    ensures refused { IfErr result (λ error. refusal bytes.now ≡ Some error) }
+{
+    if bytes.len() < 24 {
+        return Err(WireError::Short);
+    }
+    if u16_at(bytes, 0) != 0x4338 {
+        return Err(WireError::Magic);
+    }
+    if bytes[2] != 1 {
+        return Err(WireError::Version);
+    }
+    match Kind::from_code(bytes[3]) {
+        Some(kind) => Ok(kind),
+        None => Err(WireError::Kind),
+    }
+}
+
+/// The first of the other refusals that applies to a datagram of this kind.
+#[tactic(auto, using(crate::proofs::TableLemmas::none_reserved))]
+fn body_refusal(kind: Kind, bytes: &[u8]) -> Option<WireError>
+    requires { 24 ≤ length bytes.now }
+    ensures { result ≡ first_of body_refusals (Some kind) bytes.now }
+{
+    if is_misfit(kind, bytes) {
+        return Some(WireError::Length);
+    }
+    if !names_two_players(kind, bytes) {
+        return Some(WireError::Player);
+    }
+    if miscounts(kind, bytes) {
+        return Some(WireError::Count);
+    }
+    if goes_beyond(kind, bytes) {
+        return Some(WireError::Beyond);
+    }
+    None
+}
+
+/// Whether the body is not as long as the header says, or not as its kind wants.
+#[tactic(auto, unfolding(crate::specs::Refusal::applies))]
+fn is_misfit(kind: Kind, bytes: &[u8]) -> bool
+    requires { 24 ≤ length bytes.now }
+    ensures value { result ≡ applies errors.Length (Some kind) bytes.now }
+    ensures long { OnFalse result (24 + fixed_size kind ≤ length bytes.now) }
+{
+    let size = usize::from(u16_at(bytes, 14));
+    let mut is_misfit = bytes.len() - 24 != size;
+    is_misfit |= if kind.has_run() {
+        size < kind.fixed_size()
+    } else {
+        size != kind.fixed_size()
+    };
+    is_misfit
+}
+
+/// Whether the header names two players.
+#[tactic(auto, unfolding(crate::specs::Refusal::applies))]
+fn names_two_players(kind: Kind, bytes: &[u8]) -> bool
+    requires { 24 ≤ length bytes.now }
+    ensures { result ≡ not (applies errors.Player (Some kind) bytes.now) }
+{
+    let from = bytes[12];
+    let to = bytes[13];
+    1 <= from && from <= 4 && 1 <= to && to <= 4 && from != to
+}
+
+/// Whether the run is longer than 64, or not as long as the body has room for.
+#[tactic(auto, unfolding(crate::specs::Refusal::applies))]
+fn miscounts(kind: Kind, bytes: &[u8]) -> bool
+    requires { 24 + fixed_size kind ≤ length bytes.now }
+    ensures { result ≡ applies errors.Count (Some kind) bytes.now }
+{
+    let size = usize::from(u16_at(bytes, 14));
+    let count = usize::from(u16_at(bytes, 22 + kind.fixed_size()));
+    let mut miscounts = count > 64;
+    miscounts |= size != kind.fixed_size() + 2 * count;
+    kind.has_run() && miscounts
+}
+
+/// Whether a number of inputs is above what a game may have, or a run goes past its end.
+#[tactic(auto, unfolding(crate::specs::Refusal::applies))]
+fn goes_beyond(kind: Kind, bytes: &[u8]) -> bool
+    requires { 24 + fixed_size kind ≤ length bytes.now }
+    ensures { result ≡ applies errors.Beyond (Some kind) bytes.now }
+{
+    match kind {
+        Kind::Data => {
+            let mut beyond = u32_at(bytes, 24) > MOST_INPUTS;
+            beyond |= u32_at(bytes, 28) > MOST_INPUTS;
+            beyond |= run_end(kind, bytes) > u64::from(MOST_INPUTS);
+            beyond
+        }
+    }
+}
+
+/// The place after a run's last input.
+fn run_end(kind: Kind, bytes: &[u8]) -> u64
+    requires { 24 + fixed_size kind ≤ length bytes.now }
+    ensures { result ≡ start_at kind bytes.now + count_at kind bytes.now }
+{
+    let start = u32_at(bytes, 18 + kind.fixed_size());
+    u64::from(start) + u64::from(u16_at(bytes, 22 + kind.fixed_size()))
+}

@@ -1,0 +1,122 @@
+//! What is to be said, and its bytes.
+ghost use Rattle.std.specs.Prelude.{◌≡◌, ℕ, ◌+◌, ◌*◌, ◌^◌, ◌<◌, ◌≤◌, slice_index, ◌++◌, length, take, drop};
+ghost use Rattle.std.specs.List.{flat_map};
+ghost use Rattle.byteorder.specs.Endian.{big_bytes};
+ghost use Rattle.arrayvec.specs.ArrayVec.{array_vec_len};
+ghost use Rattle.c8_wire.specs.Packet.{IsHead, Fits, IsMessage, kind_of};
+ghost use Rattle.c8_wire.specs.Spelling.{header_bytes, run_bytes, body_bytes, Spells};
+ghost use Rattle.c8_wire.specs.Saying.{head_value, message_of, packet_said};
+
+use crate::head::Head;
+use arrayvec::ArrayVec;
+
+/// The most bytes that a datagram has.
+const MOST_BYTES: usize = 174;
+
+/// What is to be said, by kind. A run is lent from the inputs that it is taken from.
+#[derive(Clone, Copy)]
+pub enum Body<'a> {
+    /// The sender's inputs from `start` on. It holds `ack` inputs of the addressee, and `mark` is
+    /// that of its first `mark_frame` confirmed frames.
+    Data {
+        ack: u32,
+        mark_frame: u32,
+        mark: [u8; 8],
+        start: u32,
+        run: &'a [u16],
+    },
+}
+
+/// A datagram that is to be written.
+#[derive(Clone, Copy)]
+pub struct Said<'a> {
+    pub head: Head,
+    pub body: Body<'a>,
+}
+
+/// Writes a datagram to the front of `out`, and answers its length, 24 to 174. What stands behind
+/// it stays.
+pub fn write(said: &Said<'_>, out: &mut [u8; 174]) -> usize
+    requires kind { said.now.head.kind ≡ kind_of (message_of said.now.body) }
+    requires message { IsMessage (message_of said.now.body) }
+    ensures spelled { Spells (take result out.new) (packet_said said.now) }
+    ensures rest { drop result out.new ≡ drop result out.old }
+    ensures fits { result ≤ 174 }
+{
+    let mut body = ArrayVec::new();
+    put_body(&said.body, &mut body);
+    let mut datagram = ArrayVec::new();
+    put_header(&said.head, body.len(), &mut datagram);
+    put(body.as_slice(), &mut datagram);
+    let size = datagram.len();
+    out[..size].copy_from_slice(datagram.as_slice());
+    size
+}
+
+/// Appends the header of a datagram whose body has `size` bytes.
+fn put_header(head: &Head, size: usize, out: &mut ArrayVec<u8, MOST_BYTES>)
+    requires room { array_vec_len out.old + 24 ≤ 174 }
+    requires size { size ≤ 150 }
+    ensures bytes { out.new.items ≡ out.old.items ++ header_bytes (head_value head.now) size }
+    ensures head { IsHead (head_value head.now) }
+{
+    put(&[0x43, 0x38, 1, head.kind.code()], out);
+    put(&head.session.to_be_bytes(), out);
+    put(&[head.from.number, head.to.number], out);
+    put(&(size as u16).to_be_bytes(), out);
+    put(&head.sender_epoch.to_be_bytes(), out);
+    put(&head.addressee_epoch.to_be_bytes(), out);
+}
+
+/// Appends the body.
+fn put_body(body: &Body<'_>, out: &mut ArrayVec<u8, MOST_BYTES>)
+    requires room { array_vec_len out.old + 150 ≤ 174 }
+    requires message { IsMessage (message_of body.now) }
+    ensures bytes { out.new.items ≡ out.old.items ++ body_bytes (message_of body.now) }
+    ensures fits { Fits (message_of body.now) }
+{
+    match body {
+        Body::Data {
+            ack,
+            mark_frame,
+            mark,
+            start,
+            run,
+        } => {
+            put(&ack.to_be_bytes(), out);
+            put(&mark_frame.to_be_bytes(), out);
+            put(mark, out);
+            put_run(*start, run, out);
+        }
+    }
+}
+
+/// Appends a run: where it starts, how many inputs it has, and their key sets.
+fn put_run(start: u32, run: &[u16], out: &mut ArrayVec<u8, MOST_BYTES>)
+    requires { array_vec_len out.old + 6 + 2 * length run.now ≤ 174 }
+    ensures bytes { out.new.items ≡ out.old.items ++ run_bytes start run.now }
+    ensures fits { (i : ℕ) → slice_index run.now i < 2 ^ 16 }
+{
+    put(&start.to_be_bytes(), out);
+    put(&(run.len() as u16).to_be_bytes(), out);
+    put_words(run, out);
+}
+
+/// Appends key sets, two bytes each.
+fn put_words(run: &[u16], out: &mut ArrayVec<u8, MOST_BYTES>)
+    requires { array_vec_len out.old + 2 * length run.now ≤ 174 }
+    ensures { out.new.items ≡ out.old.items ++ flat_map (big_bytes 2) run.now }
+{
+    for word in run {
+        put(&word.to_be_bytes(), out);
+    }
+}
+
+/// Appends bytes.
+fn put(bytes: &[u8], out: &mut ArrayVec<u8, MOST_BYTES>)
+    requires { array_vec_len out.old + length bytes.now ≤ 174 }
+    ensures bytes { out.new.items ≡ out.old.items ++ bytes.now }
+    ensures fits { (i : ℕ) → slice_index bytes.now i < 2 ^ 8 }
+{
+    let _extended = out.try_extend_from_slice(bytes);
+}
