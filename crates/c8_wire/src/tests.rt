@@ -11,6 +11,12 @@ const WORKED: [u8; 48] = [
     0xa1, 0xa2, 0xa3, 0xa4, 0xa5, 0xa6, 0xa7, 0xa8, 0x00, 0x00, 0x00, 0x00, 0x00, 0x01, 0x00, 0x20,
 ];
 
+const NO_INPUTS: [u8; 46] = [
+    0x43, 0x38, 0x01, 0x03, 0x01, 0x02, 0x03, 0x04, 0x05, 0x06, 0x07, 0x08, 0x01, 0x02, 0x00, 0x16,
+    0x00, 0x00, 0x00, 0x01, 0x00, 0x00, 0x00, 0x01, 0x00, 0x00, 0x00, 0x00, 0x00, 0x00, 0x00, 0x00,
+    0xa1, 0xa2, 0xa3, 0xa4, 0xa5, 0xa6, 0xa7, 0xa8, 0x00, 0x00, 0x00, 0x00, 0x00, 0x00,
+];
+
 const MARK: [u8; 8] = [0xa1, 0xa2, 0xa3, 0xa4, 0xa5, 0xa6, 0xa7, 0xa8];
 
 fn worked_head() -> Head {
@@ -117,10 +123,9 @@ fn refuses_by_the_first_fault(rt: HostRuntime) {
         refused(&changed(12, &[1, 1, 0, 0])),
         Some(WireError::Length)
     );
-    assert_eq!(rt;
-        refused(&changed(13, &[1, 0, 0x18, 0, 0, 0, 0, 0, 0, 0, 0, 9])),
-        Some(WireError::Player)
-    );
+    let mut bytes = changed(12, &[1, 1]);
+    bytes[45] = 9;
+    assert_eq!(rt; refused(&bytes), Some(WireError::Player));
     assert_eq!(rt;
         refused(&changed(40, &[9, 9, 9, 9, 9, 9])),
         Some(WireError::Count)
@@ -164,12 +169,13 @@ fn takes_64_inputs_and_no_more(rt: HostRuntime) -> Result<(), Fail> {
     assert_eq!(rt; data.run().len(), 64);
     assert_eq!(rt; data.run().iter().count(), 64);
     assert_eq!(rt; data.run().bytes().len(), 128);
-    for length in 24..174 {
-        assert_eq!(rt;
-            refused(&bytes[..length]),
-            Some(WireError::Length),
-            "of {length} bytes"
-        );
+    for length in 0..174 {
+        let error = if length < 24 {
+            WireError::Short
+        } else {
+            WireError::Length
+        };
+        assert_eq!(rt; refused(&bytes[..length]), Some(error), "of {length} bytes");
     }
     bytes[14..16].copy_from_slice(&[0x00, 0x98]);
     bytes[44..46].copy_from_slice(&[0x00, 0x41]);
@@ -179,12 +185,7 @@ fn takes_64_inputs_and_no_more(rt: HostRuntime) -> Result<(), Fail> {
 
 #[test]
 fn reads_no_inputs(rt: HostRuntime) -> Result<(), Fail> {
-    let bytes = changed(14, &[0x00, 0x16]);
-    let mut empty = [0; 46];
-    empty.copy_from_slice(&bytes[..46]);
-    assert_eq!(rt; refused(&empty), Some(WireError::Count));
-    empty[45] = 0;
-    let Datagram::Data(data) = view(&empty)?;
+    let Datagram::Data(data) = view(&NO_INPUTS)?;
     assert!(rt; data.run().is_empty());
     assert_eq!(rt; data.run().iter().next(), None);
     Ok(())
@@ -206,7 +207,7 @@ fn writes_a_worked_datagram(rt: HostRuntime) {
     let mut out = [0x77; 174];
     let length = write(&said, &mut out);
     assert_eq!(rt; length, 48);
-    assert_eq!(rt; out[..48], WORKED);
+    assert_eq!(rt; &out[..48], WORKED.as_slice());
     for byte in &out[48..] {
         assert_eq!(rt; *byte, 0x77);
     }
