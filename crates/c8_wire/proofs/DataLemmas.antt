@@ -11,7 +11,7 @@ use Rattle.c8_wire.specs.Reading.{number_at, size_at, data_at}
 use Rattle.c8_wire.specs.Refusal.{applies}
 use Rattle.c8_wire.proofs.NumberLemmas.{IsBytes, IsBytes-drop, IsBytes-take, spelled_at}
 use Rattle.c8_wire.proofs.WordLemmas.{words_of-lt, length-spelled_words}
-use Rattle.c8_wire.proofs.HeadLemmas.{then, HasHead}
+use Rattle.c8_wire.proofs.HeadLemmas.{then, HasHead, front_accepted}
 use Rattle.c8_wire.proofs.RunLemmas.{IsRunAt, length-words_at, spelled_run, HasRun, run_again}
 use Rattle.c8_wire.proofs.TableLemmas.{IsAccepted}
 
@@ -46,7 +46,7 @@ pub is_data : (bytes : List ℕ) → IsBytes bytes → IsDataShaped bytes → Is
 is_data bytes fits is =
     let count = length-words_at 40 bytes is.run in (
       record { ack = is.ack; mark_frame = is.mark_frame; run = record { short = omega (arith, count, is.run.short); within = omega (arith, count, is.within) } },
-      (omega (arith, length-take 8 (drop 32 bytes), length-drop 32 bytes, is.run.ends), IsBytes-take 8 (drop 32 bytes) (IsBytes-drop 32 bytes fits), words_of-lt (drop 46 bytes) (IsBytes-drop 46 bytes fits)),
+      ((omega (arith, length-take 8 (drop 32 bytes), length-drop 32 bytes, is.run.ends), IsBytes-take 8 (drop 32 bytes) (IsBytes-drop 32 bytes fits)), words_of-lt (drop 46 bytes) (IsBytes-drop 46 bytes fits)),
     )
 
 -- the bytes of a datagram of inputs have its numbers where they stand
@@ -61,12 +61,12 @@ unfolding number_at
 data_again head size m is fits =
     let bytes : List ℕ = header_bytes head size ++ body_bytes (Data m) in
     let tail : List ℕ = m.mark ++ run_bytes m.start m.words in
-    let here : drop 40 bytes ≡ run_bytes m.start m.words = drop_at m.mark (run_bytes m.start m.words) 8 fits.0 in
+    let here : drop 40 bytes ≡ run_bytes m.start m.words = drop_at m.mark (run_bytes m.start m.words) 8 fits.0.0 in
     record {
       ack = big_number-reads_back 4 m.ack (big_bytes 4 m.mark_frame ++ tail) (omega (arith, is.ack));
       mark_frame = big_number-reads_back 4 m.mark_frame tail (omega (arith, is.mark_frame));
-      mark = take_at m.mark (run_bytes m.start m.words) 8 fits.0;
-      run = run_again 40 bytes m.start m.words here (omega (arith, is.run.within)) (omega (arith, is.run.short)) fits.2;
+      mark = take_at m.mark (run_bytes m.start m.words) 8 fits.0.0;
+      run = run_again 40 bytes m.start m.words here (omega (arith, is.run.within)) (omega (arith, is.run.short)) fits.1;
     }
 
 pub length-data_bytes : (m : DataMessage) → length m.mark ≡ 8 → length (body_bytes (Data m)) ≡ 22 + 2 * length m.words
@@ -79,10 +79,11 @@ data_values bytes m has = λ i. record { ack = has.ack i; mark_frame = has.mark_
 pub data_accepted : (bytes : List ℕ) (head : HeadValue) (size : ℕ) (m : DataMessage) → IsHead head → IsDataMessage m → HasHead bytes head size → length bytes ≡ 24 + size → size ≡ 22 + 2 * length m.words → HasData bytes m → IsAccepted kinds.Data bytes
 unfolding applies
 data_accepted bytes head size m is message has long sized body =
+    let front = front_accepted kinds.Data bytes head size has long in
     record {
-      short = grind (arith, nat_tests);
-      magic = grind (arith, nat_tests, has.magic);
-      version = grind (arith, nat_tests, has.version);
+      short = front.short;
+      magic = front.magic;
+      version = front.version;
       length = grind (arith, nat_tests, has.sized);
       player = grind (arith, nat_tests, is.from_one, is.from_four, is.to_one, is.to_four, is.apart, has.from, has.to);
       reserved = refl;

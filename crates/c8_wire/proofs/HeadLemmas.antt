@@ -1,8 +1,11 @@
 -- The header: its bytes are those of what it says, and what it says is read again.
-use Rattle.std.proofs.Common.{◌≡◌, ℕ, ◌+◌, ◌^◌, ◌<◌, ◌≤◌, List, [], ◌∷◌, ◌++◌, length, drop, get_or, slice_index, Some, refl, ap, ◌∙◌, arith}
+use Rattle.std.proofs.Common.{◌≡◌, ℕ, ◌+◌, ◌^◌, ◌<◌, ◌≤◌, false, List, [], ◌∷◌, ◌++◌, length, drop, get_or, slice_index, Some, refl, ap, ◌∙◌, arith}
 use Rattle.std.proofs.lemmas.List.{drop_more}
 use Rattle.byteorder.specs.Endian.{big_bytes}
 use Rattle.byteorder.specs.Numbers.{big_number-reads_back}
+use Rattle.std.proofs.lemmas.Bool.Decides.{nat_tests}
+use Rattle.c8_wire.specs.declared.refusal.WireError.TheVariants as errors
+use Rattle.c8_wire.specs.Refusal.{applies}
 use Rattle.c8_wire.specs.declared.head.Kind.{Kind}
 use Rattle.c8_wire.specs.Kinds.{code_of}
 use Rattle.c8_wire.specs.Packet.{HeadValue, IsHead}
@@ -60,4 +63,19 @@ headed head length body is short =
       to = refl;
       sized = big_number-reads_back 2 length rest short;
       values = λ i. record { kind = head.kind; session = session i; from = head.from; to = head.to; sender_epoch = sender i; addressee_epoch = addressee i };
+    }
+
+-- no refusal of the header applies to the spelling
+pub record HasFront (kind : Kind) (bytes : List ℕ) : Type 0 where
+  pub short : applies errors.Short (Some kind) bytes ≡ false
+  pub magic : applies errors.Magic (Some kind) bytes ≡ false
+  pub version : applies errors.Version (Some kind) bytes ≡ false
+
+pub front_accepted : (kind : Kind) (bytes : List ℕ) (head : HeadValue) (size : ℕ) → HasHead bytes head size → length bytes ≡ 24 + size → HasFront kind bytes
+unfolding applies
+front_accepted kind bytes head size has long =
+    record {
+      short = grind (arith, nat_tests);
+      magic = grind (arith, nat_tests, has.magic);
+      version = grind (arith, nat_tests, has.version);
     }

@@ -3,5 +3,7 @@ pub mod WordLemmas
 pub mod TableLemmas
 pub mod HeadLemmas
 pub mod RunLemmas
+pub mod LinkLemmas
 pub mod DataLemmas
+pub mod LeaverLemmas
 pub mod PacketLemmas

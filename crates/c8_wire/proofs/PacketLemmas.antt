@@ -4,14 +4,18 @@ use Rattle.std.proofs.lemmas.List.{length-drop, length-append}
 use Rattle.std.proofs.lemmas.Bool.Decides.{nat_tests}
 use Rattle.c8_wire.specs.declared.head.Kind.{Kind}
 use Rattle.c8_wire.specs.declared.head.Kind.TheVariants as kinds
-use Rattle.c8_wire.specs.Packet.{HeadValue, IsHead, Message, Data, Fits, IsMessage, kind_of, Packet}
-use Rattle.c8_wire.specs.Spelling.{header_bytes, body_bytes, spelling, Spells}
+use Rattle.c8_wire.specs.Packet.{HeadValue, IsHead, Message, Hello, Welcome, Data, Freeze, Frozen, Cut, Fits, IsMessage, kind_of, Packet}
+use Rattle.c8_wire.specs.Spelling.{header_bytes, leaver_bytes, body_bytes, spelling, Spells}
 use Rattle.c8_wire.specs.Reading.{number_at, kind_at, size_at, head_at, message_at, packet_at}
 use Rattle.c8_wire.specs.Refusal.{applies, refusal}
-use Rattle.c8_wire.proofs.NumberLemmas.{IsBytes, number_at-lt}
+use Rattle.c8_wire.proofs.NumberLemmas.{IsBytes, IsBytes-drop, number_at-lt}
+use Rattle.c8_wire.proofs.WordLemmas.{words_of-lt}
+use Rattle.c8_wire.proofs.LinkLemmas.{length-hello, spelled_hello, welcome_shaped, spelled_welcome, ack_again, hello_accepted, welcome_accepted}
+use Rattle.c8_wire.proofs.LeaverLemmas.{freeze_shaped, frozen_shaped, cut_shaped, spelled_freeze, spelled_run_of_leaver, is_freeze, is_leaver, freeze_again, leaver_again, freeze_values, leaver_values, length-leaver_bytes, freeze_accepted, frozen_accepted, cut_accepted}
+use Rattle.c8_wire.proofs.RunLemmas.{IsRunAt}
 use Rattle.c8_wire.proofs.TableLemmas.{code_of_found, IsAccepted, accepted, not_refused}
 use Rattle.c8_wire.proofs.HeadLemmas.{then, spelled_header, headed}
-use Rattle.c8_wire.proofs.DataLemmas.{IsDataShaped, data_shaped, spelled_data, is_data, data_again, data_values, length-data_bytes, data_accepted}
+use Rattle.c8_wire.proofs.DataLemmas.{data_shaped, spelled_data, is_data, data_again, data_values, length-data_bytes, data_accepted}
 
 -- ---- what is not refused is spelled
 
@@ -56,10 +60,24 @@ record IsBody (kind : Kind) (bytes : List ℕ) : Type 0 where
   spelled : drop 24 bytes ≡ body_bytes (message_at kind bytes)
 
 body_found : (kind : Kind) (bytes : List ℕ) → IsBytes bytes → length bytes ≡ 24 + size_at bytes → IsAccepted kind bytes → IsBody kind bytes
+body_found kinds.Hello bytes fits sized a =
+    record { named = refl; fits = tt; message = tt; spelled = spelled_hello bytes (length-hello bytes sized a) }
+body_found kinds.Welcome bytes fits sized a =
+    let is = welcome_shaped bytes sized a in
+    record { named = refl; fits = tt; message = is.ack; spelled = spelled_welcome bytes fits is }
 body_found kinds.Data bytes fits sized a =
     let is = data_shaped bytes sized a in
     let both = is_data bytes fits is in
     record { named = refl; fits = both.1; message = both.0; spelled = spelled_data bytes fits is }
+body_found kinds.Freeze bytes fits sized a =
+    let is = freeze_shaped bytes sized a in
+    record { named = refl; fits = tt; message = is_freeze bytes is; spelled = spelled_freeze bytes fits is }
+body_found kinds.Frozen bytes fits sized a =
+    let is = frozen_shaped bytes sized a in
+    record { named = refl; fits = words_of-lt (drop 36 bytes) (IsBytes-drop 36 bytes fits); message = is_leaver bytes is; spelled = spelled_run_of_leaver bytes fits is }
+body_found kinds.Cut bytes fits sized a =
+    let is = cut_shaped bytes sized a in
+    record { named = refl; fits = words_of-lt (drop 36 bytes) (IsBytes-drop 36 bytes fits); message = is_leaver bytes is; spelled = spelled_run_of_leaver bytes fits is }
 
 pub found : (kind : Kind) (bytes : List ℕ) → IsBytes bytes → kind_at bytes ≡ Some kind → refusal bytes ≡ None → Spells bytes (packet_at kind bytes)
 unfolding spelling
@@ -74,6 +92,9 @@ found kind bytes fits named none =
       spelled = then (header_bytes (head_at kind bytes) (size_at bytes)) header body.spelled ∙ ap (λ (n : ℕ). header_bytes (head_at kind bytes) n ++ body_bytes (message_at kind bytes)) size;
     }
 
+length-datagram : (head : HeadValue) (size : ℕ) (body : List ℕ) → length (header_bytes head size ++ body) ≡ 24 + length body
+length-datagram head size body = omega (arith, length-append (header_bytes head size) body)
+
 -- ---- what is spelled is not refused, and read again
 
 pub record IsReadAgain (bytes : List ℕ) (p : Packet) : Type 0 where
@@ -81,19 +102,53 @@ pub record IsReadAgain (bytes : List ℕ) (p : Packet) : Type 0 where
   pub none : refusal bytes ≡ None
   pub same : packet_at p.head.kind bytes ≡ p
 
+-- the same, where the message's kind is given
+read_again : (bytes : List ℕ) (head : HeadValue) (message : Message) → kind_at bytes ≡ Some head.kind → head.kind ≡ kind_of message → head_at head.kind bytes ≡ head
+    → IsAccepted (kind_of message) bytes → message_at (kind_of message) bytes ≡ message → IsReadAgain bytes (record { head = head; message = message })
+read_again bytes head message named kind values accepted same =
+    record {
+      kind = named;
+      none = not_refused head.kind bytes named (subst (λ (k : Kind). IsAccepted k bytes) (sym kind) accepted);
+      same = λ i. record { head = values i; message = (ap (λ (k : Kind). message_at k bytes) kind ∙ same) i };
+    }
+
 message_again : (head : HeadValue) (message : Message) → IsHead head → head.kind ≡ kind_of message → Fits message → IsMessage message
     → IsReadAgain (header_bytes head (length (body_bytes message)) ++ body_bytes message) (record { head = head; message = message })
+message_again head Hello is kind fits message =
+    let bytes : List ℕ = header_bytes head 0 ++ body_bytes Hello in
+    let has = headed head 0 (body_bytes Hello) is (omega arith) in
+    read_again bytes head Hello has.kind kind has.values (hello_accepted bytes head is has refl) refl
+message_again head (Welcome ack) is kind fits message =
+    let bytes : List ℕ = header_bytes head 4 ++ body_bytes (Welcome ack) in
+    let has = headed head 4 (body_bytes (Welcome ack)) is (omega arith) in
+    let body = ack_again head 4 ack message in
+    read_again bytes head (Welcome ack) has.kind kind has.values (welcome_accepted bytes head ack is message has refl body) (ap Welcome body)
 message_again head (Data m) is kind fits message =
     let size : ℕ = length (body_bytes (Data m)) in
     let bytes : List ℕ = header_bytes head size ++ body_bytes (Data m) in
-    let length_is : size ≡ 22 + 2 * length m.words = length-data_bytes m fits.0 in
+    let length_is : size ≡ 22 + 2 * length m.words = length-data_bytes m fits.0.0 in
     let has = headed head size (body_bytes (Data m)) is (omega (arith, length_is, message.run.short)) in
     let body = data_again head size m message fits in
-    record {
-      kind = has.kind;
-      none = not_refused head.kind bytes has.kind (subst (λ (k : Kind). IsAccepted k bytes) (sym kind) (data_accepted bytes head size m is message has (omega (arith, length-append (header_bytes head size) (body_bytes (Data m)))) length_is body));
-      same = λ i. record { head = has.values i; message = (ap (λ (k : Kind). message_at k bytes) kind ∙ ap Data (data_values bytes m body)) i };
-    }
+    read_again bytes head (Data m) has.kind kind has.values (data_accepted bytes head size m is message has (length-datagram head size (body_bytes (Data m))) length_is body) (ap Data (data_values bytes m body))
+message_again head (Freeze m) is kind fits message =
+    let bytes : List ℕ = header_bytes head 6 ++ body_bytes (Freeze m) in
+    let has = headed head 6 (body_bytes (Freeze m)) is (omega arith) in
+    let body = freeze_again head 6 m message in
+    read_again bytes head (Freeze m) has.kind kind has.values (freeze_accepted bytes head m is message has refl body) (ap Freeze (freeze_values bytes m body))
+message_again head (Frozen m) is kind fits message =
+    let size : ℕ = length (leaver_bytes m) in
+    let bytes : List ℕ = header_bytes head size ++ leaver_bytes m in
+    let length_is = length-leaver_bytes m in
+    let has = headed head size (leaver_bytes m) is (omega (arith, length_is, message.run.short)) in
+    let body = leaver_again head size m message fits in
+    read_again bytes head (Frozen m) has.kind kind has.values (frozen_accepted bytes head size m is message has (length-datagram head size (leaver_bytes m)) length_is body) (ap Frozen (leaver_values bytes m body))
+message_again head (Cut m) is kind fits message =
+    let size : ℕ = length (leaver_bytes m) in
+    let bytes : List ℕ = header_bytes head size ++ leaver_bytes m in
+    let length_is = length-leaver_bytes m in
+    let has = headed head size (leaver_bytes m) is (omega (arith, length_is, message.run.short)) in
+    let body = leaver_again head size m message fits in
+    read_again bytes head (Cut m) has.kind kind has.values (cut_accepted bytes head size m is message has (length-datagram head size (leaver_bytes m)) length_is body) (ap Cut (leaver_values bytes m body))
 
 pub again : (bytes : List ℕ) (p : Packet) → Spells bytes p → IsReadAgain bytes p
 unfolding spelling
@@ -109,10 +164,37 @@ same_kind kind bytes p named spells =
     let same : kind ≡ p.head.kind = some_is kind p.head.kind (sym named ∙ read.kind) in
     ap (λ (k : Kind). packet_at k bytes) same ∙ read.same
 
-pub data_found : (bytes : List ℕ) → IsBytes bytes → kind_at bytes ≡ Some kinds.Data → refusal bytes ≡ None → IsDataShaped bytes
-data_found bytes fits named none =
+-- ---- how long an accepted datagram is, by its kind
+
+pub hello_size : (bytes : List ℕ) → IsBytes bytes → kind_at bytes ≡ Some kinds.Hello → refusal bytes ≡ None → length bytes ≡ 24
+hello_size bytes fits named none =
+    let a = accepted kinds.Hello bytes named none in
+    length-hello bytes (shaped kinds.Hello bytes fits a).sized a
+
+pub welcome_size : (bytes : List ℕ) → IsBytes bytes → kind_at bytes ≡ Some kinds.Welcome → refusal bytes ≡ None → length bytes ≡ 28
+welcome_size bytes fits named none =
+    let a = accepted kinds.Welcome bytes named none in
+    (welcome_shaped bytes (shaped kinds.Welcome bytes fits a).sized a).size
+
+pub data_run : (bytes : List ℕ) → IsBytes bytes → kind_at bytes ≡ Some kinds.Data → refusal bytes ≡ None → IsRunAt 40 bytes
+data_run bytes fits named none =
     let a = accepted kinds.Data bytes named none in
-    data_shaped bytes (shaped kinds.Data bytes fits a).sized a
+    (data_shaped bytes (shaped kinds.Data bytes fits a).sized a).run
+
+pub freeze_size : (bytes : List ℕ) → IsBytes bytes → kind_at bytes ≡ Some kinds.Freeze → refusal bytes ≡ None → length bytes ≡ 30
+freeze_size bytes fits named none =
+    let a = accepted kinds.Freeze bytes named none in
+    (freeze_shaped bytes (shaped kinds.Freeze bytes fits a).sized a).size
+
+pub frozen_run : (bytes : List ℕ) → IsBytes bytes → kind_at bytes ≡ Some kinds.Frozen → refusal bytes ≡ None → IsRunAt 30 bytes
+frozen_run bytes fits named none =
+    let a = accepted kinds.Frozen bytes named none in
+    (frozen_shaped bytes (shaped kinds.Frozen bytes fits a).sized a).run
+
+pub cut_run : (bytes : List ℕ) → IsBytes bytes → kind_at bytes ≡ Some kinds.Cut → refusal bytes ≡ None → IsRunAt 30 bytes
+cut_run bytes fits named none =
+    let a = accepted kinds.Cut bytes named none in
+    (cut_shaped bytes (shaped kinds.Cut bytes fits a).sized a).run
 
 -- ---- what is written
 
@@ -122,4 +204,9 @@ unfolding spelling
 spells_both bytes head message is kind fits allowed written = record { packet = record { head = is; kind = kind; fits = fits; message = allowed }; spelled = written }
 
 pub body_fits : (message : Message) → Fits message → IsMessage message → length (body_bytes message) ≤ 150
-body_fits (Data m) fits is = omega (arith, length-data_bytes m fits.0, is.run.short)
+body_fits Hello fits is = omega arith
+body_fits (Welcome ack) fits is = omega arith
+body_fits (Data m) fits is = omega (arith, length-data_bytes m fits.0.0, is.run.short)
+body_fits (Freeze m) fits is = omega arith
+body_fits (Frozen m) fits is = omega (arith, length-leaver_bytes m, is.run.short)
+body_fits (Cut m) fits is = omega (arith, length-leaver_bytes m, is.run.short)

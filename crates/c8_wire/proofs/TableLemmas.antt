@@ -36,7 +36,12 @@ code_of_found code kind e = sym (eqb-true _ _ (find_passes (λ k. code_of k == c
 
 pub kind_of_its_code : (kind : Kind) → kind_of_code (code_of kind) ≡ Some kind
 unfolding kind_of_code
+kind_of_its_code kinds.Hello = refl
+kind_of_its_code kinds.Welcome = refl
 kind_of_its_code kinds.Data = refl
+kind_of_its_code kinds.Freeze = refl
+kind_of_its_code kinds.Frozen = refl
+kind_of_its_code kinds.Cut = refl
 
 -- no refusal applies to a datagram of this kind
 pub record IsAccepted (kind : Kind) (bytes : List ℕ) : Type 0 where
@@ -66,11 +71,6 @@ accepted kind bytes named none =
 names_a_kind : (kind : Kind) (bytes : List ℕ) → applies errors.Kind (Some kind) bytes ≡ false
 unfolding applies
 names_a_kind kind bytes = refl
-
--- no byte of these kinds is reserved
-pub none_reserved : (kind : Kind) (bytes : List ℕ) → applies errors.Reserved (Some kind) bytes ≡ false
-unfolding applies
-none_reserved kind bytes = refl
 
 -- a header that is right leaves the refusals of the body
 pub past_front : (kind : Kind) (bytes : List ℕ) → kind_at bytes ≡ Some kind → applies errors.Short (Some kind) bytes ≡ false → applies errors.Magic (Some kind) bytes ≡ false → applies errors.Version (Some kind) bytes ≡ false

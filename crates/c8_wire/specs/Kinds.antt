@@ -1,14 +1,19 @@
--- The kinds of datagrams, and how the body of each begins.
-use Rattle.std.specs.Prelude.{ℕ, ◌==◌, Bool, true, List, [], ◌∷◌, Option, find}
+-- The kinds of datagrams, and how the body of each is laid out.
+use Rattle.std.specs.Prelude.{ℕ, ◌==◌, Bool, true, false, List, [], ◌∷◌, Option, find}
 use Rattle.c8_wire.specs.declared.head.Kind.{Kind}
 use Rattle.c8_wire.specs.declared.head.Kind.TheVariants as kinds
 
 -- the number of a kind, byte 3 of its datagrams
 abbrev pub code_of : Kind → ℕ
+code_of kinds.Hello = 1
+code_of kinds.Welcome = 2
 code_of kinds.Data = 3
+code_of kinds.Freeze = 4
+code_of kinds.Frozen = 5
+code_of kinds.Cut = 6
 
 abbrev pub all_kinds : List Kind
-all_kinds = kinds.Data ∷ []
+all_kinds = kinds.Hello ∷ kinds.Welcome ∷ kinds.Data ∷ kinds.Freeze ∷ kinds.Frozen ∷ kinds.Cut ∷ []
 
 -- the kind of a number, where there is one
 unfoldable pub kind_of_code : ℕ → Option Kind
@@ -16,8 +21,23 @@ kind_of_code code = find (λ kind. code_of kind == code) all_kinds
 
 -- how many bytes of the body stand before its run, or in all where it has none
 abbrev pub fixed_size : Kind → ℕ
+fixed_size kinds.Hello = 0
+fixed_size kinds.Welcome = 4
 fixed_size kinds.Data = 22
+fixed_size kinds.Freeze = 6
+fixed_size kinds.Frozen = 12
+fixed_size kinds.Cut = 12
 
--- whether the body ends with a run
+-- whether the body ends with a run: where it starts, its length, and so many key sets
 abbrev pub has_run : Kind → Bool
 has_run kinds.Data = true
+has_run kinds.Frozen = true
+has_run kinds.Cut = true
+has_run _ = false
+
+-- whether the body begins with a player who leaves, and a byte 0
+abbrev pub names_leaver : Kind → Bool
+names_leaver kinds.Freeze = true
+names_leaver kinds.Frozen = true
+names_leaver kinds.Cut = true
+names_leaver _ = false

@@ -12,7 +12,7 @@ pub record HeadValue : Type 0 where
   pub sender_epoch : ℕ
   pub addressee_epoch : ℕ
 
--- the sender's own inputs from a frame on, what it holds of the addressee's, and its newest mark
+-- the sender's own inputs from a place on, how many it holds of the addressee's, and its newest mark
 pub record DataMessage : Type 0 where
   pub ack : ℕ
   pub mark_frame : ℕ
@@ -20,21 +20,45 @@ pub record DataMessage : Type 0 where
   pub start : ℕ
   pub words : List ℕ
 
+-- a player leaves, and the sender has so many of its inputs
+pub record FreezeMessage : Type 0 where
+  pub leaver : ℕ
+  pub have : ℕ
+
+-- the inputs of a player who leaves from a place on, and how many the sender holds (FROZEN) or all
+-- who stay are to have (CUT)
+pub record LeaverMessage : Type 0 where
+  pub leaver : ℕ
+  pub length : ℕ
+  pub start : ℕ
+  pub words : List ℕ
+
+-- WELCOME says how many of the addressee's inputs the sender holds
 pub data Message : Type 0 where
+  Hello : Message
+  Welcome : (ack : ℕ) → Message
   Data : DataMessage → Message
+  Freeze : FreezeMessage → Message
+  Frozen : LeaverMessage → Message
+  Cut : LeaverMessage → Message
 
 pub record Packet : Type 0 where
   pub head : HeadValue
   pub message : Message
 
 abbrev pub kind_of : Message → Kind
+kind_of Hello = kinds.Hello
+kind_of (Welcome ack) = kinds.Welcome
 kind_of (Data m) = kinds.Data
+kind_of (Freeze m) = kinds.Freeze
+kind_of (Frozen m) = kinds.Frozen
+kind_of (Cut m) = kinds.Cut
 
 -- the greatest length of a player's list of inputs, in any game
 abbrev pub most_inputs : ℕ
 most_inputs = 262148
 
--- a run of at most 64 inputs from a frame on ends at a frame, or before
+-- a run of at most 64 inputs that ends at a place, or before
 pub record IsRun (start : ℕ) (words : List ℕ) (end : ℕ) : Type 0 where
   pub short : length words ≤ 64
   pub within : start + length words ≤ end
@@ -44,13 +68,40 @@ pub record IsDataMessage (m : DataMessage) : Type 0 where
   pub mark_frame : m.mark_frame ≤ most_inputs
   pub run : IsRun m.start m.words most_inputs
 
+-- player one never leaves
+pub record IsFreezeMessage (m : FreezeMessage) : Type 0 where
+  pub leaver_from_two : 2 ≤ m.leaver
+  pub leaver_to_four : m.leaver ≤ 4
+  pub have : m.have ≤ most_inputs
+
+pub record IsLeaverMessage (m : LeaverMessage) : Type 0 where
+  pub leaver_from_two : 2 ≤ m.leaver
+  pub leaver_to_four : m.leaver ≤ 4
+  pub length : m.length ≤ most_inputs
+  pub run : IsRun m.start m.words m.length
+
 -- what a message may say
 abbrev pub IsMessage : Message → Type 0
+IsMessage Hello = Unit {0}
+IsMessage (Welcome ack) = ack ≤ most_inputs
 IsMessage (Data m) = IsDataMessage m
+IsMessage (Freeze m) = IsFreezeMessage m
+IsMessage (Frozen m) = IsLeaverMessage m
+IsMessage (Cut m) = IsLeaverMessage m
 
--- the numbers of a message fit the places where they are spelled
+-- a mark of 8 bytes, and key sets of 16 bits
+abbrev pub IsMark : List ℕ → Type 0
+IsMark mark = (length mark ≡ 8) × ((i : ℕ) → slice_index mark i < 2 ^ 8)
+
+abbrev pub AreWords : List ℕ → Type 0
+AreWords words = (i : ℕ) → slice_index words i < 2 ^ 16
+
+-- what else a message may say has room where it is spelled
 abbrev pub Fits : Message → Type 0
-Fits (Data m) = (length m.mark ≡ 8) × ((i : ℕ) → slice_index m.mark i < 2 ^ 8) × ((i : ℕ) → slice_index m.words i < 2 ^ 16)
+Fits (Data m) = IsMark m.mark × AreWords m.words
+Fits (Frozen m) = AreWords m.words
+Fits (Cut m) = AreWords m.words
+Fits _ = Unit {0}
 
 -- a header between two players, its numbers fitting their places
 pub record IsHead (head : HeadValue) : Type 0 where

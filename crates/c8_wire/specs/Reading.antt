@@ -4,7 +4,7 @@ use Rattle.byteorder.specs.Endian.{big_number}
 use Rattle.c8_wire.specs.declared.head.Kind.{Kind}
 use Rattle.c8_wire.specs.declared.head.Kind.TheVariants as kinds
 use Rattle.c8_wire.specs.Kinds.{kind_of_code}
-use Rattle.c8_wire.specs.Packet.{HeadValue, DataMessage, Message, Data, Packet}
+use Rattle.c8_wire.specs.Packet.{HeadValue, DataMessage, FreezeMessage, LeaverMessage, Message, Hello, Welcome, Data, Freeze, Frozen, Cut, Packet}
 
 -- the number in so many bytes from a place on
 unfoldable pub number_at : ℕ → ℕ → List ℕ → ℕ
@@ -43,8 +43,24 @@ data_at bytes = record {
   words = words_of (drop 46 bytes);
 }
 
+abbrev pub freeze_at : List ℕ → FreezeMessage
+freeze_at bytes = record { leaver = slice_index bytes 24; have = number_at 26 4 bytes }
+
+abbrev pub leaver_at : List ℕ → LeaverMessage
+leaver_at bytes = record {
+  leaver = slice_index bytes 24;
+  length = number_at 26 4 bytes;
+  start = number_at 30 4 bytes;
+  words = words_of (drop 36 bytes);
+}
+
 abbrev pub message_at : Kind → List ℕ → Message
+message_at kinds.Hello bytes = Hello
+message_at kinds.Welcome bytes = Welcome (number_at 24 4 bytes)
 message_at kinds.Data bytes = Data (data_at bytes)
+message_at kinds.Freeze bytes = Freeze (freeze_at bytes)
+message_at kinds.Frozen bytes = Frozen (leaver_at bytes)
+message_at kinds.Cut bytes = Cut (leaver_at bytes)
 
 abbrev pub packet_at : Kind → List ℕ → Packet
 packet_at kind bytes = record { head = head_at kind bytes; message = message_at kind bytes }

@@ -4,12 +4,12 @@ use Rattle.c8_wire.specs.declared.refusal.WireError.{WireError}
 use Rattle.c8_wire.specs.declared.refusal.WireError.TheVariants as errors
 use Rattle.c8_wire.specs.declared.head.Kind.{Kind}
 use Rattle.c8_wire.specs.declared.head.Kind.TheVariants as kinds
-use Rattle.c8_wire.specs.Kinds.{fixed_size, has_run}
+use Rattle.c8_wire.specs.Kinds.{fixed_size, has_run, names_leaver}
 use Rattle.c8_wire.specs.Packet.{most_inputs}
 use Rattle.c8_wire.specs.Reading.{number_at, kind_at, size_at}
 
-abbrev pub is_player : ℕ → Bool
-is_player number = nat_le 1 number && nat_le number 4
+abbrev pub is_within : ℕ → ℕ → ℕ → Bool
+is_within least greatest number = nat_le least number && nat_le number greatest
 
 -- a run's start and length stand in the last six bytes of the fixed part
 abbrev pub start_at : Kind → List ℕ → ℕ
@@ -18,10 +18,17 @@ start_at kind bytes = number_at (18 + fixed_size kind) 4 bytes
 abbrev pub count_at : Kind → List ℕ → ℕ
 count_at kind bytes = number_at (22 + fixed_size kind) 2 bytes
 
+abbrev pub run_end : Kind → List ℕ → ℕ
+run_end kind bytes = start_at kind bytes + count_at kind bytes
+
 -- whether a number of inputs is above what a list of inputs may have, or a run goes past its end
 abbrev pub goes_beyond : Kind → List ℕ → Bool
+goes_beyond kinds.Hello bytes = false
+goes_beyond kinds.Welcome bytes = nat_lt most_inputs (number_at 24 4 bytes)
 goes_beyond kinds.Data bytes = nat_lt most_inputs (number_at 24 4 bytes) || nat_lt most_inputs (number_at 28 4 bytes)
-    || nat_lt most_inputs (start_at kinds.Data bytes + count_at kinds.Data bytes)
+    || nat_lt most_inputs (run_end kinds.Data bytes)
+goes_beyond kinds.Freeze bytes = nat_lt most_inputs (number_at 26 4 bytes)
+goes_beyond kind bytes = nat_lt most_inputs (number_at 26 4 bytes) || nat_lt (number_at 26 4 bytes) (run_end kind bytes)
 
 -- whether a refusal's condition holds of the bytes; the later ones want the kind
 unfoldable pub applies : WireError → Option Kind → List ℕ → Bool
@@ -29,16 +36,14 @@ applies errors.Short kind bytes = nat_lt (length bytes) 24
 applies errors.Magic kind bytes = not (number_at 0 2 bytes == 0x4338)
 applies errors.Version kind bytes = not (slice_index bytes 2 == 1)
 applies errors.Kind kind bytes = is_none kind
-applies errors.Length None bytes = false
+applies _ None bytes = false
 applies errors.Length (Some kind) bytes = not (length bytes == 24 + size_at bytes)
     || (if has_run kind then nat_lt (size_at bytes) (fixed_size kind) else not (size_at bytes == fixed_size kind))
-applies errors.Player kind bytes = not (is_player (slice_index bytes 12)) || not (is_player (slice_index bytes 13))
-    || slice_index bytes 12 == slice_index bytes 13
-applies errors.Reserved kind bytes = false
-applies errors.Count None bytes = false
+applies errors.Player (Some kind) bytes = not (is_within 1 4 (slice_index bytes 12)) || not (is_within 1 4 (slice_index bytes 13))
+    || slice_index bytes 12 == slice_index bytes 13 || (names_leaver kind && not (is_within 2 4 (slice_index bytes 24)))
+applies errors.Reserved (Some kind) bytes = names_leaver kind && not (slice_index bytes 25 == 0)
 applies errors.Count (Some kind) bytes = has_run kind
     && (nat_lt 64 (count_at kind bytes) || not (size_at bytes == fixed_size kind + 2 * count_at kind bytes))
-applies errors.Beyond None bytes = false
 applies errors.Beyond (Some kind) bytes = goes_beyond kind bytes
 
 -- the refusals in the order of the table: four on the header, five that want its kind

@@ -3,7 +3,7 @@ use Rattle.c8_wire.specs.declared.head.Head.{Head}
 use Rattle.c8_wire.specs.declared.said.Body.{Body}
 use Rattle.c8_wire.specs.declared.said.Body.TheVariants as bodies
 use Rattle.c8_wire.specs.declared.said.Said.{Said}
-use Rattle.c8_wire.specs.Packet.{HeadValue, Message, Data, Packet}
+use Rattle.c8_wire.specs.Packet.{HeadValue, Message, Hello, Welcome, Data, Freeze, Frozen, Cut, Packet}
 
 -- the values of a head
 abbrev pub head_value : Head → HeadValue
@@ -17,7 +17,12 @@ head_value head = record {
 }
 
 abbrev pub message_of : Body → Message
+message_of bodies.Hello = Hello
+message_of (bodies.Welcome ack) = Welcome ack
 message_of (bodies.Data ack mark_frame mark start run) = Data (record { ack = ack; mark_frame = mark_frame; mark = mark; start = start; words = run.now })
+message_of (bodies.Freeze leaver have) = Freeze (record { leaver = leaver.number; have = have })
+message_of (bodies.Frozen leaver held start run) = Frozen (record { leaver = leaver.number; length = held; start = start; words = run.now })
+message_of (bodies.Cut leaver length start run) = Cut (record { leaver = leaver.number; length = length; start = start; words = run.now })
 
 abbrev pub packet_said : Said → Packet
 packet_said said = record { head = head_value said.head; message = message_of said.body }

@@ -1,14 +1,19 @@
 //! A datagram, by its kind.
 ghost use Rattle.std.specs.Prelude.{◌≡◌};
 
-use crate::bodies::Data;
+use crate::bodies::{Cut, Data, Freeze, Frozen, Hello, Welcome};
 use crate::head::Kind;
 use crate::header::Header;
 
 /// A datagram that lies in the bytes that came.
 #[derive(Clone, Copy)]
 pub enum Datagram<'a> {
+    Hello(Hello<'a>),
+    Welcome(Welcome<'a>),
     Data(Data<'a>),
+    Freeze(Freeze<'a>),
+    Frozen(Frozen<'a>),
+    Cut(Cut<'a>),
 }
 
 impl<'a> Datagram<'a> {
@@ -18,9 +23,29 @@ impl<'a> Datagram<'a> {
         ensures { head_of result ≡ (packet_of self.now).head }
     {
         match self {
-            Datagram::Data(data) => Header {
+            Datagram::Hello(lent) => Header {
+                kind: Kind::Hello,
+                bytes: lent.bytes,
+            },
+            Datagram::Welcome(lent) => Header {
+                kind: Kind::Welcome,
+                bytes: lent.bytes,
+            },
+            Datagram::Data(lent) => Header {
                 kind: Kind::Data,
-                bytes: data.bytes,
+                bytes: lent.bytes,
+            },
+            Datagram::Freeze(lent) => Header {
+                kind: Kind::Freeze,
+                bytes: lent.bytes,
+            },
+            Datagram::Frozen(lent) => Header {
+                kind: Kind::Frozen,
+                bytes: lent.bytes,
+            },
+            Datagram::Cut(lent) => Header {
+                kind: Kind::Cut,
+                bytes: lent.bytes,
             },
         }
     }

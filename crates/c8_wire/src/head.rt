@@ -1,17 +1,28 @@
 //! Of which kind a datagram is, who says it, and to whom.
 ghost use Rattle.std.specs.Prelude.{◌≡◌, ◌≢◌, ◌≤◌};
+ghost use Rattle.std.specs.Bool.{OnTrue};
 
 use c8_game::Player;
 
-/// The kinds of datagrams.
+/// The kinds of datagrams, with their numbers.
 #[derive(Clone, Copy, Debug, PartialEq, Eq)]
 pub enum Kind {
+    /// The sender asks for a link.
+    Hello = 1,
+    /// The sender takes the link.
+    Welcome = 2,
     /// The sender's inputs.
     Data = 3,
+    /// Player one tells that a player leaves.
+    Freeze = 4,
+    /// The inputs that the sender holds of a player who leaves.
+    Frozen = 5,
+    /// All inputs of a player who has left.
+    Cut = 6,
 }
 
 impl Kind {
-    ghost use Rattle.c8_wire.specs.Kinds.{code_of, kind_of_code, fixed_size, has_run};
+    ghost use Rattle.c8_wire.specs.Kinds.{code_of, kind_of_code, fixed_size, has_run, names_leaver};
 
     /// The kind that has this number, if one has.
     #[tactic(auto, unfolding(crate::specs::Kinds::kind_of_code))]
@@ -19,7 +30,12 @@ impl Kind {
         ensures { result ≡ kind_of_code code }
     {
         match code {
+            1 => Some(Kind::Hello),
+            2 => Some(Kind::Welcome),
             3 => Some(Kind::Data),
+            4 => Some(Kind::Freeze),
+            5 => Some(Kind::Frozen),
+            6 => Some(Kind::Cut),
             _ => None,
         }
     }
@@ -37,16 +53,33 @@ impl Kind {
         ensures greatest { result ≤ 22 }
     {
         match self {
+            Kind::Hello => 0,
+            Kind::Welcome => 4,
             Kind::Data => 22,
+            Kind::Freeze => 6,
+            Kind::Frozen | Kind::Cut => 12,
         }
     }
 
     /// Whether the body ends with a run.
     pub(crate) fn has_run(self) -> bool
-        ensures { result ≡ has_run self }
+        ensures value { result ≡ has_run self }
+        ensures room { OnTrue result (12 ≤ fixed_size self) }
     {
         match self {
-            Kind::Data => true,
+            Kind::Data | Kind::Frozen | Kind::Cut => true,
+            Kind::Hello | Kind::Welcome | Kind::Freeze => false,
+        }
+    }
+
+    /// Whether the body begins with a player who leaves, and a byte 0.
+    pub(crate) fn names_leaver(self) -> bool
+        ensures value { result ≡ names_leaver self }
+        ensures room { OnTrue result (6 ≤ fixed_size self) }
+    {
+        match self {
+            Kind::Freeze | Kind::Frozen | Kind::Cut => true,
+            Kind::Hello | Kind::Welcome | Kind::Data => false,
         }
     }
 }

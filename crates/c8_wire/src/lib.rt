@@ -15,7 +15,7 @@ mod refusal;
 mod run;
 mod said;
 
-pub use bodies::Data;
+pub use bodies::{Cut, Data, Freeze, Frozen, Hello, Welcome};
 pub use datagram::Datagram;
 pub use head::{Head, Kind};
 pub use header::Header;

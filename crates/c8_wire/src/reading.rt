@@ -5,11 +5,11 @@ ghost use Rattle.std.specs.Bool.{OnFalse};
 ghost use Rattle.c8_wire.specs.declared.refusal.WireError.TheVariants as errors;
 ghost use Rattle.c8_wire.specs.Packet.{Packet};
 ghost use Rattle.c8_wire.specs.Spelling.{Spells};
-ghost use Rattle.c8_wire.specs.Reading.{kind_at, size_at};
-ghost use Rattle.c8_wire.specs.Refusal.{applies, first_of, body_refusals, refusal, start_at, count_at};
+ghost use Rattle.c8_wire.specs.Reading.{kind_at, packet_at};
+ghost use Rattle.c8_wire.specs.Refusal.{applies, first_of, body_refusals, refusal, run_end};
 ghost use Rattle.c8_wire.specs.Lent.{bytes_of, packet_of};
 
-use crate::bodies::Data;
+use crate::bodies::{Cut, Data, Freeze, Frozen, Hello, Welcome};
 use crate::datagram::Datagram;
 use crate::head::Kind;
 use crate::numbers::{u16_at, u32_at};
@@ -27,8 +27,25 @@ pub fn view(bytes: &[u8]) -> Result<Datagram<'_>, WireError>
     ensures refused { IfErr result (λ error. refusal bytes.now ≡ Some error) }
     ensures lent { IfOk result (λ datagram. bytes_of datagram ≡ bytes.now) }
 {
-    match checked_kind(bytes)? {
-        Kind::Data => Ok(Datagram::Data(Data { bytes })),
+    let kind = checked_kind(bytes)?;
+    Ok(datagram_of(kind, bytes))
+}
+
+/// The datagram of this kind that the bytes spell.
+fn datagram_of(kind: Kind, bytes: &[u8]) -> Datagram<'_>
+    requires kind { kind_at bytes.now ≡ Some kind }
+    requires accepted { refusal bytes.now ≡ None }
+    ensures packet { packet_of result ≡ packet_at kind bytes.now }
+    ensures spelled { Spells bytes.now (packet_at kind bytes.now) }
+    ensures lent { bytes_of result ≡ bytes.now }
+{
+    match kind {
+        Kind::Hello => Datagram::Hello(Hello { bytes }),
+        Kind::Welcome => Datagram::Welcome(Welcome { bytes }),
+        Kind::Data => Datagram::Data(Data { bytes }),
+        Kind::Freeze => Datagram::Freeze(Freeze { bytes }),
+        Kind::Frozen => Datagram::Frozen(Frozen { bytes }),
+        Kind::Cut => Datagram::Cut(Cut { bytes }),
     }
 }
 
@@ -69,7 +86,6 @@ fn named_kind(bytes: &[u8]) -> Result<Kind, WireError>
 }
 
 /// The first of the other refusals that applies to a datagram of this kind.
-#[tactic(auto, using(crate::proofs::TableLemmas::none_reserved))]
 fn body_refusal(kind: Kind, bytes: &[u8]) -> Option<WireError>
     requires { 24 ≤ length bytes.now }
     ensures { result ≡ first_of body_refusals (Some kind) bytes.now }
@@ -77,8 +93,11 @@ fn body_refusal(kind: Kind, bytes: &[u8]) -> Option<WireError>
     if is_misfit(kind, bytes) {
         return Some(WireError::Length);
     }
-    if !names_two_players(kind, bytes) {
+    if misnames_players(kind, bytes) {
         return Some(WireError::Player);
+    }
+    if fills_reserved(kind, bytes) {
+        return Some(WireError::Reserved);
     }
     if miscounts(kind, bytes) {
         return Some(WireError::Count);
@@ -106,15 +125,26 @@ fn is_misfit(kind: Kind, bytes: &[u8]) -> bool
     is_misfit
 }
 
-/// Whether the header names two players.
+/// Whether the header does not name two players, or the leaver is none who may leave.
 #[tactic(auto, unfolding(crate::specs::Refusal::applies))]
-fn names_two_players(kind: Kind, bytes: &[u8]) -> bool
-    requires { 24 ≤ length bytes.now }
-    ensures { result ≡ not (applies errors.Player (Some kind) bytes.now) }
+fn misnames_players(kind: Kind, bytes: &[u8]) -> bool
+    requires { 24 + fixed_size kind ≤ length bytes.now }
+    ensures { result ≡ applies errors.Player (Some kind) bytes.now }
 {
     let from = bytes[12];
     let to = bytes[13];
-    1 <= from && from <= 4 && 1 <= to && to <= 4 && from != to
+    let mut misnames = from < 1 || 4 < from || to < 1 || 4 < to || from == to;
+    misnames |= kind.names_leaver() && (bytes[24] < 2 || 4 < bytes[24]);
+    misnames
+}
+
+/// Whether the byte behind the leaver is not 0.
+#[tactic(auto, unfolding(crate::specs::Refusal::applies))]
+fn fills_reserved(kind: Kind, bytes: &[u8]) -> bool
+    requires { 24 + fixed_size kind ≤ length bytes.now }
+    ensures { result ≡ applies errors.Reserved (Some kind) bytes.now }
+{
+    kind.names_leaver() && bytes[25] != 0
 }
 
 /// Whether the run is longer than 64, or not as long as the body has room for.
@@ -137,10 +167,19 @@ fn goes_beyond(kind: Kind, bytes: &[u8]) -> bool
     ensures { result ≡ applies errors.Beyond (Some kind) bytes.now }
 {
     match kind {
+        Kind::Hello => false,
+        Kind::Welcome => u32_at(bytes, 24) > MOST_INPUTS,
         Kind::Data => {
             let mut beyond = u32_at(bytes, 24) > MOST_INPUTS;
             beyond |= u32_at(bytes, 28) > MOST_INPUTS;
             beyond |= run_end(kind, bytes) > u64::from(MOST_INPUTS);
+            beyond
+        }
+        Kind::Freeze => u32_at(bytes, 26) > MOST_INPUTS,
+        Kind::Frozen | Kind::Cut => {
+            let length = u32_at(bytes, 26);
+            let mut beyond = length > MOST_INPUTS;
+            beyond |= run_end(kind, bytes) > u64::from(length);
             beyond
         }
     }
@@ -149,7 +188,7 @@ fn goes_beyond(kind: Kind, bytes: &[u8]) -> bool
 /// The place after a run's last input.
 fn run_end(kind: Kind, bytes: &[u8]) -> u64
     requires { 24 + fixed_size kind ≤ length bytes.now }
-    ensures { result ≡ start_at kind bytes.now + count_at kind bytes.now }
+    ensures { result ≡ run_end kind bytes.now }
 {
     let start = u32_at(bytes, 18 + kind.fixed_size());
     u64::from(start) + u64::from(u16_at(bytes, 22 + kind.fixed_size()))

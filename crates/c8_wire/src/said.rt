@@ -1,5 +1,5 @@
 //! What is to be said, and its bytes.
-ghost use Rattle.std.specs.Prelude.{◌≡◌, ℕ, ◌+◌, ◌*◌, ◌^◌, ◌<◌, ◌≤◌, slice_index, ◌++◌, length, take, drop};
+ghost use Rattle.std.specs.Prelude.{◌≡◌, ℕ, [], ◌∷◌, ◌+◌, ◌*◌, ◌^◌, ◌<◌, ◌≤◌, slice_index, ◌++◌, length, take, drop};
 ghost use Rattle.std.specs.List.{flat_map};
 ghost use Rattle.byteorder.specs.Endian.{big_bytes};
 ghost use Rattle.arrayvec.specs.ArrayVec.{array_vec_len};
@@ -9,6 +9,7 @@ ghost use Rattle.c8_wire.specs.Saying.{head_value, message_of, packet_said};
 
 use crate::head::Head;
 use arrayvec::ArrayVec;
+use c8_game::Player;
 
 /// The most bytes that a datagram has.
 const MOST_BYTES: usize = 174;
@@ -16,12 +17,37 @@ const MOST_BYTES: usize = 174;
 /// What is to be said, by kind. A run is lent from the inputs that it is taken from.
 #[derive(Clone, Copy)]
 pub enum Body<'a> {
+    /// The sender asks for a link.
+    Hello,
+    /// The sender takes the link, and holds `ack` inputs of the addressee.
+    Welcome {
+        ack: u32,
+    },
     /// The sender's inputs from `start` on. It holds `ack` inputs of the addressee, and `mark` is
     /// that of its first `mark_frame` confirmed frames.
     Data {
         ack: u32,
         mark_frame: u32,
         mark: [u8; 8],
+        start: u32,
+        run: &'a [u16],
+    },
+    /// A player leaves, of whom player one holds `have` inputs.
+    Freeze {
+        leaver: Player,
+        have: u32,
+    },
+    /// The leaver's inputs from `start` on, of which the sender holds `held`.
+    Frozen {
+        leaver: Player,
+        held: u32,
+        start: u32,
+        run: &'a [u16],
+    },
+    /// The leaver's inputs from `start` on, of which all who stay are to have `length`.
+    Cut {
+        leaver: Player,
+        length: u32,
         start: u32,
         run: &'a [u16],
     },
@@ -76,6 +102,8 @@ fn put_body(body: &Body<'_>, out: &mut ArrayVec<u8, MOST_BYTES>)
     ensures fits { Fits (message_of body.now) }
 {
     match body {
+        Body::Hello => {}
+        Body::Welcome { ack } => put(&ack.to_be_bytes(), out),
         Body::Data {
             ack,
             mark_frame,
@@ -88,7 +116,35 @@ fn put_body(body: &Body<'_>, out: &mut ArrayVec<u8, MOST_BYTES>)
             put(mark, out);
             put_run(*start, run, out);
         }
+        Body::Freeze { leaver, have } => put_leaver(leaver, *have, out),
+        Body::Frozen {
+            leaver,
+            held,
+            start,
+            run,
+        } => {
+            put_leaver(leaver, *held, out);
+            put_run(*start, run, out);
+        }
+        Body::Cut {
+            leaver,
+            length,
+            start,
+            run,
+        } => {
+            put_leaver(leaver, *length, out);
+            put_run(*start, run, out);
+        }
     }
+}
+
+/// Appends a player who leaves, a byte 0 and a number of its inputs.
+fn put_leaver(leaver: &Player, inputs: u32, out: &mut ArrayVec<u8, MOST_BYTES>)
+    requires { array_vec_len out.old + 6 ≤ 174 }
+    ensures { out.new.items ≡ out.old.items ++ (leaver.now.number ∷ 0 ∷ [] ++ big_bytes 4 inputs) }
+{
+    put(&[leaver.number, 0], out);
+    put(&inputs.to_be_bytes(), out);
 }
 
 /// Appends a run: where it starts, how many inputs it has, and their key sets.

@@ -1,0 +1,184 @@
+-- FREEZE, FROZEN and CUT: their bytes are those of what they say, and what they say is read again.
+use Rattle.std.proofs.Common.{◌≡◌, ℕ, ◌+◌, ◌*◌, ◌≤◌, List, [], ◌∷◌, ◌++◌, length, drop, slice_index, refl, ap, ◌∙◌, arith}
+use Rattle.std.proofs.lemmas.List.{drop_all}
+use Rattle.std.proofs.lemmas.Bool.Decides.{nat_tests}
+use Rattle.byteorder.specs.Endian.{big_bytes}
+use Rattle.byteorder.specs.Numbers.{big_number-reads_back}
+use Rattle.c8_wire.specs.declared.head.Kind.TheVariants as kinds
+use Rattle.c8_wire.specs.Packet.{HeadValue, IsHead, FreezeMessage, IsFreezeMessage, LeaverMessage, IsLeaverMessage, Freeze, AreWords, most_inputs}
+use Rattle.c8_wire.specs.Spelling.{header_bytes, leaver_bytes, run_bytes, body_bytes}
+use Rattle.c8_wire.specs.Reading.{number_at, size_at, words_of, freeze_at, leaver_at}
+use Rattle.c8_wire.specs.Refusal.{applies}
+use Rattle.c8_wire.proofs.NumberLemmas.{IsBytes, spelled_at}
+use Rattle.c8_wire.proofs.WordLemmas.{length-spelled_words}
+use Rattle.c8_wire.proofs.HeadLemmas.{then, byte_here, HasHead, front_accepted}
+use Rattle.c8_wire.proofs.RunLemmas.{IsRunAt, length-words_at, spelled_run, HasRun, run_again}
+use Rattle.c8_wire.proofs.TableLemmas.{IsAccepted}
+
+-- ---- what is not refused is spelled
+
+-- what the table says of the first bytes of the body
+pub record NamesLeaver (bytes : List ℕ) : Type 0 where
+  pub from_two : 2 ≤ slice_index bytes 24
+  pub to_four : slice_index bytes 24 ≤ 4
+  pub reserved : slice_index bytes 25 ≡ 0
+  pub inputs : number_at 26 4 bytes ≤ most_inputs
+
+pub record IsFreezeShaped (bytes : List ℕ) : Type 0 where
+  pub size : length bytes ≡ 30
+  pub names : NamesLeaver bytes
+
+pub record IsLeaverShaped (bytes : List ℕ) : Type 0 where
+  pub run : IsRunAt 30 bytes
+  pub names : NamesLeaver bytes
+  pub within : number_at 30 4 bytes + number_at 34 2 bytes ≤ number_at 26 4 bytes
+
+pub freeze_shaped : (bytes : List ℕ) → length bytes ≡ 24 + size_at bytes → IsAccepted kinds.Freeze bytes → IsFreezeShaped bytes
+unfolding applies
+freeze_shaped bytes sized a =
+    let fixed = a.length in
+    let player = a.player in
+    let reserved = a.reserved in
+    let beyond = a.beyond in
+    record {
+      size = grind (arith, nat_tests);
+      names = record { from_two = grind (arith, nat_tests); to_four = grind (arith, nat_tests); reserved = grind (arith, nat_tests); inputs = grind (arith, nat_tests) };
+    }
+
+pub frozen_shaped : (bytes : List ℕ) → length bytes ≡ 24 + size_at bytes → IsAccepted kinds.Frozen bytes → IsLeaverShaped bytes
+unfolding applies
+frozen_shaped bytes sized a =
+    let player = a.player in
+    let reserved = a.reserved in
+    let count = a.count in
+    let beyond = a.beyond in
+    record {
+      run = record { ends = grind (arith, nat_tests); short = grind (arith, nat_tests) };
+      names = record { from_two = grind (arith, nat_tests); to_four = grind (arith, nat_tests); reserved = grind (arith, nat_tests); inputs = grind (arith, nat_tests) };
+      within = grind (arith, nat_tests);
+    }
+
+pub cut_shaped : (bytes : List ℕ) → length bytes ≡ 24 + size_at bytes → IsAccepted kinds.Cut bytes → IsLeaverShaped bytes
+unfolding applies
+cut_shaped bytes sized a =
+    let player = a.player in
+    let reserved = a.reserved in
+    let count = a.count in
+    let beyond = a.beyond in
+    record {
+      run = record { ends = grind (arith, nat_tests); short = grind (arith, nat_tests) };
+      names = record { from_two = grind (arith, nat_tests); to_four = grind (arith, nat_tests); reserved = grind (arith, nat_tests); inputs = grind (arith, nat_tests) };
+      within = grind (arith, nat_tests);
+    }
+
+-- the leaver, the byte 0 and a number of inputs
+spelled_leaver : (bytes : List ℕ) (rest : List ℕ) → IsBytes bytes → 30 ≤ length bytes → slice_index bytes 25 ≡ 0 → drop 30 bytes ≡ rest
+    → drop 24 bytes ≡ slice_index bytes 24 ∷ 0 ∷ [] ++ (big_bytes 4 (number_at 26 4 bytes) ++ rest)
+spelled_leaver bytes rest fits long reserved after =
+    let second : drop 25 bytes ≡ 0 ∷ [] ++ drop 26 bytes = byte_here 25 26 bytes refl (omega arith) ∙ ap (λ (n : ℕ). n ∷ drop 26 bytes) reserved in
+    then (slice_index bytes 24 ∷ []) (byte_here 24 25 bytes refl (omega arith))
+    (then (0 ∷ []) second
+    (then (big_bytes 4 (number_at 26 4 bytes)) (spelled_at 26 4 30 bytes refl (omega arith) fits) after))
+
+pub spelled_freeze : (bytes : List ℕ) → IsBytes bytes → IsFreezeShaped bytes → drop 24 bytes ≡ body_bytes (Freeze (freeze_at bytes))
+spelled_freeze bytes fits is = spelled_leaver bytes [] fits (omega (arith, is.size)) is.names.reserved (drop_all 30 bytes (omega (arith, is.size)))
+
+pub spelled_run_of_leaver : (bytes : List ℕ) → IsBytes bytes → IsLeaverShaped bytes → drop 24 bytes ≡ leaver_bytes (leaver_at bytes)
+spelled_run_of_leaver bytes fits is =
+    spelled_leaver bytes (run_bytes (number_at 30 4 bytes) (words_of (drop 36 bytes))) fits (omega (arith, is.run.ends)) is.names.reserved (spelled_run 30 bytes fits is.run)
+
+pub is_freeze : (bytes : List ℕ) → IsFreezeShaped bytes → IsFreezeMessage (freeze_at bytes)
+is_freeze bytes is = record { leaver_from_two = is.names.from_two; leaver_to_four = is.names.to_four; have = is.names.inputs }
+
+pub is_leaver : (bytes : List ℕ) → IsLeaverShaped bytes → IsLeaverMessage (leaver_at bytes)
+is_leaver bytes is =
+    let count = length-words_at 30 bytes is.run in
+    record {
+      leaver_from_two = is.names.from_two;
+      leaver_to_four = is.names.to_four;
+      length = is.names.inputs;
+      run = record { short = omega (arith, count, is.run.short); within = omega (arith, count, is.within) };
+    }
+
+-- ---- what is spelled is read again
+
+pub record HasFreeze (bytes : List ℕ) (m : FreezeMessage) : Type 0 where
+  pub leaver : slice_index bytes 24 ≡ m.leaver
+  pub reserved : slice_index bytes 25 ≡ 0
+  pub have : number_at 26 4 bytes ≡ m.have
+
+pub freeze_again : (head : HeadValue) (size : ℕ) (m : FreezeMessage) → IsFreezeMessage m → HasFreeze (header_bytes head size ++ body_bytes (Freeze m)) m
+unfolding number_at
+freeze_again head size m is = record { leaver = refl; reserved = refl; have = big_number-reads_back 4 m.have [] (omega (arith, is.have)) }
+
+pub record HasLeaver (bytes : List ℕ) (m : LeaverMessage) : Type 0 where
+  pub leaver : slice_index bytes 24 ≡ m.leaver
+  pub reserved : slice_index bytes 25 ≡ 0
+  pub inputs : number_at 26 4 bytes ≡ m.length
+  pub run : HasRun 30 bytes m.start m.words
+
+pub leaver_again : (head : HeadValue) (size : ℕ) (m : LeaverMessage) → IsLeaverMessage m → AreWords m.words → HasLeaver (header_bytes head size ++ leaver_bytes m) m
+unfolding number_at
+leaver_again head size m is fits =
+    let bytes : List ℕ = header_bytes head size ++ leaver_bytes m in
+    record {
+      leaver = refl;
+      reserved = refl;
+      inputs = big_number-reads_back 4 m.length (run_bytes m.start m.words) (omega (arith, is.length));
+      run = run_again 30 bytes m.start m.words refl (omega (arith, is.length, is.run.within)) (omega (arith, is.run.short)) fits;
+    }
+
+pub freeze_values : (bytes : List ℕ) (m : FreezeMessage) → HasFreeze bytes m → freeze_at bytes ≡ m
+freeze_values bytes m has = λ i. record { leaver = has.leaver i; have = has.have i }
+
+pub leaver_values : (bytes : List ℕ) (m : LeaverMessage) → HasLeaver bytes m → leaver_at bytes ≡ m
+leaver_values bytes m has = λ i. record { leaver = has.leaver i; length = has.inputs i; start = has.run.from i; words = has.run.inputs i }
+
+pub length-leaver_bytes : (m : LeaverMessage) → length (leaver_bytes m) ≡ 12 + 2 * length m.words
+length-leaver_bytes m = omega (arith, length-spelled_words m.words)
+
+-- no refusal applies to the spelling
+pub freeze_accepted : (bytes : List ℕ) (head : HeadValue) (m : FreezeMessage) → IsHead head → IsFreezeMessage m → HasHead bytes head 6 → length bytes ≡ 30 → HasFreeze bytes m → IsAccepted kinds.Freeze bytes
+unfolding applies
+freeze_accepted bytes head m is message has long body =
+    let front = front_accepted kinds.Freeze bytes head 6 has long in
+    record {
+      short = front.short;
+      magic = front.magic;
+      version = front.version;
+      length = grind (arith, nat_tests, has.sized);
+      player = grind (arith, nat_tests, is.from_one, is.from_four, is.to_one, is.to_four, is.apart, has.from, has.to, body.leaver, message.leaver_from_two, message.leaver_to_four);
+      reserved = grind (arith, nat_tests, body.reserved);
+      count = refl;
+      beyond = grind (arith, nat_tests, body.have, message.have);
+    }
+
+pub frozen_accepted : (bytes : List ℕ) (head : HeadValue) (size : ℕ) (m : LeaverMessage) → IsHead head → IsLeaverMessage m → HasHead bytes head size → length bytes ≡ 24 + size → size ≡ 12 + 2 * length m.words → HasLeaver bytes m → IsAccepted kinds.Frozen bytes
+unfolding applies
+frozen_accepted bytes head size m is message has long sized body =
+    let front = front_accepted kinds.Frozen bytes head size has long in
+    record {
+      short = front.short;
+      magic = front.magic;
+      version = front.version;
+      length = grind (arith, nat_tests, has.sized);
+      player = grind (arith, nat_tests, is.from_one, is.from_four, is.to_one, is.to_four, is.apart, has.from, has.to, body.leaver, message.leaver_from_two, message.leaver_to_four);
+      reserved = grind (arith, nat_tests, body.reserved);
+      count = grind (arith, nat_tests, has.sized, body.run.count, message.run.short);
+      beyond = grind (arith, nat_tests, body.inputs, body.run.from, body.run.count, message.length, message.run.within);
+    }
+
+pub cut_accepted : (bytes : List ℕ) (head : HeadValue) (size : ℕ) (m : LeaverMessage) → IsHead head → IsLeaverMessage m → HasHead bytes head size → length bytes ≡ 24 + size → size ≡ 12 + 2 * length m.words → HasLeaver bytes m → IsAccepted kinds.Cut bytes
+unfolding applies
+cut_accepted bytes head size m is message has long sized body =
+    let front = front_accepted kinds.Cut bytes head size has long in
+    record {
+      short = front.short;
+      magic = front.magic;
+      version = front.version;
+      length = grind (arith, nat_tests, has.sized);
+      player = grind (arith, nat_tests, is.from_one, is.from_four, is.to_one, is.to_four, is.apart, has.from, has.to, body.leaver, message.leaver_from_two, message.leaver_to_four);
+      reserved = grind (arith, nat_tests, body.reserved);
+      count = grind (arith, nat_tests, has.sized, body.run.count, message.run.short);
+      beyond = grind (arith, nat_tests, body.inputs, body.run.from, body.run.count, message.length, message.run.within);
+    }

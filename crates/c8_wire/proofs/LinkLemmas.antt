@@ -1,0 +1,70 @@
+-- HELLO and WELCOME: their bytes are those of what they say, and what they say is read again.
+use Rattle.std.proofs.Common.{◌≡◌, ℕ, ◌+◌, ◌≤◌, List, [], ◌++◌, length, drop, refl, arith}
+use Rattle.std.proofs.lemmas.List.{drop_all}
+use Rattle.std.proofs.lemmas.Bool.Decides.{nat_tests}
+use Rattle.byteorder.specs.Endian.{big_bytes}
+use Rattle.byteorder.specs.Numbers.{big_number-reads_back}
+use Rattle.c8_wire.specs.declared.head.Kind.TheVariants as kinds
+use Rattle.c8_wire.specs.Packet.{HeadValue, IsHead, Hello, Welcome, most_inputs}
+use Rattle.c8_wire.specs.Spelling.{header_bytes, body_bytes}
+use Rattle.c8_wire.specs.Reading.{number_at, size_at}
+use Rattle.c8_wire.specs.Refusal.{applies}
+use Rattle.c8_wire.proofs.NumberLemmas.{IsBytes, spelled_at}
+use Rattle.c8_wire.proofs.HeadLemmas.{then, HasHead, front_accepted}
+use Rattle.c8_wire.proofs.TableLemmas.{IsAccepted}
+
+pub length-hello : (bytes : List ℕ) → length bytes ≡ 24 + size_at bytes → IsAccepted kinds.Hello bytes → length bytes ≡ 24
+unfolding applies
+length-hello bytes sized a = let fixed = a.length in grind (arith, nat_tests)
+
+pub spelled_hello : (bytes : List ℕ) → length bytes ≡ 24 → drop 24 bytes ≡ body_bytes Hello
+spelled_hello bytes long = drop_all 24 bytes (omega arith)
+
+pub record IsWelcomeShaped (bytes : List ℕ) : Type 0 where
+  pub size : length bytes ≡ 28
+  pub ack : number_at 24 4 bytes ≤ most_inputs
+
+pub welcome_shaped : (bytes : List ℕ) → length bytes ≡ 24 + size_at bytes → IsAccepted kinds.Welcome bytes → IsWelcomeShaped bytes
+unfolding applies
+welcome_shaped bytes sized a =
+    let fixed = a.length in
+    let beyond = a.beyond in
+    record { size = grind (arith, nat_tests); ack = grind (arith, nat_tests) }
+
+pub spelled_welcome : (bytes : List ℕ) → IsBytes bytes → IsWelcomeShaped bytes → drop 24 bytes ≡ body_bytes (Welcome (number_at 24 4 bytes))
+spelled_welcome bytes fits is = then (big_bytes 4 (number_at 24 4 bytes)) (spelled_at 24 4 28 bytes refl (omega (arith, is.size)) fits) (drop_all 28 bytes (omega (arith, is.size)))
+
+pub ack_again : (head : HeadValue) (size ack : ℕ) → ack ≤ most_inputs → number_at 24 4 (header_bytes head size ++ body_bytes (Welcome ack)) ≡ ack
+unfolding number_at
+ack_again head size ack few = big_number-reads_back 4 ack [] (omega arith)
+
+-- no refusal applies to the spelling
+pub hello_accepted : (bytes : List ℕ) (head : HeadValue) → IsHead head → HasHead bytes head 0 → length bytes ≡ 24 → IsAccepted kinds.Hello bytes
+unfolding applies
+hello_accepted bytes head is has long =
+    let front = front_accepted kinds.Hello bytes head 0 has long in
+    record {
+      short = front.short;
+      magic = front.magic;
+      version = front.version;
+      length = grind (arith, nat_tests, has.sized);
+      player = grind (arith, nat_tests, is.from_one, is.from_four, is.to_one, is.to_four, is.apart, has.from, has.to);
+      reserved = refl;
+      count = refl;
+      beyond = refl;
+    }
+
+pub welcome_accepted : (bytes : List ℕ) (head : HeadValue) (ack : ℕ) → IsHead head → ack ≤ most_inputs → HasHead bytes head 4 → length bytes ≡ 28 → number_at 24 4 bytes ≡ ack → IsAccepted kinds.Welcome bytes
+unfolding applies
+welcome_accepted bytes head ack is few has long body =
+    let front = front_accepted kinds.Welcome bytes head 4 has long in
+    record {
+      short = front.short;
+      magic = front.magic;
+      version = front.version;
+      length = grind (arith, nat_tests, has.sized);
+      player = grind (arith, nat_tests, is.from_one, is.from_four, is.to_one, is.to_four, is.apart, has.from, has.to);
+      reserved = refl;
+      count = refl;
+      beyond = grind (arith, nat_tests);
+    }

@@ -1,0 +1,51 @@
+use Rattle.std.proofs.Common.{◌≡◌, Some, ap, ◌∙◌, arith}
+use Rattle.c8_wire.specs.declared.head.Kind.TheVariants as kinds
+use Rattle.c8_wire.specs.Reading.{kind_at}
+use Rattle.c8_wire.proofs.NumberLemmas.{IsBytes}
+use Rattle.c8_wire.proofs.PacketLemmas.{found, hello_size, welcome_size, data_run, freeze_size, frozen_run, cut_run}
+use Rattle.c8_wire.proofs.reading.datagram_of.Goals as goal
+
+pub invariant_of-result : goal.invariant_of-result
+invariant_of-result c =
+    let bytes = c.args.bytes.now in
+    let fits : IsBytes bytes = λ i. omega (arith, c.type_inv.bytes i) in
+    let named : kind_at bytes ≡ Some kinds.Hello = c.requires.kind ∙ ap Some c.in-Hello.is in
+    record { size = hello_size bytes fits named c.requires.accepted; spelled = found kinds.Hello bytes fits named c.requires.accepted }
+
+pub invariant_of-result-in-Welcome : goal.invariant_of-result-in-Welcome
+invariant_of-result-in-Welcome c =
+    let bytes = c.args.bytes.now in
+    let fits : IsBytes bytes = λ i. omega (arith, c.type_inv.bytes i) in
+    let named : kind_at bytes ≡ Some kinds.Welcome = c.requires.kind ∙ ap Some c.in-Welcome.is in
+    record { size = welcome_size bytes fits named c.requires.accepted; spelled = found kinds.Welcome bytes fits named c.requires.accepted }
+
+pub invariant_of-result-in-Data : goal.invariant_of-result-in-Data
+invariant_of-result-in-Data c =
+    let bytes = c.args.bytes.now in
+    let fits : IsBytes bytes = λ i. omega (arith, c.type_inv.bytes i) in
+    let named : kind_at bytes ≡ Some kinds.Data = c.requires.kind ∙ ap Some c.in-Data.is in
+    let run = data_run bytes fits named c.requires.accepted in
+    record { size = run.ends; short = run.short; spelled = found kinds.Data bytes fits named c.requires.accepted }
+
+pub invariant_of-result-in-Freeze : goal.invariant_of-result-in-Freeze
+invariant_of-result-in-Freeze c =
+    let bytes = c.args.bytes.now in
+    let fits : IsBytes bytes = λ i. omega (arith, c.type_inv.bytes i) in
+    let named : kind_at bytes ≡ Some kinds.Freeze = c.requires.kind ∙ ap Some c.in-Freeze.is in
+    record { size = freeze_size bytes fits named c.requires.accepted; spelled = found kinds.Freeze bytes fits named c.requires.accepted }
+
+pub invariant_of-result-in-Frozen : goal.invariant_of-result-in-Frozen
+invariant_of-result-in-Frozen c =
+    let bytes = c.args.bytes.now in
+    let fits : IsBytes bytes = λ i. omega (arith, c.type_inv.bytes i) in
+    let named : kind_at bytes ≡ Some kinds.Frozen = c.requires.kind ∙ ap Some c.in-Frozen.is in
+    let run = frozen_run bytes fits named c.requires.accepted in
+    record { size = run.ends; short = run.short; spelled = found kinds.Frozen bytes fits named c.requires.accepted }
+
+pub invariant_of-result-in-Cut : goal.invariant_of-result-in-Cut
+invariant_of-result-in-Cut c =
+    let bytes = c.args.bytes.now in
+    let fits : IsBytes bytes = λ i. omega (arith, c.type_inv.bytes i) in
+    let named : kind_at bytes ≡ Some kinds.Cut = c.requires.kind ∙ ap Some c.in-Cut.is in
+    let run = cut_run bytes fits named c.requires.accepted in
+    record { size = run.ends; short = run.short; spelled = found kinds.Cut bytes fits named c.requires.accepted }
