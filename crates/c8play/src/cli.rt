@@ -3,6 +3,7 @@
 use crate::keys::KeysError;
 use crate::refusal::{Refusal, Status};
 use crate::run::run;
+use crate::show::show;
 use crate::text::{TextError, read_text};
 use c8_game::GameError;
 use clap::{Arg, ArgMatches, Command};
@@ -21,12 +22,19 @@ pub fn command<'a>(alloc: Global) -> Result<Command<'a>, AllocError> {
         .about("Plays a game alone, from a file of keys, and prints the machine")
         .arg(game)?
         .arg(keys)?;
+    let bytes = Arg::new(alloc, "HEX")
+        .help("The datagram's bytes, two hexadecimal digits each")
+        .required(true);
+    let show = Command::new(alloc, "show")
+        .about("Prints the fields of a datagram")
+        .arg(bytes)?;
     Command::new(alloc, "c8play")
         .about("Plays CHIP-8 programs over UDP, with rollback")
         .version("0.1.0")
         .subcommand_required(true)
         .arg_required_else_help(true)
-        .subcommand(run)
+        .subcommand(run)?
+        .subcommand(show)
 }
 
 /// Does what the command line asks for.
@@ -40,6 +48,10 @@ pub fn carry_out(rt: &HostRuntime, matches: &ArgMatches) -> io::Result<Status> {
                 Ok((game, keys)) => run(rt.alloc(), &game, &keys, &mut out, &mut refused),
                 Err(refusal) => refusal.tell(&mut refused),
             }
+        }
+        Some(("show", given)) => {
+            let text = given.get_str("HEX").unwrap_or("");
+            show(rt.alloc(), text, &mut out, &mut refused)
         }
         _ => Ok(Status::Done),
     }

@@ -9,6 +9,7 @@ mod keys;
 mod refusal;
 mod report;
 mod run;
+mod show;
 mod text;
 
 use refusal::{Refusal, Status};

@@ -1,7 +1,9 @@
 //! Why a command refuses what it was given, and the status with which it ends.
 
 use crate::keys::KeysError;
+use crate::show::HexError;
 use c8_game::GameError;
+use c8_wire::WireError;
 use std::io;
 use std::io::Write;
 use thiserror::Error;
@@ -35,6 +37,10 @@ pub enum Refusal {
     Game(GameError),
     #[error("refused: keys {0}")]
     Keys(KeysError),
+    #[error("refused: hex {0}")]
+    Hex(HexError),
+    #[error("refused: wire {0}")]
+    Wire(WireError),
     /// A file that cannot be read, or is too long for a text.
     #[error("refused: disk 1 Failed")]
     Disk,
@@ -48,8 +54,8 @@ impl Refusal {
     pub fn tell<W: Write>(self, out: &mut W) -> io::Result<Status> {
         writeln!(out, "{self}")?;
         Ok(match self {
-            Refusal::Game(_) | Refusal::Keys(_) | Refusal::Memory => Status::Refused,
             Refusal::Disk => Status::Failed,
+            _ => Status::Refused,
         })
     }
 }
