@@ -1,0 +1,67 @@
+//! What is known of one other player.
+ghost use Rattle.std.specs.Prelude.{◌≡◌};
+
+use crate::error::HandError;
+use c8_wire::Head;
+
+/// The newest epoch known of a player, 0 if none, and whether it is known to know ours.
+#[derive(Clone, Copy)]
+pub(crate) struct Link {
+    pub(crate) known: u32,
+    pub(crate) is_open: bool,
+}
+
+impl Link {
+    ghost use Rattle.c8_wire.specs.Saying.{head_value};
+    ghost use Rattle.c8_hand.specs.Links.{refusal_of_hello, refusal_of_welcome, refusal_of_others, no_link};
+
+    pub(crate) fn none() -> Link
+        ensures { result ≡ no_link }
+    {
+        Link {
+            known: 0,
+            is_open: false,
+        }
+    }
+
+    /// The refusal of a HELLO to a player whose epoch is `own`.
+    pub(crate) fn refusal_of_hello(&self, own: u32, head: &Head) -> Option<HandError>
+        ensures { result ≡ refusal_of_hello self.now own head.now.sender_epoch head.now.addressee_epoch }
+    {
+        if head.sender_epoch == 0 || head.sender_epoch < self.known {
+            Some(HandError::Stale)
+        } else if head.addressee_epoch > own {
+            Some(HandError::Ahead)
+        } else {
+            None
+        }
+    }
+
+    /// The refusal of a WELCOME to a player whose epoch is `own`.
+    pub(crate) fn refusal_of_welcome(&self, own: u32, head: &Head) -> Option<HandError>
+        ensures { result ≡ refusal_of_welcome self.now own head.now.sender_epoch head.now.addressee_epoch }
+    {
+        if head.sender_epoch == 0 || head.sender_epoch < self.known || head.addressee_epoch < own {
+            Some(HandError::Stale)
+        } else if head.addressee_epoch > own {
+            Some(HandError::Ahead)
+        } else {
+            None
+        }
+    }
+
+    /// The refusal of the kinds that want an open link, to a player whose epoch is `own`.
+    pub(crate) fn refusal_of_others(&self, own: u32, head: &Head) -> Option<HandError>
+        ensures { result ≡ refusal_of_others self.now own head.now.sender_epoch head.now.addressee_epoch }
+    {
+        if head.sender_epoch < self.known || head.addressee_epoch < own {
+            Some(HandError::Stale)
+        } else if head.sender_epoch > self.known || head.addressee_epoch > own {
+            Some(HandError::Ahead)
+        } else if self.is_open {
+            None
+        } else {
+            Some(HandError::NotOpen)
+        }
+    }
+}

@@ -1,0 +1,148 @@
+//! The links of one player to the others.
+ghost use Rattle.std.specs.Prelude.{◌≡◌, ◌≢◌, ℕ, ◌≤◌, Some, None, MatchResult, if◌then◌else◌};
+ghost use Rattle.c8_wire.specs.Lent.{packet_of};
+ghost use Rattle.c8_wire.specs.Saying.{head_value};
+ghost use Rattle.c8_hand.specs.Links.{no_links, link_to, refusal, heard, OpensByWelcome, head_to};
+
+use crate::error::HandError;
+use crate::link::Link;
+use c8_game::{Game, Player};
+use c8_wire::{Datagram, Head, Kind};
+use std::marker::Model;
+
+/// For each other player the newest epoch that is known of it, and whether the link to it is open.
+#[derive(Drop)]
+pub struct Links {
+    me: Player,
+    players: u8,
+    session: u64,
+    epoch: u32,
+    links: [Link; 4],
+}
+
+impl Model for Links {
+    ghost use Rattle.std.specs.Prelude.{length};
+    ghost use Rattle.c8_hand.specs.Links.{LinksValue};
+
+    ghost Value = { LinksValue };
+
+    ghost view = { λ l. record {
+      me = l.me.number;
+      players = l.players;
+      session = l.session;
+      epoch = l.epoch;
+      links = l.links;
+    } };
+}
+
+impl Links {
+    /// Closed links of player `me` in a match, whose own epoch is `epoch`; no other epoch is known.
+    pub fn new(me: Player, game: &Game, room: u64, epoch: u32) -> Links
+        ensures { result ≡ no_links game.now me.number room epoch }
+    {
+        Links {
+            me,
+            players: game.players(),
+            session: game.session(room),
+            epoch,
+            links: [Link::none(); 4],
+        }
+    }
+
+    /// The epoch that is known of a player, 0 if none is.
+    pub fn known(&self, player: Player) -> u32
+        ensures { result ≡ (link_to self.now player.number).known }
+    {
+        self.links[usize::from(player.number - 1)].known
+    }
+
+    /// The epoch that is known of a player to whom the link is open.
+    pub fn open(&self, player: Player) -> Option<u32>
+        ensures { result ≡ (if (link_to self.now player.number).is_open then Some (link_to self.now player.number).known else None) }
+    {
+        let link = self.links[usize::from(player.number - 1)];
+        if link.is_open { Some(link.known) } else { None }
+    }
+
+    /// Judges a datagram and changes nothing: first `Session`, then `NotMine`, then the epochs.
+    pub fn admit(&self, datagram: &Datagram<'_>) -> Result<(), HandError>
+        ensures { MatchResult result
+            (λ _. refusal self.now (packet_of datagram.now).head ≡ None)
+            (λ error. refusal self.now (packet_of datagram.now).head ≡ Some error) }
+    {
+        match self.refusal(&datagram.header().head()) {
+            Some(error) => Err(error),
+            None => Ok(()),
+        }
+    }
+
+    fn refusal(&self, head: &Head) -> Option<HandError>
+        ensures { result ≡ refusal self.now (head_value head.now) }
+    {
+        if head.session != self.session {
+            return Some(HandError::Session);
+        }
+        if head.to != self.me || head.from == self.me || head.from.number > self.players {
+            return Some(HandError::NotMine);
+        }
+        let link = &self.links[usize::from(head.from.number - 1)];
+        match head.kind {
+            Kind::Hello => link.refusal_of_hello(self.epoch, head),
+            Kind::Welcome => link.refusal_of_welcome(self.epoch, head),
+            Kind::Data | Kind::Freeze | Kind::Frozen | Kind::Cut => {
+                link.refusal_of_others(self.epoch, head)
+            }
+        }
+    }
+
+    /// Takes what an admitted datagram tells: a HELLO of a later epoch closes the link to its sender,
+    /// a WELCOME opens it, and the sender's epoch is then known. Other kinds change nothing.
+    pub fn hear(&mut self, datagram: &Datagram<'_>)
+        requires { refusal self.old (packet_of datagram.now).head ≡ None }
+        ensures heard { self.new ≡ heard self.old (packet_of datagram.now).head }
+        ensures opens { OpensByWelcome self.old (packet_of datagram.now).head self.new }
+        ensures rises { (player : ℕ) → (link_to self.old player).known ≤ (link_to self.new player).known }
+    {
+        self.take(&datagram.header().head());
+    }
+
+    fn take(&mut self, head: &Head)
+        ensures heard { self.new ≡ heard self.old (head_value head.now) }
+        ensures rises { refusal self.old (head_value head.now) ≡ None → (player : ℕ) → (link_to self.old player).known ≤ (link_to self.new player).known }
+    {
+        let link = &mut self.links[usize::from(head.from.number - 1)];
+        match head.kind {
+            Kind::Hello => {
+                if head.sender_epoch > link.known {
+                    *link = Link {
+                        known: head.sender_epoch,
+                        is_open: false,
+                    };
+                }
+            }
+            Kind::Welcome => {
+                *link = Link {
+                    known: head.sender_epoch,
+                    is_open: true,
+                };
+            }
+            Kind::Data | Kind::Freeze | Kind::Frozen | Kind::Cut => {}
+        }
+    }
+
+    /// The header of a datagram of this kind to another player: it names the own epoch, and the one
+    /// that is known of the player.
+    pub fn head(&self, player: Player, kind: Kind) -> Head
+        requires { player.number ≢ self.now.me }
+        ensures { head_value result ≡ head_to self.now player.number kind }
+    {
+        Head {
+            kind,
+            session: self.session,
+            from: self.me,
+            to: player,
+            sender_epoch: self.epoch,
+            addressee_epoch: self.known(player),
+        }
+    }
+}
