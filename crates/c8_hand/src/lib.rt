@@ -11,3 +11,6 @@ mod links;
 
 pub use error::HandError;
 pub use links::Links;
+
+#[cfg(test)]
+mod tests;

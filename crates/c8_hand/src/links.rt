@@ -107,8 +107,9 @@ impl Links {
     }
 
     fn take(&mut self, head: &Head)
+        requires { refusal self.old (head_value head.now) ≡ None }
         ensures heard { self.new ≡ heard self.old (head_value head.now) }
-        ensures rises { refusal self.old (head_value head.now) ≡ None → (player : ℕ) → (link_to self.old player).known ≤ (link_to self.new player).known }
+        ensures rises { (player : ℕ) → (link_to self.old player).known ≤ (link_to self.new player).known }
     {
         let link = &mut self.links[usize::from(head.from.number - 1)];
         match head.kind {

@@ -4,11 +4,11 @@ use Rattle.c8_wire.specs.declared.head.Kind.TheVariants as kinds
 use Rattle.c8_wire.specs.declared.header.Header.{Header}
 use Rattle.c8_wire.specs.declared.run.Run.{Run}
 use Rattle.c8_wire.specs.declared.run.Words.{Words}
-use Rattle.c8_wire.specs.declared.bodies.Welcome.{Welcome}
-use Rattle.c8_wire.specs.declared.bodies.Data.{Data}
-use Rattle.c8_wire.specs.declared.bodies.Freeze.{Freeze}
-use Rattle.c8_wire.specs.declared.bodies.Frozen.{Frozen}
-use Rattle.c8_wire.specs.declared.bodies.Cut.{Cut}
+use Rattle.c8_wire.specs.declared.handshake.Welcome.{Welcome}
+use Rattle.c8_wire.specs.declared.inputs.Data.{Data}
+use Rattle.c8_wire.specs.declared.freeze.Freeze.{Freeze}
+use Rattle.c8_wire.specs.declared.frozen.Frozen.{Frozen}
+use Rattle.c8_wire.specs.declared.cut.Cut.{Cut}
 use Rattle.c8_wire.specs.declared.datagram.Datagram.{Datagram}
 use Rattle.c8_wire.specs.declared.datagram.Datagram.TheVariants as datagrams
 use Rattle.c8_wire.specs.Packet.{HeadValue, DataMessage, FreezeMessage, LeaverMessage, Packet}

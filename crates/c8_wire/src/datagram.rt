@@ -1,9 +1,13 @@
 //! A datagram, by its kind.
 ghost use Rattle.std.specs.Prelude.{◌≡◌};
 
-use crate::bodies::{Cut, Data, Freeze, Frozen, Hello, Welcome};
+use crate::cut::Cut;
+use crate::freeze::Freeze;
+use crate::frozen::Frozen;
+use crate::handshake::{Hello, Welcome};
 use crate::head::Kind;
 use crate::header::Header;
+use crate::inputs::Data;
 
 /// A datagram that lies in the bytes that came.
 #[derive(Clone, Copy)]

@@ -5,20 +5,28 @@
 //! spell nothing are in `specs/Spelling.antt` and `specs/Refusal.antt`. Nothing here takes memory.
 #![tactic(auto)]
 
-mod bodies;
+mod cut;
 mod datagram;
+mod freeze;
+mod frozen;
+mod handshake;
 mod head;
 mod header;
+mod inputs;
 mod numbers;
 mod reading;
 mod refusal;
 mod run;
 mod said;
 
-pub use bodies::{Cut, Data, Freeze, Frozen, Hello, Welcome};
+pub use cut::Cut;
 pub use datagram::Datagram;
+pub use freeze::Freeze;
+pub use frozen::Frozen;
+pub use handshake::{Hello, Welcome};
 pub use head::{Head, Kind};
 pub use header::Header;
+pub use inputs::Data;
 pub use reading::view;
 pub use refusal::WireError;
 pub use run::{Run, Words};

@@ -9,9 +9,13 @@ ghost use Rattle.c8_wire.specs.Reading.{kind_at, packet_at};
 ghost use Rattle.c8_wire.specs.Refusal.{applies, first_of, body_refusals, refusal, run_end};
 ghost use Rattle.c8_wire.specs.Lent.{bytes_of, packet_of};
 
-use crate::bodies::{Cut, Data, Freeze, Frozen, Hello, Welcome};
+use crate::cut::Cut;
 use crate::datagram::Datagram;
+use crate::freeze::Freeze;
+use crate::frozen::Frozen;
+use crate::handshake::{Hello, Welcome};
 use crate::head::Kind;
+use crate::inputs::Data;
 use crate::numbers::{u16_at, u32_at};
 use crate::refusal::WireError;
 
@@ -116,12 +120,9 @@ fn is_misfit(kind: Kind, bytes: &[u8]) -> bool
     ensures long { OnFalse result (24 + fixed_size kind ≤ length bytes.now) }
 {
     let size = usize::from(u16_at(bytes, 14));
+    let fixed = kind.fixed_size();
     let mut is_misfit = bytes.len() - 24 != size;
-    is_misfit |= if kind.has_run() {
-        size < kind.fixed_size()
-    } else {
-        size != kind.fixed_size()
-    };
+    is_misfit |= size < fixed || (!kind.has_run() && size > fixed);
     is_misfit
 }
 

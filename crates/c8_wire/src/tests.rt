@@ -1,27 +1,94 @@
-ghost use Rattle.std.specs.Prelude.{◌+◌, ◌≤◌, length};
+ghost use Rattle.std.specs.Prelude.{◌≡◌, ◌+◌, ◌≤◌, length};
+ghost use Rattle.c8_wire.specs.Packet.{IsMessage, kind_of};
+ghost use Rattle.c8_wire.specs.Saying.{message_of};
 
 use super::*;
 use c8_game::Player;
 use std::test::Fail;
 
-/// A datagram of one input, 0020.
-const WORKED: [u8; 48] = [
+const HELLO: [u8; 24] = [
+    0x43, 0x38, 0x01, 0x01, 0x01, 0x02, 0x03, 0x04, 0x05, 0x06, 0x07, 0x08, 0x01, 0x02, 0x00, 0x00,
+    0x00, 0x00, 0x00, 0x01, 0x00, 0x00, 0x00, 0x01,
+];
+
+/// A WELCOME by one who holds 10 inputs of player 2.
+const WELCOME: [u8; 28] = [
+    0x43, 0x38, 0x01, 0x02, 0x01, 0x02, 0x03, 0x04, 0x05, 0x06, 0x07, 0x08, 0x01, 0x02, 0x00, 0x04,
+    0x00, 0x00, 0x00, 0x01, 0x00, 0x00, 0x00, 0x01, 0x00, 0x00, 0x00, 0x0a,
+];
+
+/// A DATA of one input, 0020.
+const DATA: [u8; 48] = [
     0x43, 0x38, 0x01, 0x03, 0x01, 0x02, 0x03, 0x04, 0x05, 0x06, 0x07, 0x08, 0x01, 0x02, 0x00, 0x18,
     0x00, 0x00, 0x00, 0x01, 0x00, 0x00, 0x00, 0x01, 0x00, 0x00, 0x00, 0x00, 0x00, 0x00, 0x00, 0x00,
     0xa1, 0xa2, 0xa3, 0xa4, 0xa5, 0xa6, 0xa7, 0xa8, 0x00, 0x00, 0x00, 0x00, 0x00, 0x01, 0x00, 0x20,
 ];
 
-const NO_INPUTS: [u8; 46] = [
-    0x43, 0x38, 0x01, 0x03, 0x01, 0x02, 0x03, 0x04, 0x05, 0x06, 0x07, 0x08, 0x01, 0x02, 0x00, 0x16,
-    0x00, 0x00, 0x00, 0x01, 0x00, 0x00, 0x00, 0x01, 0x00, 0x00, 0x00, 0x00, 0x00, 0x00, 0x00, 0x00,
-    0xa1, 0xa2, 0xa3, 0xa4, 0xa5, 0xa6, 0xa7, 0xa8, 0x00, 0x00, 0x00, 0x00, 0x00, 0x00,
-];
-
 const MARK: [u8; 8] = [0xa1, 0xa2, 0xa3, 0xa4, 0xa5, 0xa6, 0xa7, 0xa8];
 
-fn worked_head() -> Head {
+/// A FREEZE of player 3, of whom player one holds 8 inputs.
+const FREEZE: [u8; 30] = [
+    0x43, 0x38, 0x01, 0x04, 0x01, 0x02, 0x03, 0x04, 0x05, 0x06, 0x07, 0x08, 0x01, 0x02, 0x00, 0x06,
+    0x00, 0x00, 0x00, 0x01, 0x00, 0x00, 0x00, 0x01, 0x03, 0x00, 0x00, 0x00, 0x00, 0x08,
+];
+
+/// A FROZEN of player 3, of whom the sender holds 10 inputs: 8 and 9 are 0004 and 8000.
+const FROZEN: [u8; 40] = [
+    0x43, 0x38, 0x01, 0x05, 0x01, 0x02, 0x03, 0x04, 0x05, 0x06, 0x07, 0x08, 0x01, 0x02, 0x00, 0x10,
+    0x00, 0x00, 0x00, 0x01, 0x00, 0x00, 0x00, 0x01, 0x03, 0x00, 0x00, 0x00, 0x00, 0x0a, 0x00, 0x00,
+    0x00, 0x08, 0x00, 0x02, 0x00, 0x04, 0x80, 0x00,
+];
+
+/// A CUT of player 3 at 10 inputs, of which it has none.
+const CUT: [u8; 36] = [
+    0x43, 0x38, 0x01, 0x06, 0x01, 0x02, 0x03, 0x04, 0x05, 0x06, 0x07, 0x08, 0x01, 0x02, 0x00, 0x0c,
+    0x00, 0x00, 0x00, 0x01, 0x00, 0x00, 0x00, 0x01, 0x03, 0x00, 0x00, 0x00, 0x00, 0x0a, 0x00, 0x00,
+    0x00, 0x0a, 0x00, 0x00,
+];
+
+fn refused(bytes: &[u8]) -> Option<WireError> {
+    view(bytes).err()
+}
+
+/// The refusal of the bytes, with others from a place on.
+fn refused_with(bytes: &[u8], place: usize, with: &[u8]) -> Option<WireError>
+    requires short { length bytes.now ≤ 48 }
+    requires within { place + length with.now ≤ 48 }
+{
+    let mut changed = [0; 48];
+    changed[..bytes.len()].copy_from_slice(bytes);
+    changed[place..place + with.len()].copy_from_slice(with);
+    refused(&changed[..bytes.len()])
+}
+
+/// A datagram with 64 inputs, by the first bytes of one: `fixed` bytes of its body stand before them.
+fn refused_at_64(bytes: &[u8], fixed: u8) -> Option<WireError>
+    requires short { length bytes.now ≤ 48 }
+    requires fixed { fixed ≤ 22 }
+{
+    let mut longest = [0; 174];
+    longest[..bytes.len()].copy_from_slice(bytes);
+    longest[15] = 128 + fixed;
+    longest[usize::from(fixed) + 23] = 64;
+    refused(&longest[..usize::from(fixed) + 152])
+}
+
+fn refused_at_65(bytes: &[u8], fixed: u8) -> Option<WireError>
+    requires short { length bytes.now ≤ 48 }
+    requires fixed { fixed ≤ 22 }
+{
+    let mut longer = [0; 176];
+    longer[..bytes.len()].copy_from_slice(bytes);
+    longer[15] = 130 + fixed;
+    longer[usize::from(fixed) + 23] = 65;
+    refused(&longer[..usize::from(fixed) + 154])
+}
+
+fn head(kind: Kind) -> Head
+    ensures { result.kind ≡ kind }
+{
     Head {
-        kind: Kind::Data,
+        kind,
         session: 0x0102030405060708,
         from: Player { number: 1 },
         to: Player { number: 2 },
@@ -30,36 +97,30 @@ fn worked_head() -> Head {
     }
 }
 
-/// The worked datagram with other bytes from a place on.
-fn changed(place: usize, with: &[u8]) -> [u8; 48]
-    requires { place + length with.now ≤ 48 }
-{
-    let mut bytes = WORKED;
-    bytes[place..place + with.len()].copy_from_slice(with);
-    bytes
-}
-
-fn refused(bytes: &[u8]) -> Option<WireError> {
-    view(bytes).err()
-}
-
 #[test]
-fn reads_a_worked_datagram(rt: HostRuntime) -> Result<(), Fail> {
-    let datagram = view(&WORKED)?;
-    let header = datagram.header();
-    assert_eq!(rt; header.head(), worked_head());
-    assert_eq!(rt; header.kind(), Kind::Data);
+fn reads_a_header(rt: HostRuntime) -> Result<(), Fail> {
+    let header = view(&HELLO)?.header();
+    assert_eq!(rt; header.head(), head(Kind::Hello));
+    assert_eq!(rt; header.kind(), Kind::Hello);
     assert_eq!(rt; header.session(), 0x0102030405060708);
     assert_eq!(rt; header.from().number, 1);
     assert_eq!(rt; header.to().number, 2);
     assert_eq!(rt; header.sender_epoch(), 1);
     assert_eq!(rt; header.addressee_epoch(), 1);
-    let Datagram::Data(data) = datagram;
-    assert_eq!(rt; data.ack(), 0);
-    assert_eq!(rt; data.mark_frame(), 0);
-    assert_eq!(rt; data.mark(), MARK);
-    assert_eq!(rt; data.start(), 0);
-    let run = data.run();
+    assert_eq!(rt; Kind::from_code(Kind::Cut.code()), Some(Kind::Cut));
+    Ok(())
+}
+
+#[test]
+fn reads_data(rt: HostRuntime) -> Result<(), Fail> {
+    let Datagram::Data(lent) = view(&DATA)? else {
+        return Err("no DATA")?;
+    };
+    assert_eq!(rt; lent.ack(), 0);
+    assert_eq!(rt; lent.mark_frame(), 0);
+    assert_eq!(rt; lent.mark(), MARK);
+    assert_eq!(rt; lent.start(), 0);
+    let run = lent.run();
     assert_eq!(rt; run.len(), 1);
     assert!(rt; !run.is_empty());
     assert_eq!(rt; run.get(0), 0x20);
@@ -69,130 +130,219 @@ fn reads_a_worked_datagram(rt: HostRuntime) -> Result<(), Fail> {
 }
 
 #[test]
+fn reads_a_welcome_and_a_freeze(rt: HostRuntime) -> Result<(), Fail> {
+    let Datagram::Welcome(lent) = view(&WELCOME)? else {
+        return Err("no WELCOME")?;
+    };
+    assert_eq!(rt; lent.ack(), 10);
+    let Datagram::Freeze(lent) = view(&FREEZE)? else {
+        return Err("no FREEZE")?;
+    };
+    assert_eq!(rt; lent.leaver().number, 3);
+    assert_eq!(rt; lent.have(), 8);
+    Ok(())
+}
+
+#[test]
+fn reads_a_frozen_and_a_cut(rt: HostRuntime) -> Result<(), Fail> {
+    let Datagram::Frozen(lent) = view(&FROZEN)? else {
+        return Err("no FROZEN")?;
+    };
+    assert_eq!(rt; lent.leaver().number, 3);
+    assert_eq!(rt; lent.held(), 10);
+    assert_eq!(rt; lent.start(), 8);
+    assert_eq!(rt; lent.run().bytes(), [0x00, 0x04, 0x80, 0x00].as_slice());
+    let Datagram::Cut(lent) = view(&CUT)? else {
+        return Err("no CUT")?;
+    };
+    assert_eq!(rt; lent.leaver().number, 3);
+    assert_eq!(rt; lent.length(), 10);
+    assert_eq!(rt; lent.start(), 10);
+    assert!(rt; lent.run().is_empty());
+    assert_eq!(rt; lent.run().iter().next(), None);
+    Ok(())
+}
+
+#[test]
 fn refuses_every_cut(rt: HostRuntime) {
-    for length in 0..24 {
-        assert_eq!(rt;
-            refused(&WORKED[..length]),
-            Some(WireError::Short),
-            "of {length} bytes"
-        );
-    }
-    for length in 24..48 {
-        assert_eq!(rt;
-            refused(&WORKED[..length]),
-            Some(WireError::Length),
-            "of {length} bytes"
-        );
+    let datagrams: [&[u8]; 6] = [&HELLO, &WELCOME, &DATA, &FREEZE, &FROZEN, &CUT];
+    for bytes in datagrams {
+        assert_eq!(rt; refused(bytes), None);
+        for length in 0..bytes.len() {
+            let error = if length < 24 {
+                WireError::Short
+            } else {
+                WireError::Length
+            };
+            assert_eq!(rt; refused(&bytes[..length]), Some(error), "of {length} bytes");
+        }
     }
     let mut longer = [0; 49];
-    longer[..48].copy_from_slice(&WORKED);
+    longer[..48].copy_from_slice(&DATA);
     assert_eq!(rt; refused(&longer), Some(WireError::Length));
 }
 
 #[test]
-fn refuses_by_the_first_fault(rt: HostRuntime) {
-    assert_eq!(rt; refused(&changed(1, &[0x39])), Some(WireError::Magic));
-    assert_eq!(rt; refused(&changed(2, &[2])), Some(WireError::Version));
+fn refuses_what_the_header_says(rt: HostRuntime) {
+    assert_eq!(rt; refused_with(&HELLO, 1, &[0x39]), Some(WireError::Magic));
+    assert_eq!(rt; refused_with(&HELLO, 2, &[2]), Some(WireError::Version));
     for kind in [0, 7, 255] {
         assert_eq!(rt;
-            refused(&changed(3, &[kind])),
+            refused_with(&HELLO, 3, &[kind]),
             Some(WireError::Kind),
             "kind {kind}"
         );
     }
-    assert_eq!(rt; refused(&changed(14, &[0, 25])), Some(WireError::Length));
+    assert_eq!(rt; refused_with(&HELLO, 15, &[1]), Some(WireError::Length));
     for players in [[0, 2], [5, 2], [1, 0], [1, 5], [1, 1]] {
         assert_eq!(rt;
-            refused(&changed(12, &players)),
+            refused_with(&HELLO, 12, &players),
             Some(WireError::Player),
             "{players:?}"
         );
     }
+    for players in [[4, 1], [3, 4]] {
+        assert_eq!(rt; refused_with(&HELLO, 12, &players), None, "{players:?}");
+    }
+
+    // Whole, but not as its kind wants.
+    assert_eq!(rt; refused_with(&WELCOME, 3, &[1]), Some(WireError::Length));
+    assert_eq!(rt; refused_with(&HELLO, 3, &[2]), Some(WireError::Length));
+    assert_eq!(rt; refused_with(&FREEZE, 3, &[2]), Some(WireError::Length));
+    assert_eq!(rt; refused_with(&FREEZE, 3, &[3]), Some(WireError::Length));
+
+    // Of two faults the one that stands first in the table.
+    assert_eq!(rt;
+        refused_with(&DATA, 0, &[0, 0, 0, 0]),
+        Some(WireError::Magic)
+    );
+    assert_eq!(rt; refused_with(&DATA, 2, &[0, 0]), Some(WireError::Version));
+    assert_eq!(rt;
+        refused_with(&DATA, 12, &[1, 1, 0, 0]),
+        Some(WireError::Length)
+    );
+}
+
+#[test]
+fn refuses_what_data_says(rt: HostRuntime) {
     for count in [0, 2, 65] {
         assert_eq!(rt;
-            refused(&changed(44, &[0, count])),
+            refused_with(&DATA, 44, &[0, count]),
+            Some(WireError::Count),
+            "{count}"
+        );
+    }
+    assert_eq!(rt;
+        refused_with(&DATA, 40, &[9, 9, 9, 9, 9, 9]),
+        Some(WireError::Count)
+    );
+
+    // 262148 is 00040004.
+    for place in [24, 28] {
+        assert_eq!(rt;
+            refused_with(&DATA, place, &[0, 4, 0, 4]),
+            None,
+            "at {place}"
+        );
+        assert_eq!(rt;
+            refused_with(&DATA, place, &[0, 4, 0, 5]),
+            Some(WireError::Beyond),
+            "at {place}"
+        );
+    }
+    assert_eq!(rt; refused_with(&DATA, 40, &[0, 4, 0, 3]), None);
+    assert_eq!(rt;
+        refused_with(&DATA, 40, &[0, 4, 0, 4]),
+        Some(WireError::Beyond)
+    );
+    assert_eq!(rt;
+        refused_with(&DATA, 40, &[255, 255, 255, 255]),
+        Some(WireError::Beyond)
+    );
+    assert_eq!(rt; refused_with(&WELCOME, 24, &[0, 4, 0, 4]), None);
+    assert_eq!(rt;
+        refused_with(&WELCOME, 24, &[0, 4, 0, 5]),
+        Some(WireError::Beyond)
+    );
+}
+
+#[test]
+fn refuses_what_is_said_of_a_leaver(rt: HostRuntime) {
+    let datagrams: [&[u8]; 3] = [&FREEZE, &FROZEN, &CUT];
+    for bytes in datagrams {
+        if bytes.len() <= 48 {
+            for leaver in [0, 1, 5] {
+                assert_eq!(rt;
+                    refused_with(bytes, 24, &[leaver]),
+                    Some(WireError::Player),
+                    "{leaver}"
+                );
+            }
+            assert_eq!(rt; refused_with(bytes, 24, &[4]), None);
+            assert_eq!(rt; refused_with(bytes, 25, &[1]), Some(WireError::Reserved));
+            assert_eq!(rt; refused_with(bytes, 24, &[1, 1]), Some(WireError::Player));
+            assert_eq!(rt; refused_with(bytes, 26, &[0, 4, 0, 4]), None);
+            assert_eq!(rt;
+                refused_with(bytes, 26, &[0, 4, 0, 5]),
+                Some(WireError::Beyond)
+            );
+            assert_eq!(rt;
+                refused_with(bytes, 25, &[1, 0, 4, 0, 5]),
+                Some(WireError::Reserved)
+            );
+        }
+    }
+    for count in [1, 3, 65] {
+        assert_eq!(rt;
+            refused_with(&FROZEN, 34, &[0, count]),
             Some(WireError::Count),
             "{count}"
         );
     }
 
-    // Of two faults the one that stands first in the table.
-    assert_eq!(rt; refused(&changed(0, &[0, 0, 0, 0])), Some(WireError::Magic));
-    assert_eq!(rt; refused(&changed(2, &[0, 0])), Some(WireError::Version));
+    // 2 are held, and the run goes from 1 to 3.
     assert_eq!(rt;
-        refused(&changed(12, &[1, 1, 0, 0])),
-        Some(WireError::Length)
+        refused_with(&FROZEN, 26, &[0, 0, 0, 2, 0, 0, 0, 1]),
+        Some(WireError::Beyond)
     );
-    let mut bytes = changed(12, &[1, 1]);
-    bytes[45] = 9;
-    assert_eq!(rt; refused(&bytes), Some(WireError::Player));
+    assert_eq!(rt; refused_with(&FROZEN, 26, &[0, 0, 0, 3, 0, 0, 0, 1]), None);
     assert_eq!(rt;
-        refused(&changed(40, &[9, 9, 9, 9, 9, 9])),
-        Some(WireError::Count)
+        refused_with(&CUT, 26, &[0, 0, 0, 9]),
+        Some(WireError::Beyond)
     );
 }
 
 #[test]
-fn takes_numbers_up_to_their_bounds(rt: HostRuntime) {
-    // 262148 is 00040004.
-    assert_eq!(rt; refused(&changed(24, &[0, 4, 0, 4])), None);
-    assert_eq!(rt;
-        refused(&changed(24, &[0, 4, 0, 5])),
-        Some(WireError::Beyond)
-    );
-    assert_eq!(rt; refused(&changed(28, &[0, 4, 0, 4])), None);
-    assert_eq!(rt;
-        refused(&changed(28, &[0, 4, 0, 5])),
-        Some(WireError::Beyond)
-    );
-    assert_eq!(rt; refused(&changed(40, &[0, 4, 0, 3])), None);
-    assert_eq!(rt;
-        refused(&changed(40, &[0, 4, 0, 4])),
-        Some(WireError::Beyond)
-    );
-    assert_eq!(rt;
-        refused(&changed(40, &[255, 255, 255, 255])),
-        Some(WireError::Beyond)
-    );
-    for players in [[4, 1], [3, 4]] {
-        assert_eq!(rt; refused(&changed(12, &players)), None, "{players:?}");
-    }
+fn takes_64_inputs_and_no_more(rt: HostRuntime) {
+    assert_eq!(rt; refused_at_64(&DATA, 22), None);
+    assert_eq!(rt; refused_at_65(&DATA, 22), Some(WireError::Count));
+    assert_eq!(rt; refused_at_65(&FROZEN, 12), Some(WireError::Count));
+    assert_eq!(rt; refused_at_65(&CUT, 12), Some(WireError::Count));
+
+    // Eight more inputs than the ten that are held, or cut at.
+    assert_eq!(rt; refused_at_64(&FROZEN, 12), Some(WireError::Beyond));
+    assert_eq!(rt; refused_at_64(&CUT, 12), Some(WireError::Beyond));
+}
+
+/// Whether a datagram is written as these bytes, and what stood behind them stays.
+fn is_written(kind: Kind, body: Body<'_>, bytes: &[u8]) -> bool
+    requires kind { kind ≡ kind_of (message_of body) }
+    requires message { IsMessage (message_of body) }
+{
+    let said = &Said {
+        head: head(kind),
+        body,
+    };
+    let mut out = [0x77; 174];
+    let length = write(said, &mut out);
+    let (front, rest) = out.split_at(length);
+    front == bytes && rest.iter().all(|byte| *byte == 0x77)
 }
 
 #[test]
-fn takes_64_inputs_and_no_more(rt: HostRuntime) -> Result<(), Fail> {
-    let mut bytes = [0; 176];
-    bytes[..48].copy_from_slice(&WORKED);
-    bytes[14..16].copy_from_slice(&[0x00, 0x96]);
-    bytes[44..46].copy_from_slice(&[0x00, 0x40]);
-    let Datagram::Data(data) = view(&bytes[..174])?;
-    assert_eq!(rt; data.run().len(), 64);
-    assert_eq!(rt; data.run().iter().count(), 64);
-    assert_eq!(rt; data.run().bytes().len(), 128);
-    for length in 0..174 {
-        let error = if length < 24 {
-            WireError::Short
-        } else {
-            WireError::Length
-        };
-        assert_eq!(rt; refused(&bytes[..length]), Some(error), "of {length} bytes");
-    }
-    bytes[14..16].copy_from_slice(&[0x00, 0x98]);
-    bytes[44..46].copy_from_slice(&[0x00, 0x41]);
-    assert_eq!(rt; refused(&bytes), Some(WireError::Count));
-    Ok(())
-}
-
-#[test]
-fn reads_no_inputs(rt: HostRuntime) -> Result<(), Fail> {
-    let Datagram::Data(data) = view(&NO_INPUTS)?;
-    assert!(rt; data.run().is_empty());
-    assert_eq!(rt; data.run().iter().next(), None);
-    Ok(())
-}
-
-#[test]
-fn writes_a_worked_datagram(rt: HostRuntime) {
+fn writes_hello_welcome_and_data(rt: HostRuntime) {
+    assert!(rt; is_written(Kind::Hello, Body::Hello, &HELLO));
+    assert!(rt; is_written(Kind::Welcome, Body::Welcome { ack: 10 }, &WELCOME));
     let body = Body::Data {
         ack: 0,
         mark_frame: 0,
@@ -200,15 +350,25 @@ fn writes_a_worked_datagram(rt: HostRuntime) {
         start: 0,
         run: &[0x20],
     };
-    let said = Said {
-        head: worked_head(),
-        body,
+    assert!(rt; is_written(Kind::Data, body, &DATA));
+}
+
+#[test]
+fn writes_freeze_frozen_and_cut(rt: HostRuntime) {
+    let leaver = Player { number: 3 };
+    assert!(rt; is_written(Kind::Freeze, Body::Freeze { leaver, have: 8 }, &FREEZE));
+    let body = Body::Frozen {
+        leaver,
+        held: 10,
+        start: 8,
+        run: &[0x0004, 0x8000],
     };
-    let mut out = [0x77; 174];
-    let length = write(&said, &mut out);
-    assert_eq!(rt; length, 48);
-    assert_eq!(rt; &out[..48], WORKED.as_slice());
-    for byte in &out[48..] {
-        assert_eq!(rt; *byte, 0x77);
-    }
+    assert!(rt; is_written(Kind::Frozen, body, &FROZEN));
+    let body = Body::Cut {
+        leaver,
+        length: 10,
+        start: 10,
+        run: &[],
+    };
+    assert!(rt; is_written(Kind::Cut, body, &CUT));
 }

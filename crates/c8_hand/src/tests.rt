@@ -1,0 +1,196 @@
+use super::*;
+use c8_game::{Game, Player};
+use c8_wire::{Kind, WireError, view};
+use std::test::Fail;
+
+const GAME: &[u8] =
+    b"players 2\nipf 10\nframes 100\ndelay 0\nwindow 8\nseed 0\nmask1 000f\nmask2 fff0\ncode 1200\n";
+
+/// What a datagram's header says.
+#[derive(Clone, Copy)]
+struct Header {
+    kind: u8,
+    session: u64,
+    from: u8,
+    to: u8,
+    theirs: u8,
+    mine: u8,
+}
+
+const HELLO: u8 = 1;
+
+const WELCOME: u8 = 2;
+
+const DATA: u8 = 3;
+
+/// A HELLO, WELCOME or DATA whose body is all zeros; it hears the datagram if it is admitted.
+fn give(links: &mut Links, header: Header) -> Result<Result<(), HandError>, WireError> {
+    let size = match header.kind {
+        HELLO => 0,
+        WELCOME => 4,
+        _ => 22,
+    };
+    let mut bytes = [0; 46];
+    bytes[..4].copy_from_slice(&[0x43, 0x38, 1, header.kind]);
+    bytes[4..12].copy_from_slice(&header.session.to_be_bytes());
+    bytes[12..16].copy_from_slice(&[header.from, header.to, 0, size]);
+    bytes[16..20].copy_from_slice(&[0, 0, 0, header.theirs]);
+    bytes[20..24].copy_from_slice(&[0, 0, 0, header.mine]);
+    let (bytes, _) = bytes.split_at(24 + usize::from(size));
+    let datagram = view(bytes)?;
+    match links.admit(&datagram) {
+        Ok(()) => {
+            links.hear(&datagram);
+            Ok(Ok(()))
+        }
+        Err(error) => Ok(Err(error)),
+    }
+}
+
+/// A datagram of player 2, in epoch `theirs`, to player 1, in epoch `mine`.
+fn from_two(
+    links: &mut Links,
+    kind: u8,
+    theirs: u8,
+    mine: u8,
+) -> Result<Result<(), HandError>, WireError> {
+    let session = links.head(player_two(), Kind::Data).session;
+    let header = Header {
+        kind,
+        session,
+        from: 2,
+        to: 1,
+        theirs,
+        mine,
+    };
+    give(links, header)
+}
+
+fn player_two() -> Player {
+    Player { number: 2 }
+}
+
+/// Player 1 in epoch 2, with an open link to player 2 in epoch 3.
+fn linked(game: &Game) -> Result<Links, Fail> {
+    let mut links = Links::new(Player { number: 1 }, game, 0, 2);
+    from_two(&mut links, WELCOME, 3, 2)??;
+    Ok(links)
+}
+
+#[test]
+fn begins_closed(rt: HostRuntime) -> Result<(), Fail> {
+    let game = Game::read(rt.alloc(), GAME)?;
+    let mut links = Links::new(Player { number: 1 }, &game, 0, 2);
+    assert_eq!(rt; links.known(player_two()), 0);
+    assert_eq!(rt; links.open(player_two()), None);
+    assert_eq!(rt; from_two(&mut links, HELLO, 1, 0)?, Ok(()));
+    assert_eq!(rt; links.known(player_two()), 1);
+    assert_eq!(rt; links.open(player_two()), None);
+    assert_eq!(rt; from_two(&mut links, DATA, 1, 2)?, Err(HandError::NotOpen));
+    assert_eq!(rt; from_two(&mut links, WELCOME, 1, 2)?, Ok(()));
+    assert_eq!(rt; links.open(player_two()), Some(1));
+    assert_eq!(rt; from_two(&mut links, DATA, 1, 2)?, Ok(()));
+    Ok(())
+}
+
+#[test]
+fn heads_name_both_epochs(rt: HostRuntime) -> Result<(), Fail> {
+    let game = Game::read(rt.alloc(), GAME)?;
+    let links = linked(&game)?;
+    let head = links.head(player_two(), Kind::Welcome);
+    assert_eq!(rt; head.kind, Kind::Welcome);
+    assert_eq!(rt; head.session, game.session(0));
+    assert_eq!(rt; head.from.number, 1);
+    assert_eq!(rt; head.to.number, 2);
+    assert_eq!(rt; head.sender_epoch, 2);
+    assert_eq!(rt; head.addressee_epoch, 3);
+    Ok(())
+}
+
+#[test]
+fn judges_data_by_both_epochs(rt: HostRuntime) -> Result<(), Fail> {
+    let game = Game::read(rt.alloc(), GAME)?;
+    for (mine, theirs) in [(1, 3), (2, 2), (1, 4)] {
+        let mut links = linked(&game)?;
+        assert_eq!(rt;
+            from_two(&mut links, DATA, theirs, mine)?,
+            Err(HandError::Stale)
+        );
+        assert_eq!(rt; links.open(player_two()), Some(3));
+    }
+    for (mine, theirs) in [(2, 4), (3, 3)] {
+        let mut links = linked(&game)?;
+        assert_eq!(rt;
+            from_two(&mut links, DATA, theirs, mine)?,
+            Err(HandError::Ahead)
+        );
+        assert_eq!(rt; links.open(player_two()), Some(3));
+    }
+    Ok(())
+}
+
+#[test]
+fn a_later_hello_closes_the_link(rt: HostRuntime) -> Result<(), Fail> {
+    let game = Game::read(rt.alloc(), GAME)?;
+    let mut links = linked(&game)?;
+    assert_eq!(rt; from_two(&mut links, HELLO, 3, 2)?, Ok(()));
+    assert_eq!(rt; links.open(player_two()), Some(3));
+    assert_eq!(rt; from_two(&mut links, HELLO, 4, 0)?, Ok(()));
+    assert_eq!(rt; links.known(player_two()), 4);
+    assert_eq!(rt; links.open(player_two()), None);
+    assert_eq!(rt; from_two(&mut links, DATA, 4, 2)?, Err(HandError::NotOpen));
+    Ok(())
+}
+
+#[test]
+fn hellos_and_welcomes_of_old_epochs_are_stale(rt: HostRuntime) -> Result<(), Fail> {
+    let game = Game::read(rt.alloc(), GAME)?;
+    let mut links = linked(&game)?;
+    assert_eq!(rt; from_two(&mut links, HELLO, 0, 2)?, Err(HandError::Stale));
+    assert_eq!(rt; from_two(&mut links, HELLO, 2, 2)?, Err(HandError::Stale));
+    assert_eq!(rt; from_two(&mut links, HELLO, 3, 3)?, Err(HandError::Ahead));
+    assert_eq!(rt; from_two(&mut links, WELCOME, 4, 1)?, Err(HandError::Stale));
+    assert_eq!(rt; from_two(&mut links, WELCOME, 0, 2)?, Err(HandError::Stale));
+    assert_eq!(rt; from_two(&mut links, WELCOME, 4, 3)?, Err(HandError::Ahead));
+    assert_eq!(rt; links.open(player_two()), Some(3));
+    Ok(())
+}
+
+#[test]
+fn a_welcome_of_a_later_epoch_opens_the_link(rt: HostRuntime) -> Result<(), Fail> {
+    let game = Game::read(rt.alloc(), GAME)?;
+    let mut links = linked(&game)?;
+    assert_eq!(rt; from_two(&mut links, WELCOME, 4, 2)?, Ok(()));
+    assert_eq!(rt; links.known(player_two()), 4);
+    assert_eq!(rt; links.open(player_two()), Some(4));
+    Ok(())
+}
+
+#[test]
+fn judges_the_session_and_the_players_first(rt: HostRuntime) -> Result<(), Fail> {
+    let game = Game::read(rt.alloc(), GAME)?;
+    let mut links = linked(&game)?;
+    let header = Header {
+        kind: HELLO,
+        session: game.session(1),
+        from: 2,
+        to: 3,
+        theirs: 0,
+        mine: 2,
+    };
+    assert_eq!(rt; give(&mut links, header)?, Err(HandError::Session));
+    for (from, to) in [(2, 3), (1, 2), (3, 1)] {
+        let header = Header {
+            session: game.session(0),
+            from,
+            to,
+            ..header
+        };
+        assert_eq!(rt;
+            give(&mut links, header)?,
+            Err(HandError::NotMine),
+            "{from} to {to}"
+        );
+    }
+    Ok(())
+}

@@ -1,0 +1,35 @@
+//! HELLO and WELCOME, lent from their bytes.
+ghost use Rattle.std.specs.Prelude.{◌≡◌, length};
+ghost use Rattle.std.proofs.Props.{props};
+ghost use Rattle.c8_wire.specs.declared.head.Kind.TheVariants as kinds;
+ghost use Rattle.c8_wire.specs.Reading.{packet_at};
+ghost use Rattle.c8_wire.specs.Spelling.{Spells};
+
+use crate::numbers::u32_at;
+
+/// The sender asks for a link. It says nothing beside its header.
+#[derive(Clone, Copy)]
+pub struct Hello<'a> {
+    pub(crate) bytes: &'a [u8],
+    pub(crate) ghost size: { length bytes.now ≡ 24 },
+    pub(crate) ghost spelled: { Spells bytes.now (packet_at kinds.Hello bytes.now) } by { Prim.hlevel props },
+}
+
+/// The sender takes the link.
+#[derive(Clone, Copy)]
+pub struct Welcome<'a> {
+    pub(crate) bytes: &'a [u8],
+    pub(crate) ghost size: { length bytes.now ≡ 28 },
+    pub(crate) ghost spelled: { Spells bytes.now (packet_at kinds.Welcome bytes.now) } by { Prim.hlevel props },
+}
+
+impl<'a> Welcome<'a> {
+    ghost use Rattle.c8_wire.specs.Lent.{ack_of};
+
+    /// How many inputs of the addressee the sender holds.
+    pub fn ack(&self) -> u32
+        ensures { result ≡ ack_of self.now }
+    {
+        u32_at(self.bytes, 24)
+    }
+}
