@@ -67,9 +67,9 @@ stored bytes from memory at =
 unfoldable pub random_byte : ℕ → ℕ → ℕ
 random_byte seed n = slice_index (sha256 (to_be_bytes w64 seed ++ to_be_bytes w64 n)) 0
 
--- what DXYN draws
+-- the points of as many bytes from I on, drawn from a column and a row
 abbrev pub drawing : State → ℕ → ℕ → ℕ → Points
-drawing s x y rows = clipped (sprite rows (byte_at s) (register s x % 64) (register s y % 32))
+drawing s left top rows = clipped (sprite rows (byte_at s) (left % 64) (top % 32))
 
 -- ---- the table
 
@@ -110,7 +110,7 @@ Does rules keys (JumpFrom to) s t step = (step ≡ Went) × (t ≡ record s { co
 Does rules keys (Random x value) s t step =
     (step ≡ Went) × (t ≡ with_register (record (passed s) { draws = (s.draws + 1) % 2 ^ 64 }) x (bit_and (random_byte rules.seed s.draws) value))
 Does rules keys (Draw x y rows) s t step =
-    let points = drawing s x y rows in
+    let points = drawing s (register s x) (register s y) rows in
     (step ≡ Drew) × (t ≡ with_flag (record (passed s) { screen = exclusive_or s.screen points }) (flag_if (meets s.screen points)))
 Does rules keys (SkipIfDown x) s t step = (step ≡ Went) × (t ≡ skipped_if (is_down keys (register s x % 0x10)) s)
 Does rules keys (SkipIfUp x) s t step = (step ≡ Went) × (t ≡ skipped_if (not (is_down keys (register s x % 0x10))) s)
@@ -128,6 +128,10 @@ Does rules keys (StoreRegisters x) s t step =
 Does rules keys (LoadRegisters x) s t step =
     (step ≡ Went) × (t ≡ record (passed s) { registers = map (byte_at s) (range_with_len 0 (x + 1)) ++ drop (x + 1) s.registers; address = (s.address + x + 1) % 0x1000 })
 Does rules keys Unknown s t step = (step ≡ Stopped) × (t ≡ stopped UnknownInstruction s)
+
+-- an instruction that goes by no rule of the game and no key
+abbrev pub Performs : Instruction → State → State → Step → Type 0
+Performs instruction s t step = (rules : Rules) (keys : ℕ) → Does rules keys instruction s t step
 
 -- one step of a machine that neither waits nor has stopped: the instruction at its counter
 abbrev pub IsStep : Rules → ℕ → State → State → Step → Type 0

@@ -9,5 +9,7 @@ mod instruction;
 pub mod laws;
 mod machine;
 mod memory;
+#[cfg(test)]
+mod tests;
 
 pub use machine::{Machine, Step, Stop};

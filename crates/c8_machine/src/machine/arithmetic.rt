@@ -1,10 +1,12 @@
 //! The instructions that reckon with registers and timers. A flag is written after the result.
-ghost use Rattle.std.specs.Prelude.{◌≡◌, ◌+◌, ◌-◌, ◌*◌, ◌/◌, ◌%◌, ◌^◌, ◌<◌, ◌++◌, nat_le, nat_lt, bit_and, bit_or, bit_xor};
+ghost use Rattle.std.specs.Prelude.{◌≡◌, ℕ, ◌<◌, ◌++◌};
 ghost use Rattle.sha2.specs.Sha256.{sha256};
 ghost use Rattle.c8_machine.specs.State.{state};
-ghost use Rattle.c8_machine.specs.Steps.{passed, register, with_register, with_flag, flag_if, random_byte};
+ghost use Rattle.c8_machine.specs.Steps.{passed, with_register, with_flag, flag_if, random_byte, Does, Performs};
 
+use crate::instruction::Instruction;
 use crate::machine::{Machine, Step};
+use c8_game::Game;
 use sha2::{Digest, Sha256};
 
 impl Machine {
@@ -34,8 +36,7 @@ impl Machine {
     #[inline(always)]
     pub(crate) fn add_value(&mut self, x: u8, value: u8) -> Step
         requires { x < 16 }
-        ensures step { result ≡ Step.Went }
-        ensures state { state self.new ≡ with_register (passed (state self.old)) x ((register (state self.old) x + value) % 0x100) }
+        ensures { Performs (Instruction.AddValue x value) (state self.old) (state self.new) result }
     {
         self.put(x, self.register(x).wrapping_add(value))
     }
@@ -44,8 +45,7 @@ impl Machine {
     pub(crate) fn set(&mut self, x: u8, y: u8) -> Step
         requires x { x < 16 }
         requires y { y < 16 }
-        ensures step { result ≡ Step.Went }
-        ensures state { state self.new ≡ with_register (passed (state self.old)) x (register (state self.old) y) }
+        ensures { Performs (Instruction.Set x y) (state self.old) (state self.new) result }
     {
         self.put(x, self.register(y))
     }
@@ -54,8 +54,7 @@ impl Machine {
     pub(crate) fn or(&mut self, x: u8, y: u8) -> Step
         requires x { x < 16 }
         requires y { y < 16 }
-        ensures step { result ≡ Step.Went }
-        ensures state { let s = state self.old in state self.new ≡ with_flag (with_register (passed s) x (bit_or (register s x) (register s y))) 0 }
+        ensures { Performs (Instruction.Or x y) (state self.old) (state self.new) result }
     {
         self.put_with_flag(x, self.register(x) | self.register(y), 0)
     }
@@ -64,8 +63,7 @@ impl Machine {
     pub(crate) fn and(&mut self, x: u8, y: u8) -> Step
         requires x { x < 16 }
         requires y { y < 16 }
-        ensures step { result ≡ Step.Went }
-        ensures state { let s = state self.old in state self.new ≡ with_flag (with_register (passed s) x (bit_and (register s x) (register s y))) 0 }
+        ensures { Performs (Instruction.And x y) (state self.old) (state self.new) result }
     {
         self.put_with_flag(x, self.register(x) & self.register(y), 0)
     }
@@ -74,8 +72,7 @@ impl Machine {
     pub(crate) fn exclusive_or(&mut self, x: u8, y: u8) -> Step
         requires x { x < 16 }
         requires y { y < 16 }
-        ensures step { result ≡ Step.Went }
-        ensures state { let s = state self.old in state self.new ≡ with_flag (with_register (passed s) x (bit_xor (register s x) (register s y))) 0 }
+        ensures { Performs (Instruction.ExclusiveOr x y) (state self.old) (state self.new) result }
     {
         self.put_with_flag(x, self.register(x) ^ self.register(y), 0)
     }
@@ -84,8 +81,7 @@ impl Machine {
     pub(crate) fn add(&mut self, x: u8, y: u8) -> Step
         requires x { x < 16 }
         requires y { y < 16 }
-        ensures step { result ≡ Step.Went }
-        ensures state { let s = state self.old in let sum = register s x + register s y in state self.new ≡ with_flag (with_register (passed s) x (sum % 0x100)) (flag_if (nat_lt 0xFF sum)) }
+        ensures { Performs (Instruction.Add x y) (state self.old) (state self.new) result }
     {
         let sum = u16::from(self.register(x)) + u16::from(self.register(y));
         self.put_with_flag(x, (sum % 0x100) as u8, flag_if(sum > 0xff))
@@ -95,8 +91,7 @@ impl Machine {
     pub(crate) fn subtract(&mut self, x: u8, y: u8) -> Step
         requires x { x < 16 }
         requires y { y < 16 }
-        ensures step { result ≡ Step.Went }
-        ensures state { let s = state self.old in state self.new ≡ with_flag (with_register (passed s) x ((register s x + 0x100 - register s y) % 0x100)) (flag_if (nat_le (register s y) (register s x))) }
+        ensures { Performs (Instruction.Subtract x y) (state self.old) (state self.new) result }
     {
         let (from, less) = (self.register(x), self.register(y));
         self.put_with_flag(x, from.wrapping_sub(less), flag_if(from >= less))
@@ -106,8 +101,7 @@ impl Machine {
     pub(crate) fn subtract_from(&mut self, x: u8, y: u8) -> Step
         requires x { x < 16 }
         requires y { y < 16 }
-        ensures step { result ≡ Step.Went }
-        ensures state { let s = state self.old in state self.new ≡ with_flag (with_register (passed s) x ((register s y + 0x100 - register s x) % 0x100)) (flag_if (nat_le (register s x) (register s y))) }
+        ensures { Performs (Instruction.SubtractFrom x y) (state self.old) (state self.new) result }
     {
         let (from, less) = (self.register(y), self.register(x));
         self.put_with_flag(x, from.wrapping_sub(less), flag_if(from >= less))
@@ -117,8 +111,7 @@ impl Machine {
     pub(crate) fn shift_right(&mut self, x: u8, y: u8) -> Step
         requires x { x < 16 }
         requires y { y < 16 }
-        ensures step { result ≡ Step.Went }
-        ensures state { let s = state self.old in state self.new ≡ with_flag (with_register (passed s) x (register s y / 2)) (register s y % 2) }
+        ensures { Performs (Instruction.ShiftRight x y) (state self.old) (state self.new) result }
     {
         let value = self.register(y);
         self.put_with_flag(x, value / 2, value % 2)
@@ -128,19 +121,18 @@ impl Machine {
     pub(crate) fn shift_left(&mut self, x: u8, y: u8) -> Step
         requires x { x < 16 }
         requires y { y < 16 }
-        ensures step { result ≡ Step.Went }
-        ensures state { let s = state self.old in state self.new ≡ with_flag (with_register (passed s) x (register s y * 2 % 0x100)) (register s y / 0x80) }
+        ensures { Performs (Instruction.ShiftLeft x y) (state self.old) (state self.new) result }
     {
         let value = self.register(y);
         self.put_with_flag(x, value.wrapping_mul(2), value / 0x80)
     }
 
-    pub(crate) fn random(&mut self, seed: u64, x: u8, value: u8) -> Step
+    pub(crate) fn random(&mut self, game: &Game, x: u8, value: u8) -> Step
         requires { x < 16 }
-        ensures step { result ≡ Step.Went }
-        ensures state { let s = state self.old in state self.new ≡ with_register (record (passed s) { draws = (s.draws + 1) % 2 ^ 64 }) x (bit_and (random_byte seed s.draws) value) }
+        ensures { (keys : ℕ) → Does game.now keys (Instruction.Random x value)
+            (state self.old) (state self.new) result }
     {
-        let byte = random_byte(seed, self.draws);
+        let byte = random_byte(game.seed(), self.draws);
         self.draws = self.draws.wrapping_add(1);
         self.put(x, byte & value)
     }
@@ -148,8 +140,7 @@ impl Machine {
     #[inline(always)]
     pub(crate) fn set_timer(&mut self, x: u8) -> Step
         requires { x < 16 }
-        ensures step { result ≡ Step.Went }
-        ensures state { state self.new ≡ record (passed (state self.old)) { timer = register (state self.old) x } }
+        ensures { Performs (Instruction.SetTimer x) (state self.old) (state self.new) result }
     {
         self.counter = self.next();
         self.timer = self.register(x);
@@ -159,8 +150,7 @@ impl Machine {
     #[inline(always)]
     pub(crate) fn set_tone(&mut self, x: u8) -> Step
         requires { x < 16 }
-        ensures step { result ≡ Step.Went }
-        ensures state { state self.new ≡ record (passed (state self.old)) { tone = register (state self.old) x } }
+        ensures { Performs (Instruction.SetTone x) (state self.old) (state self.new) result }
     {
         self.counter = self.next();
         self.tone = self.register(x);

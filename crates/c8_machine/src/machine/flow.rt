@@ -1,8 +1,10 @@
 //! The instructions that say where the machine goes on.
-ghost use Rattle.std.specs.Prelude.{◌≡◌, ◌+◌, ◌-◌, ◌%◌, ◌<◌, ◌==◌, not, MatchBool, [], ◌∷◌, ◌++◌, length, take, nat_lt, slice_index};
+ghost use Rattle.std.specs.Prelude.{◌≡◌, ◌%◌, ◌<◌};
+ghost use Rattle.c8_game.specs.Rules.{Rules};
 ghost use Rattle.c8_machine.specs.State.{state};
-ghost use Rattle.c8_machine.specs.Steps.{next, passed, skipped_if, stopped, register, is_down};
+ghost use Rattle.c8_machine.specs.Steps.{skipped_if, is_down, Does, Performs};
 
+use crate::instruction::Instruction;
 use crate::machine::{Machine, Step, Stop};
 use c8_game::Keys;
 
@@ -10,8 +12,7 @@ impl Machine {
     #[inline(always)]
     pub(crate) fn jump(&mut self, to: u16) -> Step
         requires { to < 4096 }
-        ensures step { result ≡ Step.Went }
-        ensures state { state self.new ≡ record (state self.old) { counter = to } }
+        ensures { Performs (Instruction.Jump to) (state self.old) (state self.new) result }
     {
         self.counter = to;
         Step::Went
@@ -20,8 +21,7 @@ impl Machine {
     #[inline(always)]
     pub(crate) fn jump_from(&mut self, to: u16) -> Step
         requires { to < 4096 }
-        ensures step { result ≡ Step.Went }
-        ensures state { state self.new ≡ record (state self.old) { counter = (to + register (state self.old) 0) % 0x1000 } }
+        ensures { Performs (Instruction.JumpFrom to) (state self.old) (state self.new) result }
     {
         self.counter = (to + u16::from(self.register(0))) % 4096;
         Step::Went
@@ -30,9 +30,7 @@ impl Machine {
     #[inline(always)]
     pub(crate) fn call(&mut self, to: u16) -> Step
         requires { to < 4096 }
-        ensures { MatchBool (nat_lt (length (state self.old).stack) 16)
-            ((result ≡ Step.Went) × (state self.new ≡ record (state self.old) { counter = to; stack = (state self.old).stack ++ next (state self.old) ∷ [] }))
-            ((result ≡ Step.Stopped) × (state self.new ≡ stopped Stop.StackFull (state self.old))) }
+        ensures { Performs (Instruction.Call to) (state self.old) (state self.new) result }
     {
         if self.depth == 16 {
             return self.stop_with(Stop::StackFull);
@@ -45,9 +43,7 @@ impl Machine {
 
     #[inline(always)]
     pub(crate) fn go_back(&mut self) -> Step
-        ensures { let stack = (state self.old).stack in MatchBool (nat_lt 0 (length stack))
-            ((result ≡ Step.Went) × (state self.new ≡ record (state self.old) { counter = slice_index stack (length stack - 1); stack = take (length stack - 1) stack }))
-            ((result ≡ Step.Stopped) × (state self.new ≡ stopped Stop.StackEmpty (state self.old))) }
+        ensures { Performs Instruction.Return (state self.old) (state self.new) result }
     {
         if self.depth == 0 {
             return self.stop_with(Stop::StackEmpty);
@@ -73,8 +69,7 @@ impl Machine {
     #[inline(always)]
     pub(crate) fn skip_if_value(&mut self, x: u8, value: u8) -> Step
         requires { x < 16 }
-        ensures step { result ≡ Step.Went }
-        ensures state { state self.new ≡ skipped_if (register (state self.old) x == value) (state self.old) }
+        ensures { Performs (Instruction.SkipIfValue x value) (state self.old) (state self.new) result }
     {
         self.skip_if(self.register(x) == value)
     }
@@ -82,8 +77,7 @@ impl Machine {
     #[inline(always)]
     pub(crate) fn skip_unless_value(&mut self, x: u8, value: u8) -> Step
         requires { x < 16 }
-        ensures step { result ≡ Step.Went }
-        ensures state { state self.new ≡ skipped_if (not (register (state self.old) x == value)) (state self.old) }
+        ensures { Performs (Instruction.SkipUnlessValue x value) (state self.old) (state self.new) result }
     {
         self.skip_if(self.register(x) != value)
     }
@@ -92,8 +86,7 @@ impl Machine {
     pub(crate) fn skip_if_same(&mut self, x: u8, y: u8) -> Step
         requires x { x < 16 }
         requires y { y < 16 }
-        ensures step { result ≡ Step.Went }
-        ensures state { state self.new ≡ skipped_if (register (state self.old) x == register (state self.old) y) (state self.old) }
+        ensures { Performs (Instruction.SkipIfSame x y) (state self.old) (state self.new) result }
     {
         self.skip_if(self.register(x) == self.register(y))
     }
@@ -102,8 +95,7 @@ impl Machine {
     pub(crate) fn skip_unless_same(&mut self, x: u8, y: u8) -> Step
         requires x { x < 16 }
         requires y { y < 16 }
-        ensures step { result ≡ Step.Went }
-        ensures state { state self.new ≡ skipped_if (not (register (state self.old) x == register (state self.old) y)) (state self.old) }
+        ensures { Performs (Instruction.SkipUnlessSame x y) (state self.old) (state self.new) result }
     {
         self.skip_if(self.register(x) != self.register(y))
     }
@@ -111,8 +103,8 @@ impl Machine {
     #[inline(always)]
     pub(crate) fn skip_if_down(&mut self, keys: Keys, x: u8) -> Step
         requires { x < 16 }
-        ensures step { result ≡ Step.Went }
-        ensures state { state self.new ≡ skipped_if (is_down keys.0 (register (state self.old) x % 0x10)) (state self.old) }
+        ensures { (rules : Rules) → Does rules keys.0 (Instruction.SkipIfDown x)
+            (state self.old) (state self.new) result }
     {
         self.skip_if(is_down(keys, self.register(x)))
     }
@@ -120,8 +112,8 @@ impl Machine {
     #[inline(always)]
     pub(crate) fn skip_if_up(&mut self, keys: Keys, x: u8) -> Step
         requires { x < 16 }
-        ensures step { result ≡ Step.Went }
-        ensures state { state self.new ≡ skipped_if (not (is_down keys.0 (register (state self.old) x % 0x10))) (state self.old) }
+        ensures { (rules : Rules) → Does rules keys.0 (Instruction.SkipIfUp x)
+            (state self.old) (state self.new) result }
     {
         self.skip_if(!is_down(keys, self.register(x)))
     }
@@ -129,8 +121,7 @@ impl Machine {
     #[inline(always)]
     pub(crate) fn await_key(&mut self, x: u8) -> Step
         requires { x < 16 }
-        ensures step { result ≡ Step.Waits }
-        ensures state { state self.new ≡ record (passed (state self.old)) { waits = Some x } }
+        ensures { Performs (Instruction.AwaitKey x) (state self.old) (state self.new) result }
     {
         self.counter = self.next();
         self.waits = Some(x);

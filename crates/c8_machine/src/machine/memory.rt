@@ -1,10 +1,11 @@
 //! The instructions that point into memory, write it, read it and draw what stands there.
-ghost use Rattle.std.specs.Prelude.{◌≡◌, ℕ, ◌+◌, ◌*◌, ◌/◌, ◌%◌, ◌<◌, ◌≤◌, [], ◌∷◌, ◌++◌, length, map, take, drop, slice_index};
+ghost use Rattle.std.specs.Prelude.{◌≡◌, ◌+◌, ◌%◌, ◌<◌, ◌≤◌, length, map, slice_index};
 ghost use Rattle.std.specs.List.{range_with_len};
-ghost use Rattle.c8_screen.specs.Points.{no_points, sprite, clipped, exclusive_or, meets};
+ghost use Rattle.c8_screen.specs.Points.{exclusive_or, meets};
 ghost use Rattle.c8_machine.specs.State.{state};
-ghost use Rattle.c8_machine.specs.Steps.{passed, byte_at, register, with_flag, flag_if, stored, drawing};
+ghost use Rattle.c8_machine.specs.Steps.{passed, stored, drawing, Performs};
 
+use crate::instruction::Instruction;
 use crate::machine::arithmetic::flag_if;
 use crate::machine::{Machine, Step};
 
@@ -23,8 +24,7 @@ impl Machine {
     #[inline(always)]
     pub(crate) fn add_address(&mut self, x: u8) -> Step
         requires { x < 16 }
-        ensures step { result ≡ Step.Went }
-        ensures state { let s = state self.old in state self.new ≡ record (passed s) { address = (s.address + register s x) % 0x1000 } }
+        ensures { Performs (Instruction.AddAddress x) (state self.old) (state self.new) result }
     {
         self.point_at((self.address + u16::from(self.register(x))) % 4096)
     }
@@ -32,8 +32,7 @@ impl Machine {
     #[inline(always)]
     pub(crate) fn point_at_digit(&mut self, x: u8) -> Step
         requires { x < 16 }
-        ensures step { result ≡ Step.Went }
-        ensures state { let s = state self.old in state self.new ≡ record (passed s) { address = 0x50 + 5 * (register s x % 0x10) } }
+        ensures { Performs (Instruction.PointAtDigit x) (state self.old) (state self.new) result }
     {
         self.point_at(0x50 + 5 * u16::from(self.register(x) % 16))
     }
@@ -41,8 +40,7 @@ impl Machine {
     #[inline(always)]
     pub(crate) fn store_digits(&mut self, x: u8) -> Step
         requires { x < 16 }
-        ensures step { result ≡ Step.Went }
-        ensures state { let s = state self.old in let digits = register s x / 100 ∷ register s x / 10 % 10 ∷ register s x % 10 ∷ [] in state self.new ≡ record (passed s) { memory = stored digits s.address s.memory } }
+        ensures { Performs (Instruction.StoreDigits x) (state self.old) (state self.new) result }
     {
         let value = self.register(x);
         self.counter = self.next();
@@ -57,8 +55,7 @@ impl Machine {
     #[inline(always)]
     pub(crate) fn store_registers(&mut self, x: u8) -> Step
         requires { x < 16 }
-        ensures step { result ≡ Step.Went }
-        ensures state { let s = state self.old in state self.new ≡ record (passed s) { memory = stored (take (x + 1) s.registers) s.address s.memory; address = (s.address + x + 1) % 0x1000 } }
+        ensures { Performs (Instruction.StoreRegisters x) (state self.old) (state self.new) result }
     {
         let registers = self.registers;
         self.counter = self.next();
@@ -74,8 +71,7 @@ impl Machine {
     #[inline(always)]
     pub(crate) fn load_registers(&mut self, x: u8) -> Step
         requires { x < 16 }
-        ensures step { result ≡ Step.Went }
-        ensures state { let s = state self.old in state self.new ≡ record (passed s) { registers = map (byte_at s) (range_with_len 0 (x + 1)) ++ drop (x + 1) s.registers; address = (s.address + x + 1) % 0x1000 } }
+        ensures { Performs (Instruction.LoadRegisters x) (state self.old) (state self.new) result }
     {
         let mut registers = self.registers;
         load(
@@ -91,8 +87,7 @@ impl Machine {
 
     #[inline(always)]
     pub(crate) fn clear(&mut self) -> Step
-        ensures step { result ≡ Step.Went }
-        ensures state { state self.new ≡ record (passed (state self.old)) { screen = no_points } }
+        ensures { Performs Instruction.Clear (state self.old) (state self.new) result }
     {
         self.counter = self.next();
         self.screen.clear();
@@ -104,8 +99,7 @@ impl Machine {
         requires x { x < 16 }
         requires y { y < 16 }
         requires rows { rows < 16 }
-        ensures step { result ≡ Step.Drew }
-        ensures state { let s = state self.old in let points = drawing s x y rows in state self.new ≡ with_flag (record (passed s) { screen = exclusive_or s.screen points }) (flag_if (meets s.screen points)) }
+        ensures { Performs (Instruction.Draw x y rows) (state self.old) (state self.new) result }
     {
         let put_out = self.draw_bytes(self.register(x), self.register(y), rows);
         self.counter = self.next();
@@ -117,8 +111,9 @@ impl Machine {
     #[inline(always)]
     fn draw_bytes(&mut self, x: u8, y: u8, rows: u8) -> bool
         requires { rows < 16 }
-        ensures screen { let s = state self.old in let points = clipped (sprite rows (byte_at s) (x % 64) (y % 32)) in state self.new ≡ record s { screen = exclusive_or s.screen points } }
-        ensures put_out { let s = state self.old in result ≡ meets s.screen (clipped (sprite rows (byte_at s) (x % 64) (y % 32))) }
+        ensures screen { let s = state self.old in
+            state self.new ≡ record s { screen = exclusive_or s.screen (drawing s x y rows) } }
+        ensures put_out { let s = state self.old in result ≡ meets s.screen (drawing s x y rows) }
     {
         let mut bytes = [0; 15];
         load(&self.memory, self.address, &mut bytes);
@@ -143,7 +138,8 @@ fn store(memory: &mut [u8; 4096], from: u16, bytes: &[u8])
 fn load(memory: &[u8; 4096], from: u16, bytes: &mut [u8])
     requires from { from < 4096 }
     requires few { length bytes.old ≤ 16 }
-    ensures { bytes.new ≡ map (λ k. slice_index memory.now ((from + k) % 0x1000)) (range_with_len 0 (length bytes.old)) }
+    ensures { bytes.new ≡ map (λ k. slice_index memory.now ((from + k) % 0x1000))
+        (range_with_len 0 (length bytes.old)) }
 {
     for k in 0..bytes.len() {
         bytes[k] = memory[(usize::from(from) + k) % 4096];

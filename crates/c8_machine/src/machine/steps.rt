@@ -12,9 +12,12 @@ impl Machine {
     /// Does the instruction at the counter, unless the machine waits or has stopped: then it is as
     /// it was, and the answer is `Held`. `keys` are those that are down in this frame.
     pub fn step(&mut self, game: &Game, keys: Keys) -> Step
-        ensures awake { (state self.old).stop ≡ None → (state self.old).waits ≡ None → IsStep game.now keys.0 (state self.old) (state self.new) result }
-        ensures stopped { IsSome (state self.old).stop → (result ≡ Step.Held) × (state self.new ≡ state self.old) }
-        ensures waits { IsSome (state self.old).waits → (result ≡ Step.Held) × (state self.new ≡ state self.old) }
+        ensures awake { (state self.old).stop ≡ None → (state self.old).waits ≡ None
+            → IsStep game.now keys.0 (state self.old) (state self.new) result }
+        ensures stopped { IsSome (state self.old).stop
+            → (result ≡ Step.Held) × (state self.new ≡ state self.old) }
+        ensures waits { IsSome (state self.old).waits
+            → (result ≡ Step.Held) × (state self.new ≡ state self.old) }
     {
         if self.stop.is_some() || self.waits.is_some() {
             return Step::Held;
@@ -66,7 +69,7 @@ impl Machine {
             Instruction::SkipUnlessSame { x, y } => self.skip_unless_same(x, y),
             Instruction::SetAddress { to } => self.point_at(to),
             Instruction::JumpFrom { to } => self.jump_from(to),
-            Instruction::Random { x, value } => self.random(game.seed(), x, value),
+            Instruction::Random { x, value } => self.random(game, x, value),
             Instruction::Draw { x, y, rows } => self.draw(x, y, rows),
             Instruction::SkipIfDown { x } => self.skip_if_down(keys, x),
             Instruction::SkipIfUp { x } => self.skip_if_up(keys, x),
