@@ -1,0 +1,58 @@
+-- What the calls of a disk do to its bytes, and what a crash may make of them.
+use Rattle.std.specs.Prelude.{◌≡◌, ◌<◌, ◌≤◌, ◌⊎◌, ℕ, ◌+◌, max, List, ◌++◌, length, take, drop, Result, Ok, Err, IsErrOf}
+use Rattle.c8_disk.specs.declared.disk.DiskError.{DiskError}
+use Rattle.c8_disk.specs.declared.disk.DiskError.TheVariants.{Failed, Full}
+
+-- the bytes with these written over them at this place
+abbrev pub overwritten : List ℕ → ℕ → List ℕ → List ℕ
+overwritten old at bytes = take at old ++ bytes ++ drop (at + length bytes) old
+
+-- A write of so many bytes, torn: any bytes in the range and past the old end, at any length from the old one to the
+-- one that the whole write gives, and the same bytes elsewhere.
+pub record Torn (at count : ℕ) (old new : List ℕ) : Type 0 where
+  pub before : take at new ≡ take at old
+  pub after : drop (at + count) new ≡ drop (at + count) old
+  pub no_shorter : length old ≤ length new
+  pub no_longer : length new ≤ max (length old) (at + count)
+
+-- each image of the new ones is one of the old
+abbrev pub AddsNone : (List ℕ → Type 0) → (List ℕ → Type 0) → Type 0
+AddsNone old new = (image : List ℕ) → new image → old image
+
+-- each image of the new ones is one of the old after a torn write
+abbrev pub Tears : ℕ → ℕ → (List ℕ → Type 0) → (List ℕ → Type 0) → Type 0
+Tears at count old new = (image : List ℕ) → new image → (earlier : List ℕ) × old earlier × Torn at count earlier image
+
+-- these bytes are the only image
+abbrev pub Only : List ℕ → (List ℕ → Type 0) → Type 0
+Only bytes images = (image : List ℕ) → images image → image ≡ bytes
+
+-- what a read gives after a write: a write that failed may have been torn, and a full disk writes nothing
+abbrev pub Writes : ℕ → List ℕ → List ℕ → List ℕ → Result (Unit {0}) DiskError → Type 0
+Writes at bytes old new (Ok _) = new ≡ overwritten old at bytes
+Writes at bytes old new (Err Failed) = Torn at (length bytes) old new
+Writes at bytes old new (Err Full) = new ≡ old
+
+-- what a crash may leave after a write, which counts as torn until a sync, also where it failed
+abbrev pub WritesImages : ℕ → ℕ → (List ℕ → Type 0) → (List ℕ → Type 0) → Result (Unit {0}) DiskError → Type 0
+WritesImages at count old new (Ok _) = Tears at count old new
+WritesImages at count old new (Err Failed) = Tears at count old new
+WritesImages at count old new (Err Full) = AddsNone old new
+
+-- Time goes on: a crash since t might have left what it might have left before, or what it may leave now.
+pub record Elapses (before now : ℕ) (past since : ℕ → List ℕ → Type 0) (may_leave : List ℕ → Type 0) : Type 0 where
+  pub later : before ≤ now
+  pub nothing_else : (t : ℕ) (image : List ℕ) → t ≤ before → since t image → past t image ⊎ may_leave image
+  pub keeps : (t : ℕ) (image : List ℕ) → t ≤ before → past t image → since t image
+
+-- A crash at any moment since `old` leaves an image that has P.
+pub record LeavesOnly {D : Type 0} (moment : D → ℕ) (left_since : D → ℕ → List ℕ → Type 0) (old new : D) (P : List ℕ → Type 0) : Type 0 where
+  pub later : moment old ≤ moment new
+  pub each : (image : List ℕ) → left_since new (moment old) image → P image
+  -- for a run that began earlier
+  pub before : (t : ℕ) (image : List ℕ) → t ≤ moment old → left_since new t image → left_since old t image ⊎ P image
+
+-- `Failed` is told only where the disk failed in the call.
+pub record HasCause {T : Type 0} (failures now : ℕ) (result : Result T DiskError) : Type 0 where
+  pub no_fewer : failures ≤ now
+  pub failed : IsErrOf result Failed → failures < now

@@ -1,0 +1,111 @@
+// A disk as a journal sees it: what a read gives, and what a crash may leave.
+ghost use Rattle.std.specs.Prelude.{◌≡◌, ◌+◌, ◌<◌, ◌≤◌, List, ℕ, length, take, drop, OnOk, IsErrOf};
+ghost use Rattle.c8_disk.specs.Disk.{AddsNone, Only, Writes, WritesImages, Elapses, HasCause};
+
+use thiserror::Error;
+
+/// Why a call of a disk was refused.
+#[derive(Clone, Copy, Debug, PartialEq, Eq, Error)]
+pub enum DiskError {
+    /// The disk failed in this call.
+    #[error("the disk failed")]
+    Failed,
+    /// The write would end past the disk's capacity. Nothing was written.
+    #[error("the disk is full")]
+    Full,
+}
+
+/// When the calls of a disk are to fail.
+#[derive(Clone, Copy, Debug, PartialEq, Eq)]
+pub enum Arm {
+    /// Never.
+    Off,
+    /// After so many more calls that read, write or sync: each one from then on fails, with no effect.
+    Stop(u64),
+}
+
+/// A row of bytes that grows by writes, and that a crash may tear.
+pub trait Disk {
+    /// The bytes that a read gives.
+    ghost seen: { Self → List ℕ };
+
+    /// The images that a crash at this moment may leave.
+    ghost may_leave: { Self → List ℕ → Type 0 };
+
+    /// The moment, as a number that doesn't fall.
+    ghost moment: { Self → ℕ };
+
+    /// The images that a crash at some moment from that one on may have left, inside a call or between two.
+    ghost left_since: { Self → ℕ → List ℕ → Type 0 };
+
+    /// How often the disk has failed.
+    ghost failures: { Self → ℕ };
+
+    /// How many calls that write or sync there were, the refused ones too.
+    ghost changes: { Self → ℕ };
+
+    /// How many bytes there is room for.
+    ghost capacity: { Self → ℕ };
+
+    /// How many bytes there are.
+    fn len(&self) -> u32
+        ensures { result ≡ length (seen self.now) };
+
+    /// How many bytes there is room for. It stays the same over every call.
+    fn capacity(&self) -> u32
+        ensures { result ≡ capacity self.now };
+
+    /// Reads as many bytes as `buffer` has, from the place `at` on. At an error `buffer` may hold anything.
+    fn read_at(&mut self, at: u32, buffer: &mut [u8]) -> Result<(), DiskError>
+        requires { at + length buffer.old ≤ length (seen self.old) }
+        ensures read { OnOk result (buffer.new ≡ take (length buffer.old) (drop at (seen self.old))) }
+        ensures seen { seen self.new ≡ seen self.old }
+        ensures crash { AddsNone (may_leave self.old) (may_leave self.new) }
+        ensures time { Elapses (moment self.old) (moment self.new) (left_since self.old) (left_since self.new) (may_leave self.new) }
+        ensures cause { HasCause (failures self.old) (failures self.new) result }
+        ensures never_full { IsErrOf result DiskError.Full → ⊥ }
+        ensures changes { changes self.new ≡ changes self.old }
+        ensures capacity { capacity self.new ≡ capacity self.old };
+
+    /// Writes over what is there, and past the end. Until a sync that answers `Ok`, a crash may leave any bytes in the
+    /// range. A write that answers `Failed` may have done any part of its work; one that answers `Full` did none.
+    fn write_at(&mut self, at: u32, bytes: &[u8]) -> Result<(), DiskError>
+        requires place { at ≤ length (seen self.old) }
+        requires short { length bytes.now ≤ 144 }
+        ensures written { Writes at bytes.now (seen self.old) (seen self.new) result }
+        ensures crash { WritesImages at (length bytes.now) (may_leave self.old) (may_leave self.new) result }
+        ensures time { Elapses (moment self.old) (moment self.new) (left_since self.old) (left_since self.new) (may_leave self.new) }
+        ensures cause { HasCause (failures self.old) (failures self.new) result }
+        ensures full { IsErrOf result DiskError.Full → capacity self.old < at + length bytes.now }
+        ensures changes { changes self.new ≡ changes self.old + 1 }
+        ensures capacity { capacity self.new ≡ capacity self.old };
+
+    /// After an `Ok`, a crash leaves what a read gives.
+    fn sync(&mut self) -> Result<(), DiskError>
+        ensures durable { OnOk result (Only (seen self.old) (may_leave self.new)) }
+        ensures seen { seen self.new ≡ seen self.old }
+        ensures crash { AddsNone (may_leave self.old) (may_leave self.new) }
+        ensures time { Elapses (moment self.old) (moment self.new) (left_since self.old) (left_since self.new) (may_leave self.new) }
+        ensures cause { HasCause (failures self.old) (failures self.new) result }
+        ensures never_full { IsErrOf result DiskError.Full → ⊥ }
+        ensures changes { changes self.new ≡ changes self.old + 1 }
+        ensures capacity { capacity self.new ≡ capacity self.old };
+
+    /// Says when calls fail from now on. It changes nothing that a read or a crash gives.
+    fn arm(&mut self, arm: Arm)
+        ensures seen { seen self.new ≡ seen self.old }
+        ensures crash { AddsNone (may_leave self.old) (may_leave self.new) }
+        ensures time { Elapses (moment self.old) (moment self.new) (left_since self.old) (left_since self.new) (may_leave self.new) }
+        ensures failures { failures self.new ≡ failures self.old }
+        ensures changes { changes self.new ≡ changes self.old }
+        ensures capacity { capacity self.new ≡ capacity self.old };
+
+    /// What a read gives is one of the images.
+    ghost reads_now: { (disk : Self) → may_leave disk (seen disk) };
+
+    /// This moment is one of those since an earlier one.
+    ghost counts_now: { (disk : Self) (t : ℕ) (image : List ℕ) → t ≤ moment disk → may_leave disk image → left_since disk t image };
+
+    /// Since this moment there is no other.
+    ghost only_now: { (disk : Self) (image : List ℕ) → left_since disk (moment disk) image → may_leave disk image };
+}

@@ -1,0 +1,8 @@
+//! A disk that may stop, fail or crash at any moment, as a trait whose contract is the model of a disk.
+//!
+//! [`Disk`] says what a read gives and what a crash may leave.
+#![tactic(auto)]
+
+mod disk;
+
+pub use disk::{Arm, Disk, DiskError};

@@ -1,0 +1,5 @@
+mod Crash
+mod Kept
+mod Least
+mod Moments
+mod Repair

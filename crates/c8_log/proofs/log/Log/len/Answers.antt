@@ -1,0 +1,7 @@
+use Rattle.std.proofs.Common.{ap, subst, sym}
+use Rattle.c8_log.specs.Log.{IsLog}
+use Rattle.c8_log.proofs.Repair.{rests}
+use Rattle.c8_log.proofs.log.Log.len.Goals as goal
+
+pub returns-clause-at_rest : goal.returns-clause-at_rest
+returns-clause-at_rest g c up = rests g.D.Disk.seen g.D.Disk.may_leave c.args.self.now (subst (IsLog g.D.Disk.seen g.D.Disk.may_leave) c.self.view_is c.self.invariant up)

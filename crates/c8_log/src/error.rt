@@ -1,0 +1,31 @@
+ghost use Rattle.std.specs.Prelude.{◌≡◌};
+
+use c8_disk::DiskError;
+use thiserror::Error;
+
+/// Why a call of a log was refused. After any of these every call is refused, until the log is opened again.
+#[derive(Clone, Copy, Debug, PartialEq, Eq, Error)]
+pub enum LogError {
+    /// The disk failed. What was to be written may stand or not: the next opening decides.
+    #[error("the disk failed")]
+    Failed,
+    /// There is no room for one more body. Nothing was written.
+    #[error("the log is full")]
+    Full,
+    /// An earlier call was refused.
+    #[error("the log is down")]
+    Down,
+}
+
+impl From<DiskError> for LogError {
+    ghost use Rattle.c8_log.specs.Log.{told};
+
+    ghost from_gives = { λ error result. result ≡ told error };
+
+    fn from(error: DiskError) -> LogError {
+        match error {
+            DiskError::Failed => LogError::Failed,
+            DiskError::Full => LogError::Full,
+        }
+    }
+}

@@ -1,0 +1,101 @@
+// The log, over a disk that it owns.
+ghost use Rattle.std.specs.Prelude.{◌≡◌, ◌≢◌, ◌<◌, ◌≤◌, ◌+◌, ◌*◌, ◌^◌, ◌++◌, [], ◌∷◌, ◌↔◌, true, false, length, slice_get, IfOk, OnOk, IfErr, OnErr, IsErrOf};
+ghost use Rattle.c8_disk.specs.Disk.{LeavesOnly, AddsNone};
+ghost use Rattle.c8_log.specs.Slots.{kept, kept_count};
+
+use crate::LogError;
+use crate::open::settle;
+use crate::slot::{BODY, Block, OPEN, SLOT, Slot, with_closed_gate};
+use crate::write::write_and_sync;
+use c8_disk::{Arm, Disk};
+use std::marker::Model;
+
+/// A list of bodies of 143 bytes each on a disk. Each body for which `append` answered `Ok` is kept, whatever happens.
+#[derive(Drop)]
+pub struct Log<D: Disk> {
+    disk: D,
+    count: u32,
+    down: bool,
+}
+
+impl<D: Disk> Model for Log<D> {
+    ghost use Rattle.c8_log.specs.Log.{LogValue, IsLog};
+
+    ghost Value = { LogValue D };
+
+    ghost view = { λ log. record { disk = log.disk; count = log.count; down = log.down } };
+
+    ghost invariant = { λ log. IsLog D.seen D.may_leave (record { disk = log.disk; count = log.count; down = log.down }) };
+}
+
+impl<D: Disk> Log<D> {
+    ghost use Rattle.c8_log.specs.Log.{AllKeep, KeepsOneOf, KeepsWithOrWithout, IsAtRest, repaired};
+
+    /// Opens the log that a disk holds, and closes the gate behind its last body if that was left open or is missing.
+    /// At an error the disk is given back, and it keeps what it kept.
+    pub fn open(disk: D) -> Result<Log<D>, (LogError, D)>
+        ensures at_rest { IfOk result (λ log. IsAtRest D.seen D.may_leave log) }
+        ensures up { IfOk result (λ log. log.down ≡ false) }
+        ensures repaired { IfOk result (λ log. D.seen log.disk ≡ repaired (D.seen disk)) }
+        ensures kept { IfOk result (λ log. kept (D.seen log.disk) ≡ kept (D.seen disk)) }
+        ensures kept_err { IfErr result (λ refusal. kept (D.seen refusal.1) ≡ kept (D.seen disk)) }
+
+        // A crash at any moment of the call leaves bodies that a crash before it could have left.
+        ensures any_moment { IfOk result (λ log.
+            LeavesOnly D.moment D.left_since disk log.disk (KeepsOneOf (D.may_leave disk))) }
+        ensures any_moment_err { IfErr result (λ refusal.
+            LeavesOnly D.moment D.left_since disk refusal.1 (KeepsOneOf (D.may_leave disk))) }
+
+        // It doesn't give up by itself.
+        ensures failed { IfErr result (λ refusal.
+            refusal.0 ≡ LogError.Failed → D.failures disk < D.failures refusal.1) }
+        ensures full { IfErr result (λ refusal.
+            refusal.0 ≡ LogError.Full → D.capacity disk < 144 * length (kept (D.seen disk)) + 1) }
+        ensures never_down { IfErr result (λ refusal. refusal.0 ≢ LogError.Down) }
+
+        ensures no_fewer { IfOk result (λ log. D.failures disk ≤ D.failures log.disk) }
+        ensures no_fewer_err { IfErr result (λ refusal. D.failures disk ≤ D.failures refusal.1) }
+        ensures changes { IfOk result (λ log. D.changes log.disk ≤ D.changes disk + 3) }
+        ensures changes_err { IfErr result (λ refusal. D.changes refusal.1 ≤ D.changes disk + 3) }
+        ensures capacity { IfOk result (λ log. D.capacity log.disk ≡ D.capacity disk) }
+        ensures capacity_err { IfErr result (λ refusal. D.capacity refusal.1 ≡ D.capacity disk) }
+    {
+        let mut disk = disk;
+        match settle(&mut disk) {
+            Ok(count) => Ok(Log {
+                disk,
+                count,
+                down: false,
+            }),
+            Err(error) => Err((LogError::from(error), disk)),
+        }
+    }
+
+    /// How many bodies the log keeps: those that it was opened with, and one for each `append` that answered `Ok`.
+    pub fn len(&self) -> u32
+        ensures count { result ≡ self.now.count }
+        ensures at_rest { self.now.down ≡ false → IsAtRest D.seen D.may_leave self.now }
+    {
+        self.count
+    }
+
+    /// Says when the disk's calls fail from now on.
+    pub fn arm(&mut self, arm: Arm)
+        ensures count { self.new.count ≡ self.old.count }
+        ensures down { self.new.down ≡ self.old.down }
+        ensures seen { D.seen self.new.disk ≡ D.seen self.old.disk }
+        ensures any_moment { LeavesOnly D.moment D.left_since self.old.disk self.new.disk (D.may_leave self.old.disk) }
+        ensures failures { D.failures self.new.disk ≡ D.failures self.old.disk }
+        ensures changes { D.changes self.new.disk ≡ D.changes self.old.disk }
+        ensures capacity { D.capacity self.new.disk ≡ D.capacity self.old.disk }
+    {
+        self.disk.arm(arm);
+    }
+
+    /// Gives the disk back.
+    pub fn close(self) -> D
+        ensures { result ≡ self.disk }
+    {
+        self.disk
+    }
+}
