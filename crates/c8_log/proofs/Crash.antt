@@ -32,6 +32,12 @@ module _ (old new : List ℕ) (size : ℕ) (same : take size new ≡ take size o
   same_bodies (suc n) le =
       ap (λ (l : List (List ℕ)). l ++ body_of new n ∷ []) (same_bodies n (omega arith)) ∙ ap (λ (l : List ℕ). first_bodies old n ++ l ∷ []) (same_body n (omega arith))
 
+-- an image that keeps one body more
+pub record HasOneMore (old : List ℕ) (n : ℕ) (body : List ℕ) (new : List ℕ) : Type 0 where
+  pub front : IsFront new (suc n)
+  pub bodies : kept new ≡ kept old ++ body ∷ []
+  pub shut : slice_index new (144 * suc n) ≢ 0xa5
+
 -- an image with n open slots
 module _ (old : List ℕ) (n : ℕ) (is : IsFront old n) where
   -- behind a gate that stands closed, anything may stand
@@ -50,8 +56,8 @@ module _ (old : List ℕ) (n : ℕ) (is : IsFront old n) where
   -- a body and a closed gate stand behind the open slots, and now the gate before the body is written
   module _ (body : List ℕ) (written : List ℕ) (same : take (144 * n) written ≡ take (144 * n) old) (there : body_of written n ≡ body)
            (long : 144 * n + 144 < length written) (next : slice_index written (144 * n + 144) ≢ 0xa5) where
-    -- it is open: the body counts
-    pub with_it : (new : List ℕ) → Torn (144 * n) 1 written new → slice_index new (144 * n) ≡ 0xa5 → IsFront new (suc n) × (kept new ≡ kept old ++ body ∷ [])
+    -- it is open: the body counts, and a closed gate stands behind it
+    pub with_it : (new : List ℕ) → Torn (144 * n) 1 written new → slice_index new (144 * n) ≡ 0xa5 → HasOneMore old n body new
     with_it new torn is_a5 =
         let begins : take (144 * n) new ≡ take (144 * n) old = torn.before ∙ same in
         let last : slice_index new (144 * n + 1 + 143) ≡ slice_index written (144 * n + 1 + 143) =
@@ -69,17 +75,18 @@ module _ (old : List ℕ) (n : ℕ) (is : IsFront old n) where
           at = shut_by_gate new (suc n) shut;
         } in
         let added : body_of new n ≡ body = ap (λ (l : List ℕ). take 143 l) torn.after ∙ there in
-        (
-          now,
-          kept_from new (suc n) now
+        record {
+          front = now;
+          bodies = kept_from new (suc n) now
           ∙ ap (λ (l : List (List ℕ)). l ++ body_of new n ∷ []) (same_bodies old new (144 * n) begins n (omega arith) ∙ sym (kept_from old n is))
-          ∙ ap (λ (l : List ℕ). kept old ++ l ∷ []) added,
-        )
+          ∙ ap (λ (l : List ℕ). kept old ++ l ∷ []) added;
+          shut = shut;
+        }
 
     -- whatever it is
     pub with_or_without : (new : List ℕ) → Torn (144 * n) 1 written new → (kept new ≡ kept old) ⊎ (kept new ≡ kept old ++ body ∷ [])
     with_or_without new torn = elim (cases_eq (slice_index new (144 * n)) 0xa5) [
-      | inl is_a5 ↦ inr (with_it new torn is_a5).1
+      | inl is_a5 ↦ inr (with_it new torn is_a5).bodies
       | inr shut ↦
           let begins : take (144 * n) new ≡ take (144 * n) old = torn.before ∙ same in
           let now : IsFront new n = record { below = open_below old new (144 * n) begins n (omega arith) is.below; at = shut_by_gate new n shut } in

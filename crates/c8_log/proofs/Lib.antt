@@ -3,3 +3,4 @@ mod Kept
 mod Least
 mod Moments
 mod Repair
+mod Staged

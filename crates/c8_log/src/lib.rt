@@ -1,6 +1,7 @@
 //! A list of fixed records on a disk that may stop, fail or crash at any moment.
 #![tactic(auto)]
 
+mod append;
 mod end;
 mod error;
 mod laws;

@@ -4,9 +4,9 @@ ghost use Rattle.c8_disk.specs.Disk.{LeavesOnly, AddsNone};
 ghost use Rattle.c8_log.specs.Slots.{kept, kept_count};
 
 use crate::LogError;
+use crate::append::{add, has_room};
 use crate::open::settle;
-use crate::slot::{BODY, Block, OPEN, SLOT, Slot, with_closed_gate};
-use crate::write::write_and_sync;
+use crate::slot::{BODY, Block, SLOT, Slot};
 use c8_disk::{Arm, Disk};
 use std::marker::Model;
 
@@ -77,6 +77,46 @@ impl<D: Disk> Log<D> {
         ensures at_rest { self.now.down ≡ false → IsAtRest D.seen D.may_leave self.now }
     {
         self.count
+    }
+
+    /// Adds a body, and answers the number of its slot. At `Ok` the body is on the disk: from then on each crash leaves
+    /// it. After an error the log is down; the next opening decides whether the body counts.
+    pub fn append(&mut self, body: &[u8; BODY]) -> Result<u32, LogError>
+        ensures slot { IfOk result (λ slot. slot ≡ self.old.count) }
+        ensures count { OnOk result (self.new.count ≡ self.old.count + 1) }
+        ensures up { OnOk result (self.new.down ≡ false) }
+        ensures kept { OnOk result (kept (D.seen self.new.disk) ≡ kept (D.seen self.old.disk) ++ body.now ∷ []) }
+        ensures at_rest { OnOk result (IsAtRest D.seen D.may_leave self.new) }
+
+        // A crash at any moment of the call leaves the bodies from before it, with the new one or without.
+        ensures any_moment { self.old.down ≡ false → LeavesOnly D.moment D.left_since self.old.disk self.new.disk
+            (KeepsWithOrWithout (kept (D.seen self.old.disk)) body.now) }
+
+        // When each error comes, and what it leaves.
+        ensures down { IsErrOf result LogError.Down ↔ (self.old.down ≡ true) }
+        ensures down_leaves { IsErrOf result LogError.Down → self.new ≡ self.old }
+        ensures full { IsErrOf result LogError.Full
+            ↔ ((self.old.down ≡ false) × (D.capacity self.old.disk < 144 * (self.old.count + 1) + 1)) }
+        ensures full_leaves { IsErrOf result LogError.Full → self.new ≡ record self.old { down = true } }
+        ensures failed { IsErrOf result LogError.Failed → D.failures self.old.disk < D.failures self.new.disk }
+        ensures err { OnErr result (self.new ≡ record self.old { disk = self.new.disk; down = true }) }
+
+        ensures no_fewer { D.failures self.old.disk ≤ D.failures self.new.disk }
+        ensures changes { D.changes self.new.disk ≤ D.changes self.old.disk + 4 }
+        ensures capacity { D.capacity self.new.disk ≡ D.capacity self.old.disk }
+    {
+        if self.down {
+            return Err(LogError::Down);
+        }
+        self.down = true;
+        let count = self.count;
+        if !has_room(self.disk.capacity(), count) {
+            return Err(LogError::Full);
+        }
+        add(&mut self.disk, count, body)?;
+        self.count = count + 1;
+        self.down = false;
+        Ok(count)
     }
 
     /// Says when the disk's calls fail from now on.

@@ -1,0 +1,69 @@
+use Rattle.std.proofs.Common.{◌≡◌, ◌≤◌, ◌<◌, ◌+◌, ◌*◌, ◌^◌, ◌++◌, [], ◌∷◌, ℕ, List, length, false, Result, Ok, Err, OnOk, ap, sym, ◌∙◌, subst, arith}
+use Rattle.c8_disk.specs.Disk.{overwritten, Only, LeavesOnly}
+use Rattle.c8_log.specs.Slots.{kept}
+use Rattle.c8_log.specs.Log.{has_closed_gate_at, IsUp, KeepsWithOrWithout}
+use Rattle.c8_log.specs.Written.{IsBeforeOrTorn}
+use Rattle.c8_log.proofs.Moments.{weaker, then_run}
+use Rattle.c8_log.proofs.Staged.{IsStaged, gate_there, staged, first_keeps, second_keeps, up_with_it}
+use Rattle.c8_log.proofs.append.add.Given.{Over}
+use Rattle.c8_log.proofs.append.add.Goals as goal
+
+on_ok_both : {T E P Q R : Type 0} (r : Result T E) → OnOk r P → OnOk r Q → (P → Q → R) → OnOk r R
+on_ok_both (Ok x) p q so = so p q
+on_ok_both (Err e) p q so = tt
+
+pub returns-in_err-write_and_sync-clause-any_moment : goal.returns-in_err-write_and_sync-clause-any_moment
+returns-in_err-write_and_sync-clause-any_moment g c =
+    let images = g.D.Disk.may_leave c.args.disk.now in
+    let old = g.D.Disk.seen c.args.disk.now in
+    let up = c.requires.up in
+    weaker g.D.Disk.moment g.D.Disk.left_since c.args.disk.now c.write_and_sync.new.disk (IsBeforeOrTorn (144 * c.args.count + 1) (length c.with_closed_gate.result) images)
+    (KeepsWithOrWithout (kept old) c.args.body.now) c.write_and_sync.ensures.any_moment (first_keeps images old c.args.count c.args.body.now up.count up.closed up.durable (length c.with_closed_gate.result))
+
+-- what stands on the disk after the first write
+abbrev staged_image : (g : Over) → goal.After-write_and_sync-2 g → List ℕ
+staged_image g c = overwritten (g.D.Disk.seen c.args.disk.now) (144 * c.args.count + 1) (c.args.body.now ++ 0 ∷ [])
+
+first_written : (g : Over) (c : goal.After-write_and_sync-2 g) → g.D.Disk.seen c.write_and_sync.new.disk ≡ staged_image g c
+first_written g c =
+    c.in_ok-write_and_sync.ensures.written ∙ ap (overwritten (g.D.Disk.seen c.args.disk.now) (144 * c.args.count + 1)) c.with_closed_gate.ensures
+
+behind : (g : Over) (c : goal.After-write_and_sync-2 g) → IsStaged (g.D.Disk.seen c.args.disk.now) c.args.count c.args.body.now (staged_image g c)
+behind g c =
+    let old = g.D.Disk.seen c.args.disk.now in
+    let there = gate_there old c.args.count (ap (λ (k : ℕ). has_closed_gate_at old k) c.requires.up.count ∙ c.requires.up.closed) in
+    staged old c.args.count c.args.body.now c.told-body (omega (arith, there))
+
+pub returns-clause-any_moment : goal.returns-clause-any_moment
+returns-clause-any_moment g c =
+    let images = g.D.Disk.may_leave c.args.disk.now in
+    let old = g.D.Disk.seen c.args.disk.now in
+    let n = c.args.count in
+    let body = c.args.body.now in
+    let up = c.requires.up in
+    let is = behind g c in
+    let written = first_written g c in
+    let first = weaker g.D.Disk.moment g.D.Disk.left_since c.args.disk.now c.write_and_sync.new.disk (IsBeforeOrTorn (144 * n + 1) (length c.with_closed_gate.result) images)
+    (KeepsWithOrWithout (kept old) body) c.write_and_sync.ensures.any_moment (first_keeps images old n body up.count up.closed up.durable (length c.with_closed_gate.result)) in
+    let later = g.D.Disk.may_leave c.write_and_sync.new.disk in
+    let only = subst (λ (l : List ℕ). Only l later) written c.in_ok-write_and_sync.ensures.durable in
+    let second = weaker g.D.Disk.moment g.D.Disk.left_since c.write_and_sync.new.disk c.write_and_sync-2.new.disk (IsBeforeOrTorn (144 * n) 1 later)
+    (KeepsWithOrWithout (kept old) body) c.write_and_sync-2.ensures.any_moment (second_keeps images old n body up.count up.closed up.durable (staged_image g c) is later only) in
+    then_run g.D.Disk.moment g.D.Disk.left_since c.args.disk.now c.write_and_sync.new.disk c.write_and_sync-2.new.disk (KeepsWithOrWithout (kept old) body) first second
+
+-- and after the second
+ended : (g : Over) (c : goal.After-write_and_sync-2 g)
+    → g.D.Disk.seen c.write_and_sync-2.new.disk ≡ overwritten (g.D.Disk.seen c.write_and_sync.new.disk) (144 * c.args.count) (0xa5 ∷ [])
+    → Only (g.D.Disk.seen c.write_and_sync-2.new.disk) (g.D.Disk.may_leave c.write_and_sync-2.new.disk)
+    → IsUp g.D.Disk.seen g.D.Disk.may_leave (record { disk = c.write_and_sync-2.new.disk; count = c.args.count + 1; down = false })
+    × (kept (g.D.Disk.seen c.write_and_sync-2.new.disk) ≡ kept (g.D.Disk.seen c.args.disk.now) ++ c.args.body.now ∷ [])
+ended g c holds only =
+    let up = c.requires.up in
+    up_with_it (g.D.Disk.may_leave c.args.disk.now) (g.D.Disk.seen c.args.disk.now) c.args.count c.args.body.now up.count up.closed up.durable (staged_image g c) (behind g c) g.D.Disk.seen g.D.Disk.may_leave c.write_and_sync-2.new.disk
+    (holds ∙ ap (λ (l : List ℕ). overwritten l (144 * c.args.count) (0xa5 ∷ [])) (first_written g c)) only c.requires.fits
+
+pub returns-clause-up : goal.returns-clause-up
+returns-clause-up g c = on_ok_both c.write_and_sync-2.result c.write_and_sync-2.ensures.written c.write_and_sync-2.ensures.durable (λ holds only. (ended g c holds only).0)
+
+pub returns-clause-kept : goal.returns-clause-kept
+returns-clause-kept g c = on_ok_both c.write_and_sync-2.result c.write_and_sync-2.ensures.written c.write_and_sync-2.ensures.durable (λ holds only. (ended g c holds only).1)

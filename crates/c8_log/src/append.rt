@@ -1,0 +1,37 @@
+// What an append does to a disk at rest.
+ghost use Rattle.std.specs.Prelude.{◌≡◌, ◌≤◌, ◌<◌, ◌+◌, ◌*◌, ◌^◌, ◌++◌, [], ◌∷◌, false, OnOk, IsErrOf, IsTrue, ◌↔◌};
+ghost use Rattle.c8_disk.specs.Disk.{LeavesOnly, HasCause};
+ghost use Rattle.c8_log.specs.Slots.{kept};
+ghost use Rattle.c8_log.specs.Log.{IsUp, KeepsWithOrWithout};
+
+use crate::slot::{BODY, OPEN, SLOT, with_closed_gate};
+use crate::write::write_and_sync;
+use c8_disk::{Disk, DiskError};
+
+/// Whether one slot more, and the gate behind it, fit.
+pub(crate) fn has_room(capacity: u32, count: u32) -> bool
+    ensures { IsTrue result ↔ (144 * (count + 1) + 1 ≤ capacity) }
+{
+    144 * (u64::from(count) + 1) < u64::from(capacity)
+}
+
+/// Writes a body behind the closed gate, and then opens the gate.
+pub(crate) fn add<D: Disk>(disk: &mut D, count: u32, body: &[u8; BODY]) -> Result<(), DiskError>
+    requires up { IsUp D.seen D.may_leave (record { disk = disk.old; count = count; down = false }) }
+    requires room { 144 * (count + 1) + 1 ≤ D.capacity disk.old }
+    requires fits { 144 * (count + 1) + 1 < 2 ^ 32 }
+
+    ensures up { OnOk result
+        (IsUp D.seen D.may_leave (record { disk = disk.new; count = count + 1; down = false })) }
+    ensures kept { OnOk result (kept (D.seen disk.new) ≡ kept (D.seen disk.old) ++ body.now ∷ []) }
+    ensures any_moment { LeavesOnly D.moment D.left_since disk.old disk.new
+        (KeepsWithOrWithout (kept (D.seen disk.old)) body.now) }
+    ensures cause { HasCause (D.failures disk.old) (D.failures disk.new) result }
+    ensures never_full { IsErrOf result DiskError.Full → ⊥ }
+    ensures changes { D.changes disk.new ≤ D.changes disk.old + 4 }
+    ensures capacity { D.capacity disk.new ≡ D.capacity disk.old }
+{
+    let gate = SLOT * count;
+    write_and_sync(disk, gate + 1, &with_closed_gate(body))?;
+    write_and_sync(disk, gate, &[OPEN])
+}
