@@ -1,7 +1,8 @@
 -- What an image keeps, by the number of its open slots.
-use Rattle.std.proofs.Common.{◌≡◌, ◌≢◌, ◌⊎◌, inl, inr, ◌<◌, ◌≤◌, ℕ, zero, suc, ◌+◌, ◌*◌, ◌-◌, min, nat_le, ◌==◌, ◌&&◌, not, Bool, true, false, List, [], ◌∷◌, ◌++◌, length, take, drop, get_or, slice_index, refl, sym, ◌∙◌, ap, subst, arith, length-append, length-take, length-drop}
-use Rattle.std.proofs.lemmas.Bool.{cases_Bool, cases_order, leb-true, eqb-true, eqb-false, le-leb, lt-leb, lt-ltb, eq-eqb, ne_eqb, and_parts, and_from, and_left, and_right, not-true, not-false, true≢false}
-use Rattle.std.proofs.lemmas.List.{get_or-take, drop-take, take-take, length_push}
+use Rattle.std.proofs.Common.{◌≡◌, ◌≢◌, ◌⊎◌, inl, inr, ◌<◌, ◌≤◌, ℕ, zero, suc, ◌+◌, ◌*◌, ◌-◌, min, nat_le, ◌==◌, ◌&&◌, not, Bool, true, false, List, [], ◌∷◌, ◌++◌, length, take, drop, get_or, slice_index, slice_get, Some, refl, sym, ◌∙◌, ap, subst, arith, length-append, length-take, length-drop}
+use Rattle.std.proofs.lemmas.Bool.{cases_Bool, cases_lt, cases_order, leb-true, eqb-true, eqb-false, le-leb, lt-leb, lt-ltb, eq-eqb, ne_eqb, and_parts, and_from, and_left, and_right, not-true, not-false, true≢false}
+use Rattle.std.proofs.lemmas.List.{get_or_append_left, get_or_push, drop-take, drop-drop, length_push}
+use Rattle.std.proofs.lemmas.Option.{slice_get-get_or, get_or_from_slice_get}
 use Rattle.c8_log.specs.Slots.{is_open, body_of, least, kept_count, first_bodies, kept, IsKept}
 use Rattle.c8_log.specs.Log.{has_closed_gate_at}
 use Rattle.c8_log.proofs.Least.{IsLeast, least_is}
@@ -77,3 +78,26 @@ only_kept image bodies is = is.same ∙ sym (kept_from image (length bodies) (re
 pub closed_here : (image : List ℕ) (n : ℕ) → 144 * n + 144 ≤ length image → is_open image n ≡ false → has_closed_gate_at image n ≡ true
 closed_here image n whole shut =
     and_from _ _ (lt-ltb _ _ (omega arith)) (ap not (ne_eqb _ _ (λ a5. both (opens image n whole a5) shut)))
+
+-- the kept bodies by number
+nth_body : (image : List ℕ) (n count : ℕ) → n < count → slice_get (first_bodies image count) n ≡ Some (body_of image n)
+nth_body image n zero lt = absurd (omega arith)
+nth_body image n (suc count) lt = elim (cases_lt n count) [
+  | inl below ↦
+      let size = length-first_bodies image count in
+      let here = slice_get-get_or (first_bodies image (suc count)) n [] (omega (arith, length-first_bodies image (suc count))) in
+      let there = get_or_append_left (first_bodies image count) (body_of image count ∷ []) [] n (omega (arith, size)) in
+      here ∙ ap Some (there ∙ get_or_from_slice_get (first_bodies image count) n (body_of image n) [] (nth_body image n count below))
+  | inr last ↦
+      let same : count ≡ n = omega arith in
+      let here = slice_get-get_or (first_bodies image (suc count)) n [] (omega (arith, length-first_bodies image (suc count))) in
+      here ∙ ap Some (get_or_push (first_bodies image count) (body_of image count) [] n (length-first_bodies image count ∙ same) ∙ ap (body_of image) same)
+]
+
+pub kept_at : (image : List ℕ) (n : ℕ) → n < kept_count image → slice_get (kept image) n ≡ Some (body_of image n)
+unfolding kept
+kept_at image n lt = nth_body image n (kept_count image) lt
+
+-- what a read of a slot leaves behind the gate
+pub body_read : (image : List ℕ) (n : ℕ) → drop 1 (take 144 (drop (144 * n) image)) ≡ body_of image n
+body_read image n = drop-take 1 143 (drop (144 * n) image) ∙ ap (λ (l : List ℕ). take 143 l) (drop-drop 1 (144 * n) image)

@@ -2,7 +2,7 @@
 use Rattle.std.proofs.Common.{◌≡◌, ◌≢◌, inl, inr, ◌<◌, ◌≤◌, ℕ, zero, suc, ◌+◌, ◌*◌, ◌^◌, nat_lt, not, Bool, true, false, List, [], ◌∷◌, length, drop, get_or, slice_index, refl, sym, ◌∙◌, ap, subst, arith}
 use Rattle.std.proofs.lemmas.Bool.{cases_Bool, and_from, lt-ltb, ltb-true, and_parts, eqb-false, not-true, ne_eqb, cond-true, cond-false}
 use Rattle.std.proofs.lemmas.List.{get_or-drop}
-use Rattle.c8_disk.specs.Disk.{overwritten, Torn, Only}
+use Rattle.c8_disk.specs.Disk.{overwritten, Torn, Only, AddsNone}
 use Rattle.c8_disk.proofs.Torn.{overwritten_rest, length-overwritten, overwritten_is_torn}
 use Rattle.c8_log.specs.Slots.{is_open, kept_count, kept}
 use Rattle.c8_log.specs.Log.{LogValue, has_closed_gate, has_closed_gate_at, repaired, IsUp, IsAtRest, AllKeep}
@@ -48,13 +48,23 @@ repairs image = elim (cases_Bool (has_closed_gate image)) [
 
 -- what was repaired is up
 pub up_from_repair : {D : Type 0} (seen : D → List ℕ) (may_leave : D → List ℕ → Type 0) (disk : D) (count : ℕ) (image : List ℕ) → seen disk ≡ repaired image → count ≡ kept_count image → Only (seen disk) (may_leave disk) → 144 * count < 2 ^ 32
-    → IsUp seen may_leave (record { disk = disk; count = count; down = false })
+    → IsUp seen may_leave disk count
 up_from_repair seen may_leave disk count image is counts only fits = record {
-  count = counts ∙ sym (repairs image).count ∙ sym (ap kept_count is);
+  count_is = counts ∙ sym (repairs image).count ∙ sym (ap kept_count is);
   closed = ap has_closed_gate is ∙ (repairs image).closed;
   durable = only;
   fits = omega (arith, fits);
 }
 
-pub rests : {D : Type 0} (seen : D → List ℕ) (may_leave : D → List ℕ → Type 0) (log : LogValue D) → IsUp seen may_leave log → IsAtRest seen may_leave log
-rests seen may_leave log up = record { count = up.count ∙ sym (length_of_kept (seen log.disk)); durable = λ image left. ap kept (up.durable image left) }
+pub rests : {D : Type 0} (seen : D → List ℕ) (may_leave : D → List ℕ → Type 0) (log : LogValue D) → IsUp seen may_leave log.disk log.count → IsAtRest seen may_leave log
+rests seen may_leave log up = record { count = up.count_is ∙ sym (length_of_kept (seen log.disk)); durable = λ image left. ap kept (up.durable image left) }
+
+-- and stays so while it is only read
+pub still_up : {D : Type 0} (seen : D → List ℕ) (may_leave : D → List ℕ → Type 0) (old new : D) (count : ℕ) → IsUp seen may_leave old count → seen new ≡ seen old → AddsNone (may_leave old) (may_leave new)
+    → IsUp seen may_leave new count
+still_up seen may_leave old new count up same none = record {
+  count_is = up.count_is ∙ sym (ap kept_count same);
+  closed = ap has_closed_gate same ∙ up.closed;
+  durable = λ image left. up.durable image (none image left) ∙ sym same;
+  fits = up.fits;
+}

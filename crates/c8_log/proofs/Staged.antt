@@ -83,7 +83,7 @@ module _ (images : List ℕ → Type 0) (old : List ℕ) (n : ℕ) (body : List 
         with_it old n front body written is.same is.there is.long is.next (overwritten written (144 * n) (0xa5 ∷ [])) (overwritten_is_torn written (144 * n) (0xa5 ∷ []) within) (overwritten_byte written (144 * n) 0xa5 within)
 
     pub up_with_it : {D : Type 0} (seen : D → List ℕ) (may_leave : D → List ℕ → Type 0) (disk : D) → seen disk ≡ overwritten written (144 * n) (0xa5 ∷ []) → Only (seen disk) (may_leave disk) → 144 * (n + 1) + 1 < 2 ^ 32
-        → IsUp seen may_leave (record { disk = disk; count = n + 1; down = false }) × (kept (seen disk) ≡ kept old ++ body ∷ [])
+        → IsUp seen may_leave disk (n + 1) × (kept (seen disk) ≡ kept old ++ body ∷ [])
     up_with_it seen may_leave disk holds only_now fits =
         let new = overwritten written (144 * n) (0xa5 ∷ []) in
         let within : 144 * n ≤ length written = omega (arith, is.long) in
@@ -92,6 +92,6 @@ module _ (images : List ℕ → Type 0) (old : List ℕ) (n : ℕ) (body : List 
         let there : 144 * suc n < length new = omega (arith, length-overwritten written (144 * n) (0xa5 ∷ []) within, is.long) in
         let shut : has_closed_gate new ≡ true = ap (has_closed_gate_at new) (sym counts_now ∙ sym next_is) ∙ closed_there new (suc n) there one_more.shut in
         (
-          record { count = counts_now ∙ sym (ap kept_count holds); closed = ap has_closed_gate holds ∙ shut; durable = only_now; fits = fits },
+          record { count_is = counts_now ∙ sym (ap kept_count holds); closed = ap has_closed_gate holds ∙ shut; durable = only_now; fits = fits },
           ap kept holds ∙ one_more.bodies,
         )

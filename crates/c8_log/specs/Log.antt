@@ -47,14 +47,14 @@ pub record IsAtRest {D : Type 0} (seen : D → List ℕ) (may_leave : D → List
   pub count : log.count ≡ length (kept (seen log.disk))
   pub durable : AllKeep (kept (seen log.disk)) (may_leave log.disk)
 
--- A log that is up: its count is that of a read's kept bodies, the gate behind them stands closed, and all of it is on
--- the disk.
-pub record IsUp {D : Type 0} (seen : D → List ℕ) (may_leave : D → List ℕ → Type 0) (log : LogValue D) : Type 0 where
-  pub count : log.count ≡ kept_count (seen log.disk)
-  pub closed : has_closed_gate (seen log.disk) ≡ true
-  pub durable : Only (seen log.disk) (may_leave log.disk)
-  pub fits : 144 * log.count + 1 < 2 ^ 32
+-- A disk under a log that is up: the log counts what a read's kept bodies are, the gate behind them stands closed, and
+-- all of it is on the disk.
+pub record IsUp {D : Type 0} (seen : D → List ℕ) (may_leave : D → List ℕ → Type 0) (disk : D) (count : ℕ) : Type 0 where
+  pub count_is : count ≡ kept_count (seen disk)
+  pub closed : has_closed_gate (seen disk) ≡ true
+  pub durable : Only (seen disk) (may_leave disk)
+  pub fits : 144 * count + 1 < 2 ^ 32
 
 -- what every log is
 abbrev pub IsLog : {D : Type 0} → (D → List ℕ) → (D → List ℕ → Type 0) → LogValue D → Type 0
-IsLog seen may_leave log = log.down ≡ false → IsUp seen may_leave log
+IsLog seen may_leave log = log.down ≡ false → IsUp seen may_leave log.disk log.count

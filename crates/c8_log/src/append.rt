@@ -1,5 +1,5 @@
 // What an append does to a disk at rest.
-ghost use Rattle.std.specs.Prelude.{◌≡◌, ◌≤◌, ◌<◌, ◌+◌, ◌*◌, ◌^◌, ◌++◌, [], ◌∷◌, false, OnOk, IsErrOf, IsTrue, ◌↔◌};
+ghost use Rattle.std.specs.Prelude.{◌≡◌, ◌≤◌, ◌<◌, ◌+◌, ◌*◌, ◌^◌, ◌++◌, [], ◌∷◌, OnOk, IsErrOf, IsTrue, ◌↔◌};
 ghost use Rattle.c8_disk.specs.Disk.{LeavesOnly, HasCause};
 ghost use Rattle.c8_log.specs.Slots.{kept};
 ghost use Rattle.c8_log.specs.Log.{IsUp, KeepsWithOrWithout};
@@ -17,12 +17,11 @@ pub(crate) fn has_room(capacity: u32, count: u32) -> bool
 
 /// Writes a body behind the closed gate, and then opens the gate.
 pub(crate) fn add<D: Disk>(disk: &mut D, count: u32, body: &[u8; BODY]) -> Result<(), DiskError>
-    requires up { IsUp D.seen D.may_leave (record { disk = disk.old; count = count; down = false }) }
+    requires up { IsUp D.seen D.may_leave disk.old count }
     requires room { 144 * (count + 1) + 1 ≤ D.capacity disk.old }
     requires fits { 144 * (count + 1) + 1 < 2 ^ 32 }
 
-    ensures up { OnOk result
-        (IsUp D.seen D.may_leave (record { disk = disk.new; count = count + 1; down = false })) }
+    ensures up { OnOk result (IsUp D.seen D.may_leave disk.new (count + 1)) }
     ensures kept { OnOk result (kept (D.seen disk.new) ≡ kept (D.seen disk.old) ++ body.now ∷ []) }
     ensures any_moment { LeavesOnly D.moment D.left_since disk.old disk.new
         (KeepsWithOrWithout (kept (D.seen disk.old)) body.now) }

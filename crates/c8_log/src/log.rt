@@ -1,5 +1,5 @@
 // The log, over a disk that it owns.
-ghost use Rattle.std.specs.Prelude.{◌≡◌, ◌≢◌, ◌<◌, ◌≤◌, ◌+◌, ◌*◌, ◌^◌, ◌++◌, [], ◌∷◌, ◌↔◌, true, false, length, slice_get, IfOk, OnOk, IfErr, OnErr, IsErrOf};
+ghost use Rattle.std.specs.Prelude.{◌≡◌, ◌≢◌, ◌<◌, ◌≤◌, ◌+◌, ◌*◌, ◌^◌, ◌++◌, [], ◌∷◌, ◌↔◌, true, false, length, slice_get, Some, IfOk, OnOk, IfErr, OnErr, IsErrOf};
 ghost use Rattle.c8_disk.specs.Disk.{LeavesOnly, AddsNone};
 ghost use Rattle.c8_log.specs.Slots.{kept, kept_count};
 
@@ -117,6 +117,38 @@ impl<D: Disk> Log<D> {
         self.count = count + 1;
         self.down = false;
         Ok(count)
+    }
+
+    /// Reads body `n` into the block, and lends it. After an error the log is down.
+    pub fn read<'b>(&mut self, n: u32, block: &'b mut Block) -> Result<Slot<'b>, LogError>
+        requires { n < self.old.count }
+
+        ensures body { IfOk result (λ slot. slice_get (kept (D.seen self.old.disk)) n ≡ Some slot.body.now) }
+        ensures ok { OnOk result (self.new ≡ record self.old { disk = self.new.disk }) }
+        ensures seen { D.seen self.new.disk ≡ D.seen self.old.disk }
+        ensures at_rest { OnOk result (IsAtRest D.seen D.may_leave self.new) }
+
+        // A crash at any moment of the call leaves what a crash before it could have left.
+        ensures any_moment { LeavesOnly D.moment D.left_since self.old.disk self.new.disk (D.may_leave self.old.disk) }
+
+        // When each error comes, and what it leaves.
+        ensures down { IsErrOf result LogError.Down ↔ (self.old.down ≡ true) }
+        ensures down_leaves { IsErrOf result LogError.Down → self.new ≡ self.old }
+        ensures never_full { IsErrOf result LogError.Full → ⊥ }
+        ensures failed { IsErrOf result LogError.Failed → D.failures self.old.disk < D.failures self.new.disk }
+        ensures err { OnErr result (self.new ≡ record self.old { disk = self.new.disk; down = true }) }
+
+        ensures no_fewer { D.failures self.old.disk ≤ D.failures self.new.disk }
+        ensures changes { D.changes self.new.disk ≡ D.changes self.old.disk }
+        ensures capacity { D.capacity self.new.disk ≡ D.capacity self.old.disk }
+    {
+        if self.down {
+            return Err(LogError::Down);
+        }
+        self.down = true;
+        self.disk.read_at(SLOT * n, &mut block.bytes)?;
+        self.down = false;
+        Ok(Slot { body: block.body() })
     }
 
     /// Says when the disk's calls fail from now on.

@@ -1,5 +1,5 @@
 // What an opening does to a disk: a sync, the search for the end, and the repair of the gate there.
-ghost use Rattle.std.specs.Prelude.{◌≡◌, ◌<◌, ◌≤◌, ◌+◌, ◌*◌, ◌^◌, false, length, IfOk, OnOk, IsErrOf};
+ghost use Rattle.std.specs.Prelude.{◌≡◌, ◌<◌, ◌≤◌, ◌+◌, ◌*◌, ◌^◌, length, IfOk, OnOk, IsErrOf};
 ghost use Rattle.c8_disk.specs.Disk.{Only, LeavesOnly, HasCause};
 ghost use Rattle.c8_log.specs.Slots.{kept, kept_count};
 ghost use Rattle.c8_log.specs.Log.{IsUp, KeepsOneOf, has_closed_gate, repaired};
@@ -11,8 +11,7 @@ use c8_disk::{Disk, DiskError};
 
 /// Brings a disk to rest, and counts the slots that it keeps.
 pub(crate) fn settle<D: Disk>(disk: &mut D) -> Result<u32, DiskError>
-    ensures up { IfOk result (λ count.
-        IsUp D.seen D.may_leave (record { disk = disk.new; count = count; down = false })) }
+    ensures up { IfOk result (IsUp D.seen D.may_leave disk.new) }
     ensures repaired { OnOk result (D.seen disk.new ≡ repaired (D.seen disk.old)) }
     ensures any_moment { LeavesOnly D.moment D.left_since disk.old disk.new (KeepsOneOf (D.may_leave disk.old)) }
     ensures kept { kept (D.seen disk.new) ≡ kept (D.seen disk.old) }

@@ -1,5 +1,5 @@
 // A slot: a gate, and a body behind it.
-ghost use Rattle.std.specs.Prelude.{◌≡◌, [], ◌∷◌, ◌++◌};
+ghost use Rattle.std.specs.Prelude.{◌≡◌, [], ◌∷◌, ◌++◌, drop};
 
 /// The bytes of a body.
 pub const BODY: usize = 143;
@@ -19,8 +19,19 @@ pub struct Block {
 }
 
 impl Block {
+    /// An empty one.
     pub fn new() -> Block {
         Block { bytes: [0; 144] }
+    }
+
+    /// What stands behind the gate.
+    pub(crate) fn body(&self) -> &[u8; BODY]
+        ensures { result.now ≡ drop 1 self.now.bytes }
+    {
+        match self.bytes.split_last_chunk() {
+            Some((_, body)) => body,
+            None => unreachable!(),
+        }
     }
 }
 

@@ -18,7 +18,7 @@ returns-in_err-write_and_sync-clause-any_moment g c =
     let old = g.D.Disk.seen c.args.disk.now in
     let up = c.requires.up in
     weaker g.D.Disk.moment g.D.Disk.left_since c.args.disk.now c.write_and_sync.new.disk (IsBeforeOrTorn (144 * c.args.count + 1) (length c.with_closed_gate.result) images)
-    (KeepsWithOrWithout (kept old) c.args.body.now) c.write_and_sync.ensures.any_moment (first_keeps images old c.args.count c.args.body.now up.count up.closed up.durable (length c.with_closed_gate.result))
+    (KeepsWithOrWithout (kept old) c.args.body.now) c.write_and_sync.ensures.any_moment (first_keeps images old c.args.count c.args.body.now up.count_is up.closed up.durable (length c.with_closed_gate.result))
 
 -- what stands on the disk after the first write
 abbrev staged_image : (g : Over) → goal.After-write_and_sync-2 g → List ℕ
@@ -31,7 +31,7 @@ first_written g c =
 behind : (g : Over) (c : goal.After-write_and_sync-2 g) → IsStaged (g.D.Disk.seen c.args.disk.now) c.args.count c.args.body.now (staged_image g c)
 behind g c =
     let old = g.D.Disk.seen c.args.disk.now in
-    let there = gate_there old c.args.count (ap (λ (k : ℕ). has_closed_gate_at old k) c.requires.up.count ∙ c.requires.up.closed) in
+    let there = gate_there old c.args.count (ap (λ (k : ℕ). has_closed_gate_at old k) c.requires.up.count_is ∙ c.requires.up.closed) in
     staged old c.args.count c.args.body.now c.told-body (omega (arith, there))
 
 pub returns-clause-any_moment : goal.returns-clause-any_moment
@@ -44,22 +44,22 @@ returns-clause-any_moment g c =
     let is = behind g c in
     let written = first_written g c in
     let first = weaker g.D.Disk.moment g.D.Disk.left_since c.args.disk.now c.write_and_sync.new.disk (IsBeforeOrTorn (144 * n + 1) (length c.with_closed_gate.result) images)
-    (KeepsWithOrWithout (kept old) body) c.write_and_sync.ensures.any_moment (first_keeps images old n body up.count up.closed up.durable (length c.with_closed_gate.result)) in
+    (KeepsWithOrWithout (kept old) body) c.write_and_sync.ensures.any_moment (first_keeps images old n body up.count_is up.closed up.durable (length c.with_closed_gate.result)) in
     let later = g.D.Disk.may_leave c.write_and_sync.new.disk in
     let only = subst (λ (l : List ℕ). Only l later) written c.in_ok-write_and_sync.ensures.durable in
     let second = weaker g.D.Disk.moment g.D.Disk.left_since c.write_and_sync.new.disk c.write_and_sync-2.new.disk (IsBeforeOrTorn (144 * n) 1 later)
-    (KeepsWithOrWithout (kept old) body) c.write_and_sync-2.ensures.any_moment (second_keeps images old n body up.count up.closed up.durable (staged_image g c) is later only) in
+    (KeepsWithOrWithout (kept old) body) c.write_and_sync-2.ensures.any_moment (second_keeps images old n body up.count_is up.closed up.durable (staged_image g c) is later only) in
     then_run g.D.Disk.moment g.D.Disk.left_since c.args.disk.now c.write_and_sync.new.disk c.write_and_sync-2.new.disk (KeepsWithOrWithout (kept old) body) first second
 
 -- and after the second
 ended : (g : Over) (c : goal.After-write_and_sync-2 g)
     → g.D.Disk.seen c.write_and_sync-2.new.disk ≡ overwritten (g.D.Disk.seen c.write_and_sync.new.disk) (144 * c.args.count) (0xa5 ∷ [])
     → Only (g.D.Disk.seen c.write_and_sync-2.new.disk) (g.D.Disk.may_leave c.write_and_sync-2.new.disk)
-    → IsUp g.D.Disk.seen g.D.Disk.may_leave (record { disk = c.write_and_sync-2.new.disk; count = c.args.count + 1; down = false })
+    → IsUp g.D.Disk.seen g.D.Disk.may_leave c.write_and_sync-2.new.disk (c.args.count + 1)
     × (kept (g.D.Disk.seen c.write_and_sync-2.new.disk) ≡ kept (g.D.Disk.seen c.args.disk.now) ++ c.args.body.now ∷ [])
 ended g c holds only =
     let up = c.requires.up in
-    up_with_it (g.D.Disk.may_leave c.args.disk.now) (g.D.Disk.seen c.args.disk.now) c.args.count c.args.body.now up.count up.closed up.durable (staged_image g c) (behind g c) g.D.Disk.seen g.D.Disk.may_leave c.write_and_sync-2.new.disk
+    up_with_it (g.D.Disk.may_leave c.args.disk.now) (g.D.Disk.seen c.args.disk.now) c.args.count c.args.body.now up.count_is up.closed up.durable (staged_image g c) (behind g c) g.D.Disk.seen g.D.Disk.may_leave c.write_and_sync-2.new.disk
     (holds ∙ ap (λ (l : List ℕ). overwritten l (144 * c.args.count) (0xa5 ∷ [])) (first_written g c)) only c.requires.fits
 
 pub returns-clause-up : goal.returns-clause-up
