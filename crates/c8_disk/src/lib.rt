@@ -4,5 +4,6 @@
 #![tactic(auto)]
 
 mod disk;
+mod trace;
 
 pub use disk::{Arm, Disk, DiskError};
