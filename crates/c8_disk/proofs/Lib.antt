@@ -1,2 +1,3 @@
-pub mod Torn
+mod Past
+mod Tear
 mod Walks

@@ -3,6 +3,9 @@
 //! [`Disk`] says what a read gives and what a crash may leave.
 #![tactic(auto)]
 
+mod budget;
+mod bytes;
+mod call;
 mod disk;
 mod trace;
 

@@ -3,7 +3,7 @@ use Rattle.std.proofs.Common.{◌≡◌, ◌≢◌, ◌⊎◌, inl, inr, ◌<◌
 use Rattle.std.proofs.lemmas.Bool.{cases_eq, cases_lt}
 use Rattle.std.proofs.lemmas.List.{get_or-take, get_or-drop, get_or_append_left, get_or_at, drop-take, take-take, take_at, append_assoc}
 use Rattle.c8_disk.specs.Disk.{overwritten, Torn}
-use Rattle.c8_disk.proofs.Torn.{overwritten_front, overwritten_rest, length-overwritten, overwritten_is_torn}
+use Rattle.c8_disk.specs.TornLaws.{overwritten_front, overwritten_rest, length-overwritten, overwritten_is_torn}
 use Rattle.c8_log.specs.Slots.{is_open, body_of, first_bodies, kept, kept_count}
 use Rattle.c8_log.specs.Log.{has_closed_gate, has_closed_gate_at, repaired}
 use Rattle.c8_log.proofs.Kept.{IsFront, whole, gate, opens, shut_by_gate, shut_by_end, kept_from, both, closed_here, front_of}

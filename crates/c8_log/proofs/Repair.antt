@@ -3,7 +3,7 @@ use Rattle.std.proofs.Common.{◌≡◌, ◌≢◌, inl, inr, ◌<◌, ◌≤◌
 use Rattle.std.proofs.lemmas.Bool.{cases_Bool, and_from, lt-ltb, ltb-true, and_parts, eqb-false, not-true, ne_eqb, cond-true, cond-false}
 use Rattle.std.proofs.lemmas.List.{get_or-drop}
 use Rattle.c8_disk.specs.Disk.{overwritten, Torn, Only, AddsNone}
-use Rattle.c8_disk.proofs.Torn.{overwritten_rest, length-overwritten, overwritten_is_torn}
+use Rattle.c8_disk.specs.TornLaws.{overwritten_rest, length-overwritten, overwritten_is_torn}
 use Rattle.c8_log.specs.Slots.{is_open, kept_count, kept}
 use Rattle.c8_log.specs.Log.{LogValue, has_closed_gate, has_closed_gate_at, repaired, IsUp, IsAtRest, AllKeep}
 use Rattle.c8_log.proofs.Kept.{IsFront, front_of, whole, length-kept}

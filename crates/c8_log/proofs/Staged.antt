@@ -3,7 +3,7 @@ use Rattle.std.proofs.Common.{◌≡◌, ◌≢◌, ◌⊎◌, inl, inr, ⊎_eli
 use Rattle.std.proofs.lemmas.Bool.{and_from, and_parts, lt-ltb, ltb-true, eqb-false, not-true, ne_eqb, eq-eqb, true≢false}
 use Rattle.std.proofs.lemmas.List.{get_or-drop, get_or_at, take_at, take-take}
 use Rattle.c8_disk.specs.Disk.{overwritten, Torn, Only}
-use Rattle.c8_disk.proofs.Torn.{overwritten_front, overwritten_rest, length-overwritten, overwritten_is_torn, untouched}
+use Rattle.c8_disk.specs.TornLaws.{overwritten_front, overwritten_rest, length-overwritten, overwritten_is_torn, untouched}
 use Rattle.c8_log.specs.Slots.{body_of, kept_count, kept}
 use Rattle.c8_log.specs.Log.{LogValue, has_closed_gate, has_closed_gate_at, IsUp, KeepsWithOrWithout}
 use Rattle.c8_log.specs.Written.{IsBeforeOrTorn}

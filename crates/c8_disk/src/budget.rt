@@ -1,0 +1,37 @@
+// How long a disk in memory serves.
+ghost use Rattle.std.specs.Prelude.{◌≡◌, ◌+◌, ◌↔◌, true, length, OnOk, OnErr, IsErrOf};
+
+use crate::trace::Trace;
+use crate::{Arm, DiskError};
+
+/// The calls that it still serves, and when it stops before that.
+#[derive(Drop)]
+pub(crate) struct Budget {
+    pub(crate) calls: u32,
+    pub(crate) arm: Arm,
+    pub(crate) failures: Trace<()>,
+}
+
+impl Budget {
+    ghost use Rattle.c8_disk.specs.Budget.{is_spent, stepped};
+
+    /// One call: it is served, or it fails and counts for nothing.
+    pub(crate) fn spend(&mut self) -> Result<(), DiskError>
+        ensures failed { IsErrOf result DiskError.Failed ↔ (is_spent self.old ≡ true) }
+        ensures never_full { IsErrOf result DiskError.Full → ⊥ }
+        ensures served { OnOk result ((self.new.calls + 1 ≡ self.old.calls) × (self.new.arm ≡ stepped self.old.arm)
+            × (self.new.failures ≡ self.old.failures)) }
+        ensures refused { OnErr result ((self.new.calls ≡ self.old.calls) × (self.new.arm ≡ self.old.arm)
+            × (length self.new.failures.items ≡ length self.old.failures.items + 1)) }
+    {
+        if self.calls == 0 || self.arm == Arm::Stop(0) {
+            self.failures = self.failures.and(&());
+            return Err(DiskError::Failed);
+        }
+        self.calls -= 1;
+        if let Arm::Stop(left) = self.arm {
+            self.arm = Arm::Stop(left - 1);
+        }
+        Ok(())
+    }
+}

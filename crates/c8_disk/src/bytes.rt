@@ -1,0 +1,74 @@
+// Writes to bytes in memory, whole or torn, in room that was reserved.
+ghost use Rattle.std.specs.Prelude.{◌≡◌, ◌≤◌, ◌<◌, ◌+◌, ◌++◌, length, vec_len, vec_capacity};
+ghost use Rattle.c8_disk.specs.Disk.{overwritten, Torn};
+
+use rand_pcg::Pcg32;
+use rand_pcg::rand_core::utils::NextWord;
+
+/// Adds bytes at the end.
+fn extend_reserved(file: &mut Vec<u8>, bytes: &[u8])
+    requires { vec_len file.old + length bytes.now ≤ vec_capacity file.old }
+    ensures items { file.new.items ≡ file.old.items ++ bytes.now }
+    ensures capacity { vec_capacity file.old ≤ vec_capacity file.new }
+{
+    let _extended = file.extend_from_slice(bytes);
+}
+
+/// Puts other bytes in the place of all that is there.
+pub(crate) fn replace(file: &mut Vec<u8>, bytes: &[u8])
+    requires { length bytes.now ≤ vec_capacity file.old }
+    ensures items { file.new.items ≡ bytes.now }
+    ensures capacity { vec_capacity file.old ≤ vec_capacity file.new }
+{
+    file.clear();
+    extend_reserved(file, bytes);
+}
+
+/// Writes over what is there, and past the end.
+pub(crate) fn overwrite(file: &mut Vec<u8>, at: usize, bytes: &[u8])
+    requires place { at ≤ vec_len file.old }
+    requires room { at + length bytes.now ≤ vec_capacity file.old }
+    ensures written { file.new.items ≡ overwritten file.old.items at bytes.now }
+    ensures capacity { vec_capacity file.old ≤ vec_capacity file.new }
+{
+    let within = bytes.len().min(file.len() - at);
+    let (over, past) = bytes.split_at(within);
+    file[at..at + within].copy_from_slice(over);
+    extend_reserved(file, past);
+}
+
+/// Writes one byte over what is there, or at the end.
+fn put(file: &mut Vec<u8>, at: usize, byte: u8)
+    requires place { at ≤ vec_len file.old }
+    requires room { at < vec_capacity file.old }
+    ensures torn { Torn at 1 file.old.items file.new.items }
+    ensures there { at < vec_len file.new }
+    ensures capacity { vec_capacity file.old ≤ vec_capacity file.new }
+{
+    if at < file.len() {
+        file[at] = byte;
+    } else {
+        extend_reserved(file, &[byte]);
+    }
+}
+
+/// Writes as a crash may leave it: the first of the bytes, as many as it chooses, each as it was to be or as any other.
+pub(crate) fn tear(file: &mut Vec<u8>, at: usize, bytes: &[u8], choices: &mut Pcg32)
+    requires { at + length bytes.now ≤ vec_capacity file.old }
+    ensures torn { Torn at (length bytes.now) file.old.items file.new.items }
+    ensures capacity { vec_capacity file.old ≤ vec_capacity file.new }
+{
+    if at > file.len() {
+        return;
+    }
+    let reach = choices.next_word() as usize % (2 * bytes.len() + 1);
+    for (i, byte) in bytes.iter().enumerate() {
+        if i >= reach {
+            return;
+        }
+        let choice = choices.next_word();
+        let any = (choice >> 24) as u8;
+        let left = if choice % 2 == 0 { *byte } else { any };
+        put(file, at + i, left);
+    }
+}
