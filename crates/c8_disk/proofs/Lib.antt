@@ -1,3 +1,4 @@
+mod Calls
 mod Past
 mod Tear
 mod Walks

@@ -43,3 +43,20 @@ are_lawful bytes [] = true
 are_lawful bytes (Write at count written ∷ calls) =
     nat_le at (length bytes) && nat_le count (length written) && are_lawful (overwritten bytes at (take count written)) calls
 are_lawful bytes (Sync ∷ calls) = are_lawful bytes calls
+
+-- each write has at most 144 bytes, and ends within the capacity
+abbrev pub fit : ℕ → List Call → Bool
+fit capacity [] = true
+fit capacity (Write at count written ∷ calls) = nat_le count 144 && nat_le (at + count) capacity && fit capacity calls
+fit capacity (Sync ∷ calls) = fit capacity calls
+
+-- the call writes these bytes at this place
+abbrev pub IsWriteOf : ℕ → List ℕ → Call → Type 0
+IsWriteOf at bytes (Write place count written) = (place ≡ at) × (count ≡ length bytes) × (take count written ≡ bytes)
+IsWriteOf at bytes Sync = ⊥
+
+-- the new bytes are the old ones after the torn writes
+abbrev pub TornBy : List Call → List ℕ → List ℕ → Type 0
+TornBy [] old new = new ≡ old
+TornBy (Write at count written ∷ calls) old new = (next : List ℕ) × Torn at count old next × TornBy calls next new
+TornBy (Sync ∷ calls) old new = TornBy calls old new
