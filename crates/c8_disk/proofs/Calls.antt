@@ -5,7 +5,7 @@ use Rattle.std.proofs.lemmas.List.{drop_more, take_more}
 use Rattle.c8_disk.specs.Disk.{overwritten, Torn}
 use Rattle.c8_disk.specs.Past.{content, Leaves, IsImage, synced_count, synced, are_lawful, fit, IsWriteOf, TornBy}
 use Rattle.c8_disk.specs.PastLaws.{reads}
-use Rattle.c8_disk.specs.TornLaws.{untouched}
+use Rattle.c8_disk.specs.TornLaws.{untouched, length-overwritten}
 use Rattle.c8_disk.proofs.Past.{join_leaves}
 use Rattle.c8_disk.specs.declared.call.Call.{Call}
 use Rattle.c8_disk.specs.declared.call.Call.TheVariants.{Write, Sync}
@@ -134,3 +134,40 @@ module _ (first : List ℕ) (calls : List Call) (lawful : are_lawful first calls
 
   pub synced_is_image : IsImage first calls (synced first calls)
   synced_is_image = torn_is_image (synced first calls) (untorn (drop (synced_count calls) calls) (synced first calls))
+
+pub synced_within : (calls : List Call) → synced_count calls ≤ length calls
+synced_within [] = omega arith
+synced_within (Write at count written ∷ calls) = elim (cases_Bool (nat_lt 0 (synced_count calls))) [
+  | inl some ↦ let is = cond-true (nat_lt 0 (synced_count calls)) (suc (synced_count calls)) 0 some in omega (arith, is, synced_within calls)
+  | inr nothing ↦ let is = cond-false (nat_lt 0 (synced_count calls)) (suc (synced_count calls)) 0 nothing in omega (arith, is)
+]
+synced_within (Sync ∷ calls) = omega (arith, synced_within calls)
+
+fit_parts : (capacity : ℕ) (xs ys : List Call) → fit capacity (xs ++ ys) ≡ true → (fit capacity xs ≡ true) × (fit capacity ys ≡ true)
+fit_parts capacity [] ys fits = (refl, fits)
+fit_parts capacity (Write at count written ∷ xs) ys fits =
+    let parts = and_parts (nat_le count 144 && nat_le (at + count) capacity) (fit capacity (xs ++ ys)) fits in
+    let others = fit_parts capacity xs ys parts.1 in
+    (and_from _ _ parts.0 others.0, others.1)
+fit_parts capacity (Sync ∷ xs) ys fits = fit_parts capacity xs ys fits
+
+pub fit_front : (capacity n : ℕ) (calls : List Call) → fit capacity calls ≡ true → fit capacity (take n calls) ≡ true
+fit_front capacity n calls fits = (fit_parts capacity (take n calls) (drop n calls) (ap (fit capacity) (take-append-drop n calls) ∙ fits)).0
+
+pub fit_back : (capacity n : ℕ) (calls : List Call) → fit capacity calls ≡ true → fit capacity (drop n calls) ≡ true
+fit_back capacity n calls fits = (fit_parts capacity (take n calls) (drop n calls) (ap (fit capacity) (take-append-drop n calls) ∙ fits)).1
+
+-- no image is longer than what a read gives
+leaves_within : (images : List ℕ → Type 0) (bytes : List ℕ) (calls : List Call) (image : List ℕ) → are_lawful bytes calls ≡ true → ((l : List ℕ) → images l → length l ≤ length bytes) → Leaves images bytes calls image → length image ≤ length (content bytes calls)
+leaves_within images bytes [] image lawful within left = within image left
+leaves_within images bytes (Write at count written ∷ calls) image lawful within left =
+    let parts = and_parts (nat_le at (length bytes) && nat_le count (length written)) (are_lawful (overwritten bytes at (take count written)) calls) lawful in
+    let places = and_parts (nat_le at (length bytes)) (nat_le count (length written)) parts.0 in
+    let size : length (take count written) ≡ count = length-take-le count written (leb-true _ _ places.1) in
+    let grown = length-overwritten bytes at (take count written) (leb-true _ _ places.0) in
+    leaves_within _ (overwritten bytes at (take count written)) calls image parts.1 (λ l torn. let less = within torn.0 torn.1 in let longest = torn.2.no_longer in omega (arith, less, longest, grown, size)) left
+leaves_within images bytes (Sync ∷ calls) image lawful within left =
+    leaves_within _ bytes calls image lawful (λ l is. let same = ap length is in omega (arith, same)) left
+
+pub image_within : (first : List ℕ) (calls : List Call) (image : List ℕ) → are_lawful first calls ≡ true → IsImage first calls image → length image ≤ length (content first calls)
+image_within first calls image lawful left = leaves_within _ first calls image lawful (λ l is. let same = ap length is in omega (arith, same)) left

@@ -19,6 +19,9 @@ reads images bytes (Write at count written ∷ calls) lawful here =
     reads _ (overwritten bytes at (take count written)) calls parts.1 (bytes, here, subst (λ (n : ℕ). Torn at n bytes (overwritten bytes at (take count written))) size torn)
 reads images bytes (Sync ∷ calls) lawful here = reads _ bytes calls lawful refl
 
+pub reads_image : (first : List ℕ) (calls : List Call) (bytes : List ℕ) → are_lawful first calls ≡ true → bytes ≡ content first calls → IsImage first calls bytes
+reads_image first calls bytes lawful same = subst (IsImage first calls) (sym same) (reads (λ image. image ≡ first) first calls lawful refl)
+
 -- the moments since t
 pub counts : (first : List ℕ) (calls : List Call) (t : ℕ) (image : List ℕ) → t ≤ length calls → IsImage first calls image → LeftSince first calls t image
 counts first calls t image le left =

@@ -7,6 +7,8 @@ mod budget;
 mod bytes;
 mod call;
 mod disk;
+mod memory;
 mod trace;
 
 pub use disk::{Arm, Disk, DiskError};
+pub use memory::MemDisk;

@@ -1,0 +1,13 @@
+use Rattle.std.proofs.Common.{vec_capacity, ◌∙◌, ap}
+use Rattle.c8_disk.specs.Past.{fit}
+use Rattle.c8_disk.proofs.Calls.{fit_more}
+use Rattle.c8_disk.proofs.memory.MemDisk.crash.Goals as goal
+
+pub leave_image-requires-clause-fits_first : goal.leave_image-requires-clause-fits_first
+leave_image-requires-clause-fits_first c =
+    let d = c.args.self in ap (fit (vec_capacity d.first)) c.deref.ensures.value ∙ fit_more d.room (vec_capacity d.first) d.calls.items d.first_room d.fitting
+
+pub leave_image-requires-clause-fits_bytes : goal.leave_image-requires-clause-fits_bytes
+leave_image-requires-clause-fits_bytes c =
+    let d = c.args.self in ap (fit (vec_capacity d.bytes)) c.deref.ensures.value ∙ fit_more d.room (vec_capacity d.bytes) d.calls.items d.bytes_room d.fitting
+

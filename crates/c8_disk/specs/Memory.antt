@@ -1,0 +1,36 @@
+-- What a disk in memory shows.
+use Rattle.std.specs.Prelude.{ℕ, List, length}
+use Rattle.c8_disk.specs.declared.disk.Arm.{Arm}
+use Rattle.c8_disk.specs.declared.memory.MemDisk.{MemDisk}
+use Rattle.c8_disk.specs.Past.{IsImage, synced}
+
+-- what a read gives
+abbrev pub bytes_of : MemDisk → List ℕ
+bytes_of disk = disk.bytes.items
+
+-- the images that a crash now may leave
+abbrev pub images_of : MemDisk → List ℕ → Type 0
+images_of disk = IsImage disk.first.items disk.calls.items
+
+-- what was last synced
+abbrev pub synced_of : MemDisk → List ℕ
+synced_of disk = synced disk.first.items disk.calls.items
+
+abbrev pub room_of : MemDisk → ℕ
+room_of disk = disk.room
+
+-- how many calls it still serves, and how many after a crash
+abbrev pub calls_left : MemDisk → ℕ
+calls_left disk = disk.budget.calls
+
+abbrev pub calls_allowed : MemDisk → ℕ
+calls_allowed disk = disk.allowed
+
+abbrev pub arm_of : MemDisk → Arm
+arm_of disk = disk.budget.arm
+
+abbrev pub failures_of : MemDisk → ℕ
+failures_of disk = length disk.budget.failures.items
+
+abbrev pub changes_of : MemDisk → ℕ
+changes_of disk = length disk.asked.items

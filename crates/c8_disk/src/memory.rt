@@ -1,0 +1,220 @@
+// A disk in memory that can stop and crash.
+ghost use Rattle.std.specs.Prelude.{◌≡◌, ◌≤◌, ◌<◌, ◌+◌, ◌^◌, ◌&&◌, ◌↔◌, not, nat_lt, true, [], ◌∷◌, ◌++◌, length, vec_len, vec_capacity, IfOk, IsErrOf, refl};
+ghost use Rattle.c8_disk.specs.Disk.{Only, AddsNone};
+ghost use Rattle.c8_disk.specs.Past.{content, synced, are_lawful, fit, IsImage, LeftSince};
+ghost use Rattle.c8_disk.specs.PastLaws.{reads_image, counts, only};
+
+use crate::budget::Budget;
+use crate::bytes::{overwrite, replace};
+use crate::call::{Call, count_synced, replay, tear_all, write_call};
+use crate::trace::Trace;
+use crate::{Arm, Disk, DiskError};
+use rand_pcg::Pcg32;
+use rand_pcg::rand_core::SeedableRng;
+use std::alloc::{AllocError, Global};
+
+/// A disk in memory. It serves so many calls that read, write or sync, and then fails; it keeps what it held at first and
+/// each call that changed it, so that a crash may leave whatever the model allows. All its room is reserved when it is
+/// made.
+#[derive(Drop)]
+pub struct MemDisk {
+    first: Vec<u8>,
+    bytes: Vec<u8>,
+    calls: Vec<Call>,
+    room: u32,
+    allowed: u32,
+    budget: Budget,
+    asked: Trace<()>,
+    ghost room_fits: { room < 2 ^ 32 },
+    ghost lawful: { are_lawful first.items calls.items ≡ true },
+    ghost replayed: { bytes.items ≡ content first.items calls.items },
+    ghost fitting: { fit room calls.items ≡ true },
+    ghost first_within: { vec_len first ≤ room },
+    ghost bytes_within: { vec_len bytes ≤ room },
+    ghost first_room: { room ≤ vec_capacity first },
+    ghost bytes_room: { room ≤ vec_capacity bytes },
+    ghost calls_left: { vec_len calls + budget.calls ≤ allowed },
+    ghost calls_room: { allowed ≤ vec_capacity calls },
+}
+
+/// Notes a call, in room that was reserved.
+fn note(calls: &mut Vec<Call>, call: Call)
+    requires { vec_len calls.old < vec_capacity calls.old }
+    ensures items { calls.new.items ≡ calls.old.items ++ call ∷ [] }
+    ensures capacity { vec_capacity calls.old ≤ vec_capacity calls.new }
+{
+    let _noted = calls.push(call);
+}
+
+impl MemDisk {
+    ghost use Rattle.c8_disk.specs.Memory.{bytes_of, images_of, synced_of, room_of, calls_left, calls_allowed, arm_of, failures_of, changes_of};
+
+    /// An empty disk with room for so many bytes, which serves so many calls.
+    pub fn new(alloc: Global, capacity: u32, calls: u32) -> Result<MemDisk, AllocError>
+        ensures empty { IfOk result (λ disk. bytes_of disk ≡ []) }
+        ensures settled { IfOk result (λ disk. Only (bytes_of disk) (images_of disk)) }
+        ensures room { IfOk result (λ disk. room_of disk ≡ capacity) }
+        ensures left { IfOk result (λ disk. calls_left disk ≡ calls) }
+        ensures allowed { IfOk result (λ disk. calls_allowed disk ≡ calls) }
+        ensures arm { IfOk result (λ disk. arm_of disk ≡ Arm.Off) }
+    {
+        Ok(MemDisk {
+            first: Vec::with_capacity(alloc, capacity as usize)?,
+            bytes: Vec::with_capacity(alloc, capacity as usize)?,
+            calls: Vec::with_capacity(alloc, calls as usize)?,
+            room: capacity,
+            allowed: calls,
+            budget: Budget {
+                calls,
+                arm: Arm::Off,
+                failures: Trace::new(),
+            },
+            asked: Trace::new(),
+        })
+    }
+
+    /// Lets so many more calls that read, write or sync pass, and fails each one after them.
+    pub fn stop_after(&mut self, calls: u64)
+        ensures arm { arm_of self.new ≡ Arm.Stop calls }
+        ensures left { calls_left self.new ≡ calls_left self.old }
+        ensures bytes { bytes_of self.new ≡ bytes_of self.old }
+        ensures images { AddsNone (images_of self.old) (images_of self.new) }
+    {
+        self.budget.arm = Arm::Stop(calls);
+    }
+
+    /// What a read gives.
+    pub fn bytes(&self) -> &[u8]
+        ensures { result.now ≡ bytes_of self.now }
+    {
+        &self.bytes
+    }
+
+    /// A disk that holds an image which a crash at this moment may leave. It serves all its calls anew, and has no stop.
+    /// Pick 0 is what was last synced, pick 1 what a read gives, and any other pick is chosen by a generator seeded with it.
+    pub fn crash(self, pick: u64) -> MemDisk
+        ensures image { images_of self (bytes_of result) }
+        ensures synced { pick ≡ 0 → bytes_of result ≡ synced_of self }
+        ensures read { pick ≡ 1 → bytes_of result ≡ bytes_of self }
+        ensures settled { Only (bytes_of result) (images_of result) }
+        ensures room { room_of result ≡ room_of self }
+        ensures left { calls_left result ≡ calls_allowed self }
+        ensures allowed { calls_allowed result ≡ calls_allowed self }
+        ensures arm { arm_of result ≡ Arm.Off }
+        ensures failures { failures_of result ≡ failures_of self }
+        ensures changes { changes_of result ≡ changes_of self }
+    {
+        let MemDisk {
+            mut first,
+            mut bytes,
+            mut calls,
+            room,
+            allowed,
+            budget,
+            asked,
+        } = self;
+        leave_image(&mut first, &mut bytes, &calls, pick);
+        replace(&mut first, &bytes);
+        calls.clear();
+        let budget = Budget {
+            calls: allowed,
+            arm: Arm::Off,
+            failures: budget.failures,
+        };
+        MemDisk {
+            first,
+            bytes,
+            calls,
+            room,
+            allowed,
+            budget,
+            asked,
+        }
+    }
+}
+
+/// Puts an image that a crash may leave in the place of what a read gives. The first bytes are used up.
+fn leave_image(first: &mut Vec<u8>, bytes: &mut Vec<u8>, calls: &[Call], pick: u64)
+    requires lawful { are_lawful first.old.items calls.now ≡ true }
+    requires replayed { bytes.old.items ≡ content first.old.items calls.now }
+    requires fits_first { fit (vec_capacity first.old) calls.now ≡ true }
+    requires fits_bytes { fit (vec_capacity bytes.old) calls.now ≡ true }
+    ensures image { IsImage first.old.items calls.now bytes.new.items }
+    ensures synced { pick ≡ 0 → bytes.new.items ≡ synced first.old.items calls.now }
+    ensures read { pick ≡ 1 → bytes.new.items ≡ bytes.old.items }
+    ensures no_longer { vec_len bytes.new ≤ vec_len bytes.old }
+    ensures first_capacity { vec_capacity first.old ≤ vec_capacity first.new }
+    ensures bytes_capacity { vec_capacity bytes.old ≤ vec_capacity bytes.new }
+{
+    if pick == 1 {
+        return;
+    }
+    let (before, after) = calls.split_at(count_synced(calls));
+    replay(first, before);
+    replace(bytes, first);
+    if pick != 0 {
+        tear_all(bytes, after, &mut Pcg32::seed_from_u64(pick));
+    }
+}
+
+impl Disk for MemDisk {
+    ghost seen = { λ d. d.bytes.items };
+
+    ghost may_leave = { λ d. IsImage d.first.items d.calls.items };
+
+    ghost moment = { λ d. length d.calls.items };
+
+    ghost left_since = { λ d. LeftSince d.first.items d.calls.items };
+
+    ghost failures = { λ d. length d.budget.failures.items };
+
+    ghost changes = { λ d. length d.asked.items };
+
+    ghost capacity = { λ d. d.room };
+
+    ghost reads_now = { λ d. reads_image d.first.items d.calls.items d.bytes.items d.lawful d.replayed };
+
+    ghost counts_now = { λ d. counts d.first.items d.calls.items };
+
+    ghost only_now = { λ d. only d.first.items d.calls.items };
+
+    fn len(&self) -> u32 {
+        self.bytes.len() as u32
+    }
+
+    fn capacity(&self) -> u32 {
+        self.room
+    }
+
+    fn read_at(&mut self, at: u32, buffer: &mut [u8]) -> Result<(), DiskError> {
+        self.budget.check()?;
+        self.budget.spend();
+        let at = at as usize;
+        buffer.copy_from_slice(&self.bytes[at..at + buffer.len()]);
+        Ok(())
+    }
+
+    fn write_at(&mut self, at: u32, bytes: &[u8]) -> Result<(), DiskError> {
+        self.asked = self.asked.and(&());
+        self.budget.check()?;
+        if bytes.len() > (self.room - at) as usize {
+            return Err(DiskError::Full);
+        }
+        self.budget.spend();
+        overwrite(&mut self.bytes, at as usize, bytes);
+        note(&mut self.calls, write_call(at, bytes));
+        Ok(())
+    }
+
+    fn sync(&mut self) -> Result<(), DiskError> {
+        self.asked = self.asked.and(&());
+        self.budget.check()?;
+        self.budget.spend();
+        note(&mut self.calls, Call::Sync);
+        Ok(())
+    }
+
+    fn arm(&mut self, arm: Arm) {
+        self.budget.arm = arm;
+    }
+}
