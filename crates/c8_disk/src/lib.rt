@@ -7,8 +7,10 @@ mod budget;
 mod bytes;
 mod call;
 mod disk;
+mod file;
 mod memory;
 mod trace;
 
 pub use disk::{Arm, Disk, DiskError};
+pub use file::{FileDisk, FileError};
 pub use memory::MemDisk;
