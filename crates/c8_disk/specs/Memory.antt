@@ -1,8 +1,9 @@
 -- What a disk in memory shows.
-use Rattle.std.specs.Prelude.{ℕ, List, length}
+use Rattle.std.specs.Prelude.{ℕ, Bool, List, length}
 use Rattle.c8_disk.specs.declared.disk.Arm.{Arm}
 use Rattle.c8_disk.specs.declared.memory.MemDisk.{MemDisk}
-use Rattle.c8_disk.specs.Past.{IsImage, synced}
+use Rattle.c8_disk.specs.Past.{IsImage, LeftSince, synced}
+use Rattle.c8_disk.specs.Budget.{is_spent}
 
 -- what a read gives
 abbrev pub bytes_of : MemDisk → List ℕ
@@ -11,6 +12,13 @@ bytes_of disk = disk.bytes.items
 -- the images that a crash now may leave
 abbrev pub images_of : MemDisk → List ℕ → Type 0
 images_of disk = IsImage disk.first.items disk.calls.items
+
+-- how many calls changed it, and the images that a crash at some moment since may have left
+abbrev pub moment_of : MemDisk → ℕ
+moment_of disk = length disk.calls.items
+
+abbrev pub left_since : MemDisk → ℕ → List ℕ → Type 0
+left_since disk = LeftSince disk.first.items disk.calls.items
 
 -- what was last synced
 abbrev pub synced_of : MemDisk → List ℕ
@@ -34,3 +42,7 @@ failures_of disk = length disk.budget.failures.items
 
 abbrev pub changes_of : MemDisk → ℕ
 changes_of disk = length disk.asked.items
+
+-- its calls are spent, or it is stopped
+abbrev pub is_stopped : MemDisk → Bool
+is_stopped disk = is_spent disk.budget

@@ -14,3 +14,6 @@ mod trace;
 pub use disk::{Arm, Disk, DiskError};
 pub use file::{FileDisk, FileError};
 pub use memory::MemDisk;
+
+#[cfg(test)]
+mod tests;

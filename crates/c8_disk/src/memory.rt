@@ -1,7 +1,8 @@
 // A disk in memory that can stop and crash.
-ghost use Rattle.std.specs.Prelude.{◌≡◌, ◌≤◌, ◌<◌, ◌+◌, ◌^◌, ◌&&◌, ◌↔◌, not, nat_lt, true, [], ◌∷◌, ◌++◌, length, vec_len, vec_capacity, IfOk, IsErrOf, refl};
-ghost use Rattle.c8_disk.specs.Disk.{Only, AddsNone};
+ghost use Rattle.std.specs.Prelude.{◌≡◌, ◌≤◌, ◌<◌, ◌+◌, ◌^◌, ◌↔◌, true, [], ◌∷◌, ◌++◌, length, vec_len, vec_capacity, take, drop, IfOk, OnOk, OnErr, IsErrOf, refl, false};
+ghost use Rattle.c8_disk.specs.Disk.{Only, AddsNone, Writes, WritesImages, Elapses, HasCause};
 ghost use Rattle.c8_disk.specs.Past.{content, synced, are_lawful, fit, IsImage, LeftSince};
+ghost use Rattle.c8_disk.specs.Budget.{stepped};
 ghost use Rattle.c8_disk.specs.PastLaws.{reads_image, counts, only};
 
 use crate::budget::Budget;
@@ -158,6 +159,8 @@ fn leave_image(first: &mut Vec<u8>, bytes: &mut Vec<u8>, calls: &[Call], pick: u
 }
 
 impl Disk for MemDisk {
+    ghost use Rattle.c8_disk.specs.Memory.{bytes_of, images_of, moment_of, left_since, room_of, calls_left, arm_of, failures_of, changes_of, is_stopped};
+
     ghost seen = { λ d. d.bytes.items };
 
     ghost may_leave = { λ d. IsImage d.first.items d.calls.items };
@@ -186,7 +189,24 @@ impl Disk for MemDisk {
         self.room
     }
 
-    fn read_at(&mut self, at: u32, buffer: &mut [u8]) -> Result<(), DiskError> {
+    fn read_at(&mut self, at: u32, buffer: &mut [u8]) -> Result<(), DiskError>
+        requires { at + length buffer.old ≤ length (bytes_of self.old) }
+        ensures read { OnOk result (buffer.new ≡ take (length buffer.old) (drop at (bytes_of self.old))) }
+        ensures seen { bytes_of self.new ≡ bytes_of self.old }
+        ensures crash { AddsNone (images_of self.old) (images_of self.new) }
+        ensures time { Elapses (moment_of self.old) (moment_of self.new) (left_since self.old) (left_since self.new) (images_of self.new) }
+        ensures cause { HasCause (failures_of self.old) (failures_of self.new) result }
+        ensures never_full { IsErrOf result DiskError.Full → ⊥ }
+        ensures changes { changes_of self.new ≡ changes_of self.old }
+        ensures capacity { room_of self.new ≡ room_of self.old }
+
+        // It fails once its calls are spent or it is stopped, and only then, and such a call counts for nothing.
+        ensures failed { IsErrOf result DiskError.Failed ↔ (is_stopped self.old ≡ true) }
+        ensures left { OnOk result (calls_left self.new + 1 ≡ calls_left self.old) }
+        ensures left_err { OnErr result (calls_left self.new ≡ calls_left self.old) }
+        ensures armed { OnOk result (arm_of self.new ≡ stepped (arm_of self.old)) }
+        ensures armed_err { OnErr result (arm_of self.new ≡ arm_of self.old) }
+    {
         self.budget.check()?;
         self.budget.spend();
         let at = at as usize;
@@ -194,7 +214,25 @@ impl Disk for MemDisk {
         Ok(())
     }
 
-    fn write_at(&mut self, at: u32, bytes: &[u8]) -> Result<(), DiskError> {
+    fn write_at(&mut self, at: u32, bytes: &[u8]) -> Result<(), DiskError>
+        requires place { at ≤ length (bytes_of self.old) }
+        requires short { length bytes.now ≤ 144 }
+        ensures written { Writes at bytes.now (bytes_of self.old) (bytes_of self.new) result }
+        ensures crash { WritesImages at (length bytes.now) (images_of self.old) (images_of self.new) result }
+        ensures time { Elapses (moment_of self.old) (moment_of self.new) (left_since self.old) (left_since self.new) (images_of self.new) }
+        ensures cause { HasCause (failures_of self.old) (failures_of self.new) result }
+        ensures full { IsErrOf result DiskError.Full
+            ↔ ((is_stopped self.old ≡ false) × (room_of self.old < at + length bytes.now)) }
+        ensures changes { changes_of self.new ≡ changes_of self.old + 1 }
+        ensures capacity { room_of self.new ≡ room_of self.old }
+
+        // It fails once its calls are spent or it is stopped, and only then, and such a call counts for nothing.
+        ensures failed { IsErrOf result DiskError.Failed ↔ (is_stopped self.old ≡ true) }
+        ensures left { OnOk result (calls_left self.new + 1 ≡ calls_left self.old) }
+        ensures left_err { OnErr result (calls_left self.new ≡ calls_left self.old) }
+        ensures armed { OnOk result (arm_of self.new ≡ stepped (arm_of self.old)) }
+        ensures armed_err { OnErr result (arm_of self.new ≡ arm_of self.old) }
+    {
         self.asked = self.asked.and(&());
         self.budget.check()?;
         if bytes.len() > (self.room - at) as usize {
@@ -206,7 +244,23 @@ impl Disk for MemDisk {
         Ok(())
     }
 
-    fn sync(&mut self) -> Result<(), DiskError> {
+    fn sync(&mut self) -> Result<(), DiskError>
+        ensures durable { OnOk result (Only (bytes_of self.old) (images_of self.new)) }
+        ensures seen { bytes_of self.new ≡ bytes_of self.old }
+        ensures crash { AddsNone (images_of self.old) (images_of self.new) }
+        ensures time { Elapses (moment_of self.old) (moment_of self.new) (left_since self.old) (left_since self.new) (images_of self.new) }
+        ensures cause { HasCause (failures_of self.old) (failures_of self.new) result }
+        ensures never_full { IsErrOf result DiskError.Full → ⊥ }
+        ensures changes { changes_of self.new ≡ changes_of self.old + 1 }
+        ensures capacity { room_of self.new ≡ room_of self.old }
+
+        // It fails once its calls are spent or it is stopped, and only then, and such a call counts for nothing.
+        ensures failed { IsErrOf result DiskError.Failed ↔ (is_stopped self.old ≡ true) }
+        ensures left { OnOk result (calls_left self.new + 1 ≡ calls_left self.old) }
+        ensures left_err { OnErr result (calls_left self.new ≡ calls_left self.old) }
+        ensures armed { OnOk result (arm_of self.new ≡ stepped (arm_of self.old)) }
+        ensures armed_err { OnErr result (arm_of self.new ≡ arm_of self.old) }
+    {
         self.asked = self.asked.and(&());
         self.budget.check()?;
         self.budget.spend();

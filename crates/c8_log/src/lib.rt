@@ -13,3 +13,6 @@ mod write;
 pub use error::LogError;
 pub use log::Log;
 pub use slot::{BODY, Block, Slot};
+
+#[cfg(test)]
+mod tests;

@@ -14,6 +14,7 @@ pub(crate) const OPEN: u8 = 0xa5;
 pub(crate) const CLOSED: u8 = 0;
 
 /// Room for what is read of a log.
+#[derive(Drop)]
 pub struct Block {
     pub(crate) bytes: [u8; 144],
 }
