@@ -1,7 +1,7 @@
 -- Torn writes, one after another.
-use Rattle.std.proofs.Common.{◌≡◌, ◌≤◌, ◌<◌, ℕ, ◌+◌, ◌-◌, max, List, [], ◌∷◌, ◌++◌, length, take, drop, set, refl, sym, ◌∙◌, ap, arith, length-append, length-take, length-drop, length-set}
+use Rattle.std.proofs.Common.{◌≡◌, ◌≤◌, ◌<◌, ℕ, ◌+◌, ◌-◌, List, [], ◌∷◌, ◌++◌, length, take, drop, set, sym, ◌∙◌, ap, arith, length-set}
 use Rattle.std.proofs.lemmas.List.{drop-drop, take-take, take-set-le, drop-set-lt, take-append-le, drop_all, length_push}
-use Rattle.c8_disk.specs.Disk.{overwritten, Torn}
+use Rattle.c8_disk.specs.Disk.{Torn}
 
 -- a wider write may do as much
 pub torn_wider : (at less more : ℕ) (old new : List ℕ) → less ≤ more → Torn at less old new → Torn at more old new

@@ -1,5 +1,5 @@
 -- When a disk in memory stops.
-use Rattle.std.specs.Prelude.{ℕ, zero, suc, ◌-◌, ◌==◌, ◌||◌, Bool, true, false}
+use Rattle.std.specs.Prelude.{◌-◌, ◌==◌, ◌||◌, Bool, false}
 use Rattle.c8_disk.specs.declared.disk.Arm.{Arm}
 use Rattle.c8_disk.specs.declared.disk.Arm.TheVariants.{Off, Stop}
 use Rattle.c8_disk.specs.declared.budget.Budget.{Budget}

@@ -1,6 +1,6 @@
 -- What a disk gives and what a crash may leave of it, from what it held at first and the calls that changed it since,
 -- the oldest call first.
-use Rattle.std.specs.Prelude.{◌≡◌, ◌≤◌, ℕ, zero, suc, ◌+◌, nat_le, nat_lt, ◌&&◌, if◌then◌else◌, Bool, true, List, [], ◌∷◌, length, take}
+use Rattle.std.specs.Prelude.{◌≡◌, ◌≤◌, ℕ, suc, ◌+◌, nat_le, nat_lt, ◌&&◌, if◌then◌else◌, Bool, true, List, [], ◌∷◌, length, take}
 use Rattle.c8_disk.specs.Disk.{overwritten, Torn}
 use Rattle.c8_disk.specs.declared.call.Call.{Call}
 use Rattle.c8_disk.specs.declared.call.Call.TheVariants.{Write, Sync}

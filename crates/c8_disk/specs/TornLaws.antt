@@ -1,6 +1,6 @@
 -- What a write leaves, whole or torn: laws that the laws of the trait stand on.
-use Rattle.std.proofs.Common.{◌≡◌, ◌<◌, ◌≤◌, ℕ, ◌+◌, max, List, [], ◌∷◌, ◌++◌, length, take, drop, get_or, refl, sym, ◌∙◌, ap, arith, append_assoc, length-append, length-take-le, length-drop}
-use Rattle.std.proofs.lemmas.List.{take_at, drop_at, take-append-le, drop-drop}
+use Rattle.std.proofs.Common.{◌≡◌, ◌≤◌, ℕ, ◌+◌, max, List, ◌++◌, length, take, drop, refl, ◌∙◌, ap, arith, append_assoc, length-append, length-take-le, length-drop}
+use Rattle.std.proofs.lemmas.List.{take_at, drop_at}
 use Rattle.c8_disk.specs.Disk.{overwritten, Torn}
 
 module _ (old : List ℕ) (at : ℕ) (bytes : List ℕ) (within : at ≤ length old) where

@@ -268,7 +268,16 @@ impl Disk for MemDisk {
         Ok(())
     }
 
-    fn arm(&mut self, arm: Arm) {
+    fn arm(&mut self, arm: Arm)
+        ensures seen { bytes_of self.new ≡ bytes_of self.old }
+        ensures crash { AddsNone (images_of self.old) (images_of self.new) }
+        ensures time { Elapses (moment_of self.old) (moment_of self.new) (left_since self.old) (left_since self.new) (images_of self.new) }
+        ensures failures { failures_of self.new ≡ failures_of self.old }
+        ensures changes { changes_of self.new ≡ changes_of self.old }
+        ensures capacity { room_of self.new ≡ room_of self.old }
+        ensures armed { arm_of self.new ≡ arm }
+        ensures left { calls_left self.new ≡ calls_left self.old }
+    {
         self.budget.arm = arm;
     }
 }

@@ -23,7 +23,10 @@ fn a_crash_leaves_what_was_synced_or_read_or_some_of_each(rt: HostRuntime) -> Re
     let disk = written(&rt, rt.alloc())?;
     assert_eq!(rt; disk.bytes(), b"aXYdeZ".as_slice());
     assert_eq!(rt; disk.crash(0).bytes(), b"abcde".as_slice());
-    assert_eq!(rt; written(&rt, rt.alloc())?.crash(1).bytes(), b"aXYdeZ".as_slice());
+    assert_eq!(rt;
+        written(&rt, rt.alloc())?.crash(1).bytes(),
+        b"aXYdeZ".as_slice()
+    );
     for pick in 2..40u64 {
         let left = written(&rt, rt.alloc())?.crash(pick);
         let [a, _, _, d, e, ..] = left.bytes() else {

@@ -1,11 +1,10 @@
 -- What is kept of an image after a write, whole or torn.
-use Rattle.std.proofs.Common.{◌≡◌, ◌≢◌, ◌⊎◌, inl, inr, ◌<◌, ◌≤◌, ℕ, zero, suc, ◌+◌, ◌*◌, min, max, Bool, true, false, List, [], ◌∷◌, ◌++◌, length, take, drop, get_or, slice_index, refl, sym, ◌∙◌, ap, subst, arith, length-append, length-take, length-drop}
+use Rattle.std.proofs.Common.{◌≡◌, ◌≢◌, ◌⊎◌, inl, inr, ◌<◌, ◌≤◌, ℕ, zero, suc, ◌+◌, ◌*◌, true, false, List, [], ◌∷◌, ◌++◌, length, take, drop, get_or, slice_index, refl, sym, ◌∙◌, ap, subst, arith, length-take}
 use Rattle.std.proofs.lemmas.Bool.{cases_eq, cases_lt}
-use Rattle.std.proofs.lemmas.List.{get_or-take, get_or-drop, get_or_append_left, get_or_at, drop-take, take-take, take_at, append_assoc}
-use Rattle.c8_disk.specs.Disk.{overwritten, Torn}
-use Rattle.c8_disk.specs.TornLaws.{overwritten_front, overwritten_rest, length-overwritten, overwritten_is_torn}
+use Rattle.std.proofs.lemmas.List.{get_or-take, get_or-drop, drop-take, take-take}
+use Rattle.c8_disk.specs.Disk.{Torn}
 use Rattle.c8_log.specs.Slots.{is_open, body_of, first_bodies, kept, kept_count}
-use Rattle.c8_log.specs.Log.{has_closed_gate, has_closed_gate_at, repaired}
+use Rattle.c8_log.specs.Log.{has_closed_gate}
 use Rattle.c8_log.proofs.Kept.{IsFront, whole, gate, opens, shut_by_gate, shut_by_end, kept_from, both, closed_here, front_of}
 
 -- two images that begin alike have the same slots there
@@ -55,7 +54,7 @@ module _ (old : List ℕ) (n : ℕ) (is : IsFront old n) where
 
   -- a body and a closed gate stand behind the open slots, and now the gate before the body is written
   module _ (body : List ℕ) (written : List ℕ) (same : take (144 * n) written ≡ take (144 * n) old) (there : body_of written n ≡ body)
-           (long : 144 * n + 144 < length written) (next : slice_index written (144 * n + 144) ≢ 0xa5) where
+      (long : 144 * n + 144 < length written) (next : slice_index written (144 * n + 144) ≢ 0xa5) where
     -- it is open: the body counts, and a closed gate stands behind it
     pub with_it : (new : List ℕ) → Torn (144 * n) 1 written new → slice_index new (144 * n) ≡ 0xa5 → HasOneMore old n body new
     with_it new torn is_a5 =
@@ -78,8 +77,8 @@ module _ (old : List ℕ) (n : ℕ) (is : IsFront old n) where
         record {
           front = now;
           bodies = kept_from new (suc n) now
-          ∙ ap (λ (l : List (List ℕ)). l ++ body_of new n ∷ []) (same_bodies old new (144 * n) begins n (omega arith) ∙ sym (kept_from old n is))
-          ∙ ap (λ (l : List ℕ). kept old ++ l ∷ []) added;
+              ∙ ap (λ (l : List (List ℕ)). l ++ body_of new n ∷ []) (same_bodies old new (144 * n) begins n (omega arith) ∙ sym (kept_from old n is))
+              ∙ ap (λ (l : List ℕ). kept old ++ l ∷ []) added;
           shut = shut;
         }
 

@@ -1,11 +1,11 @@
 -- What an image keeps, by the number of its open slots.
-use Rattle.std.proofs.Common.{◌≡◌, ◌≢◌, ◌⊎◌, inl, inr, ◌<◌, ◌≤◌, ℕ, zero, suc, ◌+◌, ◌*◌, ◌-◌, min, nat_le, ◌==◌, ◌&&◌, not, Bool, true, false, List, [], ◌∷◌, ◌++◌, length, take, drop, get_or, slice_index, slice_get, Some, refl, sym, ◌∙◌, ap, subst, arith, length-append, length-take, length-drop}
-use Rattle.std.proofs.lemmas.Bool.{cases_Bool, cases_lt, cases_order, leb-true, eqb-true, eqb-false, le-leb, lt-leb, lt-ltb, eq-eqb, ne_eqb, and_parts, and_from, and_left, and_right, not-true, not-false, true≢false}
+use Rattle.std.proofs.Common.{◌≡◌, ◌≢◌, inl, inr, ◌<◌, ◌≤◌, ℕ, zero, suc, ◌+◌, ◌*◌, nat_le, ◌==◌, not, Bool, true, false, List, [], ◌∷◌, length, take, drop, slice_index, slice_get, Some, refl, sym, ◌∙◌, ap, subst, arith}
+use Rattle.std.proofs.lemmas.Bool.{cases_lt, cases_order, leb-true, eqb-true, le-leb, lt-leb, lt-ltb, eq-eqb, ne_eqb, and_parts, and_from, and_left, and_right, not-true, not-false, true≢false}
 use Rattle.std.proofs.lemmas.List.{get_or_append_left, get_or_push, drop-take, drop-drop, length_push}
 use Rattle.std.proofs.lemmas.Option.{slice_get-get_or, get_or_from_slice_get}
 use Rattle.c8_log.specs.Slots.{is_open, body_of, least, kept_count, first_bodies, kept, IsKept}
 use Rattle.c8_log.specs.Log.{has_closed_gate_at}
-use Rattle.c8_log.proofs.Least.{IsLeast, least_is}
+use Rattle.c8_log.proofs.Least.{least_is}
 
 -- the slots below n are open, and slot n is not
 pub record IsFront (image : List ℕ) (n : ℕ) : Type 0 where

@@ -1,12 +1,12 @@
 -- What the repair of an image's end leaves.
-use Rattle.std.proofs.Common.{◌≡◌, ◌≢◌, inl, inr, ◌<◌, ◌≤◌, ℕ, zero, suc, ◌+◌, ◌*◌, ◌^◌, nat_lt, not, Bool, true, false, List, [], ◌∷◌, length, drop, get_or, slice_index, refl, sym, ◌∙◌, ap, subst, arith}
-use Rattle.std.proofs.lemmas.Bool.{cases_Bool, and_from, lt-ltb, ltb-true, and_parts, eqb-false, not-true, ne_eqb, cond-true, cond-false}
+use Rattle.std.proofs.Common.{◌≡◌, inl, inr, ◌<◌, ◌≤◌, ℕ, zero, suc, ◌+◌, ◌*◌, ◌^◌, not, true, false, List, [], ◌∷◌, length, get_or, slice_index, refl, sym, ◌∙◌, ap, subst, arith}
+use Rattle.std.proofs.lemmas.Bool.{cases_Bool, and_from, lt-ltb, ne_eqb, cond-true, cond-false}
 use Rattle.std.proofs.lemmas.List.{get_or-drop}
-use Rattle.c8_disk.specs.Disk.{overwritten, Torn, Only, AddsNone}
+use Rattle.c8_disk.specs.Disk.{overwritten, Only, AddsNone}
 use Rattle.c8_disk.specs.TornLaws.{overwritten_rest, length-overwritten, overwritten_is_torn}
 use Rattle.c8_log.specs.Slots.{is_open, kept_count, kept}
-use Rattle.c8_log.specs.Log.{LogValue, has_closed_gate, has_closed_gate_at, repaired, IsUp, IsAtRest, AllKeep}
-use Rattle.c8_log.proofs.Kept.{IsFront, front_of, whole, length-kept}
+use Rattle.c8_log.specs.Log.{LogValue, has_closed_gate, has_closed_gate_at, repaired, IsUp, IsAtRest}
+use Rattle.c8_log.proofs.Kept.{front_of, whole, length-kept}
 use Rattle.c8_log.proofs.Crash.{repair_keeps}
 
 -- the kept slots are whole

@@ -1,11 +1,11 @@
 -- What the two writes of an append leave, whole or torn.
-use Rattle.std.proofs.Common.{◌≡◌, ◌≢◌, ◌⊎◌, inl, inr, ⊎_elim, ◌<◌, ◌≤◌, ℕ, suc, ◌+◌, ◌*◌, ◌^◌, nat_lt, not, ◌==◌, Bool, true, false, List, [], ◌∷◌, ◌++◌, length, take, drop, get_or, slice_index, refl, sym, ◌∙◌, ap, subst, arith, append_assoc, length-append}
-use Rattle.std.proofs.lemmas.Bool.{and_from, and_parts, lt-ltb, ltb-true, eqb-false, not-true, ne_eqb, eq-eqb, true≢false}
+use Rattle.std.proofs.Common.{◌≡◌, ◌≢◌, inl, ⊎_elim, ◌<◌, ◌≤◌, ℕ, suc, ◌+◌, ◌*◌, ◌^◌, nat_lt, not, ◌==◌, true, List, [], ◌∷◌, ◌++◌, length, take, drop, get_or, slice_index, sym, ◌∙◌, ap, subst, arith, append_assoc, length-append}
+use Rattle.std.proofs.lemmas.Bool.{and_from, and_parts, lt-ltb, ltb-true, ne_eqb, eq-eqb, true≢false}
 use Rattle.std.proofs.lemmas.List.{get_or-drop, get_or_at, take_at, take-take}
 use Rattle.c8_disk.specs.Disk.{overwritten, Torn, Only}
 use Rattle.c8_disk.specs.TornLaws.{overwritten_front, overwritten_rest, length-overwritten, overwritten_is_torn, untouched}
 use Rattle.c8_log.specs.Slots.{body_of, kept_count, kept}
-use Rattle.c8_log.specs.Log.{LogValue, has_closed_gate, has_closed_gate_at, IsUp, KeepsWithOrWithout}
+use Rattle.c8_log.specs.Log.{has_closed_gate, has_closed_gate_at, IsUp, KeepsWithOrWithout}
 use Rattle.c8_log.specs.Written.{IsBeforeOrTorn}
 use Rattle.c8_log.proofs.Kept.{IsFront, front_of, front_unique}
 use Rattle.c8_log.proofs.Crash.{HasOneMore, behind_the_gate, with_it, with_or_without}
@@ -64,17 +64,17 @@ module _ (images : List ℕ → Type 0) (old : List ℕ) (n : ℕ) (body : List 
   -- the first write leaves the bodies as they were
   pub first_keeps : (count : ℕ) (new : List ℕ) → IsBeforeOrTorn (144 * n + 1) count images new → KeepsWithOrWithout (kept old) body new
   first_keeps count new = ⊎_elim (λ left. inl (ap kept (only new left))) (λ torn.
-    let here = subst (λ (l : List ℕ). Torn (144 * n + 1) count l new) (only torn.0 torn.1) torn.2 in
-    inl (behind_the_gate old n front new (gate_shut old n closed_at) here.before))
+      let here = subst (λ (l : List ℕ). Torn (144 * n + 1) count l new) (only torn.0 torn.1) torn.2 in
+      inl (behind_the_gate old n front new (gate_shut old n closed_at) here.before))
 
   module _ (written : List ℕ) (is : IsStaged old n body written) where
     -- the second leaves them with the new one or without
     pub second_keeps : (later : List ℕ → Type 0) → Only written later → (new : List ℕ) → IsBeforeOrTorn (144 * n) 1 later new → KeepsWithOrWithout (kept old) body new
     second_keeps later only_written new = ⊎_elim (λ left.
-      let same = only_written new left in
-      subst (KeepsWithOrWithout (kept old) body) (sym same) (with_or_without old n front body written is.same is.there is.long is.next written (untouched (144 * n) 1 written))) (λ torn.
-      let here = subst (λ (l : List ℕ). Torn (144 * n) 1 l new) (only_written torn.0 torn.1) torn.2 in
-      with_or_without old n front body written is.same is.there is.long is.next new here)
+        let same = only_written new left in
+        subst (KeepsWithOrWithout (kept old) body) (sym same) (with_or_without old n front body written is.same is.there is.long is.next written (untouched (144 * n) 1 written))) (λ torn.
+        let here = subst (λ (l : List ℕ). Torn (144 * n) 1 l new) (only_written torn.0 torn.1) torn.2 in
+        with_or_without old n front body written is.same is.there is.long is.next new here)
 
     -- and then the log has the new one
     pub one_more : HasOneMore old n body (overwritten written (144 * n) (0xa5 ∷ []))
@@ -90,8 +90,7 @@ module _ (images : List ℕ → Type 0) (old : List ℕ) (n : ℕ) (body : List 
         let next_is : suc n ≡ n + 1 = omega arith in
         let counts_now : n + 1 ≡ kept_count new = sym next_is ∙ front_unique new (suc n) (kept_count new) one_more.front (front_of new) in
         let there : 144 * suc n < length new = omega (arith, length-overwritten written (144 * n) (0xa5 ∷ []) within, is.long) in
-        let shut : has_closed_gate new ≡ true = ap (has_closed_gate_at new) (sym counts_now ∙ sym next_is) ∙ closed_there new (suc n) there one_more.shut in
-        (
+        let shut : has_closed_gate new ≡ true = ap (has_closed_gate_at new) (sym counts_now ∙ sym next_is) ∙ closed_there new (suc n) there one_more.shut in (
           record { count_is = counts_now ∙ sym (ap kept_count holds); closed = ap has_closed_gate holds ∙ shut; durable = only_now; fits = fits },
           ap kept holds ∙ one_more.bodies,
         )

@@ -6,5 +6,4 @@ ghost use Rattle.c8_log.specs.Slots.{kept, IsKept};
 pub fn kept_is_least()
     ensures is { (image : List ℕ) → IsKept image (kept image) }
     ensures only { (image : List ℕ) (bodies : List (List ℕ)) → IsKept image bodies → bodies ≡ kept image }
-{
-}
+{}

@@ -60,7 +60,14 @@ fn an_append_stops_after_each_call(rt: HostRuntime) -> Result<(), Fail> {
             let mut log = with_one(rt.alloc())?;
             log.arm(Arm::Stop(calls));
             let answer = log.append(&body_of(2));
-            assert_eq!(rt; answer, if calls < 4 { Err(LogError::Failed) } else { Ok(1) });
+            assert_eq!(rt;
+                answer,
+                if calls < 4 {
+                    Err(LogError::Failed)
+                } else {
+                    Ok(1)
+                }
+            );
             let mut log = opened(log.close().crash(pick))?;
             let count = log.len();
             match (calls, pick) {
@@ -112,7 +119,10 @@ fn a_full_log_goes_down(rt: HostRuntime) -> Result<(), Fail> {
     let mut block = Block::new();
     assert!(rt; matches!(log.read(0, &mut block), Err(LogError::Down)));
     assert!(rt; keeps(&mut opened(log.close())?, 1)?);
-    assert_eq!(rt; opened(MemDisk::new(rt.alloc(), 0, CALLS)?).err(), Some(LogError::Full));
+    assert_eq!(rt;
+        opened(MemDisk::new(rt.alloc(), 0, CALLS)?).err(),
+        Some(LogError::Full)
+    );
     Ok(())
 }
 
@@ -138,7 +148,10 @@ fn one_gate_is_open(rt: HostRuntime) -> Result<(), Fail> {
             *first = gate;
         }
         let mut log = opened(holding(rt.alloc(), &bytes, CAPACITY)?)?;
-        assert!(rt; keeps(&mut log, if gate == 0xa5 { 2 } else { 0 })?, "{gate}");
+        assert!(rt;
+            keeps(&mut log, if gate == 0xa5 { 2 } else { 0 })?,
+            "{gate}"
+        );
         let disk = log.close();
         assert_eq!(rt; disk.bytes().first().copied(), Some(gate));
     }

@@ -1,4 +1,4 @@
-use Rattle.std.proofs.Common.{◌+◌, ◌≤◌, length, vec_len, arith}
+use Rattle.std.proofs.Common.{length, arith}
 use Rattle.c8_disk.proofs.Tear.{torn_wider, torn_more}
 use Rattle.c8_disk.proofs.bytes.tear.Goals as goal
 

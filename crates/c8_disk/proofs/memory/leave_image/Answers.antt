@@ -1,4 +1,4 @@
-use Rattle.std.proofs.Common.{◌≡◌, ◌≤◌, List, ℕ, length, take, drop, vec_len, vec_capacity, true, sym, ◌∙◌, ap, subst, arith}
+use Rattle.std.proofs.Common.{◌≡◌, ◌≤◌, List, ℕ, length, take, drop, vec_capacity, true, sym, ◌∙◌, ap, subst, arith}
 use Rattle.c8_disk.specs.Past.{content, synced, synced_count, are_lawful, fit, IsImage, TornBy}
 use Rattle.c8_disk.specs.PastLaws.{reads_image}
 use Rattle.c8_disk.specs.declared.call.Call.{Call}

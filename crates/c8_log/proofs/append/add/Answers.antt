@@ -1,5 +1,5 @@
-use Rattle.std.proofs.Common.{◌≡◌, ◌≤◌, ◌<◌, ◌+◌, ◌*◌, ◌^◌, ◌++◌, [], ◌∷◌, ℕ, List, length, false, Result, Ok, Err, OnOk, ap, sym, ◌∙◌, subst, arith}
-use Rattle.c8_disk.specs.Disk.{overwritten, Only, LeavesOnly}
+use Rattle.std.proofs.Common.{◌≡◌, ◌+◌, ◌*◌, ◌++◌, [], ◌∷◌, ℕ, List, length, Result, Ok, Err, OnOk, ap, ◌∙◌, subst, arith}
+use Rattle.c8_disk.specs.Disk.{overwritten, Only}
 use Rattle.c8_log.specs.Slots.{kept}
 use Rattle.c8_log.specs.Log.{has_closed_gate_at, IsUp, KeepsWithOrWithout}
 use Rattle.c8_log.specs.Written.{IsBeforeOrTorn}

@@ -1,7 +1,7 @@
-use Rattle.std.proofs.Common.{◌≡◌, ℕ, ◌+◌, ◌*◌, ◌/◌, ◌≤◌, ◌<◌, List, length, not, true, false, sym, ◌∙◌, ap, subst, arith}
+use Rattle.std.proofs.Common.{◌≡◌, ℕ, ◌+◌, ◌*◌, ◌/◌, ◌≤◌, ◌<◌, List, length, true, false, sym, ◌∙◌, ap, arith}
 use Rattle.c8_log.specs.Slots.{is_open, kept_count}
 use Rattle.c8_log.specs.Log.{has_closed_gate_at}
-use Rattle.c8_log.proofs.Kept.{IsFront, front_of, front_unique, shut_by_end, closed_here}
+use Rattle.c8_log.proofs.Kept.{front_of, front_unique, shut_by_end, closed_here}
 use Rattle.c8_log.proofs.end.find_end.Goals as goal
 
 -- the scan's count is the least number

@@ -1,6 +1,6 @@
-use Rattle.std.proofs.Common.{◌≡◌, inl, inr, ⊎_elim, ℕ, ◌*◌, ◌≤◌, List, length, sym, ◌∙◌, ap, subst, arith}
+use Rattle.std.proofs.Common.{◌≡◌, ⊎_elim, ℕ, ◌*◌, ◌≤◌, List, length, sym, ◌∙◌, ap, subst, arith}
 use Rattle.c8_disk.specs.Disk.{Torn}
-use Rattle.c8_log.specs.Slots.{kept, kept_count}
+use Rattle.c8_log.specs.Slots.{kept}
 use Rattle.c8_log.specs.Written.{IsBeforeOrTorn}
 use Rattle.c8_log.proofs.Moments.{weaker}
 use Rattle.c8_log.proofs.Crash.{repair_keeps}
@@ -17,9 +17,9 @@ returns-clause-any_moment g c =
     let images = g.D.Disk.may_leave c.args.disk.now in
     let keeps : (new : List ℕ) → IsBeforeOrTorn (144 * c.args.end.count) 1 images new → kept new ≡ kept image =
     λ new. ⊎_elim (λ left. ap kept (c.requires.durable new left)) (λ torn.
-      let torn_here = subst (λ (l : List ℕ). Torn (144 * c.args.end.count) 1 l new) (c.requires.durable torn.0 torn.1) torn.2 in
-      let torn_there = subst (λ (n : ℕ). Torn (144 * n) 1 image new) c.requires.count torn_here in
-      repair_keeps image new (sym c.requires.closed ∙ c.if-end.false) torn_there) in
+    let torn_here = subst (λ (l : List ℕ). Torn (144 * c.args.end.count) 1 l new) (c.requires.durable torn.0 torn.1) torn.2 in
+    let torn_there = subst (λ (n : ℕ). Torn (144 * n) 1 image new) c.requires.count torn_here in
+    repair_keeps image new (sym c.requires.closed ∙ c.if-end.false) torn_there) in
     weaker g.D.Disk.moment g.D.Disk.left_since c.args.disk.now c.write_and_sync.new.disk (IsBeforeOrTorn (144 * c.args.end.count) 1 images) (λ new. kept new ≡ kept image) c.write_and_sync.ensures.any_moment keeps
 
 pub returns-clause-full : goal.returns-clause-full

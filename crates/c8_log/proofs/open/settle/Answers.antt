@@ -1,4 +1,4 @@
-use Rattle.std.proofs.Common.{sym, ◌∙◌, ap}
+use Rattle.std.proofs.Common.{◌∙◌, ap}
 use Rattle.c8_log.specs.Slots.{kept_count}
 use Rattle.c8_log.specs.Log.{repaired}
 use Rattle.c8_log.proofs.Repair.{up_from_repair}

@@ -21,4 +21,3 @@ pub returns-clause-crash : goal.returns-clause-crash
 returns-clause-crash c image left =
     let d = c.args.self.now in
     sync_adds_none d.first.value.items d.calls.items d.lawful image (subst (λ (l : List Call). IsImage d.first.value.items l image) c.and-self-2.ensures left)
-

@@ -10,4 +10,3 @@ leave_image-requires-clause-fits_first c =
 pub leave_image-requires-clause-fits_bytes : goal.leave_image-requires-clause-fits_bytes
 leave_image-requires-clause-fits_bytes c =
     let d = c.args.self in ap (fit (vec_capacity d.bytes)) c.deref.ensures.value ∙ fit_more d.room (vec_capacity d.bytes) d.calls.items d.bytes_room d.fitting
-

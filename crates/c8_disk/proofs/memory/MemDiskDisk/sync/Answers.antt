@@ -1,4 +1,4 @@
-use Rattle.std.proofs.Common.{◌++◌, [], ◌∷◌, List, ℕ, length, sym, ◌∙◌, ap, subst}
+use Rattle.std.proofs.Common.{List, length, sym, ◌∙◌, ap, subst}
 use Rattle.c8_disk.specs.Disk.{Elapses}
 use Rattle.c8_disk.specs.Past.{content, are_lawful, fit, IsImage, LeftSince}
 use Rattle.c8_disk.specs.declared.call.Call.{Call}

@@ -1,4 +1,4 @@
-use Rattle.std.proofs.Common.{ap, subst, sym}
+use Rattle.std.proofs.Common.{subst}
 use Rattle.c8_log.specs.Log.{IsLog}
 use Rattle.c8_log.proofs.Repair.{rests}
 use Rattle.c8_log.proofs.log.Log.len.Goals as goal
