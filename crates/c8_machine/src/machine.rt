@@ -81,8 +81,8 @@ impl Machine {
     ghost use Rattle.c8_screen.specs.Points.{points_of};
     ghost use Rattle.c8_machine.specs.State.{state, first_state};
 
-    /// The machine before its first frame: the patterns of the digits and the program in its memory,
-    /// the counter at the program's first byte, and all else 0.
+    /// The machine before its first frame: the patterns of the digits and the program in its
+    /// memory, the counter at the program's first byte, and all else 0.
     pub fn start(game: &Game) -> Self
         ensures { state result ≡ first_state game.now }
     {

@@ -38,9 +38,11 @@ pub fn first_memory(program: &[u8]) -> [u8; 4096]
 fn place(memory: &mut [u8], from: usize, bytes: &[u8])
     requires { from + length bytes.now ≤ length memory.old }
     ensures length { length memory.new ≡ length memory.old }
-    ensures placed { (k : ℕ) → k < length bytes.now → slice_index memory.new (from + k) ≡ slice_index bytes.now k }
+    ensures placed { (k : ℕ) → k < length bytes.now
+        → slice_index memory.new (from + k) ≡ slice_index bytes.now k }
     ensures before { (k : ℕ) → k < from → slice_index memory.new k ≡ slice_index memory.old k }
-    ensures after { (k : ℕ) → from + length bytes.now ≤ k → slice_index memory.new k ≡ slice_index memory.old k }
+    ensures after { (k : ℕ) → from + length bytes.now ≤ k
+        → slice_index memory.new k ≡ slice_index memory.old k }
 {
     memory[from..from + bytes.len()].copy_from_slice(bytes);
 }

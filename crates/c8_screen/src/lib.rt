@@ -7,6 +7,9 @@
 ghost use Rattle.std.specs.Prelude.{◌≡◌, ℕ, ◌%◌, ◌<◌, ◌==◌, not, bit_and, bit_xor, length, slice_index};
 ghost use Rattle.c8_screen.specs.Strip.{strip};
 
+#[cfg(test)]
+mod tests;
+
 /// How many points a row has.
 pub const WIDTH: u8 = 64;
 
@@ -54,13 +57,15 @@ impl Screen {
         &self.rows[usize::from(y)]
     }
 
-    /// Draws a sprite: each byte is a row of 8 points, its highest bit leftmost, and stands below the
-    /// one before it. The upper left point is in column `x` modulo 64 of row `y` modulo 32, and what
-    /// lies past the right or the lower edge is left out. Each point of the sprite is put out where
-    /// it was lit, and else lit; the answer is whether a lit point was put out.
+    /// Draws a sprite: each byte is a row of 8 points, its highest bit leftmost, and stands below
+    /// the one before it. The upper left point is in column `x` modulo 64 of row `y` modulo 32, and
+    /// what lies past the right or the lower edge is left out. Each point of the sprite is put out
+    /// where it was lit, and else lit; the answer is whether a lit point was put out.
     pub fn draw(&mut self, x: u8, y: u8, bytes: &[u8]) -> bool
-        ensures points { points_of self.new ≡ exclusive_or (points_of self.old) (clipped (sprite (length bytes.now) (slice_index bytes.now) (x % 64) (y % 32))) }
-        ensures put_out { result ≡ meets (points_of self.old) (clipped (sprite (length bytes.now) (slice_index bytes.now) (x % 64) (y % 32))) }
+        ensures points { points_of self.new ≡ exclusive_or (points_of self.old)
+            (clipped (sprite (length bytes.now) (slice_index bytes.now) (x % 64) (y % 32))) }
+        ensures put_out { result ≡ meets (points_of self.old)
+            (clipped (sprite (length bytes.now) (slice_index bytes.now) (x % 64) (y % 32))) }
     {
         let left = x % 64;
         let top = usize::from(y % 32);
@@ -73,7 +78,7 @@ impl Screen {
     }
 }
 
-/// The 8 points of a byte in a row, the leftmost in column `left`, without what lies past column 63.
+/// The 8 points of a byte in a row, the leftmost in column `left`, less what lies past column 63.
 #[inline(always)]
 fn strip(byte: u8, left: u8) -> u64
     requires { left < 64 }

@@ -25,7 +25,8 @@ impl Machine {
     fn put_with_flag(&mut self, x: u8, value: u8, flag: u8) -> Step
         requires { x < 16 }
         ensures step { result ≡ Step.Went }
-        ensures state { state self.new ≡ with_flag (with_register (passed (state self.old)) x value) flag }
+        ensures state { state self.new
+            ≡ with_flag (with_register (passed (state self.old)) x value) flag }
     {
         self.counter = self.next();
         self.registers[usize::from(x)] = value;

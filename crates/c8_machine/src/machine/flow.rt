@@ -69,7 +69,8 @@ impl Machine {
     #[inline(always)]
     pub(crate) fn skip_if_value(&mut self, x: u8, value: u8) -> Step
         requires { x < 16 }
-        ensures { Performs (Instruction.SkipIfValue x value) (state self.old) (state self.new) result }
+        ensures { Performs (Instruction.SkipIfValue x value)
+            (state self.old) (state self.new) result }
     {
         self.skip_if(self.register(x) == value)
     }
@@ -77,7 +78,8 @@ impl Machine {
     #[inline(always)]
     pub(crate) fn skip_unless_value(&mut self, x: u8, value: u8) -> Step
         requires { x < 16 }
-        ensures { Performs (Instruction.SkipUnlessValue x value) (state self.old) (state self.new) result }
+        ensures { Performs (Instruction.SkipUnlessValue x value)
+            (state self.old) (state self.new) result }
     {
         self.skip_if(self.register(x) != value)
     }
@@ -95,7 +97,8 @@ impl Machine {
     pub(crate) fn skip_unless_same(&mut self, x: u8, y: u8) -> Step
         requires x { x < 16 }
         requires y { y < 16 }
-        ensures { Performs (Instruction.SkipUnlessSame x y) (state self.old) (state self.new) result }
+        ensures { Performs (Instruction.SkipUnlessSame x y)
+            (state self.old) (state self.new) result }
     {
         self.skip_if(self.register(x) != self.register(y))
     }

@@ -10,8 +10,8 @@ use c8_game::{Game, Keys};
 impl Machine {
     /// One frame, with the keys that are down in it. A stopped machine stays as it is. A wait ends
     /// with the lowest key that was down in the last frame and is not in this one; unless the
-    /// machine still waits, at most `ipf` instructions are done; then the timers fall by one, and the
-    /// keys are remembered.
+    /// machine still waits, at most `ipf` instructions are done, fewer where one draws, waits or
+    /// stops; then each timer above 0 falls by one, and the keys are remembered.
     pub fn frame(&mut self, game: &Game, keys: Keys)
         ensures relation { IsFrame game.now keys.0 (state self.old) (state self.new) }
         ensures function { state self.new ≡ frame_of game.now keys.0 (state self.old) }
