@@ -1,3 +1,5 @@
+ghost use Rattle.std.specs.Prelude.{◌≡◌, IfOk};
+
 use super::*;
 use c8_game::{Game, Player};
 use c8_wire::{Kind, WireError, view};
@@ -24,7 +26,9 @@ const WELCOME: u8 = 2;
 const DATA: u8 = 3;
 
 /// A HELLO, WELCOME or DATA whose body is all zeros; it hears the datagram if it is admitted.
-fn give(links: &mut Links, header: Header) -> Result<Result<(), HandError>, WireError> {
+fn give(links: &mut Links, header: Header) -> Result<Result<(), HandError>, WireError>
+    ensures { links.new.me ≡ links.old.me }
+{
     let size = match header.kind {
         HELLO => 0,
         WELCOME => 4,
@@ -48,22 +52,15 @@ fn give(links: &mut Links, header: Header) -> Result<Result<(), HandError>, Wire
 }
 
 /// A datagram of player 2, in epoch `theirs`, to player 1, in epoch `mine`.
-fn from_two(
-    links: &mut Links,
-    kind: u8,
-    theirs: u8,
-    mine: u8,
-) -> Result<Result<(), HandError>, WireError> {
-    let session = links.head(player_two(), Kind::Data).session;
-    let header = Header {
+fn from_two(session: u64, kind: u8, theirs: u8, mine: u8) -> Header {
+    Header {
         kind,
         session,
         from: 2,
         to: 1,
         theirs,
         mine,
-    };
-    give(links, header)
+    }
 }
 
 fn player_two() -> Player {
@@ -71,9 +68,11 @@ fn player_two() -> Player {
 }
 
 /// Player 1 in epoch 2, with an open link to player 2 in epoch 3.
-fn linked(game: &Game) -> Result<Links, Fail> {
+fn linked(game: &Game) -> Result<Links, Fail>
+    ensures { IfOk result (λ links. links.me ≡ 1) }
+{
     let mut links = Links::new(Player { number: 1 }, game, 0, 2);
-    from_two(&mut links, WELCOME, 3, 2)??;
+    give(&mut links, from_two(game.session(0), WELCOME, 3, 2))??;
     Ok(links)
 }
 
@@ -83,13 +82,25 @@ fn begins_closed(rt: HostRuntime) -> Result<(), Fail> {
     let mut links = Links::new(Player { number: 1 }, &game, 0, 2);
     assert_eq!(rt; links.known(player_two()), 0);
     assert_eq!(rt; links.open(player_two()), None);
-    assert_eq!(rt; from_two(&mut links, HELLO, 1, 0)?, Ok(()));
+    assert_eq!(rt;
+        give(&mut links, from_two(game.session(0), HELLO, 1, 0))?,
+        Ok(())
+    );
     assert_eq!(rt; links.known(player_two()), 1);
     assert_eq!(rt; links.open(player_two()), None);
-    assert_eq!(rt; from_two(&mut links, DATA, 1, 2)?, Err(HandError::NotOpen));
-    assert_eq!(rt; from_two(&mut links, WELCOME, 1, 2)?, Ok(()));
+    assert_eq!(rt;
+        give(&mut links, from_two(game.session(0), DATA, 1, 2))?,
+        Err(HandError::NotOpen)
+    );
+    assert_eq!(rt;
+        give(&mut links, from_two(game.session(0), WELCOME, 1, 2))?,
+        Ok(())
+    );
     assert_eq!(rt; links.open(player_two()), Some(1));
-    assert_eq!(rt; from_two(&mut links, DATA, 1, 2)?, Ok(()));
+    assert_eq!(rt;
+        give(&mut links, from_two(game.session(0), DATA, 1, 2))?,
+        Ok(())
+    );
     Ok(())
 }
 
@@ -113,7 +124,7 @@ fn judges_data_by_both_epochs(rt: HostRuntime) -> Result<(), Fail> {
     for (mine, theirs) in [(1, 3), (2, 2), (1, 4)] {
         let mut links = linked(&game)?;
         assert_eq!(rt;
-            from_two(&mut links, DATA, theirs, mine)?,
+            give(&mut links, from_two(game.session(0), DATA, theirs, mine))?,
             Err(HandError::Stale)
         );
         assert_eq!(rt; links.open(player_two()), Some(3));
@@ -121,7 +132,7 @@ fn judges_data_by_both_epochs(rt: HostRuntime) -> Result<(), Fail> {
     for (mine, theirs) in [(2, 4), (3, 3)] {
         let mut links = linked(&game)?;
         assert_eq!(rt;
-            from_two(&mut links, DATA, theirs, mine)?,
+            give(&mut links, from_two(game.session(0), DATA, theirs, mine))?,
             Err(HandError::Ahead)
         );
         assert_eq!(rt; links.open(player_two()), Some(3));
@@ -133,12 +144,21 @@ fn judges_data_by_both_epochs(rt: HostRuntime) -> Result<(), Fail> {
 fn a_later_hello_closes_the_link(rt: HostRuntime) -> Result<(), Fail> {
     let game = Game::read(rt.alloc(), GAME)?;
     let mut links = linked(&game)?;
-    assert_eq!(rt; from_two(&mut links, HELLO, 3, 2)?, Ok(()));
+    assert_eq!(rt;
+        give(&mut links, from_two(game.session(0), HELLO, 3, 2))?,
+        Ok(())
+    );
     assert_eq!(rt; links.open(player_two()), Some(3));
-    assert_eq!(rt; from_two(&mut links, HELLO, 4, 0)?, Ok(()));
+    assert_eq!(rt;
+        give(&mut links, from_two(game.session(0), HELLO, 4, 0))?,
+        Ok(())
+    );
     assert_eq!(rt; links.known(player_two()), 4);
     assert_eq!(rt; links.open(player_two()), None);
-    assert_eq!(rt; from_two(&mut links, DATA, 4, 2)?, Err(HandError::NotOpen));
+    assert_eq!(rt;
+        give(&mut links, from_two(game.session(0), DATA, 4, 2))?,
+        Err(HandError::NotOpen)
+    );
     Ok(())
 }
 
@@ -146,12 +166,30 @@ fn a_later_hello_closes_the_link(rt: HostRuntime) -> Result<(), Fail> {
 fn hellos_and_welcomes_of_old_epochs_are_stale(rt: HostRuntime) -> Result<(), Fail> {
     let game = Game::read(rt.alloc(), GAME)?;
     let mut links = linked(&game)?;
-    assert_eq!(rt; from_two(&mut links, HELLO, 0, 2)?, Err(HandError::Stale));
-    assert_eq!(rt; from_two(&mut links, HELLO, 2, 2)?, Err(HandError::Stale));
-    assert_eq!(rt; from_two(&mut links, HELLO, 3, 3)?, Err(HandError::Ahead));
-    assert_eq!(rt; from_two(&mut links, WELCOME, 4, 1)?, Err(HandError::Stale));
-    assert_eq!(rt; from_two(&mut links, WELCOME, 0, 2)?, Err(HandError::Stale));
-    assert_eq!(rt; from_two(&mut links, WELCOME, 4, 3)?, Err(HandError::Ahead));
+    assert_eq!(rt;
+        give(&mut links, from_two(game.session(0), HELLO, 0, 2))?,
+        Err(HandError::Stale)
+    );
+    assert_eq!(rt;
+        give(&mut links, from_two(game.session(0), HELLO, 2, 2))?,
+        Err(HandError::Stale)
+    );
+    assert_eq!(rt;
+        give(&mut links, from_two(game.session(0), HELLO, 3, 3))?,
+        Err(HandError::Ahead)
+    );
+    assert_eq!(rt;
+        give(&mut links, from_two(game.session(0), WELCOME, 4, 1))?,
+        Err(HandError::Stale)
+    );
+    assert_eq!(rt;
+        give(&mut links, from_two(game.session(0), WELCOME, 0, 2))?,
+        Err(HandError::Stale)
+    );
+    assert_eq!(rt;
+        give(&mut links, from_two(game.session(0), WELCOME, 4, 3))?,
+        Err(HandError::Ahead)
+    );
     assert_eq!(rt; links.open(player_two()), Some(3));
     Ok(())
 }
@@ -160,7 +198,10 @@ fn hellos_and_welcomes_of_old_epochs_are_stale(rt: HostRuntime) -> Result<(), Fa
 fn a_welcome_of_a_later_epoch_opens_the_link(rt: HostRuntime) -> Result<(), Fail> {
     let game = Game::read(rt.alloc(), GAME)?;
     let mut links = linked(&game)?;
-    assert_eq!(rt; from_two(&mut links, WELCOME, 4, 2)?, Ok(()));
+    assert_eq!(rt;
+        give(&mut links, from_two(game.session(0), WELCOME, 4, 2))?,
+        Ok(())
+    );
     assert_eq!(rt; links.known(player_two()), 4);
     assert_eq!(rt; links.open(player_two()), Some(4));
     Ok(())

@@ -28,7 +28,8 @@ goes_beyond kinds.Welcome bytes = nat_lt most_inputs (number_at 24 4 bytes)
 goes_beyond kinds.Data bytes = nat_lt most_inputs (number_at 24 4 bytes) || nat_lt most_inputs (number_at 28 4 bytes)
     || nat_lt most_inputs (run_end kinds.Data bytes)
 goes_beyond kinds.Freeze bytes = nat_lt most_inputs (number_at 26 4 bytes)
-goes_beyond kind bytes = nat_lt most_inputs (number_at 26 4 bytes) || nat_lt (number_at 26 4 bytes) (run_end kind bytes)
+goes_beyond kinds.Frozen bytes = nat_lt most_inputs (number_at 26 4 bytes) || nat_lt (number_at 26 4 bytes) (run_end kinds.Frozen bytes)
+goes_beyond kinds.Cut bytes = nat_lt most_inputs (number_at 26 4 bytes) || nat_lt (number_at 26 4 bytes) (run_end kinds.Cut bytes)
 
 -- whether a refusal's condition holds of the bytes; the later ones want the kind
 unfoldable pub applies : WireError → Option Kind → List ℕ → Bool

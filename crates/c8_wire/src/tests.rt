@@ -39,11 +39,11 @@ const FROZEN: [u8; 40] = [
     0x00, 0x08, 0x00, 0x02, 0x00, 0x04, 0x80, 0x00,
 ];
 
-/// A CUT of player 3 at 10 inputs, of which it has none.
-const CUT: [u8; 36] = [
-    0x43, 0x38, 0x01, 0x06, 0x01, 0x02, 0x03, 0x04, 0x05, 0x06, 0x07, 0x08, 0x01, 0x02, 0x00, 0x0c,
+/// A CUT of player 3 at 10 inputs: 8 and 9 are 0004 and 8000.
+const CUT: [u8; 40] = [
+    0x43, 0x38, 0x01, 0x06, 0x01, 0x02, 0x03, 0x04, 0x05, 0x06, 0x07, 0x08, 0x01, 0x02, 0x00, 0x10,
     0x00, 0x00, 0x00, 0x01, 0x00, 0x00, 0x00, 0x01, 0x03, 0x00, 0x00, 0x00, 0x00, 0x0a, 0x00, 0x00,
-    0x00, 0x0a, 0x00, 0x00,
+    0x00, 0x08, 0x00, 0x02, 0x00, 0x04, 0x80, 0x00,
 ];
 
 fn refused(bytes: &[u8]) -> Option<WireError> {
@@ -61,27 +61,19 @@ fn refused_with(bytes: &[u8], place: usize, with: &[u8]) -> Option<WireError>
     refused(&changed[..bytes.len()])
 }
 
-/// A datagram with 64 inputs, by the first bytes of one: `fixed` bytes of its body stand before them.
-fn refused_at_64(bytes: &[u8], fixed: u8) -> Option<WireError>
+/// The refusal of a datagram that begins as `bytes`, with `fixed` bytes of its body before a run of
+/// `count` inputs. `inputs` is byte 29, the last one of what is held, or cut at, of a leaver.
+fn refused_with_run(bytes: &[u8], fixed: u8, count: u8, inputs: u8) -> Option<WireError>
     requires short { length bytes.now ≤ 48 }
     requires fixed { fixed ≤ 22 }
+    requires count { count ≤ 65 }
 {
-    let mut longest = [0; 174];
-    longest[..bytes.len()].copy_from_slice(bytes);
-    longest[15] = 128 + fixed;
-    longest[usize::from(fixed) + 23] = 64;
-    refused(&longest[..usize::from(fixed) + 152])
-}
-
-fn refused_at_65(bytes: &[u8], fixed: u8) -> Option<WireError>
-    requires short { length bytes.now ≤ 48 }
-    requires fixed { fixed ≤ 22 }
-{
-    let mut longer = [0; 176];
-    longer[..bytes.len()].copy_from_slice(bytes);
-    longer[15] = 130 + fixed;
-    longer[usize::from(fixed) + 23] = 65;
-    refused(&longer[..usize::from(fixed) + 154])
+    let mut all = [0; 176];
+    all[..bytes.len()].copy_from_slice(bytes);
+    all[15] = fixed + 2 * count;
+    all[29] = inputs;
+    all[usize::from(fixed) + 23] = count;
+    refused(&all[..usize::from(fixed) + 24 + 2 * usize::from(count)])
 }
 
 fn head(kind: Kind) -> Head
@@ -157,9 +149,9 @@ fn reads_a_frozen_and_a_cut(rt: HostRuntime) -> Result<(), Fail> {
     };
     assert_eq!(rt; lent.leaver().number, 3);
     assert_eq!(rt; lent.length(), 10);
-    assert_eq!(rt; lent.start(), 10);
-    assert!(rt; lent.run().is_empty());
-    assert_eq!(rt; lent.run().iter().next(), None);
+    assert_eq!(rt; lent.start(), 8);
+    assert_eq!(rt; lent.run().iter().count(), 2);
+    assert_eq!(rt; lent.run().bytes(), [0x00, 0x04, 0x80, 0x00].as_slice());
     Ok(())
 }
 
@@ -313,15 +305,22 @@ fn refuses_what_is_said_of_a_leaver(rt: HostRuntime) {
 }
 
 #[test]
-fn takes_64_inputs_and_no_more(rt: HostRuntime) {
-    assert_eq!(rt; refused_at_64(&DATA, 22), None);
-    assert_eq!(rt; refused_at_65(&DATA, 22), Some(WireError::Count));
-    assert_eq!(rt; refused_at_65(&FROZEN, 12), Some(WireError::Count));
-    assert_eq!(rt; refused_at_65(&CUT, 12), Some(WireError::Count));
-
-    // Eight more inputs than the ten that are held, or cut at.
-    assert_eq!(rt; refused_at_64(&FROZEN, 12), Some(WireError::Beyond));
-    assert_eq!(rt; refused_at_64(&CUT, 12), Some(WireError::Beyond));
+fn takes_up_to_64_inputs(rt: HostRuntime) {
+    assert_eq!(rt; refused_with_run(&DATA, 22, 0, 0), None);
+    assert_eq!(rt; refused_with_run(&DATA, 22, 64, 0), None);
+    assert_eq!(rt; refused_with_run(&DATA, 22, 65, 0), Some(WireError::Count));
+    for bytes in [FROZEN, CUT] {
+        assert_eq!(rt; refused_with_run(&bytes, 12, 0, 8), None);
+        assert_eq!(rt; refused_with_run(&bytes, 12, 64, 72), None);
+        assert_eq!(rt;
+            refused_with_run(&bytes, 12, 64, 71),
+            Some(WireError::Beyond)
+        );
+        assert_eq!(rt;
+            refused_with_run(&bytes, 12, 65, 73),
+            Some(WireError::Count)
+        );
+    }
 }
 
 /// Whether a datagram is written as these bytes, and what stood behind them stays.
@@ -367,8 +366,8 @@ fn writes_freeze_frozen_and_cut(rt: HostRuntime) {
     let body = Body::Cut {
         leaver,
         length: 10,
-        start: 10,
-        run: &[],
+        start: 8,
+        run: &[0x0004, 0x8000],
     };
     assert!(rt; is_written(Kind::Cut, body, &CUT));
 }
