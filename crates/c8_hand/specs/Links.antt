@@ -1,5 +1,5 @@
 -- What a peer knows of the others' epochs, which datagrams it admits, and what these change.
-use Rattle.std.specs.Prelude.{◌≡◌, ℕ, ◌≤◌, ◌-◌, ◌==◌, ◌||◌, ◌⊎◌, Bool, true, false, not, nat_lt, List, Option, Some, None, replicate, slice_index_or, slice_set, if◌then◌else◌}
+use Rattle.std.specs.Prelude.{◌≡◌, ℕ, ◌≤◌, ◌-◌, ◌==◌, ◌&&◌, ◌||◌, ◌⊎◌, Bool, true, false, not, nat_lt, nat_le, List, Option, Some, None, replicate, slice_index_or, slice_set, if◌then◌else◌}
 use Rattle.c8_game.specs.Rules.{Rules, session_of}
 use Rattle.c8_wire.specs.declared.head.Kind.{Kind}
 use Rattle.c8_wire.specs.declared.head.Kind.TheVariants as kinds
@@ -51,7 +51,7 @@ refusal_by_kind _ = refusal_of_others
 
 -- whether a datagram is from another player of the game, to this one
 abbrev pub is_mine : LinksValue → HeadValue → Bool
-is_mine l head = not (not (head.to == l.me) || head.from == l.me || nat_lt l.players head.from)
+is_mine l head = (head.to == l.me && not (head.from == l.me)) && (nat_le 1 head.from && nat_le head.from l.players)
 
 -- the refusal of a datagram with this header, None where it is admitted
 abbrev pub refusal : LinksValue → HeadValue → Option HandError

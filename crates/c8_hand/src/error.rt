@@ -7,10 +7,12 @@ pub enum HandError {
     /// The link to the sender is not open.
     #[error("1 NotOpen")]
     NotOpen,
-    /// An epoch of the header is older than the one that is known, or a sender's epoch is 0.
+    /// It is from an older epoch of the sender than the known one, or (but for HELLO) for an older
+    /// epoch of this peer; or it is a HELLO or WELCOME of epoch 0.
     #[error("2 Stale")]
     Stale,
-    /// An epoch of the header is newer than the one that is known.
+    /// It is for a later epoch of this peer; or, but for HELLO and WELCOME, from a later epoch of the
+    /// sender than the known one.
     #[error("3 Ahead")]
     Ahead,
     /// It is not addressed to this player, or its sender is this player or none of the game.

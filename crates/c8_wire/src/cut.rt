@@ -33,7 +33,7 @@ impl<'a> Cut<'a> {
         }
     }
 
-    /// How many inputs the leaver has.
+    /// How many inputs of the leaver count.
     pub fn length(&self) -> u32
         ensures { result ≡ (cut_of self.now).length }
     {

@@ -8,7 +8,7 @@ ghost use Rattle.c8_wire.specs.Spelling.{Spells};
 use crate::numbers::u32_at;
 use c8_game::Player;
 
-/// Player one tells that a player leaves.
+/// The sender tells that a player leaves. That it is player one is judged by who takes it.
 #[derive(Clone, Copy)]
 pub struct Freeze<'a> {
     pub(crate) bytes: &'a [u8],

@@ -15,7 +15,7 @@ pub struct Hello<'a> {
     pub(crate) ghost spelled: { Spells bytes.now (packet_at kinds.Hello bytes.now) } by { Prim.hlevel props },
 }
 
-/// The sender takes the link.
+/// The sender answers a HELLO, which opens the addressee's link.
 #[derive(Clone, Copy)]
 pub struct Welcome<'a> {
     pub(crate) bytes: &'a [u8],

@@ -9,15 +9,15 @@ use c8_game::Player;
 pub enum Kind {
     /// The sender asks for a link.
     Hello = 1,
-    /// The sender takes the link.
+    /// The sender answers a HELLO, which opens the addressee's link.
     Welcome = 2,
     /// The sender's inputs.
     Data = 3,
-    /// Player one tells that a player leaves.
+    /// The sender tells that a player leaves.
     Freeze = 4,
     /// The inputs that the sender holds of a player who leaves.
     Frozen = 5,
-    /// All inputs of a player who has left.
+    /// How many inputs of a player who has left count, and some of them.
     Cut = 6,
 }
 

@@ -19,7 +19,7 @@ pub enum WireError {
     /// The body is not as long as the header says, or not as its kind wants.
     #[error("5 Length")]
     Length,
-    /// The sender or the addressee is no player, or they are one.
+    /// The sender or the addressee is not 1 to 4, or both are the same; or the leaver is not 2 to 4.
     #[error("6 Player")]
     Player,
     /// A byte that must be 0 is not.
@@ -28,7 +28,8 @@ pub enum WireError {
     /// More than 64 inputs, or not as many as the body has room for.
     #[error("8 Count")]
     Count,
-    /// A number of inputs that no game reaches, or a run past its end.
+    /// A number above 262148, which no game reaches; or a run past that number in DATA, past the inputs
+    /// that are held in FROZEN, past the length in CUT.
     #[error("9 Beyond")]
     Beyond,
 }

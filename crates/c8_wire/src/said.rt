@@ -19,7 +19,7 @@ const MOST_BYTES: usize = 174;
 pub enum Body<'a> {
     /// The sender asks for a link.
     Hello,
-    /// The sender takes the link, and holds `ack` inputs of the addressee.
+    /// The sender answers a HELLO, and holds `ack` inputs of the addressee.
     Welcome {
         ack: u32,
     },

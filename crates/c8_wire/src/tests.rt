@@ -304,6 +304,32 @@ fn refuses_what_is_said_of_a_leaver(rt: HostRuntime) {
     );
 }
 
+/// The longest datagram, and each cut of it.
+#[test]
+fn reads_64_inputs(rt: HostRuntime) -> Result<(), Fail> {
+    let mut longest = [0; 174];
+    longest[..48].copy_from_slice(&DATA);
+    longest[15] = 150;
+    longest[45] = 64;
+    let Datagram::Data(lent) = view(&longest)? else {
+        return Err("no DATA")?;
+    };
+    assert_eq!(rt; (lent.run().len(), lent.run().bytes().len()), (64, 128));
+    for length in 0..174 {
+        let error = if length < 24 {
+            WireError::Short
+        } else {
+            WireError::Length
+        };
+        assert_eq!(rt;
+            refused(&longest[..length]),
+            Some(error),
+            "of {length} bytes"
+        );
+    }
+    Ok(())
+}
+
 #[test]
 fn takes_up_to_64_inputs(rt: HostRuntime) {
     assert_eq!(rt; refused_with_run(&DATA, 22, 0, 0), None);
