@@ -1,7 +1,7 @@
 // The log, over a disk that it owns.
-ghost use Rattle.std.specs.Prelude.{◌≡◌, ◌≢◌, ◌<◌, ◌≤◌, ◌+◌, ◌*◌, ◌^◌, ◌++◌, [], ◌∷◌, ◌↔◌, true, false, length, slice_get, Some, IfOk, OnOk, IfErr, OnErr, IsErrOf};
-ghost use Rattle.c8_disk.specs.Disk.{LeavesOnly, AddsNone};
-ghost use Rattle.c8_log.specs.Slots.{kept, kept_count};
+ghost use Rattle.std.specs.Prelude.{◌≡◌, ◌≢◌, ◌<◌, ◌≤◌, ◌+◌, ◌*◌, ◌++◌, [], ◌∷◌, ◌↔◌, true, false, length, slice_get, Some, IfOk, OnOk, IfErr, OnErr, IsErrOf};
+ghost use Rattle.c8_disk.specs.Disk.{LeavesOnly};
+ghost use Rattle.c8_log.specs.Slots.{kept};
 
 use crate::LogError;
 use crate::append::{add, has_room};
@@ -29,7 +29,7 @@ impl<D: Disk> Model for Log<D> {
 }
 
 impl<D: Disk> Log<D> {
-    ghost use Rattle.c8_log.specs.Log.{AllKeep, KeepsOneOf, KeepsWithOrWithout, IsAtRest, repaired};
+    ghost use Rattle.c8_log.specs.Log.{KeepsOneOf, KeepsWithOrWithout, IsAtRest, repaired};
 
     /// Opens the log that a disk holds, and closes the gate behind its last body if that was left open or is missing.
     /// At an error the disk is given back, and it keeps what it kept.
