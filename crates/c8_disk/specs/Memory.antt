@@ -1,5 +1,6 @@
 -- What a disk in memory shows.
 use Rattle.std.specs.Prelude.{ℕ, Bool, List, length}
+use Rattle.c8_disk.specs.declared.call.Call.{Call}
 use Rattle.c8_disk.specs.declared.disk.Arm.{Arm}
 use Rattle.c8_disk.specs.declared.memory.MemDisk.{MemDisk}
 use Rattle.c8_disk.specs.Past.{IsImage, LeftSince, synced}
@@ -8,6 +9,13 @@ use Rattle.c8_disk.specs.Budget.{is_spent}
 -- what a read gives
 abbrev pub bytes_of : MemDisk → List ℕ
 bytes_of disk = disk.bytes.items
+
+-- what it held at first, and each call that wrote or synced since: all that a crash is told from
+abbrev pub first_of : MemDisk → List ℕ
+first_of disk = disk.first.items
+
+abbrev pub calls_of : MemDisk → List Call
+calls_of disk = disk.calls.items
 
 -- the images that a crash now may leave
 abbrev pub images_of : MemDisk → List ℕ → Type 0
@@ -36,6 +44,10 @@ calls_allowed disk = disk.allowed
 
 abbrev pub arm_of : MemDisk → Arm
 arm_of disk = disk.budget.arm
+
+-- what `arm` and `stop_after` were told, the oldest first
+abbrev pub arms_of : MemDisk → List Arm
+arms_of disk = disk.arms.items
 
 abbrev pub failures_of : MemDisk → ℕ
 failures_of disk = length disk.budget.failures.items

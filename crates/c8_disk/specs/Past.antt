@@ -1,6 +1,6 @@
 -- What a disk gives and what a crash may leave of it, from what it held at first and the calls that changed it since,
 -- the oldest call first.
-use Rattle.std.specs.Prelude.{◌≡◌, ◌≤◌, ℕ, suc, ◌+◌, nat_le, nat_lt, ◌&&◌, if◌then◌else◌, Bool, true, List, [], ◌∷◌, length, take}
+use Rattle.std.specs.Prelude.{◌≡◌, ◌≤◌, ℕ, suc, ◌+◌, nat_le, nat_lt, ◌&&◌, if◌then◌else◌, Bool, true, List, [], ◌∷◌, ◌++◌, length, take}
 use Rattle.c8_disk.specs.Disk.{overwritten, Torn}
 use Rattle.c8_disk.specs.declared.call.Call.{Call}
 use Rattle.c8_disk.specs.declared.call.Call.TheVariants.{Write, Sync}
@@ -54,6 +54,10 @@ fit capacity (Sync ∷ calls) = fit capacity calls
 abbrev pub IsWriteOf : ℕ → List ℕ → Call → Type 0
 IsWriteOf at bytes (Write place count written) = (place ≡ at) × (count ≡ length bytes) × (take count written ≡ bytes)
 IsWriteOf at bytes Sync = ⊥
+
+-- the calls, and one more behind them that writes these bytes at this place
+abbrev pub AddsWrite : ℕ → List ℕ → List Call → List Call → Type 0
+AddsWrite at bytes old new = (call : Call) × IsWriteOf at bytes call × (new ≡ old ++ call ∷ [])
 
 -- the new bytes are the old ones after the torn writes
 abbrev pub TornBy : List Call → List ℕ → List ℕ → Type 0

@@ -1,4 +1,4 @@
-// How long a disk in memory serves.
+//! How long a disk in memory serves.
 ghost use Rattle.std.specs.Prelude.{◌≡◌, ◌+◌, ◌↔◌, true, false, length, OnOk, OnErr, IsErrOf};
 
 use crate::trace::Trace;

@@ -1,4 +1,4 @@
-// Writes to bytes in memory, whole or torn, in room that was reserved.
+//! Writes to bytes in memory, whole or torn, in room that was reserved.
 ghost use Rattle.std.specs.Prelude.{◌≡◌, ◌≤◌, ◌<◌, ◌+◌, ◌++◌, length, vec_len, vec_capacity};
 ghost use Rattle.c8_disk.specs.Disk.{overwritten, Torn};
 

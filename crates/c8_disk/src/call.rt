@@ -1,4 +1,4 @@
-// The calls that change a disk, kept so that its images can be told from them.
+//! The calls that change a disk, kept so that its images can be told from them.
 ghost use Rattle.std.specs.Prelude.{◌≡◌, ◌≤◌, [], ◌∷◌, length, vec_capacity, true};
 ghost use Rattle.c8_disk.specs.Past.{content, synced_count, are_lawful, fit, IsWriteOf, TornBy};
 

@@ -1,5 +1,6 @@
-// A disk as a journal sees it: what a read gives, and what a crash may leave.
-ghost use Rattle.std.specs.Prelude.{◌≡◌, ◌+◌, ◌<◌, ◌≤◌, List, ℕ, length, take, drop, OnOk, IsErrOf};
+//! A disk as a journal sees it: what a read gives, and what a crash may leave.
+ghost use Rattle.std.specs.Prelude.{◌≡◌, ◌+◌, ◌<◌, ◌≤◌, List, [], ◌∷◌, ◌++◌, ℕ, length, take, drop, OnOk, IsErrOf};
+ghost use Rattle.c8_disk.specs.declared.disk.Arm.{Arm};
 ghost use Rattle.c8_disk.specs.Disk.{AddsNone, Only, Writes, WritesImages, Elapses, HasCause};
 
 use thiserror::Error;
@@ -18,7 +19,7 @@ pub enum DiskError {
 /// When the calls of a disk are to fail.
 #[derive(Clone, Copy, Debug, PartialEq, Eq)]
 pub enum Arm {
-    /// Never.
+    /// No stop.
     Off,
     /// After so many more calls that read, write or sync: each one from then on fails, with no effect.
     Stop(u64),
@@ -47,6 +48,9 @@ pub trait Disk {
     /// How many bytes there is room for.
     ghost capacity: { Self → ℕ };
 
+    /// What `arm` was told, the oldest first.
+    ghost arms: { Self → List Arm };
+
     /// How many bytes there are.
     fn len(&self) -> u32
         ensures { result ≡ length (seen self.now) };
@@ -65,7 +69,8 @@ pub trait Disk {
         ensures cause { HasCause (failures self.old) (failures self.new) result }
         ensures never_full { IsErrOf result DiskError.Full → ⊥ }
         ensures changes { changes self.new ≡ changes self.old }
-        ensures capacity { capacity self.new ≡ capacity self.old };
+        ensures capacity { capacity self.new ≡ capacity self.old }
+        ensures arms { arms self.new ≡ arms self.old };
 
     /// Writes over what is there, and past the end. Until a sync that answers `Ok`, a crash may leave any bytes in the
     /// range. A write that answers `Failed` may have done any part of its work; one that answers `Full` did none.
@@ -78,7 +83,8 @@ pub trait Disk {
         ensures cause { HasCause (failures self.old) (failures self.new) result }
         ensures full { IsErrOf result DiskError.Full → capacity self.old < at + length bytes.now }
         ensures changes { changes self.new ≡ changes self.old + 1 }
-        ensures capacity { capacity self.new ≡ capacity self.old };
+        ensures capacity { capacity self.new ≡ capacity self.old }
+        ensures arms { arms self.new ≡ arms self.old };
 
     /// After an `Ok`, a crash leaves what a read gives.
     fn sync(&mut self) -> Result<(), DiskError>
@@ -89,16 +95,19 @@ pub trait Disk {
         ensures cause { HasCause (failures self.old) (failures self.new) result }
         ensures never_full { IsErrOf result DiskError.Full → ⊥ }
         ensures changes { changes self.new ≡ changes self.old + 1 }
-        ensures capacity { capacity self.new ≡ capacity self.old };
+        ensures capacity { capacity self.new ≡ capacity self.old }
+        ensures arms { arms self.new ≡ arms self.old };
 
     /// Says when calls fail from now on. It changes nothing that a read or a crash gives.
     fn arm(&mut self, arm: Arm)
         ensures seen { seen self.new ≡ seen self.old }
         ensures crash { AddsNone (may_leave self.old) (may_leave self.new) }
+        ensures crash_keeps { AddsNone (may_leave self.new) (may_leave self.old) }
         ensures time { Elapses (moment self.old) (moment self.new) (left_since self.old) (left_since self.new) (may_leave self.new) }
         ensures failures { failures self.new ≡ failures self.old }
         ensures changes { changes self.new ≡ changes self.old }
-        ensures capacity { capacity self.new ≡ capacity self.old };
+        ensures capacity { capacity self.new ≡ capacity self.old }
+        ensures arms { arms self.new ≡ arms self.old ++ arm ∷ [] };
 
     /// What a read gives is one of the images.
     ghost reads_now: { (disk : Self) → may_leave disk (seen disk) };

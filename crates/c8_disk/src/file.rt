@@ -1,4 +1,4 @@
-// A disk in a file of the operating system.
+//! A disk in a file of the operating system.
 ghost use Rattle.std.specs.Prelude.{◌≡◌, ◌≤◌, ◌<◌, ◌+◌, ◌^◌, true, false, length, vec_len, vec_capacity, IfOk, IsTrue};
 ghost use Rattle.c8_disk.specs.Disk.{Only};
 ghost use Rattle.c8_disk.specs.Past.{content, are_lawful, IsImage, LeftSince};
@@ -47,6 +47,7 @@ pub struct FileDisk {
     calls: Trace<Call>,
     failures: Trace<()>,
     asked: Trace<()>,
+    arms: Trace<Arm>,
     ghost room_fits: { room < 2 ^ 32 },
     ghost lawful: { are_lawful first.value.items calls.items ≡ true },
     ghost replayed: { bytes.items ≡ content first.value.items calls.items },
@@ -117,6 +118,7 @@ impl FileDisk {
             calls: Trace::new(),
             failures: Trace::new(),
             asked: Trace::new(),
+            arms: Trace::new(),
         })
     }
 }
@@ -135,6 +137,8 @@ impl Disk for FileDisk {
     ghost changes = { λ d. length d.asked.items };
 
     ghost capacity = { λ d. d.room };
+
+    ghost arms = { λ d. d.arms.items };
 
     ghost reads_now = { λ d. reads_image d.first.value.items d.calls.items d.bytes.items d.lawful d.replayed };
 
@@ -193,5 +197,7 @@ impl Disk for FileDisk {
     }
 
     /// A file fails when it fails.
-    fn arm(&mut self, _arm: Arm) {}
+    fn arm(&mut self, arm: Arm) {
+        self.arms = self.arms.and(&arm);
+    }
 }

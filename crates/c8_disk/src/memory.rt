@@ -1,7 +1,7 @@
-// A disk in memory that can stop and crash.
+//! A disk in memory that can stop and crash.
 ghost use Rattle.std.specs.Prelude.{◌≡◌, ◌≤◌, ◌<◌, ◌+◌, ◌^◌, ◌↔◌, true, [], ◌∷◌, ◌++◌, length, vec_len, vec_capacity, take, drop, IfOk, OnOk, OnErr, IsErrOf, refl, false};
 ghost use Rattle.c8_disk.specs.Disk.{Only, AddsNone, Writes, WritesImages, Elapses, HasCause};
-ghost use Rattle.c8_disk.specs.Past.{content, synced, are_lawful, fit, IsImage, LeftSince};
+ghost use Rattle.c8_disk.specs.Past.{content, synced, are_lawful, fit, IsImage, LeftSince, AddsWrite};
 ghost use Rattle.c8_disk.specs.Budget.{stepped};
 ghost use Rattle.c8_disk.specs.PastLaws.{reads_image, counts, only};
 
@@ -26,6 +26,7 @@ pub struct MemDisk {
     allowed: u32,
     budget: Budget,
     asked: Trace<()>,
+    arms: Trace<Arm>,
     ghost room_fits: { room < 2 ^ 32 },
     ghost lawful: { are_lawful first.items calls.items ≡ true },
     ghost replayed: { bytes.items ≡ content first.items calls.items },
@@ -48,11 +49,13 @@ fn note(calls: &mut Vec<Call>, call: Call)
 }
 
 impl MemDisk {
-    ghost use Rattle.c8_disk.specs.Memory.{bytes_of, images_of, synced_of, room_of, calls_left, calls_allowed, arm_of, failures_of, changes_of};
+    ghost use Rattle.c8_disk.specs.Memory.{bytes_of, first_of, calls_of, images_of, moment_of, left_since, synced_of, room_of, calls_left, calls_allowed, arm_of, arms_of, failures_of, changes_of};
 
     /// An empty disk with room for so many bytes, which serves so many calls.
     pub fn new(alloc: Global, capacity: u32, calls: u32) -> Result<MemDisk, AllocError>
         ensures empty { IfOk result (λ disk. bytes_of disk ≡ []) }
+        ensures first { IfOk result (λ disk. first_of disk ≡ []) }
+        ensures calls { IfOk result (λ disk. calls_of disk ≡ []) }
         ensures settled { IfOk result (λ disk. Only (bytes_of disk) (images_of disk)) }
         ensures room { IfOk result (λ disk. room_of disk ≡ capacity) }
         ensures left { IfOk result (λ disk. calls_left disk ≡ calls) }
@@ -71,17 +74,28 @@ impl MemDisk {
                 failures: Trace::new(),
             },
             asked: Trace::new(),
+            arms: Trace::new(),
         })
     }
 
     /// Lets so many more calls that read, write or sync pass, and fails each one after them.
     pub fn stop_after(&mut self, calls: u64)
-        ensures arm { arm_of self.new ≡ Arm.Stop calls }
+        ensures seen { bytes_of self.new ≡ bytes_of self.old }
+        ensures first { first_of self.new ≡ first_of self.old }
+        ensures calls { calls_of self.new ≡ calls_of self.old }
+        ensures crash { AddsNone (images_of self.old) (images_of self.new) }
+        ensures crash_keeps { AddsNone (images_of self.new) (images_of self.old) }
+        ensures time { Elapses (moment_of self.old) (moment_of self.new) (left_since self.old) (left_since self.new) (images_of self.new) }
+        ensures failures { failures_of self.new ≡ failures_of self.old }
+        ensures changes { changes_of self.new ≡ changes_of self.old }
+        ensures capacity { room_of self.new ≡ room_of self.old }
+        ensures arms { arms_of self.new ≡ arms_of self.old ++ Arm.Stop calls ∷ [] }
+        ensures armed { arm_of self.new ≡ Arm.Stop calls }
         ensures left { calls_left self.new ≡ calls_left self.old }
-        ensures bytes { bytes_of self.new ≡ bytes_of self.old }
-        ensures images { AddsNone (images_of self.old) (images_of self.new) }
+        ensures allowed { calls_allowed self.new ≡ calls_allowed self.old }
     {
         self.budget.arm = Arm::Stop(calls);
+        self.arms = self.arms.and(&Arm::Stop(calls));
     }
 
     /// What a read gives.
@@ -98,12 +112,15 @@ impl MemDisk {
         ensures synced { pick ≡ 0 → bytes_of result ≡ synced_of self }
         ensures read { pick ≡ 1 → bytes_of result ≡ bytes_of self }
         ensures settled { Only (bytes_of result) (images_of result) }
+        ensures first { first_of result ≡ bytes_of result }
+        ensures calls { calls_of result ≡ [] }
         ensures room { room_of result ≡ room_of self }
         ensures left { calls_left result ≡ calls_allowed self }
         ensures allowed { calls_allowed result ≡ calls_allowed self }
         ensures arm { arm_of result ≡ Arm.Off }
         ensures failures { failures_of result ≡ failures_of self }
         ensures changes { changes_of result ≡ changes_of self }
+        ensures arms { arms_of result ≡ arms_of self }
     {
         let MemDisk {
             mut first,
@@ -113,6 +130,7 @@ impl MemDisk {
             allowed,
             budget,
             asked,
+            arms,
         } = self;
         leave_image(&mut first, &mut bytes, &calls, pick);
         replace(&mut first, &bytes);
@@ -130,6 +148,7 @@ impl MemDisk {
             allowed,
             budget,
             asked,
+            arms,
         }
     }
 }
@@ -159,7 +178,7 @@ fn leave_image(first: &mut Vec<u8>, bytes: &mut Vec<u8>, calls: &[Call], pick: u
 }
 
 impl Disk for MemDisk {
-    ghost use Rattle.c8_disk.specs.Memory.{bytes_of, images_of, moment_of, left_since, room_of, calls_left, arm_of, failures_of, changes_of, is_stopped};
+    ghost use Rattle.c8_disk.specs.Memory.{bytes_of, first_of, calls_of, images_of, moment_of, left_since, room_of, calls_left, calls_allowed, arm_of, arms_of, failures_of, changes_of, is_stopped};
 
     ghost seen = { λ d. d.bytes.items };
 
@@ -174,6 +193,8 @@ impl Disk for MemDisk {
     ghost changes = { λ d. length d.asked.items };
 
     ghost capacity = { λ d. d.room };
+
+    ghost arms = { λ d. d.arms.items };
 
     ghost reads_now = { λ d. reads_image d.first.items d.calls.items d.bytes.items d.lawful d.replayed };
 
@@ -199,13 +220,17 @@ impl Disk for MemDisk {
         ensures never_full { IsErrOf result DiskError.Full → ⊥ }
         ensures changes { changes_of self.new ≡ changes_of self.old }
         ensures capacity { room_of self.new ≡ room_of self.old }
+        ensures arms { arms_of self.new ≡ arms_of self.old }
 
-        // It fails once its calls are spent or it is stopped, and only then, and such a call counts for nothing.
+        // It fails once its calls are spent or it is stopped, and only then. A call that was refused counts for nothing.
         ensures failed { IsErrOf result DiskError.Failed ↔ (is_stopped self.old ≡ true) }
         ensures left { OnOk result (calls_left self.new + 1 ≡ calls_left self.old) }
         ensures left_err { OnErr result (calls_left self.new ≡ calls_left self.old) }
         ensures armed { OnOk result (arm_of self.new ≡ stepped (arm_of self.old)) }
         ensures armed_err { OnErr result (arm_of self.new ≡ arm_of self.old) }
+        ensures first { first_of self.new ≡ first_of self.old }
+        ensures calls { calls_of self.new ≡ calls_of self.old }
+        ensures allowed { calls_allowed self.new ≡ calls_allowed self.old }
     {
         self.budget.check()?;
         self.budget.spend();
@@ -225,13 +250,18 @@ impl Disk for MemDisk {
             ↔ ((is_stopped self.old ≡ false) × (room_of self.old < at + length bytes.now)) }
         ensures changes { changes_of self.new ≡ changes_of self.old + 1 }
         ensures capacity { room_of self.new ≡ room_of self.old }
+        ensures arms { arms_of self.new ≡ arms_of self.old }
 
-        // It fails once its calls are spent or it is stopped, and only then, and such a call counts for nothing.
+        // It fails once its calls are spent or it is stopped, and only then. A call that was refused counts for nothing.
         ensures failed { IsErrOf result DiskError.Failed ↔ (is_stopped self.old ≡ true) }
         ensures left { OnOk result (calls_left self.new + 1 ≡ calls_left self.old) }
         ensures left_err { OnErr result (calls_left self.new ≡ calls_left self.old) }
         ensures armed { OnOk result (arm_of self.new ≡ stepped (arm_of self.old)) }
         ensures armed_err { OnErr result (arm_of self.new ≡ arm_of self.old) }
+        ensures first { first_of self.new ≡ first_of self.old }
+        ensures calls { OnOk result (AddsWrite at bytes.now (calls_of self.old) (calls_of self.new)) }
+        ensures calls_err { OnErr result (calls_of self.new ≡ calls_of self.old) }
+        ensures allowed { calls_allowed self.new ≡ calls_allowed self.old }
     {
         self.asked = self.asked.and(&());
         self.budget.check()?;
@@ -253,13 +283,18 @@ impl Disk for MemDisk {
         ensures never_full { IsErrOf result DiskError.Full → ⊥ }
         ensures changes { changes_of self.new ≡ changes_of self.old + 1 }
         ensures capacity { room_of self.new ≡ room_of self.old }
+        ensures arms { arms_of self.new ≡ arms_of self.old }
 
-        // It fails once its calls are spent or it is stopped, and only then, and such a call counts for nothing.
+        // It fails once its calls are spent or it is stopped, and only then. A call that was refused counts for nothing.
         ensures failed { IsErrOf result DiskError.Failed ↔ (is_stopped self.old ≡ true) }
         ensures left { OnOk result (calls_left self.new + 1 ≡ calls_left self.old) }
         ensures left_err { OnErr result (calls_left self.new ≡ calls_left self.old) }
         ensures armed { OnOk result (arm_of self.new ≡ stepped (arm_of self.old)) }
         ensures armed_err { OnErr result (arm_of self.new ≡ arm_of self.old) }
+        ensures first { first_of self.new ≡ first_of self.old }
+        ensures calls { OnOk result (calls_of self.new ≡ calls_of self.old ++ Call.Sync ∷ []) }
+        ensures calls_err { OnErr result (calls_of self.new ≡ calls_of self.old) }
+        ensures allowed { calls_allowed self.new ≡ calls_allowed self.old }
     {
         self.asked = self.asked.and(&());
         self.budget.check()?;
@@ -271,13 +306,19 @@ impl Disk for MemDisk {
     fn arm(&mut self, arm: Arm)
         ensures seen { bytes_of self.new ≡ bytes_of self.old }
         ensures crash { AddsNone (images_of self.old) (images_of self.new) }
+        ensures crash_keeps { AddsNone (images_of self.new) (images_of self.old) }
         ensures time { Elapses (moment_of self.old) (moment_of self.new) (left_since self.old) (left_since self.new) (images_of self.new) }
         ensures failures { failures_of self.new ≡ failures_of self.old }
         ensures changes { changes_of self.new ≡ changes_of self.old }
         ensures capacity { room_of self.new ≡ room_of self.old }
+        ensures arms { arms_of self.new ≡ arms_of self.old ++ arm ∷ [] }
         ensures armed { arm_of self.new ≡ arm }
         ensures left { calls_left self.new ≡ calls_left self.old }
+        ensures first { first_of self.new ≡ first_of self.old }
+        ensures calls { calls_of self.new ≡ calls_of self.old }
+        ensures allowed { calls_allowed self.new ≡ calls_allowed self.old }
     {
         self.budget.arm = arm;
+        self.arms = self.arms.and(&arm);
     }
 }
