@@ -1,5 +1,5 @@
 //! What is known of one other player.
-ghost use Rattle.std.specs.Prelude.{◌≡◌};
+ghost use Rattle.std.specs.Prelude.{true, false, ◌≡◌};
 
 use crate::error::HandError;
 use c8_wire::Head;
@@ -13,14 +13,25 @@ pub(crate) struct Link {
 
 impl Link {
     ghost use Rattle.c8_wire.specs.Saying.{head_value};
-    ghost use Rattle.c8_hand.specs.Links.{refusal_of_hello, refusal_of_welcome, refusal_of_others, no_link};
+    ghost use Rattle.c8_hand.specs.Links.{refusal_of_hello, refusal_of_welcome, refusal_of_others};
 
-    pub(crate) fn none() -> Link
-        ensures { result ≡ no_link }
+    /// A closed link to a player of this epoch, 0 if none is known.
+    pub(crate) fn closed(known: u32) -> Link
+        ensures { result ≡ record { known = known; is_open = false } }
     {
         Link {
-            known: 0,
+            known,
             is_open: false,
+        }
+    }
+
+    /// An open link to a player of this epoch.
+    pub(crate) fn opened(known: u32) -> Link
+        ensures { result ≡ record { known = known; is_open = true } }
+    {
+        Link {
+            known,
+            is_open: true,
         }
     }
 

@@ -45,7 +45,7 @@ impl Links {
             players: game.players(),
             session: game.session(room),
             epoch,
-            links: [Link::none(); 4],
+            links: [Link::closed(0); 4],
         }
     }
 
@@ -115,18 +115,10 @@ impl Links {
         match head.kind {
             Kind::Hello => {
                 if head.sender_epoch > link.known {
-                    *link = Link {
-                        known: head.sender_epoch,
-                        is_open: false,
-                    };
+                    *link = Link::closed(head.sender_epoch);
                 }
             }
-            Kind::Welcome => {
-                *link = Link {
-                    known: head.sender_epoch,
-                    is_open: true,
-                };
-            }
+            Kind::Welcome => *link = Link::opened(head.sender_epoch),
             Kind::Data | Kind::Freeze | Kind::Frozen | Kind::Cut => {}
         }
     }
