@@ -39,6 +39,19 @@ fn a_crash_leaves_what_was_synced_or_read_or_some_of_each(rt: HostRuntime) -> Re
 }
 
 #[test]
+fn some_pick_leaves_neither_what_was_synced_nor_what_was_read(rt: HostRuntime) -> Result<(), Fail> {
+    let mut is_mixed = false;
+    for pick in 2..20u64 {
+        let left = written(&rt, rt.alloc())?.crash(pick);
+        if left.bytes() != b"abcde".as_slice() && left.bytes() != b"aXYdeZ".as_slice() {
+            is_mixed = true;
+        }
+    }
+    assert!(rt; is_mixed);
+    Ok(())
+}
+
+#[test]
 fn a_disk_stops(rt: HostRuntime) -> Result<(), Fail> {
     let mut disk = written(&rt, rt.alloc())?;
     let length = disk.len();

@@ -29,6 +29,21 @@ overwritten_byte old at byte within =
     let here : at ≡ at + 0 = omega arith in
     ap (λ (i : ℕ). slice_index new i) here ∙ sym (get_or-drop at new 0 0) ∙ ap (λ (l : List ℕ). get_or l 0 0) (overwritten_rest old at (byte ∷ []) within)
 
+-- a write, and one of the byte before it, are one write
+pub two_writes : (old : List ℕ) (at byte : ℕ) (bytes : List ℕ) → at + 1 ≤ length old → overwritten (overwritten old (at + 1) bytes) at (byte ∷ []) ≡ overwritten old at (byte ∷ bytes)
+two_writes old at byte bytes within =
+    let first = overwritten old (at + 1) bytes in
+    let after = drop (at + 1 + length bytes) old in
+    let order : at ≤ at + 1 = omega arith in
+    let front : take at first ≡ take at old =
+    sym (take-take at (at + 1) first order) ∙ ap (λ (l : List ℕ). take at l) (overwritten_front old (at + 1) bytes within) ∙ take-take at (at + 1) old order in
+    let ends : at + 1 + length bytes ≡ at + length (byte ∷ bytes) = omega arith in
+    ap (λ (l : List ℕ). (l ++ byte ∷ []) ++ drop (at + 1) first) front
+    ∙ ap (λ (l : List ℕ). (take at old ++ byte ∷ []) ++ l) (overwritten_rest old (at + 1) bytes within)
+    ∙ append_assoc (take at old) (byte ∷ []) (bytes ++ after)
+    ∙ sym (append_assoc (take at old) (byte ∷ bytes) after)
+    ∙ ap (λ (k : ℕ). (take at old ++ (byte ∷ bytes)) ++ drop k old) ends
+
 -- a body and a closed gate stand behind the closed gate of the kept slots
 pub record IsStaged (old : List ℕ) (n : ℕ) (body written : List ℕ) : Type 0 where
   pub same : take (144 * n) written ≡ take (144 * n) old

@@ -42,6 +42,10 @@ has_closed_gate image = has_closed_gate_at image (kept_count image)
 abbrev pub repaired : List ℕ → List ℕ
 repaired image = if has_closed_gate image then image else overwritten image (144 * kept_count image) (0 ∷ [])
 
+-- the image with this body in slot n, whose gate is open, and a closed gate behind it
+abbrev pub with_slot : List ℕ → ℕ → List ℕ → List ℕ
+with_slot image n body = overwritten image (144 * n) (0xa5 ∷ (body ++ 0 ∷ []))
+
 -- the log counts what a read gives, and a crash now leaves nothing else
 pub record IsAtRest {D : Type 0} (seen : D → List ℕ) (may_leave : D → List ℕ → Type 0) (log : LogValue D) : Type 0 where
   pub count : log.count ≡ length (kept (seen log.disk))

@@ -1,8 +1,8 @@
-// What an append does to a disk at rest.
+//! What an append does to a disk at rest.
 ghost use Rattle.std.specs.Prelude.{◌≡◌, ◌≤◌, ◌<◌, ◌+◌, ◌*◌, ◌^◌, ◌++◌, [], ◌∷◌, OnOk, IsErrOf, IsTrue, ◌↔◌};
 ghost use Rattle.c8_disk.specs.Disk.{LeavesOnly, HasCause};
 ghost use Rattle.c8_log.specs.Slots.{kept};
-ghost use Rattle.c8_log.specs.Log.{IsUp, KeepsWithOrWithout};
+ghost use Rattle.c8_log.specs.Log.{IsUp, KeepsWithOrWithout, with_slot};
 
 use crate::slot::{BODY, OPEN, SLOT, with_closed_gate};
 use crate::write::write_and_sync;
@@ -23,12 +23,14 @@ pub(crate) fn add<D: Disk>(disk: &mut D, count: u32, body: &[u8; BODY]) -> Resul
 
     ensures up { OnOk result (IsUp D.seen D.may_leave disk.new (count + 1)) }
     ensures kept { OnOk result (kept (D.seen disk.new) ≡ kept (D.seen disk.old) ++ body.now ∷ []) }
+    ensures seen { OnOk result (D.seen disk.new ≡ with_slot (D.seen disk.old) count body.now) }
     ensures any_moment { LeavesOnly D.moment D.left_since disk.old disk.new
         (KeepsWithOrWithout (kept (D.seen disk.old)) body.now) }
     ensures cause { HasCause (D.failures disk.old) (D.failures disk.new) result }
     ensures never_full { IsErrOf result DiskError.Full → ⊥ }
     ensures changes { D.changes disk.new ≤ D.changes disk.old + 4 }
     ensures capacity { D.capacity disk.new ≡ D.capacity disk.old }
+    ensures arms { D.arms disk.new ≡ D.arms disk.old }
 {
     let gate = SLOT * count;
     write_and_sync(disk, gate + 1, &with_closed_gate(body))?;

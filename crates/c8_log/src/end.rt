@@ -1,4 +1,4 @@
-// Where the kept slots of a disk end.
+//! Where the kept slots of a disk end.
 ghost use Rattle.std.specs.Prelude.{◌≡◌, ◌<◌, ◌≤◌, ◌+◌, ◌*◌, ◌^◌, length, IfOk, IsErrOf};
 ghost use Rattle.c8_disk.specs.Disk.{AddsNone, LeavesOnly, HasCause};
 ghost use Rattle.c8_log.specs.Slots.{is_open, kept_count};
@@ -25,6 +25,7 @@ pub(crate) fn find_end<D: Disk>(disk: &mut D) -> Result<End, DiskError>
     ensures never_full { IsErrOf result DiskError.Full → ⊥ }
     ensures changes { D.changes disk.new ≡ D.changes disk.old }
     ensures capacity { D.capacity disk.new ≡ D.capacity disk.old }
+    ensures arms { D.arms disk.new ≡ D.arms disk.old }
 {
     let whole = disk.len() / SLOT;
     for n in 0..whole {
@@ -54,6 +55,7 @@ fn stands_open<D: Disk>(disk: &mut D, n: u32) -> Result<bool, DiskError>
     ensures never_full { IsErrOf result DiskError.Full → ⊥ }
     ensures changes { D.changes disk.new ≡ D.changes disk.old }
     ensures capacity { D.capacity disk.new ≡ D.capacity disk.old }
+    ensures arms { D.arms disk.new ≡ D.arms disk.old }
 {
     let mut slot = [0; 144];
     disk.read_at(SLOT * n, &mut slot)?;
@@ -72,6 +74,7 @@ fn ends_closed<D: Disk>(disk: &mut D, n: u32) -> Result<bool, DiskError>
     ensures never_full { IsErrOf result DiskError.Full → ⊥ }
     ensures changes { D.changes disk.new ≡ D.changes disk.old }
     ensures capacity { D.capacity disk.new ≡ D.capacity disk.old }
+    ensures arms { D.arms disk.new ≡ D.arms disk.old }
 {
     let rest = disk.len() - SLOT * n;
     if rest == 0 {

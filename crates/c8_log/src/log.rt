@@ -1,7 +1,7 @@
-// The log, over a disk that it owns.
-ghost use Rattle.std.specs.Prelude.{◌≡◌, ◌≢◌, ◌<◌, ◌≤◌, ◌+◌, ◌*◌, ◌++◌, [], ◌∷◌, ◌↔◌, true, false, length, slice_get, Some, IfOk, OnOk, IfErr, OnErr, IsErrOf};
-ghost use Rattle.c8_disk.specs.Disk.{LeavesOnly};
-ghost use Rattle.c8_log.specs.Slots.{kept};
+//! The log, over a disk that it owns.
+ghost use Rattle.std.specs.Prelude.{◌≡◌, ◌≢◌, ◌<◌, ◌≤◌, ◌+◌, ◌*◌, ◌^◌, ◌++◌, [], ◌∷◌, ◌↔◌, true, false, length, slice_get, Some, IfOk, OnOk, IfErr, OnErr, IsErrOf};
+ghost use Rattle.c8_disk.specs.Disk.{LeavesOnly, AddsNone};
+ghost use Rattle.c8_log.specs.Slots.{kept, kept_count};
 
 use crate::LogError;
 use crate::append::{add, has_room};
@@ -29,7 +29,7 @@ impl<D: Disk> Model for Log<D> {
 }
 
 impl<D: Disk> Log<D> {
-    ghost use Rattle.c8_log.specs.Log.{KeepsOneOf, KeepsWithOrWithout, IsAtRest, repaired};
+    ghost use Rattle.c8_log.specs.Log.{KeepsOneOf, KeepsWithOrWithout, IsAtRest, has_closed_gate, repaired, with_slot};
 
     /// Opens the log that a disk holds, and closes the gate behind its last body if that was left open or is missing.
     /// At an error the disk is given back, and it keeps what it kept.
@@ -57,8 +57,14 @@ impl<D: Disk> Log<D> {
         ensures no_fewer_err { IfErr result (λ refusal. D.failures disk ≤ D.failures refusal.1) }
         ensures changes { IfOk result (λ log. D.changes log.disk ≤ D.changes disk + 3) }
         ensures changes_err { IfErr result (λ refusal. D.changes refusal.1 ≤ D.changes disk + 3) }
+        ensures no_repair { IfOk result (λ log.
+            has_closed_gate (D.seen disk) ≡ true → D.changes log.disk ≡ D.changes disk + 1) }
+        ensures no_repair_err { IfErr result (λ refusal.
+            has_closed_gate (D.seen disk) ≡ true → D.changes refusal.1 ≡ D.changes disk + 1) }
         ensures capacity { IfOk result (λ log. D.capacity log.disk ≡ D.capacity disk) }
         ensures capacity_err { IfErr result (λ refusal. D.capacity refusal.1 ≡ D.capacity disk) }
+        ensures arms { IfOk result (λ log. D.arms log.disk ≡ D.arms disk) }
+        ensures arms_err { IfErr result (λ refusal. D.arms refusal.1 ≡ D.arms disk) }
     {
         let mut disk = disk;
         match settle(&mut disk) {
@@ -86,6 +92,7 @@ impl<D: Disk> Log<D> {
         ensures count { OnOk result (self.new.count ≡ self.old.count + 1) }
         ensures up { OnOk result (self.new.down ≡ false) }
         ensures kept { OnOk result (kept (D.seen self.new.disk) ≡ kept (D.seen self.old.disk) ++ body.now ∷ []) }
+        ensures seen { OnOk result (D.seen self.new.disk ≡ with_slot (D.seen self.old.disk) self.old.count body.now) }
         ensures at_rest { OnOk result (IsAtRest D.seen D.may_leave self.new) }
 
         // A crash at any moment of the call leaves the bodies from before it, with the new one or without.
@@ -104,6 +111,7 @@ impl<D: Disk> Log<D> {
         ensures no_fewer { D.failures self.old.disk ≤ D.failures self.new.disk }
         ensures changes { D.changes self.new.disk ≤ D.changes self.old.disk + 4 }
         ensures capacity { D.capacity self.new.disk ≡ D.capacity self.old.disk }
+        ensures arms { D.arms self.new.disk ≡ D.arms self.old.disk }
     {
         if self.down {
             return Err(LogError::Down);
@@ -141,6 +149,7 @@ impl<D: Disk> Log<D> {
         ensures no_fewer { D.failures self.old.disk ≤ D.failures self.new.disk }
         ensures changes { D.changes self.new.disk ≡ D.changes self.old.disk }
         ensures capacity { D.capacity self.new.disk ≡ D.capacity self.old.disk }
+        ensures arms { D.arms self.new.disk ≡ D.arms self.old.disk }
     {
         if self.down {
             return Err(LogError::Down);
@@ -157,9 +166,12 @@ impl<D: Disk> Log<D> {
         ensures down { self.new.down ≡ self.old.down }
         ensures seen { D.seen self.new.disk ≡ D.seen self.old.disk }
         ensures any_moment { LeavesOnly D.moment D.left_since self.old.disk self.new.disk (D.may_leave self.old.disk) }
+        ensures crash { AddsNone (D.may_leave self.old.disk) (D.may_leave self.new.disk) }
+        ensures crash_keeps { AddsNone (D.may_leave self.new.disk) (D.may_leave self.old.disk) }
         ensures failures { D.failures self.new.disk ≡ D.failures self.old.disk }
         ensures changes { D.changes self.new.disk ≡ D.changes self.old.disk }
         ensures capacity { D.capacity self.new.disk ≡ D.capacity self.old.disk }
+        ensures arms { D.arms self.new.disk ≡ D.arms self.old.disk ++ arm ∷ [] }
     {
         self.disk.arm(arm);
     }

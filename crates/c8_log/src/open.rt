@@ -1,5 +1,5 @@
-// What an opening does to a disk: a sync, the search for the end, and the repair of the gate there.
-ghost use Rattle.std.specs.Prelude.{◌≡◌, ◌<◌, ◌≤◌, ◌+◌, ◌*◌, ◌^◌, length, IfOk, OnOk, IsErrOf};
+//! What an opening does to a disk: a sync, the search for the end, and the repair of the gate there.
+ghost use Rattle.std.specs.Prelude.{◌≡◌, ◌<◌, ◌≤◌, ◌+◌, ◌*◌, ◌^◌, true, length, IfOk, OnOk, IsErrOf};
 ghost use Rattle.c8_disk.specs.Disk.{Only, LeavesOnly, HasCause};
 ghost use Rattle.c8_log.specs.Slots.{kept, kept_count};
 ghost use Rattle.c8_log.specs.Log.{IsUp, KeepsOneOf, has_closed_gate, repaired};
@@ -18,7 +18,9 @@ pub(crate) fn settle<D: Disk>(disk: &mut D) -> Result<u32, DiskError>
     ensures cause { HasCause (D.failures disk.old) (D.failures disk.new) result }
     ensures full { IsErrOf result DiskError.Full → D.capacity disk.old < 144 * length (kept (D.seen disk.old)) + 1 }
     ensures changes { D.changes disk.new ≤ D.changes disk.old + 3 }
+    ensures no_repair { has_closed_gate (D.seen disk.old) ≡ true → D.changes disk.new ≡ D.changes disk.old + 1 }
     ensures capacity { D.capacity disk.new ≡ D.capacity disk.old }
+    ensures arms { D.arms disk.new ≡ D.arms disk.old }
 {
     disk.sync()?;
     let end = find_end(disk)?;
@@ -40,7 +42,9 @@ fn repair<D: Disk>(disk: &mut D, end: End) -> Result<(), DiskError>
     ensures cause { HasCause (D.failures disk.old) (D.failures disk.new) result }
     ensures full { IsErrOf result DiskError.Full → D.capacity disk.old < 144 * length (kept (D.seen disk.old)) + 1 }
     ensures changes { D.changes disk.new ≤ D.changes disk.old + 2 }
+    ensures no_repair { end.closed ≡ true → D.changes disk.new ≡ D.changes disk.old }
     ensures capacity { D.capacity disk.new ≡ D.capacity disk.old }
+    ensures arms { D.arms disk.new ≡ D.arms disk.old }
 {
     if end.closed {
         return Ok(());

@@ -1,4 +1,4 @@
-// A slot: a gate, and a body behind it.
+//! A slot: a gate, and a body behind it.
 ghost use Rattle.std.specs.Prelude.{◌≡◌, [], ◌∷◌, ◌++◌, drop};
 
 /// The bytes of a body.

@@ -1,4 +1,4 @@
-// The unit of which a log's changes are made.
+//! The unit of which a log's changes are made.
 ghost use Rattle.std.specs.Prelude.{◌≡◌, ◌<◌, ◌≤◌, ◌+◌, length, OnOk, IsErrOf};
 ghost use Rattle.c8_disk.specs.Disk.{overwritten, Only, LeavesOnly};
 ghost use Rattle.c8_log.specs.Written.{IsBeforeOrTorn};
@@ -20,6 +20,7 @@ pub(crate) fn write_and_sync<D: Disk>(disk: &mut D, at: u32, bytes: &[u8]) -> Re
     ensures full { IsErrOf result DiskError.Full → D.capacity disk.old < at + length bytes.now }
     ensures changes { D.changes disk.new ≤ D.changes disk.old + 2 }
     ensures capacity { D.capacity disk.new ≡ D.capacity disk.old }
+    ensures arms { D.arms disk.new ≡ D.arms disk.old }
 {
     disk.write_at(at, bytes)?;
     disk.sync()

@@ -4,7 +4,7 @@ use Rattle.c8_log.specs.Slots.{kept}
 use Rattle.c8_log.specs.Log.{has_closed_gate_at, IsUp, KeepsWithOrWithout}
 use Rattle.c8_log.specs.Written.{IsBeforeOrTorn}
 use Rattle.c8_log.proofs.Moments.{weaker, then_run}
-use Rattle.c8_log.proofs.Staged.{IsStaged, gate_there, staged, first_keeps, second_keeps, up_with_it}
+use Rattle.c8_log.proofs.Staged.{IsStaged, gate_there, staged, first_keeps, second_keeps, two_writes, up_with_it}
 use Rattle.c8_log.proofs.append.add.Given.{Over}
 use Rattle.c8_log.proofs.append.add.Goals as goal
 
@@ -67,3 +67,11 @@ returns-clause-up g c = on_ok_both c.write_and_sync-2.result c.write_and_sync-2.
 
 pub returns-clause-kept : goal.returns-clause-kept
 returns-clause-kept g c = on_ok_both c.write_and_sync-2.result c.write_and_sync-2.ensures.written c.write_and_sync-2.ensures.durable (λ holds only. (ended g c holds only).1)
+
+pub returns-clause-seen : goal.returns-clause-seen
+returns-clause-seen g c =
+    let old = g.D.Disk.seen c.args.disk.now in
+    let gate = 144 * c.args.count in
+    let there = gate_there old c.args.count (ap (λ (k : ℕ). has_closed_gate_at old k) c.requires.up.count_is ∙ c.requires.up.closed) in
+    on_ok_both c.write_and_sync-2.result c.write_and_sync-2.ensures.written c.write_and_sync-2.ensures.durable (λ holds only.
+    holds ∙ ap (λ (l : List ℕ). overwritten l gate (0xa5 ∷ [])) (first_written g c) ∙ two_writes old gate 0xa5 (c.args.body.now ++ 0 ∷ []) (omega (arith, there)))

@@ -12,4 +12,5 @@ invariant-loop-n g l = record {
   failures : g.D.Disk.failures l.initial.disk ≤ g.D.Disk.failures l.disk;
   changes : g.D.Disk.changes l.disk ≡ g.D.Disk.changes l.initial.disk;
   capacity : g.D.Disk.capacity l.disk ≡ g.D.Disk.capacity l.initial.disk;
+  arms : g.D.Disk.arms l.disk ≡ g.D.Disk.arms l.initial.disk;
 }

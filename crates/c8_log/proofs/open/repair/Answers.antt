@@ -1,4 +1,5 @@
 use Rattle.std.proofs.Common.{◌≡◌, ⊎_elim, ℕ, ◌*◌, ◌≤◌, List, length, sym, ◌∙◌, ap, subst, arith}
+use Rattle.std.proofs.lemmas.Bool.{true≢false}
 use Rattle.c8_disk.specs.Disk.{Torn}
 use Rattle.c8_log.specs.Slots.{kept}
 use Rattle.c8_log.specs.Written.{IsBeforeOrTorn}
@@ -27,3 +28,6 @@ returns-clause-full g c is =
     let image = g.D.Disk.seen c.args.disk.now in
     let full = c.write_and_sync.ensures.full is in
     omega (arith, full, length_of_kept image, c.requires.count)
+
+pub returns-clause-no_repair : goal.returns-clause-no_repair
+returns-clause-no_repair g c closed = absurd (true≢false (sym closed ∙ c.if-end.false))
