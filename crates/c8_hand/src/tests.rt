@@ -63,7 +63,9 @@ fn from_two(session: u64, kind: u8, theirs: u8, mine: u8) -> Header {
     }
 }
 
-fn player_two() -> Player {
+fn player_two() -> Player
+    ensures { result.number ≡ 2 }
+{
     Player { number: 2 }
 }
 
