@@ -7,7 +7,7 @@ use Rattle.c8_machine.specs.Frames.{IsFrame}
 use Rattle.c8_machine.specs.FrameExists.{framed}
 
 -- the machine after a frame: every machine has one (`framed`), and no other (the law
--- `frame_is_the_only_one` of `src/laws.rt`)
+-- `frame_is_determined` of `src/laws.rt`)
 abbrev pub frame_of : Rules → ℕ → State → State
 frame_of rules keys s = (framed rules keys s).0
 

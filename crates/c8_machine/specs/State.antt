@@ -22,7 +22,7 @@ pub record State : Type 0 where
   pub screen : Points
   pub timer : ℕ
   pub tone : ℕ
-  -- the keys of the last frame
+  -- the remembered keys: those of the last frame that found the machine not stopped
   pub keys : ℕ
   -- the register whose key is waited for
   pub waits : Option ℕ

@@ -21,7 +21,7 @@ use Rattle.c8_machine.specs.State.{State, Memory}
 abbrev pub code_at : State → ℕ
 code_at s = s.memory s.counter * 0x100 + s.memory ((s.counter + 1) % 0x1000)
 
--- the byte k places behind I
+-- the byte k places past I
 abbrev pub byte_at : State → ℕ → ℕ
 byte_at s k = s.memory ((s.address + k) % 0x1000)
 
@@ -67,7 +67,7 @@ stored bytes from memory at =
 unfoldable pub random_byte : ℕ → ℕ → ℕ
 random_byte seed n = slice_index (sha256 (to_be_bytes w64 seed ++ to_be_bytes w64 n)) 0
 
--- the points of as many bytes from I on, drawn from a column and a row
+-- the points of so many bytes from I on, with the origin modulo 64 and 32, clipped to the screen
 abbrev pub drawing : State → ℕ → ℕ → ℕ → Points
 drawing s left top rows = clipped (sprite rows (byte_at s) (left % 64) (top % 32))
 

@@ -25,11 +25,11 @@ pub enum Instruction {
     AddValue { x: u8, value: u8 },
     /// 8XY0: VX is VY.
     Set { x: u8, y: u8 },
-    /// 8XY1: VX or VY, bit by bit.
+    /// 8XY1: VX or VY, bit by bit; then VF is 0.
     Or { x: u8, y: u8 },
-    /// 8XY2: VX and VY, bit by bit.
+    /// 8XY2: VX and VY, bit by bit; then VF is 0.
     And { x: u8, y: u8 },
-    /// 8XY3: VX or VY but not both, bit by bit.
+    /// 8XY3: VX or VY but not both, bit by bit; then VF is 0.
     ExclusiveOr { x: u8, y: u8 },
     /// 8XY4: adds VY to VX; the flag is the carry.
     Add { x: u8, y: u8 },
@@ -45,7 +45,7 @@ pub enum Instruction {
     SkipUnlessSame { x: u8, y: u8 },
     /// AMMM: I is an address.
     SetAddress { to: u16 },
-    /// BMMM: goes on V0 bytes behind an address.
+    /// BMMM: goes to the address that is V0 past another one.
     JumpFrom { to: u16 },
     /// CXKK: VX is a random byte, cut by a mask.
     Random { x: u8, value: u8 },
@@ -57,7 +57,7 @@ pub enum Instruction {
     SkipIfUp { x: u8 },
     /// FX07: VX is the timer.
     ReadTimer { x: u8 },
-    /// FX0A: waits for a key, which VX gets.
+    /// FX0A: waits for a key's release; VX gets the key.
     AwaitKey { x: u8 },
     /// FX15: the timer is VX.
     SetTimer { x: u8 },
@@ -69,9 +69,9 @@ pub enum Instruction {
     PointAtDigit { x: u8 },
     /// FX33: stores the three decimal digits of VX.
     StoreDigits { x: u8 },
-    /// FX55: stores V0 to VX, and moves I behind them.
+    /// FX55: stores V0 to VX, and moves I past them.
     StoreRegisters { x: u8 },
-    /// FX65: loads V0 to VX, and moves I behind them.
+    /// FX65: loads V0 to VX, and moves I past them.
     LoadRegisters { x: u8 },
     /// Any other code.
     Unknown,

@@ -162,7 +162,7 @@ impl Machine {
         self.tone
     }
 
-    /// The keys of the last frame.
+    /// The remembered keys: those of the last frame that found the machine not stopped.
     pub fn keys(&self) -> Keys
         ensures { result.0 ≡ (state self.now).keys }
     {

@@ -107,7 +107,7 @@ impl Machine {
         Step::Drew
     }
 
-    /// Draws as many bytes from I on, and says whether a lit point was put out.
+    /// Draws `rows` bytes from I on, and says whether a lit point was put out.
     #[inline(always)]
     fn draw_bytes(&mut self, x: u8, y: u8, rows: u8) -> bool
         requires { rows < 16 }
