@@ -1,14 +1,13 @@
 -- The memory before the first frame, from what was written where.
 use Rattle.std.proofs.Common.{◌≡◌, ℕ, ◌+◌, ◌-◌, ◌%◌, ◌<◌, ◌≤◌, List, map, take, length, get_or, false, cond, ◌&&◌, nat_eq, nat_le, nat_lt, ap, replicate, sym, ◌∙◌, inl, inr, arith}
 use Rattle.std.proofs.Math.Path.{fun_ext}
-use Rattle.std.proofs.lemmas.Bool.{cases_lt, cases_Bool, and_parts, leb-true, ltb-true, cond-true, cond-false, le-leb, lt-leb, lt-ltb, le-ltb, and_from, and_left, and_right}
+use Rattle.std.proofs.lemmas.Bool.{cases_lt, cases_Bool, and_parts, leb-true, ltb-true, cond-true, cond-false, le-leb, lt-leb}
 use Rattle.std.proofs.lemmas.List.{get_or-replicate, get_or_past, length-replicate, length-take-le, get_or-take}
 use Rattle.std.proofs.lemmas.List.FromFn.{length-map-range_with_len, get_or-map-range_with_len}
 use Rattle.std.specs.Int.{bit_at}
 use Rattle.std.specs.List.{range_with_len}
 use Rattle.c8_screen.specs.Points.{sprite}
 use Rattle.c8_machine.specs.State.{first_memory, digit_patterns}
-use Rattle.c8_machine.specs.Steps.{stored}
 
 zeros : (n k : ℕ) → get_or {A = ℕ} (replicate n 0) k 0 ≡ 0
 zeros n k = elim (cases_lt k n) [ inl within ↦ get_or-replicate n k 0 0 within | inr past ↦ get_or_past {X = ℕ} (replicate n 0) k 0 (simp length-replicate past) ]
@@ -47,27 +46,11 @@ module _ (program patterned full : List ℕ) (patterns : Places 0x50 digit_patte
 
 -- ---- bytes stored from an address on, round the last address
 
-abbrev behind : ℕ → ℕ → ℕ
-behind from at = (at + 0x1000 - from) % 0x1000
-
 -- the first k of the bytes are stored
 pub record IsStored (bytes old new : List ℕ) (from k : ℕ) : Type 0 where
   pub size : length new ≡ 0x1000
   pub there : (at : ℕ) → at < 0x1000 → (at + 0x1000 - from) % 0x1000 < k → get_or new at 0 ≡ get_or bytes ((at + 0x1000 - from) % 0x1000) 0
   pub others : (at : ℕ) → at < 0x1000 → k ≤ (at + 0x1000 - from) % 0x1000 → get_or new at 0 ≡ get_or old at 0
-
-stored_at : (bytes old new : List ℕ) (from at : ℕ) → length old ≡ 0x1000 → IsStored bytes old new from (length bytes) → get_or new at 0 ≡ stored bytes from (λ k. get_or old k 0) at
-stored_at bytes old new from at size all =
-    elim (cases_lt at 0x1000) [
-      | inr past ↦ get_or_past new at 0 (omega (arith, all.size)) ∙ sym (cond-false _ _ _ (and_left _ _ (le-ltb at 0x1000 past)) ∙ get_or_past old at 0 (omega (arith, size)))
-      | inl within ↦ elim (cases_lt (behind from at) (length bytes)) [
-        | inl there ↦ all.there at within there ∙ sym (cond-true _ _ _ (and_from _ _ (lt-ltb at 0x1000 within) (lt-ltb (behind from at) (length bytes) there)))
-        | inr other ↦ all.others at within other ∙ sym (cond-false _ _ _ (and_right _ _ (le-ltb (behind from at) (length bytes) other)))
-      ]
-    ]
-
-pub stored_is : (bytes old new : List ℕ) (from : ℕ) → length old ≡ 0x1000 → IsStored bytes old new from (length bytes) → (λ k. get_or new k 0) ≡ stored bytes from (λ k. get_or old k 0)
-stored_is bytes old new from size all = fun_ext (λ at. stored_at bytes old new from at size all)
 
 -- ---- bytes drawn
 

@@ -1,9 +1,8 @@
 -- What drawing does to the set of lit points, by the rows that it changes.
-use Rattle.std.proofs.Common.{◌≡◌, ℕ, zero, suc, ◌+◌, ◌-◌, ◌*◌, ◌%◌, ◌^◌, ◌<◌, ◌≤◌, ◌&&◌, ◌||◌, ◌≢◌, Bool, true, false, not, cond, min, nat_eq, nat_lt, nat_le, List, length, get_or, set, bit_and, bit_xor, refl, sym, ap, ◌∙◌, inl, inr, arith, add-zero, below_more}
+use Rattle.std.proofs.Common.{◌≡◌, ℕ, zero, suc, ◌+◌, ◌-◌, ◌*◌, ◌%◌, ◌^◌, ◌<◌, ◌≤◌, ◌&&◌, Bool, true, false, not, cond, min, nat_eq, nat_lt, nat_le, List, length, get_or, bit_and, bit_xor, refl, sym, ap, ◌∙◌, inl, inr, arith, add-zero}
 use Rattle.std.proofs.Math.Path.{fun_ext}
-use Rattle.std.proofs.lemmas.Bool.{cases_lt, cases_Bool, or_cases, or_parts, or_left, or_right, not-true, not-false, eqb-false, ltb-true, cond-true, cond-false, le-leb, lt-leb, lt-ltb, le-ltb, eqb-true, eq-eqb, and_parts, and_from, and_left, and_right, false_from_ne_true, true≢false}
+use Rattle.std.proofs.lemmas.Bool.{cases_lt, cases_Bool, or_cases, or_left, or_right, not-true, not-false, eqb-false, ltb-true, cond-true, cond-false, le-leb, lt-leb, lt-ltb, le-ltb, eqb-true, eq-eqb, and_parts, and_from, and_left, and_right, false_from_ne_true, true≢false}
 use Rattle.std.proofs.lemmas.Nat.{shr-shr, shr_le, and_le_r}
-use Rattle.std.proofs.lemmas.List.{length-set, get_or-set_same, get_or-set_other}
 use Rattle.std.proofs.lemmas.Nat.Bits.{bit_at-zero, bit_at_and, bit_at_xor, bit_at-lt, bit_at_above, bit_at_cat_low, bit_at_cat_high, bit_at-trailing_zeros}
 use Rattle.std.specs.List.{list_any, range_with_len}
 use Rattle.std.specs.Int.{w64, bit_at, trailing_zeros}
@@ -130,36 +129,6 @@ pub record IsDrawn (initial rows bytes : List ℕ) (left top k : ℕ) (met : Boo
   pub below : (y : ℕ) → top + k ≤ y → get_or rows y 0 ≡ get_or initial y 0
   pub some : met ≡ true → Common initial bytes left top k
   pub none : met ≡ false → (j : ℕ) → j < k → common initial bytes left top j ≡ false
-
-pub none_drawn : (initial bytes : List ℕ) (left top : ℕ) → length initial ≡ 32 → IsDrawn initial initial bytes left top 0 false
-none_drawn initial bytes left top size = record {
-  size = size;
-  drawn = λ j h. absurd (omega arith);
-  above = λ y h. refl;
-  below = λ y h. refl;
-  some = λ e. absurd (true≢false (sym e));
-  none = λ e j h. absurd (omega arith);
-}
-
-pub one_more_drawn : (initial rows bytes : List ℕ) (left top k row : ℕ) (met now : Bool) → IsDrawn initial rows bytes left top k met → top + k < 32
-    → row ≡ bit_xor (get_or rows (top + k) 0) (strip (get_or bytes k 0) left) → now ≡ common rows bytes left top k
-    → IsDrawn initial (set rows (top + k) row) bytes left top (k + 1) (met || now)
-one_more_drawn initial rows bytes left top k row met now so_far within row_is now_is =
-    let same : get_or rows (top + k) 0 ≡ get_or initial (top + k) 0 = so_far.below (top + k) (omega arith) in
-    let in_rows : top + k < length rows = omega (arith, so_far.size) in
-    let now_common : now ≡ common initial bytes left top k = now_is ∙ ap (λ n. not (nat_eq (bit_and n (strip (get_or bytes k 0) left)) 0)) same in
-    record {
-      size = length-set rows (top + k) row ∙ so_far.size;
-      drawn = below_more _ _ (λ j h. let other : top + j ≢ top + k = omega arith in get_or-set_other rows (top + k) (top + j) row 0 other ∙ so_far.drawn j h)
-          (get_or-set_same rows (top + k) row 0 in_rows ∙ row_is ∙ ap (λ n. bit_xor n (strip (get_or bytes k 0) left)) same);
-      above = λ y h. let other : y ≢ top + k = omega arith in get_or-set_other rows (top + k) y row 0 other ∙ so_far.above y h;
-      below = λ y h. let other : y ≢ top + k = omega arith in get_or-set_other rows (top + k) y row 0 other ∙ so_far.below y (omega arith);
-      some = λ e. elim (or_cases met now e) [
-        | inl before ↦ let found = so_far.some before in record { row = found.row; below = omega (arith, found.below); is = found.is }
-        | inr here ↦ record { row = k; below = omega arith; is = sym now_common ∙ here }
-      ];
-      none = λ e. let parts = or_parts met now e in below_more _ _ (so_far.none parts.0) (sym now_common ∙ parts.1);
-    }
 
 -- ---- the points after all of them
 
