@@ -1,1 +1,1 @@
-pub mod PlayedLemmas
+pub mod KeyLineLemmas

@@ -1,7 +1,8 @@
 //! Key lines: what the players hold down, one line a frame.
 
-ghost use Rattle.std.specs.Prelude.{◌≤◌, IfOk};
-ghost use Rattle.c8play.specs.Played.{IsSomeRun};
+ghost use Rattle.std.specs.Prelude.{◌≡◌, ◌≤◌, ◌+◌, ◌*◌, true, false, Some, MatchOption, MatchResult, length};
+ghost use Rattle.c8_game.specs.Fields.{is_mask_text, mask_number};
+ghost use Rattle.c8play.specs.KeyLines.{is_key_line, is_set_at, set_at, row_of, fault_of, IsRunOf};
 
 use c8_game::{Game, Keys, Lines, Row};
 use c8_machine::Machine;
@@ -32,7 +33,7 @@ pub struct Played {
 ///
 /// Lines are judged in order, each first for `Long`, then for `Line`.
 pub fn play(game: &Game, keys: &[u8]) -> Result<Played, KeysError>
-    ensures { IfOk result (IsSomeRun game.now) }
+    ensures { MatchResult result (λ played. IsRunOf game.now keys.now played) (λ e. fault_of game.now keys.now ≡ Some e) }
 {
     let mut played = Played {
         frames: 0,
@@ -49,29 +50,37 @@ pub fn play(game: &Game, keys: &[u8]) -> Result<Played, KeysError>
     Ok(played)
 }
 
-/// The row that a key line spells.
+/// The row that a key line spells: four digits for each player, and one space between two.
 fn row_in(line: &[u8], players: u8) -> Option<Row>
     requires { players ≤ 4 }
+    ensures { MatchOption result (is_key_line players line.now ≡ false) (λ row. (is_key_line players line.now ≡ true) × (row ≡ row_of players line.now)) }
 {
+    if line.len() + 1 != 5 * usize::from(players) {
+        return None;
+    }
     let mut sets = [Keys(0); 4];
-    let mut rest = line;
-    for player in 0..usize::from(players) {
-        if player > 0 {
-            rest = rest.strip_prefix(b" ".as_slice())?;
-        }
-        let (word, more) = rest.split_at_checked(4)?;
-        sets[player] = keys_in(word)?;
-        rest = more;
+    for place in 0..usize::from(players) {
+        sets[place] = set_at(line, place)?;
     }
-    if rest.is_empty() {
-        Some(Row { sets })
-    } else {
-        None
+    Some(Row { sets })
+}
+
+/// The key set of the player at a place of a line, 0 for player 1.
+fn set_at(line: &[u8], place: usize) -> Option<Keys>
+    requires { 5 * place + 4 ≤ length line.now }
+    ensures { MatchOption result (is_set_at line.now place ≡ false) (λ keys. (is_set_at line.now place ≡ true) × (keys ≡ set_at line.now place)) }
+{
+    let start = 5 * place;
+    if place > 0 && line[start - 1] != b' ' {
+        return None;
     }
+    keys_in(&line[start..start + 4])
 }
 
 /// The key set that four hexadecimal digits spell.
-fn keys_in(word: &[u8]) -> Option<Keys> {
+fn keys_in(word: &[u8]) -> Option<Keys>
+    ensures { MatchOption result (is_mask_text word.now ≡ false) (λ keys. (is_mask_text word.now ≡ true) × (keys.0 ≡ mask_number word.now)) }
+{
     let mut bytes = [0; 2];
     match hex::decode_to_slice(word, &mut bytes) {
         Ok(()) => Some(Keys(u16::from_be_bytes(bytes))),

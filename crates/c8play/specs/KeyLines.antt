@@ -1,0 +1,50 @@
+-- Key lines: the rows that a text of them spells, or the fault that refuses it.
+use Rattle.std.specs.Prelude.{◌≡◌, ℕ, ◌+◌, ◌-◌, ◌*◌, ◌==◌, ◌&&◌, ◌||◌, Bool, not, List, [], ◌∷◌, ◌++◌, length, map, take, drop, replicate, slice_index, Option, Some, None, if◌then◌else◌}
+use Rattle.std.specs.List.{list_all, range_with_len}
+use Rattle.std.specs.Str.Lines.{lines}
+use Rattle.c8_game.specs.Fields.{is_mask_text, mask_number}
+use Rattle.c8_game.specs.Rules.{Rules}
+use Rattle.c8_game.specs.declared.row.Keys.{Keys}
+use Rattle.c8_game.specs.declared.row.Row.{Row}
+use Rattle.c8_machine.specs.Serial.{serial}
+use Rattle.c8_machine.specs.State.{state}
+use Rattle.c8play.specs.declared.keys.KeysError.{KeysError}
+use Rattle.c8play.specs.declared.keys.KeysError.TheVariants.{Line, Long}
+use Rattle.c8play.specs.declared.keys.Played.{Played}
+
+-- a line has four digits for each player, player 1's at place 0, and one space between two
+abbrev pub digits_at : List ℕ → ℕ → List ℕ
+digits_at line place = take 4 (drop (5 * place) line)
+
+-- whether the four bytes of a player are digits, and what stands before another player's is a space
+abbrev pub is_set_at : List ℕ → ℕ → Bool
+is_set_at line place = (place == 0 || slice_index line (5 * place - 1) == 32) && is_mask_text (digits_at line place)
+
+abbrev pub is_key_line : ℕ → List ℕ → Bool
+is_key_line players line = length line + 1 == 5 * players && list_all (is_set_at line) (range_with_len 0 players)
+
+-- the set that a player's digits spell
+abbrev pub set_at : List ℕ → ℕ → Keys
+set_at line place = record { 0 = mask_number (digits_at line place) }
+
+-- the row of a line: nobody holds a key down at the places behind the players'
+abbrev pub row_of : ℕ → List ℕ → Row
+row_of players line = record { sets = map (set_at line) (range_with_len 0 players) ++ replicate (4 - players) (record { 0 = 0 }) }
+
+-- the first fault of these lines, with so many frames left to play
+abbrev pub first_fault : ℕ → ℕ → List (List ℕ) → Option KeysError
+first_fault players left [] = None
+first_fault players left (line ∷ more) =
+    if left == 0 then Some Long
+    else if not (is_key_line players line) then Some Line
+    else first_fault players (left - 1) more
+
+-- the fault of a text, if it has one
+abbrev pub fault_of : Rules → List ℕ → Option KeysError
+fault_of rules text = first_fault rules.players rules.frames (lines text)
+
+-- the text has no fault, and the machine is that of the serial run on its rows, one a frame
+pub record IsRunOf (rules : Rules) (text : List ℕ) (played : Played) : Type 0 where
+  pub faultless : fault_of rules text ≡ None
+  pub frames : played.frames ≡ length (lines text)
+  pub machine : state played.machine ≡ serial rules (map (row_of rules.players) (lines text))
