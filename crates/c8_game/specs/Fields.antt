@@ -1,12 +1,10 @@
 -- The fields of a game text, which are all its names but `code`: each has a word, and a number that its
 -- value spells.
-use Rattle.std.specs.Prelude.{ℕ, ◌≤◌, ◌+◌, ◌-◌, ◌*◌, ◌&&◌, Bool, nat_lt, nat_le, List, [], ◌∷◌, length, codes, fold, Option, None, is_ok, unwrap_or, slice_index_or, if◌then◌else◌}
+use Rattle.std.specs.Prelude.{ℕ, ◌≤◌, ◌+◌, ◌-◌, ◌*◌, ◌&&◌, Bool, nat_lt, nat_le, List, [], ◌∷◌, length, codes, fold, Option, None, unwrap_or, slice_index_or, if◌then◌else◌}
 use Rattle.std.specs.List.{find, list_all}
 use Rattle.std.specs.Char.{is_ascii_digit}
 use Rattle.std.specs.Str.{bytes_eq}
-use Rattle.std.specs.Int.{from_be_bytes, w16}
-use Rattle.std.specs.Result.{result_unwrap_or}
-use Rattle.hex.specs.Hex.{decode_sized}
+use Rattle.c8_game.specs.KeysText.{keys_number}
 use Rattle.c8_game.specs.declared.text.field.Field.{Field}
 use Rattle.c8_game.specs.declared.text.field.Field.TheVariants.{Players, Ipf, Frames, Delay, Window, Seed, Mask1, Mask2, Mask3, Mask4}
 
@@ -102,13 +100,6 @@ is_decimal text = nat_lt 0 (length text) && nat_le (length text) 20 && list_all 
 abbrev pub decimal_number : List ℕ → ℕ
 decimal_number text = fold (λ number digit. number * 10 + (digit - 48)) 0 text
 
--- a mask has four hexadecimal digits, the most significant first
-abbrev pub is_mask_text : List ℕ → Bool
-is_mask_text text = is_ok (decode_sized text 2)
-
-abbrev pub mask_number : List ℕ → ℕ
-mask_number text = from_be_bytes w16 (result_unwrap_or (decode_sized text 2) [])
-
--- the number that a field's value spells
+-- the number that a field's value spells: a mask is a key set, all else a decimal
 abbrev pub number_of : Field → List ℕ → ℕ
-number_of field value = if is_mask field then mask_number value else decimal_number value
+number_of field value = if is_mask field then keys_number value else decimal_number value

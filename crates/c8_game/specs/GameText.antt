@@ -10,7 +10,8 @@ use Rattle.c8_game.specs.declared.error.GameError.{GameError}
 use Rattle.c8_game.specs.declared.error.GameError.TheVariants.{Line, Range, Missing, Twice, Hex}
 use Rattle.c8_game.specs.declared.text.field.Field.{Field}
 use Rattle.c8_game.specs.declared.text.field.Field.TheVariants.{Players, Ipf, Frames, Delay, Window, Seed, Mask1, Mask2, Mask3, Mask4}
-use Rattle.c8_game.specs.Fields.{fields, index_of, owner_of, is_mask, least_of, greatest_of, field_named, is_decimal, is_mask_text, number_of}
+use Rattle.c8_game.specs.Fields.{fields, index_of, owner_of, is_mask, least_of, greatest_of, field_named, is_decimal, number_of}
+use Rattle.c8_game.specs.KeysText.{is_keys_text}
 use Rattle.c8_game.specs.Rules.{Rules}
 
 -- empty lines and comments say nothing
@@ -61,7 +62,7 @@ program_of text_lines = flat_map code_bytes text_lines
 -- Hex for a mask that is none, Range for a number outside its range
 abbrev pub value_fault : Field → List ℕ → Option GameError
 value_fault field value =
-    if is_mask field then (if is_mask_text value then None else Some Hex)
+    if is_mask field then (if is_keys_text value then None else Some Hex)
     else if nat_le (least_of field) (number_of field value) && nat_le (number_of field value) (greatest_of field) then None
     else Some Range
 

@@ -1,4 +1,5 @@
 pub mod Rules
+pub mod KeysText
 pub mod Lines
 pub mod Fields
 pub mod GameText

@@ -1,11 +1,12 @@
 //! What the value of a field spells.
-ghost use Rattle.std.specs.Prelude.{◌≡◌, true, false, Some, None, IfOk, IsTrue, MatchOption, MatchResult};
+ghost use Rattle.std.specs.Prelude.{◌≡◌, true, false, Some, None, IfOk, IsTrue, MatchResult};
 ghost use Rattle.std.specs.Char.{is_ascii_digit};
 ghost use Rattle.std.specs.List.{list_all};
-ghost use Rattle.c8_game.specs.Fields.{is_mask, is_decimal, decimal_number, is_mask_text, mask_number, number_of, IsWithin};
+ghost use Rattle.c8_game.specs.Fields.{is_mask, is_decimal, decimal_number, number_of, IsWithin};
 ghost use Rattle.c8_game.specs.GameText.{value_fault};
 
 use crate::error::GameError;
+use crate::row::Keys;
 use crate::text::field::Field;
 
 /// Whether the text is 1 to 20 digits.
@@ -33,17 +34,6 @@ pub fn decimal_number(text: &[u8]) -> u128
     number
 }
 
-/// The key set that four hexadecimal digits spell.
-pub fn mask(text: &[u8]) -> Option<u16>
-    ensures { MatchOption result (is_mask_text text.now ≡ false) (λ n. (is_mask_text text.now ≡ true) × (n ≡ mask_number text.now)) }
-{
-    let mut bytes = [0; 2];
-    match hex::decode_to_slice(text, &mut bytes) {
-        Ok(()) => Some(u16::from_be_bytes(bytes)),
-        Err(_) => None,
-    }
-}
-
 /// The number that the value of `field` spells, a mask's digits or a decimal, if it is in range.
 pub fn number(field: Field, value: &[u8]) -> Result<u64, GameError>
     requires { is_mask field ≡ false → is_decimal value.now ≡ true }
@@ -52,8 +42,8 @@ pub fn number(field: Field, value: &[u8]) -> Result<u64, GameError>
     ensures fault { MatchResult result (λ _. value_fault field value.now ≡ None) (λ e. value_fault field value.now ≡ Some e) }
 {
     if field.is_mask() {
-        return match mask(value) {
-            Some(keys) => Ok(u64::from(keys)),
+        return match Keys::from_hex(value) {
+            Some(keys) => Ok(u64::from(keys.0)),
             None => Err(GameError::Hex),
         };
     }
