@@ -34,6 +34,15 @@ fn joins_the_masked_sets(rt: HostRuntime) -> Result<(), Fail> {
     Ok(())
 }
 
+#[test]
+fn reads_key_sets_of_four_digits(rt: HostRuntime) -> Result<(), Fail> {
+    assert_eq!(rt; Keys::from_hex(b"0abC"), Some(Keys(0x0abc)));
+    for text in ["", "abc", "abcde", "00fg", "00f "] {
+        assert_eq!(rt; Keys::from_hex(text.as_bytes()), None, "{text:?}");
+    }
+    Ok(())
+}
+
 /// The digests were made by another implementation of SHA-256.
 #[test]
 fn knows_its_id_and_session(rt: HostRuntime) -> Result<(), Fail> {

@@ -22,9 +22,9 @@ and-false false = refl
 spoiled : (p : ℕ → Bool) (a n k : ℕ) → a ≤ k → k < a + n → p k ≡ false → list_all p (range_with_len a n) ≡ false
 spoiled p a zero k least within off = absurd (omega arith)
 spoiled p a (suc n) k least within off = elim (cases_lt a k) [
-    | inl later ↦ ap (λ b. p a && b) (spoiled p (a + 1) n k (omega arith) (omega arith) off) ∙ and-false (p a)
-    | inr here ↦ let same : k ≡ a = omega arith in ap (λ b. b && list_all p (range_with_len (a + 1) n)) (ap p (sym same) ∙ off)
-  ]
+  | inl later ↦ ap (λ b. p a && b) (spoiled p (a + 1) n k (omega arith) (omega arith) off) ∙ and-false (p a)
+  | inr here ↦ let same : k ≡ a = omega arith in ap (λ b. b && list_all p (range_with_len (a + 1) n)) (ap p (sym same) ∙ off)
+]
 
 pub no_key_line : (players : ℕ) (line : List ℕ) (place : ℕ) → place < players → is_set_at line place ≡ false → is_key_line players line ≡ false
 no_key_line players line place within off =

@@ -2,7 +2,7 @@
 use Rattle.std.specs.Prelude.{◌≡◌, ℕ, ◌+◌, ◌-◌, ◌*◌, ◌==◌, ◌&&◌, ◌||◌, Bool, not, List, [], ◌∷◌, ◌++◌, length, map, take, drop, replicate, slice_index, Option, Some, None, if◌then◌else◌}
 use Rattle.std.specs.List.{list_all, range_with_len}
 use Rattle.std.specs.Str.Lines.{lines}
-use Rattle.c8_game.specs.Fields.{is_mask_text, mask_number}
+use Rattle.c8_game.specs.KeysText.{is_keys_text, keys_number}
 use Rattle.c8_game.specs.Rules.{Rules}
 use Rattle.c8_game.specs.declared.row.Keys.{Keys}
 use Rattle.c8_game.specs.declared.row.Row.{Row}
@@ -18,14 +18,14 @@ digits_at line place = take 4 (drop (5 * place) line)
 
 -- whether the four bytes of a player are digits, and what stands before another player's is a space
 abbrev pub is_set_at : List ℕ → ℕ → Bool
-is_set_at line place = (place == 0 || slice_index line (5 * place - 1) == 32) && is_mask_text (digits_at line place)
+is_set_at line place = (place == 0 || slice_index line (5 * place - 1) == 32) && is_keys_text (digits_at line place)
 
 abbrev pub is_key_line : ℕ → List ℕ → Bool
 is_key_line players line = length line + 1 == 5 * players && list_all (is_set_at line) (range_with_len 0 players)
 
 -- the set that a player's digits spell
 abbrev pub set_at : List ℕ → ℕ → Keys
-set_at line place = record { 0 = mask_number (digits_at line place) }
+set_at line place = record { 0 = keys_number (digits_at line place) }
 
 -- the row of a line: nobody holds a key down at the places behind the players'
 abbrev pub row_of : ℕ → List ℕ → Row

@@ -1,7 +1,6 @@
 //! Key lines: what the players hold down, one line a frame.
 
 ghost use Rattle.std.specs.Prelude.{◌≡◌, ◌≤◌, ◌+◌, ◌*◌, true, false, Some, MatchOption, MatchResult, length};
-ghost use Rattle.c8_game.specs.Fields.{is_mask_text, mask_number};
 ghost use Rattle.c8play.specs.KeyLines.{is_key_line, is_set_at, set_at, row_of, fault_of, IsRunOf};
 
 use c8_game::{Game, Keys, Lines, Row};
@@ -74,16 +73,5 @@ fn set_at(line: &[u8], place: usize) -> Option<Keys>
     if place > 0 && line[start - 1] != b' ' {
         return None;
     }
-    keys_in(&line[start..start + 4])
-}
-
-/// The key set that four hexadecimal digits spell.
-fn keys_in(word: &[u8]) -> Option<Keys>
-    ensures { MatchOption result (is_mask_text word.now ≡ false) (λ keys. (is_mask_text word.now ≡ true) × (keys.0 ≡ mask_number word.now)) }
-{
-    let mut bytes = [0; 2];
-    match hex::decode_to_slice(word, &mut bytes) {
-        Ok(()) => Some(Keys(u16::from_be_bytes(bytes))),
-        Err(_) => None,
-    }
+    Keys::from_hex(&line[start..start + 4])
 }

@@ -16,11 +16,11 @@ loop-line-preserved c =
       seen = before.seen ++ line ∷ [];
       cut = before.cut ∙ ap (λ left. before.seen ++ left) c.in-Some.ensures.steps ∙ sym (append_assoc before.seen (line ∷ []) _);
       fault =
-        before.fault ∙ ap (first_fault game.players _) c.in-Some.ensures.steps
-        ∙ good_line game.players game.frames c.loop-line.played.frames line _ (omega (arith, c.if-played-frames.false, c.frames.ensures.value, before.within)) spelt.0;
+          before.fault ∙ ap (first_fault game.players _) c.in-Some.ensures.steps
+          ∙ good_line game.players game.frames c.loop-line.played.frames line _ (omega (arith, c.if-played-frames.false, c.frames.ensures.value, before.within)) spelt.0;
       frames = omega (arith, before.frames, length-append before.seen (line ∷ []));
       within = omega arith;
       machine =
-        serial-snoc game (map (row_of game.players) before.seen) (row_of game.players line) _ _ _ before.machine (c.joined.ensures ∙ ap (joined game) spelt.1) c.frame.ensures.function
-        ∙ ap (serial game) (sym (map-append (row_of game.players) before.seen (line ∷ [])));
+          serial-snoc game (map (row_of game.players) before.seen) (row_of game.players line) _ _ _ before.machine (c.joined.ensures ∙ ap (joined game) spelt.1) c.frame.ensures.function
+          ∙ ap (serial game) (sym (map-append (row_of game.players) before.seen (line ∷ [])));
     }
