@@ -12,15 +12,15 @@ mod run;
 mod show;
 mod text;
 
+use clap::error::ErrorKind;
 use refusal::{Refusal, Status};
-use std::io::ErrorKind;
 use std::process::ExitCode;
 use std::{env, io};
 
 fn main(rt: HostRuntime) -> io::Result<ExitCode> {
     match obey(&rt) {
         Ok(code) => Ok(code),
-        Err(error) if error.kind() == ErrorKind::OutOfMemory => {
+        Err(error) if error.kind() == io::ErrorKind::OutOfMemory => {
             Ok(Refusal::Memory.tell(&mut rt.stderr())?.into())
         }
         Err(error) => Err(error),
@@ -33,6 +33,9 @@ fn obey(rt: &HostRuntime) -> io::Result<ExitCode> {
     let command = cli::command(rt.alloc())?;
     match command.try_get_matches_from(words.as_slice()) {
         Ok(matches) => Ok(cli::carry_out(rt, &matches)?.into()),
+        Err(error) if error.kind() == ErrorKind::OutOfMemory => {
+            Err(io::ErrorKind::OutOfMemory.into())
+        }
         Err(error) => {
             error.print(rt)?;
             Ok(ExitCode::from(error.exit_code() as u8))
