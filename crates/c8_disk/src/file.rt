@@ -29,6 +29,10 @@ pub enum FileError {
 }
 
 impl From<AllocError> for FileError {
+    ghost use Rattle.c8_disk.specs.declared.file.FileError.TheVariants.{Memory};
+
+    ghost from_gives = { λ _ error. error ≡ Memory };
+
     fn from(_: AllocError) -> FileError {
         FileError::Memory
     }
