@@ -2,6 +2,7 @@
 use Rattle.std.specs.Prelude.{◌≡◌, ℕ, ◌+◌, ◌-◌, ◌*◌, ◌==◌, ◌&&◌, ◌||◌, Bool, not, List, [], ◌∷◌, ◌++◌, length, map, take, drop, replicate, slice_index, Option, Some, None, if◌then◌else◌}
 use Rattle.std.specs.List.{list_all, range_with_len}
 use Rattle.std.specs.Str.Lines.{lines}
+use Rattle.c8_game.specs.GameText.{Spells}
 use Rattle.c8_game.specs.KeysText.{is_keys_text, keys_number}
 use Rattle.c8_game.specs.Rules.{Rules}
 use Rattle.c8_game.specs.declared.row.Keys.{Keys}
@@ -48,3 +49,7 @@ pub record IsRunOf (rules : Rules) (text : List ℕ) (played : Played) : Type 0 
   pub faultless : fault_of rules text ≡ None
   pub frames : played.frames ≡ length (lines text)
   pub machine : state played.machine ≡ serial rules (map (row_of rules.players) (lines text))
+
+-- the first text spells a game, and the second has no fault in it
+abbrev pub IsPlayable : List ℕ → List ℕ → Type 0
+IsPlayable game keys = (rules : Rules) × Spells game rules × (fault_of rules keys ≡ None)

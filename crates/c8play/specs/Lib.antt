@@ -1,1 +1,3 @@
 pub mod KeyLines
+pub mod Status
+pub mod Shown

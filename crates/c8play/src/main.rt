@@ -4,6 +4,10 @@
 //! of its own, with a writer for what it prints and one for why it refuses.
 #![tactic(auto)]
 
+ghost use Rattle.std.specs.Prelude.{◌≡◌};
+ghost use Rattle.std.specs.Process.{exit_status};
+ghost use Rattle.c8play.specs.Status.{code_of};
+
 mod cli;
 mod keys;
 mod refusal;
@@ -44,6 +48,8 @@ fn obey(rt: &HostRuntime) -> io::Result<ExitCode> {
 }
 
 impl From<Status> for ExitCode {
+    ghost from_gives = { λ status code. exit_status code ≡ code_of status };
+
     fn from(status: Status) -> ExitCode {
         ExitCode::from(status.code())
     }

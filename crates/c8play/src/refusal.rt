@@ -1,5 +1,8 @@
 //! Why a command refuses what it was given, and the status with which it ends.
 
+ghost use Rattle.std.specs.Prelude.{◌≡◌, IfOk};
+ghost use Rattle.c8play.specs.Status.{code_of, status_of};
+
 use crate::keys::KeysError;
 use crate::show::HexError;
 use c8_game::GameError;
@@ -21,7 +24,9 @@ pub enum Status {
 
 impl Status {
     /// The exit status of the program. 2 is the command line's own.
-    pub fn code(self) -> u8 {
+    pub fn code(self) -> u8
+        ensures { result ≡ code_of self }
+    {
         match self {
             Status::Done => 0,
             Status::Refused => 1,
@@ -51,7 +56,9 @@ pub enum Refusal {
 
 impl Refusal {
     /// Writes the refusal's line, and answers the status that goes with it.
-    pub fn tell<W: Write>(self, out: &mut W) -> io::Result<Status> {
+    pub fn tell<W: Write>(self, out: &mut W) -> io::Result<Status>
+        ensures { IfOk result (λ status. status ≡ status_of self) }
+    {
         writeln!(out, "{self}")?;
         Ok(match self {
             Refusal::Disk => Status::Failed,

@@ -1,5 +1,8 @@
 //! `c8play run`: a game is played alone, from a file of keys.
 
+ghost use Rattle.std.specs.Prelude.{◌≡◌, ◌≢◌, IfOk};
+ghost use Rattle.c8play.specs.KeyLines.{IsPlayable};
+
 use crate::keys::play;
 use crate::refusal::{Refusal, Status};
 use crate::report::write_report;
@@ -16,7 +19,10 @@ pub fn run<W: Write, E: Write>(
     keys: &[u8],
     out: &mut W,
     refused: &mut E,
-) -> io::Result<Status> {
+) -> io::Result<Status>
+    ensures done { IfOk result (λ status. status ≡ Status.Done → IsPlayable game.now keys.now) }
+    ensures never_failed { IfOk result (λ status. status ≢ Status.Failed) }
+{
     let game = match Game::read(alloc, game) {
         Ok(game) => game,
         Err(error) => return Refusal::Game(error).tell(refused),

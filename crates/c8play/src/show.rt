@@ -1,5 +1,8 @@
 //! `c8play show`: the fields of a datagram, from its bytes in hexadecimal.
 
+ghost use Rattle.std.specs.Prelude.{◌≡◌, ◌≢◌, IfOk};
+ghost use Rattle.c8play.specs.Shown.{IsDatagramText};
+
 use crate::refusal::{Refusal, Status};
 use c8_wire::{Datagram, Header, Kind, Run, view};
 use hex::FromHexError;
@@ -26,7 +29,10 @@ pub fn show<W: Write, E: Write>(
     text: &str,
     out: &mut W,
     refused: &mut E,
-) -> io::Result<Status> {
+) -> io::Result<Status>
+    ensures done { IfOk result (λ status. status ≡ Status.Done → IsDatagramText text.now) }
+    ensures never_failed { IfOk result (λ status. status ≢ Status.Failed) }
+{
     let bytes = match hex::decode(alloc, text) {
         Ok(bytes) => bytes,
         Err(FromHexError::OutOfMemory) => return Refusal::Hex(HexError::Memory).tell(refused),
