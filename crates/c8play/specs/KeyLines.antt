@@ -17,7 +17,7 @@ use Rattle.c8play.specs.declared.keys.Played.{Played}
 abbrev pub digits_at : List ℕ → ℕ → List ℕ
 digits_at line place = take 4 (drop (5 * place) line)
 
--- whether the four bytes of a player are digits, and what stands before another player's is a space
+-- whether a player's four bytes are digits, with a space before them if another player's stand there
 abbrev pub is_set_at : List ℕ → ℕ → Bool
 is_set_at line place = (place == 0 || slice_index line (5 * place - 1) == 32) && is_keys_text (digits_at line place)
 
