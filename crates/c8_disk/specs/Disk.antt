@@ -1,7 +1,7 @@
 -- What the calls of a disk do to its bytes, and what a crash may make of them.
 use Rattle.std.specs.Prelude.{◌≡◌, ◌<◌, ◌≤◌, ◌⊎◌, ℕ, ◌+◌, max, List, ◌++◌, length, take, drop, Result, Ok, Err, IsErrOf}
-use Rattle.c8_disk.specs.declared.disk.DiskError.{DiskError}
-use Rattle.c8_disk.specs.declared.disk.DiskError.TheVariants.{Failed, Full}
+use Rattle.c8_disk.specs.declared.error.DiskError.{DiskError}
+use Rattle.c8_disk.specs.declared.error.DiskError.TheVariants.{Failed, Full}
 
 -- the bytes with these written over them at this place
 abbrev pub overwritten : List ℕ → ℕ → List ℕ → List ℕ

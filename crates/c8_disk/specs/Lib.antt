@@ -1,5 +1,6 @@
 pub mod Budget
 pub mod Disk
+pub mod Errors
 pub mod File
 pub mod Memory
 pub mod Past

@@ -3,18 +3,7 @@ ghost use Rattle.std.specs.Prelude.{◌≡◌, ◌+◌, ◌<◌, ◌≤◌, List
 ghost use Rattle.c8_disk.specs.declared.disk.Arm.{Arm};
 ghost use Rattle.c8_disk.specs.Disk.{AddsNone, Only, Writes, WritesImages, Elapses, HasCause};
 
-use thiserror::Error;
-
-/// Why a call of a disk was refused.
-#[derive(Clone, Copy, Debug, PartialEq, Eq, Error)]
-pub enum DiskError {
-    /// The disk failed in this call.
-    #[error("the disk failed")]
-    Failed,
-    /// The write would end past the disk's capacity. Nothing was written.
-    #[error("the disk is full")]
-    Full,
-}
+use crate::DiskError;
 
 /// When the calls of a disk are to fail.
 #[derive(Clone, Copy, Debug, PartialEq, Eq)]

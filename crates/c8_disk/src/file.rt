@@ -7,36 +7,12 @@ ghost use Rattle.c8_disk.specs.PastLaws.{reads_image, counts, only};
 use crate::bytes::overwrite;
 use crate::call::{Call, write_call};
 use crate::trace::Trace;
-use crate::{Arm, Disk, DiskError};
-use std::alloc::{AllocError, Global};
+use crate::{Arm, Disk, DiskError, FileError};
+use std::alloc::Global;
 use std::fs::File;
 use std::os::unix::fs::FileExt;
 use std::rt::Files;
 use std::snapshot::Snapshot;
-use thiserror::Error;
-
-/// Why a file was not opened as a disk. Nothing was written to it.
-#[derive(Clone, Copy, Debug, PartialEq, Eq, Error)]
-pub enum FileError {
-    /// The file can't be opened to read and to write, or is no file, or reading it failed.
-    #[error("the file can't be used")]
-    Failed,
-    /// The file is longer than the capacity.
-    #[error("the file is too long")]
-    Full,
-    #[error("out of memory")]
-    Memory,
-}
-
-impl From<AllocError> for FileError {
-    ghost use Rattle.c8_disk.specs.declared.file.FileError.TheVariants.{Memory};
-
-    ghost from_gives = { λ _ error. error ≡ Memory };
-
-    fn from(_: AllocError) -> FileError {
-        FileError::Memory
-    }
-}
 
 /// A disk in a file. What the file holds is kept in memory too, and each read is compared with it: what a read gives is
 /// what the file held when it was opened, with what was written since. After a call that failed every call fails, until

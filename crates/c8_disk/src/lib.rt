@@ -9,12 +9,14 @@ mod budget;
 mod bytes;
 mod call;
 mod disk;
+mod error;
 mod file;
 mod memory;
 mod trace;
 
-pub use disk::{Arm, Disk, DiskError};
-pub use file::{FileDisk, FileError};
+pub use disk::{Arm, Disk};
+pub use error::{DiskError, FileError};
+pub use file::FileDisk;
 pub use memory::MemDisk;
 
 #[cfg(test)]

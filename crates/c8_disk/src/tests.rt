@@ -114,3 +114,34 @@ fn a_file_keeps_what_was_written(rt: HostRuntime) -> Result<(), Fail> {
     fs::remove_dir(&rt, PATH)?;
     Ok(())
 }
+
+#[test]
+fn each_refusal_has_its_number_name_and_text(rt: HostRuntime) -> Result<(), Fail> {
+    for (error, number, name, text) in [
+        (DiskError::Failed, 1, "Failed", "the disk failed"),
+        (DiskError::Full, 2, "Full", "the disk is full"),
+    ] {
+        let shown = format!(in rt.alloc(); "{error}")?;
+        assert_eq!(rt;
+            (error.number(), error.name(), shown.as_str()),
+            (number, name, text)
+        );
+    }
+    for (error, number, name, text) in [
+        (FileError::Failed, 1, "Failed", "the file cannot be used"),
+        (
+            FileError::Full,
+            2,
+            "Full",
+            "the file is longer than the disk's capacity",
+        ),
+        (FileError::Memory, 3, "Memory", "out of memory"),
+    ] {
+        let shown = format!(in rt.alloc(); "{error}")?;
+        assert_eq!(rt;
+            (error.number(), error.name(), shown.as_str()),
+            (number, name, text)
+        );
+    }
+    Ok(())
+}

@@ -1,8 +1,8 @@
 -- A log over a disk, and what a crash leaves of it.
 use Rattle.std.specs.Prelude.{◌≡◌, ◌<◌, ◌⊎◌, ℕ, ◌+◌, ◌*◌, ◌^◌, ◌==◌, nat_lt, ◌&&◌, not, if◌then◌else◌, Bool, true, false, List, [], ◌∷◌, ◌++◌, length, slice_index}
 use Rattle.c8_disk.specs.Disk.{overwritten, Only}
-use Rattle.c8_disk.specs.declared.disk.DiskError.{DiskError}
-use Rattle.c8_disk.specs.declared.disk.DiskError.TheVariants.{Failed as DiskFailed, Full as DiskFull}
+use Rattle.c8_disk.specs.declared.error.DiskError.{DiskError}
+use Rattle.c8_disk.specs.declared.error.DiskError.TheVariants.{Failed as DiskFailed, Full as DiskFull}
 use Rattle.c8_log.specs.declared.error.LogError.{LogError}
 use Rattle.c8_log.specs.declared.error.LogError.TheVariants.{Failed, Full}
 use Rattle.c8_log.specs.Slots.{kept_count, kept}

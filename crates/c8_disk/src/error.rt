@@ -1,0 +1,80 @@
+//! Why a call of a disk, or the opening of a file as one, is refused.
+ghost use Rattle.std.specs.Prelude.{◌≡◌};
+ghost use Rattle.c8_disk.specs.Errors.{disk_number_of, file_number_of};
+ghost use Rattle.c8_disk.specs.declared.error.FileError.TheVariants.{Memory};
+
+use std::alloc::AllocError;
+use thiserror::Error;
+
+/// Why a call of a disk was refused.
+#[derive(Clone, Copy, Debug, PartialEq, Eq, Error)]
+pub enum DiskError {
+    /// The disk failed in this call.
+    #[error("the disk failed")]
+    Failed,
+    /// The write would end past the disk's capacity. Nothing was written.
+    #[error("the disk is full")]
+    Full,
+}
+
+impl DiskError {
+    /// The number that stands for it in what a program prints.
+    pub fn number(self) -> u8
+        ensures { result ≡ disk_number_of self }
+    {
+        match self {
+            DiskError::Failed => 1,
+            DiskError::Full => 2,
+        }
+    }
+
+    pub fn name(self) -> &'static str {
+        match self {
+            DiskError::Failed => "Failed",
+            DiskError::Full => "Full",
+        }
+    }
+}
+
+/// Why a file was not opened as a disk. None of its bytes was changed.
+#[derive(Clone, Copy, Debug, PartialEq, Eq, Error)]
+pub enum FileError {
+    /// A call of the system failed, or what stands at the path is no file that this process alone may read and write.
+    #[error("the file cannot be used")]
+    Failed,
+    /// The file is longer than the capacity.
+    #[error("the file is longer than the disk's capacity")]
+    Full,
+    /// The system refused the memory for the capacity.
+    #[error("out of memory")]
+    Memory,
+}
+
+impl FileError {
+    /// The number that stands for it in what a program prints.
+    pub fn number(self) -> u8
+        ensures { result ≡ file_number_of self }
+    {
+        match self {
+            FileError::Failed => 1,
+            FileError::Full => 2,
+            FileError::Memory => 3,
+        }
+    }
+
+    pub fn name(self) -> &'static str {
+        match self {
+            FileError::Failed => "Failed",
+            FileError::Full => "Full",
+            FileError::Memory => "Memory",
+        }
+    }
+}
+
+impl From<AllocError> for FileError {
+    ghost from_gives = { λ _ error. error ≡ Memory };
+
+    fn from(_: AllocError) -> FileError {
+        FileError::Memory
+    }
+}
