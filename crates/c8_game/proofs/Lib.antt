@@ -1,3 +1,4 @@
 pub mod LineLemmas
+pub mod ByteLemmas
 pub mod FieldLemmas
 pub mod DraftLemmas

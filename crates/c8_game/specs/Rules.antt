@@ -1,5 +1,5 @@
 -- What a game is, apart from its text and from how the code keeps it.
-use Rattle.std.specs.Prelude.{ℕ, ◌+◌, ◌≡◌, ◌≤◌, List, ◌++◌, length, bit_and, bit_or, slice_index, slice_index_or, take}
+use Rattle.std.specs.Prelude.{ℕ, ◌+◌, ◌^◌, ◌≡◌, ◌<◌, ◌≤◌, List, ◌++◌, length, bit_and, bit_or, slice_index, slice_index_or, take}
 use Rattle.std.specs.Int.{from_be_bytes, to_be_bytes, w8, w16, w32, w64}
 use Rattle.sha2.specs.Sha256.{sha256}
 use Rattle.c8_game.specs.declared.row.Row.{Row}
@@ -26,10 +26,13 @@ pub record AreInRange (rules : Rules) : Type 0 where
   pub delay : rules.delay ≤ 4
   pub some_window : 1 ≤ rules.window
   pub window : rules.window ≤ 12
+  pub seed : rules.seed < 2 ^ 64
   pub masks : length rules.masks ≡ 4
+  pub key_sets : (place : ℕ) → slice_index rules.masks place < 2 ^ 16
   pub absent : (place : ℕ) → rules.players ≤ place → slice_index rules.masks place ≡ 0
   pub some_program : 1 ≤ length rules.program
   pub program : length rules.program ≤ 3584
+  pub bytes : (place : ℕ) → slice_index rules.program place < 2 ^ 8
 
 -- the keys at a place of a row, player 1's at place 0, less those that the player's mask lacks
 abbrev pub masked : Rules → Row → ℕ → ℕ

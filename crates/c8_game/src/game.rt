@@ -3,7 +3,7 @@ ghost use Rattle.std.specs.Prelude.{◌≡◌, ◌<◌, ◌≤◌, ◌-◌, ◌+
 ghost use Rattle.sha2.specs.Sha256.{sha256};
 ghost use Rattle.c8_game.specs.GameText.{Spells, refusal};
 ghost use Rattle.c8_game.specs.declared.error.GameError.TheVariants.{Memory};
-ghost use Rattle.c8_game.specs.Rules.{joined, limit_of, number_bytes, id_of, session_of};
+ghost use Rattle.c8_game.specs.Rules.{AreInRange, joined, limit_of, number_bytes, id_of, session_of};
 
 use crate::error::GameError;
 use crate::row::{Keys, Player, Row};
@@ -65,6 +65,7 @@ impl Game {
     /// player who is not in the game. `Memory` comes only where a growth was refused.
     pub fn read(alloc: Global, text: &[u8]) -> Result<Game, GameError>
         ensures game { IfOk result (λ game. Spells text.now game) }
+        ensures ranges { IfOk result AreInRange }
         ensures refused { IfErr result (λ e. (e ≡ Memory) ⊎ (refusal text.now ≡ Some e)) }
     {
         let mut draft = Draft::new(alloc);
@@ -72,6 +73,13 @@ impl Game {
             draft.add(alloc, line)?;
         }
         draft.finish()
+    }
+
+    /// Tells a caller's proof that the rules of every game are in range; at run time it does nothing.
+    pub fn in_range(&self)
+        ensures { AreInRange self.now }
+    {
+        let _ = &self.players;
     }
 
     /// How many players there are, 2 to 4.

@@ -1,5 +1,5 @@
 //! A game in the making: what the lines so far say.
-ghost use Rattle.std.specs.Prelude.{◌≡◌, ◌≤◌, ◌⊎◌, ◌++◌, ◌∷◌, ◌&&◌, true, false, [], Some, None, OnOk, IfErr, IfOk, IsSome, IsTrue, MatchResult, IfNone, IfSome, is_none, is_some, is_ok, nat_lt, nat_le, unwrap_or, slice_set};
+ghost use Rattle.std.specs.Prelude.{ℕ, ◌≡◌, ◌<◌, ◌^◌, ◌≤◌, ◌⊎◌, ◌++◌, ◌∷◌, ◌&&◌, true, false, [], Some, None, OnOk, IfErr, IfOk, IsSome, IsTrue, MatchResult, IfNone, IfSome, is_none, is_some, is_ok, nat_lt, nat_le, unwrap_or, slice_index, slice_set};
 ghost use Rattle.std.specs.List.{list_any};
 ghost use Rattle.std.specs.Option.{ForSome};
 ghost use Rattle.std.specs.Result.{result_unwrap_or};
@@ -23,6 +23,7 @@ pub struct Draft {
     values: [Option<u64>; 10],
     program: Vec<u8>,
     ghost ranges: { (field : Field) → ForSome (number_at values field) (IsWithin field) },
+    ghost bytes: { (place : ℕ) → slice_index program.items place < 2 ^ 8 },
 }
 
 impl Draft {
