@@ -2,7 +2,7 @@
 use Rattle.std.specs.Prelude.{ℕ, Bool, List, length}
 use Rattle.c8_disk.specs.declared.call.Call.{Call}
 use Rattle.c8_disk.specs.declared.disk.Arm.{Arm}
-use Rattle.c8_disk.specs.declared.memory.MemDisk.{MemDisk}
+use Rattle.c8_disk.specs.declared.mem_disk.MemDisk.{MemDisk}
 use Rattle.c8_disk.specs.Past.{IsImage, LeftSince, synced}
 use Rattle.c8_disk.specs.Budget.{is_spent}
 

@@ -1,7 +1,7 @@
 //! How long a disk in memory serves.
 ghost use Rattle.std.specs.Prelude.{◌≡◌, ◌+◌, ◌↔◌, true, false, length, OnOk, OnErr, IsErrOf};
 
-use crate::trace::Trace;
+use crate::ghost_list::GhostList;
 use crate::{Arm, DiskError};
 
 /// The calls that it still serves, and when it stops before that.
@@ -9,7 +9,7 @@ use crate::{Arm, DiskError};
 pub(crate) struct Budget {
     pub(crate) calls: u32,
     pub(crate) arm: Arm,
-    pub(crate) failures: Trace<()>,
+    pub(crate) failures: GhostList<()>,
 }
 
 impl Budget {

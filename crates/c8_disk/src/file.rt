@@ -6,7 +6,7 @@ ghost use Rattle.c8_disk.specs.PastLaws.{reads_image, counts, only};
 
 use crate::bytes::overwrite;
 use crate::call::{Call, write_call};
-use crate::trace::Trace;
+use crate::ghost_list::GhostList;
 use crate::{Arm, Disk, DiskError, FileError};
 use std::alloc::Global;
 use std::fs::File;
@@ -24,10 +24,10 @@ pub struct FileDisk {
     room: u32,
     is_broken: bool,
     first: Snapshot<Vec<u8>>,
-    calls: Trace<Call>,
-    failures: Trace<()>,
-    asked: Trace<()>,
-    arms: Trace<Arm>,
+    calls: GhostList<Call>,
+    failures: GhostList<()>,
+    asked: GhostList<()>,
+    arms: GhostList<Arm>,
     ghost room_fits: { room < 2 ^ 32 },
     ghost lawful: { are_lawful first.value.items calls.items ≡ true },
     ghost replayed: { bytes.items ≡ content first.value.items calls.items },
@@ -95,10 +95,10 @@ impl FileDisk {
             room: capacity,
             is_broken: false,
             first,
-            calls: Trace::new(),
-            failures: Trace::new(),
-            asked: Trace::new(),
-            arms: Trace::new(),
+            calls: GhostList::new(),
+            failures: GhostList::new(),
+            asked: GhostList::new(),
+            arms: GhostList::new(),
         })
     }
 }

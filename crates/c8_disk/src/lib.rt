@@ -11,13 +11,14 @@ mod call;
 mod disk;
 mod error;
 mod file;
-mod memory;
-mod trace;
+mod ghost_list;
+mod mem_disk;
 
 pub use disk::{Arm, Disk};
 pub use error::{DiskError, FileError};
 pub use file::FileDisk;
-pub use memory::MemDisk;
+pub use ghost_list::GhostList;
+pub use mem_disk::MemDisk;
 
 #[cfg(test)]
 mod tests;

@@ -3,7 +3,7 @@ use Rattle.c8_disk.specs.Disk.{overwritten, Elapses}
 use Rattle.c8_disk.specs.Past.{content, are_lawful, fit, IsImage, LeftSince}
 use Rattle.c8_disk.specs.declared.call.Call.{Call}
 use Rattle.c8_disk.proofs.Past.{elapses_push, content_write, tears_write, lawful_write, fit_write}
-use Rattle.c8_disk.proofs.memory.MemDiskDisk.write_at.Goals as goal
+use Rattle.c8_disk.proofs.mem_disk.MemDiskDisk.write_at.Goals as goal
 
 pub invariant_of-self-2-clause-lawful : goal.invariant_of-self-2-clause-lawful
 invariant_of-self-2-clause-lawful c =

@@ -4,31 +4,33 @@ ghost use Rattle.std.specs.Borrow.{ftrue};
 
 use std::marker::{Model, PhantomData};
 
-/// It has no bytes, so it has no last item: a clause reads the list as `items`.
+/// A list that takes no room: it is there for clauses, which read it as `items`. A type keeps one where its contract
+/// has to remember what no byte of it holds, as the calls that were made so far.
 #[derive(Drop)]
-pub(crate) struct Trace<T> {
+pub struct GhostList<T> {
     of: PhantomData<T>,
     pub ghost items: { List T },
 }
 
-impl<T> Model for Trace<T> {
+impl<T> Model for GhostList<T> {
     ghost also_owns = { λ _. ftrue };
 }
 
 // It owns nothing.
-unsafe impl<T: Send> Send for Trace<T> {}
+unsafe impl<T: Send> Send for GhostList<T> {}
 
-impl<T> Trace<T> {
-    pub(crate) fn new() -> Trace<T>
+impl<T> GhostList<T> {
+    /// An empty one.
+    pub fn new() -> GhostList<T>
         ensures { result.items ≡ [] }
     {
-        Trace { of: PhantomData }
+        GhostList { of: PhantomData }
     }
 
     /// The same with one item more.
-    pub(crate) fn and(&self, item: &T) -> Trace<T>
+    pub fn and(&self, item: &T) -> GhostList<T>
         ensures { result.items ≡ self.now.items ++ item.now ∷ [] }
     {
-        Trace { of: PhantomData }
+        GhostList { of: PhantomData }
     }
 }

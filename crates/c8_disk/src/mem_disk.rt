@@ -8,7 +8,7 @@ ghost use Rattle.c8_disk.specs.PastLaws.{reads_image, counts, only};
 use crate::budget::Budget;
 use crate::bytes::{overwrite, replace};
 use crate::call::{Call, count_synced, replay, tear_all, write_call};
-use crate::trace::Trace;
+use crate::ghost_list::GhostList;
 use crate::{Arm, Disk, DiskError};
 use rand_pcg::Pcg32;
 use rand_pcg::rand_core::SeedableRng;
@@ -25,8 +25,8 @@ pub struct MemDisk {
     room: u32,
     allowed: u32,
     budget: Budget,
-    asked: Trace<()>,
-    arms: Trace<Arm>,
+    asked: GhostList<()>,
+    arms: GhostList<Arm>,
     ghost room_fits: { room < 2 ^ 32 },
     ghost lawful: { are_lawful first.items calls.items ≡ true },
     ghost replayed: { bytes.items ≡ content first.items calls.items },
@@ -71,10 +71,10 @@ impl MemDisk {
             budget: Budget {
                 calls,
                 arm: Arm::Off,
-                failures: Trace::new(),
+                failures: GhostList::new(),
             },
-            asked: Trace::new(),
-            arms: Trace::new(),
+            asked: GhostList::new(),
+            arms: GhostList::new(),
         })
     }
 

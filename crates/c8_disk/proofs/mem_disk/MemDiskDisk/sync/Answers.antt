@@ -4,7 +4,7 @@ use Rattle.c8_disk.specs.Past.{content, are_lawful, fit, IsImage, LeftSince}
 use Rattle.c8_disk.specs.declared.call.Call.{Call}
 use Rattle.c8_disk.specs.declared.call.Call.TheVariants.{Sync}
 use Rattle.c8_disk.proofs.Past.{elapses_push, content_sync, only_synced, sync_adds_none, lawful_sync, fit_sync}
-use Rattle.c8_disk.proofs.memory.MemDiskDisk.sync.Goals as goal
+use Rattle.c8_disk.proofs.mem_disk.MemDiskDisk.sync.Goals as goal
 
 pub invariant_of-self-2-clause-lawful : goal.invariant_of-self-2-clause-lawful
 invariant_of-self-2-clause-lawful c =

@@ -1,7 +1,7 @@
 use Rattle.std.proofs.Common.{vec_capacity, ◌∙◌, ap}
 use Rattle.c8_disk.specs.Past.{fit}
 use Rattle.c8_disk.proofs.Calls.{fit_more}
-use Rattle.c8_disk.proofs.memory.MemDisk.crash.Goals as goal
+use Rattle.c8_disk.proofs.mem_disk.MemDisk.crash.Goals as goal
 
 pub leave_image-requires-clause-fits_first : goal.leave_image-requires-clause-fits_first
 leave_image-requires-clause-fits_first c =

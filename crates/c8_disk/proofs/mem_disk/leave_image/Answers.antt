@@ -3,7 +3,7 @@ use Rattle.c8_disk.specs.Past.{content, synced, synced_count, are_lawful, fit, I
 use Rattle.c8_disk.specs.PastLaws.{reads_image}
 use Rattle.c8_disk.specs.declared.call.Call.{Call}
 use Rattle.c8_disk.proofs.Calls.{synced_within, synced_lawful, synced_is_image, torn_is_image, image_within, fit_front, fit_back, fit_more}
-use Rattle.c8_disk.proofs.memory.leave_image.Goals as goal
+use Rattle.c8_disk.proofs.mem_disk.leave_image.Goals as goal
 
 pub returns-then-pick-eq1-clause-image : goal.returns-then-pick-eq1-clause-image
 returns-then-pick-eq1-clause-image c = reads_image c.args.first.now.items c.args.calls.now c.args.bytes.now.items c.requires.lawful c.requires.replayed
