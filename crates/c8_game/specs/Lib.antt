@@ -1,3 +1,5 @@
+pub mod Faults
+pub mod FaultLaws
 pub mod Rules
 pub mod KeysText
 pub mod Lines
