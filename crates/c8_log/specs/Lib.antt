@@ -1,4 +1,3 @@
-pub mod Errors
 pub mod Log
 pub mod Slots
 pub mod Written

@@ -2,16 +2,16 @@
 use Rattle.std.proofs.Common.{Bool, MatchBool, length, nat_lt, ◌≡◌, ℕ, zero, suc, ◌<◌, true, false, Option, Some, None, MatchOption, List, [], ◌∷◌, ◌++◌, replicate, ap, sym, ◌∙◌, subst, inl, inr, refl, arith}
 use Rattle.std.proofs.lemmas.Bool.{true≢false, cases_Bool}
 use Rattle.c8_game.specs.Rules.{Rules}
-use Rattle.c8_machine.specs.declared.instruction.Instruction.{Instruction}
-use Rattle.c8_machine.specs.declared.instruction.Instruction.TheVariants.{Return, Call}
 use Rattle.c8_machine.specs.declared.machine.Step.{Step}
 use Rattle.c8_machine.specs.declared.machine.Step.TheVariants.{Went}
 use Rattle.c8_machine.specs.declared.machine.Stop.{Stop}
-use Rattle.c8_machine.specs.Instructions.{instruction_of}
+use Rattle.c8_machine.specs.Instructions.{Instruction, Return, Call}
+use Rattle.c8_machine.specs.Decoding.{instruction_of}
 use Rattle.c8_machine.specs.State.{State}
-use Rattle.c8_machine.specs.Steps.{Does, code_at}
+use Rattle.c8_machine.specs.Steps.{Does, Executes, IsStep, code_at}
 use Rattle.c8_machine.specs.Frames.{IsFrame, IsLiveFrame, IsChain, Runs, FillsFrame, settled, ended, goes_on}
 use Rattle.c8_machine.specs.FrameExists.{framed}
+use Rattle.c8_machine.specs.DecodingLaws.{is_instruction_of, only_instruction}
 use Rattle.c8_machine.specs.Serial.{frame_of}
 
 record Same (s t : State) (step other : Step) : Type 0 where
@@ -28,6 +28,18 @@ does_once : (rules : Rules) (keys : ℕ) (i : Instruction) (s t u : State) (step
 does_once rules keys Return s t u step other a b = by_test (nat_lt 0 (length s.stack)) _ _ _ _ t u step other a b
 does_once rules keys (Call to) s t u step other a b = by_test (nat_lt (length s.stack) 16) _ _ _ _ t u step other a b
 does_once rules keys i s t u step other (a, b) (c, d) = record { machine = b ∙ sym d; what = a ∙ sym c }
+
+executes_once : (rules : Rules) (keys : ℕ) (i : Option Instruction) (s t u : State) (step other : Step) → Executes rules keys i s t step → Executes rules keys i s u other → Same t u step other
+executes_once rules keys (Some i) s t u step other a b = does_once rules keys i s t u step other a b
+executes_once rules keys None s t u step other (a, b) (c, d) = record { machine = b ∙ sym d; what = a ∙ sym c }
+
+at_its_code : (rules : Rules) (keys : ℕ) (s t : State) (step : Step) → IsStep rules keys s t step → Executes rules keys (instruction_of (code_at s)) s t step
+at_its_code rules keys s t step is = rw (only_instruction (code_at s) is.instruction is.is) at is.does
+
+-- a machine makes one step
+steps_once : (rules : Rules) (keys : ℕ) (s t u : State) (step other : Step) → IsStep rules keys s t step → IsStep rules keys s u other → Same t u step other
+steps_once rules keys s t u step other a b =
+    executes_once rules keys (instruction_of (code_at s)) s t u step other (at_its_code rules keys s t step a) (at_its_code rules keys s u other b)
 
 -- steps that fill a frame of none are none
 fills_none : (steps : List Step) → FillsFrame 0 steps → steps ≡ []
@@ -66,7 +78,7 @@ chains_agree rules keys (suc n) s t u xs ys fills also chain other =
     let y = first n ys also in
     let left : IsChain rules keys s (x.first ∷ x.rest) t = subst (λ (steps : List Step). IsChain rules keys s steps t) x.all chain in
     let right : IsChain rules keys s (y.first ∷ y.rest) u = subst (λ (steps : List Step). IsChain rules keys s steps u) y.all other in
-    let same = does_once rules keys (instruction_of (code_at s)) s left.0 right.0 x.first y.first left.1 right.1 in
+    let same = steps_once rules keys s left.0 right.0 x.first y.first left.1 right.1 in
     let moved : IsChain rules keys left.0 y.rest u = subst (λ (mid : State). IsChain rules keys mid y.rest u) (sym same.machine) right.2 in
     elim (cases_Bool (goes_on x.first)) [
       | inl goes ↦ chains_agree rules keys n left.0 t u x.rest y.rest (x.then_fills goes) (y.then_fills (sym (ap goes_on same.what) ∙ goes)) left.2 moved
@@ -90,3 +102,13 @@ is_frame rules keys s = (framed rules keys s).1
 
 pub frame_once : (rules : Rules) (keys : ℕ) (s t : State) → IsFrame rules keys s t → t ≡ frame_of rules keys s
 frame_once rules keys s t frame = frame_once_by rules keys s t (frame_of rules keys s) s.stop frame (is_frame rules keys s)
+
+-- what is done for the instruction that was found at the counter is a step
+pub step_at_code : (rules : Rules) (keys : ℕ) (s t : State) (code : ℕ) (i : Option Instruction) (step : Step) → code ≡ code_at s → i ≡ instruction_of code → Executes rules keys i s t step → IsStep rules keys s t step
+step_at_code rules keys s t code i step here found done =
+    let is : i ≡ instruction_of (code_at s) = found ∙ ap instruction_of here in
+    record {
+      instruction = i;
+      is = rw is (is_instruction_of (code_at s));
+      does = done;
+    }

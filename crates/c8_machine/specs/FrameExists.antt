@@ -1,15 +1,16 @@
--- Every machine has a frame, whatever keys are down. Only the type of `framed` is known elsewhere.
+-- Checked, not believed: every machine has a frame, whatever keys are down. Only the type of `framed`
+-- is known elsewhere.
 use Rattle.std.specs.Prelude.{MatchBool, length, nat_lt, ◌≡◌, ℕ, zero, suc, false, Option, Some, None, MatchOption, List, [], ◌∷◌}
 use Rattle.std.proofs.Common.{Bool, true, false, zero-le, suc-le-suc, ap, inl, inr, refl}
 use Rattle.c8_game.specs.Rules.{Rules}
-use Rattle.c8_machine.specs.declared.instruction.Instruction.{Instruction}
-use Rattle.c8_machine.specs.declared.instruction.Instruction.TheVariants.{Return, Call}
 use Rattle.c8_machine.specs.declared.machine.Step.{Step}
 use Rattle.c8_machine.specs.declared.machine.Step.TheVariants.{Went}
 use Rattle.c8_machine.specs.declared.machine.Stop.{Stop}
-use Rattle.c8_machine.specs.Instructions.{instruction_of}
+use Rattle.c8_machine.specs.Instructions.{Instruction, Return, Call}
+use Rattle.c8_machine.specs.Decoding.{instruction_of}
 use Rattle.c8_machine.specs.State.{State}
-use Rattle.c8_machine.specs.Steps.{Does, IsStep, code_at}
+use Rattle.c8_machine.specs.DecodingLaws.{is_instruction_of}
+use Rattle.c8_machine.specs.Steps.{Does, Executes, IsStep, code_at}
 use Rattle.c8_machine.specs.Frames.{IsFrame, IsLiveFrame, IsChain, Runs, FillsFrame, settled, ended, goes_on}
 
 -- what an instruction does that goes by a test
@@ -23,6 +24,15 @@ does : (rules : Rules) (keys : ℕ) (i : Instruction) (s : State) → (t : State
 does rules keys Return s = one_or_other (nat_lt 0 (length s.stack)) _ _ _ _
 does rules keys (Call to) s = one_or_other (nat_lt (length s.stack) 16) _ _ _ _
 does rules keys i s = (_, _, (refl, refl))
+
+executes : (rules : Rules) (keys : ℕ) (i : Option Instruction) (s : State) → (t : State) × (step : Step) × Executes rules keys i s t step
+executes rules keys (Some i) s = does rules keys i s
+executes rules keys None s = (_, _, (refl, refl))
+
+step_of : (rules : Rules) (keys : ℕ) (s : State) → (t : State) × (step : Step) × IsStep rules keys s t step
+step_of rules keys s =
+    let done = executes rules keys (instruction_of (code_at s)) s in
+    (done.0, done.1, record { instruction = instruction_of (code_at s); is = is_instruction_of (code_at s); does = done.2 })
 
 record Run (rules : Rules) (keys n : ℕ) (s : State) : Type 0 where
   end : State
@@ -56,7 +66,7 @@ run_on rules keys n s mid step here rest = ends_at_once rules keys n s mid step 
 
 run : (rules : Rules) (keys n : ℕ) (s : State) → Run rules keys n s
 run rules keys zero s = record { end = s; steps = []; whole = inl refl; chain = refl }
-run rules keys (suc n) s = let done = does rules keys (instruction_of (code_at s)) s in run_on rules keys n s done.0 done.1 done.2 (run rules keys n done.0)
+run rules keys (suc n) s = let done = step_of rules keys s in run_on rules keys n s done.0 done.1 done.2 (run rules keys n done.0)
 
 act : (rules : Rules) (keys : ℕ) (s : State) (waits : Option ℕ) → (t : State) × MatchOption waits (Runs rules keys s t) (λ _. t ≡ s)
 act rules keys s None = let whole = run rules keys rules.ipf s in (whole.end, record { steps = whole.steps; whole = whole.whole; chain = whole.chain })

@@ -1,122 +1,140 @@
--- The instructions, and the code of two bytes that each is written as. In a code X is the second
--- digit, Y the third and N the last one, KK stands for the last two and MMM for the last three.
-use Rattle.std.specs.Prelude.{ℕ, ◌<◌, ◌/◌, ◌%◌, ◌==◌, ◌&&◌, if◌then◌else◌}
-use Rattle.c8_machine.specs.declared.instruction.Instruction.{Instruction}
-use Rattle.c8_machine.specs.declared.instruction.Instruction.TheVariants.{Clear, Return, Jump, Call, SkipIfValue, SkipUnlessValue, SkipIfSame, SetValue, AddValue, Set, Or, And, ExclusiveOr, Add, Subtract, ShiftRight, SubtractFrom, ShiftLeft, SkipUnlessSame, SetAddress, JumpFrom, Random, Draw, SkipIfDown, SkipIfUp, ReadTimer, AwaitKey, SetTimer, SetTone, AddAddress, PointAtDigit, StoreDigits, StoreRegisters, LoadRegisters, Unknown}
+-- The instructions, and the code of two bytes that each is written as, read off Weisbecker's table. In
+-- a code X is the second digit, Y the third and N the last one, KK stands for the last two and MMM for
+-- the last three.
+use Rattle.std.specs.Prelude.{◌≡◌, ◌≢◌, ℕ, ◌+◌, ◌*◌, ◌<◌, Option, Some, None}
 
-abbrev pub first_digit : ℕ → ℕ
-first_digit code = code / 0x1000
+pub data Instruction : Type 0 where
+  Clear : Instruction
+  Return : Instruction
+  Jump : (to : ℕ) → Instruction
+  Call : (to : ℕ) → Instruction
+  SkipIfValue : (x value : ℕ) → Instruction
+  SkipUnlessValue : (x value : ℕ) → Instruction
+  SkipIfSame : (x y : ℕ) → Instruction
+  SetValue : (x value : ℕ) → Instruction
+  AddValue : (x value : ℕ) → Instruction
+  Set : (x y : ℕ) → Instruction
+  Or : (x y : ℕ) → Instruction
+  And : (x y : ℕ) → Instruction
+  ExclusiveOr : (x y : ℕ) → Instruction
+  Add : (x y : ℕ) → Instruction
+  Subtract : (x y : ℕ) → Instruction
+  ShiftRight : (x y : ℕ) → Instruction
+  SubtractFrom : (x y : ℕ) → Instruction
+  ShiftLeft : (x y : ℕ) → Instruction
+  SkipUnlessSame : (x y : ℕ) → Instruction
+  SetAddress : (to : ℕ) → Instruction
+  JumpFrom : (to : ℕ) → Instruction
+  Random : (x value : ℕ) → Instruction
+  Draw : (x y rows : ℕ) → Instruction
+  SkipIfDown : (x : ℕ) → Instruction
+  SkipIfUp : (x : ℕ) → Instruction
+  ReadTimer : (x : ℕ) → Instruction
+  AwaitKey : (x : ℕ) → Instruction
+  SetTimer : (x : ℕ) → Instruction
+  SetTone : (x : ℕ) → Instruction
+  AddAddress : (x : ℕ) → Instruction
+  PointAtDigit : (x : ℕ) → Instruction
+  StoreDigits : (x : ℕ) → Instruction
+  StoreRegisters : (x : ℕ) → Instruction
+  LoadRegisters : (x : ℕ) → Instruction
 
-abbrev pub digit_x : ℕ → ℕ
-digit_x code = code / 0x100 % 0x10
+-- a code by its four digits
+abbrev pub digits : ℕ → ℕ → ℕ → ℕ → ℕ
+digits a x y n = a * 0x1000 + x * 0x100 + y * 0x10 + n
 
-abbrev pub digit_y : ℕ → ℕ
-digit_y code = code / 0x10 % 0x10
+-- a code by its first two digits and its second byte
+abbrev pub with_byte : ℕ → ℕ → ℕ → ℕ
+with_byte a x value = a * 0x1000 + x * 0x100 + value
 
-abbrev pub last_digit : ℕ → ℕ
-last_digit code = code % 0x10
+-- a code by its first digit and an address
+abbrev pub with_address : ℕ → ℕ → ℕ
+with_address a to = a * 0x1000 + to
 
-abbrev pub last_two : ℕ → ℕ
-last_two code = code % 0x100
+-- the code that an instruction is written as
+abbrev pub code_of : Instruction → ℕ
+code_of Clear = 0x00E0
+code_of Return = 0x00EE
+code_of (Jump to) = with_address 0x1 to
+code_of (Call to) = with_address 0x2 to
+code_of (SkipIfValue x value) = with_byte 0x3 x value
+code_of (SkipUnlessValue x value) = with_byte 0x4 x value
+code_of (SkipIfSame x y) = digits 0x5 x y 0x0
+code_of (SetValue x value) = with_byte 0x6 x value
+code_of (AddValue x value) = with_byte 0x7 x value
+code_of (Set x y) = digits 0x8 x y 0x0
+code_of (Or x y) = digits 0x8 x y 0x1
+code_of (And x y) = digits 0x8 x y 0x2
+code_of (ExclusiveOr x y) = digits 0x8 x y 0x3
+code_of (Add x y) = digits 0x8 x y 0x4
+code_of (Subtract x y) = digits 0x8 x y 0x5
+code_of (ShiftRight x y) = digits 0x8 x y 0x6
+code_of (SubtractFrom x y) = digits 0x8 x y 0x7
+code_of (ShiftLeft x y) = digits 0x8 x y 0xE
+code_of (SkipUnlessSame x y) = digits 0x9 x y 0x0
+code_of (SetAddress to) = with_address 0xA to
+code_of (JumpFrom to) = with_address 0xB to
+code_of (Random x value) = with_byte 0xC x value
+code_of (Draw x y rows) = digits 0xD x y rows
+code_of (SkipIfDown x) = digits 0xE x 0x9 0xE
+code_of (SkipIfUp x) = digits 0xE x 0xA 0x1
+code_of (ReadTimer x) = digits 0xF x 0x0 0x7
+code_of (AwaitKey x) = digits 0xF x 0x0 0xA
+code_of (SetTimer x) = digits 0xF x 0x1 0x5
+code_of (SetTone x) = digits 0xF x 0x1 0x8
+code_of (AddAddress x) = digits 0xF x 0x1 0xE
+code_of (PointAtDigit x) = digits 0xF x 0x2 0x9
+code_of (StoreDigits x) = digits 0xF x 0x3 0x3
+code_of (StoreRegisters x) = digits 0xF x 0x5 0x5
+code_of (LoadRegisters x) = digits 0xF x 0x6 0x5
 
-abbrev pub last_three : ℕ → ℕ
-last_three code = code % 0x1000
+abbrev pub IsDigit : ℕ → Type 0
+IsDigit x = x < 0x10
 
--- the instructions whose first digit is 0
-unfoldable pub system_instruction : ℕ → Instruction
-system_instruction code =
-    if code == 0x00E0 then Clear
-    else if code == 0x00EE then Return
-    else Unknown
+abbrev pub IsByte : ℕ → Type 0
+IsByte value = value < 0x100
 
--- 8XY0 to 8XYE
-unfoldable pub arithmetic_instruction : ℕ → Instruction
-arithmetic_instruction code =
-    if last_digit code == 0x0 then Set (digit_x code) (digit_y code)
-    else if last_digit code == 0x1 then Or (digit_x code) (digit_y code)
-    else if last_digit code == 0x2 then And (digit_x code) (digit_y code)
-    else if last_digit code == 0x3 then ExclusiveOr (digit_x code) (digit_y code)
-    else if last_digit code == 0x4 then Add (digit_x code) (digit_y code)
-    else if last_digit code == 0x5 then Subtract (digit_x code) (digit_y code)
-    else if last_digit code == 0x6 then ShiftRight (digit_x code) (digit_y code)
-    else if last_digit code == 0x7 then SubtractFrom (digit_x code) (digit_y code)
-    else if last_digit code == 0xE then ShiftLeft (digit_x code) (digit_y code)
-    else Unknown
-
--- EX9E and EXA1
-unfoldable pub key_instruction : ℕ → Instruction
-key_instruction code =
-    if last_two code == 0x9E then SkipIfDown (digit_x code)
-    else if last_two code == 0xA1 then SkipIfUp (digit_x code)
-    else Unknown
-
--- FX07 to FX65
-unfoldable pub register_instruction : ℕ → Instruction
-register_instruction code =
-    if last_two code == 0x07 then ReadTimer (digit_x code)
-    else if last_two code == 0x0A then AwaitKey (digit_x code)
-    else if last_two code == 0x15 then SetTimer (digit_x code)
-    else if last_two code == 0x18 then SetTone (digit_x code)
-    else if last_two code == 0x1E then AddAddress (digit_x code)
-    else if last_two code == 0x29 then PointAtDigit (digit_x code)
-    else if last_two code == 0x33 then StoreDigits (digit_x code)
-    else if last_two code == 0x55 then StoreRegisters (digit_x code)
-    else if last_two code == 0x65 then LoadRegisters (digit_x code)
-    else Unknown
-
--- the instruction that a code below 2 ^ 16 means
-unfoldable pub instruction_of : ℕ → Instruction
-instruction_of code =
-    if first_digit code == 0x0 then system_instruction code
-    else if first_digit code == 0x1 then Jump (last_three code)
-    else if first_digit code == 0x2 then Call (last_three code)
-    else if first_digit code == 0x3 then SkipIfValue (digit_x code) (last_two code)
-    else if first_digit code == 0x4 then SkipUnlessValue (digit_x code) (last_two code)
-    else if first_digit code == 0x5 && last_digit code == 0x0 then SkipIfSame (digit_x code) (digit_y code)
-    else if first_digit code == 0x6 then SetValue (digit_x code) (last_two code)
-    else if first_digit code == 0x7 then AddValue (digit_x code) (last_two code)
-    else if first_digit code == 0x8 then arithmetic_instruction code
-    else if first_digit code == 0x9 && last_digit code == 0x0 then SkipUnlessSame (digit_x code) (digit_y code)
-    else if first_digit code == 0xA then SetAddress (last_three code)
-    else if first_digit code == 0xB then JumpFrom (last_three code)
-    else if first_digit code == 0xC then Random (digit_x code) (last_two code)
-    else if first_digit code == 0xD then Draw (digit_x code) (digit_y code) (last_digit code)
-    else if first_digit code == 0xE then key_instruction code
-    else if first_digit code == 0xF then register_instruction code
-    else Unknown
+abbrev pub IsAddress : ℕ → Type 0
+IsAddress to = to < 0x1000
 
 -- the parts of an instruction are digits, bytes and addresses
 abbrev pub IsInRange : Instruction → Type 0
-IsInRange (Jump to) = to < 0x1000
-IsInRange (Call to) = to < 0x1000
-IsInRange (SkipIfValue x value) = x < 16
-IsInRange (SkipUnlessValue x value) = x < 16
-IsInRange (SkipIfSame x y) = (x < 16) × (y < 16)
-IsInRange (SetValue x value) = x < 16
-IsInRange (AddValue x value) = x < 16
-IsInRange (Set x y) = (x < 16) × (y < 16)
-IsInRange (Or x y) = (x < 16) × (y < 16)
-IsInRange (And x y) = (x < 16) × (y < 16)
-IsInRange (ExclusiveOr x y) = (x < 16) × (y < 16)
-IsInRange (Add x y) = (x < 16) × (y < 16)
-IsInRange (Subtract x y) = (x < 16) × (y < 16)
-IsInRange (ShiftRight x y) = (x < 16) × (y < 16)
-IsInRange (SubtractFrom x y) = (x < 16) × (y < 16)
-IsInRange (ShiftLeft x y) = (x < 16) × (y < 16)
-IsInRange (SkipUnlessSame x y) = (x < 16) × (y < 16)
-IsInRange (SetAddress to) = to < 0x1000
-IsInRange (JumpFrom to) = to < 0x1000
-IsInRange (Random x value) = x < 16
-IsInRange (Draw x y rows) = (x < 16) × (y < 16) × (rows < 16)
-IsInRange (SkipIfDown x) = x < 16
-IsInRange (SkipIfUp x) = x < 16
-IsInRange (ReadTimer x) = x < 16
-IsInRange (AwaitKey x) = x < 16
-IsInRange (SetTimer x) = x < 16
-IsInRange (SetTone x) = x < 16
-IsInRange (AddAddress x) = x < 16
-IsInRange (PointAtDigit x) = x < 16
-IsInRange (StoreDigits x) = x < 16
-IsInRange (StoreRegisters x) = x < 16
-IsInRange (LoadRegisters x) = x < 16
-IsInRange _ = Unit {0}
+IsInRange Clear = Unit {0}
+IsInRange Return = Unit {0}
+IsInRange (Jump to) = IsAddress to
+IsInRange (Call to) = IsAddress to
+IsInRange (SkipIfValue x value) = IsDigit x × IsByte value
+IsInRange (SkipUnlessValue x value) = IsDigit x × IsByte value
+IsInRange (SkipIfSame x y) = IsDigit x × IsDigit y
+IsInRange (SetValue x value) = IsDigit x × IsByte value
+IsInRange (AddValue x value) = IsDigit x × IsByte value
+IsInRange (Set x y) = IsDigit x × IsDigit y
+IsInRange (Or x y) = IsDigit x × IsDigit y
+IsInRange (And x y) = IsDigit x × IsDigit y
+IsInRange (ExclusiveOr x y) = IsDigit x × IsDigit y
+IsInRange (Add x y) = IsDigit x × IsDigit y
+IsInRange (Subtract x y) = IsDigit x × IsDigit y
+IsInRange (ShiftRight x y) = IsDigit x × IsDigit y
+IsInRange (SubtractFrom x y) = IsDigit x × IsDigit y
+IsInRange (ShiftLeft x y) = IsDigit x × IsDigit y
+IsInRange (SkipUnlessSame x y) = IsDigit x × IsDigit y
+IsInRange (SetAddress to) = IsAddress to
+IsInRange (JumpFrom to) = IsAddress to
+IsInRange (Random x value) = IsDigit x × IsByte value
+IsInRange (Draw x y rows) = IsDigit x × IsDigit y × IsDigit rows
+IsInRange (SkipIfDown x) = IsDigit x
+IsInRange (SkipIfUp x) = IsDigit x
+IsInRange (ReadTimer x) = IsDigit x
+IsInRange (AwaitKey x) = IsDigit x
+IsInRange (SetTimer x) = IsDigit x
+IsInRange (SetTone x) = IsDigit x
+IsInRange (AddAddress x) = IsDigit x
+IsInRange (PointAtDigit x) = IsDigit x
+IsInRange (StoreDigits x) = IsDigit x
+IsInRange (StoreRegisters x) = IsDigit x
+IsInRange (LoadRegisters x) = IsDigit x
+
+-- the instruction of a code is the one that is written so; a code that none is written as has none
+abbrev pub IsInstructionOf : ℕ → Option Instruction → Type 0
+IsInstructionOf code (Some i) = IsInRange i × (code_of i ≡ code)
+IsInstructionOf code None = (i : Instruction) → IsInRange i → code_of i ≢ code

@@ -1,5 +1,7 @@
 pub mod State
 pub mod Instructions
+pub mod Decoding
+pub mod DecodingLaws
 pub mod Steps
 pub mod Frames
 pub mod FrameExists

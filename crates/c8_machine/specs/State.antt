@@ -1,5 +1,5 @@
 -- The state of a machine, apart from how the code keeps it.
-use Rattle.std.specs.Prelude.{ℕ, ◌-◌, Option, None, List, [], ◌∷◌, nat_le, replicate, slice_index, take, if◌then◌else◌}
+use Rattle.std.specs.Prelude.{◌≡◌, ℕ, ◌-◌, ◌^◌, ◌<◌, ◌≤◌, true, Option, None, IfSome, List, [], ◌∷◌, length, nat_le, replicate, slice_index, take, if◌then◌else◌}
 use Rattle.c8_screen.specs.Points.{Points, no_points, points_of}
 use Rattle.c8_game.specs.Rules.{Rules}
 use Rattle.c8_machine.specs.declared.machine.Machine.{Machine}
@@ -29,6 +29,23 @@ pub record State : Type 0 where
   -- how many random bytes were drawn, modulo 2 ^ 64
   pub draws : ℕ
   pub stop : Option Stop
+
+-- the states that a machine can have: the size and the range of each part
+pub record IsState (s : State) : Type 0 where
+  pub bytes : (at : ℕ) → s.memory at < 2 ^ 8
+  pub no_more_bytes : (at : ℕ) → 0x1000 ≤ at → s.memory at ≡ 0
+  pub registers : length s.registers ≡ 16
+  pub values : (x : ℕ) → slice_index s.registers x < 2 ^ 8
+  pub address : s.address < 0x1000
+  pub counter : s.counter < 0x1000
+  pub depth : length s.stack ≤ 16
+  pub places : (k : ℕ) → slice_index s.stack k < 0x1000
+  pub points : (x y : ℕ) → s.screen x y ≡ true → (x < 64) × (y < 32)
+  pub timer : s.timer < 2 ^ 8
+  pub tone : s.tone < 2 ^ 8
+  pub keys : s.keys < 2 ^ 16
+  pub waits : IfSome s.waits (λ x. x < 16)
+  pub draws : s.draws < 2 ^ 64
 
 -- the state that a machine is in
 abbrev pub state : Machine → State

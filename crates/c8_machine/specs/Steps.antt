@@ -1,18 +1,16 @@
 -- What one instruction does: a relation between the machine before and after it, one case for each
 -- row of the instruction table.
-use Rattle.std.specs.Prelude.{◌≡◌, ℕ, ◌+◌, ◌-◌, ◌*◌, ◌/◌, ◌%◌, ◌^◌, ◌==◌, ◌&&◌, Bool, not, MatchBool, Some, List, [], ◌∷◌, ◌++◌, length, take, drop, map, nat_le, nat_lt, bit_and, bit_or, bit_xor, slice_index, slice_set, if◌then◌else◌}
+use Rattle.std.specs.Prelude.{◌≡◌, ℕ, ◌+◌, ◌-◌, ◌*◌, ◌/◌, ◌%◌, ◌^◌, ◌==◌, ◌&&◌, Bool, not, MatchBool, Option, Some, None, List, [], ◌∷◌, ◌++◌, length, take, drop, map, nat_le, nat_lt, bit_and, bit_or, bit_xor, slice_index, slice_set, if◌then◌else◌}
 use Rattle.std.specs.Int.{bit_at, to_be_bytes, w64}
 use Rattle.std.specs.List.{range_with_len}
 use Rattle.sha2.specs.Sha256.{sha256}
 use Rattle.c8_screen.specs.Points.{Points, no_points, sprite, clipped, exclusive_or, meets}
 use Rattle.c8_game.specs.Rules.{Rules}
-use Rattle.c8_machine.specs.declared.instruction.Instruction.{Instruction}
-use Rattle.c8_machine.specs.declared.instruction.Instruction.TheVariants.{Clear, Return, Jump, Call, SkipIfValue, SkipUnlessValue, SkipIfSame, SetValue, AddValue, Set, Or, And, ExclusiveOr, Add, Subtract, ShiftRight, SubtractFrom, ShiftLeft, SkipUnlessSame, SetAddress, JumpFrom, Random, Draw, SkipIfDown, SkipIfUp, ReadTimer, AwaitKey, SetTimer, SetTone, AddAddress, PointAtDigit, StoreDigits, StoreRegisters, LoadRegisters, Unknown}
 use Rattle.c8_machine.specs.declared.machine.Step.{Step}
 use Rattle.c8_machine.specs.declared.machine.Step.TheVariants.{Went, Drew, Waits, Stopped}
 use Rattle.c8_machine.specs.declared.machine.Stop.{Stop}
 use Rattle.c8_machine.specs.declared.machine.Stop.TheVariants.{UnknownInstruction, StackFull, StackEmpty}
-use Rattle.c8_machine.specs.Instructions.{instruction_of}
+use Rattle.c8_machine.specs.Instructions.{Instruction, IsInstructionOf, Clear, Return, Jump, Call, SkipIfValue, SkipUnlessValue, SkipIfSame, SetValue, AddValue, Set, Or, And, ExclusiveOr, Add, Subtract, ShiftRight, SubtractFrom, ShiftLeft, SkipUnlessSame, SetAddress, JumpFrom, Random, Draw, SkipIfDown, SkipIfUp, ReadTimer, AwaitKey, SetTimer, SetTone, AddAddress, PointAtDigit, StoreDigits, StoreRegisters, LoadRegisters}
 use Rattle.c8_machine.specs.State.{State, Memory}
 
 -- ---- parts of a machine
@@ -127,12 +125,18 @@ Does rules keys (StoreRegisters x) s t step =
     (step ≡ Went) × (t ≡ record (passed s) { memory = stored (take (x + 1) s.registers) s.address s.memory; address = (s.address + x + 1) % 0x1000 })
 Does rules keys (LoadRegisters x) s t step =
     (step ≡ Went) × (t ≡ record (passed s) { registers = map (byte_at s) (range_with_len 0 (x + 1)) ++ drop (x + 1) s.registers; address = (s.address + x + 1) % 0x1000 })
-Does rules keys Unknown s t step = (step ≡ Stopped) × (t ≡ stopped UnknownInstruction s)
 
 -- an instruction that goes by no rule of the game and no key
 abbrev pub Performs : Instruction → State → State → Step → Type 0
 Performs instruction s t step = (rules : Rules) (keys : ℕ) → Does rules keys instruction s t step
 
--- one step of a machine that neither waits nor has stopped: the instruction at its counter
-abbrev pub IsStep : Rules → ℕ → State → State → Step → Type 0
-IsStep rules keys s t step = Does rules keys (instruction_of (code_at s)) s t step
+-- what a machine does at a code: what its instruction does, or stop 1 where it has none
+abbrev pub Executes : Rules → ℕ → Option Instruction → State → State → Step → Type 0
+Executes rules keys (Some i) s t step = Does rules keys i s t step
+Executes rules keys None s t step = (step ≡ Stopped) × (t ≡ stopped UnknownInstruction s)
+
+-- one step of a machine that neither waits nor has stopped: the instruction of the code at its counter
+pub record IsStep (rules : Rules) (keys : ℕ) (s t : State) (step : Step) : Type 0 where
+  pub instruction : Option Instruction
+  pub is : IsInstructionOf (code_at s) instruction
+  pub does : Executes rules keys instruction s t step

@@ -5,10 +5,10 @@
 //! (`specs/Frames.antt`), a relation over chains of steps. Nothing here takes memory.
 #![tactic(auto)]
 
-mod instruction;
 pub mod laws;
 mod machine;
 mod memory;
+mod operation;
 #[cfg(test)]
 mod tests;
 

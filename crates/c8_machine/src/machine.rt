@@ -10,6 +10,7 @@ mod arithmetic;
 mod flow;
 mod frames;
 mod memory;
+mod ranges;
 mod steps;
 
 /// Why a machine has stopped for good.

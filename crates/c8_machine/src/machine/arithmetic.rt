@@ -1,10 +1,10 @@
 //! The instructions that reckon with registers and timers. A flag is written after the result.
 ghost use Rattle.std.specs.Prelude.{◌≡◌, ℕ, ◌<◌, ◌++◌};
 ghost use Rattle.sha2.specs.Sha256.{sha256};
+ghost use Rattle.c8_machine.specs.Instructions.{AddValue, Set, Or, And, ExclusiveOr, Add, Subtract, ShiftRight, SubtractFrom, ShiftLeft, Random, SetTimer, SetTone};
 ghost use Rattle.c8_machine.specs.State.{state};
 ghost use Rattle.c8_machine.specs.Steps.{passed, with_register, with_flag, flag_if, random_byte, Does, Performs};
 
-use crate::instruction::Instruction;
 use crate::machine::{Machine, Step};
 use c8_game::Game;
 use sha2::{Digest, Sha256};
@@ -37,7 +37,7 @@ impl Machine {
     #[inline(always)]
     pub(crate) fn add_value(&mut self, x: u8, value: u8) -> Step
         requires { x < 16 }
-        ensures { Performs (Instruction.AddValue x value) (state self.old) (state self.new) result }
+        ensures { Performs (AddValue x value) (state self.old) (state self.new) result }
     {
         self.put(x, self.register(x).wrapping_add(value))
     }
@@ -46,7 +46,7 @@ impl Machine {
     pub(crate) fn set(&mut self, x: u8, y: u8) -> Step
         requires x { x < 16 }
         requires y { y < 16 }
-        ensures { Performs (Instruction.Set x y) (state self.old) (state self.new) result }
+        ensures { Performs (Set x y) (state self.old) (state self.new) result }
     {
         self.put(x, self.register(y))
     }
@@ -55,7 +55,7 @@ impl Machine {
     pub(crate) fn or(&mut self, x: u8, y: u8) -> Step
         requires x { x < 16 }
         requires y { y < 16 }
-        ensures { Performs (Instruction.Or x y) (state self.old) (state self.new) result }
+        ensures { Performs (Or x y) (state self.old) (state self.new) result }
     {
         self.put_with_flag(x, self.register(x) | self.register(y), 0)
     }
@@ -64,7 +64,7 @@ impl Machine {
     pub(crate) fn and(&mut self, x: u8, y: u8) -> Step
         requires x { x < 16 }
         requires y { y < 16 }
-        ensures { Performs (Instruction.And x y) (state self.old) (state self.new) result }
+        ensures { Performs (And x y) (state self.old) (state self.new) result }
     {
         self.put_with_flag(x, self.register(x) & self.register(y), 0)
     }
@@ -73,7 +73,7 @@ impl Machine {
     pub(crate) fn exclusive_or(&mut self, x: u8, y: u8) -> Step
         requires x { x < 16 }
         requires y { y < 16 }
-        ensures { Performs (Instruction.ExclusiveOr x y) (state self.old) (state self.new) result }
+        ensures { Performs (ExclusiveOr x y) (state self.old) (state self.new) result }
     {
         self.put_with_flag(x, self.register(x) ^ self.register(y), 0)
     }
@@ -82,7 +82,7 @@ impl Machine {
     pub(crate) fn add(&mut self, x: u8, y: u8) -> Step
         requires x { x < 16 }
         requires y { y < 16 }
-        ensures { Performs (Instruction.Add x y) (state self.old) (state self.new) result }
+        ensures { Performs (Add x y) (state self.old) (state self.new) result }
     {
         let sum = u16::from(self.register(x)) + u16::from(self.register(y));
         self.put_with_flag(x, (sum % 0x100) as u8, flag_if(sum > 0xff))
@@ -92,7 +92,7 @@ impl Machine {
     pub(crate) fn subtract(&mut self, x: u8, y: u8) -> Step
         requires x { x < 16 }
         requires y { y < 16 }
-        ensures { Performs (Instruction.Subtract x y) (state self.old) (state self.new) result }
+        ensures { Performs (Subtract x y) (state self.old) (state self.new) result }
     {
         let (from, less) = (self.register(x), self.register(y));
         self.put_with_flag(x, from.wrapping_sub(less), flag_if(from >= less))
@@ -102,7 +102,7 @@ impl Machine {
     pub(crate) fn subtract_from(&mut self, x: u8, y: u8) -> Step
         requires x { x < 16 }
         requires y { y < 16 }
-        ensures { Performs (Instruction.SubtractFrom x y) (state self.old) (state self.new) result }
+        ensures { Performs (SubtractFrom x y) (state self.old) (state self.new) result }
     {
         let (from, less) = (self.register(y), self.register(x));
         self.put_with_flag(x, from.wrapping_sub(less), flag_if(from >= less))
@@ -112,7 +112,7 @@ impl Machine {
     pub(crate) fn shift_right(&mut self, x: u8, y: u8) -> Step
         requires x { x < 16 }
         requires y { y < 16 }
-        ensures { Performs (Instruction.ShiftRight x y) (state self.old) (state self.new) result }
+        ensures { Performs (ShiftRight x y) (state self.old) (state self.new) result }
     {
         let value = self.register(y);
         self.put_with_flag(x, value / 2, value % 2)
@@ -122,7 +122,7 @@ impl Machine {
     pub(crate) fn shift_left(&mut self, x: u8, y: u8) -> Step
         requires x { x < 16 }
         requires y { y < 16 }
-        ensures { Performs (Instruction.ShiftLeft x y) (state self.old) (state self.new) result }
+        ensures { Performs (ShiftLeft x y) (state self.old) (state self.new) result }
     {
         let value = self.register(y);
         self.put_with_flag(x, value.wrapping_mul(2), value / 0x80)
@@ -130,7 +130,7 @@ impl Machine {
 
     pub(crate) fn random(&mut self, game: &Game, x: u8, value: u8) -> Step
         requires { x < 16 }
-        ensures { (keys : ℕ) → Does game.now keys (Instruction.Random x value)
+        ensures { (keys : ℕ) → Does game.now keys (Random x value)
             (state self.old) (state self.new) result }
     {
         let byte = random_byte(game.seed(), self.draws);
@@ -141,7 +141,7 @@ impl Machine {
     #[inline(always)]
     pub(crate) fn set_timer(&mut self, x: u8) -> Step
         requires { x < 16 }
-        ensures { Performs (Instruction.SetTimer x) (state self.old) (state self.new) result }
+        ensures { Performs (SetTimer x) (state self.old) (state self.new) result }
     {
         self.counter = self.next();
         self.timer = self.register(x);
@@ -151,7 +151,7 @@ impl Machine {
     #[inline(always)]
     pub(crate) fn set_tone(&mut self, x: u8) -> Step
         requires { x < 16 }
-        ensures { Performs (Instruction.SetTone x) (state self.old) (state self.new) result }
+        ensures { Performs (SetTone x) (state self.old) (state self.new) result }
     {
         self.counter = self.next();
         self.tone = self.register(x);

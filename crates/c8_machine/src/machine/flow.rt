@@ -1,10 +1,10 @@
 //! The instructions that say where the machine goes on.
 ghost use Rattle.std.specs.Prelude.{◌≡◌, ◌%◌, ◌<◌};
 ghost use Rattle.c8_game.specs.Rules.{Rules};
+ghost use Rattle.c8_machine.specs.Instructions.{Return, Jump, Call, SkipIfValue, SkipUnlessValue, SkipIfSame, SkipUnlessSame, JumpFrom, SkipIfDown, SkipIfUp, AwaitKey};
 ghost use Rattle.c8_machine.specs.State.{state};
 ghost use Rattle.c8_machine.specs.Steps.{skipped_if, is_down, Does, Performs};
 
-use crate::instruction::Instruction;
 use crate::machine::{Machine, Step, Stop};
 use c8_game::Keys;
 
@@ -12,7 +12,7 @@ impl Machine {
     #[inline(always)]
     pub(crate) fn jump(&mut self, to: u16) -> Step
         requires { to < 4096 }
-        ensures { Performs (Instruction.Jump to) (state self.old) (state self.new) result }
+        ensures { Performs (Jump to) (state self.old) (state self.new) result }
     {
         self.counter = to;
         Step::Went
@@ -21,7 +21,7 @@ impl Machine {
     #[inline(always)]
     pub(crate) fn jump_from(&mut self, to: u16) -> Step
         requires { to < 4096 }
-        ensures { Performs (Instruction.JumpFrom to) (state self.old) (state self.new) result }
+        ensures { Performs (JumpFrom to) (state self.old) (state self.new) result }
     {
         self.counter = (to + u16::from(self.register(0))) % 4096;
         Step::Went
@@ -30,7 +30,7 @@ impl Machine {
     #[inline(always)]
     pub(crate) fn call(&mut self, to: u16) -> Step
         requires { to < 4096 }
-        ensures { Performs (Instruction.Call to) (state self.old) (state self.new) result }
+        ensures { Performs (Call to) (state self.old) (state self.new) result }
     {
         if self.depth == 16 {
             return self.stop_with(Stop::StackFull);
@@ -43,7 +43,7 @@ impl Machine {
 
     #[inline(always)]
     pub(crate) fn go_back(&mut self) -> Step
-        ensures { Performs Instruction.Return (state self.old) (state self.new) result }
+        ensures { Performs Return (state self.old) (state self.new) result }
     {
         if self.depth == 0 {
             return self.stop_with(Stop::StackEmpty);
@@ -69,7 +69,7 @@ impl Machine {
     #[inline(always)]
     pub(crate) fn skip_if_value(&mut self, x: u8, value: u8) -> Step
         requires { x < 16 }
-        ensures { Performs (Instruction.SkipIfValue x value)
+        ensures { Performs (SkipIfValue x value)
             (state self.old) (state self.new) result }
     {
         self.skip_if(self.register(x) == value)
@@ -78,7 +78,7 @@ impl Machine {
     #[inline(always)]
     pub(crate) fn skip_unless_value(&mut self, x: u8, value: u8) -> Step
         requires { x < 16 }
-        ensures { Performs (Instruction.SkipUnlessValue x value)
+        ensures { Performs (SkipUnlessValue x value)
             (state self.old) (state self.new) result }
     {
         self.skip_if(self.register(x) != value)
@@ -88,7 +88,7 @@ impl Machine {
     pub(crate) fn skip_if_same(&mut self, x: u8, y: u8) -> Step
         requires x { x < 16 }
         requires y { y < 16 }
-        ensures { Performs (Instruction.SkipIfSame x y) (state self.old) (state self.new) result }
+        ensures { Performs (SkipIfSame x y) (state self.old) (state self.new) result }
     {
         self.skip_if(self.register(x) == self.register(y))
     }
@@ -97,7 +97,7 @@ impl Machine {
     pub(crate) fn skip_unless_same(&mut self, x: u8, y: u8) -> Step
         requires x { x < 16 }
         requires y { y < 16 }
-        ensures { Performs (Instruction.SkipUnlessSame x y)
+        ensures { Performs (SkipUnlessSame x y)
             (state self.old) (state self.new) result }
     {
         self.skip_if(self.register(x) != self.register(y))
@@ -106,7 +106,7 @@ impl Machine {
     #[inline(always)]
     pub(crate) fn skip_if_down(&mut self, keys: Keys, x: u8) -> Step
         requires { x < 16 }
-        ensures { (rules : Rules) → Does rules keys.0 (Instruction.SkipIfDown x)
+        ensures { (rules : Rules) → Does rules keys.0 (SkipIfDown x)
             (state self.old) (state self.new) result }
     {
         self.skip_if(is_down(keys, self.register(x)))
@@ -115,7 +115,7 @@ impl Machine {
     #[inline(always)]
     pub(crate) fn skip_if_up(&mut self, keys: Keys, x: u8) -> Step
         requires { x < 16 }
-        ensures { (rules : Rules) → Does rules keys.0 (Instruction.SkipIfUp x)
+        ensures { (rules : Rules) → Does rules keys.0 (SkipIfUp x)
             (state self.old) (state self.new) result }
     {
         self.skip_if(!is_down(keys, self.register(x)))
@@ -124,7 +124,7 @@ impl Machine {
     #[inline(always)]
     pub(crate) fn await_key(&mut self, x: u8) -> Step
         requires { x < 16 }
-        ensures { Performs (Instruction.AwaitKey x) (state self.old) (state self.new) result }
+        ensures { Performs (AwaitKey x) (state self.old) (state self.new) result }
     {
         self.counter = self.next();
         self.waits = Some(x);

@@ -1,8 +1,10 @@
 //! One frame of the machine.
-ghost use Rattle.std.specs.Prelude.{◌≡◌};
+ghost use Rattle.std.specs.Prelude.{◌≡◌, List, [], ◌∷◌, ◌++◌};
+ghost use Rattle.c8_game.specs.Rules.{joined};
+ghost use Rattle.c8_game.specs.declared.row.Row.{Row};
 ghost use Rattle.c8_machine.specs.State.{state};
 ghost use Rattle.c8_machine.specs.Frames.{IsFrame, Acts, Runs, settled, ended, lowest_released};
-ghost use Rattle.c8_machine.specs.Serial.{frame_of};
+ghost use Rattle.c8_machine.specs.Serial.{frame_of, serial};
 
 use crate::machine::Machine;
 use c8_game::{Game, Keys};
@@ -15,6 +17,8 @@ impl Machine {
     pub fn frame(&mut self, game: &Game, keys: Keys)
         ensures relation { IsFrame game.now keys.0 (state self.old) (state self.new) }
         ensures function { state self.new ≡ frame_of game.now keys.0 (state self.old) }
+        ensures serial { (rows : List Row) (row : Row) → state self.old ≡ serial game.now rows
+            → keys.0 ≡ joined game.now row → state self.new ≡ serial game.now (rows ++ row ∷ []) }
     {
         if self.stop.is_some() {
             return;

@@ -2,10 +2,10 @@
 ghost use Rattle.std.specs.Prelude.{◌≡◌, ◌+◌, ◌%◌, ◌<◌, ◌≤◌, length, map, slice_index};
 ghost use Rattle.std.specs.List.{range_with_len};
 ghost use Rattle.c8_screen.specs.Points.{exclusive_or, meets};
+ghost use Rattle.c8_machine.specs.Instructions.{Clear, Draw, AddAddress, PointAtDigit, StoreDigits, StoreRegisters, LoadRegisters};
 ghost use Rattle.c8_machine.specs.State.{state};
 ghost use Rattle.c8_machine.specs.Steps.{passed, stored, drawing, Performs};
 
-use crate::instruction::Instruction;
 use crate::machine::arithmetic::flag_if;
 use crate::machine::{Machine, Step};
 
@@ -24,7 +24,7 @@ impl Machine {
     #[inline(always)]
     pub(crate) fn add_address(&mut self, x: u8) -> Step
         requires { x < 16 }
-        ensures { Performs (Instruction.AddAddress x) (state self.old) (state self.new) result }
+        ensures { Performs (AddAddress x) (state self.old) (state self.new) result }
     {
         self.point_at((self.address + u16::from(self.register(x))) % 4096)
     }
@@ -32,7 +32,7 @@ impl Machine {
     #[inline(always)]
     pub(crate) fn point_at_digit(&mut self, x: u8) -> Step
         requires { x < 16 }
-        ensures { Performs (Instruction.PointAtDigit x) (state self.old) (state self.new) result }
+        ensures { Performs (PointAtDigit x) (state self.old) (state self.new) result }
     {
         self.point_at(0x50 + 5 * u16::from(self.register(x) % 16))
     }
@@ -40,7 +40,7 @@ impl Machine {
     #[inline(always)]
     pub(crate) fn store_digits(&mut self, x: u8) -> Step
         requires { x < 16 }
-        ensures { Performs (Instruction.StoreDigits x) (state self.old) (state self.new) result }
+        ensures { Performs (StoreDigits x) (state self.old) (state self.new) result }
     {
         let value = self.register(x);
         self.counter = self.next();
@@ -55,7 +55,7 @@ impl Machine {
     #[inline(always)]
     pub(crate) fn store_registers(&mut self, x: u8) -> Step
         requires { x < 16 }
-        ensures { Performs (Instruction.StoreRegisters x) (state self.old) (state self.new) result }
+        ensures { Performs (StoreRegisters x) (state self.old) (state self.new) result }
     {
         let registers = self.registers;
         self.counter = self.next();
@@ -71,7 +71,7 @@ impl Machine {
     #[inline(always)]
     pub(crate) fn load_registers(&mut self, x: u8) -> Step
         requires { x < 16 }
-        ensures { Performs (Instruction.LoadRegisters x) (state self.old) (state self.new) result }
+        ensures { Performs (LoadRegisters x) (state self.old) (state self.new) result }
     {
         let mut registers = self.registers;
         load(
@@ -87,7 +87,7 @@ impl Machine {
 
     #[inline(always)]
     pub(crate) fn clear(&mut self) -> Step
-        ensures { Performs Instruction.Clear (state self.old) (state self.new) result }
+        ensures { Performs Clear (state self.old) (state self.new) result }
     {
         self.counter = self.next();
         self.screen.clear();
@@ -99,7 +99,7 @@ impl Machine {
         requires x { x < 16 }
         requires y { y < 16 }
         requires rows { rows < 16 }
-        ensures { Performs (Instruction.Draw x y rows) (state self.old) (state self.new) result }
+        ensures { Performs (Draw x y rows) (state self.old) (state self.new) result }
     {
         let put_out = self.draw_bytes(self.register(x), self.register(y), rows);
         self.counter = self.next();

@@ -1,11 +1,12 @@
 //! One step of the machine, and which part of it does which instruction.
-ghost use Rattle.std.specs.Prelude.{◌≡◌, ◌+◌, ◌%◌, ◌<◌, IsSome};
+ghost use Rattle.std.specs.Prelude.{◌≡◌, ◌+◌, ◌%◌, ◌<◌, IsSome, MatchOption};
 ghost use Rattle.c8_machine.specs.Instructions.{IsInRange};
+ghost use Rattle.c8_machine.specs.Decoding.{meaning};
 ghost use Rattle.c8_machine.specs.State.{state};
-ghost use Rattle.c8_machine.specs.Steps.{code_at, next, stopped, register, Does, IsStep};
+ghost use Rattle.c8_machine.specs.Steps.{code_at, next, stopped, register, Executes, IsStep};
 
-use crate::instruction::{Instruction, decode};
 use crate::machine::{Machine, Step, Stop};
+use crate::operation::{Operation, decode};
 use c8_game::{Game, Keys};
 
 impl Machine {
@@ -29,8 +30,8 @@ impl Machine {
     pub(crate) fn execute(&mut self, game: &Game, keys: Keys) -> Step
         ensures { IsStep game.now keys.0 (state self.old) (state self.new) result }
     {
-        let instruction = decode(self.code());
-        self.perform(game, keys, instruction)
+        let operation = decode(self.code());
+        self.perform(game, keys, operation)
     }
 
     #[inline(always)]
@@ -43,46 +44,46 @@ impl Machine {
     }
 
     #[inline(always)]
-    fn perform(&mut self, game: &Game, keys: Keys, instruction: Instruction) -> Step
-        requires { IsInRange instruction }
-        ensures { Does game.now keys.0 instruction (state self.old) (state self.new) result }
+    fn perform(&mut self, game: &Game, keys: Keys, operation: Operation) -> Step
+        requires { MatchOption (meaning operation) (Unit {0}) IsInRange }
+        ensures { Executes game.now keys.0 (meaning operation) (state self.old) (state self.new) result }
     {
-        match instruction {
-            Instruction::Clear => self.clear(),
-            Instruction::Return => self.go_back(),
-            Instruction::Jump { to } => self.jump(to),
-            Instruction::Call { to } => self.call(to),
-            Instruction::SkipIfValue { x, value } => self.skip_if_value(x, value),
-            Instruction::SkipUnlessValue { x, value } => self.skip_unless_value(x, value),
-            Instruction::SkipIfSame { x, y } => self.skip_if_same(x, y),
-            Instruction::SetValue { x, value } => self.put(x, value),
-            Instruction::AddValue { x, value } => self.add_value(x, value),
-            Instruction::Set { x, y } => self.set(x, y),
-            Instruction::Or { x, y } => self.or(x, y),
-            Instruction::And { x, y } => self.and(x, y),
-            Instruction::ExclusiveOr { x, y } => self.exclusive_or(x, y),
-            Instruction::Add { x, y } => self.add(x, y),
-            Instruction::Subtract { x, y } => self.subtract(x, y),
-            Instruction::ShiftRight { x, y } => self.shift_right(x, y),
-            Instruction::SubtractFrom { x, y } => self.subtract_from(x, y),
-            Instruction::ShiftLeft { x, y } => self.shift_left(x, y),
-            Instruction::SkipUnlessSame { x, y } => self.skip_unless_same(x, y),
-            Instruction::SetAddress { to } => self.point_at(to),
-            Instruction::JumpFrom { to } => self.jump_from(to),
-            Instruction::Random { x, value } => self.random(game, x, value),
-            Instruction::Draw { x, y, rows } => self.draw(x, y, rows),
-            Instruction::SkipIfDown { x } => self.skip_if_down(keys, x),
-            Instruction::SkipIfUp { x } => self.skip_if_up(keys, x),
-            Instruction::ReadTimer { x } => self.put(x, self.timer),
-            Instruction::AwaitKey { x } => self.await_key(x),
-            Instruction::SetTimer { x } => self.set_timer(x),
-            Instruction::SetTone { x } => self.set_tone(x),
-            Instruction::AddAddress { x } => self.add_address(x),
-            Instruction::PointAtDigit { x } => self.point_at_digit(x),
-            Instruction::StoreDigits { x } => self.store_digits(x),
-            Instruction::StoreRegisters { x } => self.store_registers(x),
-            Instruction::LoadRegisters { x } => self.load_registers(x),
-            Instruction::Unknown => self.stop_with(Stop::UnknownInstruction),
+        match operation {
+            Operation::Clear => self.clear(),
+            Operation::Return => self.go_back(),
+            Operation::Jump { to } => self.jump(to),
+            Operation::Call { to } => self.call(to),
+            Operation::SkipIfValue { x, value } => self.skip_if_value(x, value),
+            Operation::SkipUnlessValue { x, value } => self.skip_unless_value(x, value),
+            Operation::SkipIfSame { x, y } => self.skip_if_same(x, y),
+            Operation::SetValue { x, value } => self.put(x, value),
+            Operation::AddValue { x, value } => self.add_value(x, value),
+            Operation::Set { x, y } => self.set(x, y),
+            Operation::Or { x, y } => self.or(x, y),
+            Operation::And { x, y } => self.and(x, y),
+            Operation::ExclusiveOr { x, y } => self.exclusive_or(x, y),
+            Operation::Add { x, y } => self.add(x, y),
+            Operation::Subtract { x, y } => self.subtract(x, y),
+            Operation::ShiftRight { x, y } => self.shift_right(x, y),
+            Operation::SubtractFrom { x, y } => self.subtract_from(x, y),
+            Operation::ShiftLeft { x, y } => self.shift_left(x, y),
+            Operation::SkipUnlessSame { x, y } => self.skip_unless_same(x, y),
+            Operation::SetAddress { to } => self.point_at(to),
+            Operation::JumpFrom { to } => self.jump_from(to),
+            Operation::Random { x, value } => self.random(game, x, value),
+            Operation::Draw { x, y, rows } => self.draw(x, y, rows),
+            Operation::SkipIfDown { x } => self.skip_if_down(keys, x),
+            Operation::SkipIfUp { x } => self.skip_if_up(keys, x),
+            Operation::ReadTimer { x } => self.put(x, self.timer),
+            Operation::AwaitKey { x } => self.await_key(x),
+            Operation::SetTimer { x } => self.set_timer(x),
+            Operation::SetTone { x } => self.set_tone(x),
+            Operation::AddAddress { x } => self.add_address(x),
+            Operation::PointAtDigit { x } => self.point_at_digit(x),
+            Operation::StoreDigits { x } => self.store_digits(x),
+            Operation::StoreRegisters { x } => self.store_registers(x),
+            Operation::LoadRegisters { x } => self.load_registers(x),
+            Operation::Unknown => self.stop_with(Stop::UnknownInstruction),
         }
     }
 

@@ -1,10 +1,11 @@
-//! The instructions, read from their codes.
-ghost use Rattle.std.specs.Prelude.{◌≡◌};
-ghost use Rattle.c8_machine.specs.Instructions.{instruction_of, system_instruction, arithmetic_instruction, key_instruction, register_instruction, IsInRange};
+//! Codes, read as what the machine has to do.
+ghost use Rattle.std.specs.Prelude.{◌≡◌, ◌/◌, ◌%◌, MatchOption};
+ghost use Rattle.c8_machine.specs.Instructions.{IsInRange};
+ghost use Rattle.c8_machine.specs.Decoding.{meaning, instruction_of, system_instruction, arithmetic_instruction, key_instruction, register_instruction};
 
 /// What a code of two bytes means: X and Y are numbers of registers, 0 to 15.
 #[derive(Clone, Copy)]
-pub enum Instruction {
+pub enum Operation {
     /// 00E0: puts out every point.
     Clear,
     /// 00EE: goes back to the last place of the stack.
@@ -79,10 +80,10 @@ pub enum Instruction {
 
 /// The instruction that a code means.
 #[inline(always)]
-#[tactic(auto, unfolding(crate::specs::Instructions::instruction_of))]
-pub fn decode(code: u16) -> Instruction
-    ensures value { result ≡ instruction_of code }
-    ensures parts { IsInRange result }
+#[tactic(auto, unfolding(crate::specs::Decoding::instruction_by))]
+pub fn decode(code: u16) -> Operation
+    ensures value { meaning result ≡ instruction_of code }
+    ensures parts { MatchOption (meaning result) (Unit {0}) IsInRange }
 {
     let x = (code / 0x100 % 0x10) as u8;
     let y = (code / 0x10 % 0x10) as u8;
@@ -91,91 +92,94 @@ pub fn decode(code: u16) -> Instruction
     let to = code % 0x1000;
     match code / 0x1000 {
         0x0 => decode_system(code),
-        0x1 => Instruction::Jump { to },
-        0x2 => Instruction::Call { to },
-        0x3 => Instruction::SkipIfValue { x, value },
-        0x4 => Instruction::SkipUnlessValue { x, value },
-        0x5 if last == 0 => Instruction::SkipIfSame { x, y },
-        0x6 => Instruction::SetValue { x, value },
-        0x7 => Instruction::AddValue { x, value },
+        0x1 => Operation::Jump { to },
+        0x2 => Operation::Call { to },
+        0x3 => Operation::SkipIfValue { x, value },
+        0x4 => Operation::SkipUnlessValue { x, value },
+        0x5 if last == 0 => Operation::SkipIfSame { x, y },
+        0x6 => Operation::SetValue { x, value },
+        0x7 => Operation::AddValue { x, value },
         0x8 => decode_arithmetic(code),
-        0x9 if last == 0 => Instruction::SkipUnlessSame { x, y },
-        0xa => Instruction::SetAddress { to },
-        0xb => Instruction::JumpFrom { to },
-        0xc => Instruction::Random { x, value },
-        0xd => Instruction::Draw { x, y, rows: last },
+        0x9 if last == 0 => Operation::SkipUnlessSame { x, y },
+        0xa => Operation::SetAddress { to },
+        0xb => Operation::JumpFrom { to },
+        0xc => Operation::Random { x, value },
+        0xd => Operation::Draw { x, y, rows: last },
         0xe => decode_key(code),
         0xf => decode_register(code),
-        _ => Instruction::Unknown,
+        _ => Operation::Unknown,
     }
 }
 
 #[inline(always)]
-#[tactic(auto, unfolding(crate::specs::Instructions::system_instruction))]
-fn decode_system(code: u16) -> Instruction
-    ensures value { result ≡ system_instruction code }
-    ensures parts { IsInRange result }
+#[tactic(auto, unfolding(crate::specs::Decoding::system_instruction))]
+fn decode_system(code: u16) -> Operation
+    ensures value { meaning result ≡ system_instruction code }
+    ensures parts { MatchOption (meaning result) (Unit {0}) IsInRange }
 {
     match code {
-        0x00e0 => Instruction::Clear,
-        0x00ee => Instruction::Return,
-        _ => Instruction::Unknown,
+        0x00e0 => Operation::Clear,
+        0x00ee => Operation::Return,
+        _ => Operation::Unknown,
     }
 }
 
 #[inline(always)]
-#[tactic(auto, unfolding(crate::specs::Instructions::arithmetic_instruction))]
-fn decode_arithmetic(code: u16) -> Instruction
-    ensures value { result ≡ arithmetic_instruction code }
-    ensures parts { IsInRange result }
+#[tactic(auto, unfolding(crate::specs::Decoding::arithmetic_instruction))]
+fn decode_arithmetic(code: u16) -> Operation
+    ensures value { meaning result
+        ≡ arithmetic_instruction (code / 0x100 % 0x10) (code / 0x10 % 0x10) (code % 0x10) }
+    ensures parts { MatchOption (meaning result) (Unit {0}) IsInRange }
 {
     let x = (code / 0x100 % 0x10) as u8;
     let y = (code / 0x10 % 0x10) as u8;
     match code % 0x10 {
-        0x0 => Instruction::Set { x, y },
-        0x1 => Instruction::Or { x, y },
-        0x2 => Instruction::And { x, y },
-        0x3 => Instruction::ExclusiveOr { x, y },
-        0x4 => Instruction::Add { x, y },
-        0x5 => Instruction::Subtract { x, y },
-        0x6 => Instruction::ShiftRight { x, y },
-        0x7 => Instruction::SubtractFrom { x, y },
-        0xe => Instruction::ShiftLeft { x, y },
-        _ => Instruction::Unknown,
+        0x0 => Operation::Set { x, y },
+        0x1 => Operation::Or { x, y },
+        0x2 => Operation::And { x, y },
+        0x3 => Operation::ExclusiveOr { x, y },
+        0x4 => Operation::Add { x, y },
+        0x5 => Operation::Subtract { x, y },
+        0x6 => Operation::ShiftRight { x, y },
+        0x7 => Operation::SubtractFrom { x, y },
+        0xe => Operation::ShiftLeft { x, y },
+        _ => Operation::Unknown,
     }
 }
 
 #[inline(always)]
-#[tactic(auto, unfolding(crate::specs::Instructions::key_instruction))]
-fn decode_key(code: u16) -> Instruction
-    ensures value { result ≡ key_instruction code }
-    ensures parts { IsInRange result }
+#[tactic(auto, unfolding(crate::specs::Decoding::key_instruction))]
+fn decode_key(code: u16) -> Operation
+    ensures value { meaning result
+        ≡ key_instruction (code / 0x100 % 0x10) (code % 0x100) }
+    ensures parts { MatchOption (meaning result) (Unit {0}) IsInRange }
 {
     let x = (code / 0x100 % 0x10) as u8;
     match code % 0x100 {
-        0x9e => Instruction::SkipIfDown { x },
-        0xa1 => Instruction::SkipIfUp { x },
-        _ => Instruction::Unknown,
+        0x9e => Operation::SkipIfDown { x },
+        0xa1 => Operation::SkipIfUp { x },
+        _ => Operation::Unknown,
     }
 }
 
 #[inline(always)]
-#[tactic(auto, unfolding(crate::specs::Instructions::register_instruction))]
-fn decode_register(code: u16) -> Instruction
-    ensures value { result ≡ register_instruction code }
-    ensures parts { IsInRange result }
+#[tactic(auto, unfolding(crate::specs::Decoding::register_instruction))]
+fn decode_register(code: u16) -> Operation
+    ensures value { meaning result
+        ≡ register_instruction (code / 0x100 % 0x10) (code % 0x100) }
+    ensures parts { MatchOption (meaning result) (Unit {0}) IsInRange }
 {
     let x = (code / 0x100 % 0x10) as u8;
     match code % 0x100 {
-        0x07 => Instruction::ReadTimer { x },
-        0x0a => Instruction::AwaitKey { x },
-        0x15 => Instruction::SetTimer { x },
-        0x18 => Instruction::SetTone { x },
-        0x1e => Instruction::AddAddress { x },
-        0x29 => Instruction::PointAtDigit { x },
-        0x33 => Instruction::StoreDigits { x },
-        0x55 => Instruction::StoreRegisters { x },
-        0x65 => Instruction::LoadRegisters { x },
-        _ => Instruction::Unknown,
+        0x07 => Operation::ReadTimer { x },
+        0x0a => Operation::AwaitKey { x },
+        0x15 => Operation::SetTimer { x },
+        0x18 => Operation::SetTone { x },
+        0x1e => Operation::AddAddress { x },
+        0x29 => Operation::PointAtDigit { x },
+        0x33 => Operation::StoreDigits { x },
+        0x55 => Operation::StoreRegisters { x },
+        0x65 => Operation::LoadRegisters { x },
+        _ => Operation::Unknown,
     }
 }

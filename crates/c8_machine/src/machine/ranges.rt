@@ -1,0 +1,37 @@
+//! The states that a machine can have.
+ghost use Rattle.std.specs.Prelude.{ℕ, ◌^◌, ◌<◌, slice_index};
+ghost use Rattle.c8_machine.specs.State.{state, IsState};
+
+use crate::machine::Machine;
+use c8_game::Keys;
+
+impl Machine {
+    /// Tells a caller's proof that each part of the machine's state is in its range; at run time it
+    /// does nothing.
+    pub fn in_range(&self)
+        ensures { IsState (state self.now) }
+    {
+        are_bytes(&self.memory);
+        are_bytes(&self.registers);
+        are_numbers(self.timer, self.tone, self.keys, self.draws);
+    }
+}
+
+/// The numbers of a slice of bytes are bytes.
+#[inline(always)]
+fn are_bytes(bytes: &[u8])
+    ensures { (k : ℕ) → slice_index bytes.now k < 2 ^ 8 }
+{
+    let _bytes = bytes;
+}
+
+/// The other numbers fit their types.
+#[inline(always)]
+fn are_numbers(timer: u8, tone: u8, keys: Keys, draws: u64)
+    ensures timer { timer < 2 ^ 8 }
+    ensures tone { tone < 2 ^ 8 }
+    ensures keys { keys.0 < 2 ^ 16 }
+    ensures draws { draws < 2 ^ 64 }
+{
+    let _numbers = (timer, tone, keys, draws);
+}
