@@ -15,6 +15,13 @@ pub record Torn (at count : ℕ) (old new : List ℕ) : Type 0 where
   pub no_shorter : length old ≤ length new
   pub no_longer : length new ≤ max (length old) (at + count)
 
+-- What a whole write makes of the bytes: the same before it and after it, and between them what was written.
+pub record IsOverwritten (at : ℕ) (bytes old new : List ℕ) : Type 0 where
+  pub before : take at new ≡ take at old
+  pub here : drop at new ≡ bytes ++ drop (at + length bytes) old
+  pub size : length new ≡ max (length old) (at + length bytes)
+  pub torn : Torn at (length bytes) old new
+
 -- each image of the new ones is one of the old
 abbrev pub AddsNone : (List ℕ → Type 0) → (List ℕ → Type 0) → Type 0
 AddsNone old new = (image : List ℕ) → new image → old image
@@ -44,13 +51,6 @@ pub record Elapses (before now : ℕ) (past since : ℕ → List ℕ → Type 0)
   pub later : before ≤ now
   pub nothing_else : (t : ℕ) (image : List ℕ) → t ≤ before → since t image → past t image ⊎ may_leave image
   pub keeps : (t : ℕ) (image : List ℕ) → t ≤ before → past t image → since t image
-
--- A crash at any moment since `old` leaves an image that has P.
-pub record LeavesOnly {D : Type 0} (moment : D → ℕ) (left_since : D → ℕ → List ℕ → Type 0) (old new : D) (P : List ℕ → Type 0) : Type 0 where
-  pub later : moment old ≤ moment new
-  pub each : (image : List ℕ) → left_since new (moment old) image → P image
-  -- for a run that began earlier
-  pub before : (t : ℕ) (image : List ℕ) → t ≤ moment old → left_since new t image → left_since old t image ⊎ P image
 
 -- `Failed` is told only where the disk failed in the call.
 pub record HasCause {T : Type 0} (failures now : ℕ) (result : Result T DiskError) : Type 0 where

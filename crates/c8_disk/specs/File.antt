@@ -1,15 +1,46 @@
 -- What a disk in a file shows.
-use Rattle.std.specs.Prelude.{ℕ, List}
+use Rattle.std.specs.Prelude.{ℕ, Bool, List, length}
+use Rattle.c8_disk.specs.declared.call.Call.{Call}
+use Rattle.c8_disk.specs.declared.disk.Arm.{Arm}
 use Rattle.c8_disk.specs.declared.file.FileDisk.{FileDisk}
-use Rattle.c8_disk.specs.Past.{IsImage}
+use Rattle.c8_disk.specs.Past.{IsImage, LeftSince}
 
--- what a read gives
-abbrev pub file_bytes : FileDisk → List ℕ
-file_bytes disk = disk.bytes.items
+module _ {S : Type 0} where
+  -- what a read gives
+  abbrev pub file_bytes : FileDisk S → List ℕ
+  file_bytes disk = disk.bytes.items
 
--- the images that a crash now may leave
-abbrev pub file_images : FileDisk → List ℕ → Type 0
-file_images disk = IsImage disk.first.value.items disk.calls.items
+  -- what it held when it was opened, and each call that wrote or synced since: all that a crash is told from
+  abbrev pub file_first : FileDisk S → List ℕ
+  file_first disk = disk.first.value.items
 
-abbrev pub file_room : FileDisk → ℕ
-file_room disk = disk.room
+  abbrev pub file_calls : FileDisk S → List Call
+  file_calls disk = disk.calls.items
+
+  -- the images that a crash now may leave
+  abbrev pub file_images : FileDisk S → List ℕ → Type 0
+  file_images disk = IsImage disk.first.value.items disk.calls.items
+
+  -- how many calls changed it, and the images that a crash at some moment since may have left
+  abbrev pub file_moment : FileDisk S → ℕ
+  file_moment disk = length disk.calls.items
+
+  abbrev pub file_left_since : FileDisk S → ℕ → List ℕ → Type 0
+  file_left_since disk = LeftSince disk.first.value.items disk.calls.items
+
+  abbrev pub file_room : FileDisk S → ℕ
+  file_room disk = disk.room
+
+  -- a call has failed since it was opened
+  abbrev pub file_is_down : FileDisk S → Bool
+  file_is_down disk = disk.health.is_down
+
+  abbrev pub file_failures : FileDisk S → ℕ
+  file_failures disk = length disk.health.failures.items
+
+  abbrev pub file_changes : FileDisk S → ℕ
+  file_changes disk = length disk.asked.items
+
+  -- what `arm` was told, the oldest first
+  abbrev pub file_arms : FileDisk S → List Arm
+  file_arms disk = disk.arms.items

@@ -5,4 +5,6 @@ pub mod File
 pub mod Memory
 pub mod Past
 pub mod PastLaws
+pub mod RunLaws
+pub mod Runs
 pub mod TornLaws

@@ -1,4 +1,4 @@
--- The laws of the trait, at a disk that keeps what it held at first and each call.
+-- Checked, not believed: the laws of the trait, at a disk that keeps what it held at first and each call.
 use Rattle.std.proofs.Common.{◌≡◌, ◌≤◌, nat_le, ◌&&◌, ℕ, true, List, [], ◌∷◌, length, take, refl, sym, subst, arith, length-take-le}
 use Rattle.std.proofs.lemmas.Bool.{and_parts, leb-true}
 use Rattle.std.proofs.lemmas.List.{take_all}

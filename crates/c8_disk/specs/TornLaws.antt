@@ -1,7 +1,7 @@
--- What a write leaves, whole or torn: laws that the laws of the trait stand on.
+-- Checked, not believed: what a write leaves, whole or torn.
 use Rattle.std.proofs.Common.{◌≡◌, ◌≤◌, ℕ, ◌+◌, max, List, ◌++◌, length, take, drop, refl, ◌∙◌, ap, arith, append_assoc, length-append, length-take-le, length-drop}
 use Rattle.std.proofs.lemmas.List.{take_at, drop_at}
-use Rattle.c8_disk.specs.Disk.{overwritten, Torn}
+use Rattle.c8_disk.specs.Disk.{overwritten, Torn, IsOverwritten}
 
 module _ (old : List ℕ) (at : ℕ) (bytes : List ℕ) (within : at ≤ length old) where
   front : length (take at old) ≡ at
@@ -35,6 +35,9 @@ module _ (old : List ℕ) (at : ℕ) (bytes : List ℕ) (within : at ≤ length 
   -- a whole write is one way in which a write may be torn
   pub overwritten_is_torn : Torn at (length bytes) old (overwritten old at bytes)
   overwritten_is_torn = record { before = overwritten_front; after = overwritten_back; no_shorter = omega (arith, length-overwritten); no_longer = omega (arith, length-overwritten) }
+
+  pub overwritten_is : IsOverwritten at bytes old (overwritten old at bytes)
+  overwritten_is = record { before = overwritten_front; here = overwritten_rest; size = length-overwritten; torn = overwritten_is_torn }
 
 -- and so is none
 pub untouched : (at count : ℕ) (bytes : List ℕ) → Torn at count bytes bytes

@@ -1,9 +1,10 @@
 //! Why a call of a disk, or the opening of a file as one, is refused.
 ghost use Rattle.std.specs.Prelude.{◌≡◌};
 ghost use Rattle.c8_disk.specs.Errors.{disk_number_of, file_number_of};
-ghost use Rattle.c8_disk.specs.declared.error.FileError.TheVariants.{Memory};
+ghost use Rattle.c8_disk.specs.declared.error.FileError.TheVariants.{Failed, Memory};
 
 use std::alloc::AllocError;
+use std::io;
 use thiserror::Error;
 
 /// Why a call of a disk was refused.
@@ -76,5 +77,13 @@ impl From<AllocError> for FileError {
 
     fn from(_: AllocError) -> FileError {
         FileError::Memory
+    }
+}
+
+impl From<io::Error> for FileError {
+    ghost from_gives = { λ _ error. error ≡ Failed };
+
+    fn from(_: io::Error) -> FileError {
+        FileError::Failed
     }
 }

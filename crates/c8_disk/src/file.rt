@@ -1,31 +1,32 @@
 //! A disk in a file of the operating system.
-ghost use Rattle.std.specs.Prelude.{◌≡◌, ◌≤◌, ◌<◌, ◌+◌, ◌^◌, true, false, length, vec_len, vec_capacity, IfOk, IsTrue};
-ghost use Rattle.c8_disk.specs.Disk.{Only};
-ghost use Rattle.c8_disk.specs.Past.{content, are_lawful, IsImage, LeftSince};
+ghost use Rattle.std.specs.Prelude.{◌≡◌, ◌≤◌, ◌<◌, ◌+◌, ◌^◌, ◌↔◌, [], ◌∷◌, ◌++◌, true, false, length, take, drop, vec_len, vec_capacity, IfOk, OnOk, OnErr, IsErrOf, IsTrue};
+ghost use Rattle.c8_disk.specs.Disk.{Only, AddsNone, Writes, WritesImages, Elapses, HasCause};
+ghost use Rattle.c8_disk.specs.Past.{content, are_lawful, IsImage, LeftSince, AddsWrite};
 ghost use Rattle.c8_disk.specs.PastLaws.{reads_image, counts, only};
+
+mod health;
+mod system;
 
 use crate::bytes::overwrite;
 use crate::call::{Call, write_call};
-use crate::ghost_list::GhostList;
-use crate::{Arm, Disk, DiskError, FileError};
-use std::alloc::Global;
+use crate::{Arm, Disk, DiskError, FileError, GhostList};
+use health::Health;
 use std::fs::File;
-use std::os::unix::fs::FileExt;
 use std::rt::Files;
 use std::snapshot::Snapshot;
+pub(crate) use system::{OpenedFile, SystemFile};
 
 /// A disk in a file. What the file holds is kept in memory too, and each read is compared with it: what a read gives is
 /// what the file held when it was opened, with what was written since. After a call that failed every call fails, until
 /// the file is opened anew. That a crash leaves in the file what the model of a disk says is a premise.
 #[derive(Drop)]
-pub struct FileDisk {
-    file: File,
+pub struct FileDisk<S = OpenedFile> {
+    file: S,
     bytes: Vec<u8>,
     room: u32,
-    is_broken: bool,
+    health: Health,
     first: Snapshot<Vec<u8>>,
     calls: GhostList<Call>,
-    failures: GhostList<()>,
     asked: GhostList<()>,
     arms: GhostList<Arm>,
     ghost room_fits: { room < 2 ^ 32 },
@@ -35,48 +36,40 @@ pub struct FileDisk {
     ghost bytes_room: { room ≤ vec_capacity bytes },
 }
 
-/// Opens a file to read and to write, making it if there is none, and reads all of it.
-fn open_file<R: Files<File = File>>(
-    rt: &R,
-    path: &str,
+/// Locks a file, makes what it holds durable, and reads it once, from the device and not from the system's memory.
+fn read_durable<S: SystemFile>(
+    file: &S,
     bytes: &mut Vec<u8>,
     capacity: u32,
-) -> Result<File, FileError>
+) -> Result<(), FileError>
     requires { capacity ≤ vec_capacity bytes.old }
-    ensures within { IfOk result (λ _. vec_len bytes.new ≤ capacity) }
+    ensures within { OnOk result (vec_len bytes.new ≤ capacity) }
     ensures room { vec_capacity bytes.old ≤ vec_capacity bytes.new }
 {
-    let opened = File::options()
-        .read(true)
-        .write(true)
-        .create(true)
-        .open(rt, path);
-    let file = opened.map_err(|_| FileError::Failed)?;
-    let metadata = file.metadata().map_err(|_| FileError::Failed)?;
-    if !metadata.is_file() {
-        return Err(FileError::Failed);
-    }
-    if metadata.len() > u64::from(capacity) {
+    file.try_lock()?;
+    let length = file.len()?;
+    if length > u64::from(capacity) {
         return Err(FileError::Full);
     }
-    bytes.resize(metadata.len() as usize, 0)?;
-    if file.read_exact_at(bytes, 0).is_err() || file.sync_all().is_err() {
-        return Err(FileError::Failed);
-    }
-    Ok(file)
+    file.sync_all()?;
+    file.drop_copies()?;
+    file.sync_folder()?;
+    bytes.resize(length as usize, 0)?;
+    file.read_exact_at(bytes, 0)?;
+    Ok(())
 }
 
 /// Reads from a file, and says whether what came is what is known to be there.
-fn reads_known(file: &File, at: u32, buffer: &mut [u8], known: &[u8]) -> bool
+fn reads_known<S: SystemFile>(file: &S, at: u32, buffer: &mut [u8], known: &[u8]) -> bool
     ensures { IsTrue result → buffer.new ≡ known.now }
 {
     file.read_exact_at(buffer, u64::from(at)).is_ok() && &buffer[..] == known
 }
 
 impl FileDisk {
-    ghost use Rattle.c8_disk.specs.File.{file_bytes, file_images, file_room};
+    ghost use Rattle.c8_disk.specs.File.{file_bytes, file_first, file_calls, file_images, file_room, file_is_down};
 
-    /// Opens the file at this path as a disk with room for so many bytes, and makes it if there is none.
+    /// Opens the file at this path as a disk with room for `capacity` bytes, and makes the file if there is none.
     pub fn open<R: Files<File = File> + AllocGlobal>(
         rt: &R,
         path: &str,
@@ -85,25 +78,57 @@ impl FileDisk {
         ensures room { IfOk result (λ disk. file_room disk ≡ capacity) }
         ensures within { IfOk result (λ disk. length (file_bytes disk) ≤ capacity) }
         ensures settled { IfOk result (λ disk. Only (file_bytes disk) (file_images disk)) }
+        ensures first { IfOk result (λ disk. file_first disk ≡ file_bytes disk) }
+        ensures calls { IfOk result (λ disk. file_calls disk ≡ []) }
+        ensures down { IfOk result (λ disk. file_is_down disk ≡ false) }
     {
-        let mut bytes = Vec::with_capacity(rt.alloc(), capacity as usize)?;
-        let file = open_file(rt, path, &mut bytes, capacity)?;
+        let bytes = Vec::with_capacity(rt.alloc(), capacity as usize)?;
+        FileDisk::settle(OpenedFile::open(rt, path)?, bytes, capacity)
+    }
+}
+
+impl<S: SystemFile> FileDisk<S> {
+    ghost use Rattle.c8_disk.specs.File.{file_bytes, file_first, file_calls, file_images, file_room, file_is_down};
+
+    /// The disk in an open file, with room in `bytes` for all that it may hold.
+    fn settle(file: S, bytes: Vec<u8>, capacity: u32) -> Result<FileDisk<S>, FileError>
+        requires { capacity ≤ vec_capacity bytes }
+        ensures room { IfOk result (λ disk. file_room disk ≡ capacity) }
+        ensures within { IfOk result (λ disk. length (file_bytes disk) ≤ capacity) }
+        ensures settled { IfOk result (λ disk. Only (file_bytes disk) (file_images disk)) }
+        ensures first { IfOk result (λ disk. file_first disk ≡ file_bytes disk) }
+        ensures calls { IfOk result (λ disk. file_calls disk ≡ []) }
+        ensures down { IfOk result (λ disk. file_is_down disk ≡ false) }
+    {
+        let mut bytes = bytes;
+        read_durable(&file, &mut bytes, capacity)?;
         let first = Snapshot::of(&bytes);
         Ok(FileDisk {
             file,
             bytes,
             room: capacity,
-            is_broken: false,
+            health: Health {
+                is_down: false,
+                failures: GhostList::new(),
+            },
             first,
             calls: GhostList::new(),
-            failures: GhostList::new(),
             asked: GhostList::new(),
             arms: GhostList::new(),
         })
     }
+
+    /// Whether a call has failed, so that each one fails until the file is opened anew.
+    pub fn is_down(&self) -> bool
+        ensures { result ≡ file_is_down self.now }
+    {
+        self.health.is_down
+    }
 }
 
-impl Disk for FileDisk {
+impl<S: SystemFile> Disk for FileDisk<S> {
+    ghost use Rattle.c8_disk.specs.File.{file_bytes, file_first, file_calls, file_images, file_moment, file_left_since, file_room, file_is_down, file_failures, file_changes, file_arms};
+
     ghost seen = { λ d. d.bytes.items };
 
     ghost may_leave = { λ d. IsImage d.first.value.items d.calls.items };
@@ -112,7 +137,7 @@ impl Disk for FileDisk {
 
     ghost left_since = { λ d. LeftSince d.first.value.items d.calls.items };
 
-    ghost failures = { λ d. length d.failures.items };
+    ghost failures = { λ d. length d.health.failures.items };
 
     ghost changes = { λ d. length d.asked.items };
 
@@ -134,50 +159,116 @@ impl Disk for FileDisk {
         self.room
     }
 
-    fn read_at(&mut self, at: u32, buffer: &mut [u8]) -> Result<(), DiskError> {
+    fn read_at(&mut self, at: u32, buffer: &mut [u8]) -> Result<(), DiskError>
+        requires { at + length buffer.old ≤ length (file_bytes self.old) }
+        ensures read { OnOk result (buffer.new ≡ take (length buffer.old) (drop at (file_bytes self.old))) }
+        ensures seen { file_bytes self.new ≡ file_bytes self.old }
+        ensures crash { AddsNone (file_images self.old) (file_images self.new) }
+        ensures time { Elapses (file_moment self.old) (file_moment self.new) (file_left_since self.old) (file_left_since self.new) (file_images self.new) }
+        ensures cause { HasCause (file_failures self.old) (file_failures self.new) result }
+        ensures never_full { IsErrOf result DiskError.Full → ⊥ }
+        ensures changes { file_changes self.new ≡ file_changes self.old }
+        ensures capacity { file_room self.new ≡ file_room self.old }
+        ensures arms { file_arms self.new ≡ file_arms self.old }
+
+        // A call that fails takes the disk down, and a disk that is down fails each call.
+        ensures down { IsErrOf result DiskError.Failed ↔ (file_is_down self.new ≡ true) }
+        ensures stays_down { file_is_down self.old ≡ true → IsErrOf result DiskError.Failed }
+        ensures first { file_first self.new ≡ file_first self.old }
+        ensures calls { file_calls self.new ≡ file_calls self.old }
+    {
         let place = at as usize;
         let known = &self.bytes[place..place + buffer.len()];
-        if self.is_broken || !reads_known(&self.file, at, buffer, known) {
-            self.failures = self.failures.and(&());
-            self.is_broken = true;
+        if self.health.is_down || !reads_known(&self.file, at, buffer, known) {
+            self.health.fail();
             return Err(DiskError::Failed);
         }
         Ok(())
     }
 
-    fn write_at(&mut self, at: u32, bytes: &[u8]) -> Result<(), DiskError> {
+    fn write_at(&mut self, at: u32, bytes: &[u8]) -> Result<(), DiskError>
+        requires place { at ≤ length (file_bytes self.old) }
+        requires short { length bytes.now ≤ 144 }
+        ensures written { Writes at bytes.now (file_bytes self.old) (file_bytes self.new) result }
+        ensures crash { WritesImages at (length bytes.now) (file_images self.old) (file_images self.new) result }
+        ensures time { Elapses (file_moment self.old) (file_moment self.new) (file_left_since self.old) (file_left_since self.new) (file_images self.new) }
+        ensures cause { HasCause (file_failures self.old) (file_failures self.new) result }
+        ensures full { IsErrOf result DiskError.Full
+            ↔ ((file_is_down self.old ≡ false) × (file_room self.old < at + length bytes.now)) }
+        ensures changes { file_changes self.new ≡ file_changes self.old + 1 }
+        ensures capacity { file_room self.new ≡ file_room self.old }
+        ensures arms { file_arms self.new ≡ file_arms self.old }
+
+        // A call that fails takes the disk down, and a disk that is down fails each call.
+        ensures down { IsErrOf result DiskError.Failed ↔ (file_is_down self.new ≡ true) }
+        ensures stays_down { file_is_down self.old ≡ true → IsErrOf result DiskError.Failed }
+        ensures first { file_first self.new ≡ file_first self.old }
+
+        // A write that fails is noted too, since it may be torn. One that is not tried is not.
+        ensures noted { OnOk result (AddsWrite at bytes.now (file_calls self.old) (file_calls self.new)) }
+        ensures noted_failed { IsErrOf result DiskError.Failed → file_is_down self.old ≡ false
+            → AddsWrite at bytes.now (file_calls self.old) (file_calls self.new) }
+        ensures unnoted_full { IsErrOf result DiskError.Full → file_calls self.new ≡ file_calls self.old }
+        ensures unnoted_down { file_is_down self.old ≡ true → file_calls self.new ≡ file_calls self.old }
+    {
         self.asked = self.asked.and(&());
-        if self.is_broken {
-            self.failures = self.failures.and(&());
+        if self.health.is_down {
+            self.health.fail();
             return Err(DiskError::Failed);
         }
         if bytes.len() > (self.room - at) as usize {
             return Err(DiskError::Full);
         }
-        // A write that fails counts as written too.
         overwrite(&mut self.bytes, at as usize, bytes);
         self.calls = self.calls.and(&write_call(at, bytes));
         if self.file.write_all_at(bytes, u64::from(at)).is_err() {
-            self.failures = self.failures.and(&());
-            self.is_broken = true;
+            self.health.fail();
             return Err(DiskError::Failed);
         }
         Ok(())
     }
 
-    fn sync(&mut self) -> Result<(), DiskError> {
+    fn sync(&mut self) -> Result<(), DiskError>
+        ensures durable { OnOk result (Only (file_bytes self.old) (file_images self.new)) }
+        ensures seen { file_bytes self.new ≡ file_bytes self.old }
+        ensures crash { AddsNone (file_images self.old) (file_images self.new) }
+        ensures time { Elapses (file_moment self.old) (file_moment self.new) (file_left_since self.old) (file_left_since self.new) (file_images self.new) }
+        ensures cause { HasCause (file_failures self.old) (file_failures self.new) result }
+        ensures never_full { IsErrOf result DiskError.Full → ⊥ }
+        ensures changes { file_changes self.new ≡ file_changes self.old + 1 }
+        ensures capacity { file_room self.new ≡ file_room self.old }
+        ensures arms { file_arms self.new ≡ file_arms self.old }
+
+        // A call that fails takes the disk down, and a disk that is down fails each call. A sync that fails is not noted.
+        ensures down { IsErrOf result DiskError.Failed ↔ (file_is_down self.new ≡ true) }
+        ensures stays_down { file_is_down self.old ≡ true → IsErrOf result DiskError.Failed }
+        ensures first { file_first self.new ≡ file_first self.old }
+        ensures noted { OnOk result (file_calls self.new ≡ file_calls self.old ++ Call.Sync ∷ []) }
+        ensures unnoted { OnErr result (file_calls self.new ≡ file_calls self.old) }
+    {
         self.asked = self.asked.and(&());
-        if self.is_broken || self.file.sync_data().is_err() {
-            self.failures = self.failures.and(&());
-            self.is_broken = true;
+        if self.health.is_down || self.file.sync_data().is_err() {
+            self.health.fail();
             return Err(DiskError::Failed);
         }
         self.calls = self.calls.and(&Call::Sync);
         Ok(())
     }
 
-    /// A file fails when it fails.
-    fn arm(&mut self, arm: Arm) {
+    /// Changes nothing else: a file fails when it fails.
+    fn arm(&mut self, arm: Arm)
+        ensures seen { file_bytes self.new ≡ file_bytes self.old }
+        ensures crash { AddsNone (file_images self.old) (file_images self.new) }
+        ensures crash_keeps { AddsNone (file_images self.new) (file_images self.old) }
+        ensures time { Elapses (file_moment self.old) (file_moment self.new) (file_left_since self.old) (file_left_since self.new) (file_images self.new) }
+        ensures failures { file_failures self.new ≡ file_failures self.old }
+        ensures changes { file_changes self.new ≡ file_changes self.old }
+        ensures capacity { file_room self.new ≡ file_room self.old }
+        ensures arms { file_arms self.new ≡ file_arms self.old ++ arm ∷ [] }
+        ensures down { file_is_down self.new ≡ file_is_down self.old }
+        ensures first { file_first self.new ≡ file_first self.old }
+        ensures calls { file_calls self.new ≡ file_calls self.old }
+    {
         self.arms = self.arms.and(&arm);
     }
 }

@@ -12,6 +12,7 @@ mod disk;
 mod error;
 mod file;
 mod ghost_list;
+pub mod laws;
 mod mem_disk;
 
 pub use disk::{Arm, Disk};

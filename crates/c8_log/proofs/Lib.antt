@@ -1,6 +1,6 @@
 mod Crash
 mod Kept
 mod Least
-mod Moments
 mod Repair
 mod Staged
+mod Writes

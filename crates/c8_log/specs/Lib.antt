@@ -1,3 +1,4 @@
+pub mod Errors
 pub mod Log
 pub mod Slots
 pub mod Written

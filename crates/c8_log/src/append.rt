@@ -1,6 +1,7 @@
 //! What an append does to a disk at rest.
 ghost use Rattle.std.specs.Prelude.{◌≡◌, ◌≤◌, ◌<◌, ◌+◌, ◌*◌, ◌^◌, ◌++◌, [], ◌∷◌, OnOk, IsErrOf, IsTrue, ◌↔◌};
-ghost use Rattle.c8_disk.specs.Disk.{LeavesOnly, HasCause};
+ghost use Rattle.c8_disk.specs.Disk.{HasCause};
+ghost use Rattle.c8_disk.specs.Runs.{LeavesOnly, IsSameDisk};
 ghost use Rattle.c8_log.specs.Slots.{kept};
 ghost use Rattle.c8_log.specs.Log.{IsUp, KeepsWithOrWithout, with_slot};
 
@@ -8,7 +9,7 @@ use crate::slot::{BODY, OPEN, SLOT, with_closed_gate};
 use crate::write::write_and_sync;
 use c8_disk::{Disk, DiskError};
 
-/// Whether one slot more, and the gate behind it, fit.
+/// Whether one slot more, and the gate after it, fit.
 pub(crate) fn has_room(capacity: u32, count: u32) -> bool
     ensures { IsTrue result ↔ (144 * (count + 1) + 1 ≤ capacity) }
 {
@@ -17,21 +18,20 @@ pub(crate) fn has_room(capacity: u32, count: u32) -> bool
 
 /// Writes a body behind the closed gate, and then opens the gate.
 pub(crate) fn add<D: Disk>(disk: &mut D, count: u32, body: &[u8; BODY]) -> Result<(), DiskError>
-    requires up { IsUp D.seen D.may_leave disk.old count }
+    requires up { IsUp D.Disk disk.old count }
     requires room { 144 * (count + 1) + 1 ≤ D.capacity disk.old }
     requires fits { 144 * (count + 1) + 1 < 2 ^ 32 }
 
-    ensures up { OnOk result (IsUp D.seen D.may_leave disk.new (count + 1)) }
+    ensures up { OnOk result (IsUp D.Disk disk.new (count + 1)) }
     ensures kept { OnOk result (kept (D.seen disk.new) ≡ kept (D.seen disk.old) ++ body.now ∷ []) }
     ensures seen { OnOk result (D.seen disk.new ≡ with_slot (D.seen disk.old) count body.now) }
-    ensures any_moment { LeavesOnly D.moment D.left_since disk.old disk.new
-        (KeepsWithOrWithout (kept (D.seen disk.old)) body.now) }
+    ensures any_moment { LeavesOnly D.Disk disk.old disk.new (KeepsWithOrWithout (kept (D.seen disk.old)) body.now) }
     ensures cause { HasCause (D.failures disk.old) (D.failures disk.new) result }
     ensures never_full { IsErrOf result DiskError.Full → ⊥ }
     ensures changes { D.changes disk.new ≤ D.changes disk.old + 4 }
-    ensures capacity { D.capacity disk.new ≡ D.capacity disk.old }
-    ensures arms { D.arms disk.new ≡ D.arms disk.old }
+    ensures same { IsSameDisk D.Disk disk.old disk.new }
 {
+    c8_disk::laws::writes_keep_the_rest();
     let gate = SLOT * count;
     write_and_sync(disk, gate + 1, &with_closed_gate(body))?;
     write_and_sync(disk, gate, &[OPEN])

@@ -1,13 +1,14 @@
 //! Where the kept slots of a disk end.
 ghost use Rattle.std.specs.Prelude.{◌≡◌, ◌<◌, ◌≤◌, ◌+◌, ◌*◌, ◌^◌, length, IfOk, IsErrOf};
-ghost use Rattle.c8_disk.specs.Disk.{AddsNone, LeavesOnly, HasCause};
+ghost use Rattle.c8_disk.specs.Disk.{HasCause};
+ghost use Rattle.c8_disk.specs.Runs.{ReadsOnly};
 ghost use Rattle.c8_log.specs.Slots.{is_open, kept_count};
 ghost use Rattle.c8_log.specs.Log.{has_closed_gate, has_closed_gate_at};
 
 use crate::slot::{OPEN, SLOT};
 use c8_disk::{Disk, DiskError};
 
-/// How many slots are kept, and whether the gate behind them is there and closed.
+/// How many slots are kept, and whether the gate after them is there and closed.
 #[derive(Clone, Copy)]
 pub(crate) struct End {
     pub(crate) count: u32,
@@ -18,14 +19,9 @@ pub(crate) fn find_end<D: Disk>(disk: &mut D) -> Result<End, DiskError>
     ensures count { IfOk result (λ end. end.count ≡ kept_count (D.seen disk.old)) }
     ensures closed { IfOk result (λ end. end.closed ≡ has_closed_gate (D.seen disk.old)) }
     ensures fits { IfOk result (λ end. 144 * end.count < 2 ^ 32) }
-    ensures seen { D.seen disk.new ≡ D.seen disk.old }
-    ensures crash { AddsNone (D.may_leave disk.old) (D.may_leave disk.new) }
-    ensures any_moment { LeavesOnly D.moment D.left_since disk.old disk.new (D.may_leave disk.old) }
+    ensures reads { ReadsOnly D.Disk disk.old disk.new }
     ensures cause { HasCause (D.failures disk.old) (D.failures disk.new) result }
     ensures never_full { IsErrOf result DiskError.Full → ⊥ }
-    ensures changes { D.changes disk.new ≡ D.changes disk.old }
-    ensures capacity { D.capacity disk.new ≡ D.capacity disk.old }
-    ensures arms { D.arms disk.new ≡ D.arms disk.old }
 {
     let whole = disk.len() / SLOT;
     for n in 0..whole {
@@ -48,14 +44,9 @@ fn stands_open<D: Disk>(disk: &mut D, n: u32) -> Result<bool, DiskError>
     requires whole { 144 * n + 144 ≤ length (D.seen disk.old) }
     requires fits { 144 * n + 144 < 2 ^ 32 }
     ensures stands { IfOk result (λ stands. stands ≡ is_open (D.seen disk.old) n) }
-    ensures seen { D.seen disk.new ≡ D.seen disk.old }
-    ensures crash { AddsNone (D.may_leave disk.old) (D.may_leave disk.new) }
-    ensures any_moment { LeavesOnly D.moment D.left_since disk.old disk.new (D.may_leave disk.old) }
+    ensures reads { ReadsOnly D.Disk disk.old disk.new }
     ensures cause { HasCause (D.failures disk.old) (D.failures disk.new) result }
     ensures never_full { IsErrOf result DiskError.Full → ⊥ }
-    ensures changes { D.changes disk.new ≡ D.changes disk.old }
-    ensures capacity { D.capacity disk.new ≡ D.capacity disk.old }
-    ensures arms { D.arms disk.new ≡ D.arms disk.old }
 {
     let mut slot = [0; 144];
     disk.read_at(SLOT * n, &mut slot)?;
@@ -67,14 +58,9 @@ fn ends_closed<D: Disk>(disk: &mut D, n: u32) -> Result<bool, DiskError>
     requires begins { 144 * n ≤ length (D.seen disk.old) }
     requires ends { length (D.seen disk.old) < 144 * n + 144 }
     ensures closed { IfOk result (λ closed. closed ≡ has_closed_gate_at (D.seen disk.old) n) }
-    ensures seen { D.seen disk.new ≡ D.seen disk.old }
-    ensures crash { AddsNone (D.may_leave disk.old) (D.may_leave disk.new) }
-    ensures any_moment { LeavesOnly D.moment D.left_since disk.old disk.new (D.may_leave disk.old) }
+    ensures reads { ReadsOnly D.Disk disk.old disk.new }
     ensures cause { HasCause (D.failures disk.old) (D.failures disk.new) result }
     ensures never_full { IsErrOf result DiskError.Full → ⊥ }
-    ensures changes { D.changes disk.new ≡ D.changes disk.old }
-    ensures capacity { D.capacity disk.new ≡ D.capacity disk.old }
-    ensures arms { D.arms disk.new ≡ D.arms disk.old }
 {
     let rest = disk.len() - SLOT * n;
     if rest == 0 {

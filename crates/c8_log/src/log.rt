@@ -1,6 +1,7 @@
 //! The log, over a disk that it owns.
-ghost use Rattle.std.specs.Prelude.{◌≡◌, ◌≢◌, ◌<◌, ◌≤◌, ◌+◌, ◌*◌, ◌^◌, ◌++◌, [], ◌∷◌, ◌↔◌, true, false, length, slice_get, Some, IfOk, OnOk, IfErr, OnErr, IsErrOf};
-ghost use Rattle.c8_disk.specs.Disk.{LeavesOnly, AddsNone};
+ghost use Rattle.std.specs.Prelude.{◌≡◌, ◌≢◌, ◌<◌, ◌≤◌, ◌+◌, ◌*◌, ◌^◌, ◌++◌, [], ◌∷◌, ◌↔◌, ◌==◌, true, false, length, slice_get, Some, IfOk, OnOk, IfErr, OnErr, IsErrOf};
+ghost use Rattle.c8_disk.specs.Disk.{AddsNone};
+ghost use Rattle.c8_disk.specs.Runs.{LeavesOnly, IsSameDisk, ReadsOnly};
 ghost use Rattle.c8_log.specs.Slots.{kept, kept_count};
 
 use crate::LogError;
@@ -25,46 +26,34 @@ impl<D: Disk> Model for Log<D> {
 
     ghost view = { λ log. record { disk = log.disk; count = log.count; down = log.down } };
 
-    ghost invariant = { λ log. IsLog D.seen D.may_leave (record { disk = log.disk; count = log.count; down = log.down }) };
+    ghost invariant = { λ log. IsLog D.Disk (record { disk = log.disk; count = log.count; down = log.down }) };
 }
 
 impl<D: Disk> Log<D> {
-    ghost use Rattle.c8_log.specs.Log.{KeepsOneOf, KeepsWithOrWithout, IsAtRest, has_closed_gate, repaired, with_slot};
+    ghost use Rattle.c8_log.specs.Log.{KeepsOneOf, KeepsWithOrWithout, IsAtRest, IsLeftBy, disk_after, has_closed_gate, repaired, with_slot};
 
     /// Opens the log that a disk holds, and closes the gate behind its last body if that was left open or is missing.
     /// At an error the disk is given back, and it keeps what it kept.
     pub fn open(disk: D) -> Result<Log<D>, (LogError, D)>
-        ensures at_rest { IfOk result (λ log. IsAtRest D.seen D.may_leave log) }
+        ensures at_rest { IfOk result (λ log. IsAtRest D.Disk log) }
         ensures up { IfOk result (λ log. log.down ≡ false) }
         ensures repaired { IfOk result (λ log. D.seen log.disk ≡ repaired (D.seen disk)) }
-        ensures kept { IfOk result (λ log. kept (D.seen log.disk) ≡ kept (D.seen disk)) }
-        ensures kept_err { IfErr result (λ refusal. kept (D.seen refusal.1) ≡ kept (D.seen disk)) }
+        ensures kept { kept (D.seen (disk_after result)) ≡ kept (D.seen disk) }
 
         // A crash at any moment of the call leaves bodies that a crash before it could have left.
-        ensures any_moment { IfOk result (λ log.
-            LeavesOnly D.moment D.left_since disk log.disk (KeepsOneOf (D.may_leave disk))) }
-        ensures any_moment_err { IfErr result (λ refusal.
-            LeavesOnly D.moment D.left_since disk refusal.1 (KeepsOneOf (D.may_leave disk))) }
+        ensures any_moment { LeavesOnly D.Disk disk (disk_after result) (KeepsOneOf (D.may_leave disk)) }
 
-        // It doesn't give up by itself.
+        // When each error comes, and what it leaves. It doesn't give up by itself.
         ensures failed { IfErr result (λ refusal.
             refusal.0 ≡ LogError.Failed → D.failures disk < D.failures refusal.1) }
         ensures full { IfErr result (λ refusal.
             refusal.0 ≡ LogError.Full → D.capacity disk < 144 * length (kept (D.seen disk)) + 1) }
+        ensures left { IfErr result (λ refusal. IsLeftBy refusal.0 (D.seen disk) (D.seen refusal.1)) }
         ensures never_down { IfErr result (λ refusal. refusal.0 ≢ LogError.Down) }
 
-        ensures no_fewer { IfOk result (λ log. D.failures disk ≤ D.failures log.disk) }
-        ensures no_fewer_err { IfErr result (λ refusal. D.failures disk ≤ D.failures refusal.1) }
-        ensures changes { IfOk result (λ log. D.changes log.disk ≤ D.changes disk + 3) }
-        ensures changes_err { IfErr result (λ refusal. D.changes refusal.1 ≤ D.changes disk + 3) }
-        ensures no_repair { IfOk result (λ log.
-            has_closed_gate (D.seen disk) ≡ true → D.changes log.disk ≡ D.changes disk + 1) }
-        ensures no_repair_err { IfErr result (λ refusal.
-            has_closed_gate (D.seen disk) ≡ true → D.changes refusal.1 ≡ D.changes disk + 1) }
-        ensures capacity { IfOk result (λ log. D.capacity log.disk ≡ D.capacity disk) }
-        ensures capacity_err { IfErr result (λ refusal. D.capacity refusal.1 ≡ D.capacity disk) }
-        ensures arms { IfOk result (λ log. D.arms log.disk ≡ D.arms disk) }
-        ensures arms_err { IfErr result (λ refusal. D.arms refusal.1 ≡ D.arms disk) }
+        ensures changes { D.changes (disk_after result) ≤ D.changes disk + 3 }
+        ensures no_repair { has_closed_gate (D.seen disk) ≡ true → D.changes (disk_after result) ≡ D.changes disk + 1 }
+        ensures same { IsSameDisk D.Disk disk (disk_after result) }
     {
         let mut disk = disk;
         match settle(&mut disk) {
@@ -80,9 +69,24 @@ impl<D: Disk> Log<D> {
     /// How many bodies the log keeps: those that it was opened with, and one for each `append` that answered `Ok`.
     pub fn len(&self) -> u32
         ensures count { result ≡ self.now.count }
-        ensures at_rest { self.now.down ≡ false → IsAtRest D.seen D.may_leave self.now }
+        ensures at_rest { self.now.down ≡ false → IsAtRest D.Disk self.now }
     {
         self.count
+    }
+
+    /// Whether it keeps no body.
+    pub fn is_empty(&self) -> bool
+        ensures { result ≡ (self.now.count == 0) }
+    {
+        self.count == 0
+    }
+
+    /// Whether an `append` or a `read` was refused since it was opened.
+    pub fn is_down(&self) -> bool
+        ensures down { result ≡ self.now.down }
+        ensures at_rest { self.now.down ≡ false → IsAtRest D.Disk self.now }
+    {
+        self.down
     }
 
     /// Adds a body, and answers the number of its slot. At `Ok` the body is on the disk: from then on each crash leaves
@@ -93,10 +97,10 @@ impl<D: Disk> Log<D> {
         ensures up { OnOk result (self.new.down ≡ false) }
         ensures kept { OnOk result (kept (D.seen self.new.disk) ≡ kept (D.seen self.old.disk) ++ body.now ∷ []) }
         ensures seen { OnOk result (D.seen self.new.disk ≡ with_slot (D.seen self.old.disk) self.old.count body.now) }
-        ensures at_rest { OnOk result (IsAtRest D.seen D.may_leave self.new) }
+        ensures at_rest { OnOk result (IsAtRest D.Disk self.new) }
 
         // A crash at any moment of the call leaves the bodies from before it, with the new one or without.
-        ensures any_moment { self.old.down ≡ false → LeavesOnly D.moment D.left_since self.old.disk self.new.disk
+        ensures any_moment { self.old.down ≡ false → LeavesOnly D.Disk self.old.disk self.new.disk
             (KeepsWithOrWithout (kept (D.seen self.old.disk)) body.now) }
 
         // When each error comes, and what it leaves.
@@ -108,10 +112,8 @@ impl<D: Disk> Log<D> {
         ensures failed { IsErrOf result LogError.Failed → D.failures self.old.disk < D.failures self.new.disk }
         ensures err { OnErr result (self.new ≡ record self.old { disk = self.new.disk; down = true }) }
 
-        ensures no_fewer { D.failures self.old.disk ≤ D.failures self.new.disk }
         ensures changes { D.changes self.new.disk ≤ D.changes self.old.disk + 4 }
-        ensures capacity { D.capacity self.new.disk ≡ D.capacity self.old.disk }
-        ensures arms { D.arms self.new.disk ≡ D.arms self.old.disk }
+        ensures same { IsSameDisk D.Disk self.old.disk self.new.disk }
     {
         if self.down {
             return Err(LogError::Down);
@@ -133,11 +135,10 @@ impl<D: Disk> Log<D> {
 
         ensures body { IfOk result (λ slot. slice_get (kept (D.seen self.old.disk)) n ≡ Some slot.body.now) }
         ensures ok { OnOk result (self.new ≡ record self.old { disk = self.new.disk }) }
-        ensures seen { D.seen self.new.disk ≡ D.seen self.old.disk }
-        ensures at_rest { OnOk result (IsAtRest D.seen D.may_leave self.new) }
+        ensures at_rest { OnOk result (IsAtRest D.Disk self.new) }
 
-        // A crash at any moment of the call leaves what a crash before it could have left.
-        ensures any_moment { LeavesOnly D.moment D.left_since self.old.disk self.new.disk (D.may_leave self.old.disk) }
+        // Nothing is written, and a crash at any moment of the call leaves what a crash before it could have left.
+        ensures reads { ReadsOnly D.Disk self.old.disk self.new.disk }
 
         // When each error comes, and what it leaves.
         ensures down { IsErrOf result LogError.Down ↔ (self.old.down ≡ true) }
@@ -145,11 +146,6 @@ impl<D: Disk> Log<D> {
         ensures never_full { IsErrOf result LogError.Full → ⊥ }
         ensures failed { IsErrOf result LogError.Failed → D.failures self.old.disk < D.failures self.new.disk }
         ensures err { OnErr result (self.new ≡ record self.old { disk = self.new.disk; down = true }) }
-
-        ensures no_fewer { D.failures self.old.disk ≤ D.failures self.new.disk }
-        ensures changes { D.changes self.new.disk ≡ D.changes self.old.disk }
-        ensures capacity { D.capacity self.new.disk ≡ D.capacity self.old.disk }
-        ensures arms { D.arms self.new.disk ≡ D.arms self.old.disk }
     {
         if self.down {
             return Err(LogError::Down);
@@ -162,10 +158,9 @@ impl<D: Disk> Log<D> {
 
     /// Says when the disk's calls fail from now on.
     pub fn arm(&mut self, arm: Arm)
-        ensures count { self.new.count ≡ self.old.count }
-        ensures down { self.new.down ≡ self.old.down }
+        ensures log { self.new ≡ record self.old { disk = self.new.disk } }
         ensures seen { D.seen self.new.disk ≡ D.seen self.old.disk }
-        ensures any_moment { LeavesOnly D.moment D.left_since self.old.disk self.new.disk (D.may_leave self.old.disk) }
+        ensures any_moment { LeavesOnly D.Disk self.old.disk self.new.disk (D.may_leave self.old.disk) }
         ensures crash { AddsNone (D.may_leave self.old.disk) (D.may_leave self.new.disk) }
         ensures crash_keeps { AddsNone (D.may_leave self.new.disk) (D.may_leave self.old.disk) }
         ensures failures { D.failures self.new.disk ≡ D.failures self.old.disk }

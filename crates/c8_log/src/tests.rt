@@ -196,3 +196,30 @@ fn a_file_is_opened_again(rt: HostRuntime) -> Result<(), Fail> {
     fs::remove_file(&rt, PATH)?;
     Ok(())
 }
+
+/// Whether a refusal has this number, this name and this text.
+fn reads(alloc: Global, error: LogError, number: u8, name: &str, text: &str) -> Result<bool, Fail> {
+    let shown = format!(in alloc; "{error}")?;
+    Ok(error.number() == number && error.name() == name && shown.as_str() == text)
+}
+
+#[test]
+fn each_refusal_has_its_number_name_and_text(rt: HostRuntime) -> Result<(), Fail> {
+    let alloc = rt.alloc();
+    assert!(rt; reads(alloc, LogError::Failed, 1, "Failed", "the disk failed")?);
+    assert!(rt; reads(alloc, LogError::Full, 2, "Full", "the log is full")?);
+    let text = "the log is down until it is opened again";
+    assert!(rt; reads(alloc, LogError::Down, 3, "Down", text)?);
+    Ok(())
+}
+
+#[test]
+fn a_log_is_empty_and_up_until_it_is_neither(rt: HostRuntime) -> Result<(), Fail> {
+    let mut log = opened(MemDisk::new(rt.alloc(), 145, CALLS)?)?;
+    assert!(rt; log.is_empty() && !log.is_down());
+    log.append(&body_of(1))?;
+    assert!(rt; !log.is_empty() && !log.is_down());
+    assert_eq!(rt; log.append(&body_of(2)), Err(LogError::Full));
+    assert!(rt; !log.is_empty() && log.is_down());
+    Ok(())
+}

@@ -1,6 +1,7 @@
 //! The unit of which a log's changes are made.
 ghost use Rattle.std.specs.Prelude.{◌≡◌, ◌<◌, ◌≤◌, ◌+◌, length, OnOk, IsErrOf};
-ghost use Rattle.c8_disk.specs.Disk.{overwritten, Only, LeavesOnly};
+ghost use Rattle.c8_disk.specs.Disk.{Only, Writes, HasCause};
+ghost use Rattle.c8_disk.specs.Runs.{LeavesOnly, IsSameDisk};
 ghost use Rattle.c8_log.specs.Written.{IsBeforeOrTorn};
 
 use c8_disk::{Disk, DiskError};
@@ -10,18 +11,17 @@ pub(crate) fn write_and_sync<D: Disk>(disk: &mut D, at: u32, bytes: &[u8]) -> Re
     requires place { at ≤ length (D.seen disk.old) }
     requires short { length bytes.now ≤ 144 }
 
-    ensures written { OnOk result (D.seen disk.new ≡ overwritten (D.seen disk.old) at bytes.now) }
+    ensures written { Writes at bytes.now (D.seen disk.old) (D.seen disk.new) result }
     ensures durable { OnOk result (Only (D.seen disk.new) (D.may_leave disk.new)) }
-    ensures any_moment { LeavesOnly D.moment D.left_since disk.old disk.new
-        (IsBeforeOrTorn at (length bytes.now) (D.may_leave disk.old)) }
+    ensures any_moment { LeavesOnly D.Disk disk.old disk.new (IsBeforeOrTorn at (length bytes.now) (D.may_leave disk.old)) }
 
-    ensures no_fewer { D.failures disk.old ≤ D.failures disk.new }
-    ensures failed { IsErrOf result DiskError.Failed → D.failures disk.old < D.failures disk.new }
+    ensures cause { HasCause (D.failures disk.old) (D.failures disk.new) result }
     ensures full { IsErrOf result DiskError.Full → D.capacity disk.old < at + length bytes.now }
     ensures changes { D.changes disk.new ≤ D.changes disk.old + 2 }
-    ensures capacity { D.capacity disk.new ≡ D.capacity disk.old }
-    ensures arms { D.arms disk.new ≡ D.arms disk.old }
+    ensures same { IsSameDisk D.Disk disk.old disk.new }
 {
+    // For the proof: a whole write that was not synced is a torn one.
+    c8_disk::laws::writes_keep_the_rest();
     disk.write_at(at, bytes)?;
     disk.sync()
 }

@@ -1,24 +1,21 @@
-use Rattle.std.proofs.Common.{◌≡◌, ◌+◌, ◌*◌, ◌++◌, [], ◌∷◌, ℕ, List, length, Result, Ok, Err, OnOk, ap, ◌∙◌, subst, arith}
+use Rattle.std.proofs.Common.{◌≡◌, ◌+◌, ◌*◌, ◌++◌, [], ◌∷◌, ℕ, List, length, OnOk, ap, ◌∙◌, subst, arith}
 use Rattle.c8_disk.specs.Disk.{overwritten, Only}
 use Rattle.c8_log.specs.Slots.{kept}
 use Rattle.c8_log.specs.Log.{has_closed_gate_at, IsUp, KeepsWithOrWithout}
 use Rattle.c8_log.specs.Written.{IsBeforeOrTorn}
-use Rattle.c8_log.proofs.Moments.{weaker, then_run}
+use Rattle.c8_disk.specs.RunLaws.{weaker, then_run}
+use Rattle.c8_log.proofs.Writes.{ok_written, on_ok_both}
 use Rattle.c8_log.proofs.Staged.{IsStaged, gate_there, staged, first_keeps, second_keeps, two_writes, up_with_it}
 use Rattle.c8_log.proofs.append.add.Given.{Over}
 use Rattle.c8_log.proofs.append.add.Goals as goal
-
-on_ok_both : {T E P Q R : Type 0} (r : Result T E) → OnOk r P → OnOk r Q → (P → Q → R) → OnOk r R
-on_ok_both (Ok x) p q so = so p q
-on_ok_both (Err e) p q so = tt
 
 pub returns-in_err-write_and_sync-clause-any_moment : goal.returns-in_err-write_and_sync-clause-any_moment
 returns-in_err-write_and_sync-clause-any_moment g c =
     let images = g.D.Disk.may_leave c.args.disk.now in
     let old = g.D.Disk.seen c.args.disk.now in
     let up = c.requires.up in
-    weaker g.D.Disk.moment g.D.Disk.left_since c.args.disk.now c.write_and_sync.new.disk (IsBeforeOrTorn (144 * c.args.count + 1) (length c.with_closed_gate.result) images)
-    (KeepsWithOrWithout (kept old) c.args.body.now) c.write_and_sync.ensures.any_moment (first_keeps images old c.args.count c.args.body.now up.count_is up.closed up.durable (length c.with_closed_gate.result))
+    weaker g.D.Disk c.args.disk.now c.write_and_sync.new.disk (IsBeforeOrTorn (144 * c.args.count + 1) (length c.with_closed_gate.result) images)
+    (KeepsWithOrWithout (kept old) c.args.body.now) c.write_and_sync.ensures.any_moment (first_keeps c.writes_keep_the_rest.ensures.whole c.writes_keep_the_rest.ensures.none images old c.args.count c.args.body.now up.count_is up.closed up.durable (length c.with_closed_gate.result))
 
 -- what stands on the disk after the first write
 abbrev staged_image : (g : Over) → goal.After-write_and_sync-2 g → List ℕ
@@ -32,7 +29,7 @@ behind : (g : Over) (c : goal.After-write_and_sync-2 g) → IsStaged (g.D.Disk.s
 behind g c =
     let old = g.D.Disk.seen c.args.disk.now in
     let there = gate_there old c.args.count (ap (λ (k : ℕ). has_closed_gate_at old k) c.requires.up.count_is ∙ c.requires.up.closed) in
-    staged old c.args.count c.args.body.now c.told-body (omega (arith, there))
+    staged c.writes_keep_the_rest.ensures.whole old c.args.count c.args.body.now c.told-body (omega (arith, there))
 
 pub returns-clause-any_moment : goal.returns-clause-any_moment
 returns-clause-any_moment g c =
@@ -43,35 +40,39 @@ returns-clause-any_moment g c =
     let up = c.requires.up in
     let is = behind g c in
     let written = first_written g c in
-    let first = weaker g.D.Disk.moment g.D.Disk.left_since c.args.disk.now c.write_and_sync.new.disk (IsBeforeOrTorn (144 * n + 1) (length c.with_closed_gate.result) images)
-    (KeepsWithOrWithout (kept old) body) c.write_and_sync.ensures.any_moment (first_keeps images old n body up.count_is up.closed up.durable (length c.with_closed_gate.result)) in
+    let first = weaker g.D.Disk c.args.disk.now c.write_and_sync.new.disk (IsBeforeOrTorn (144 * n + 1) (length c.with_closed_gate.result) images)
+    (KeepsWithOrWithout (kept old) body) c.write_and_sync.ensures.any_moment (first_keeps c.writes_keep_the_rest.ensures.whole c.writes_keep_the_rest.ensures.none images old n body up.count_is up.closed up.durable (length c.with_closed_gate.result)) in
     let later = g.D.Disk.may_leave c.write_and_sync.new.disk in
     let only = subst (λ (l : List ℕ). Only l later) written c.in_ok-write_and_sync.ensures.durable in
-    let second = weaker g.D.Disk.moment g.D.Disk.left_since c.write_and_sync.new.disk c.write_and_sync-2.new.disk (IsBeforeOrTorn (144 * n) 1 later)
-    (KeepsWithOrWithout (kept old) body) c.write_and_sync-2.ensures.any_moment (second_keeps images old n body up.count_is up.closed up.durable (staged_image g c) is later only) in
-    then_run g.D.Disk.moment g.D.Disk.left_since c.args.disk.now c.write_and_sync.new.disk c.write_and_sync-2.new.disk (KeepsWithOrWithout (kept old) body) first second
+    let second = weaker g.D.Disk c.write_and_sync.new.disk c.write_and_sync-2.new.disk (IsBeforeOrTorn (144 * n) 1 later)
+    (KeepsWithOrWithout (kept old) body) c.write_and_sync-2.ensures.any_moment (second_keeps c.writes_keep_the_rest.ensures.whole c.writes_keep_the_rest.ensures.none images old n body up.count_is up.closed up.durable (staged_image g c) is later only) in
+    then_run g.D.Disk c.args.disk.now c.write_and_sync.new.disk c.write_and_sync-2.new.disk (KeepsWithOrWithout (kept old) body) first second
+
+gate_written : (g : Over) (c : goal.After-write_and_sync-2 g)
+    → OnOk c.write_and_sync-2.result (g.D.Disk.seen c.write_and_sync-2.new.disk ≡ overwritten (g.D.Disk.seen c.write_and_sync.new.disk) (144 * c.args.count) (0xa5 ∷ []))
+gate_written g c = ok_written (144 * c.args.count) (0xa5 ∷ []) (g.D.Disk.seen c.write_and_sync.new.disk) (g.D.Disk.seen c.write_and_sync-2.new.disk) c.write_and_sync-2.result c.write_and_sync-2.ensures.written
 
 -- and after the second
 ended : (g : Over) (c : goal.After-write_and_sync-2 g)
     → g.D.Disk.seen c.write_and_sync-2.new.disk ≡ overwritten (g.D.Disk.seen c.write_and_sync.new.disk) (144 * c.args.count) (0xa5 ∷ [])
     → Only (g.D.Disk.seen c.write_and_sync-2.new.disk) (g.D.Disk.may_leave c.write_and_sync-2.new.disk)
-    → IsUp g.D.Disk.seen g.D.Disk.may_leave c.write_and_sync-2.new.disk (c.args.count + 1)
+    → IsUp g.D.Disk c.write_and_sync-2.new.disk (c.args.count + 1)
     × (kept (g.D.Disk.seen c.write_and_sync-2.new.disk) ≡ kept (g.D.Disk.seen c.args.disk.now) ++ c.args.body.now ∷ [])
 ended g c holds only =
     let up = c.requires.up in
-    up_with_it (g.D.Disk.may_leave c.args.disk.now) (g.D.Disk.seen c.args.disk.now) c.args.count c.args.body.now up.count_is up.closed up.durable (staged_image g c) (behind g c) g.D.Disk.seen g.D.Disk.may_leave c.write_and_sync-2.new.disk
+    up_with_it c.writes_keep_the_rest.ensures.whole c.writes_keep_the_rest.ensures.none (g.D.Disk.may_leave c.args.disk.now) (g.D.Disk.seen c.args.disk.now) c.args.count c.args.body.now up.count_is up.closed up.durable (staged_image g c) (behind g c) g.D.Disk c.write_and_sync-2.new.disk
     (holds ∙ ap (λ (l : List ℕ). overwritten l (144 * c.args.count) (0xa5 ∷ [])) (first_written g c)) only c.requires.fits
 
 pub returns-clause-up : goal.returns-clause-up
-returns-clause-up g c = on_ok_both c.write_and_sync-2.result c.write_and_sync-2.ensures.written c.write_and_sync-2.ensures.durable (λ holds only. (ended g c holds only).0)
+returns-clause-up g c = on_ok_both c.write_and_sync-2.result (gate_written g c) c.write_and_sync-2.ensures.durable (λ holds only. (ended g c holds only).0)
 
 pub returns-clause-kept : goal.returns-clause-kept
-returns-clause-kept g c = on_ok_both c.write_and_sync-2.result c.write_and_sync-2.ensures.written c.write_and_sync-2.ensures.durable (λ holds only. (ended g c holds only).1)
+returns-clause-kept g c = on_ok_both c.write_and_sync-2.result (gate_written g c) c.write_and_sync-2.ensures.durable (λ holds only. (ended g c holds only).1)
 
 pub returns-clause-seen : goal.returns-clause-seen
 returns-clause-seen g c =
     let old = g.D.Disk.seen c.args.disk.now in
     let gate = 144 * c.args.count in
     let there = gate_there old c.args.count (ap (λ (k : ℕ). has_closed_gate_at old k) c.requires.up.count_is ∙ c.requires.up.closed) in
-    on_ok_both c.write_and_sync-2.result c.write_and_sync-2.ensures.written c.write_and_sync-2.ensures.durable (λ holds only.
-    holds ∙ ap (λ (l : List ℕ). overwritten l gate (0xa5 ∷ [])) (first_written g c) ∙ two_writes old gate 0xa5 (c.args.body.now ++ 0 ∷ []) (omega (arith, there)))
+    on_ok_both c.write_and_sync-2.result (gate_written g c) c.write_and_sync-2.ensures.durable (λ holds only.
+    holds ∙ ap (λ (l : List ℕ). overwritten l gate (0xa5 ∷ [])) (first_written g c) ∙ two_writes c.writes_keep_the_rest.ensures.whole old gate 0xa5 (c.args.body.now ++ 0 ∷ []) (omega (arith, there)))

@@ -12,14 +12,14 @@ pub returns-then-not-branch-clause-count : goal.returns-then-not-branch-clause-c
 returns-then-not-branch-clause-count g c =
     let image = g.D.Disk.seen c.args.disk.now in
     let shut : is_open image c.loop-n.n ≡ false =
-    ap (λ (l : List ℕ). is_open l c.loop-n.n) (sym c.loop-n.invariant.seen) ∙ sym c.in_ok-stands_open.ensures.stands ∙ c.if-not-branch.true in
+    ap (λ (l : List ℕ). is_open l c.loop-n.n) (sym c.loop-n.invariant.reads.seen) ∙ sym c.in_ok-stands_open.ensures.stands ∙ c.if-not-branch.true in
     counts image c.loop-n.n c.loop-n.invariant.below shut
 
 pub returns-then-not-branch-clause-closed : goal.returns-then-not-branch-clause-closed
 returns-then-not-branch-clause-closed g c =
     let image = g.D.Disk.seen c.args.disk.now in
     let shut : is_open image c.loop-n.n ≡ false =
-    ap (λ (l : List ℕ). is_open l c.loop-n.n) (sym c.loop-n.invariant.seen) ∙ sym c.in_ok-stands_open.ensures.stands ∙ c.if-not-branch.true in
+    ap (λ (l : List ℕ). is_open l c.loop-n.n) (sym c.loop-n.invariant.reads.seen) ∙ sym c.in_ok-stands_open.ensures.stands ∙ c.if-not-branch.true in
     let whole : 144 * c.loop-n.n + 144 ≤ length image = omega arith in
     sym (closed_here image c.loop-n.n whole shut) ∙ ap (has_closed_gate_at image) (counts image c.loop-n.n c.loop-n.invariant.below shut)
 
@@ -33,5 +33,5 @@ pub returns-clause-closed : goal.returns-clause-closed
 returns-clause-closed g c =
     let image = g.D.Disk.seen c.args.disk.now in
     let whole = c.len-whole.result / 144 in
-    c.in_ok-closed.ensures.closed ∙ ap (λ (l : List ℕ). has_closed_gate_at l whole) c.loop-n.invariant.seen
+    c.in_ok-closed.ensures.closed ∙ ap (λ (l : List ℕ). has_closed_gate_at l whole) c.loop-n.invariant.reads.seen
     ∙ ap (has_closed_gate_at image) (counts image whole (λ m lt. c.loop-n.invariant.below m (omega arith)) (shut_by_end image whole (omega arith)))

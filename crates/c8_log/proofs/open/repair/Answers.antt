@@ -1,11 +1,13 @@
-use Rattle.std.proofs.Common.{◌≡◌, ⊎_elim, ℕ, ◌*◌, ◌≤◌, List, length, sym, ◌∙◌, ap, subst, arith}
-use Rattle.std.proofs.lemmas.Bool.{true≢false}
-use Rattle.c8_disk.specs.Disk.{Torn}
-use Rattle.c8_log.specs.Slots.{kept}
+use Rattle.std.proofs.Common.{◌≡◌, [], ◌∷◌, ⊎_elim, ℕ, ◌*◌, ◌≤◌, List, length, sym, ◌∙◌, ap, subst, arith}
+use Rattle.std.proofs.lemmas.Bool.{true≢false, cond-false}
+use Rattle.c8_disk.specs.Disk.{overwritten, Torn}
+use Rattle.c8_log.specs.Slots.{kept, kept_count}
+use Rattle.c8_log.specs.Log.{has_closed_gate, repaired}
+use Rattle.c8_log.proofs.Writes.{ok_written, on_ok_both}
 use Rattle.c8_log.specs.Written.{IsBeforeOrTorn}
-use Rattle.c8_log.proofs.Moments.{weaker}
+use Rattle.c8_disk.specs.RunLaws.{weaker}
 use Rattle.c8_log.proofs.Crash.{repair_keeps}
-use Rattle.c8_log.proofs.Repair.{kept_within, length_of_kept}
+use Rattle.c8_log.proofs.Repair.{kept_within, length_of_kept, up_from_repair}
 use Rattle.c8_log.proofs.open.repair.Goals as goal
 
 pub write_and_sync-requires-clause-place : goal.write_and_sync-requires-clause-place
@@ -21,7 +23,18 @@ returns-clause-any_moment g c =
     let torn_here = subst (λ (l : List ℕ). Torn (144 * c.args.end.count) 1 l new) (c.requires.durable torn.0 torn.1) torn.2 in
     let torn_there = subst (λ (n : ℕ). Torn (144 * n) 1 image new) c.requires.count torn_here in
     repair_keeps image new (sym c.requires.closed ∙ c.if-end.false) torn_there) in
-    weaker g.D.Disk.moment g.D.Disk.left_since c.args.disk.now c.write_and_sync.new.disk (IsBeforeOrTorn (144 * c.args.end.count) 1 images) (λ new. kept new ≡ kept image) c.write_and_sync.ensures.any_moment keeps
+    weaker g.D.Disk c.args.disk.now c.write_and_sync.new.disk (IsBeforeOrTorn (144 * c.args.end.count) 1 images) (λ new. kept new ≡ kept image) c.write_and_sync.ensures.any_moment keeps
+
+pub returns-clause-up : goal.returns-clause-up
+returns-clause-up g c =
+    let old = g.D.Disk.seen c.args.disk.now in
+    let new = g.D.Disk.seen c.write_and_sync.new.disk in
+    let closed = overwritten old (144 * kept_count old) (0 ∷ []) in
+    let written = ok_written (144 * c.args.end.count) (0 ∷ []) old new c.write_and_sync.result c.write_and_sync.ensures.written in
+    on_ok_both c.write_and_sync.result written c.write_and_sync.ensures.durable (λ holds only.
+    let gate : new ≡ closed = holds ∙ ap (λ (n : ℕ). overwritten old (144 * n) (0 ∷ [])) c.requires.count in
+    let is : new ≡ repaired old = gate ∙ sym (cond-false (has_closed_gate old) old closed (sym c.requires.closed ∙ c.if-end.false)) in
+    up_from_repair c.writes_keep_the_rest.ensures.whole g.D.Disk c.write_and_sync.new.disk c.args.end.count old is c.requires.count only c.requires.fits)
 
 pub returns-clause-full : goal.returns-clause-full
 returns-clause-full g c is =

@@ -4,4 +4,4 @@ use Rattle.c8_log.proofs.Repair.{rests}
 use Rattle.c8_log.proofs.log.Log.len.Goals as goal
 
 pub returns-clause-at_rest : goal.returns-clause-at_rest
-returns-clause-at_rest g c up = rests g.D.Disk.seen g.D.Disk.may_leave c.args.self.now (subst (IsLog g.D.Disk.seen g.D.Disk.may_leave) c.self.view_is c.self.invariant up)
+returns-clause-at_rest g c up = rests g.D.Disk c.args.self.now (subst (IsLog g.D.Disk) c.self.view_is c.self.invariant up)

@@ -6,8 +6,8 @@ use Rattle.c8_log.proofs.log.Log.read.Goals as goal
 
 pub returns-clause-at_rest : goal.returns-clause-at_rest
 returns-clause-at_rest g c =
-    rests g.D.Disk.seen g.D.Disk.may_leave (record { disk = c.read_at.new.self; count = c.self.inside.count; down = false })
-    (still_up g.D.Disk.seen g.D.Disk.may_leave c.self.inside.disk c.read_at.new.self c.self.inside.count (c.self.invariant c.if-self.false) c.read_at.ensures.seen c.read_at.ensures.crash)
+    rests g.D.Disk (record { disk = c.read_at.new.self; count = c.self.inside.count; down = false })
+    (still_up g.D.Disk c.self.inside.disk c.read_at.new.self c.self.inside.count (c.self.invariant c.if-self.false) c.read_at.ensures.seen c.read_at.ensures.crash)
 
 pub returns-clause-body : goal.returns-clause-body
 returns-clause-body g c =

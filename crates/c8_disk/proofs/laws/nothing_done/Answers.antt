@@ -1,0 +1,5 @@
+use Rattle.c8_disk.specs.RunLaws.{nothing_done}
+use Rattle.c8_disk.proofs.laws.nothing_done.Goals as goal
+
+pub returns : goal.returns
+returns g c disk = nothing_done g.D.Disk disk (g.D.Disk.may_leave disk) (g.met.D.Disk.only_now disk)

@@ -1,0 +1,5 @@
+use Rattle.c8_disk.specs.RunLaws.{then_run}
+use Rattle.c8_disk.proofs.laws.runs_chain.Goals as goal
+
+pub returns : goal.returns
+returns g c old mid new p = then_run g.D.Disk old mid new (g.P.Property.has p)

@@ -1,0 +1,5 @@
+use Rattle.c8_disk.specs.RunLaws.{since_earlier}
+use Rattle.c8_disk.proofs.laws.runs_go_on.Goals as goal
+
+pub returns : goal.returns
+returns g c old new p t = since_earlier g.D.Disk old new (g.P.Property.has p) t

@@ -1,0 +1,25 @@
+-- Runs of calls of a disk, by what the trait `Disk` shows.
+use Rattle.std.specs.Prelude.{◌≡◌, ◌≤◌, ◌⊎◌, ℕ, List}
+use Rattle.c8_disk.specs.Disk.{AddsNone}
+use Rattle.c8_disk.specs.declared.disk.Disk.{Ghosts}
+
+-- A crash at any moment of the run leaves an image that has P.
+pub record LeavesOnly {D : Type 0} (disk : Ghosts D) (old new : D) (P : List ℕ → Type 0) : Type 0 where
+  pub later : disk.moment old ≤ disk.moment new
+  pub each : (image : List ℕ) → disk.left_since new (disk.moment old) image → P image
+  -- and of a run that began earlier
+  pub before : (t : ℕ) (image : List ℕ) → t ≤ disk.moment old → disk.left_since new t image → disk.left_since old t image ⊎ P image
+
+-- It is the same disk: with the room that it had, told to fail as it was, and its failures counted on.
+pub record IsSameDisk {D : Type 0} (disk : Ghosts D) (old new : D) : Type 0 where
+  pub capacity : disk.capacity new ≡ disk.capacity old
+  pub arms : disk.arms new ≡ disk.arms old
+  pub no_fewer : disk.failures old ≤ disk.failures new
+
+-- The run only reads: nothing is written or synced, and a crash leaves nothing that it could not have left before.
+pub record ReadsOnly {D : Type 0} (disk : Ghosts D) (old new : D) : Type 0 where
+  pub seen : disk.seen new ≡ disk.seen old
+  pub crash : AddsNone (disk.may_leave old) (disk.may_leave new)
+  pub any_moment : LeavesOnly disk old new (disk.may_leave old)
+  pub changes : disk.changes new ≡ disk.changes old
+  pub same : IsSameDisk disk old new

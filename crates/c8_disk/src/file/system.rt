@@ -1,0 +1,99 @@
+//! What a disk in a file asks of the operating system.
+use std::fs::{self, File};
+use std::io;
+use std::os::fd::AsRawFd;
+use std::os::unix::fs::FileExt;
+use std::rt::Files;
+
+/// An open file, by the calls that a disk in it makes. Tests stand in for the system, and let each of these fail.
+/// Bytes are read and written by [`FileExt`].
+pub trait SystemFile: FileExt + Drop {
+    /// How many bytes it has. What is no regular file has no length.
+    fn len(&self) -> io::Result<u64>;
+
+    /// Keeps every other open of the file out, as long as this one lasts.
+    fn try_lock(&self) -> io::Result<()>;
+
+    /// Makes its bytes and its length durable, and all else that is known of it.
+    fn sync_all(&self) -> io::Result<()>;
+
+    /// Makes its bytes and its length durable.
+    fn sync_data(&self) -> io::Result<()>;
+
+    /// Drops the system's copies of the file's bytes in memory, but for those that are still to be made durable: the next
+    /// read is of the device.
+    fn drop_copies(&self) -> io::Result<()>;
+
+    /// Makes the file's name durable in its folder.
+    fn sync_folder(&self) -> io::Result<()>;
+}
+
+/// A file of the operating system, and the folder that has its name.
+#[derive(Drop)]
+pub struct OpenedFile {
+    file: File,
+    folder: File,
+}
+
+impl OpenedFile {
+    /// Opens the file at this path to read and to write, and makes it if there is none.
+    pub(crate) fn open<R: Files<File = File> + AllocGlobal>(
+        rt: &R,
+        path: &str,
+    ) -> io::Result<OpenedFile> {
+        let file = File::options()
+            .read(true)
+            .write(true)
+            .create(true)
+            .open(rt, path)?;
+        // The name that is to be durable stands where a link leads.
+        let mut folder = fs::canonicalize(rt, path)?;
+        folder.pop();
+        let folder = File::open(rt, folder.as_str())?;
+        Ok(OpenedFile { file, folder })
+    }
+}
+
+impl FileExt for OpenedFile {
+    fn read_at(&self, buffer: &mut [u8], at: u64) -> io::Result<usize> {
+        self.file.read_at(buffer, at)
+    }
+
+    fn write_at(&self, bytes: &[u8], at: u64) -> io::Result<usize> {
+        self.file.write_at(bytes, at)
+    }
+}
+
+impl SystemFile for OpenedFile {
+    fn len(&self) -> io::Result<u64> {
+        let metadata = self.file.metadata()?;
+        if !metadata.is_file() {
+            return Err(io::ErrorKind::Unsupported.into());
+        }
+        Ok(metadata.len())
+    }
+
+    fn try_lock(&self) -> io::Result<()> {
+        Ok(self.file.try_lock()?)
+    }
+
+    fn sync_all(&self) -> io::Result<()> {
+        self.file.sync_all()
+    }
+
+    fn sync_data(&self) -> io::Result<()> {
+        self.file.sync_data()
+    }
+
+    fn drop_copies(&self) -> io::Result<()> {
+        let error = libc::posix_fadvise(self.file.as_raw_fd(), 0, 0, libc::POSIX_FADV_DONTNEED);
+        if error != 0 {
+            return Err(io::Error::from_raw_os_error(error));
+        }
+        Ok(())
+    }
+
+    fn sync_folder(&self) -> io::Result<()> {
+        self.folder.sync_all()
+    }
+}
