@@ -1,1 +1,1 @@
-pub mod OpeningLemmas
+pub mod LinkLemmas

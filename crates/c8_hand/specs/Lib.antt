@@ -1,1 +1,3 @@
+pub mod Errors
 pub mod Links
+pub mod Held

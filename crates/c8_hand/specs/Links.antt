@@ -1,81 +1,139 @@
 -- What a peer knows of the others' epochs, which datagrams it admits, and what these change.
-use Rattle.std.specs.Prelude.{◌≡◌, ℕ, ◌≤◌, ◌-◌, ◌==◌, ◌&&◌, ◌||◌, ◌⊎◌, Bool, true, false, not, nat_lt, nat_le, List, Option, Some, None, replicate, slice_index_or, slice_set, if◌then◌else◌}
+use Rattle.std.specs.Prelude.{◌≡◌, ℕ, ◌≤◌, ◌==◌, ◌&&◌, ◌||◌, ◌⊎◌, ◌≢◌, Bool, true, false, not, nat_lt, nat_le, Option, Some, None, if◌then◌else◌}
 use Rattle.c8_game.specs.Rules.{Rules, session_of}
-use Rattle.c8_wire.specs.declared.head.Kind.{Kind}
-use Rattle.c8_wire.specs.declared.head.Kind.TheVariants as kinds
+use Rattle.c8_wire.specs.declared.kinds.Kind.{Kind}
+use Rattle.c8_wire.specs.declared.kinds.Kind.TheVariants as kinds
 use Rattle.c8_wire.specs.Packet.{HeadValue}
-use Rattle.c8_hand.specs.declared.link.Link.{Link}
 use Rattle.c8_hand.specs.declared.error.HandError.{HandError}
 use Rattle.c8_hand.specs.declared.error.HandError.TheVariants as errors
 
--- the links of a player: its own number and epoch, the match, and a link for each of four players
+-- what is known of a player: its newest epoch, 0 if none is, and whether it is known to know ours
+pub record LinkValue : Type 0 where
+  pub known : ℕ
+  pub is_open : Bool
+
+-- a link to a player of whom nothing is known
+abbrev pub no_link : LinkValue
+no_link = record { known = 0; is_open = false }
+
+-- the links of a player: its own number and epoch, the match, and the link to each of four players
 pub record LinksValue : Type 0 where
   pub me : ℕ
   pub players : ℕ
   pub session : ℕ
   pub epoch : ℕ
-  pub links : List Link
+  pub one : LinkValue
+  pub two : LinkValue
+  pub three : LinkValue
+  pub four : LinkValue
 
--- a link to a player of whom nothing is known
-abbrev pub no_link : Link
-no_link = record { known = 0; is_open = false }
+abbrev pub link_to : LinksValue → ℕ → LinkValue
+link_to l player =
+    if player == 1 then l.one
+    else (if player == 2 then l.two else (if player == 3 then l.three else (if player == 4 then l.four else no_link)))
 
-abbrev pub link_to : LinksValue → ℕ → Link
-link_to l player = slice_index_or l.links (player - 1) no_link
+-- the same links, but for that to one player
+abbrev pub with_link : LinksValue → ℕ → LinkValue → LinksValue
+with_link l player link = record l {
+  one = if player == 1 then link else l.one;
+  two = if player == 2 then link else l.two;
+  three = if player == 3 then link else l.three;
+  four = if player == 4 then link else l.four;
+}
+
+-- the epoch that is known of a player to whom the link is open
+abbrev pub open_epoch : LinksValue → ℕ → Option ℕ
+open_epoch l player = if (link_to l player).is_open then Some (link_to l player).known else None
 
 -- nobody's epoch is known at first, and no link is open
 abbrev pub no_links : Rules → ℕ → ℕ → ℕ → LinksValue
-no_links rules me room epoch = record { me = me; players = rules.players; session = session_of rules room; epoch = epoch; links = replicate 4 no_link }
+no_links rules me room epoch = record {
+  me = me;
+  players = rules.players;
+  session = session_of rules room;
+  epoch = epoch;
+  one = no_link;
+  two = no_link;
+  three = no_link;
+  four = no_link;
+}
 
 -- Of a datagram with the epochs theirs (the sender's) and mine (the addressee's): the refusal of a
 -- HELLO, of a WELCOME, and of the kinds that want an open link.
-abbrev pub refusal_of_hello : Link → ℕ → ℕ → ℕ → Option HandError
+abbrev pub refusal_of_hello : LinkValue → ℕ → ℕ → ℕ → Option HandError
 refusal_of_hello link own theirs mine =
     if theirs == 0 || nat_lt theirs link.known then Some errors.Stale
     else (if nat_lt own mine then Some errors.Ahead else None)
 
-abbrev pub refusal_of_welcome : Link → ℕ → ℕ → ℕ → Option HandError
+abbrev pub refusal_of_welcome : LinkValue → ℕ → ℕ → ℕ → Option HandError
 refusal_of_welcome link own theirs mine =
     if theirs == 0 || nat_lt theirs link.known || nat_lt mine own then Some errors.Stale
     else (if nat_lt own mine then Some errors.Ahead else None)
 
-abbrev pub refusal_of_others : Link → ℕ → ℕ → ℕ → Option HandError
+abbrev pub refusal_of_others : LinkValue → ℕ → ℕ → ℕ → Option HandError
 refusal_of_others link own theirs mine =
     if nat_lt theirs link.known || nat_lt mine own then Some errors.Stale
     else (if nat_lt link.known theirs || nat_lt own mine then Some errors.Ahead else (if link.is_open then None else Some errors.NotOpen))
 
-abbrev pub refusal_by_kind : Kind → Link → ℕ → ℕ → ℕ → Option HandError
+abbrev pub refusal_by_kind : Kind → LinkValue → ℕ → ℕ → ℕ → Option HandError
 refusal_by_kind kinds.Hello = refusal_of_hello
 refusal_by_kind kinds.Welcome = refusal_of_welcome
-refusal_by_kind _ = refusal_of_others
+refusal_by_kind kinds.Data = refusal_of_others
+refusal_by_kind kinds.Freeze = refusal_of_others
+refusal_by_kind kinds.Frozen = refusal_of_others
+refusal_by_kind kinds.Cut = refusal_of_others
 
--- whether a datagram is from another player of the game, to this one
+-- Whether a datagram is from another player of the game, to this one. A kind between other seats will
+-- be judged by its kind here.
 abbrev pub is_mine : LinksValue → HeadValue → Bool
 is_mine l head = (head.to == l.me && not (head.from == l.me)) && (nat_le 1 head.from && nat_le head.from l.players)
 
 -- the refusal of a datagram with this header, None where it is admitted
-abbrev pub refusal : LinksValue → HeadValue → Option HandError
+unfoldable pub refusal : LinksValue → HeadValue → Option HandError
 refusal l head =
     if not (head.session == l.session) then Some errors.Session
     else (if is_mine l head then refusal_by_kind head.kind (link_to l head.from) l.epoch head.sender_epoch head.addressee_epoch else Some errors.NotMine)
 
 -- the link to the sender of an admitted datagram: a HELLO of a later epoch closes it, a WELCOME opens it
-abbrev pub link_after : Kind → Link → ℕ → Link
+abbrev pub link_after : Kind → LinkValue → ℕ → LinkValue
 link_after kinds.Hello link theirs = if nat_lt link.known theirs then record { known = theirs; is_open = false } else link
 link_after kinds.Welcome link theirs = record { known = theirs; is_open = true }
-link_after _ link theirs = link
-
-abbrev pub with_link : LinksValue → ℕ → Link → LinksValue
-with_link l player link = record l { links = slice_set l.links (player - 1) link }
+link_after kinds.Data link theirs = link
+link_after kinds.Freeze link theirs = link
+link_after kinds.Frozen link theirs = link
+link_after kinds.Cut link theirs = link
 
 abbrev pub heard : LinksValue → HeadValue → LinksValue
 heard l head = with_link l head.from (link_after head.kind (link_to l head.from) head.sender_epoch)
 
--- a link that is open now was open with this epoch, or this datagram is the player's WELCOME, between
--- the epoch now known and the own one
+-- ---- what follows is said of these in clauses and laws
+
+-- the datagram belongs to this match, and is from another player of it to this one
+pub record IsForMe (l : LinksValue) (head : HeadValue) : Type 0 where
+  pub session : head.session ≡ l.session
+  pub to : head.to ≡ l.me
+  pub apart : head.from ≢ l.me
+  pub from_one : 1 ≤ head.from
+  pub plays : head.from ≤ l.players
+
+-- the datagram names both epochs: the one that is known of its sender, and the own one
+pub record NamesBoth (l : LinksValue) (head : HeadValue) : Type 0 where
+  pub theirs : head.sender_epoch ≡ (link_to l head.from).known
+  pub mine : head.addressee_epoch ≡ l.epoch
+
+-- the datagram is a WELCOME of this player to the own one, which names both epochs
+pub record IsWelcomeOf (l : LinksValue) (player : ℕ) (head : HeadValue) : Type 0 where
+  pub kind : head.kind ≡ kinds.Welcome
+  pub session : head.session ≡ l.session
+  pub from : head.from ≡ player
+  pub to : head.to ≡ l.me
+  pub theirs : head.sender_epoch ≡ (link_to l player).known
+  pub mine : head.addressee_epoch ≡ l.epoch
+
+-- a link that is open now was so before with the same epoch, or this datagram is that player's WELCOME
 abbrev pub OpensByWelcome : LinksValue → HeadValue → LinksValue → Type 0
-OpensByWelcome old head new = (player : ℕ) → 1 ≤ player → (link_to new player).is_open ≡ true
-    → (link_to new player ≡ link_to old player) ⊎ ((head.kind ≡ kinds.Welcome) × (head.from ≡ player) × (head.addressee_epoch ≡ old.epoch) × (head.sender_epoch ≡ (link_to new player).known))
+OpensByWelcome old head new = (player : ℕ) → (link_to new player).is_open ≡ true
+    → (link_to new player ≡ link_to old player) ⊎ IsWelcomeOf new player head
 
 -- the header of a datagram to a player
 abbrev pub head_to : LinksValue → ℕ → Kind → HeadValue

@@ -1,24 +1,52 @@
 //! Why a datagram is not admitted.
+ghost use Rattle.std.specs.Prelude.{◌≡◌};
+ghost use Rattle.c8_hand.specs.Errors.{number_of};
+
 use thiserror::Error;
 
-/// Why a datagram is not admitted. It is shown by number and name.
+/// Why a datagram is not admitted.
 #[derive(Clone, Copy, Debug, PartialEq, Eq, Error)]
 pub enum HandError {
     /// The link to the sender is not open.
-    #[error("1 NotOpen")]
+    #[error("no link to the sender is open")]
     NotOpen,
     /// It is from an older epoch of the sender than the known one, or (but for HELLO) for an older
     /// epoch of this peer; or it is a HELLO or WELCOME of epoch 0.
-    #[error("2 Stale")]
+    #[error("from or for an older epoch, or from none")]
     Stale,
     /// It is for a later epoch of this peer; or, but for HELLO and WELCOME, from a later epoch of the
     /// sender than the known one.
-    #[error("3 Ahead")]
+    #[error("from or for a later epoch than is known")]
     Ahead,
     /// It is not addressed to this player, or its sender is this player or none of the game.
-    #[error("4 NotMine")]
+    #[error("not for this player, or from none of the others")]
     NotMine,
     /// It belongs to another match.
-    #[error("5 Session")]
+    #[error("from another match")]
     Session,
+}
+
+impl HandError {
+    /// The number that stands for it in what a program prints.
+    pub fn number(self) -> u8
+        ensures { result ≡ number_of self }
+    {
+        match self {
+            HandError::NotOpen => 1,
+            HandError::Stale => 2,
+            HandError::Ahead => 3,
+            HandError::NotMine => 4,
+            HandError::Session => 5,
+        }
+    }
+
+    pub fn name(self) -> &'static str {
+        match self {
+            HandError::NotOpen => "NotOpen",
+            HandError::Stale => "Stale",
+            HandError::Ahead => "Ahead",
+            HandError::NotMine => "NotMine",
+            HandError::Session => "Session",
+        }
+    }
 }

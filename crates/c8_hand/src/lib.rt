@@ -2,10 +2,11 @@
 //!
 //! Each opening of a peer has an epoch. A link is open once the other player named both epochs in a
 //! WELCOME, so a datagram of an older opening is never taken for one of the newest. The definitions
-//! are in `specs/Links.antt`. Nothing here takes memory.
+//! are in `specs/Links.antt`, and `laws` has what follows from them. Nothing here takes memory.
 #![tactic(auto)]
 
 mod error;
+pub mod laws;
 mod link;
 mod links;
 

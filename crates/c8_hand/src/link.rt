@@ -14,6 +14,7 @@ pub(crate) struct Link {
 impl Link {
     ghost use Rattle.c8_wire.specs.Saying.{head_value};
     ghost use Rattle.c8_hand.specs.Links.{refusal_of_hello, refusal_of_welcome, refusal_of_others};
+    ghost use Rattle.c8_hand.specs.Held.{link_value};
 
     /// A closed link to a player of this epoch, 0 if none is known.
     pub(crate) fn closed(known: u32) -> Link
@@ -37,7 +38,7 @@ impl Link {
 
     /// The refusal of a HELLO to a player whose epoch is `own`.
     pub(crate) fn refusal_of_hello(&self, own: u32, head: &Head) -> Option<HandError>
-        ensures { result ≡ refusal_of_hello self.now own head.now.sender_epoch head.now.addressee_epoch }
+        ensures { result ≡ refusal_of_hello (link_value self.now) own head.now.sender_epoch head.now.addressee_epoch }
     {
         if head.sender_epoch == 0 || head.sender_epoch < self.known {
             Some(HandError::Stale)
@@ -50,7 +51,7 @@ impl Link {
 
     /// The refusal of a WELCOME to a player whose epoch is `own`.
     pub(crate) fn refusal_of_welcome(&self, own: u32, head: &Head) -> Option<HandError>
-        ensures { result ≡ refusal_of_welcome self.now own head.now.sender_epoch head.now.addressee_epoch }
+        ensures { result ≡ refusal_of_welcome (link_value self.now) own head.now.sender_epoch head.now.addressee_epoch }
     {
         if head.sender_epoch == 0 || head.sender_epoch < self.known || head.addressee_epoch < own {
             Some(HandError::Stale)
@@ -63,7 +64,7 @@ impl Link {
 
     /// The refusal of the kinds that want an open link, to a player whose epoch is `own`.
     pub(crate) fn refusal_of_others(&self, own: u32, head: &Head) -> Option<HandError>
-        ensures { result ≡ refusal_of_others self.now own head.now.sender_epoch head.now.addressee_epoch }
+        ensures { result ≡ refusal_of_others (link_value self.now) own head.now.sender_epoch head.now.addressee_epoch }
     {
         if head.sender_epoch < self.known || head.addressee_epoch < own {
             Some(HandError::Stale)

@@ -1,13 +1,13 @@
 //! The links of one player to the others.
-ghost use Rattle.std.specs.Prelude.{◌≡◌, ◌≢◌, ℕ, ◌≤◌, Some, None, MatchResult, if◌then◌else◌};
+ghost use Rattle.std.specs.Prelude.{◌≡◌, ◌≢◌, ℕ, ◌≤◌, Some, None, MatchResult, OnOk};
 ghost use Rattle.c8_wire.specs.Lent.{packet_of};
 ghost use Rattle.c8_wire.specs.Saying.{head_value};
-ghost use Rattle.c8_hand.specs.Links.{no_links, link_to, refusal, heard, OpensByWelcome, head_to};
+ghost use Rattle.c8_hand.specs.Links.{no_links, link_to, open_epoch, refusal, link_after, heard, IsForMe, OpensByWelcome, head_to};
 
 use crate::error::HandError;
 use crate::link::Link;
 use c8_game::{Game, Player};
-use c8_wire::{Datagram, Head, Kind};
+use c8_wire::{Datagram, Head, Kind, Seat};
 use std::marker::Model;
 
 /// For each other player the newest epoch that is known of it, and whether the link to it is open.
@@ -21,18 +21,12 @@ pub struct Links {
 }
 
 impl Model for Links {
-    ghost use Rattle.std.specs.Prelude.{length};
     ghost use Rattle.c8_hand.specs.Links.{LinksValue};
+    ghost use Rattle.c8_hand.specs.Held.{seen};
 
     ghost Value = { LinksValue };
 
-    ghost view = { λ l. record {
-      me = l.me.number;
-      players = l.players;
-      session = l.session;
-      epoch = l.epoch;
-      links = l.links;
-    } };
+    ghost view = { λ l. seen l.me.number l.players l.session l.epoch l.links };
 }
 
 impl Links {
@@ -58,7 +52,7 @@ impl Links {
 
     /// The epoch that is known of a player to whom the link is open.
     pub fn open(&self, player: Player) -> Option<u32>
-        ensures { result ≡ (if (link_to self.now player.number).is_open then Some (link_to self.now player.number).known else None) }
+        ensures { result ≡ open_epoch self.now player.number }
     {
         let link = self.links[usize::from(player.number - 1)];
         if link.is_open { Some(link.known) } else { None }
@@ -66,9 +60,10 @@ impl Links {
 
     /// Judges a datagram and changes nothing: first `Session`, then `NotMine`, then the epochs.
     pub fn admit(&self, datagram: &Datagram<'_>) -> Result<(), HandError>
-        ensures { MatchResult result
+        ensures judged { MatchResult result
             (λ _. refusal self.now (packet_of datagram.now).head ≡ None)
             (λ error. refusal self.now (packet_of datagram.now).head ≡ Some error) }
+        ensures mine { OnOk result (IsForMe self.now (packet_of datagram.now).head) }
     {
         match self.refusal(&datagram.header().head()) {
             Some(error) => Err(error),
@@ -76,16 +71,18 @@ impl Links {
         }
     }
 
+    #[tactic(auto, unfolding(crate::specs::Links::refusal))]
     fn refusal(&self, head: &Head) -> Option<HandError>
         ensures { result ≡ refusal self.now (head_value head.now) }
     {
         if head.session != self.session {
             return Some(HandError::Session);
         }
-        if head.to != self.me || head.from == self.me || head.from.number > self.players {
+        let (from, to) = (head.from.number, head.to.number);
+        if to != self.me.number || from == self.me.number || from > self.players {
             return Some(HandError::NotMine);
         }
-        let link = &self.links[usize::from(head.from.number - 1)];
+        let link = &self.links[usize::from(from - 1)];
         match head.kind {
             Kind::Hello => link.refusal_of_hello(self.epoch, head),
             Kind::Welcome => link.refusal_of_welcome(self.epoch, head),
@@ -100,6 +97,10 @@ impl Links {
     pub fn hear(&mut self, datagram: &Datagram<'_>)
         requires { refusal self.old (packet_of datagram.now).head ≡ None }
         ensures heard { self.new ≡ heard self.old (packet_of datagram.now).head }
+        ensures sender { let head = (packet_of datagram.now).head in
+            link_to self.new head.from ≡ link_after head.kind (link_to self.old head.from) head.sender_epoch }
+        ensures others { (player : ℕ) → player ≢ (packet_of datagram.now).head.from
+            → link_to self.new player ≡ link_to self.old player }
         ensures opens { OpensByWelcome self.old (packet_of datagram.now).head self.new }
         ensures rises { (player : ℕ) → (link_to self.old player).known ≤ (link_to self.new player).known }
     {
@@ -107,9 +108,7 @@ impl Links {
     }
 
     fn take(&mut self, head: &Head)
-        requires { refusal self.old (head_value head.now) ≡ None }
-        ensures heard { self.new ≡ heard self.old (head_value head.now) }
-        ensures rises { (player : ℕ) → (link_to self.old player).known ≤ (link_to self.new player).known }
+        ensures { self.new ≡ heard self.old (head_value head.now) }
     {
         let link = &mut self.links[usize::from(head.from.number - 1)];
         match head.kind {
@@ -132,8 +131,8 @@ impl Links {
         Head {
             kind,
             session: self.session,
-            from: self.me,
-            to: player,
+            from: Seat::from(self.me),
+            to: Seat::from(player),
             sender_epoch: self.epoch,
             addressee_epoch: self.known(player),
         }

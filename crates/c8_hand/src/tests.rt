@@ -109,14 +109,61 @@ fn begins_closed(rt: HostRuntime) -> Result<(), Fail> {
 #[test]
 fn heads_name_both_epochs(rt: HostRuntime) -> Result<(), Fail> {
     let game = Game::read(rt.alloc(), GAME)?;
-    let links = linked(&game)?;
-    let head = links.head(player_two(), Kind::Welcome);
-    assert_eq!(rt; head.kind, Kind::Welcome);
+    let mut links = Links::new(player_two(), &game, 0, 7);
+    let welcome = Header {
+        kind: WELCOME,
+        session: game.session(0),
+        from: 1,
+        to: 2,
+        theirs: 9,
+        mine: 7,
+    };
+    assert_eq!(rt; give(&mut links, welcome)?, Ok(()));
+    let head = links.head(Player { number: 1 }, Kind::Data);
+    assert_eq!(rt; head.kind, Kind::Data);
     assert_eq!(rt; head.session, game.session(0));
-    assert_eq!(rt; head.from.number, 1);
-    assert_eq!(rt; head.to.number, 2);
-    assert_eq!(rt; head.sender_epoch, 2);
-    assert_eq!(rt; head.addressee_epoch, 3);
+    assert_eq!(rt; head.from.number, 2);
+    assert_eq!(rt; head.to.number, 1);
+    assert_eq!(rt; head.sender_epoch, 7);
+    assert_eq!(rt; head.addressee_epoch, 9);
+    Ok(())
+}
+
+#[test]
+fn numbers_names_and_texts(rt: HostRuntime) -> Result<(), Fail> {
+    let errors = [
+        (
+            HandError::NotOpen,
+            1,
+            "NotOpen",
+            "no link to the sender is open",
+        ),
+        (
+            HandError::Stale,
+            2,
+            "Stale",
+            "from or for an older epoch, or from none",
+        ),
+        (
+            HandError::Ahead,
+            3,
+            "Ahead",
+            "from or for a later epoch than is known",
+        ),
+        (
+            HandError::NotMine,
+            4,
+            "NotMine",
+            "not for this player, or from none of the others",
+        ),
+        (HandError::Session, 5, "Session", "from another match"),
+    ];
+    for (error, number, name, text) in errors {
+        assert_eq!(rt; error.number(), number);
+        assert_eq!(rt; error.name(), name);
+        let shown = format!(in rt.alloc(); "{error}")?;
+        assert_eq!(rt; shown.as_str(), text);
+    }
     Ok(())
 }
 

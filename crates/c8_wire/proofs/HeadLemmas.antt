@@ -4,9 +4,9 @@ use Rattle.std.proofs.lemmas.List.{drop_more}
 use Rattle.byteorder.specs.Endian.{big_bytes}
 use Rattle.byteorder.specs.Numbers.{big_number-reads_back}
 use Rattle.std.proofs.lemmas.Bool.Decides.{nat_tests}
-use Rattle.c8_wire.specs.declared.refusal.WireError.TheVariants as errors
+use Rattle.c8_wire.specs.declared.error.WireError.TheVariants as errors
 use Rattle.c8_wire.specs.Refusal.{applies}
-use Rattle.c8_wire.specs.declared.head.Kind.{Kind}
+use Rattle.c8_wire.specs.declared.kinds.Kind.{Kind}
 use Rattle.c8_wire.specs.Kinds.{code_of}
 use Rattle.c8_wire.specs.Packet.{HeadValue, IsHead}
 use Rattle.c8_wire.specs.Spelling.{header_bytes}

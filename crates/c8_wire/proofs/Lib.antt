@@ -7,3 +7,4 @@ pub mod LinkLemmas
 pub mod DataLemmas
 pub mod LeaverLemmas
 pub mod PacketLemmas
+pub mod ReadLemmas

@@ -2,8 +2,8 @@
 use Rattle.std.proofs.Common.{◌≡◌, ℕ, ◌+◌, ◌*◌, ◌≤◌, List, ◌++◌, length, drop, slice_index, Some, None, refl, sym, ap, subst, ◌∙◌, arith}
 use Rattle.std.proofs.lemmas.List.{length-drop, length-append}
 use Rattle.std.proofs.lemmas.Bool.Decides.{nat_tests}
-use Rattle.c8_wire.specs.declared.head.Kind.{Kind}
-use Rattle.c8_wire.specs.declared.head.Kind.TheVariants as kinds
+use Rattle.c8_wire.specs.declared.kinds.Kind.{Kind}
+use Rattle.c8_wire.specs.declared.kinds.Kind.TheVariants as kinds
 use Rattle.c8_wire.specs.Packet.{HeadValue, IsHead, Message, Hello, Welcome, Data, Freeze, Frozen, Cut, Fits, IsMessage, kind_of, Packet}
 use Rattle.c8_wire.specs.Spelling.{header_bytes, leaver_bytes, body_bytes, spelling, Spells}
 use Rattle.c8_wire.specs.Reading.{number_at, kind_at, size_at, head_at, message_at, packet_at}

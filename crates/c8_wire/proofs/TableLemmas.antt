@@ -2,10 +2,10 @@
 use Rattle.std.proofs.Common.{◌≡◌, ℕ, ◌⊎◌, Bool, true, false, cond, List, [], ◌∷◌, ◌++◌, Option, Some, None, refl, sym, ap, ◌∙◌, inl, inr}
 use Rattle.std.specs.Prelude.{◌==◌, find}
 use Rattle.std.proofs.lemmas.Bool.{eqb-true}
-use Rattle.c8_wire.specs.declared.refusal.WireError.{WireError}
-use Rattle.c8_wire.specs.declared.refusal.WireError.TheVariants as errors
-use Rattle.c8_wire.specs.declared.head.Kind.{Kind}
-use Rattle.c8_wire.specs.declared.head.Kind.TheVariants as kinds
+use Rattle.c8_wire.specs.declared.error.WireError.{WireError}
+use Rattle.c8_wire.specs.declared.error.WireError.TheVariants as errors
+use Rattle.c8_wire.specs.declared.kinds.Kind.{Kind}
+use Rattle.c8_wire.specs.declared.kinds.Kind.TheVariants as kinds
 use Rattle.c8_wire.specs.Kinds.{code_of, all_kinds, kind_of_code}
 use Rattle.c8_wire.specs.Reading.{kind_at}
 use Rattle.c8_wire.specs.Refusal.{applies, first_of, front_refusals, body_refusals, refusal}
@@ -22,6 +22,11 @@ find_passes test (y ∷ ys) x e = elim (found_in (test y) y x (find test ys) e) 
 none_in : {A : Type 0} (test : Bool) (x : A) (others : Option A) → cond test (Some x) others ≡ None → (test ≡ false) × (others ≡ None)
 none_in true x others e = absurd cc
 none_in false x others e = (refl, e)
+
+-- what is none of all is not the one in between
+none_at : {A : Type 0} (test : A → Bool) (xs ys : List A) (x : A) → find test (xs ++ x ∷ ys) ≡ None → test x ≡ false
+none_at test [] ys x e = (none_in (test x) x (find test ys) e).0
+none_at test (y ∷ xs) ys x e = none_at test xs ys x (none_in (test y) y (find test (xs ++ x ∷ ys)) e).1
 
 skipped : {A : Type 0} (test : Bool) (x : A) (others : Option A) → test ≡ false → cond test (Some x) others ≡ others
 skipped test x others e = rw e refl
@@ -55,6 +60,7 @@ pub record IsAccepted (kind : Kind) (bytes : List ℕ) : Type 0 where
   pub beyond : applies errors.Beyond (Some kind) bytes ≡ false
 
 pub accepted : (kind : Kind) (bytes : List ℕ) → kind_at bytes ≡ Some kind → refusal bytes ≡ None → IsAccepted kind bytes
+unfolding refusal
 accepted kind bytes named none =
     let found : first_of (front_refusals ++ body_refusals) (Some kind) bytes ≡ None = ap (λ (k : Option Kind). first_of (front_refusals ++ body_refusals) k bytes) (sym named) ∙ none in
     let a = none_in _ _ _ found in
@@ -72,9 +78,24 @@ names_a_kind : (kind : Kind) (bytes : List ℕ) → applies errors.Kind (Some ki
 unfolding applies
 names_a_kind kind bytes = refl
 
+no_kind : (bytes : List ℕ) → applies errors.Kind None bytes ≡ false → ⊥
+unfolding applies
+no_kind bytes e = absurd cc
+
+kind_there : (bytes : List ℕ) (kind : Option Kind) → applies errors.Kind kind bytes ≡ false → (k : Kind) × (kind ≡ Some k)
+kind_there bytes (Some k) e = (k, refl)
+kind_there bytes None e = absurd (no_kind bytes e)
+
+-- bytes that nothing refuses name a kind
+pub kind_named : (bytes : List ℕ) → refusal bytes ≡ None → (kind : Kind) × (kind_at bytes ≡ Some kind)
+unfolding refusal
+kind_named bytes none =
+    kind_there bytes (kind_at bytes) (none_at (λ error. applies error (kind_at bytes) bytes) (errors.Short ∷ errors.Magic ∷ errors.Version ∷ []) body_refusals errors.Kind none)
+
 -- a header that is right leaves the refusals of the body
 pub past_front : (kind : Kind) (bytes : List ℕ) → kind_at bytes ≡ Some kind → applies errors.Short (Some kind) bytes ≡ false → applies errors.Magic (Some kind) bytes ≡ false → applies errors.Version (Some kind) bytes ≡ false
     → refusal bytes ≡ first_of body_refusals (Some kind) bytes
+unfolding refusal
 past_front kind bytes named short magic version =
     ap (λ (k : Option Kind). first_of (front_refusals ++ body_refusals) k bytes) named
     ∙ skipped _ _ _ short ∙ skipped _ _ _ magic ∙ skipped _ _ _ version ∙ skipped _ _ _ (names_a_kind kind bytes)

@@ -13,6 +13,9 @@ length_words_of [] = refl
 length_words_of (high ∷ []) = refl
 length_words_of (high ∷ low ∷ rest) = omega (arith, length_words_of rest)
 
+pub length_of_words : (bytes : List ℕ) → length bytes % 2 ≡ 0 → length bytes ≡ 2 * length (words_of bytes)
+length_of_words bytes even = omega (arith, length_words_of bytes)
+
 pub slice_get_words_of : (bytes : List ℕ) (place : ℕ) → place < length (words_of bytes) → slice_get (words_of bytes) place ≡ Some (number_at (2 * place) 2 bytes)
 unfolding words_of number_at
 slice_get_words_of [] place h = absurd (omega arith)
@@ -21,6 +24,15 @@ slice_get_words_of (high ∷ low ∷ rest) zero h = ap Some (omega arith)
 slice_get_words_of (high ∷ low ∷ rest) (suc place) h =
     let moved : 2 * suc place ≡ suc (suc (2 * place)) = omega arith in
     slice_get_words_of rest place (omega arith) ∙ ap (λ (k : ℕ). Some (big_number 2 (drop k (high ∷ low ∷ rest)))) (sym moved)
+
+pub drop_words_of : (place : ℕ) (bytes : List ℕ) → words_of (drop (2 * place) bytes) ≡ drop place (words_of bytes)
+unfolding words_of
+drop_words_of zero bytes = refl
+drop_words_of (suc place) [] = let moved : 2 * suc place ≡ suc (suc (2 * place)) = omega arith in ap (λ (k : ℕ). words_of (drop {A = ℕ} k [])) moved
+drop_words_of (suc place) (high ∷ []) = let moved : 2 * suc place ≡ suc (suc (2 * place)) = omega arith in ap (λ (k : ℕ). words_of (drop k (high ∷ []))) moved
+drop_words_of (suc place) (high ∷ low ∷ rest) =
+    let moved : 2 * suc place ≡ suc (suc (2 * place)) = omega arith in
+    ap (λ (k : ℕ). words_of (drop k (high ∷ low ∷ rest))) moved ∙ drop_words_of place rest
 
 -- the bytes of an even number of them spell their words
 pub spelled_words : (bytes : List ℕ) → length bytes % 2 ≡ 0 → IsBytes bytes → flat_map (big_bytes 2) (words_of bytes) ≡ bytes

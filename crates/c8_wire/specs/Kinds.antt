@@ -1,7 +1,8 @@
--- The kinds of datagrams, and how the body of each is laid out.
-use Rattle.std.specs.Prelude.{ℕ, ◌==◌, Bool, true, false, List, [], ◌∷◌, Option, find}
-use Rattle.c8_wire.specs.declared.head.Kind.{Kind}
-use Rattle.c8_wire.specs.declared.head.Kind.TheVariants as kinds
+-- The kinds of datagrams, and how the body of each is laid out. A new kind is a case more in each of these.
+use Rattle.std.specs.Prelude.{ℕ, ◌+◌, ◌==◌, Bool, true, false, List, [], ◌∷◌, Option, find}
+use Rattle.c8_wire.specs.declared.kinds.Kind.{Kind}
+use Rattle.c8_wire.specs.declared.kinds.Kind.TheVariants as kinds
+use Rattle.c8_wire.specs.Sizes.{header_length}
 
 -- the number of a kind, byte 3 of its datagrams
 abbrev pub code_of : Kind → ℕ
@@ -28,16 +29,24 @@ fixed_size kinds.Freeze = 6
 fixed_size kinds.Frozen = 12
 fixed_size kinds.Cut = 12
 
--- whether the body ends with a run: where it starts, its length, and so many key sets
+-- whether the body ends with a run: where it starts, how many key sets it has, and these
 abbrev pub has_run : Kind → Bool
+has_run kinds.Hello = false
+has_run kinds.Welcome = false
 has_run kinds.Data = true
+has_run kinds.Freeze = false
 has_run kinds.Frozen = true
 has_run kinds.Cut = true
-has_run _ = false
 
 -- whether the body begins with a player who leaves, and a byte 0
 abbrev pub names_leaver : Kind → Bool
+names_leaver kinds.Hello = false
+names_leaver kinds.Welcome = false
+names_leaver kinds.Data = false
 names_leaver kinds.Freeze = true
 names_leaver kinds.Frozen = true
 names_leaver kinds.Cut = true
-names_leaver _ = false
+
+-- the place of the key sets of a kind's run
+abbrev pub run_place : Kind → ℕ
+run_place kind = header_length + fixed_size kind

@@ -1,7 +1,10 @@
+pub mod Sizes
 pub mod Kinds
+pub mod Errors
 pub mod Packet
 pub mod Spelling
 pub mod Reading
 pub mod Refusal
+pub mod Read
 pub mod Lent
 pub mod Saying

@@ -1,9 +1,11 @@
 -- What a datagram says, apart from the bytes that spell it.
 use Rattle.std.specs.Prelude.{◌≡◌, ◌≢◌, ℕ, ◌+◌, ◌^◌, ◌<◌, ◌≤◌, List, length, slice_index}
-use Rattle.c8_wire.specs.declared.head.Kind.{Kind}
-use Rattle.c8_wire.specs.declared.head.Kind.TheVariants as kinds
+use Rattle.c8_wire.specs.declared.kinds.Kind.{Kind}
+use Rattle.c8_wire.specs.declared.kinds.Kind.TheVariants as kinds
+use Rattle.c8_wire.specs.Sizes.{longest_run, most_inputs}
 
--- which kind of datagram who says to whom, in which match, and the epochs of both
+-- Which kind of datagram who says to whom, in which match, and the epochs of both. Who says it and
+-- who is addressed are seats: those of players are 1 to 4.
 pub record HeadValue : Type 0 where
   pub kind : Kind
   pub session : ℕ
@@ -54,13 +56,9 @@ kind_of (Freeze m) = kinds.Freeze
 kind_of (Frozen m) = kinds.Frozen
 kind_of (Cut m) = kinds.Cut
 
--- the greatest length of a player's list of inputs, in any game
-abbrev pub most_inputs : ℕ
-most_inputs = 262148
-
--- a run of at most 64 inputs that ends at a place, or before
+-- a run of not too many inputs that ends at a place, or before
 pub record IsRun (start : ℕ) (words : List ℕ) (end : ℕ) : Type 0 where
-  pub short : length words ≤ 64
+  pub short : length words ≤ longest_run
   pub within : start + length words ≤ end
 
 pub record IsDataMessage (m : DataMessage) : Type 0 where
@@ -89,21 +87,28 @@ IsMessage (Freeze m) = IsFreezeMessage m
 IsMessage (Frozen m) = IsLeaverMessage m
 IsMessage (Cut m) = IsLeaverMessage m
 
--- a mark of 8 bytes, and key sets of 16 bits
-abbrev pub IsMark : List ℕ → Type 0
-IsMark mark = (length mark ≡ 8) × ((i : ℕ) → slice_index mark i < 2 ^ 8)
+-- bytes, and key sets of 16 bits
+abbrev pub AreBytes : List ℕ → Type 0
+AreBytes bytes = (i : ℕ) → slice_index bytes i < 2 ^ 8
 
 abbrev pub AreWords : List ℕ → Type 0
 AreWords words = (i : ℕ) → slice_index words i < 2 ^ 16
 
+-- a mark has 8 bytes
+abbrev pub IsMark : List ℕ → Type 0
+IsMark mark = (length mark ≡ 8) × AreBytes mark
+
 -- what else a message may say has room where it is spelled
 abbrev pub Fits : Message → Type 0
+Fits Hello = Unit {0}
+Fits (Welcome ack) = Unit {0}
 Fits (Data m) = IsMark m.mark × AreWords m.words
+Fits (Freeze m) = Unit {0}
 Fits (Frozen m) = AreWords m.words
 Fits (Cut m) = AreWords m.words
-Fits _ = Unit {0}
 
--- a header between two players, its numbers fitting their places
+-- A header between two players, its numbers fitting their places. A kind between other seats will
+-- have its own line here: the seats are then a condition by kind.
 pub record IsHead (head : HeadValue) : Type 0 where
   pub session : head.session < 2 ^ 64
   pub from_one : 1 ≤ head.from

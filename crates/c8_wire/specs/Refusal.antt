@@ -1,15 +1,33 @@
 -- The table of refusals: where each applies, and which is answered.
 use Rattle.std.specs.Prelude.{ℕ, ◌+◌, ◌*◌, ◌==◌, ◌||◌, ◌&&◌, Bool, false, not, nat_lt, nat_le, List, [], ◌∷◌, ◌++◌, length, slice_index, Option, Some, None, is_none, find, if◌then◌else◌}
-use Rattle.c8_wire.specs.declared.refusal.WireError.{WireError}
-use Rattle.c8_wire.specs.declared.refusal.WireError.TheVariants as errors
-use Rattle.c8_wire.specs.declared.head.Kind.{Kind}
-use Rattle.c8_wire.specs.declared.head.Kind.TheVariants as kinds
+use Rattle.c8_wire.specs.declared.error.WireError.{WireError}
+use Rattle.c8_wire.specs.declared.error.WireError.TheVariants as errors
+use Rattle.c8_wire.specs.declared.kinds.Kind.{Kind}
+use Rattle.c8_wire.specs.declared.kinds.Kind.TheVariants as kinds
+use Rattle.c8_wire.specs.Sizes.{header_length, longest_run, most_inputs}
 use Rattle.c8_wire.specs.Kinds.{fixed_size, has_run, names_leaver}
-use Rattle.c8_wire.specs.Packet.{most_inputs}
 use Rattle.c8_wire.specs.Reading.{number_at, kind_at, size_at}
 
 abbrev pub is_within : ℕ → ℕ → ℕ → Bool
 is_within least greatest number = nat_le least number && nat_le number greatest
+
+-- a seat of a player
+abbrev pub is_player : ℕ → Bool
+is_player seat = is_within 1 4 seat
+
+-- the body is not as long as the header says, or not as its kind wants
+abbrev pub is_misfit : Kind → List ℕ → Bool
+is_misfit kind bytes = not (length bytes == header_length + size_at bytes)
+    || (if has_run kind then nat_lt (size_at bytes) (fixed_size kind) else not (size_at bytes == fixed_size kind))
+
+-- the header does not name two players, or the leaver is none who may leave
+abbrev pub misnames_players : Kind → List ℕ → Bool
+misnames_players kind bytes = not (is_player (slice_index bytes 12)) || not (is_player (slice_index bytes 13))
+    || slice_index bytes 12 == slice_index bytes 13 || (names_leaver kind && not (is_within 2 4 (slice_index bytes 24)))
+
+-- the byte after the leaver is not 0
+abbrev pub fills_reserved : Kind → List ℕ → Bool
+fills_reserved kind bytes = names_leaver kind && not (slice_index bytes 25 == 0)
 
 -- a run's start and length stand in the last six bytes of the fixed part
 abbrev pub start_at : Kind → List ℕ → ℕ
@@ -21,7 +39,12 @@ count_at kind bytes = number_at (22 + fixed_size kind) 2 bytes
 abbrev pub run_end : Kind → List ℕ → ℕ
 run_end kind bytes = start_at kind bytes + count_at kind bytes
 
--- whether a number of inputs is above what a list of inputs may have, or a run goes past its end
+-- the run is too long, or not as long as the body has room for
+abbrev pub miscounts : Kind → List ℕ → Bool
+miscounts kind bytes = has_run kind
+    && (nat_lt longest_run (count_at kind bytes) || not (size_at bytes == fixed_size kind + 2 * count_at kind bytes))
+
+-- a number of inputs is above what a list of inputs may have, or a run goes past its end
 abbrev pub goes_beyond : Kind → List ℕ → Bool
 goes_beyond kinds.Hello bytes = false
 goes_beyond kinds.Welcome bytes = nat_lt most_inputs (number_at 24 4 bytes)
@@ -31,21 +54,23 @@ goes_beyond kinds.Freeze bytes = nat_lt most_inputs (number_at 26 4 bytes)
 goes_beyond kinds.Frozen bytes = nat_lt most_inputs (number_at 26 4 bytes) || nat_lt (number_at 26 4 bytes) (run_end kinds.Frozen bytes)
 goes_beyond kinds.Cut bytes = nat_lt most_inputs (number_at 26 4 bytes) || nat_lt (number_at 26 4 bytes) (run_end kinds.Cut bytes)
 
--- whether a refusal's condition holds of the bytes; the later ones want the kind
+-- whether there is a kind, and the test holds of it
+abbrev pub is_kind_and : Option Kind → (Kind → Bool) → Bool
+is_kind_and None test = false
+is_kind_and (Some kind) test = test kind
+
+-- Whether a refusal's condition holds of the bytes; the later ones want the kind. Wire version 2 will
+-- change `Version` and `Count`, and add a refusal between `Count` and `Beyond`.
 unfoldable pub applies : WireError → Option Kind → List ℕ → Bool
-applies errors.Short kind bytes = nat_lt (length bytes) 24
+applies errors.Short kind bytes = nat_lt (length bytes) header_length
 applies errors.Magic kind bytes = not (number_at 0 2 bytes == 0x4338)
 applies errors.Version kind bytes = not (slice_index bytes 2 == 1)
 applies errors.Kind kind bytes = is_none kind
-applies _ None bytes = false
-applies errors.Length (Some kind) bytes = not (length bytes == 24 + size_at bytes)
-    || (if has_run kind then nat_lt (size_at bytes) (fixed_size kind) else not (size_at bytes == fixed_size kind))
-applies errors.Player (Some kind) bytes = not (is_within 1 4 (slice_index bytes 12)) || not (is_within 1 4 (slice_index bytes 13))
-    || slice_index bytes 12 == slice_index bytes 13 || (names_leaver kind && not (is_within 2 4 (slice_index bytes 24)))
-applies errors.Reserved (Some kind) bytes = names_leaver kind && not (slice_index bytes 25 == 0)
-applies errors.Count (Some kind) bytes = has_run kind
-    && (nat_lt 64 (count_at kind bytes) || not (size_at bytes == fixed_size kind + 2 * count_at kind bytes))
-applies errors.Beyond (Some kind) bytes = goes_beyond kind bytes
+applies errors.Length kind bytes = is_kind_and kind (λ k. is_misfit k bytes)
+applies errors.Player kind bytes = is_kind_and kind (λ k. misnames_players k bytes)
+applies errors.Reserved kind bytes = is_kind_and kind (λ k. fills_reserved k bytes)
+applies errors.Count kind bytes = is_kind_and kind (λ k. miscounts k bytes)
+applies errors.Beyond kind bytes = is_kind_and kind (λ k. goes_beyond k bytes)
 
 -- the refusals in the order of the table: four on the header, five that want its kind
 abbrev pub front_refusals : List WireError
@@ -59,5 +84,5 @@ abbrev pub first_of : List WireError → Option Kind → List ℕ → Option Wir
 first_of refusals kind bytes = find (λ error. applies error kind bytes) refusals
 
 -- the refusal of the bytes, None where they are a datagram
-abbrev pub refusal : List ℕ → Option WireError
+unfoldable pub refusal : List ℕ → Option WireError
 refusal bytes = first_of (front_refusals ++ body_refusals) (kind_at bytes) bytes

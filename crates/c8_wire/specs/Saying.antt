@@ -1,9 +1,10 @@
--- The packet that a caller asks to be written.
-use Rattle.c8_wire.specs.declared.head.Head.{Head}
+-- The packet that a caller asks to be written, and what may be said.
+use Rattle.std.specs.Prelude.{◌≡◌}
+use Rattle.c8_wire.specs.declared.header.Head.{Head}
 use Rattle.c8_wire.specs.declared.said.Body.{Body}
 use Rattle.c8_wire.specs.declared.said.Body.TheVariants as bodies
 use Rattle.c8_wire.specs.declared.said.Said.{Said}
-use Rattle.c8_wire.specs.Packet.{HeadValue, Message, Hello, Welcome, Data, Freeze, Frozen, Cut, Packet}
+use Rattle.c8_wire.specs.Packet.{HeadValue, Message, Hello, Welcome, Data, Freeze, Frozen, Cut, Packet, IsMessage, kind_of}
 
 -- the values of a head
 abbrev pub head_value : Head → HeadValue
@@ -26,3 +27,9 @@ message_of (bodies.Cut leaver length start run) = Cut (record { leaver = leaver.
 
 abbrev pub packet_said : Said → Packet
 packet_said said = record { head = head_value said.head; message = message_of said.body }
+
+-- This may be said: the header names the kind of the body, whose numbers keep to their bounds. What
+-- else makes it a packet its types give. Seats that a kind asks for will be one condition more.
+pub record MaySay (said : Said) : Type 0 where
+  pub kind : said.head.kind ≡ kind_of (message_of said.body)
+  pub message : IsMessage (message_of said.body)

@@ -5,15 +5,24 @@ use Rattle.byteorder.specs.Endian.{big_bytes}
 use Rattle.c8_wire.specs.Kinds.{code_of}
 use Rattle.c8_wire.specs.Packet.{HeadValue, LeaverMessage, Message, Hello, Welcome, Data, Freeze, Frozen, Cut, Packet, IsPacket}
 
--- the header of a datagram whose body has so many bytes
+-- The header of a datagram whose body has so many bytes. Byte 2 is the wire version: a second version
+-- will be a field of the head, of which byte 2 and the bytes of a run's key sets then speak by cases.
 abbrev pub header_bytes : HeadValue → ℕ → List ℕ
 header_bytes head size =
     0x43 ∷ 0x38 ∷ 1 ∷ code_of head.kind ∷ [] ++ big_bytes 8 head.session ++ head.from ∷ head.to ∷ []
     ++ big_bytes 2 size ++ big_bytes 4 head.sender_epoch ++ big_bytes 4 head.addressee_epoch
 
+-- key sets, two bytes each
+abbrev pub words_bytes : List ℕ → List ℕ
+words_bytes words = flat_map (big_bytes 2) words
+
+-- these bytes of a run are those of its key sets
+abbrev pub SpellsWords : List ℕ → List ℕ → Type 0
+SpellsWords bytes words = bytes ≡ words_bytes words
+
 -- a run: where it starts, how many inputs it has, and their key sets
 abbrev pub run_bytes : ℕ → List ℕ → List ℕ
-run_bytes start words = big_bytes 4 start ++ big_bytes 2 (length words) ++ flat_map (big_bytes 2) words
+run_bytes start words = big_bytes 4 start ++ big_bytes 2 (length words) ++ words_bytes words
 
 -- a player who leaves, a byte 0, a number of its inputs, and a run of them
 abbrev pub leaver_bytes : LeaverMessage → List ℕ

@@ -1,13 +1,11 @@
 //! A datagram, by its kind.
 ghost use Rattle.std.specs.Prelude.{◌≡◌};
 
-use crate::cut::Cut;
-use crate::freeze::Freeze;
-use crate::frozen::Frozen;
+use crate::data::Data;
 use crate::handshake::{Hello, Welcome};
-use crate::head::Kind;
 use crate::header::Header;
-use crate::inputs::Data;
+use crate::kinds::Kind;
+use crate::leaving::{Cut, Freeze, Frozen};
 
 /// A datagram that lies in the bytes that came.
 #[derive(Clone, Copy)]
@@ -41,15 +39,15 @@ impl<'a> Datagram<'a> {
             },
             Datagram::Freeze(lent) => Header {
                 kind: Kind::Freeze,
-                bytes: lent.bytes,
+                bytes: lent.view.bytes,
             },
             Datagram::Frozen(lent) => Header {
                 kind: Kind::Frozen,
-                bytes: lent.bytes,
+                bytes: lent.view.bytes,
             },
             Datagram::Cut(lent) => Header {
                 kind: Kind::Cut,
-                bytes: lent.bytes,
+                bytes: lent.view.bytes,
             },
         }
     }

@@ -1,11 +1,12 @@
 //! HELLO and WELCOME, lent from their bytes.
-ghost use Rattle.std.specs.Prelude.{◌≡◌, length};
+ghost use Rattle.std.specs.Prelude.{◌≡◌, ◌≤◌, length};
 ghost use Rattle.std.proofs.Props.{props};
-ghost use Rattle.c8_wire.specs.declared.head.Kind.TheVariants as kinds;
+ghost use Rattle.c8_wire.specs.declared.kinds.Kind.TheVariants as kinds;
 ghost use Rattle.c8_wire.specs.Reading.{packet_at};
 ghost use Rattle.c8_wire.specs.Spelling.{Spells};
 
 use crate::numbers::u32_at;
+use crate::sizes::MOST_INPUTS;
 
 /// The sender asks for a link. It says nothing beside its header.
 #[derive(Clone, Copy)]
@@ -28,7 +29,8 @@ impl<'a> Welcome<'a> {
 
     /// How many inputs of the addressee the sender holds.
     pub fn ack(&self) -> u32
-        ensures { result ≡ ack_of self.now }
+        ensures value { result ≡ ack_of self.now }
+        ensures most { result ≤ MOST_INPUTS }
     {
         u32_at(self.bytes, 24)
     }

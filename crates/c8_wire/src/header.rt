@@ -1,11 +1,60 @@
-//! The header of a datagram, lent from its bytes.
-ghost use Rattle.std.specs.Prelude.{◌≡◌, ◌≤◌, length, Some};
+//! The header of a datagram: who says it to whom, in which match and epochs.
+ghost use Rattle.std.specs.Prelude.{◌≡◌, ◌≢◌, ◌≤◌, false, length, Some, MatchOption};
 ghost use Rattle.c8_wire.specs.Reading.{kind_at, head_at};
 ghost use Rattle.c8_wire.specs.Packet.{IsHead};
 
-use crate::head::{Head, Kind};
+use crate::kinds::Kind;
 use crate::numbers::{u32_at, u64_at};
 use c8_game::Player;
+
+/// Who says a datagram, or is addressed. So far players alone have seats, 1 to 4.
+#[derive(Clone, Copy, Debug, PartialEq, Eq)]
+pub struct Seat {
+    pub number: u8,
+    pub ghost from_one: { 1 ≤ number },
+    pub ghost to_four: { number ≤ 4 },
+}
+
+impl Seat {
+    ghost use Rattle.c8_wire.specs.Refusal.{is_player};
+
+    /// The player whose seat it is, if it is a player's.
+    pub fn player(self) -> Option<Player>
+        ensures { MatchOption result (is_player self.number ≡ false) (λ player. player.number ≡ self.number) }
+    {
+        if self.number <= 4 {
+            Some(Player {
+                number: self.number,
+            })
+        } else {
+            None
+        }
+    }
+}
+
+impl From<Player> for Seat {
+    ghost from_gives = { λ player seat. seat.number ≡ player.number };
+
+    fn from(player: Player) -> Seat {
+        Seat {
+            number: player.number,
+        }
+    }
+}
+
+/// What a header says, but for the length of the body.
+#[derive(Clone, Copy, Debug, PartialEq, Eq)]
+pub struct Head {
+    pub kind: Kind,
+    /// The match that the datagram belongs to.
+    pub session: u64,
+    pub from: Seat,
+    pub to: Seat,
+    pub sender_epoch: u32,
+    /// 0 if the sender doesn't know it.
+    pub addressee_epoch: u32,
+    pub ghost apart: { from.number ≢ to.number },
+}
 
 /// The header of a datagram. A field is read from the bytes when it is asked for.
 #[derive(Clone, Copy)]
@@ -33,18 +82,18 @@ impl<'a> Header<'a> {
         u64_at(self.bytes, 4)
     }
 
-    pub fn from(&self) -> Player
+    pub fn from(&self) -> Seat
         ensures { result.number ≡ (head_of self.now).from }
     {
-        Player {
+        Seat {
             number: self.bytes[12],
         }
     }
 
-    pub fn to(&self) -> Player
+    pub fn to(&self) -> Seat
         ensures { result.number ≡ (head_of self.now).to }
     {
-        Player {
+        Seat {
             number: self.bytes[13],
         }
     }

@@ -2,35 +2,37 @@
 //!
 //! `view` lends the parts of a datagram from the bytes that came; `write` spells one. What a datagram
 //! says is a `Packet` (`specs/Packet.antt`), its one spelling and the first refusal of bytes that
-//! spell nothing are in `specs/Spelling.antt` and `specs/Refusal.antt`. Nothing here takes memory.
+//! spell nothing are in `specs/Spelling.antt` and `specs/Refusal.antt`; `specs/Read.antt` joins both,
+//! for callers. `laws` has what else callers may rest on. Nothing here takes memory.
 #![tactic(auto)]
 
-mod cut;
+mod data;
 mod datagram;
-mod freeze;
-mod frozen;
+mod error;
 mod handshake;
-mod head;
 mod header;
-mod inputs;
+mod kinds;
+pub mod laws;
+mod leaving;
 mod numbers;
 mod reading;
-mod refusal;
 mod run;
 mod said;
+mod sizes;
+mod writing;
 
-pub use cut::Cut;
+pub use data::Data;
 pub use datagram::Datagram;
-pub use freeze::Freeze;
-pub use frozen::Frozen;
+pub use error::WireError;
 pub use handshake::{Hello, Welcome};
-pub use head::{Head, Kind};
-pub use header::Header;
-pub use inputs::Data;
+pub use header::{Head, Header, Seat};
+pub use kinds::Kind;
+pub use leaving::{Cut, Freeze, Frozen};
 pub use reading::view;
-pub use refusal::WireError;
 pub use run::{Run, Words};
-pub use said::{Body, Said, write};
+pub use said::{Body, Said};
+pub use sizes::{HEADER_LENGTH, LONGEST_DATAGRAM, LONGEST_RUN, MOST_INPUTS};
+pub use writing::write;
 
 #[cfg(test)]
 mod tests;

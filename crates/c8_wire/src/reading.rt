@@ -1,34 +1,37 @@
 //! Bytes are a datagram, or refused.
-ghost use Rattle.std.specs.Prelude.{◌≡◌, ◌+◌, ◌≤◌, not, length, Option, Some, None, MatchResult, IfOk, IfErr, OnOk, IsOkAnd};
+ghost use Rattle.std.specs.Prelude.{◌≡◌, ◌+◌, ◌≤◌, not, length, Option, Some, None, Ok, Err, MatchResult, IfOk, IfErr, OnOk, IsOkAnd};
 ghost use Rattle.c8_wire.specs.Kinds.{fixed_size};
 ghost use Rattle.std.specs.Bool.{OnFalse};
-ghost use Rattle.c8_wire.specs.declared.refusal.WireError.TheVariants as errors;
 ghost use Rattle.c8_wire.specs.Packet.{Packet};
 ghost use Rattle.c8_wire.specs.Spelling.{Spells};
 ghost use Rattle.c8_wire.specs.Reading.{kind_at, packet_at};
-ghost use Rattle.c8_wire.specs.Refusal.{applies, first_of, body_refusals, refusal, run_end};
+ghost use Rattle.c8_wire.specs.Refusal.{first_of, body_refusals, refusal, is_misfit, misnames_players, fills_reserved, miscounts, goes_beyond, run_end};
+ghost use Rattle.c8_wire.specs.Read.{read};
 ghost use Rattle.c8_wire.specs.Lent.{bytes_of, packet_of};
 
-use crate::cut::Cut;
+use crate::data::Data;
 use crate::datagram::Datagram;
-use crate::freeze::Freeze;
-use crate::frozen::Frozen;
+use crate::error::WireError;
 use crate::handshake::{Hello, Welcome};
-use crate::head::Kind;
-use crate::inputs::Data;
+use crate::kinds::Kind;
+use crate::leaving::{Cut, Freeze, Frozen, Leaving};
 use crate::numbers::{u16_at, u32_at};
-use crate::refusal::WireError;
-
-/// The greatest length of a list of inputs, in any game.
-const MOST_INPUTS: u32 = 262148;
+use crate::sizes::{HEADER_LENGTH, LONGEST_RUN, MOST_INPUTS};
 
 /// The datagram that the bytes spell, lent from them; else the first refusal of `WireError`.
 pub fn view(bytes: &[u8]) -> Result<Datagram<'_>, WireError>
+    // The answer is what the bytes say.
+    ensures answer { MatchResult result
+        (λ datagram. read bytes.now ≡ Ok (packet_of datagram))
+        (λ error. read bytes.now ≡ Err error) }
     // What is answered is spelled by the bytes.
     ensures found { IfOk result (λ datagram. Spells bytes.now (packet_of datagram)) }
     // What the bytes spell is answered.
     ensures only { (p : Packet) → Spells bytes.now p → IsOkAnd result (λ datagram. packet_of datagram ≡ p) }
-    ensures refused { IfErr result (λ error. refusal bytes.now ≡ Some error) }
+    // Nothing refuses what is answered, and what is refused has that refusal first.
+    ensures refused { MatchResult result
+        (λ _. refusal bytes.now ≡ None)
+        (λ error. refusal bytes.now ≡ Some error) }
     ensures lent { IfOk result (λ datagram. bytes_of datagram ≡ bytes.now) }
 {
     let kind = checked_kind(bytes)?;
@@ -47,9 +50,15 @@ fn datagram_of(kind: Kind, bytes: &[u8]) -> Datagram<'_>
         Kind::Hello => Datagram::Hello(Hello { bytes }),
         Kind::Welcome => Datagram::Welcome(Welcome { bytes }),
         Kind::Data => Datagram::Data(Data { bytes }),
-        Kind::Freeze => Datagram::Freeze(Freeze { bytes }),
-        Kind::Frozen => Datagram::Frozen(Frozen { bytes }),
-        Kind::Cut => Datagram::Cut(Cut { bytes }),
+        Kind::Freeze => Datagram::Freeze(Freeze {
+            view: Leaving { bytes },
+        }),
+        Kind::Frozen => Datagram::Frozen(Frozen {
+            view: Leaving { bytes },
+        }),
+        Kind::Cut => Datagram::Cut(Cut {
+            view: Leaving { bytes },
+        }),
     }
 }
 
@@ -67,14 +76,14 @@ fn checked_kind(bytes: &[u8]) -> Result<Kind, WireError>
 }
 
 /// The kind that the header names, if none of the first four refusals applies.
-#[tactic(auto, unfolding(crate::specs::Refusal::applies))]
+#[tactic(auto, unfolding(crate::specs::Refusal::refusal, crate::specs::Refusal::applies))]
 fn named_kind(bytes: &[u8]) -> Result<Kind, WireError>
     ensures long { OnOk result (24 ≤ length bytes.now) }
     ensures kind { IfOk result (λ kind. kind_at bytes.now ≡ Some kind) }
     ensures rest { IfOk result (λ kind. refusal bytes.now ≡ first_of body_refusals (Some kind) bytes.now) }
     ensures refused { IfErr result (λ error. refusal bytes.now ≡ Some error) }
 {
-    if bytes.len() < 24 {
+    if bytes.len() < HEADER_LENGTH {
         return Err(WireError::Short);
     }
     if u16_at(bytes, 0) != 0x4338 {
@@ -90,6 +99,7 @@ fn named_kind(bytes: &[u8]) -> Result<Kind, WireError>
 }
 
 /// The first of the other refusals that applies to a datagram of this kind.
+#[tactic(auto, unfolding(crate::specs::Refusal::applies))]
 fn body_refusal(kind: Kind, bytes: &[u8]) -> Option<WireError>
     requires { 24 ≤ length bytes.now }
     ensures { result ≡ first_of body_refusals (Some kind) bytes.now }
@@ -113,24 +123,22 @@ fn body_refusal(kind: Kind, bytes: &[u8]) -> Option<WireError>
 }
 
 /// Whether the body is not as long as the header says, or not as its kind wants.
-#[tactic(auto, unfolding(crate::specs::Refusal::applies))]
 fn is_misfit(kind: Kind, bytes: &[u8]) -> bool
     requires { 24 ≤ length bytes.now }
-    ensures value { result ≡ applies errors.Length (Some kind) bytes.now }
+    ensures value { result ≡ is_misfit kind bytes.now }
     ensures long { OnFalse result (24 + fixed_size kind ≤ length bytes.now) }
 {
     let size = usize::from(u16_at(bytes, 14));
     let fixed = kind.fixed_size();
-    let mut is_misfit = bytes.len() - 24 != size;
+    let mut is_misfit = bytes.len() - HEADER_LENGTH != size;
     is_misfit |= size < fixed || (!kind.has_run() && size > fixed);
     is_misfit
 }
 
 /// Whether the header does not name two players, or the leaver is none who may leave.
-#[tactic(auto, unfolding(crate::specs::Refusal::applies))]
 fn misnames_players(kind: Kind, bytes: &[u8]) -> bool
     requires { 24 + fixed_size kind ≤ length bytes.now }
-    ensures { result ≡ applies errors.Player (Some kind) bytes.now }
+    ensures { result ≡ misnames_players kind bytes.now }
 {
     let from = bytes[12];
     let to = bytes[13];
@@ -139,33 +147,30 @@ fn misnames_players(kind: Kind, bytes: &[u8]) -> bool
     misnames
 }
 
-/// Whether the byte behind the leaver is not 0.
-#[tactic(auto, unfolding(crate::specs::Refusal::applies))]
+/// Whether the byte after the leaver is not 0.
 fn fills_reserved(kind: Kind, bytes: &[u8]) -> bool
     requires { 24 + fixed_size kind ≤ length bytes.now }
-    ensures { result ≡ applies errors.Reserved (Some kind) bytes.now }
+    ensures { result ≡ fills_reserved kind bytes.now }
 {
     kind.names_leaver() && bytes[25] != 0
 }
 
 /// Whether the run is longer than 64, or not as long as the body has room for.
-#[tactic(auto, unfolding(crate::specs::Refusal::applies))]
 fn miscounts(kind: Kind, bytes: &[u8]) -> bool
     requires { 24 + fixed_size kind ≤ length bytes.now }
-    ensures { result ≡ applies errors.Count (Some kind) bytes.now }
+    ensures { result ≡ miscounts kind bytes.now }
 {
     let size = usize::from(u16_at(bytes, 14));
     let count = usize::from(u16_at(bytes, 22 + kind.fixed_size()));
-    let mut miscounts = count > 64;
+    let mut miscounts = count > LONGEST_RUN;
     miscounts |= size != kind.fixed_size() + 2 * count;
     kind.has_run() && miscounts
 }
 
 /// Whether a number of inputs is above what a game may have, or a run goes past its end.
-#[tactic(auto, unfolding(crate::specs::Refusal::applies))]
 fn goes_beyond(kind: Kind, bytes: &[u8]) -> bool
     requires { 24 + fixed_size kind ≤ length bytes.now }
-    ensures { result ≡ applies errors.Beyond (Some kind) bytes.now }
+    ensures { result ≡ goes_beyond kind bytes.now }
 {
     match kind {
         Kind::Hello => false,

@@ -1,10 +1,11 @@
+//! What bytes are refused, and how. `distinct` has datagrams whose numbers all differ.
 ghost use Rattle.std.specs.Prelude.{◌≡◌, ◌+◌, ◌≤◌, length};
-ghost use Rattle.c8_wire.specs.Packet.{IsMessage, kind_of};
-ghost use Rattle.c8_wire.specs.Saying.{message_of};
 
 use super::*;
-use c8_game::Player;
 use std::test::Fail;
+
+mod distinct;
+mod errors;
 
 const HELLO: [u8; 24] = [
     0x43, 0x38, 0x01, 0x01, 0x01, 0x02, 0x03, 0x04, 0x05, 0x06, 0x07, 0x08, 0x01, 0x02, 0x00, 0x00,
@@ -76,33 +77,6 @@ fn refused_with_run(bytes: &[u8], fixed: u8, count: u8, inputs: u8) -> Option<Wi
     refused(&all[..usize::from(fixed) + 24 + 2 * usize::from(count)])
 }
 
-fn head(kind: Kind) -> Head
-    ensures { result.kind ≡ kind }
-{
-    Head {
-        kind,
-        session: 0x0102030405060708,
-        from: Player { number: 1 },
-        to: Player { number: 2 },
-        sender_epoch: 1,
-        addressee_epoch: 1,
-    }
-}
-
-#[test]
-fn reads_a_header(rt: HostRuntime) -> Result<(), Fail> {
-    let header = view(&HELLO)?.header();
-    assert_eq!(rt; header.head(), head(Kind::Hello));
-    assert_eq!(rt; header.kind(), Kind::Hello);
-    assert_eq!(rt; header.session(), 0x0102030405060708);
-    assert_eq!(rt; header.from().number, 1);
-    assert_eq!(rt; header.to().number, 2);
-    assert_eq!(rt; header.sender_epoch(), 1);
-    assert_eq!(rt; header.addressee_epoch(), 1);
-    assert_eq!(rt; Kind::from_code(Kind::Cut.code()), Some(Kind::Cut));
-    Ok(())
-}
-
 #[test]
 fn reads_data(rt: HostRuntime) -> Result<(), Fail> {
     let Datagram::Data(lent) = view(&DATA)? else {
@@ -118,40 +92,6 @@ fn reads_data(rt: HostRuntime) -> Result<(), Fail> {
     assert_eq!(rt; run.get(0), 0x20);
     assert_eq!(rt; run.iter().next(), Some(0x20));
     assert_eq!(rt; run.bytes(), [0x00, 0x20].as_slice());
-    Ok(())
-}
-
-#[test]
-fn reads_a_welcome_and_a_freeze(rt: HostRuntime) -> Result<(), Fail> {
-    let Datagram::Welcome(lent) = view(&WELCOME)? else {
-        return Err("no WELCOME")?;
-    };
-    assert_eq!(rt; lent.ack(), 10);
-    let Datagram::Freeze(lent) = view(&FREEZE)? else {
-        return Err("no FREEZE")?;
-    };
-    assert_eq!(rt; lent.leaver().number, 3);
-    assert_eq!(rt; lent.have(), 8);
-    Ok(())
-}
-
-#[test]
-fn reads_a_frozen_and_a_cut(rt: HostRuntime) -> Result<(), Fail> {
-    let Datagram::Frozen(lent) = view(&FROZEN)? else {
-        return Err("no FROZEN")?;
-    };
-    assert_eq!(rt; lent.leaver().number, 3);
-    assert_eq!(rt; lent.held(), 10);
-    assert_eq!(rt; lent.start(), 8);
-    assert_eq!(rt; lent.run().bytes(), [0x00, 0x04, 0x80, 0x00].as_slice());
-    let Datagram::Cut(lent) = view(&CUT)? else {
-        return Err("no CUT")?;
-    };
-    assert_eq!(rt; lent.leaver().number, 3);
-    assert_eq!(rt; lent.length(), 10);
-    assert_eq!(rt; lent.start(), 8);
-    assert_eq!(rt; lent.run().iter().count(), 2);
-    assert_eq!(rt; lent.run().bytes(), [0x00, 0x04, 0x80, 0x00].as_slice());
     Ok(())
 }
 
@@ -347,53 +287,4 @@ fn takes_up_to_64_inputs(rt: HostRuntime) {
             Some(WireError::Count)
         );
     }
-}
-
-/// Whether a datagram is written as these bytes, and what stood behind them stays.
-fn is_written(kind: Kind, body: Body<'_>, bytes: &[u8]) -> bool
-    requires kind { kind ≡ kind_of (message_of body) }
-    requires message { IsMessage (message_of body) }
-{
-    let said = &Said {
-        head: head(kind),
-        body,
-    };
-    let mut out = [0x77; 174];
-    let length = write(said, &mut out);
-    let (front, rest) = out.split_at(length);
-    front == bytes && rest.iter().all(|byte| *byte == 0x77)
-}
-
-#[test]
-fn writes_hello_welcome_and_data(rt: HostRuntime) {
-    assert!(rt; is_written(Kind::Hello, Body::Hello, &HELLO));
-    assert!(rt; is_written(Kind::Welcome, Body::Welcome { ack: 10 }, &WELCOME));
-    let body = Body::Data {
-        ack: 0,
-        mark_frame: 0,
-        mark: MARK,
-        start: 0,
-        run: &[0x20],
-    };
-    assert!(rt; is_written(Kind::Data, body, &DATA));
-}
-
-#[test]
-fn writes_freeze_frozen_and_cut(rt: HostRuntime) {
-    let leaver = Player { number: 3 };
-    assert!(rt; is_written(Kind::Freeze, Body::Freeze { leaver, have: 8 }, &FREEZE));
-    let body = Body::Frozen {
-        leaver,
-        held: 10,
-        start: 8,
-        run: &[0x0004, 0x8000],
-    };
-    assert!(rt; is_written(Kind::Frozen, body, &FROZEN));
-    let body = Body::Cut {
-        leaver,
-        length: 10,
-        start: 8,
-        run: &[0x0004, 0x8000],
-    };
-    assert!(rt; is_written(Kind::Cut, body, &CUT));
 }

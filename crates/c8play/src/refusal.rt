@@ -44,7 +44,7 @@ pub enum Refusal {
     Keys(KeysError),
     #[error("refused: hex {0}")]
     Hex(HexError),
-    #[error("refused: wire {0}")]
+    #[error("refused: wire {} {}", .0.number(), .0.name())]
     Wire(WireError),
     /// A file that cannot be read, or is too long for a text.
     #[error("refused: disk 1 Failed")]

@@ -1,0 +1,8 @@
+use Rattle.c8_hand.proofs.LinkLemmas.{sender_link, other_link}
+use Rattle.c8_hand.proofs.laws.hearing_changes_one_link.Goals as goal
+
+pub returns-clause-sender : goal.returns-clause-sender
+returns-clause-sender c = sender_link
+
+pub returns-clause-others : goal.returns-clause-others
+returns-clause-others c = other_link

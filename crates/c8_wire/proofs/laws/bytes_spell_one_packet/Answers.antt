@@ -1,0 +1,5 @@
+use Rattle.c8_wire.proofs.ReadLemmas.{one_packet}
+use Rattle.c8_wire.proofs.laws.bytes_spell_one_packet.Goals as goal
+
+pub returns : goal.returns
+returns c = one_packet

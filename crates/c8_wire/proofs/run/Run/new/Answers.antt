@@ -1,0 +1,10 @@
+use Rattle.std.proofs.Common.{sym, arith}
+use Rattle.c8_wire.proofs.WordLemmas.{spelled_words}
+use Rattle.c8_wire.proofs.run.Run.new.Goals as goal
+
+pub invariant_of-result : goal.invariant_of-result
+invariant_of-result c = record {
+  even = c.requires.even;
+  short = omega arith;
+  spells = sym (spelled_words c.args.bytes.now c.requires.even (λ i. omega (arith, c.type_inv.bytes i)));
+}

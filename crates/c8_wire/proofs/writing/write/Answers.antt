@@ -1,0 +1,42 @@
+use Rattle.std.proofs.Common.{◌≡◌, ◌++◌, [], ℕ, List, sym, ap, ◌∙◌, arith, length}
+use Rattle.std.proofs.lemmas.List.{take_at, length-append}
+use Rattle.c8_wire.specs.Spelling.{header_bytes, body_bytes, spelling}
+use Rattle.c8_wire.specs.Saying.{head_value, message_of}
+use Rattle.c8_wire.proofs.PacketLemmas.{spells_both, body_fits}
+use Rattle.c8_wire.proofs.writing.write.Goals as goal
+
+-- what an empty list has after bytes were appended
+begun : (old new bytes : List ℕ) → old ≡ [] → new ≡ old ++ bytes → new ≡ bytes
+begun old new bytes empty put = put ∙ ap (λ (front : List ℕ). front ++ bytes) empty
+
+pub put_header-requires-clause-size : goal.put_header-requires-clause-size
+put_header-requires-clause-size c =
+    let body = begun _ _ _ c.new-body.ensures c.put_body.ensures.bytes in
+    omega (arith, body_fits (message_of c.args.said.now.body) c.put_body.ensures.fits c.requires.message, ap length body, c.len.ensures.value)
+
+pub put-requires : goal.put-requires
+put-requires c =
+    let body = begun _ _ _ c.new-body.ensures c.put_body.ensures.bytes in
+    let header = begun _ _ _ c.new-datagram.ensures c.put_header.ensures.bytes in
+    omega (arith, body_fits (message_of c.args.said.now.body) c.put_body.ensures.fits c.requires.message, ap length body, ap length header, ap length c.as_slice.ensures.value)
+
+pub returns-clause-length : goal.returns-clause-length
+unfolding spelling
+returns-clause-length c =
+    let body = begun _ _ _ c.new-body.ensures c.put_body.ensures.bytes in
+    let header = begun _ _ _ c.new-datagram.ensures c.put_header.ensures.bytes in
+    omega (arith, length-append c.put_header.new.out.items c.as_slice.result.now, ap length body, ap length header, ap length c.as_slice.ensures.value, ap length c.put.ensures.bytes, c.len-size.ensures.value)
+
+pub returns-clause-spelled : goal.returns-clause-spelled
+returns-clause-spelled c =
+    let message = message_of c.args.said.now.body in
+    let head = head_value c.args.said.now.head in
+    let body = begun _ _ _ c.new-body.ensures c.put_body.ensures.bytes in
+    let header = begun _ _ _ c.new-datagram.ensures c.put_header.ensures.bytes in
+    let size : c.len.result ≡ length (body_bytes message) = c.len.ensures.value ∙ ap length body in
+    let whole : c.put.new.out.items ≡ header_bytes head (length (body_bytes message)) ++ body_bytes message =
+    c.put.ensures.bytes ∙ ap (λ (front : List ℕ). front ++ c.as_slice.result.now) (header ∙ ap (header_bytes head) size)
+    ∙ ap (λ (back : List ℕ). header_bytes head (length (body_bytes message)) ++ back) (c.as_slice.ensures.value ∙ body) in
+    let copied = c.copy_from_slice.ensures.after ∙ c.as_slice-2.ensures.value in
+    let front = take_at c.copy_from_slice.new.self _ c.len-size.result (ap length copied ∙ sym c.len-size.ensures.value) in
+    spells_both _ head message c.put_header.ensures.head c.requires.kind c.put_body.ensures.fits c.requires.message (front ∙ copied ∙ whole)

@@ -1,0 +1,68 @@
+//! DATA, lent from its bytes.
+ghost use Rattle.std.specs.Prelude.{◌≡◌, ◌≤◌, ◌+◌, ◌*◌, length};
+ghost use Rattle.std.proofs.Props.{props};
+ghost use Rattle.c8_wire.specs.declared.kinds.Kind.TheVariants as kinds;
+ghost use Rattle.c8_wire.specs.Reading.{number_at, packet_at};
+ghost use Rattle.c8_wire.specs.Spelling.{Spells};
+
+use crate::numbers::u32_at;
+use crate::run::Run;
+use crate::sizes::MOST_INPUTS;
+
+/// The sender's inputs.
+#[derive(Clone, Copy)]
+pub struct Data<'a> {
+    pub(crate) bytes: &'a [u8],
+    pub(crate) ghost size: { length bytes.now ≡ 46 + 2 * number_at 44 2 bytes.now },
+    pub(crate) ghost short: { number_at 44 2 bytes.now ≤ 64 },
+    pub(crate) ghost spelled: { Spells bytes.now (packet_at kinds.Data bytes.now) } by { Prim.hlevel props },
+}
+
+impl<'a> Data<'a> {
+    ghost use Rattle.c8_wire.specs.Lent.{bytes_of, data_of, words, spelled, run_slice};
+    ghost use Rattle.c8_wire.specs.declared.datagram.Datagram.TheVariants as datagrams;
+
+    /// How many inputs of the addressee the sender holds.
+    pub fn ack(&self) -> u32
+        ensures value { result ≡ (data_of self.now).ack }
+        ensures most { result ≤ MOST_INPUTS }
+    {
+        u32_at(self.bytes, 24)
+    }
+
+    /// How many confirmed frames the mark stands for.
+    pub fn mark_frame(&self) -> u32
+        ensures value { result ≡ (data_of self.now).mark_frame }
+        ensures most { result ≤ MOST_INPUTS }
+    {
+        u32_at(self.bytes, 28)
+    }
+
+    /// The mark of that many confirmed frames.
+    pub fn mark(&self) -> [u8; 8]
+        ensures { result ≡ (data_of self.now).mark }
+    {
+        let (_, rest) = self.bytes.split_at(32);
+        let [a, b, c, d, e, f, g, h, ..] = rest else {
+            unreachable!()
+        };
+        [*a, *b, *c, *d, *e, *f, *g, *h]
+    }
+
+    /// The place of the run's first input in the sender's inputs.
+    pub fn start(&self) -> u32
+        ensures value { result ≡ (data_of self.now).start }
+        ensures within { result + length (data_of self.now).words ≤ MOST_INPUTS }
+    {
+        u32_at(self.bytes, 40)
+    }
+
+    /// The inputs, lent from the bytes that came: those after the first 46.
+    pub fn run(&self) -> Run<'a>
+        ensures words { words result ≡ (data_of self.now).words }
+        ensures slice { spelled result ≡ run_slice kinds.Data (bytes_of (datagrams.Data self.now)) }
+    {
+        let (_, bytes) = self.bytes.split_at(46);
+        Run::new(bytes)
+    }
+}

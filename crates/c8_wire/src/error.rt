@@ -1,0 +1,71 @@
+//! Why bytes are no datagram.
+ghost use Rattle.std.specs.Prelude.{◌≡◌};
+ghost use Rattle.c8_wire.specs.Errors.{number_of};
+
+use thiserror::Error;
+
+/// The first reason, in this order, why bytes are no datagram.
+#[derive(Clone, Copy, Debug, PartialEq, Eq, Error)]
+pub enum WireError {
+    /// Fewer than 24 bytes.
+    #[error("fewer than 24 bytes")]
+    Short,
+    /// The first two bytes are not 43 38 (hexadecimal).
+    #[error("the first two bytes are those of no datagram")]
+    Magic,
+    /// Byte 2 is not 1.
+    #[error("another version of the format")]
+    Version,
+    /// Byte 3 is the number of no kind.
+    #[error("a datagram of no known kind")]
+    Kind,
+    /// The body is not as long as the header says, or not as its kind wants.
+    #[error("the body has another length than it should have")]
+    Length,
+    /// The sender or the addressee is not 1 to 4, or both are the same; or the leaver is not 2 to 4.
+    #[error("a player who cannot stand there")]
+    Player,
+    /// The byte after the leaver, which must be 0, is not.
+    #[error("a byte that must be 0 is not")]
+    Reserved,
+    /// More than 64 inputs, or not as many as the body has room for.
+    #[error("more inputs than allowed, or not as many as there is room for")]
+    Count,
+    /// A number above 262148, which no game reaches; or a run past that number in DATA, past the inputs
+    /// that are held in FROZEN, past the length in CUT.
+    #[error("a number of inputs, or the end of a run, is too great")]
+    Beyond,
+}
+
+impl WireError {
+    /// The number that stands for it in what a program prints.
+    pub fn number(self) -> u8
+        ensures { result ≡ number_of self }
+    {
+        match self {
+            WireError::Short => 1,
+            WireError::Magic => 2,
+            WireError::Version => 3,
+            WireError::Kind => 4,
+            WireError::Length => 5,
+            WireError::Player => 6,
+            WireError::Reserved => 7,
+            WireError::Count => 8,
+            WireError::Beyond => 9,
+        }
+    }
+
+    pub fn name(self) -> &'static str {
+        match self {
+            WireError::Short => "Short",
+            WireError::Magic => "Magic",
+            WireError::Version => "Version",
+            WireError::Kind => "Kind",
+            WireError::Length => "Length",
+            WireError::Player => "Player",
+            WireError::Reserved => "Reserved",
+            WireError::Count => "Count",
+            WireError::Beyond => "Beyond",
+        }
+    }
+}

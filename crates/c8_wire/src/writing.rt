@@ -1,0 +1,130 @@
+//! What is said is written as the bytes that spell it.
+ghost use Rattle.std.specs.Prelude.{◌≡◌, ℕ, [], ◌∷◌, ◌+◌, ◌*◌, ◌^◌, ◌<◌, ◌≤◌, slice_index, ◌++◌, length, take, drop};
+ghost use Rattle.byteorder.specs.Endian.{big_bytes};
+ghost use Rattle.arrayvec.specs.ArrayVec.{array_vec_len};
+ghost use Rattle.c8_wire.specs.Packet.{IsHead, Fits, IsMessage};
+ghost use Rattle.c8_wire.specs.Spelling.{header_bytes, words_bytes, run_bytes, body_bytes, spelling, Spells};
+ghost use Rattle.c8_wire.specs.Saying.{head_value, message_of, packet_said, MaySay};
+
+use crate::header::Head;
+use crate::said::{Body, Said};
+use crate::sizes::LONGEST_DATAGRAM;
+use arrayvec::ArrayVec;
+use c8_game::Player;
+
+/// Writes a datagram to the front of `out`, and answers its length, 24 to 174. The bytes after it
+/// stay.
+pub fn write(said: &Said<'_>, out: &mut [u8; LONGEST_DATAGRAM]) -> usize
+    requires { MaySay said.now }
+    ensures spelled { Spells (take result out.new) (packet_said said.now) }
+    ensures length { result ≡ length (spelling (packet_said said.now)) }
+    ensures rest { drop result out.new ≡ drop result out.old }
+    ensures fits { result ≤ LONGEST_DATAGRAM }
+{
+    let mut body = ArrayVec::new();
+    put_body(&said.body, &mut body);
+    let mut datagram = ArrayVec::new();
+    put_header(&said.head, body.len(), &mut datagram);
+    put(body.as_slice(), &mut datagram);
+    let size = datagram.len();
+    out[..size].copy_from_slice(datagram.as_slice());
+    size
+}
+
+/// Appends the header of a datagram whose body has `size` bytes.
+fn put_header(head: &Head, size: usize, out: &mut ArrayVec<u8, LONGEST_DATAGRAM>)
+    requires room { array_vec_len out.old + 24 ≤ 174 }
+    requires size { size ≤ 150 }
+    ensures bytes { out.new.items ≡ out.old.items ++ header_bytes (head_value head.now) size }
+    ensures head { IsHead (head_value head.now) }
+{
+    put(&[0x43, 0x38, 1, head.kind.code()], out);
+    put(&head.session.to_be_bytes(), out);
+    put(&[head.from.number, head.to.number], out);
+    put(&(size as u16).to_be_bytes(), out);
+    put(&head.sender_epoch.to_be_bytes(), out);
+    put(&head.addressee_epoch.to_be_bytes(), out);
+}
+
+/// Appends the body.
+fn put_body(body: &Body<'_>, out: &mut ArrayVec<u8, LONGEST_DATAGRAM>)
+    requires room { array_vec_len out.old + 150 ≤ 174 }
+    requires message { IsMessage (message_of body.now) }
+    ensures bytes { out.new.items ≡ out.old.items ++ body_bytes (message_of body.now) }
+    ensures fits { Fits (message_of body.now) }
+{
+    match body {
+        Body::Hello => {}
+        Body::Welcome { ack } => put(&ack.to_be_bytes(), out),
+        Body::Data {
+            ack,
+            mark_frame,
+            mark,
+            start,
+            run,
+        } => {
+            put(&ack.to_be_bytes(), out);
+            put(&mark_frame.to_be_bytes(), out);
+            put(mark, out);
+            put_run(*start, run, out);
+        }
+        Body::Freeze { leaver, have } => put_leaver(leaver, *have, out),
+        Body::Frozen {
+            leaver,
+            held,
+            start,
+            run,
+        } => {
+            put_leaver(leaver, *held, out);
+            put_run(*start, run, out);
+        }
+        Body::Cut {
+            leaver,
+            length,
+            start,
+            run,
+        } => {
+            put_leaver(leaver, *length, out);
+            put_run(*start, run, out);
+        }
+    }
+}
+
+/// Appends a player who leaves, a byte 0 and a number of its inputs.
+fn put_leaver(leaver: &Player, inputs: u32, out: &mut ArrayVec<u8, LONGEST_DATAGRAM>)
+    requires { array_vec_len out.old + 6 ≤ 174 }
+    ensures { out.new.items ≡ out.old.items ++ (leaver.now.number ∷ 0 ∷ [] ++ big_bytes 4 inputs) }
+{
+    put(&[leaver.number, 0], out);
+    put(&inputs.to_be_bytes(), out);
+}
+
+/// Appends a run: where it starts, how many inputs it has, and their key sets.
+fn put_run(start: u32, run: &[u16], out: &mut ArrayVec<u8, LONGEST_DATAGRAM>)
+    requires { array_vec_len out.old + 6 + 2 * length run.now ≤ 174 }
+    ensures bytes { out.new.items ≡ out.old.items ++ run_bytes start run.now }
+    ensures fits { (i : ℕ) → slice_index run.now i < 2 ^ 16 }
+{
+    put(&start.to_be_bytes(), out);
+    put(&(run.len() as u16).to_be_bytes(), out);
+    put_words(run, out);
+}
+
+/// Appends key sets, two bytes each.
+fn put_words(run: &[u16], out: &mut ArrayVec<u8, LONGEST_DATAGRAM>)
+    requires { array_vec_len out.old + 2 * length run.now ≤ 174 }
+    ensures { out.new.items ≡ out.old.items ++ words_bytes run.now }
+{
+    for word in run {
+        put(&word.to_be_bytes(), out);
+    }
+}
+
+/// Appends bytes.
+fn put(bytes: &[u8], out: &mut ArrayVec<u8, LONGEST_DATAGRAM>)
+    requires { array_vec_len out.old + length bytes.now ≤ 174 }
+    ensures bytes { out.new.items ≡ out.old.items ++ bytes.now }
+    ensures fits { (i : ℕ) → slice_index bytes.now i < 2 ^ 8 }
+{
+    let _extended = out.try_extend_from_slice(bytes);
+}
