@@ -4,39 +4,73 @@
 use Rattle.std.specs.Prelude.{◌≡◌, ◌≢◌, ℕ, ◌+◌, ◌*◌, ◌<◌, Option, Some, None}
 
 pub data Instruction : Type 0 where
+  -- 00E0
   Clear : Instruction
+  -- 00EE
   Return : Instruction
+  -- 1MMM
   Jump : (to : ℕ) → Instruction
+  -- 2MMM
   Call : (to : ℕ) → Instruction
+  -- 3XKK
   SkipIfValue : (x value : ℕ) → Instruction
+  -- 4XKK
   SkipUnlessValue : (x value : ℕ) → Instruction
+  -- 5XY0
   SkipIfSame : (x y : ℕ) → Instruction
+  -- 6XKK
   SetValue : (x value : ℕ) → Instruction
+  -- 7XKK
   AddValue : (x value : ℕ) → Instruction
+  -- 8XY0
   Set : (x y : ℕ) → Instruction
+  -- 8XY1
   Or : (x y : ℕ) → Instruction
+  -- 8XY2
   And : (x y : ℕ) → Instruction
+  -- 8XY3
   ExclusiveOr : (x y : ℕ) → Instruction
+  -- 8XY4
   Add : (x y : ℕ) → Instruction
+  -- 8XY5
   Subtract : (x y : ℕ) → Instruction
+  -- 8XY6
   ShiftRight : (x y : ℕ) → Instruction
+  -- 8XY7
   SubtractFrom : (x y : ℕ) → Instruction
+  -- 8XYE
   ShiftLeft : (x y : ℕ) → Instruction
+  -- 9XY0
   SkipUnlessSame : (x y : ℕ) → Instruction
+  -- AMMM
   SetAddress : (to : ℕ) → Instruction
+  -- BMMM
   JumpFrom : (to : ℕ) → Instruction
+  -- CXKK
   Random : (x value : ℕ) → Instruction
+  -- DXYN
   Draw : (x y rows : ℕ) → Instruction
+  -- EX9E
   SkipIfDown : (x : ℕ) → Instruction
+  -- EXA1
   SkipIfUp : (x : ℕ) → Instruction
+  -- FX07
   ReadTimer : (x : ℕ) → Instruction
+  -- FX0A
   AwaitKey : (x : ℕ) → Instruction
+  -- FX15
   SetTimer : (x : ℕ) → Instruction
+  -- FX18
   SetTone : (x : ℕ) → Instruction
+  -- FX1E
   AddAddress : (x : ℕ) → Instruction
+  -- FX29
   PointAtDigit : (x : ℕ) → Instruction
+  -- FX33
   StoreDigits : (x : ℕ) → Instruction
+  -- FX55
   StoreRegisters : (x : ℕ) → Instruction
+  -- FX65
   LoadRegisters : (x : ℕ) → Instruction
 
 -- a code by its four digits

@@ -1,11 +1,30 @@
 -- The state of a machine, apart from how the code keeps it.
 use Rattle.std.specs.Prelude.{◌≡◌, ℕ, ◌-◌, ◌^◌, ◌<◌, ◌≤◌, true, Option, None, IfSome, List, [], ◌∷◌, length, nat_le, replicate, slice_index, take, if◌then◌else◌}
-use Rattle.c8_screen.specs.Points.{Points, no_points, points_of}
+use Rattle.c8_screen.specs.Points.{Points, no_points, points_of, AreOnScreen}
 use Rattle.c8_game.specs.Rules.{Rules}
 use Rattle.c8_machine.specs.declared.machine.Machine.{Machine}
 use Rattle.c8_machine.specs.declared.machine.Stop.{Stop}
+use Rattle.c8_machine.specs.declared.machine.Stop.TheVariants.{UnknownInstruction, StackFull, StackEmpty}
 
--- the byte at each address; there are 4096 addresses
+-- how many bytes of memory there are; addresses are below it
+abbrev pub memory_size : ℕ
+memory_size = 0x1000
+
+abbrev pub register_count : ℕ
+register_count = 16
+
+-- how many places to return to there is room for
+abbrev pub stack_size : ℕ
+stack_size = 16
+
+-- where the program stands in memory, and where the patterns of the digits do
+abbrev pub program_at : ℕ
+program_at = 0x200
+
+abbrev pub patterns_at : ℕ
+patterns_at = 0x50
+
+-- the byte at each address
 abbrev pub Memory : Type 0
 Memory = ℕ → ℕ
 
@@ -33,18 +52,18 @@ pub record State : Type 0 where
 -- the states that a machine can have: the size and the range of each part
 pub record IsState (s : State) : Type 0 where
   pub bytes : (at : ℕ) → s.memory at < 2 ^ 8
-  pub no_more_bytes : (at : ℕ) → 0x1000 ≤ at → s.memory at ≡ 0
-  pub registers : length s.registers ≡ 16
+  pub no_more_bytes : (at : ℕ) → memory_size ≤ at → s.memory at ≡ 0
+  pub registers : length s.registers ≡ register_count
   pub values : (x : ℕ) → slice_index s.registers x < 2 ^ 8
-  pub address : s.address < 0x1000
-  pub counter : s.counter < 0x1000
-  pub depth : length s.stack ≤ 16
-  pub places : (k : ℕ) → slice_index s.stack k < 0x1000
-  pub points : (x y : ℕ) → s.screen x y ≡ true → (x < 64) × (y < 32)
+  pub address : s.address < memory_size
+  pub counter : s.counter < memory_size
+  pub depth : length s.stack ≤ stack_size
+  pub places : (k : ℕ) → slice_index s.stack k < memory_size
+  pub points : AreOnScreen s.screen
   pub timer : s.timer < 2 ^ 8
   pub tone : s.tone < 2 ^ 8
   pub keys : s.keys < 2 ^ 16
-  pub waits : IfSome s.waits (λ x. x < 16)
+  pub waits : IfSome s.waits (λ x. x < register_count)
   pub draws : s.draws < 2 ^ 64
 
 -- the state that a machine is in
@@ -63,6 +82,12 @@ state machine = record {
   draws = machine.draws;
   stop = machine.stop;
 }
+
+-- the number of a stop
+abbrev pub number_of : Stop → ℕ
+number_of UnknownInstruction = 1
+number_of StackFull = 2
+number_of StackEmpty = 3
 
 -- the patterns of the digits 0 to F, five bytes each
 abbrev pub digit_patterns : List ℕ
@@ -88,15 +113,15 @@ digit_patterns =
 -- 200 on, and 0 elsewhere, as `slice_index` gives it past the end of either
 abbrev pub first_memory : List ℕ → Memory
 first_memory program at =
-    if nat_le 0x200 at then slice_index program (at - 0x200) else if nat_le 0x50 at then slice_index digit_patterns (at - 0x50) else 0
+    if nat_le program_at at then slice_index program (at - program_at) else if nat_le patterns_at at then slice_index digit_patterns (at - patterns_at) else 0
 
 -- the machine before the first frame
 abbrev pub first_state : Rules → State
 first_state rules = record {
   memory = first_memory rules.program;
-  registers = replicate 16 0;
+  registers = replicate register_count 0;
   address = 0;
-  counter = 0x200;
+  counter = program_at;
   stack = [];
   screen = no_points;
   timer = 0;

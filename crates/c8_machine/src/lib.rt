@@ -7,9 +7,9 @@
 
 pub mod laws;
 mod machine;
-mod memory;
 mod operation;
+mod start;
 #[cfg(test)]
 mod tests;
 
-pub use machine::{Machine, Step, Stop};
+pub use machine::{MEMORY_SIZE, Machine, Step, Stop};

@@ -2,26 +2,49 @@
 ghost use Rattle.std.specs.Prelude.{◌≡◌, ℕ, ◌<◌, ◌≤◌, IfSome, length, slice_index};
 ghost use Rattle.std.specs.Option.{ForSome};
 
-use crate::memory::first_memory;
+use crate::start::{PROGRAM_AT, first_memory};
 use c8_game::{Game, Keys};
 use c8_screen::Screen;
 
 mod arithmetic;
+mod drawing;
 mod flow;
 mod frames;
 mod memory;
 mod ranges;
 mod steps;
 
+/// How many bytes of memory a machine has. Every address is below it.
+pub const MEMORY_SIZE: usize = 4096;
+
+/// As many addresses there are, and each is modulo their number.
+const ADDRESSES: u16 = 4096;
+
 /// Why a machine has stopped for good.
 #[derive(Clone, Copy, Debug, PartialEq, Eq)]
 pub enum Stop {
     /// A code that is no instruction, or a call of machine language.
-    UnknownInstruction = 1,
+    UnknownInstruction,
     /// A seventeenth nested call.
-    StackFull = 2,
+    StackFull,
     /// A return with no place to return to.
-    StackEmpty = 3,
+    StackEmpty,
+}
+
+impl Stop {
+    ghost use Rattle.c8_machine.specs.State.{number_of};
+
+    /// The number that the program prints: 1 for an unknown instruction, 2 for a full stack, 3 for an
+    /// empty one.
+    pub fn number(self) -> u8
+        ensures { result ≡ number_of self }
+    {
+        match self {
+            Stop::UnknownInstruction => 1,
+            Stop::StackFull => 2,
+            Stop::StackEmpty => 3,
+        }
+    }
 }
 
 /// What became of one step.
@@ -55,12 +78,13 @@ impl Step {
 
 /// A machine of 4096 bytes of memory, 16 registers and a stack of 16 places. It is a plain value: a
 /// copy of it is a snapshot.
-#[derive(Clone, Copy)]
+#[derive(Clone, Copy, Debug, PartialEq, Eq)]
 pub struct Machine {
-    memory: [u8; 4096],
+    memory: [u8; MEMORY_SIZE],
     registers: [u8; 16],
     address: u16,
     counter: u16,
+    /// The places to return to, oldest first; those that are not in use are 0.
     places: [u16; 16],
     /// How many of the places are in use.
     depth: u8,
@@ -74,6 +98,7 @@ pub struct Machine {
     ghost address_in: { address < 4096 },
     ghost counter_in: { counter < 4096 },
     ghost places_in: { (k : ℕ) → slice_index places k < 4096 },
+    ghost unused_in: { (k : ℕ) → depth ≤ k → slice_index places k ≡ 0 },
     ghost depth_in: { depth ≤ 16 },
     ghost waits_in: { ForSome waits (λ x. x < 16) },
 }
@@ -91,7 +116,7 @@ impl Machine {
             memory: first_memory(game.program()),
             registers: [0; 16],
             address: 0,
-            counter: 0x200,
+            counter: PROGRAM_AT as u16,
             places: [0; 16],
             depth: 0,
             screen: Screen::new(),
@@ -105,7 +130,7 @@ impl Machine {
     }
 
     /// The byte at each address.
-    pub fn memory(&self) -> &[u8; 4096]
+    pub fn memory(&self) -> &[u8; MEMORY_SIZE]
         ensures { slice_index result.now ≡ (state self.now).memory }
     {
         &self.memory
@@ -121,7 +146,7 @@ impl Machine {
     /// The register I, an address below 4096.
     pub fn address(&self) -> u16
         ensures value { result ≡ (state self.now).address }
-        ensures range { result < 4096 }
+        ensures range { result < MEMORY_SIZE }
     {
         self.address
     }
@@ -129,7 +154,7 @@ impl Machine {
     /// The program counter, an address below 4096.
     pub fn counter(&self) -> u16
         ensures value { result ≡ (state self.now).counter }
-        ensures range { result < 4096 }
+        ensures range { result < MEMORY_SIZE }
     {
         self.counter
     }

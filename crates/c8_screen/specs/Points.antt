@@ -1,8 +1,15 @@
 -- A screen as the set of its lit points.
-use Rattle.std.specs.Prelude.{ℕ, ◌+◌, ◌-◌, ◌==◌, ◌&&◌, Bool, false, not, nat_le, nat_lt, slice_index, if◌then◌else◌}
+use Rattle.std.specs.Prelude.{◌≡◌, ℕ, ◌+◌, ◌-◌, ◌<◌, ◌==◌, ◌&&◌, Bool, true, false, not, nat_le, nat_lt, slice_index, if◌then◌else◌}
 use Rattle.std.specs.List.{list_any, range_with_len}
 use Rattle.std.specs.Int.{bit_at}
 use Rattle.c8_screen.specs.declared.Screen.{Screen}
+
+-- how many points a row has, and how many rows a screen has
+abbrev pub width : ℕ
+width = 64
+
+abbrev pub height : ℕ
+height = 32
 
 -- a set of points: whether it has the point in column x of row y, both counted from the upper left
 abbrev pub Points : Type 0
@@ -18,7 +25,7 @@ row_has row x = bit_at row (63 - x) == 1
 
 -- the lit points of a screen, all of them within 64 columns and 32 rows
 abbrev pub points_of : Screen → Points
-points_of screen x y = if nat_lt x 64 && nat_lt y 32 then row_has (slice_index screen.rows y) x else false
+points_of screen x y = if nat_lt x width && nat_lt y height then row_has (slice_index screen.rows y) x else false
 
 -- the points of a sprite of n rows of 8 points each, a byte a row with its highest bit leftmost, whose
 -- upper left point is in column `left` of row `top`
@@ -28,7 +35,11 @@ sprite n bytes left top x y =
 
 -- the points of a set that lie on the screen
 abbrev pub clipped : Points → Points
-clipped points x y = if nat_lt x 64 && nat_lt y 32 then points x y else false
+clipped points x y = if nat_lt x width && nat_lt y height then points x y else false
+
+-- the points of a set all lie on the screen
+abbrev pub AreOnScreen : Points → Type 0
+AreOnScreen points = (x y : ℕ) → points x y ≡ true → (x < width) × (y < height)
 
 -- the points that are in one set or the other, and not in both
 abbrev pub exclusive_or : Points → Points → Points
@@ -36,4 +47,4 @@ exclusive_or a b x y = if b x y then not (a x y) else a x y
 
 -- whether a point of the screen is in both sets
 unfoldable pub meets : Points → Points → Bool
-meets a b = list_any (λ y. list_any (λ x. a x y && b x y) (range_with_len 0 64)) (range_with_len 0 32)
+meets a b = list_any (λ y. list_any (λ x. a x y && b x y) (range_with_len 0 width)) (range_with_len 0 height)

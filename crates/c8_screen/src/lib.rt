@@ -17,7 +17,7 @@ pub const WIDTH: u8 = 64;
 pub const HEIGHT: u8 = 32;
 
 /// 32 rows of 64 points. Column 0 is leftmost, row 0 uppermost.
-#[derive(Clone, Copy)]
+#[derive(Clone, Copy, Debug, PartialEq, Eq)]
 pub struct Screen {
     /// The row's highest bit is column 0.
     rows: [u64; 32],
@@ -42,8 +42,8 @@ impl Screen {
 
     /// Whether the point in column `x` of row `y` is lit.
     pub fn lit(&self, x: u8, y: u8) -> bool
-        requires column { x < 64 }
-        requires row { y < 32 }
+        requires column { x < WIDTH }
+        requires row { y < HEIGHT }
         ensures { result ≡ points_of self.now x y }
     {
         (self.rows[usize::from(y)] >> (63 - x)) & 1 == 1
@@ -51,8 +51,8 @@ impl Screen {
 
     /// The 64 points of row `y`, bit 63 for column 0.
     pub fn row(&self, y: u8) -> &u64
-        requires { y < 32 }
-        ensures { (x : ℕ) → x < 64 → row_has result.now x ≡ points_of self.now x y }
+        requires { y < HEIGHT }
+        ensures { (x : ℕ) → x < WIDTH → row_has result.now x ≡ points_of self.now x y }
     {
         &self.rows[usize::from(y)]
     }
@@ -75,6 +75,16 @@ impl Screen {
             met |= draw_row(&mut self.rows[top + k], strip(bytes[k], left));
         }
         met
+    }
+}
+
+impl Default for Screen {
+    ghost use Rattle.c8_screen.specs.Points.{points_of, no_points};
+
+    ghost is_default = { λ s. points_of s ≡ no_points };
+
+    fn default() -> Self {
+        Screen::new()
     }
 }
 

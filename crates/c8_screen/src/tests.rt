@@ -28,3 +28,11 @@ fn clips_a_sprite(rt: HostRuntime) {
     }
     assert!(rt; !screen.draw(0, 0, &[]));
 }
+
+#[test]
+fn compares_screens(rt: HostRuntime) {
+    let mut screen = Screen::default();
+    assert_eq!(rt; screen, Screen::new());
+    screen.draw(63, 31, &[0x80]);
+    assert_ne!(rt; screen, Screen::new());
+}

@@ -10,6 +10,7 @@ use c8_game::Game;
 use sha2::{Digest, Sha256};
 
 impl Machine {
+    /// 6XKK, and FX07 with the timer: VX is the value.
     #[inline(always)]
     pub(crate) fn put(&mut self, x: u8, value: u8) -> Step
         requires { x < 16 }
@@ -21,6 +22,7 @@ impl Machine {
         Step::Went
     }
 
+    /// 8XY1 to 8XYE: VX is the result, and VF the flag, written last.
     #[inline(always)]
     fn put_with_flag(&mut self, x: u8, value: u8, flag: u8) -> Step
         requires { x < 16 }
@@ -34,6 +36,7 @@ impl Machine {
         Step::Went
     }
 
+    /// 7XKK: adds the value to VX modulo 100 (hexadecimal), with no flag.
     #[inline(always)]
     pub(crate) fn add_value(&mut self, x: u8, value: u8) -> Step
         requires { x < 16 }
@@ -42,6 +45,7 @@ impl Machine {
         self.put(x, self.register(x).wrapping_add(value))
     }
 
+    /// 8XY0: VX is VY.
     #[inline(always)]
     pub(crate) fn set(&mut self, x: u8, y: u8) -> Step
         requires x { x < 16 }
@@ -51,6 +55,7 @@ impl Machine {
         self.put(x, self.register(y))
     }
 
+    /// 8XY1: VX or VY; then VF is 0.
     #[inline(always)]
     pub(crate) fn or(&mut self, x: u8, y: u8) -> Step
         requires x { x < 16 }
@@ -60,6 +65,7 @@ impl Machine {
         self.put_with_flag(x, self.register(x) | self.register(y), 0)
     }
 
+    /// 8XY2: VX and VY; then VF is 0.
     #[inline(always)]
     pub(crate) fn and(&mut self, x: u8, y: u8) -> Step
         requires x { x < 16 }
@@ -69,6 +75,7 @@ impl Machine {
         self.put_with_flag(x, self.register(x) & self.register(y), 0)
     }
 
+    /// 8XY3: VX or VY but not both; then VF is 0.
     #[inline(always)]
     pub(crate) fn exclusive_or(&mut self, x: u8, y: u8) -> Step
         requires x { x < 16 }
@@ -78,6 +85,7 @@ impl Machine {
         self.put_with_flag(x, self.register(x) ^ self.register(y), 0)
     }
 
+    /// 8XY4: adds VY to VX; the flag is 1 if the sum is above FF.
     #[inline(always)]
     pub(crate) fn add(&mut self, x: u8, y: u8) -> Step
         requires x { x < 16 }
@@ -88,6 +96,7 @@ impl Machine {
         self.put_with_flag(x, (sum % 0x100) as u8, flag_if(sum > 0xff))
     }
 
+    /// 8XY5: takes VY from VX; the flag is 1 if VX was at least VY.
     #[inline(always)]
     pub(crate) fn subtract(&mut self, x: u8, y: u8) -> Step
         requires x { x < 16 }
@@ -98,6 +107,7 @@ impl Machine {
         self.put_with_flag(x, from.wrapping_sub(less), flag_if(from >= less))
     }
 
+    /// 8XY7: VX is VY less VX; the flag is 1 if VY was at least VX.
     #[inline(always)]
     pub(crate) fn subtract_from(&mut self, x: u8, y: u8) -> Step
         requires x { x < 16 }
@@ -108,6 +118,7 @@ impl Machine {
         self.put_with_flag(x, from.wrapping_sub(less), flag_if(from >= less))
     }
 
+    /// 8XY6: VX is VY shifted right by one; the flag is the bit that fell out.
     #[inline(always)]
     pub(crate) fn shift_right(&mut self, x: u8, y: u8) -> Step
         requires x { x < 16 }
@@ -118,6 +129,7 @@ impl Machine {
         self.put_with_flag(x, value / 2, value % 2)
     }
 
+    /// 8XYE: VX is VY shifted left by one; the flag is the bit that fell out.
     #[inline(always)]
     pub(crate) fn shift_left(&mut self, x: u8, y: u8) -> Step
         requires x { x < 16 }
@@ -128,6 +140,7 @@ impl Machine {
         self.put_with_flag(x, value.wrapping_mul(2), value / 0x80)
     }
 
+    /// CXKK: VX is a random byte and the value; one draw more.
     pub(crate) fn random(&mut self, game: &Game, x: u8, value: u8) -> Step
         requires { x < 16 }
         ensures { (keys : ℕ) → Does game.now keys (Random x value)
@@ -138,6 +151,7 @@ impl Machine {
         self.put(x, byte & value)
     }
 
+    /// FX15: the timer is VX.
     #[inline(always)]
     pub(crate) fn set_timer(&mut self, x: u8) -> Step
         requires { x < 16 }
@@ -148,6 +162,7 @@ impl Machine {
         Step::Went
     }
 
+    /// FX18: the tone is VX.
     #[inline(always)]
     pub(crate) fn set_tone(&mut self, x: u8) -> Step
         requires { x < 16 }

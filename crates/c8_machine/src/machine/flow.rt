@@ -5,31 +5,34 @@ ghost use Rattle.c8_machine.specs.Instructions.{Return, Jump, Call, SkipIfValue,
 ghost use Rattle.c8_machine.specs.State.{state};
 ghost use Rattle.c8_machine.specs.Steps.{skipped_if, is_down, Does, Performs};
 
-use crate::machine::{Machine, Step, Stop};
+use crate::machine::{ADDRESSES, MEMORY_SIZE, Machine, Step, Stop};
 use c8_game::Keys;
 
 impl Machine {
+    /// 1MMM: goes to an address.
     #[inline(always)]
     pub(crate) fn jump(&mut self, to: u16) -> Step
-        requires { to < 4096 }
+        requires { to < MEMORY_SIZE }
         ensures { Performs (Jump to) (state self.old) (state self.new) result }
     {
         self.counter = to;
         Step::Went
     }
 
+    /// BMMM: goes to the address that is V0 past another one.
     #[inline(always)]
     pub(crate) fn jump_from(&mut self, to: u16) -> Step
-        requires { to < 4096 }
+        requires { to < MEMORY_SIZE }
         ensures { Performs (JumpFrom to) (state self.old) (state self.new) result }
     {
-        self.counter = (to + u16::from(self.register(0))) % 4096;
+        self.counter = (to + u16::from(self.register(0))) % ADDRESSES;
         Step::Went
     }
 
+    /// 2MMM: puts the address after the instruction on the stack, and goes to another one.
     #[inline(always)]
     pub(crate) fn call(&mut self, to: u16) -> Step
-        requires { to < 4096 }
+        requires { to < MEMORY_SIZE }
         ensures { Performs (Call to) (state self.old) (state self.new) result }
     {
         if self.depth == 16 {
@@ -41,6 +44,7 @@ impl Machine {
         Step::Went
     }
 
+    /// 00EE: goes to the last place of the stack, which is taken off.
     #[inline(always)]
     pub(crate) fn go_back(&mut self) -> Step
         ensures { Performs Return (state self.old) (state self.new) result }
@@ -50,22 +54,25 @@ impl Machine {
         }
         self.depth -= 1;
         self.counter = self.places[usize::from(self.depth)];
+        self.places[usize::from(self.depth)] = 0;
         Step::Went
     }
 
+    /// The skips: goes on by 4 where the test holds, else by 2.
     #[inline(always)]
     fn skip_if(&mut self, test: bool) -> Step
         ensures step { result ≡ Step.Went }
         ensures state { state self.new ≡ skipped_if test (state self.old) }
     {
         self.counter = if test {
-            (self.counter + 4) % 4096
+            (self.counter + 4) % ADDRESSES
         } else {
             self.next()
         };
         Step::Went
     }
 
+    /// 3XKK: skips if VX is the value.
     #[inline(always)]
     pub(crate) fn skip_if_value(&mut self, x: u8, value: u8) -> Step
         requires { x < 16 }
@@ -75,6 +82,7 @@ impl Machine {
         self.skip_if(self.register(x) == value)
     }
 
+    /// 4XKK: skips if VX is not the value.
     #[inline(always)]
     pub(crate) fn skip_unless_value(&mut self, x: u8, value: u8) -> Step
         requires { x < 16 }
@@ -84,6 +92,7 @@ impl Machine {
         self.skip_if(self.register(x) != value)
     }
 
+    /// 5XY0: skips if VX and VY are the same.
     #[inline(always)]
     pub(crate) fn skip_if_same(&mut self, x: u8, y: u8) -> Step
         requires x { x < 16 }
@@ -93,6 +102,7 @@ impl Machine {
         self.skip_if(self.register(x) == self.register(y))
     }
 
+    /// 9XY0: skips if VX and VY differ.
     #[inline(always)]
     pub(crate) fn skip_unless_same(&mut self, x: u8, y: u8) -> Step
         requires x { x < 16 }
@@ -103,6 +113,7 @@ impl Machine {
         self.skip_if(self.register(x) != self.register(y))
     }
 
+    /// EX9E: skips if the key of VX's low digit is down.
     #[inline(always)]
     pub(crate) fn skip_if_down(&mut self, keys: Keys, x: u8) -> Step
         requires { x < 16 }
@@ -112,6 +123,7 @@ impl Machine {
         self.skip_if(is_down(keys, self.register(x)))
     }
 
+    /// EXA1: skips if the key of VX's low digit is up.
     #[inline(always)]
     pub(crate) fn skip_if_up(&mut self, keys: Keys, x: u8) -> Step
         requires { x < 16 }
@@ -121,6 +133,7 @@ impl Machine {
         self.skip_if(!is_down(keys, self.register(x)))
     }
 
+    /// FX0A: waits for register X.
     #[inline(always)]
     pub(crate) fn await_key(&mut self, x: u8) -> Step
         requires { x < 16 }

@@ -5,7 +5,7 @@ ghost use Rattle.c8_machine.specs.Decoding.{meaning};
 ghost use Rattle.c8_machine.specs.State.{state};
 ghost use Rattle.c8_machine.specs.Steps.{code_at, next, stopped, register, Executes, IsStep};
 
-use crate::machine::{Machine, Step, Stop};
+use crate::machine::{ADDRESSES, MEMORY_SIZE, Machine, Step, Stop};
 use crate::operation::{Operation, decode};
 use c8_game::{Game, Keys};
 
@@ -39,7 +39,7 @@ impl Machine {
         ensures { result ≡ code_at (state self.now) }
     {
         let high = self.memory[usize::from(self.counter)];
-        let low = self.memory[usize::from((self.counter + 1) % 4096)];
+        let low = self.memory[usize::from((self.counter + 1) % ADDRESSES)];
         u16::from(high) * 0x100 + u16::from(low)
     }
 
@@ -91,9 +91,9 @@ impl Machine {
     #[inline(always)]
     pub(crate) fn next(&self) -> u16
         ensures value { result ≡ next (state self.now) }
-        ensures range { result < 4096 }
+        ensures range { result < MEMORY_SIZE }
     {
-        (self.counter + 2) % 4096
+        (self.counter + 2) % ADDRESSES
     }
 
     #[inline(always)]

@@ -1,5 +1,5 @@
 use Rattle.c8_machine.proofs.MemoryLemmas.{first_memory_is}
-use Rattle.c8_machine.proofs.memory.first_memory.Goals as goal
+use Rattle.c8_machine.proofs.start.first_memory.Goals as goal
 
 pub returns : goal.returns
 returns c =

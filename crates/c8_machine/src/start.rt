@@ -2,6 +2,14 @@
 ghost use Rattle.std.specs.Prelude.{◌≡◌, ℕ, ◌+◌, ◌<◌, ◌≤◌, length, slice_index};
 ghost use Rattle.c8_machine.specs.State.{first_memory};
 
+use crate::machine::MEMORY_SIZE;
+
+/// Where the program stands in memory.
+pub const PROGRAM_AT: usize = 0x200;
+
+/// Where the patterns of the digits stand in memory.
+const PATTERNS_AT: usize = 0x50;
+
 /// The patterns of the digits 0 to F, five bytes each.
 const DIGIT_PATTERNS: [u8; 80] = [
     0xf0, 0x90, 0x90, 0x90, 0xf0, // 0
@@ -22,15 +30,15 @@ const DIGIT_PATTERNS: [u8; 80] = [
     0xf0, 0x80, 0xf0, 0x80, 0x80, // F
 ];
 
-/// The patterns of the digits from address 50 on (hexadecimal), the program from 200 on, and 0
+/// The patterns of the digits from `PATTERNS_AT` on, the program from `PROGRAM_AT` on, and 0
 /// elsewhere.
-pub fn first_memory(program: &[u8]) -> [u8; 4096]
+pub fn first_memory(program: &[u8]) -> [u8; MEMORY_SIZE]
     requires { length program.now ≤ 3584 }
     ensures { slice_index result ≡ first_memory program.now }
 {
-    let mut memory = [0; 4096];
-    place(&mut memory, 0x50, &DIGIT_PATTERNS);
-    place(&mut memory, 0x200, program);
+    let mut memory = [0; MEMORY_SIZE];
+    place(&mut memory, PATTERNS_AT, &DIGIT_PATTERNS);
+    place(&mut memory, PROGRAM_AT, program);
     memory
 }
 
