@@ -1,18 +1,19 @@
--- One place of a line more, and one line more.
-use Rattle.std.proofs.Common.{◌≡◌, ℕ, zero, suc, ◌+◌, ◌-◌, ◌*◌, ◌≤◌, ◌<◌, Bool, true, false, ◌&&◌, nat_eq, List, [], ◌∷◌, ◌++◌, length, map, replicate, slice_set, refl, ap, sym, ◌∙◌, arith, inl, inr}
+-- One place of a line more, and the first fault of lines.
+use Rattle.std.proofs.Common.{◌≡◌, ℕ, zero, suc, ◌+◌, ◌-◌, ◌*◌, ◌≤◌, ◌<◌, Bool, true, false, ◌&&◌, nat_eq, Option, None, Some, MatchOption, List, [], ◌∷◌, ◌++◌, length, map, replicate, slice_set, refl, ap, sym, ◌∙◌, arith, inl, inr}
 use Rattle.std.specs.List.{list_all, range_with_len}
-use Rattle.std.proofs.lemmas.Bool.{cases_lt, ne_eqb}
+use Rattle.std.proofs.lemmas.Bool.{cases_lt, le-leb, lt-leb}
 use Rattle.std.proofs.lemmas.List.{append_assoc}
 use Rattle.std.proofs.lemmas.List.Folds.{list_all-append}
 use Rattle.std.proofs.lemmas.List.FromFn.{map-range_with_len_more, length-map-range_with_len}
-use Rattle.std.proofs.lemmas.List.Sums.{fold-append}
 use Rattle.std.proofs.Math.Seq.{set-append_seam}
-use Rattle.c8_game.specs.Rules.{Rules, joined}
+use Rattle.std.specs.Str.Lines.{lines}
+use Rattle.c8_game.specs.Faults.{AreFaultless}
+use Rattle.c8_game.specs.FaultLaws.{first_found}
+use Rattle.c8_game.specs.Rules.{Rules}
 use Rattle.c8_game.specs.declared.row.Keys.{Keys}
 use Rattle.c8_game.specs.declared.row.Row.{Row}
-use Rattle.c8_machine.specs.Serial.{serial, frame_of}
-use Rattle.c8_machine.specs.State.{State, first_state}
-use Rattle.c8play.specs.KeyLines.{is_key_line, is_set_at, first_fault}
+use Rattle.c8play.specs.KeyLines.{is_key_line, is_set_at, key_line_fault, IsFaultOf}
+use Rattle.c8play.specs.declared.error.KeysError.TheVariants.{Line, Long}
 
 and-false : (b : Bool) → (b && false) ≡ false
 and-false true = refl
@@ -51,14 +52,24 @@ next_set f none n within =
     ∙ sym (append_assoc (map f (range_with_len 0 n)) (f n ∷ []) (replicate (4 - (n + 1)) none))
     ∙ ap (λ sets. sets ++ replicate (4 - (n + 1)) none) (sym (map-range_with_len_more f 0 n n (omega arith)))
 
--- a good line with frames left is no fault
-pub good_line : (players frames played : ℕ) (line : List ℕ) (more : List (List ℕ)) → played < frames → is_key_line players line ≡ true → first_fault players (frames - played) (line ∷ more) ≡ first_fault players (frames - (played + 1)) more
-good_line players frames played line more within good =
-    let some : (frames - played ≡ 0) → ⊥ = λ none. omega arith in
-    let less : frames - played - 1 ≡ frames - (played + 1) = omega arith in
-    rw (ne_eqb (frames - played) 0 some, good, less) refl
+-- a key line with a frame left for it has no fault
+pub good_line : (rules : Rules) (before : List (List ℕ)) (line : List ℕ) → length before < rules.frames → is_key_line rules.players line ≡ true → key_line_fault rules before line ≡ None
+good_line rules before line left good = rw (lt-leb rules.frames (length before) left, good) refl
 
-pub serial-snoc : (rules : Rules) (rows : List Row) (row : Row) (keys : ℕ) (s t : State) → s ≡ serial rules rows → keys ≡ joined rules row → t ≡ frame_of rules keys s → t ≡ serial rules (rows ++ row ∷ [])
-serial-snoc rules rows row keys s t run joins framed =
-    framed ∙ ap (λ k. frame_of rules k s) joins ∙ ap (λ before. frame_of rules (joined rules row) before) run
-    ∙ sym (fold-append (λ before r. frame_of rules (joined rules r) before) (first_state rules) rows (row ∷ []))
+-- after faultless lines, the first fault of a text is one line too many, or a line that is no key line
+pub first_long : (rules : Rules) (text : List ℕ) (before : List (List ℕ)) (line : List ℕ) (after : List (List ℕ)) → lines text ≡ before ++ line ∷ after
+    → AreFaultless (key_line_fault rules) before → rules.frames ≤ length before → IsFaultOf rules text Long
+first_long rules text before line after cut faultless past =
+    let long : key_line_fault rules before line ≡ Some Long = rw (le-leb rules.frames (length before) past) refl in
+    rw cut (first_found (key_line_fault rules) before line after Long faultless long)
+
+pub first_bad : (rules : Rules) (text : List ℕ) (before : List (List ℕ)) (line : List ℕ) (after : List (List ℕ)) → lines text ≡ before ++ line ∷ after
+    → AreFaultless (key_line_fault rules) before → length before < rules.frames → is_key_line rules.players line ≡ false → IsFaultOf rules text Line
+first_bad rules text before line after cut faultless left bad =
+    let none : key_line_fault rules before line ≡ Some Line = rw (lt-leb rules.frames (length before) left, bad) refl in
+    rw cut (first_found (key_line_fault rules) before line after Line faultless none)
+
+-- what is not there is not spelt
+pub unspelt : (found : Option Row) (P : Type 0) (Q : Row → Type 0) → ((row : Row) → found ≡ Some row → ⊥) → MatchOption found P Q → P
+unspelt None P Q nothing why = why
+unspelt (Some row) P Q nothing why = absurd (nothing row refl)

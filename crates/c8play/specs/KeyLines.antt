@@ -1,16 +1,16 @@
 -- Key lines: the rows that a text of them spells, or the fault that refuses it.
-use Rattle.std.specs.Prelude.{◌≡◌, ℕ, ◌+◌, ◌-◌, ◌*◌, ◌==◌, ◌&&◌, ◌||◌, Bool, not, List, [], ◌∷◌, ◌++◌, length, map, take, drop, replicate, slice_index, Option, Some, None, if◌then◌else◌}
+use Rattle.std.specs.Prelude.{◌≡◌, ℕ, ◌+◌, ◌-◌, ◌*◌, ◌==◌, ◌&&◌, ◌||◌, Bool, not, nat_le, List, ◌++◌, length, map, take, drop, replicate, slice_index, Option, Some, None, if◌then◌else◌}
 use Rattle.std.specs.List.{list_all, range_with_len}
 use Rattle.std.specs.Str.Lines.{lines}
-use Rattle.c8_game.specs.GameText.{Spells}
+use Rattle.c8_game.specs.Faults.{AreFaultless, IsFirstFault}
 use Rattle.c8_game.specs.KeysText.{is_keys_text, keys_number}
 use Rattle.c8_game.specs.Rules.{Rules}
 use Rattle.c8_game.specs.declared.row.Keys.{Keys}
 use Rattle.c8_game.specs.declared.row.Row.{Row}
 use Rattle.c8_machine.specs.Serial.{serial}
 use Rattle.c8_machine.specs.State.{state}
-use Rattle.c8play.specs.declared.keys.KeysError.{KeysError}
-use Rattle.c8play.specs.declared.keys.KeysError.TheVariants.{Line, Long}
+use Rattle.c8play.specs.declared.error.KeysError.{KeysError}
+use Rattle.c8play.specs.declared.error.KeysError.TheVariants.{Line, Long}
 use Rattle.c8play.specs.declared.keys.Played.{Played}
 
 -- a line has four digits for each player, player 1's at place 0, and one space between two
@@ -32,24 +32,19 @@ set_at line place = record { 0 = keys_number (digits_at line place) }
 abbrev pub row_of : ℕ → List ℕ → Row
 row_of players line = record { sets = map (set_at line) (range_with_len 0 players) ++ replicate (4 - players) (record { 0 = 0 }) }
 
--- the first fault of these lines, with so many frames left to play
-abbrev pub first_fault : ℕ → ℕ → List (List ℕ) → Option KeysError
-first_fault players left [] = None
-first_fault players left (line ∷ more) =
-    if left == 0 then Some Long
-    else if not (is_key_line players line) then Some Line
-    else first_fault players (left - 1) more
+-- the fault of a line that follows these: a line after the last frame's, else a line that is no key line
+abbrev pub key_line_fault : Rules → List (List ℕ) → List ℕ → Option KeysError
+key_line_fault rules before line =
+    if nat_le rules.frames (length before) then Some Long
+    else if not (is_key_line rules.players line) then Some Line
+    else None
 
--- the fault of a text, if it has one
-abbrev pub fault_of : Rules → List ℕ → Option KeysError
-fault_of rules text = first_fault rules.players rules.frames (lines text)
+-- the text has this fault first: that of the least line that has one
+abbrev pub IsFaultOf : Rules → List ℕ → KeysError → Type 0
+IsFaultOf rules text fault = IsFirstFault (key_line_fault rules) (lines text) fault
 
--- the text has no fault, and the machine is that of the serial run on its rows, one a frame
+-- no line of the text has a fault, and the machine is that of the serial run on its rows, one a frame
 pub record IsRunOf (rules : Rules) (text : List ℕ) (played : Played) : Type 0 where
-  pub faultless : fault_of rules text ≡ None
+  pub faultless : AreFaultless (key_line_fault rules) (lines text)
   pub frames : played.frames ≡ length (lines text)
   pub machine : state played.machine ≡ serial rules (map (row_of rules.players) (lines text))
-
--- the first text spells a game, and the second has no fault in it
-abbrev pub IsPlayable : List ℕ → List ℕ → Type 0
-IsPlayable game keys = (rules : Rules) × Spells game rules × (fault_of rules keys ≡ None)

@@ -1,3 +1,7 @@
+pub mod Errors
 pub mod KeyLines
-pub mod Status
+pub mod Run
 pub mod Shown
+pub mod Status
+pub mod Report
+pub mod Texts

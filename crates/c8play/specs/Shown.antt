@@ -1,9 +1,28 @@
--- Which words `show` prints.
-use Rattle.std.specs.Prelude.{◌≡◌, ℕ, List, Ok}
+-- What `show` answers to a word.
+use Rattle.std.specs.Prelude.{◌≡◌, ℕ, List, Some, Result, Ok, Err, IsErr}
 use Rattle.hex.specs.Hex.{decode_of}
 use Rattle.c8_wire.specs.Packet.{Packet}
+use Rattle.c8_wire.specs.Refusal.{refusal}
 use Rattle.c8_wire.specs.Spelling.{Spells}
+use Rattle.c8play.specs.declared.error.HexError.{HexError}
+use Rattle.c8play.specs.declared.error.HexError.TheVariants.{Bad, Memory}
+use Rattle.c8play.specs.declared.refusal.Refusal.{Refusal}
+use Rattle.c8play.specs.declared.refusal.Refusal.TheVariants as refusals
 
--- the word is hexadecimal, and its bytes spell a datagram
-abbrev pub IsDatagramText : List ℕ → Type 0
-IsDatagramText text = (bytes : List ℕ) × (decode_of text ≡ Ok bytes) × (packet : Packet) × Spells bytes packet
+-- the word is no hexadecimal text, or memory ran out
+abbrev pub IsRefusalOfWord : List ℕ → HexError → Type 0
+IsRefusalOfWord word Bad = IsErr (decode_of word)
+IsRefusalOfWord word Memory = Unit {0}
+
+-- what the bytes of the word say, or why they are refused
+abbrev pub IsRefusalOfShow : List ℕ → Refusal → Type 0
+IsRefusalOfShow word (refusals.Hex error) = IsRefusalOfWord word error
+IsRefusalOfShow word (refusals.Wire error) = (bytes : List ℕ) × (decode_of word ≡ Ok bytes) × (refusal bytes ≡ Some error)
+IsRefusalOfShow word (refusals.Game error) = ⊥
+IsRefusalOfShow word (refusals.Keys error) = ⊥
+IsRefusalOfShow word refusals.Disk = ⊥
+IsRefusalOfShow word refusals.Start = ⊥
+
+abbrev pub IsOutcomeOfShow : List ℕ → Result Packet Refusal → Type 0
+IsOutcomeOfShow word (Ok packet) = (bytes : List ℕ) × (decode_of word ≡ Ok bytes) × Spells bytes packet
+IsOutcomeOfShow word (Err error) = IsRefusalOfShow word error

@@ -1,17 +1,27 @@
 -- How the program ends.
-use Rattle.std.specs.Prelude.{ℕ}
+use Rattle.std.specs.Prelude.{ℕ, Result, Ok, Err}
 use Rattle.c8play.specs.declared.refusal.Refusal.{Refusal}
-use Rattle.c8play.specs.declared.refusal.Refusal.TheVariants.{Disk}
-use Rattle.c8play.specs.declared.refusal.Status.{Status}
-use Rattle.c8play.specs.declared.refusal.Status.TheVariants.{Done, Refused, Failed}
+use Rattle.c8play.specs.declared.refusal.Refusal.TheVariants.{Game, Keys, Hex, Wire, Disk, Start}
+use Rattle.c8play.specs.declared.status.Status.{Status}
+use Rattle.c8play.specs.declared.status.Status.TheVariants.{Done, Refused, CommandLine, Failed}
 
--- the exit status; 2 is the command line's own
+-- the exit status
 abbrev pub code_of : Status → ℕ
 code_of Done = 0
 code_of Refused = 1
+code_of CommandLine = 2
 code_of Failed = 3
 
 -- a disk fails, all else that is refused is input
 abbrev pub status_of : Refusal → Status
+status_of (Game error) = Refused
+status_of (Keys error) = Refused
+status_of (Hex error) = Refused
+status_of (Wire error) = Refused
 status_of Disk = Failed
-status_of refusal = Refused
+status_of Start = Refused
+
+-- a command is done where it has something to print
+abbrev pub status_of_outcome : {T : Type 0} → Result T Refusal → Status
+status_of_outcome (Ok printed) = Done
+status_of_outcome (Err refusal) = status_of refusal

@@ -1,72 +1,211 @@
 //! The command line.
 
-use crate::keys::KeysError;
-use crate::refusal::{Refusal, Status};
+ghost use Rattle.std.specs.Prelude.{◌≡◌, ◌≢◌, ◌⊎◌, IfOk, IfErr};
+ghost use Rattle.std.specs.IoError.{error_kind};
+ghost use Rattle.std.specs.declared.io.ErrorKind.TheVariants as kinds;
+ghost use Rattle.clap.specs.Values.{kind_of};
+ghost use Rattle.c8play.specs.declared.status.Status.TheVariants as statuses;
+
+use crate::refusal::Refusal;
 use crate::run::run;
 use crate::show::show;
-use crate::text::{TextError, read_text};
-use c8_game::GameError;
+use crate::status::Status;
+use crate::text::read_both;
+use clap::error::ErrorKind;
 use clap::{Arg, ArgMatches, Command};
 use std::alloc::{AllocError, Global};
+use std::env::Args;
 use std::io;
+use std::io::Write;
+use std::rt::Files;
 
-/// What the program takes.
-pub fn command<'a>(alloc: Global) -> Result<Command<'a>, AllocError> {
-    let game = Arg::new(alloc, "GAME")
-        .help("The text of the game")
-        .required(true);
-    let keys = Arg::new(alloc, "KEYS")
-        .help("The keys that are down, one line a frame")
-        .required(true);
-    let run = Command::new(alloc, "run")
-        .about("Plays a game alone, from a file of keys, and prints the machine")
-        .arg(game)?
-        .arg(keys)?;
-    let bytes = Arg::new(alloc, "HEX")
-        .help("The datagram's bytes, two hexadecimal digits each")
-        .required(true);
-    let show = Command::new(alloc, "show")
-        .about("Prints the fields of a datagram")
-        .arg(bytes)?;
-    Command::new(alloc, "c8play")
-        .about("Plays CHIP-8 programs over UDP, with rollback")
-        .version("0.1.0")
-        .subcommand_required(true)
-        .arg_required_else_help(true)
-        .subcommand(run)?
-        .subcommand(show)
+/// The end of the help of the program.
+const ENDING: &str =
+    "Input that is refused is told by one line on standard error, as 'refused: game 5 Hex'.
+The help of each command lists its refusals.
+
+Exit status: 0 done, 1 refused, 2 a mistake in the command line, 3 disk 1 Failed";
+
+/// The end of the help of `run`.
+const RUN_ENDING: &str = "Refusals, each one line on standard error, as 'refused: game 5 Hex':
+  game 1 Line     a line that is no known name, one space and a value
+  game 2 Range    a number out of range, a program too long, a mask of nobody
+  game 3 Missing  a line that every game has is not there
+  game 4 Twice    a name for the second time
+  game 5 Hex      a mask or code that is not hexadecimal
+  game 6 Memory   out of memory for the game
+  keys 1 Line     a line that is not four digits a player, one space between
+  keys 2 Long     more lines than the game has frames
+  keys 3 Memory   out of memory for the keys
+  open 5 Memory   out of memory at the start
+  disk 1 Failed   a file that cannot be read or is above 16777216 bytes;
+                  output that cannot be written
+
+Exit status: 0 done, 1 refused, 2 a mistake in the command line, 3 disk 1 Failed";
+
+/// The end of the help of `show`.
+const SHOW_ENDING: &str = "Refusals, each one line on standard error, as 'refused: wire 5 Length':
+  hex 1 Bad        a word that is not pairs of hexadecimal digits
+  hex 2 Memory     out of memory
+  wire 1 Short     fewer than 24 bytes
+  wire 2 Magic     the first two bytes are not 43 38
+  wire 3 Version   another version of the format
+  wire 4 Kind      no kind that is known
+  wire 5 Length    a body longer or shorter than it should be
+  wire 6 Player    players 1 to 4 who differ are not named
+  wire 7 Reserved  a byte that must be 0 is not
+  wire 8 Count     more than 64 inputs, or not as many as there is room for
+  wire 9 Beyond    a number of inputs that is too great
+  open 5 Memory    out of memory at the start
+  disk 1 Failed    output that cannot be written
+
+Exit status: 0 done, 1 refused, 2 a mistake in the command line, 3 disk 1 Failed";
+
+/// Does what the program's arguments ask for, and answers how it ended. What is printed goes to `out`,
+/// why something is refused to `refused`.
+pub fn answer<R: Files + AllocGlobal, W: Write, E: Write>(
+    rt: &R,
+    args: io::Result<Args>,
+    out: &mut W,
+    refused: &mut E,
+) -> Status {
+    let ended = obey(rt, args, out, refused);
+    status_at(ended, refused)
 }
 
-/// Does what the command line asks for.
-pub fn carry_out(rt: &HostRuntime, matches: &ArgMatches) -> io::Result<Status> {
-    let (mut out, mut refused) = (rt.stdout(), rt.stderr());
+/// How the program ends. Output that cannot be written is the fault of a disk.
+fn status_at<E: Write>(ended: io::Result<Status>, refused: &mut E) -> Status
+    ensures told { IfOk ended (λ status. result ≡ status) }
+    ensures memory { IfErr ended
+        (λ e. error_kind e ≡ kinds.OutOfMemory → result ≡ statuses.Refused) }
+    ensures disk { IfErr ended
+        (λ e. error_kind e ≢ kinds.OutOfMemory → result ≡ statuses.Failed) }
+{
+    match ended {
+        Ok(status) => status,
+        Err(error) => {
+            let refusal = refusal_at(&error);
+            // where this cannot be written either, only the status is left to tell it
+            let _ = refusal.tell(refused);
+            refusal.status()
+        }
+    }
+}
+
+/// The refusal that an error of the system is.
+fn refusal_at(error: &io::Error) -> Refusal
+    ensures memory { error_kind error.now ≡ kinds.OutOfMemory → result ≡ Refusal.Start }
+    ensures disk { error_kind error.now ≢ kinds.OutOfMemory → result ≡ Refusal.Disk }
+{
+    if error.kind() == io::ErrorKind::OutOfMemory {
+        Refusal::Start
+    } else {
+        Refusal::Disk
+    }
+}
+
+/// Does what the arguments ask for. The error is that of a writer, or want of memory.
+fn obey<R: Files + AllocGlobal, W: Write, E: Write>(
+    rt: &R,
+    args: io::Result<Args>,
+    out: &mut W,
+    refused: &mut E,
+) -> io::Result<Status> {
+    let words: Vec<String> = match args {
+        Ok(args) => args.collect(rt.alloc())?,
+        Err(error) if error.kind() == io::ErrorKind::InvalidData => {
+            writeln!(refused, "error: an argument is not UTF-8")?;
+            return Ok(Status::CommandLine);
+        }
+        Err(error) => return Err(error),
+    };
+    let command = command(rt.alloc())?;
+    match command.try_get_matches_from(words.as_slice()) {
+        Ok(matches) => carry_out(rt, &matches, out, refused),
+        Err(error) if error.kind() == ErrorKind::OutOfMemory => {
+            Err(io::ErrorKind::OutOfMemory.into())
+        }
+        Err(error) => tell(&error, out, refused),
+    }
+}
+
+/// Writes what the command line's reader says: help or the version to `out`, a mistake to `refused`.
+fn tell<W: Write, E: Write>(error: &clap::Error, out: &mut W, refused: &mut E) -> io::Result<Status>
+    ensures shown { (kind_of error.now ≡ ErrorKind.DisplayHelp)
+        ⊎ (kind_of error.now ≡ ErrorKind.DisplayVersion)
+        → IfOk result (λ status. status ≡ statuses.Done) }
+    ensures mistake { (kind_of error.now ≢ ErrorKind.DisplayHelp)
+        → (kind_of error.now ≢ ErrorKind.DisplayVersion)
+        → IfOk result (λ status. status ≡ statuses.CommandLine) }
+{
+    if error.use_stderr() {
+        write!(refused, "{error}")?;
+        Ok(Status::CommandLine)
+    } else {
+        write!(out, "{error}")?;
+        Ok(Status::Done)
+    }
+}
+
+/// What the program takes.
+fn command<'a>(alloc: Global) -> Result<Command<'a>, AllocError> {
+    Command::new(alloc, "c8play")
+        .about("Plays a CHIP-8 program from a file of keys, and shows what a datagram says")
+        .version("0.1.0")
+        .after_help(ENDING)
+        .subcommand_required(true)
+        .arg_required_else_help(true)
+        .subcommand(run_command(alloc)?)?
+        .subcommand(show_command(alloc)?)
+}
+
+fn run_command<'a>(alloc: Global) -> Result<Command<'a>, AllocError> {
+    let game = Arg::new(alloc, "GAME")
+        .help("The path of the game's text")
+        .required(true);
+    let keys = Arg::new(alloc, "KEYS")
+        .help("The path of the key lines: one a frame, four hexadecimal digits a player")
+        .required(true);
+    Command::new(alloc, "run")
+        .about("Plays a game alone, from a file of keys, and prints the machine")
+        .after_help(RUN_ENDING)
+        .arg(game)?
+        .arg(keys)
+}
+
+fn show_command<'a>(alloc: Global) -> Result<Command<'a>, AllocError> {
+    let word = Arg::new(alloc, "HEX")
+        .help("The datagram's bytes, two hexadecimal digits each")
+        .required(true);
+    Command::new(alloc, "show")
+        .about("Prints the fields of a datagram")
+        .after_help(SHOW_ENDING)
+        .arg(word)
+}
+
+/// Does what a command line without a mistake asks for.
+fn carry_out<R: Files + AllocGlobal, W: Write, E: Write>(
+    rt: &R,
+    matches: &ArgMatches,
+    out: &mut W,
+    refused: &mut E,
+) -> io::Result<Status> {
     match matches.subcommand() {
         Some(("run", given)) => {
-            let game = read_text(rt, given.get_str("GAME").unwrap_or(""));
-            let keys = read_text(rt, given.get_str("KEYS").unwrap_or(""));
-            match both(game, keys) {
-                Ok((game, keys)) => run(rt.alloc(), &game, &keys, &mut out, &mut refused),
-                Err(refusal) => refusal.tell(&mut refused),
+            let game = given.get_str("GAME").unwrap_or("");
+            let keys = given.get_str("KEYS").unwrap_or("");
+            match read_both(rt, game, keys) {
+                Ok((game, keys)) => run(rt.alloc(), &game, &keys, out, refused),
+                Err(refusal) => refusal.tell(refused),
             }
         }
         Some(("show", given)) => {
-            let text = given.get_str("HEX").unwrap_or("");
-            show(rt.alloc(), text, &mut out, &mut refused)
+            let word = given.get_str("HEX").unwrap_or("");
+            show(rt.alloc(), word, out, refused)
         }
-        _ => Ok(Status::Done),
+        _ => Ok(Status::CommandLine),
     }
 }
 
-/// Both texts of a run, or why one was not read: a file that cannot be read comes before want of
-/// memory.
-fn both(
-    game: Result<Vec<u8>, TextError>,
-    keys: Result<Vec<u8>, TextError>,
-) -> Result<(Vec<u8>, Vec<u8>), Refusal> {
-    match (game, keys) {
-        (Ok(game), Ok(keys)) => Ok((game, keys)),
-        (Err(TextError::Failed), _) | (_, Err(TextError::Failed)) => Err(Refusal::Disk),
-        (Err(TextError::Memory), _) => Err(Refusal::Game(GameError::Memory)),
-        (_, Err(TextError::Memory)) => Err(Refusal::Keys(KeysError::Memory)),
-    }
-}
+#[cfg(test)]
+mod tests;

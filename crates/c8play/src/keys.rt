@@ -1,25 +1,11 @@
 //! Key lines: what the players hold down, one line a frame.
 
 ghost use Rattle.std.specs.Prelude.{◌≡◌, ◌≤◌, ◌+◌, ◌*◌, true, false, Some, MatchOption, MatchResult, length};
-ghost use Rattle.c8play.specs.KeyLines.{is_key_line, is_set_at, set_at, row_of, fault_of, IsRunOf};
+ghost use Rattle.c8play.specs.KeyLines.{is_key_line, is_set_at, set_at, row_of, IsFaultOf, IsRunOf};
 
+use crate::error::KeysError;
 use c8_game::{Game, Keys, Lines, Row};
 use c8_machine::Machine;
-use thiserror::Error;
-
-/// Why a text of key lines is refused.
-#[derive(Clone, Copy, Debug, PartialEq, Eq, Error)]
-pub enum KeysError {
-    /// A line that is not four hexadecimal digits for each player, separated by one space.
-    #[error("1 Line")]
-    Line,
-    /// More lines than the game has frames.
-    #[error("2 Long")]
-    Long,
-    /// There was no memory for the text.
-    #[error("3 Memory")]
-    Memory,
-}
 
 /// The frames that were played, and the machine after them.
 #[derive(Clone, Copy)]
@@ -32,7 +18,7 @@ pub struct Played {
 ///
 /// Lines are judged in order, each first for `Long`, then for `Line`.
 pub fn play(game: &Game, keys: &[u8]) -> Result<Played, KeysError>
-    ensures { MatchResult result (λ played. IsRunOf game.now keys.now played) (λ e. fault_of game.now keys.now ≡ Some e) }
+    ensures { MatchResult result (IsRunOf game.now keys.now) (IsFaultOf game.now keys.now) }
 {
     let mut played = Played {
         frames: 0,
@@ -42,7 +28,9 @@ pub fn play(game: &Game, keys: &[u8]) -> Result<Played, KeysError>
         if played.frames == game.frames() {
             return Err(KeysError::Long);
         }
-        let row = row_in(line, game.players()).ok_or(KeysError::Line)?;
+        let Some(row) = row_in(line, game.players()) else {
+            return Err(KeysError::Line);
+        };
         played.machine.frame(game, game.joined(&row));
         played.frames += 1;
     }
@@ -52,7 +40,9 @@ pub fn play(game: &Game, keys: &[u8]) -> Result<Played, KeysError>
 /// The row that a key line spells: four digits for each player, and one space between two.
 fn row_in(line: &[u8], players: u8) -> Option<Row>
     requires { players ≤ 4 }
-    ensures { MatchOption result (is_key_line players line.now ≡ false) (λ row. (is_key_line players line.now ≡ true) × (row ≡ row_of players line.now)) }
+    ensures { MatchOption result
+        (is_key_line players line.now ≡ false)
+        (λ row. (is_key_line players line.now ≡ true) × (row ≡ row_of players line.now)) }
 {
     if line.len() + 1 != 5 * usize::from(players) {
         return None;
@@ -67,7 +57,9 @@ fn row_in(line: &[u8], players: u8) -> Option<Row>
 /// The key set of the player at a place of a line, 0 for player 1.
 fn set_at(line: &[u8], place: usize) -> Option<Keys>
     requires { 5 * place + 4 ≤ length line.now }
-    ensures { MatchOption result (is_set_at line.now place ≡ false) (λ keys. (is_set_at line.now place ≡ true) × (keys ≡ set_at line.now place)) }
+    ensures { MatchOption result
+        (is_set_at line.now place ≡ false)
+        (λ keys. (is_set_at line.now place ≡ true) × (keys ≡ set_at line.now place)) }
 {
     let start = 5 * place;
     if place > 0 && line[start - 1] != b' ' {

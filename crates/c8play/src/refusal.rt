@@ -1,68 +1,77 @@
-//! Why a command refuses what it was given, and the status with which it ends.
+//! Why a command refuses what it was given.
 
 ghost use Rattle.std.specs.Prelude.{◌≡◌, IfOk};
-ghost use Rattle.c8play.specs.Status.{code_of, status_of};
+ghost use Rattle.c8play.specs.Status.{status_of};
 
-use crate::keys::KeysError;
-use crate::show::HexError;
+use crate::error::{HexError, KeysError};
+use crate::status::Status;
 use c8_game::GameError;
 use c8_wire::WireError;
 use std::io;
 use std::io::Write;
-use thiserror::Error;
 
-/// How a command ended.
+/// Why a command refuses what it was given: by its part, which is what was refused.
 #[derive(Clone, Copy, Debug, PartialEq, Eq)]
-pub enum Status {
-    /// It did what it was asked.
-    Done,
-    /// It refused its input.
-    Refused,
-    /// A disk or a socket failed it.
-    Failed,
-}
-
-impl Status {
-    /// The exit status of the program. 2 is the command line's own.
-    pub fn code(self) -> u8
-        ensures { result ≡ code_of self }
-    {
-        match self {
-            Status::Done => 0,
-            Status::Refused => 1,
-            Status::Failed => 3,
-        }
-    }
-}
-
-/// Why a command refuses its input. It prints as the one line that a refusal is.
-#[derive(Clone, Copy, Debug, PartialEq, Eq, Error)]
 pub enum Refusal {
-    #[error("refused: game {0}")]
+    /// The text of a game.
     Game(GameError),
-    #[error("refused: keys {0}")]
+    /// A text of key lines.
     Keys(KeysError),
-    #[error("refused: hex {0}")]
+    /// A hexadecimal word.
     Hex(HexError),
-    #[error("refused: wire {} {}", .0.number(), .0.name())]
+    /// The bytes of a datagram.
     Wire(WireError),
-    /// A file that cannot be read, or is too long for a text.
-    #[error("refused: disk 1 Failed")]
+    /// A file that cannot be read or written, or is too long for a text.
     Disk,
-    /// There was no memory for the program to start with.
-    #[error("refused: open 5 Memory")]
-    Memory,
+    /// There is no memory to start with.
+    Start,
 }
 
 impl Refusal {
-    /// Writes the refusal's line, and answers the status that goes with it.
+    /// The status with which the program ends.
+    pub fn status(self) -> Status
+        ensures { result ≡ status_of self }
+    {
+        match self {
+            Refusal::Game(_)
+            | Refusal::Keys(_)
+            | Refusal::Hex(_)
+            | Refusal::Wire(_)
+            | Refusal::Start => Status::Refused,
+            Refusal::Disk => Status::Failed,
+        }
+    }
+
+    /// What was refused.
+    fn part(self) -> &'static str {
+        match self {
+            Refusal::Game(_) => "game",
+            Refusal::Keys(_) => "keys",
+            Refusal::Hex(_) => "hex",
+            Refusal::Wire(_) => "wire",
+            Refusal::Disk => "disk",
+            Refusal::Start => "open",
+        }
+    }
+
+    /// Writes the one line that a refusal is, as `refused: hex 1 Bad`, and answers the status.
     pub fn tell<W: Write>(self, out: &mut W) -> io::Result<Status>
         ensures { IfOk result (λ status. status ≡ status_of self) }
     {
-        writeln!(out, "{self}")?;
-        Ok(match self {
-            Refusal::Disk => Status::Failed,
-            _ => Status::Refused,
-        })
+        let part = self.part();
+        let (number, name) = match self {
+            // its text is its number and name
+            Refusal::Game(error) => {
+                writeln!(out, "refused: {part} {error}")?;
+                return Ok(self.status());
+            }
+            Refusal::Keys(error) => (error.number(), error.name()),
+            Refusal::Hex(error) => (error.number(), error.name()),
+            Refusal::Wire(error) => (error.number(), error.name()),
+            Refusal::Disk => (1, "Failed"),
+            Refusal::Start => (5, "Memory"),
+        };
+        writeln!(out, "refused: {part} {number} {name}")?;
+        Ok(self.status())
     }
 }

@@ -1,12 +1,16 @@
 //! The machine report: what a person, or another program, reads of a machine.
 
-use c8_machine::{Machine, Stop};
-use c8_screen::{HEIGHT, Screen};
+ghost use Rattle.std.specs.Prelude.{◌≡◌, ℕ, ◌<◌, slice_index};
+ghost use Rattle.c8_screen.specs.Points.{points_of};
+ghost use Rattle.c8play.specs.Report.{mark_of};
+
+use c8_machine::Machine;
+use c8_screen::{HEIGHT, Screen, WIDTH};
 use std::io;
 use std::io::Write;
 
-/// Writes the report of a machine after so many frames, with lower-case digits: the number of frames;
-/// the counter and I; the registers; the timers and the draws; the stack, oldest first; whether the
+/// Writes the report of a machine after n frames, with lower-case digits: the number of frames; the
+/// counter and I; the registers; the timers and the draws; the stack, oldest first; whether the
 /// machine runs, waits or has stopped; and the 32 rows of the screen.
 pub fn write_report<W: Write>(out: &mut W, frames: u32, machine: &Machine) -> io::Result<()> {
     writeln!(out, "frames {frames}")?;
@@ -39,9 +43,10 @@ fn write_stack<W: Write>(out: &mut W, places: &[u16]) -> io::Result<()> {
 
 fn write_condition<W: Write>(out: &mut W, machine: &Machine) -> io::Result<()> {
     match (machine.stopped(), machine.waits()) {
-        (Some(Stop::UnknownInstruction), _) => writeln!(out, "state stop 1"),
-        (Some(Stop::StackFull), _) => writeln!(out, "state stop 2"),
-        (Some(Stop::StackEmpty), _) => writeln!(out, "state stop 3"),
+        (Some(stop), _) => {
+            let number = stop.number();
+            writeln!(out, "state stop {number}")
+        }
         (None, Some(register)) => writeln!(out, "state waits {register:x}"),
         (None, None) => writeln!(out, "state runs"),
     }
@@ -49,19 +54,21 @@ fn write_condition<W: Write>(out: &mut W, machine: &Machine) -> io::Result<()> {
 
 fn write_screen<W: Write>(out: &mut W, screen: &Screen) -> io::Result<()> {
     for y in 0..HEIGHT {
-        out.write_all(&row_text(*screen.row(y)))?;
+        out.write_all(&row_text(screen, y))?;
     }
     Ok(())
 }
 
-/// A row as 64 points, lit ones as `#`, and a line feed. The row's highest bit is leftmost.
-fn row_text(row: u64) -> [u8; 65] {
-    let mut text = [b'.'; 65];
-    for x in 0..64 {
-        if (row >> (63 - x)) & 1 == 1 {
-            text[x] = b'#';
-        }
+/// The 64 points of row `y`, column 0 first, and a line feed.
+fn row_text(screen: &Screen, y: u8) -> [u8; 65]
+    requires { y < 32 }
+    ensures points { (x : ℕ) → x < 64
+        → slice_index result x ≡ mark_of (points_of screen.now x y) }
+    ensures end { slice_index result 64 ≡ 10 }
+{
+    let mut text = [b'\n'; 65];
+    for x in 0..WIDTH {
+        text[usize::from(x)] = if screen.lit(x, y) { b'#' } else { b'.' };
     }
-    text[64] = b'\n';
     text
 }

@@ -1,18 +1,23 @@
 //! `c8play run`: a game is played alone, from a file of keys.
 
-ghost use Rattle.std.specs.Prelude.{◌≡◌, ◌≢◌, IfOk};
-ghost use Rattle.c8play.specs.KeyLines.{IsPlayable};
+ghost use Rattle.std.specs.Prelude.{◌≡◌, IfOk, Result};
+ghost use Rattle.c8play.specs.Run.{IsOutcomeOfRun};
+ghost use Rattle.c8play.specs.Status.{status_of_outcome};
+ghost use Rattle.c8play.specs.declared.refusal.Refusal.{Refusal};
+ghost use Rattle.c8play.specs.declared.keys.Played.{Played};
 
-use crate::keys::play;
-use crate::refusal::{Refusal, Status};
+use crate::keys::{Played, play};
+use crate::refusal::Refusal;
 use crate::report::write_report;
+use crate::status::Status;
 use c8_game::Game;
 use std::alloc::Global;
 use std::io;
 use std::io::Write;
 
 /// Plays the game that `game` spells by the key lines of `keys`, and writes the report of its machine
-/// to `out`; or writes one line to `refused`, and nothing to `out`. The error is that of a writer.
+/// to `out`; or writes the line of a refusal to `refused`, and nothing to `out`. The error is that of
+/// a writer.
 pub fn run<W: Write, E: Write>(
     alloc: Global,
     game: &[u8],
@@ -20,19 +25,37 @@ pub fn run<W: Write, E: Write>(
     out: &mut W,
     refused: &mut E,
 ) -> io::Result<Status>
-    ensures done { IfOk result (λ status. status ≡ Status.Done → IsPlayable game.now keys.now) }
-    ensures never_failed { IfOk result (λ status. status ≢ Status.Failed) }
+    ensures { IfOk result (λ status. (outcome : Result Played Refusal)
+        × IsOutcomeOfRun game.now keys.now outcome × (status ≡ status_of_outcome outcome)) }
 {
-    let game = match Game::read(alloc, game) {
-        Ok(game) => game,
-        Err(error) => return Refusal::Game(error).tell(refused),
-    };
-    match play(&game, keys) {
-        Ok(played) => {
-            write_report(out, played.frames, &played.machine)?;
+    tell(played_from(alloc, game, keys), out, refused)
+}
+
+/// What is played of the game that `game` spells, by the key lines of `keys`.
+///
+/// The text of the game is judged first. `Memory` comes only where a growth was refused.
+fn played_from(alloc: Global, game: &[u8], keys: &[u8]) -> Result<Played, Refusal>
+    ensures { IsOutcomeOfRun game.now keys.now result }
+{
+    let game = Game::read(alloc, game).map_err(Refusal::Game)?;
+    let played = play(&game, keys).map_err(Refusal::Keys)?;
+    Ok(played)
+}
+
+/// Writes the report of what was played to `out`, or the line of the refusal to `refused`.
+fn tell<W: Write, E: Write>(
+    outcome: Result<Played, Refusal>,
+    out: &mut W,
+    refused: &mut E,
+) -> io::Result<Status>
+    ensures { IfOk result (λ status. status ≡ status_of_outcome outcome) }
+{
+    match outcome {
+        Ok(Played { frames, machine }) => {
+            write_report(out, frames, &machine)?;
             Ok(Status::Done)
         }
-        Err(error) => Refusal::Keys(error).tell(refused),
+        Err(refusal) => refusal.tell(refused),
     }
 }
 

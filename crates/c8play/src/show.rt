@@ -1,55 +1,65 @@
 //! `c8play show`: the fields of a datagram, from its bytes in hexadecimal.
 
-ghost use Rattle.std.specs.Prelude.{◌≡◌, ◌≢◌, IfOk};
-ghost use Rattle.c8play.specs.Shown.{IsDatagramText};
+ghost use Rattle.std.specs.Prelude.{◌≡◌, IfOk, MatchResult, Result};
+ghost use Rattle.hex.specs.Hex.{decode_of};
+ghost use Rattle.c8_wire.specs.Packet.{Packet};
+ghost use Rattle.c8play.specs.Shown.{IsOutcomeOfShow, IsRefusalOfWord};
+ghost use Rattle.c8play.specs.Status.{status_of_outcome};
+ghost use Rattle.c8play.specs.declared.refusal.Refusal.{Refusal};
 
-use crate::refusal::{Refusal, Status};
-use c8_wire::{Datagram, Header, Kind, Run, view};
+use crate::error::HexError;
+use crate::refusal::Refusal;
+use crate::status::Status;
+use c8_wire::{Datagram, Header, Run, view};
 use hex::FromHexError;
 use std::alloc::Global;
 use std::io;
 use std::io::Write;
-use thiserror::Error;
 
-/// Why a word is no hexadecimal text.
-#[derive(Clone, Copy, Debug, PartialEq, Eq, Error)]
-pub enum HexError {
-    /// It has an odd number of digits, or something that is no digit.
-    #[error("1 Bad")]
-    Bad,
-    /// There was no memory for its bytes.
-    #[error("2 Memory")]
-    Memory,
-}
-
-/// Writes the fields of the datagram that `text` spells in hexadecimal to `out`; or writes one line
-/// to `refused`, and nothing to `out`. The error is that of a writer.
+/// Writes the fields of the datagram that `word` spells in hexadecimal to `out`; or writes the line
+/// of a refusal to `refused`, and nothing to `out`. The error is that of a writer.
 pub fn show<W: Write, E: Write>(
     alloc: Global,
-    text: &str,
+    word: &str,
     out: &mut W,
     refused: &mut E,
 ) -> io::Result<Status>
-    ensures done { IfOk result (λ status. status ≡ Status.Done → IsDatagramText text.now) }
-    ensures never_failed { IfOk result (λ status. status ≢ Status.Failed) }
+    ensures { IfOk result (λ status. (outcome : Result Packet Refusal)
+        × IsOutcomeOfShow word.now outcome × (status ≡ status_of_outcome outcome)) }
 {
-    let bytes = match hex::decode(alloc, text) {
+    let bytes = match bytes_of(alloc, word) {
         Ok(bytes) => bytes,
-        Err(FromHexError::OutOfMemory) => return Refusal::Hex(HexError::Memory).tell(refused),
-        Err(_) => return Refusal::Hex(HexError::Bad).tell(refused),
+        Err(error) => return Refusal::Hex(error).tell(refused),
     };
     match view(&bytes) {
         Ok(datagram) => {
-            write_header(out, datagram.header())?;
-            write_body(out, datagram)?;
+            write_datagram(out, datagram)?;
             Ok(Status::Done)
         }
         Err(error) => Refusal::Wire(error).tell(refused),
     }
 }
 
+/// The bytes of a hexadecimal word, two digits each, in either case.
+fn bytes_of(alloc: Global, word: &str) -> Result<Vec<u8>, HexError>
+    ensures { MatchResult result
+        (λ bytes. decode_of word.now ≡ Ok bytes.items) (IsRefusalOfWord word.now) }
+{
+    match hex::decode(alloc, word) {
+        Ok(bytes) => Ok(bytes),
+        Err(FromHexError::OutOfMemory) => Err(HexError::Memory),
+        Err(_) => Err(HexError::Bad),
+    }
+}
+
+/// Writes the fields of a datagram, one line each.
+fn write_datagram<W: Write>(out: &mut W, datagram: Datagram<'_>) -> io::Result<()> {
+    write_header(out, datagram.header())?;
+    write_body(out, datagram)
+}
+
 fn write_header<W: Write>(out: &mut W, header: Header<'_>) -> io::Result<()> {
-    let name = name_of(header.kind());
+    let name = header.kind().name();
     let (from, to) = (header.from().number, header.to().number);
     let session = header.session();
     let (sender, addressee) = (header.sender_epoch(), header.addressee_epoch());
@@ -57,17 +67,6 @@ fn write_header<W: Write>(out: &mut W, header: Header<'_>) -> io::Result<()> {
     writeln!(out, "session {session:016x}")?;
     writeln!(out, "from {from} to {to}")?;
     writeln!(out, "epochs {sender} {addressee}")
-}
-
-fn name_of(kind: Kind) -> &'static str {
-    match kind {
-        Kind::Hello => "HELLO",
-        Kind::Welcome => "WELCOME",
-        Kind::Data => "DATA",
-        Kind::Freeze => "FREEZE",
-        Kind::Frozen => "FROZEN",
-        Kind::Cut => "CUT",
-    }
 }
 
 fn write_body<W: Write>(out: &mut W, datagram: Datagram<'_>) -> io::Result<()> {

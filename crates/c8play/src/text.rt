@@ -1,31 +1,69 @@
 //! Texts that are read whole from files.
 
+ghost use Rattle.std.specs.Prelude.{◌≡◌, ◌≤◌, None, Some, IfOk, IfErr, IfSome, length};
+ghost use Rattle.std.specs.Result.{result_err};
+ghost use Rattle.c8play.specs.Texts.{refusal_of_texts};
+
+use crate::error::{KeysError, TextError};
+use crate::refusal::Refusal;
+use c8_game::GameError;
+use std::alloc::Global;
+use std::fs;
 use std::io::{ErrorKind, Read};
 use std::rt::Files;
-use std::{fs, io};
 
 /// The most bytes that a text may have.
-const LONGEST: u64 = 16_777_216;
+pub const LONGEST: u64 = 16_777_216;
 
-/// Why a text was not read.
-#[derive(Clone, Copy, Debug, PartialEq, Eq)]
-pub enum TextError {
-    /// The file can't be read, or has more than 16777216 bytes.
-    Failed,
-    /// There was no memory for it.
-    Memory,
+/// The bytes of the two files of a run, the game's and the keys'. Both are read, whatever the first
+/// one says.
+pub fn read_both<R: Files + AllocGlobal>(
+    rt: &R,
+    game: &str,
+    keys: &str,
+) -> Result<(Vec<u8>, Vec<u8>), Refusal> {
+    let game = read_file(rt, game);
+    let keys = read_file(rt, keys);
+    both(game, keys)
+}
+
+/// Both texts of a run, or why they are refused: a file that cannot be read comes before want of
+/// memory, and the game before the keys.
+fn both<T: Drop>(game: Result<T, TextError>, keys: Result<T, TextError>) -> Result<(T, T), Refusal>
+    ensures texts { IfOk result (λ texts. (game ≡ Ok texts.0) × (keys ≡ Ok texts.1)) }
+    ensures refused { IfErr result
+        (λ refusal. refusal_of_texts (result_err game) (result_err keys) ≡ Some refusal) }
+{
+    match (game, keys) {
+        (Ok(game), Ok(keys)) => Ok((game, keys)),
+        (Err(TextError::Failed), _) | (_, Err(TextError::Failed)) => Err(Refusal::Disk),
+        (Err(TextError::Memory), _) => Err(Refusal::Game(GameError::Memory)),
+        (_, Err(TextError::Memory)) => Err(Refusal::Keys(KeysError::Memory)),
+    }
 }
 
 /// The bytes of a file.
-pub fn read_text<R: Files + AllocGlobal>(rt: &R, path: &str) -> Result<Vec<u8>, TextError> {
+fn read_file<R: Files + AllocGlobal>(rt: &R, path: &str) -> Result<Vec<u8>, TextError> {
     let Ok(file) = fs::open(rt, path) else {
         return Err(TextError::Failed);
     };
-    let mut text = Vec::new(rt.alloc());
-    match file.take(LONGEST + 1).read_to_end(&mut text) {
+    text_of(rt.alloc(), file)
+}
+
+/// All that a reader has left. `Failed` where the reader fails or has more than `LONGEST` bytes.
+fn text_of<R: Read + Drop>(alloc: Global, reader: R) -> Result<Vec<u8>, TextError>
+    ensures whole { IfOk result
+        (λ text. IfSome (R.remaining reader) (λ bytes. text.items ≡ bytes)) }
+    ensures bounded { IfOk result (λ text. length text.items ≤ LONGEST) }
+{
+    let mut text = Vec::new(alloc);
+    match reader.take(LONGEST + 1).read_to_end(&mut text) {
         Ok(_) if text.len() as u64 <= LONGEST => Ok(text),
         Ok(_) => Err(TextError::Failed),
         Err(error) if error.kind() == ErrorKind::OutOfMemory => Err(TextError::Memory),
         Err(_) => Err(TextError::Failed),
     }
 }
+
+#[cfg(test)]
+mod tests;

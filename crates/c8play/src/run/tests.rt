@@ -1,19 +1,121 @@
-use crate::refusal::Status;
+//! Each machine is worked out by hand from the table of instructions.
+
 use crate::run::run;
-use std::alloc::{AllocError, Global};
+use crate::status::Status;
+use crate::tests::{Outcome, Short, text_of};
+use std::alloc::Global;
 use std::io;
+use std::process::Abort;
 use std::test::Fail;
 
+/// The rules of the games here, but for their code.
 const RULES: &str =
-    "players 2\nipf 10\nframes 2\ndelay 0\nwindow 8\nseed 0\nmask1 000f\nmask2 fff0\n";
+    "players 2\nipf 10\nframes 100\ndelay 0\nwindow 8\nseed 0\nmask1 000f\nmask2 fff0\n";
 
-/// What a run of this code with these keys prints, where it is refused too.
-#[derive(Drop)]
-struct Outcome {
-    status: Status,
-    printed: String,
-    refused: String,
-}
+/// A screen with no point lit.
+const DARK: &str = "................................................................
+................................................................
+................................................................
+................................................................
+................................................................
+................................................................
+................................................................
+................................................................
+................................................................
+................................................................
+................................................................
+................................................................
+................................................................
+................................................................
+................................................................
+................................................................
+................................................................
+................................................................
+................................................................
+................................................................
+................................................................
+................................................................
+................................................................
+................................................................
+................................................................
+................................................................
+................................................................
+................................................................
+................................................................
+................................................................
+................................................................
+................................................................
+";
+
+/// Four points in the lower right corner.
+const CORNER: &str = "................................................................
+................................................................
+................................................................
+................................................................
+................................................................
+................................................................
+................................................................
+................................................................
+................................................................
+................................................................
+................................................................
+................................................................
+................................................................
+................................................................
+................................................................
+................................................................
+................................................................
+................................................................
+................................................................
+................................................................
+................................................................
+................................................................
+................................................................
+................................................................
+................................................................
+................................................................
+................................................................
+................................................................
+................................................................
+................................................................
+................................................................
+............................................................####
+";
+
+/// The letter F, near the upper left corner.
+const LETTER: &str = "................................................................
+................................................................
+.####...........................................................
+.#..............................................................
+.####...........................................................
+.#..............................................................
+.#..............................................................
+................................................................
+................................................................
+................................................................
+................................................................
+................................................................
+................................................................
+................................................................
+................................................................
+................................................................
+................................................................
+................................................................
+................................................................
+................................................................
+................................................................
+................................................................
+................................................................
+................................................................
+................................................................
+................................................................
+................................................................
+................................................................
+................................................................
+................................................................
+................................................................
+................................................................
+";
 
 fn ran(alloc: Global, game: &str, keys: &str) -> io::Result<Outcome> {
     let (mut printed, mut refused) = (Vec::new(alloc), Vec::new(alloc));
@@ -31,38 +133,209 @@ fn ran(alloc: Global, game: &str, keys: &str) -> io::Result<Outcome> {
     })
 }
 
-fn text_of(alloc: Global, bytes: &[u8]) -> Result<String, AllocError> {
-    str::from_utf8(bytes).unwrap_or("no text").to_string(alloc)
-}
-
-/// The report's lines before the screen, for a program of these codes.
-fn machine_after(alloc: Global, code: &str, keys: &str) -> Result<String, Fail> {
+/// A program of these codes prints this report, and then this screen.
+fn prints(
+    rt: &impl Abort,
+    alloc: Global,
+    code: &str,
+    keys: &str,
+    report: &str,
+    screen: &str,
+) -> Result<(), Fail> {
     let game = format!(in alloc; "{RULES}code {code}\n")?;
+    let wanted = format!(in alloc; "{report}{screen}")?;
     let ran = ran(alloc, game.as_str(), keys)?;
-    let end = ran.printed.find("....").unwrap_or(0);
-    Ok(ran.printed.get(..end).unwrap_or("").to_string(alloc)?)
+    assert_eq!(rt; ran.printed.as_str(), wanted.as_str(), "{code}");
+    assert_eq!(rt; (ran.status, ran.refused.as_str()), (Status::Done, ""));
+    Ok(())
 }
 
 #[test]
-fn prints_the_first_machine(rt: HostRuntime) -> Result<(), Fail> {
-    let report = machine_after(rt.alloc(), "600570031204", "")?;
+fn reports_the_machine(rt: HostRuntime) -> Result<(), Fail> {
+    let rows = [
+        // keys that play no frame leave the first machine
+        (
+            "600570031204",
+            "",
+            "frames 0\npc 0200 i 0000\nv 00 00 00 00 00 00 00 00 00 00 00 00 00 00 00 00\ntimer 00 tone 00 draws 0\nstack 0\nstate runs\n",
+        ),
+        // a value, and a sum
+        (
+            "600570031204",
+            "0000 0000\n",
+            "frames 1\npc 0204 i 0000\nv 08 00 00 00 00 00 00 00 00 00 00 00 00 00 00 00\ntimer 00 tone 00 draws 0\nstack 0\nstate runs\n",
+        ),
+        // the flag of a sum is written last
+        (
+            "6fff61058f141206",
+            "0000 0000\n",
+            "frames 1\npc 0206 i 0000\nv 00 05 00 00 00 00 00 00 00 00 00 00 00 00 00 01\ntimer 00 tone 00 draws 0\nstack 0\nstate runs\n",
+        ),
+        // a wait, and the key that ends it at its release
+        (
+            "6003f015f10a1206",
+            "0000 0020\n",
+            "frames 1\npc 0206 i 0000\nv 03 00 00 00 00 00 00 00 00 00 00 00 00 00 00 00\ntimer 02 tone 00 draws 0\nstack 0\nstate waits 1\n",
+        ),
+        (
+            "6003f015f10a1206",
+            "0000 0020\n0000 0020\n0000 0020\n",
+            "frames 3\npc 0206 i 0000\nv 03 00 00 00 00 00 00 00 00 00 00 00 00 00 00 00\ntimer 00 tone 00 draws 0\nstack 0\nstate waits 1\n",
+        ),
+        (
+            "6003f015f10a1206",
+            "0000 0020\n0000 0020\n0000 0020\n0000 0000\n",
+            "frames 4\npc 0206 i 0000\nv 03 05 00 00 00 00 00 00 00 00 00 00 00 00 00 00\ntimer 00 tone 00 draws 0\nstack 0\nstate runs\n",
+        ),
+        // an empty stack
+        (
+            "00ee",
+            "0000 0000\n",
+            "frames 1\npc 0200 i 0000\nv 00 00 00 00 00 00 00 00 00 00 00 00 00 00 00 00\ntimer 00 tone 00 draws 0\nstack 0\nstate stop 3\n",
+        ),
+        // no instruction, a frame and two
+        (
+            "6003f0150000",
+            "0000 0000\n",
+            "frames 1\npc 0204 i 0000\nv 03 00 00 00 00 00 00 00 00 00 00 00 00 00 00 00\ntimer 02 tone 00 draws 0\nstack 0\nstate stop 1\n",
+        ),
+        (
+            "6003f0150000",
+            "0000 0000\n0000 0000\n",
+            "frames 2\npc 0204 i 0000\nv 03 00 00 00 00 00 00 00 00 00 00 00 00 00 00 00\ntimer 02 tone 00 draws 0\nstack 0\nstate stop 1\n",
+        ),
+        // the digits of a number, and what is loaded
+        (
+            "60fea300f033f2651208",
+            "0000 0000\n",
+            "frames 1\npc 0208 i 0303\nv 02 05 04 00 00 00 00 00 00 00 00 00 00 00 00 00\ntimer 00 tone 00 draws 0\nstack 0\nstate runs\n",
+        ),
+        // differences and shifts
+        (
+            "6005610780158306841e8517120c",
+            "0000 0000\n",
+            "frames 1\npc 020c i 0000\nv fe 07 00 7f 0e 07 00 00 00 00 00 00 00 00 00 01\ntimer 00 tone 00 draws 0\nstack 0\nstate runs\n",
+        ),
+        // a timer, a tone, and a register whose digit is a letter
+        (
+            "60abf01561cdf118fe0a",
+            "0000 0000\n",
+            "frames 1\npc 020a i 0000\nv ab cd 00 00 00 00 00 00 00 00 00 00 00 00 00 00\ntimer aa tone cc draws 0\nstack 0\nstate waits e\n",
+        ),
+        // three calls, oldest first
+        (
+            "220600000000220c000000002abc",
+            "0000 0000\n",
+            "frames 1\npc 0abc i 0000\nv 00 00 00 00 00 00 00 00 00 00 00 00 00 00 00 00\ntimer 00 tone 00 draws 0\nstack 3 0202 0208 020e\nstate stop 1\n",
+        ),
+        // the counter goes from 0ffe to 0000
+        (
+            "1ffe",
+            "0000 0000\n",
+            "frames 1\npc 0ffe i 0000\nv 00 00 00 00 00 00 00 00 00 00 00 00 00 00 00 00\ntimer 00 tone 00 draws 0\nstack 0\nstate stop 1\n",
+        ),
+        // draws 0 to 14: the last is the first byte of SHA-256 over 8 bytes 0 and the number 14, which is 4f
+        (
+            "c0ff1200",
+            "0000 0000\n0000 0000\n0000 0000\n",
+            "frames 3\npc 0200 i 0000\nv 4f 00 00 00 00 00 00 00 00 00 00 00 00 00 00 00\ntimer 00 tone 00 draws 15\nstack 0\nstate runs\n",
+        ),
+        // twelve frames, each with five additions
+        (
+            "71011200",
+            "0000 0000\n0000 0000\n0000 0000\n0000 0000\n0000 0000\n0000 0000\n0000 0000\n0000 0000\n0000 0000\n0000 0000\n0000 0000\n0000 0000\n",
+            "frames 12\npc 0200 i 0000\nv 00 3c 00 00 00 00 00 00 00 00 00 00 00 00 00 00\ntimer 00 tone 00 draws 0\nstack 0\nstate runs\n",
+        ),
+    ];
+    for (code, keys, report) in rows {
+        prints(&rt, rt.alloc(), code, keys, report, DARK)?;
+    }
+    Ok(())
+}
+
+#[test]
+fn reports_the_screen(rt: HostRuntime) -> Result<(), Fail> {
+    let rows = [
+        // two rows of 8 points in the lower right corner, of which four columns of one row are on the screen
+        (
+            "603c611fa20cd012d012120affff",
+            "0000 0000\n",
+            "frames 1\npc 0208 i 020c\nv 3c 1f 00 00 00 00 00 00 00 00 00 00 00 00 00 00\ntimer 00 tone 00 draws 0\nstack 0\nstate runs\n",
+            CORNER,
+        ),
+        // they are put out
+        (
+            "603c611fa20cd012d012120affff",
+            "0000 0000\n0000 0000\n",
+            "frames 2\npc 020a i 020c\nv 3c 1f 00 00 00 00 00 00 00 00 00 00 00 00 00 01\ntimer 00 tone 00 draws 0\nstack 0\nstate runs\n",
+            DARK,
+        ),
+        // the pattern of F in column 1 of row 2
+        (
+            "600ff02961016202d125120a",
+            "0000 0000\n",
+            "frames 1\npc 020a i 009b\nv 0f 01 02 00 00 00 00 00 00 00 00 00 00 00 00 00\ntimer 00 tone 00 draws 0\nstack 0\nstate runs\n",
+            LETTER,
+        ),
+    ];
+    for (code, keys, report, screen) in rows {
+        prints(&rt, rt.alloc(), code, keys, report, screen)?;
+    }
+    Ok(())
+}
+
+/// A frame of 100 instructions calls itself until the stack is full; a second frame changes nothing
+/// but the number of frames.
+#[test]
+fn reports_a_full_stack(rt: HostRuntime) -> Result<(), Fail> {
+    let rules = RULES.replace(rt.alloc(), "ipf 10", "ipf 100")?;
+    let game = format!(in rt.alloc(); "{rules}code 2200\n")?;
+    let report =
+        "pc 0200 i 0000\nv 00 00 00 00 00 00 00 00 00 00 00 00 00 00 00 00\ntimer 00 tone 00 draws 0\nstack 16 0202 0202 0202 0202 0202 0202 0202 0202 0202 0202 0202 0202 0202 0202 0202 0202\nstate stop 2\n";
+    for (keys, frames) in [
+        ("0000 0000\n", "frames 1\n"),
+        ("0000 0000\n0000 0000\n", "frames 2\n"),
+    ] {
+        let wanted = format!(in rt.alloc(); "{frames}{report}{DARK}")?;
+        let ran = ran(rt.alloc(), game.as_str(), keys)?;
+        assert_eq!(rt; ran.printed.as_str(), wanted.as_str());
+    }
+    Ok(())
+}
+
+/// One line of 3584 bytes fills the memory: 1ffc, zeros, and at 0ffc 6a5b and 1ffe.
+#[test]
+fn plays_the_longest_program(rt: HostRuntime) -> Result<(), Fail> {
+    let zeros = "00".repeat(rt.alloc(), 3578)?;
+    let game = format!(in rt.alloc(); "{RULES}code 1ffc{zeros}6a5b1ffe\n")?;
+    let report =
+        "frames 1\npc 0ffe i 0000\nv 00 00 00 00 00 00 00 00 00 00 5b 00 00 00 00 00\ntimer 00 tone 00 draws 0\nstack 0\nstate runs\n";
+    let wanted = format!(in rt.alloc(); "{report}{DARK}")?;
+    let played = ran(rt.alloc(), game.as_str(), "0000 0000\n")?;
+    assert_eq!(rt; played.printed.as_str(), wanted.as_str());
+    let longer = format!(in rt.alloc(); "{game}code 00\n")?;
+    let refused = ran(rt.alloc(), longer.as_str(), "")?;
     assert_eq!(rt;
-        report.as_str(),
-        "frames 0\npc 0200 i 0000\nv 00 00 00 00 00 00 00 00 00 00 00 00 00 00 00 00\ntimer 00 tone 00 draws 0\nstack 0\nstate runs\n"
+        (
+            refused.status,
+            refused.printed.as_str(),
+            refused.refused.as_str()
+        ),
+        (Status::Refused, "", "refused: game 2 Range\n")
     );
     Ok(())
 }
 
-/// The counter goes from 0ffe to 0000, where there is no instruction; a stopped machine stays.
+/// Comments of 80000 bytes and many lines say nothing.
 #[test]
-fn wraps_and_stops(rt: HostRuntime) -> Result<(), Fail> {
-    for (keys, frames) in [("0000 0000\n", 1), ("0000 0000\n0000 0000\n", 2)] {
-        let report = machine_after(rt.alloc(), "1ffe", keys)?;
-        let wanted = format!(in rt.alloc();
-            "frames {frames}\npc 0ffe i 0000\nv 00 00 00 00 00 00 00 00 00 00 00 00 00 00 00 00\ntimer 00 tone 00 draws 0\nstack 0\nstate stop 1\n"
-        )?;
-        assert_eq!(rt; report.as_str(), wanted.as_str());
-    }
+fn plays_a_game_of_many_comments(rt: HostRuntime) -> Result<(), Fail> {
+    let comments = "# a comment line of 40 bytes, all told..\n".repeat(rt.alloc(), 2000)?;
+    let game = format!(in rt.alloc(); "{comments}{RULES}{comments}code 600570031204\n{comments}")?;
+    let report =
+        "frames 1\npc 0204 i 0000\nv 08 00 00 00 00 00 00 00 00 00 00 00 00 00 00 00\ntimer 00 tone 00 draws 0\nstack 0\nstate runs\n";
+    let wanted = format!(in rt.alloc(); "{report}{DARK}")?;
+    let ran = ran(rt.alloc(), game.as_str(), "0000 0000\n")?;
+    assert_eq!(rt; ran.printed.as_str(), wanted.as_str());
     Ok(())
 }
 
@@ -117,5 +390,19 @@ fn takes_keys_of_either_case(rt: HostRuntime) -> Result<(), Fail> {
     let game = format!(in rt.alloc(); "{RULES}code 1200\n")?;
     let ran = ran(rt.alloc(), game.as_str(), "00fF ABcd\r\n0000 0000")?;
     assert_eq!(rt; (ran.status, ran.refused.as_str()), (Status::Done, ""));
+    Ok(())
+}
+
+/// A report that cannot be written whole is an error, wherever the writer fails.
+#[test]
+fn fails_where_its_writer_does(rt: HostRuntime) -> Result<(), Fail> {
+    let game = format!(in rt.alloc(); "{RULES}code 1200\n")?;
+    for room in [0, 1, 100, 2000] {
+        let mut printed = Short { room };
+        let mut refused = Vec::new(rt.alloc());
+        let status = run(rt.alloc(), game.as_bytes(), b"", &mut printed, &mut refused);
+        assert!(rt; status.is_err(), "{room}");
+        assert!(rt; refused.is_empty());
+    }
     Ok(())
 }

@@ -1,9 +1,10 @@
-use Rattle.std.proofs.Common.{[], ◌∷◌, ◌++◌, arith, ap, sym, ◌∙◌, length-append, map}
+use Rattle.std.proofs.Common.{◌≡◌, [], ◌∷◌, ◌++◌, true, false, arith, ap, sym, ◌∙◌, length-append, map}
 use Rattle.std.proofs.lemmas.List.{append_assoc, map-append}
+use Rattle.c8_game.specs.FaultLaws.{faultless_more}
 use Rattle.c8_game.specs.Rules.{joined}
 use Rattle.c8_machine.specs.Serial.{serial}
-use Rattle.c8play.specs.KeyLines.{row_of, first_fault}
-use Rattle.c8play.proofs.KeyLineLemmas.{good_line, serial-snoc}
+use Rattle.c8play.specs.KeyLines.{is_key_line, row_of, key_line_fault}
+use Rattle.c8play.proofs.KeyLineLemmas.{good_line, first_bad, unspelt}
 use Rattle.c8play.proofs.keys.play.Goals as goal
 
 pub loop-line-preserved : goal.loop-line-preserved
@@ -11,16 +12,28 @@ loop-line-preserved c =
     let game = c.args.game.now in
     let line = c.in-Some.line.now in
     let before = c.loop-line.invariant in
-    let spelt = rw (c.in_ok-row.ensures.ok_part, c.players.ensures.value) at c.row_in.ensures in
+    let spelt = rw (c.players.ensures.value) at c.in-Some-row_in.ensures in
     record {
       seen = before.seen ++ line ∷ [];
       cut = before.cut ∙ ap (λ left. before.seen ++ left) c.in-Some.ensures.steps ∙ sym (append_assoc before.seen (line ∷ []) _);
-      fault =
-          before.fault ∙ ap (first_fault game.players _) c.in-Some.ensures.steps
-          ∙ good_line game.players game.frames c.loop-line.played.frames line _ (omega (arith, c.if-played-frames.false, c.frames.ensures.value, before.within)) spelt.0;
+      faultless =
+          faultless_more (key_line_fault game) before.seen line before.faultless
+          (good_line game before.seen line (omega (arith, c.if-played-frames.false, c.frames.ensures.value, before.within, before.frames)) spelt.0);
       frames = omega (arith, before.frames, length-append before.seen (line ∷ []));
       within = omega arith;
       machine =
-          serial-snoc game (map (row_of game.players) before.seen) (row_of game.players line) _ _ _ before.machine (c.joined.ensures ∙ ap (joined game) spelt.1) c.frame.ensures.function
+          c.frame.ensures.serial (map (row_of game.players) before.seen) (row_of game.players line) before.machine (c.joined.ensures ∙ ap (joined game) spelt.1)
           ∙ ap (serial game) (sym (map-append (row_of game.players) before.seen (line ∷ [])));
     }
+
+-- the line is no key line, and those before it are
+pub returns-in_default : goal.returns-in_default
+returns-in_default c =
+    let game = c.args.game.now in
+    let line = c.in-Some.line.now in
+    let before = c.loop-line.invariant in
+    let n = c.players.result in
+    let none : is_key_line n line ≡ false = unspelt c.row_in.result (is_key_line n line ≡ false) (λ row. (is_key_line n line ≡ true) × (row ≡ row_of n line)) c.in_default.not-Some c.row_in.ensures in
+    let bad : is_key_line game.players line ≡ false = rw (← c.players.ensures.value) none in
+    first_bad game c.args.keys.now before.seen line _ (before.cut ∙ ap (λ left. before.seen ++ left) c.in-Some.ensures.steps) before.faultless
+    (omega (arith, c.if-played-frames.false, c.frames.ensures.value, before.within, before.frames)) bad

@@ -1,0 +1,26 @@
+-- What `run` answers to two texts.
+use Rattle.std.specs.Prelude.{◌≡◌, ◌⊎◌, ℕ, List, Some, Result, Ok, Err}
+use Rattle.c8_game.specs.GameText.{Spells, refusal}
+use Rattle.c8_game.specs.Rules.{Rules}
+use Rattle.c8_game.specs.declared.error.GameError.TheVariants as games
+use Rattle.c8play.specs.KeyLines.{IsRunOf, IsFaultOf}
+use Rattle.c8play.specs.declared.keys.Played.{Played}
+use Rattle.c8play.specs.declared.refusal.Refusal.{Refusal}
+use Rattle.c8play.specs.declared.refusal.Refusal.TheVariants.{Game, Keys, Hex, Wire, Disk, Start}
+
+-- the first text spells a game, and this was played of it by the rows of the second
+abbrev pub IsPlayedFrom : List ℕ → List ℕ → Played → Type 0
+IsPlayedFrom game keys played = (rules : Rules) × Spells game rules × IsRunOf rules keys played
+
+-- the first text has this first fault, or it spells a game and the second has it; or memory ran out
+abbrev pub IsRefusalOfRun : List ℕ → List ℕ → Refusal → Type 0
+IsRefusalOfRun game keys (Game error) = (error ≡ games.Memory) ⊎ (refusal game ≡ Some error)
+IsRefusalOfRun game keys (Keys error) = (rules : Rules) × Spells game rules × IsFaultOf rules keys error
+IsRefusalOfRun game keys (Hex error) = ⊥
+IsRefusalOfRun game keys (Wire error) = ⊥
+IsRefusalOfRun game keys Disk = ⊥
+IsRefusalOfRun game keys Start = ⊥
+
+abbrev pub IsOutcomeOfRun : List ℕ → List ℕ → Result Played Refusal → Type 0
+IsOutcomeOfRun game keys (Ok played) = IsPlayedFrom game keys played
+IsOutcomeOfRun game keys (Err error) = IsRefusalOfRun game keys error

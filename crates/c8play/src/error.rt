@@ -1,0 +1,77 @@
+//! Why the program refuses what it reads itself: a file, key lines, a hexadecimal word.
+
+ghost use Rattle.std.specs.Prelude.{◌≡◌};
+ghost use Rattle.c8play.specs.Errors.{keys_number_of, hex_number_of};
+
+use thiserror::Error;
+
+/// Why a text of key lines is refused.
+#[derive(Clone, Copy, Debug, PartialEq, Eq, Error)]
+pub enum KeysError {
+    #[error("a line that is not four hexadecimal digits for each player, one space between two")]
+    Line,
+    #[error("more lines than the game has frames")]
+    Long,
+    #[error("out of memory")]
+    Memory,
+}
+
+impl KeysError {
+    /// The number of the refusal.
+    pub fn number(self) -> u8
+        ensures { result ≡ keys_number_of self }
+    {
+        match self {
+            KeysError::Line => 1,
+            KeysError::Long => 2,
+            KeysError::Memory => 3,
+        }
+    }
+
+    /// The name of the refusal.
+    pub fn name(self) -> &'static str {
+        match self {
+            KeysError::Line => "Line",
+            KeysError::Long => "Long",
+            KeysError::Memory => "Memory",
+        }
+    }
+}
+
+/// Why a word is no hexadecimal text.
+#[derive(Clone, Copy, Debug, PartialEq, Eq, Error)]
+pub enum HexError {
+    #[error("a word that is not pairs of hexadecimal digits")]
+    Bad,
+    #[error("out of memory")]
+    Memory,
+}
+
+impl HexError {
+    /// The number of the refusal.
+    pub fn number(self) -> u8
+        ensures { result ≡ hex_number_of self }
+    {
+        match self {
+            HexError::Bad => 1,
+            HexError::Memory => 2,
+        }
+    }
+
+    /// The name of the refusal.
+    pub fn name(self) -> &'static str {
+        match self {
+            HexError::Bad => "Bad",
+            HexError::Memory => "Memory",
+        }
+    }
+}
+
+/// Why a text was not read from its file.
+#[derive(Clone, Copy, Debug, PartialEq, Eq, Error)]
+pub enum TextError {
+    #[error("a file that cannot be read, or has more than 16777216 bytes")]
+    Failed,
+    #[error("out of memory")]
+    Memory,
+}

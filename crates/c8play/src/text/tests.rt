@@ -1,0 +1,43 @@
+use crate::error::{KeysError, TextError};
+use crate::refusal::Refusal;
+use crate::text::{both, text_of};
+use c8_game::GameError;
+use std::io;
+use std::io::Read;
+use std::test::Fail;
+
+#[test]
+fn a_text_has_16777216_bytes_at_most(rt: HostRuntime) -> Result<(), Fail> {
+    let longest = text_of(rt.alloc(), io::repeat(b'#').take(16_777_216))?;
+    assert_eq!(rt; longest.len(), 16_777_216);
+    let longer = text_of(rt.alloc(), io::repeat(b'#').take(16_777_217));
+    assert!(rt; matches!(longer, Err(TextError::Failed)));
+    Ok(())
+}
+
+#[test]
+fn a_file_that_fails_comes_before_want_of_memory(rt: HostRuntime) {
+    let game = Refusal::Game(GameError::Memory);
+    let keys = Refusal::Keys(KeysError::Memory);
+    let rows = [
+        (Ok(1), Ok(2), Ok((1, 2))),
+        (Ok(1), Err(TextError::Failed), Err(Refusal::Disk)),
+        (Ok(1), Err(TextError::Memory), Err(keys)),
+        (Err(TextError::Failed), Ok(2), Err(Refusal::Disk)),
+        (Err(TextError::Memory), Ok(2), Err(game)),
+        (
+            Err(TextError::Memory),
+            Err(TextError::Failed),
+            Err(Refusal::Disk),
+        ),
+        (
+            Err(TextError::Failed),
+            Err(TextError::Memory),
+            Err(Refusal::Disk),
+        ),
+        (Err(TextError::Memory), Err(TextError::Memory), Err(game)),
+    ];
+    for (game, keys, wanted) in rows {
+        assert_eq!(rt; both(game, keys), wanted);
+    }
+}
