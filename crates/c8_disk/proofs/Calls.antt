@@ -14,19 +14,6 @@ use Rattle.c8_disk.specs.declared.call.Call.TheVariants.{Write, Sync}
 pub rest : (calls : List Call) (i : ℕ) (call : Call) → i < length calls → get_or calls i (Write 0 0 []) ≡ call → drop i calls ≡ call ∷ drop (i + 1) calls
 rest calls i call lt is = drop_more calls i (Write 0 0 []) lt ∙ ap (λ (c : Call). c ∷ drop (i + 1) calls) is
 
-pub first_lawful : (bytes : List ℕ) (call : Call) (calls : List Call) → are_lawful bytes (call ∷ calls) ≡ true → are_lawful bytes (call ∷ []) ≡ true
-first_lawful bytes (Write at count written) calls lawful =
-    and_from _ _ (and_parts (nat_le at (length bytes) && nat_le count (length written)) (are_lawful (overwritten bytes at (take count written)) calls) lawful).0 refl
-first_lawful bytes Sync calls lawful = refl
-
-pub others_lawful : (bytes : List ℕ) (call : Call) (calls : List Call) → are_lawful bytes (call ∷ calls) ≡ true → are_lawful (content bytes (call ∷ [])) calls ≡ true
-others_lawful bytes (Write at count written) calls lawful = (and_parts (nat_le at (length bytes) && nat_le count (length written)) (are_lawful (overwritten bytes at (take count written)) calls) lawful).1
-others_lawful bytes Sync calls lawful = lawful
-
-pub first_fits : (capacity : ℕ) (call : Call) (calls : List Call) → fit capacity (call ∷ calls) ≡ true → fit capacity (call ∷ []) ≡ true
-first_fits capacity (Write at count written) calls fits = and_from _ _ (and_parts (nat_le count 144 && nat_le (at + count) capacity) (fit capacity calls) fits).0 refl
-first_fits capacity Sync calls fits = refl
-
 pub others_fit : (capacity : ℕ) (call : Call) (calls : List Call) → fit capacity (call ∷ calls) ≡ true → fit capacity calls ≡ true
 others_fit capacity (Write at count written) calls fits = (and_parts (nat_le count 144 && nat_le (at + count) capacity) (fit capacity calls) fits).1
 others_fit capacity Sync calls fits = fits
@@ -38,10 +25,6 @@ fit_more less more (Write at count written ∷ calls) le fits =
     let places = and_parts (nat_le count 144) (nat_le (at + count) less) parts.0 in
     and_from _ _ (and_from _ _ places.0 (le-leb _ _ (omega (arith, leb-true _ _ places.1)))) (fit_more less more calls le parts.1)
 fit_more less more (Sync ∷ calls) le fits = fit_more less more calls le fits
-
-pub content-cons : (bytes : List ℕ) (call : Call) (calls : List Call) → content bytes (call ∷ calls) ≡ content (content bytes (call ∷ [])) calls
-content-cons bytes (Write at count written) calls = refl
-content-cons bytes Sync calls = refl
 
 pub torn_cons : (call : Call) (calls : List Call) (old mid new : List ℕ) → TornBy (call ∷ []) old mid → TornBy calls mid new → TornBy (call ∷ calls) old new
 torn_cons (Write at count written) calls old mid new one others = (one.0, one.1, subst (λ (l : List ℕ). TornBy calls l new) one.2 others)

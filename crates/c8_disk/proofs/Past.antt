@@ -23,13 +23,6 @@ join_leaves images bytes [] ys image left = left
 join_leaves images bytes (Write at count written ∷ xs) ys image left = join_leaves _ (overwritten bytes at (take count written)) xs ys image left
 join_leaves images bytes (Sync ∷ xs) ys image left = join_leaves _ bytes xs ys image left
 
--- fewer images before leave no more afterwards
-pub leaves_fewer : (fewer more : List ℕ → Type 0) → ((image : List ℕ) → fewer image → more image) → (bytes : List ℕ) (calls : List Call) (image : List ℕ) → Leaves fewer bytes calls image → Leaves more bytes calls image
-leaves_fewer fewer more so bytes [] image left = so image left
-leaves_fewer fewer more so bytes (Write at count written ∷ calls) image left =
-    leaves_fewer _ _ (λ new torn. (torn.0, so torn.0 torn.1, torn.2)) (overwritten bytes at (take count written)) calls image left
-leaves_fewer fewer more so bytes (Sync ∷ calls) image left = left
-
 pub lawful_more : (bytes : List ℕ) (xs ys : List Call) → are_lawful bytes xs ≡ true → are_lawful (content bytes xs) ys ≡ true → are_lawful bytes (xs ++ ys) ≡ true
 lawful_more bytes [] ys one other = other
 lawful_more bytes (Write at count written ∷ xs) ys one other =
@@ -42,9 +35,6 @@ fit_push capacity [] call fits one = one
 fit_push capacity (Write at count written ∷ calls) call fits one =
     let parts = and_parts (nat_le count 144 && nat_le (at + count) capacity) (fit capacity calls) fits in and_from _ _ parts.0 (fit_push capacity calls call parts.1 one)
 fit_push capacity (Sync ∷ calls) call fits one = fit_push capacity calls call fits one
-
-pub elapses_same : (first : List ℕ) (calls : List Call) → Elapses (length calls) (length calls) (LeftSince first calls) (LeftSince first calls) (IsImage first calls)
-elapses_same first calls = record { later = omega arith; nothing_else = λ t image le left. inl left; keeps = λ t image le left. left }
 
 pub elapses_push : (first : List ℕ) (calls : List Call) (call : Call) → Elapses (length calls) (length (calls ++ call ∷ [])) (LeftSince first calls) (LeftSince first (calls ++ call ∷ [])) (IsImage first (calls ++ call ∷ []))
 elapses_push first calls call = record {

@@ -28,21 +28,3 @@ torn_more at count old mid new first second =
     let after : drop (at + (count + 1)) new ≡ drop (at + (count + 1)) old =
     ap (λ (n : ℕ). drop n new) (sym reach) ∙ second.after ∙ ap (λ (n : ℕ). drop n mid) reach ∙ wider.after in
     record { before = before; after = after; no_shorter = omega (arith, first.no_shorter, second.no_shorter); no_longer = omega (arith, first.no_longer, second.no_longer) }
-
-pub torn_set : (at byte : ℕ) (bytes : List ℕ) → at < length bytes → Torn at 1 bytes (set bytes at byte)
-torn_set at byte bytes within = record {
-  before = take-set-le at bytes at byte (omega arith);
-  after = drop-set-lt (at + 1) bytes at byte (omega arith);
-  no_shorter = omega (arith, length-set bytes at byte);
-  no_longer = omega (arith, length-set bytes at byte);
-}
-
-pub torn_push : (at byte : ℕ) (bytes : List ℕ) → at ≡ length bytes → Torn at 1 bytes (bytes ++ byte ∷ [])
-torn_push at byte bytes end =
-    let size = length_push bytes byte in
-    record {
-      before = take-append-le at bytes (byte ∷ []) (omega arith);
-      after = drop_all (at + 1) (bytes ++ byte ∷ []) (omega (arith, size)) ∙ sym (drop_all (at + 1) bytes (omega arith));
-      no_shorter = omega (arith, size);
-      no_longer = omega (arith, size);
-    }

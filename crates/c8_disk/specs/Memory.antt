@@ -1,10 +1,15 @@
--- What a disk in memory shows.
-use Rattle.std.specs.Prelude.{ℕ, Bool, List, length}
+-- What a disk in memory shows, and what its calls make of that.
+use Rattle.std.specs.Prelude.{◌≡◌, ℕ, ◌+◌, ◌-◌, Bool, List, [], ◌∷◌, ◌++◌, length, Result, Ok, Err}
+use Rattle.c8_disk.specs.Disk.{overwritten}
+use Rattle.c8_disk.specs.declared.error.DiskError.{DiskError}
+use Rattle.c8_disk.specs.declared.error.DiskError.TheVariants.{Failed, Full}
+use Rattle.c8_disk.specs.declared.call.Call.TheVariants.{Sync}
+use Rattle.c8_disk.specs.declared.disk.Arm.TheVariants.{Off}
 use Rattle.c8_disk.specs.declared.call.Call.{Call}
 use Rattle.c8_disk.specs.declared.disk.Arm.{Arm}
 use Rattle.c8_disk.specs.declared.mem_disk.MemDisk.{MemDisk}
-use Rattle.c8_disk.specs.Past.{IsImage, LeftSince, synced}
-use Rattle.c8_disk.specs.Budget.{is_spent}
+use Rattle.c8_disk.specs.Past.{IsImage, LeftSince, IsWriteOf, synced}
+use Rattle.c8_disk.specs.Budget.{is_spent, stepped}
 
 -- what a read gives
 abbrev pub bytes_of : MemDisk → List ℕ
@@ -58,3 +63,61 @@ changes_of disk = length disk.asked.items
 -- its calls are spent, or it is stopped
 abbrev pub is_stopped : MemDisk → Bool
 is_stopped disk = is_spent disk.budget
+
+-- all of this as one value
+pub record MemValue : Type 0 where
+  pub bytes : List ℕ
+  pub first : List ℕ
+  pub calls : List Call
+  pub room : ℕ
+  pub left : ℕ
+  pub allowed : ℕ
+  pub arm : Arm
+  pub arms : List Arm
+  pub failures : ℕ
+  pub changes : ℕ
+
+abbrev pub value_of : MemDisk → MemValue
+value_of disk = record {
+  bytes = bytes_of disk;
+  first = first_of disk;
+  calls = calls_of disk;
+  room = room_of disk;
+  left = calls_left disk;
+  allowed = calls_allowed disk;
+  arm = arm_of disk;
+  arms = arms_of disk;
+  failures = failures_of disk;
+  changes = changes_of disk;
+}
+
+-- an empty one
+abbrev pub new_value : ℕ → ℕ → MemValue
+new_value capacity calls =
+    record { bytes = []; first = []; calls = []; room = capacity; left = calls; allowed = calls; arm = Off; arms = []; failures = 0; changes = 0 }
+
+-- after a call that was served, and after one that failed
+abbrev pub served : MemValue → MemValue
+served v = record v { left = v.left - 1; arm = stepped v.arm }
+
+abbrev pub failed : MemValue → MemValue
+failed v = record v { failures = v.failures + 1 }
+
+-- one call more that was to write or sync
+abbrev pub asked : MemValue → MemValue
+asked v = record v { changes = v.changes + 1 }
+
+abbrev pub after_read : Result (Unit {0}) DiskError → MemValue → MemValue
+after_read (Ok _) v = served v
+after_read (Err Failed) v = failed v
+after_read (Err Full) v = v
+
+abbrev pub IsWritten : ℕ → List ℕ → Result (Unit {0}) DiskError → MemValue → MemValue → Type 0
+IsWritten at bytes (Ok _) v w = (call : Call) × IsWriteOf at bytes call × (w ≡ record (served (asked v)) { bytes = overwritten v.bytes at bytes; calls = v.calls ++ call ∷ [] })
+IsWritten at bytes (Err Failed) v w = w ≡ failed (asked v)
+IsWritten at bytes (Err Full) v w = w ≡ asked v
+
+abbrev pub after_sync : Result (Unit {0}) DiskError → MemValue → MemValue
+after_sync (Ok _) v = record (served (asked v)) { calls = v.calls ++ Sync ∷ [] }
+after_sync (Err Failed) v = failed (asked v)
+after_sync (Err Full) v = asked v

@@ -1,8 +1,8 @@
 //! How long a disk in memory serves.
-ghost use Rattle.std.specs.Prelude.{◌≡◌, ◌+◌, ◌↔◌, true, false, length, OnOk, OnErr, IsErrOf};
+ghost use Rattle.std.specs.Prelude.{◌≡◌, ◌+◌, ◌-◌, true, false, length};
 
+use crate::Arm;
 use crate::ghost_list::GhostList;
-use crate::{Arm, DiskError};
 
 /// The calls that it still serves, and when it stops before that.
 #[derive(Drop)]
@@ -15,25 +15,24 @@ pub(crate) struct Budget {
 impl Budget {
     ghost use Rattle.c8_disk.specs.Budget.{is_spent, stepped};
 
-    /// Fails if no call is served any more.
-    pub(crate) fn check(&mut self) -> Result<(), DiskError>
-        ensures failed { IsErrOf result DiskError.Failed ↔ (is_spent self.old ≡ true) }
-        ensures never_full { IsErrOf result DiskError.Full → ⊥ }
-        ensures ok { OnOk result (self.new ≡ self.old) }
-        ensures err { OnErr result ((self.new.calls ≡ self.old.calls) × (self.new.arm ≡ self.old.arm)
-            × (length self.new.failures.items ≡ length self.old.failures.items + 1)) }
+    /// Whether the next call is refused. One that is counts as a failure.
+    pub(crate) fn refuses(&mut self) -> bool
+        ensures spent { result ≡ is_spent self.old }
+        ensures yes { result ≡ true → (self.new.calls ≡ self.old.calls) × (self.new.arm ≡ self.old.arm)
+            × (length self.new.failures.items ≡ length self.old.failures.items + 1) }
+        ensures no { result ≡ false → self.new ≡ self.old }
     {
         if self.calls == 0 || self.arm == Arm::Stop(0) {
             self.failures = self.failures.and(&());
-            return Err(DiskError::Failed);
+            return true;
         }
-        Ok(())
+        false
     }
 
     /// Counts a call that is served.
     pub(crate) fn spend(&mut self)
         requires { is_spent self.old ≡ false }
-        ensures calls { self.new.calls + 1 ≡ self.old.calls }
+        ensures calls { self.new.calls ≡ self.old.calls - 1 }
         ensures arm { self.new.arm ≡ stepped self.old.arm }
         ensures failures { self.new.failures ≡ self.old.failures }
     {

@@ -1,8 +1,7 @@
 //! A disk in memory that can stop and crash.
 ghost use Rattle.std.specs.Prelude.{◌≡◌, ◌≤◌, ◌<◌, ◌+◌, ◌^◌, ◌↔◌, true, [], ◌∷◌, ◌++◌, length, vec_len, vec_capacity, take, drop, IfOk, OnOk, OnErr, IsErrOf, refl, false};
 ghost use Rattle.c8_disk.specs.Disk.{Only, AddsNone, Writes, WritesImages, Elapses, HasCause};
-ghost use Rattle.c8_disk.specs.Past.{content, synced, are_lawful, fit, IsImage, LeftSince, AddsWrite};
-ghost use Rattle.c8_disk.specs.Budget.{stepped};
+ghost use Rattle.c8_disk.specs.Past.{content, synced, are_lawful, fit, IsImage, LeftSince};
 ghost use Rattle.c8_disk.specs.PastLaws.{reads_image, counts, only};
 
 use crate::budget::Budget;
@@ -49,18 +48,12 @@ fn note(calls: &mut Vec<Call>, call: Call)
 }
 
 impl MemDisk {
-    ghost use Rattle.c8_disk.specs.Memory.{bytes_of, first_of, calls_of, images_of, moment_of, left_since, synced_of, room_of, calls_left, calls_allowed, arm_of, arms_of, failures_of, changes_of};
+    ghost use Rattle.c8_disk.specs.Memory.{bytes_of, images_of, moment_of, left_since, synced_of, calls_allowed, arms_of, value_of, new_value};
 
     /// An empty disk with room for so many bytes, which serves so many calls.
     pub fn new(alloc: Global, capacity: u32, calls: u32) -> Result<MemDisk, AllocError>
-        ensures empty { IfOk result (λ disk. bytes_of disk ≡ []) }
-        ensures first { IfOk result (λ disk. first_of disk ≡ []) }
-        ensures calls { IfOk result (λ disk. calls_of disk ≡ []) }
+        ensures value { IfOk result (λ disk. value_of disk ≡ new_value capacity calls) }
         ensures settled { IfOk result (λ disk. Only (bytes_of disk) (images_of disk)) }
-        ensures room { IfOk result (λ disk. room_of disk ≡ capacity) }
-        ensures left { IfOk result (λ disk. calls_left disk ≡ calls) }
-        ensures allowed { IfOk result (λ disk. calls_allowed disk ≡ calls) }
-        ensures arm { IfOk result (λ disk. arm_of disk ≡ Arm.Off) }
     {
         Ok(MemDisk {
             first: Vec::with_capacity(alloc, capacity as usize)?,
@@ -80,19 +73,11 @@ impl MemDisk {
 
     /// Lets so many more calls that read, write or sync pass, and fails each one after them.
     pub fn stop_after(&mut self, calls: u64)
-        ensures seen { bytes_of self.new ≡ bytes_of self.old }
-        ensures first { first_of self.new ≡ first_of self.old }
-        ensures calls { calls_of self.new ≡ calls_of self.old }
+        ensures value { value_of self.new
+            ≡ record (value_of self.old) { arm = Arm.Stop calls; arms = arms_of self.old ++ Arm.Stop calls ∷ [] } }
         ensures crash { AddsNone (images_of self.old) (images_of self.new) }
         ensures crash_keeps { AddsNone (images_of self.new) (images_of self.old) }
         ensures time { Elapses (moment_of self.old) (moment_of self.new) (left_since self.old) (left_since self.new) (images_of self.new) }
-        ensures failures { failures_of self.new ≡ failures_of self.old }
-        ensures changes { changes_of self.new ≡ changes_of self.old }
-        ensures capacity { room_of self.new ≡ room_of self.old }
-        ensures arms { arms_of self.new ≡ arms_of self.old ++ Arm.Stop calls ∷ [] }
-        ensures armed { arm_of self.new ≡ Arm.Stop calls }
-        ensures left { calls_left self.new ≡ calls_left self.old }
-        ensures allowed { calls_allowed self.new ≡ calls_allowed self.old }
     {
         self.budget.arm = Arm::Stop(calls);
         self.arms = self.arms.and(&Arm::Stop(calls));
@@ -112,15 +97,13 @@ impl MemDisk {
         ensures synced { pick ≡ 0 → bytes_of result ≡ synced_of self }
         ensures read { pick ≡ 1 → bytes_of result ≡ bytes_of self }
         ensures settled { Only (bytes_of result) (images_of result) }
-        ensures first { first_of result ≡ bytes_of result }
-        ensures calls { calls_of result ≡ [] }
-        ensures room { room_of result ≡ room_of self }
-        ensures left { calls_left result ≡ calls_allowed self }
-        ensures allowed { calls_allowed result ≡ calls_allowed self }
-        ensures arm { arm_of result ≡ Arm.Off }
-        ensures failures { failures_of result ≡ failures_of self }
-        ensures changes { changes_of result ≡ changes_of self }
-        ensures arms { arms_of result ≡ arms_of self }
+        ensures value { value_of result ≡ record (value_of self) {
+          bytes = bytes_of result;
+          first = bytes_of result;
+          calls = [];
+          left = calls_allowed self;
+          arm = Arm.Off;
+        } }
     {
         let MemDisk {
             mut first,
@@ -178,7 +161,7 @@ fn leave_image(first: &mut Vec<u8>, bytes: &mut Vec<u8>, calls: &[Call], pick: u
 }
 
 impl Disk for MemDisk {
-    ghost use Rattle.c8_disk.specs.Memory.{bytes_of, first_of, calls_of, images_of, moment_of, left_since, room_of, calls_left, calls_allowed, arm_of, arms_of, failures_of, changes_of, is_stopped};
+    ghost use Rattle.c8_disk.specs.Memory.{bytes_of, images_of, moment_of, left_since, room_of, arms_of, failures_of, changes_of, is_stopped, value_of, after_read, IsWritten, after_sync};
 
     ghost seen = { λ d. d.bytes.items };
 
@@ -224,15 +207,11 @@ impl Disk for MemDisk {
 
         // It fails once its calls are spent or it is stopped, and only then. A call that was refused counts for nothing.
         ensures failed { IsErrOf result DiskError.Failed ↔ (is_stopped self.old ≡ true) }
-        ensures left { OnOk result (calls_left self.new + 1 ≡ calls_left self.old) }
-        ensures left_err { OnErr result (calls_left self.new ≡ calls_left self.old) }
-        ensures armed { OnOk result (arm_of self.new ≡ stepped (arm_of self.old)) }
-        ensures armed_err { OnErr result (arm_of self.new ≡ arm_of self.old) }
-        ensures first { first_of self.new ≡ first_of self.old }
-        ensures calls { calls_of self.new ≡ calls_of self.old }
-        ensures allowed { calls_allowed self.new ≡ calls_allowed self.old }
+        ensures value { value_of self.new ≡ after_read result (value_of self.old) }
     {
-        self.budget.check()?;
+        if self.budget.refuses() {
+            return Err(DiskError::Failed);
+        }
         self.budget.spend();
         let at = at as usize;
         buffer.copy_from_slice(&self.bytes[at..at + buffer.len()]);
@@ -254,17 +233,12 @@ impl Disk for MemDisk {
 
         // It fails once its calls are spent or it is stopped, and only then. A call that was refused counts for nothing.
         ensures failed { IsErrOf result DiskError.Failed ↔ (is_stopped self.old ≡ true) }
-        ensures left { OnOk result (calls_left self.new + 1 ≡ calls_left self.old) }
-        ensures left_err { OnErr result (calls_left self.new ≡ calls_left self.old) }
-        ensures armed { OnOk result (arm_of self.new ≡ stepped (arm_of self.old)) }
-        ensures armed_err { OnErr result (arm_of self.new ≡ arm_of self.old) }
-        ensures first { first_of self.new ≡ first_of self.old }
-        ensures calls { OnOk result (AddsWrite at bytes.now (calls_of self.old) (calls_of self.new)) }
-        ensures calls_err { OnErr result (calls_of self.new ≡ calls_of self.old) }
-        ensures allowed { calls_allowed self.new ≡ calls_allowed self.old }
+        ensures value { IsWritten at bytes.now result (value_of self.old) (value_of self.new) }
     {
         self.asked = self.asked.and(&());
-        self.budget.check()?;
+        if self.budget.refuses() {
+            return Err(DiskError::Failed);
+        }
         if bytes.len() > (self.room - at) as usize {
             return Err(DiskError::Full);
         }
@@ -287,17 +261,12 @@ impl Disk for MemDisk {
 
         // It fails once its calls are spent or it is stopped, and only then. A call that was refused counts for nothing.
         ensures failed { IsErrOf result DiskError.Failed ↔ (is_stopped self.old ≡ true) }
-        ensures left { OnOk result (calls_left self.new + 1 ≡ calls_left self.old) }
-        ensures left_err { OnErr result (calls_left self.new ≡ calls_left self.old) }
-        ensures armed { OnOk result (arm_of self.new ≡ stepped (arm_of self.old)) }
-        ensures armed_err { OnErr result (arm_of self.new ≡ arm_of self.old) }
-        ensures first { first_of self.new ≡ first_of self.old }
-        ensures calls { OnOk result (calls_of self.new ≡ calls_of self.old ++ Call.Sync ∷ []) }
-        ensures calls_err { OnErr result (calls_of self.new ≡ calls_of self.old) }
-        ensures allowed { calls_allowed self.new ≡ calls_allowed self.old }
+        ensures value { value_of self.new ≡ after_sync result (value_of self.old) }
     {
         self.asked = self.asked.and(&());
-        self.budget.check()?;
+        if self.budget.refuses() {
+            return Err(DiskError::Failed);
+        }
         self.budget.spend();
         note(&mut self.calls, Call::Sync);
         Ok(())
@@ -312,11 +281,8 @@ impl Disk for MemDisk {
         ensures changes { changes_of self.new ≡ changes_of self.old }
         ensures capacity { room_of self.new ≡ room_of self.old }
         ensures arms { arms_of self.new ≡ arms_of self.old ++ arm ∷ [] }
-        ensures armed { arm_of self.new ≡ arm }
-        ensures left { calls_left self.new ≡ calls_left self.old }
-        ensures first { first_of self.new ≡ first_of self.old }
-        ensures calls { calls_of self.new ≡ calls_of self.old }
-        ensures allowed { calls_allowed self.new ≡ calls_allowed self.old }
+        ensures value { value_of self.new
+            ≡ record (value_of self.old) { arm = arm; arms = arms_of self.old ++ arm ∷ [] } }
     {
         self.budget.arm = arm;
         self.arms = self.arms.and(&arm);

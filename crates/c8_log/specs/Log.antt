@@ -1,5 +1,5 @@
 -- A log over a disk, and what a call of it leaves there.
-use Rattle.std.specs.Prelude.{◌≡◌, ◌<◌, ◌⊎◌, ℕ, ◌+◌, ◌*◌, ◌^◌, ◌==◌, nat_lt, ◌&&◌, not, if◌then◌else◌, Bool, true, false, List, [], ◌∷◌, ◌++◌, length, slice_index, Result, Ok, Err}
+use Rattle.std.specs.Prelude.{◌≡◌, ◌<◌, ◌⊎◌, ℕ, ◌+◌, ◌*◌, ◌^◌, ◌==◌, nat_lt, ◌&&◌, not, if◌then◌else◌, Bool, true, false, List, [], ◌∷◌, ◌++◌, length, slice_index, Contains, Result, Ok, Err}
 use Rattle.c8_disk.specs.Disk.{overwritten, Only, Torn}
 use Rattle.c8_disk.specs.declared.disk.Disk.{Ghosts}
 use Rattle.c8_disk.specs.declared.error.DiskError.{DiskError}
@@ -72,6 +72,10 @@ module _ {D : Type 0} (g : Ghosts D) where
     pub closed : has_closed_gate (g.seen disk) ≡ true
     pub durable : Only (g.seen disk) (g.may_leave disk)
     pub fits : 144 * count + 1 < 2 ^ 32
+
+  -- each image that a crash since t may have left keeps one of these lists of bodies
+  abbrev pub SinceKeeps : D → ℕ → List (List (List ℕ)) → Type 0
+  SinceKeeps disk t lists = (image : List ℕ) → g.left_since disk t image → Contains lists (kept image)
 
   -- what every log is
   abbrev pub IsLog : LogValue D → Type 0
