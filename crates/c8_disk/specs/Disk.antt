@@ -3,11 +3,15 @@ use Rattle.std.specs.Prelude.{◌≡◌, ◌<◌, ◌≤◌, ◌⊎◌, ℕ, ◌
 use Rattle.c8_disk.specs.declared.error.DiskError.{DiskError}
 use Rattle.c8_disk.specs.declared.error.DiskError.TheVariants.{Failed, Full}
 
+-- the most bytes that one write may have
+abbrev pub longest_write : ℕ
+longest_write = 144
+
 -- the bytes with these written over them at this place
 abbrev pub overwritten : List ℕ → ℕ → List ℕ → List ℕ
 overwritten old at bytes = take at old ++ bytes ++ drop (at + length bytes) old
 
--- A write of so many bytes, torn: any bytes in the range and past the old end, at any length from the old one to the
+-- A write of `count` bytes, torn: any bytes in the range and past the old end, at any length from the old one to the
 -- one that the whole write gives, and the same bytes elsewhere.
 pub record Torn (at count : ℕ) (old new : List ℕ) : Type 0 where
   pub before : take at new ≡ take at old

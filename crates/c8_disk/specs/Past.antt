@@ -1,7 +1,7 @@
 -- What a disk gives and what a crash may leave of it, from what it held at first and the calls that changed it since,
 -- the oldest call first.
 use Rattle.std.specs.Prelude.{◌≡◌, ◌≤◌, ℕ, suc, ◌+◌, nat_le, nat_lt, ◌&&◌, if◌then◌else◌, Bool, true, List, [], ◌∷◌, ◌++◌, length, take}
-use Rattle.c8_disk.specs.Disk.{overwritten, Torn}
+use Rattle.c8_disk.specs.Disk.{longest_write, overwritten, Torn}
 use Rattle.c8_disk.specs.declared.call.Call.{Call}
 use Rattle.c8_disk.specs.declared.call.Call.TheVariants.{Write, Sync}
 
@@ -44,10 +44,10 @@ are_lawful bytes (Write at count written ∷ calls) =
     nat_le at (length bytes) && nat_le count (length written) && are_lawful (overwritten bytes at (take count written)) calls
 are_lawful bytes (Sync ∷ calls) = are_lawful bytes calls
 
--- each write has at most 144 bytes, and ends within the capacity
+-- each write has at most `longest_write` bytes, and ends within the capacity
 abbrev pub fit : ℕ → List Call → Bool
 fit capacity [] = true
-fit capacity (Write at count written ∷ calls) = nat_le count 144 && nat_le (at + count) capacity && fit capacity calls
+fit capacity (Write at count written ∷ calls) = nat_le count longest_write && nat_le (at + count) capacity && fit capacity calls
 fit capacity (Sync ∷ calls) = fit capacity calls
 
 -- the call writes these bytes at this place
@@ -55,7 +55,7 @@ abbrev pub IsWriteOf : ℕ → List ℕ → Call → Type 0
 IsWriteOf at bytes (Write place count written) = (place ≡ at) × (count ≡ length bytes) × (take count written ≡ bytes)
 IsWriteOf at bytes Sync = ⊥
 
--- the calls, and one more behind them that writes these bytes at this place
+-- the calls, and one more after them that writes these bytes at this place
 abbrev pub AddsWrite : ℕ → List ℕ → List Call → List Call → Type 0
 AddsWrite at bytes old new = (call : Call) × IsWriteOf at bytes call × (new ≡ old ++ call ∷ [])
 

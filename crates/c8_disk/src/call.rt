@@ -1,7 +1,9 @@
 //! The calls that change a disk, kept so that its images can be told from them.
 ghost use Rattle.std.specs.Prelude.{◌≡◌, ◌≤◌, [], ◌∷◌, length, vec_capacity, true};
+ghost use Rattle.c8_disk.specs.Disk.{longest_write};
 ghost use Rattle.c8_disk.specs.Past.{content, synced_count, are_lawful, fit, IsWriteOf, TornBy};
 
+use crate::LONGEST_WRITE;
 use crate::bytes::{overwrite, tear};
 use rand_pcg::Pcg32;
 
@@ -12,16 +14,16 @@ pub enum Call {
     Write {
         at: u32,
         length: u32,
-        bytes: [u8; 144],
+        bytes: [u8; LONGEST_WRITE],
     },
     Sync,
 }
 
 pub(crate) fn write_call(at: u32, bytes: &[u8]) -> Call
-    requires { length bytes.now ≤ 144 }
+    requires { length bytes.now ≤ longest_write }
     ensures { IsWriteOf at bytes.now result }
 {
-    let mut kept = [0; 144];
+    let mut kept = [0; LONGEST_WRITE];
     kept[..bytes.len()].copy_from_slice(bytes);
     Call::Write {
         at,

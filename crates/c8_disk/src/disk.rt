@@ -1,16 +1,19 @@
 //! A disk as a journal sees it: what a read gives, and what a crash may leave.
 ghost use Rattle.std.specs.Prelude.{◌≡◌, ◌+◌, ◌<◌, ◌≤◌, List, [], ◌∷◌, ◌++◌, ℕ, length, take, drop, OnOk, IsErrOf};
 ghost use Rattle.c8_disk.specs.declared.disk.Arm.{Arm};
-ghost use Rattle.c8_disk.specs.Disk.{AddsNone, Only, Writes, WritesImages, Elapses, HasCause};
+ghost use Rattle.c8_disk.specs.Disk.{AddsNone, Only, Writes, WritesImages, Elapses, HasCause, longest_write};
 
 use crate::DiskError;
+
+/// The most bytes that one write may have.
+pub const LONGEST_WRITE: usize = 144;
 
 /// When the calls of a disk are to fail.
 #[derive(Clone, Copy, Debug, PartialEq, Eq)]
 pub enum Arm {
     /// No stop.
     Off,
-    /// After so many more calls that read, write or sync: each one from then on fails, with no effect.
+    /// After this many more calls that read, write or sync: each one from then on fails, with no effect.
     Stop(u64),
 }
 
@@ -65,7 +68,7 @@ pub trait Disk {
     /// range. A write that answers `Failed` may have done any part of its work; one that answers `Full` did none.
     fn write_at(&mut self, at: u32, bytes: &[u8]) -> Result<(), DiskError>
         requires place { at ≤ length (seen self.old) }
-        requires short { length bytes.now ≤ 144 }
+        requires short { length bytes.now ≤ longest_write }
         ensures written { Writes at bytes.now (seen self.old) (seen self.new) result }
         ensures crash { WritesImages at (length bytes.now) (may_leave self.old) (may_leave self.new) result }
         ensures time { Elapses (moment self.old) (moment self.new) (left_since self.old) (left_since self.new) (may_leave self.new) }

@@ -15,7 +15,7 @@ mod ghost_list;
 pub mod laws;
 mod mem_disk;
 
-pub use disk::{Arm, Disk};
+pub use disk::{Arm, Disk, LONGEST_WRITE};
 pub use error::{DiskError, FileError};
 pub use file::FileDisk;
 pub use ghost_list::GhostList;

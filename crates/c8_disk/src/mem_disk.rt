@@ -1,6 +1,6 @@
 //! A disk in memory that can stop and crash.
 ghost use Rattle.std.specs.Prelude.{◌≡◌, ◌≤◌, ◌<◌, ◌+◌, ◌^◌, ◌↔◌, true, [], ◌∷◌, ◌++◌, length, vec_len, vec_capacity, take, drop, IfOk, OnOk, OnErr, IsErrOf, refl, false};
-ghost use Rattle.c8_disk.specs.Disk.{Only, AddsNone, Writes, WritesImages, Elapses, HasCause};
+ghost use Rattle.c8_disk.specs.Disk.{Only, AddsNone, Writes, WritesImages, Elapses, HasCause, longest_write};
 ghost use Rattle.c8_disk.specs.Past.{content, synced, are_lawful, fit, IsImage, LeftSince};
 ghost use Rattle.c8_disk.specs.PastLaws.{reads_image, counts, only};
 
@@ -13,7 +13,7 @@ use rand_pcg::Pcg32;
 use rand_pcg::rand_core::SeedableRng;
 use std::alloc::{AllocError, Global};
 
-/// A disk in memory. It serves so many calls that read, write or sync, and then fails; it keeps what it held at first and
+/// A disk in memory. It serves a number of calls that read, write or sync, and then fails; it keeps what it held at first and
 /// each call that changed it, so that a crash may leave whatever the model allows. All its room is reserved when it is
 /// made.
 #[derive(Drop)]
@@ -50,7 +50,7 @@ fn note(calls: &mut Vec<Call>, call: Call)
 impl MemDisk {
     ghost use Rattle.c8_disk.specs.Memory.{bytes_of, images_of, moment_of, left_since, synced_of, calls_allowed, arms_of, value_of, new_value};
 
-    /// An empty disk with room for so many bytes, which serves so many calls.
+    /// An empty disk with room for `capacity` bytes, which serves `calls` calls.
     pub fn new(alloc: Global, capacity: u32, calls: u32) -> Result<MemDisk, AllocError>
         ensures value { IfOk result (λ disk. value_of disk ≡ new_value capacity calls) }
         ensures settled { IfOk result (λ disk. Only (bytes_of disk) (images_of disk)) }
@@ -71,7 +71,7 @@ impl MemDisk {
         })
     }
 
-    /// Lets so many more calls that read, write or sync pass, and fails each one after them.
+    /// Serves `calls` more calls that read, write or sync, and fails each one after them.
     pub fn stop_after(&mut self, calls: u64)
         ensures value { value_of self.new
             ≡ record (value_of self.old) { arm = Arm.Stop calls; arms = arms_of self.old ++ Arm.Stop calls ∷ [] } }
@@ -220,7 +220,7 @@ impl Disk for MemDisk {
 
     fn write_at(&mut self, at: u32, bytes: &[u8]) -> Result<(), DiskError>
         requires place { at ≤ length (bytes_of self.old) }
-        requires short { length bytes.now ≤ 144 }
+        requires short { length bytes.now ≤ longest_write }
         ensures written { Writes at bytes.now (bytes_of self.old) (bytes_of self.new) result }
         ensures crash { WritesImages at (length bytes.now) (images_of self.old) (images_of self.new) result }
         ensures time { Elapses (moment_of self.old) (moment_of self.new) (left_since self.old) (left_since self.new) (images_of self.new) }

@@ -6,7 +6,7 @@ use Rattle.c8_disk.specs.declared.error.DiskError.{DiskError}
 use Rattle.c8_disk.specs.declared.error.DiskError.TheVariants.{Failed as DiskFailed, Full as DiskFull}
 use Rattle.c8_log.specs.declared.error.LogError.{LogError}
 use Rattle.c8_log.specs.declared.error.LogError.TheVariants.{Failed, Full, Down}
-use Rattle.c8_log.specs.Slots.{kept_count, kept}
+use Rattle.c8_log.specs.Slots.{slot_length, open_gate, closed_gate, kept_count, kept}
 
 -- a log: its disk, how many bodies it keeps, and whether it is down
 pub record LogValue (D : Type 0) : Type 0 where
@@ -33,7 +33,7 @@ KeepsWithOrWithout bodies body image = (kept image ≡ bodies) ⊎ (kept image �
 
 -- the gate of slot n is there, and it is closed
 abbrev pub has_closed_gate_at : List ℕ → ℕ → Bool
-has_closed_gate_at image n = nat_lt (144 * n) (length image) && not (slice_index image (144 * n) == 0xa5)
+has_closed_gate_at image n = nat_lt (slot_length * n) (length image) && not (slice_index image (slot_length * n) == open_gate)
 
 -- so is the gate after the kept bodies
 abbrev pub has_closed_gate : List ℕ → Bool
@@ -41,11 +41,11 @@ has_closed_gate image = has_closed_gate_at image (kept_count image)
 
 -- the image with a closed gate after its kept bodies
 abbrev pub repaired : List ℕ → List ℕ
-repaired image = if has_closed_gate image then image else overwritten image (144 * kept_count image) (0 ∷ [])
+repaired image = if has_closed_gate image then image else overwritten image (slot_length * kept_count image) (closed_gate ∷ [])
 
 -- the image with this body in slot n, whose gate is open, and a closed gate after it
 abbrev pub with_slot : List ℕ → ℕ → List ℕ → List ℕ
-with_slot image n body = overwritten image (144 * n) (0xa5 ∷ (body ++ 0 ∷ []))
+with_slot image n body = overwritten image (slot_length * n) (open_gate ∷ (body ++ closed_gate ∷ []))
 
 -- the disk after an opening, which a refused one gives back
 abbrev pub disk_after : {D : Type 0} → Result (LogValue D) (LogError × D) → D
@@ -55,7 +55,7 @@ disk_after (Err refusal) = refusal.1
 -- What a refused opening leaves of the bytes: the old ones; or, where the disk failed and the gate after the kept bodies
 -- was missing or open, the old ones with that gate torn.
 abbrev pub IsLeftBy : LogError → List ℕ → List ℕ → Type 0
-IsLeftBy Failed old new = (new ≡ old) ⊎ ((has_closed_gate old ≡ false) × Torn (144 * kept_count old) 1 old new)
+IsLeftBy Failed old new = (new ≡ old) ⊎ ((has_closed_gate old ≡ false) × Torn (slot_length * kept_count old) 1 old new)
 IsLeftBy Full old new = new ≡ old
 IsLeftBy Down old new = ⊥
 
@@ -71,7 +71,7 @@ module _ {D : Type 0} (g : Ghosts D) where
     pub count_is : count ≡ kept_count (g.seen disk)
     pub closed : has_closed_gate (g.seen disk) ≡ true
     pub durable : Only (g.seen disk) (g.may_leave disk)
-    pub fits : 144 * count + 1 < 2 ^ 32
+    pub fits : slot_length * count + 1 < 2 ^ 32
 
   -- each image that a crash since t may have left keeps one of these lists of bodies
   abbrev pub SinceKeeps : D → ℕ → List (List (List ℕ)) → Type 0

@@ -1,13 +1,26 @@
--- What an image of a disk keeps. Slot n is the 144 bytes from 144n on: a gate, and a body of 143 bytes.
+-- What an image of a disk keeps. Slot n is the bytes from slot_length * n on: a gate, and a body.
 use Rattle.std.specs.Prelude.{◌≡◌, ◌<◌, ℕ, zero, suc, ◌+◌, ◌*◌, nat_le, nat_lt, ◌==◌, ◌&&◌, ◌||◌, not, if◌then◌else◌, Bool, false, true, List, [], ◌∷◌, ◌++◌, length, take, drop, slice_index}
 
--- the slot is whole, and its gate is A5
-abbrev pub is_open : List ℕ → ℕ → Bool
-is_open image n = nat_le (144 * n + 144) (length image) && (slice_index image (144 * n) == 0xa5)
+abbrev pub slot_length : ℕ
+slot_length = 144
 
--- what stands behind a slot's gate
+abbrev pub body_length : ℕ
+body_length = 143
+
+-- any other gate is closed, and the closed one is written
+abbrev pub open_gate : ℕ
+open_gate = 0xa5
+
+abbrev pub closed_gate : ℕ
+closed_gate = 0
+
+-- the slot is whole, and its gate is open
+abbrev pub is_open : List ℕ → ℕ → Bool
+is_open image n = nat_le (slot_length * n + slot_length) (length image) && (slice_index image (slot_length * n) == open_gate)
+
+-- what stands after a slot's gate
 abbrev pub body_of : List ℕ → ℕ → List ℕ
-body_of image n = take 143 (drop (144 * n + 1) image)
+body_of image n = take body_length (drop (slot_length * n + 1) image)
 
 -- the least number below the bound that passes the test, or the bound where none does
 abbrev pub least : (ℕ → Bool) → ℕ → ℕ

@@ -2,25 +2,29 @@
 ghost use Rattle.std.specs.Prelude.{◌≡◌, ◌≤◌, ◌<◌, ◌+◌, ◌*◌, ◌^◌, ◌++◌, [], ◌∷◌, OnOk, IsErrOf, IsTrue, ◌↔◌};
 ghost use Rattle.c8_disk.specs.Disk.{HasCause};
 ghost use Rattle.c8_disk.specs.Runs.{LeavesOnly, IsSameDisk};
-ghost use Rattle.c8_log.specs.Slots.{kept};
+ghost use Rattle.c8_log.specs.Slots.{kept, slot_length};
 ghost use Rattle.c8_log.specs.Log.{IsUp, KeepsWithOrWithout, with_slot};
 
-use crate::slot::{BODY, OPEN, SLOT, with_closed_gate};
+use crate::slot::{BODY_LENGTH, OPEN_GATE, SLOT, with_closed_gate};
 use crate::write::write_and_sync;
 use c8_disk::{Disk, DiskError};
 
 /// Whether one slot more, and the gate after it, fit.
 pub(crate) fn has_room(capacity: u32, count: u32) -> bool
-    ensures { IsTrue result ↔ (144 * (count + 1) + 1 ≤ capacity) }
+    ensures { IsTrue result ↔ (slot_length * (count + 1) + 1 ≤ capacity) }
 {
-    144 * (u64::from(count) + 1) < u64::from(capacity)
+    u64::from(SLOT) * (u64::from(count) + 1) < u64::from(capacity)
 }
 
-/// Writes a body behind the closed gate, and then opens the gate.
-pub(crate) fn add<D: Disk>(disk: &mut D, count: u32, body: &[u8; BODY]) -> Result<(), DiskError>
+/// Writes a body after the closed gate, and then opens the gate.
+pub(crate) fn add<D: Disk>(
+    disk: &mut D,
+    count: u32,
+    body: &[u8; BODY_LENGTH],
+) -> Result<(), DiskError>
     requires up { IsUp D.Disk disk.old count }
-    requires room { 144 * (count + 1) + 1 ≤ D.capacity disk.old }
-    requires fits { 144 * (count + 1) + 1 < 2 ^ 32 }
+    requires room { slot_length * (count + 1) + 1 ≤ D.capacity disk.old }
+    requires fits { slot_length * (count + 1) + 1 < 2 ^ 32 }
 
     ensures up { OnOk result (IsUp D.Disk disk.new (count + 1)) }
     ensures kept { OnOk result (kept (D.seen disk.new) ≡ kept (D.seen disk.old) ++ body.now ∷ []) }
@@ -34,5 +38,5 @@ pub(crate) fn add<D: Disk>(disk: &mut D, count: u32, body: &[u8; BODY]) -> Resul
     c8_disk::laws::writes_keep_the_rest();
     let gate = SLOT * count;
     write_and_sync(disk, gate + 1, &with_closed_gate(body))?;
-    write_and_sync(disk, gate, &[OPEN])
+    write_and_sync(disk, gate, &[OPEN_GATE])
 }

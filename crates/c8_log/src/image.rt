@@ -1,14 +1,14 @@
 //! What the bytes of an image keep, for replaying them without a disk.
 ghost use Rattle.std.specs.Prelude.{◌≡◌, ◌<◌, ◌≤◌, ◌+◌, ◌*◌, length, slice_get, Some};
-ghost use Rattle.c8_log.specs.Slots.{is_open, body_of, kept};
+ghost use Rattle.c8_log.specs.Slots.{is_open, body_of, kept, slot_length};
 
-use crate::slot::{BODY, OPEN};
+use crate::slot::{BODY_LENGTH, OPEN_GATE, SLOT_LENGTH};
 
 /// How many bodies the bytes of an image keep.
 pub fn kept_len(image: &[u8]) -> usize
     ensures { result ≡ length (kept image.now) }
 {
-    let whole = image.len() / 144;
+    let whole = image.len() / SLOT_LENGTH;
     for n in 0..whole {
         if !stands_open(image, n) {
             return n;
@@ -19,14 +19,14 @@ pub fn kept_len(image: &[u8]) -> usize
 
 /// Whether a whole slot is open.
 fn stands_open(image: &[u8], n: usize) -> bool
-    requires { 144 * n + 144 ≤ length image.now }
+    requires { slot_length * n + slot_length ≤ length image.now }
     ensures { result ≡ is_open image.now n }
 {
-    image[144 * n] == OPEN
+    image[SLOT_LENGTH * n] == OPEN_GATE
 }
 
 /// Lends body `n` of those that the bytes of an image keep.
-pub fn kept_body(image: &[u8], n: usize) -> &[u8; BODY]
+pub fn kept_body(image: &[u8], n: usize) -> &[u8; BODY_LENGTH]
     requires { n < length (kept image.now) }
     ensures { slice_get (kept image.now) n ≡ Some result.now }
 {
@@ -34,11 +34,11 @@ pub fn kept_body(image: &[u8], n: usize) -> &[u8; BODY]
 }
 
 /// Lends the body of a whole slot.
-fn body_at(image: &[u8], n: usize) -> &[u8; BODY]
-    requires { 144 * n + 144 ≤ length image.now }
+fn body_at(image: &[u8], n: usize) -> &[u8; BODY_LENGTH]
+    requires { slot_length * n + slot_length ≤ length image.now }
     ensures { result.now ≡ body_of image.now n }
 {
-    let (_, rest) = image.split_at(144 * n + 1);
+    let (_, rest) = image.split_at(SLOT_LENGTH * n + 1);
     match rest.first_chunk() {
         Some(body) => body,
         None => unreachable!(),

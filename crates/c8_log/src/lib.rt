@@ -19,7 +19,7 @@ mod write;
 pub use error::LogError;
 pub use image::{kept_body, kept_len};
 pub use log::Log;
-pub use slot::{BODY, Block, Slot};
+pub use slot::{BODY_LENGTH, Block, CLOSED_GATE, OPEN_GATE, SLOT_LENGTH, Slot};
 
 #[cfg(test)]
 mod tests;

@@ -2,12 +2,12 @@
 ghost use Rattle.std.specs.Prelude.{◌≡◌, ◌≢◌, ◌<◌, ◌≤◌, ◌+◌, ◌*◌, ◌^◌, ◌++◌, [], ◌∷◌, ◌↔◌, ◌==◌, true, false, length, slice_get, Some, IfOk, OnOk, IfErr, OnErr, IsErrOf};
 ghost use Rattle.c8_disk.specs.Disk.{AddsNone};
 ghost use Rattle.c8_disk.specs.Runs.{LeavesOnly, IsSameDisk, ReadsOnly};
-ghost use Rattle.c8_log.specs.Slots.{kept, kept_count};
+ghost use Rattle.c8_log.specs.Slots.{kept, kept_count, slot_length};
 
 use crate::LogError;
 use crate::append::{add, has_room};
 use crate::open::settle;
-use crate::slot::{BODY, Block, SLOT, Slot};
+use crate::slot::{BODY_LENGTH, Block, SLOT, Slot};
 use c8_disk::{Arm, Disk};
 use std::marker::Model;
 
@@ -32,7 +32,7 @@ impl<D: Disk> Model for Log<D> {
 impl<D: Disk> Log<D> {
     ghost use Rattle.c8_log.specs.Log.{KeepsOneOf, KeepsWithOrWithout, IsAtRest, IsLeftBy, disk_after, has_closed_gate, repaired, with_slot};
 
-    /// Opens the log that a disk holds, and closes the gate behind its last body if that was left open or is missing.
+    /// Opens the log that a disk holds, and closes the gate after its last body if that was left open or is missing.
     /// At an error the disk is given back, and it keeps what it kept.
     pub fn open(disk: D) -> Result<Log<D>, (LogError, D)>
         ensures at_rest { IfOk result (λ log. IsAtRest D.Disk log) }
@@ -47,7 +47,7 @@ impl<D: Disk> Log<D> {
         ensures failed { IfErr result (λ refusal.
             refusal.0 ≡ LogError.Failed → D.failures disk < D.failures refusal.1) }
         ensures full { IfErr result (λ refusal.
-            refusal.0 ≡ LogError.Full → D.capacity disk < 144 * length (kept (D.seen disk)) + 1) }
+            refusal.0 ≡ LogError.Full → D.capacity disk < slot_length * length (kept (D.seen disk)) + 1) }
         ensures left { IfErr result (λ refusal. IsLeftBy refusal.0 (D.seen disk) (D.seen refusal.1)) }
         ensures never_down { IfErr result (λ refusal. refusal.0 ≢ LogError.Down) }
 
@@ -91,7 +91,7 @@ impl<D: Disk> Log<D> {
 
     /// Adds a body, and answers the number of its slot. At `Ok` the body is on the disk: from then on each crash leaves
     /// it. After an error the log is down; the next opening decides whether the body counts.
-    pub fn append(&mut self, body: &[u8; BODY]) -> Result<u32, LogError>
+    pub fn append(&mut self, body: &[u8; BODY_LENGTH]) -> Result<u32, LogError>
         ensures slot { IfOk result (λ slot. slot ≡ self.old.count) }
         ensures count { OnOk result (self.new.count ≡ self.old.count + 1) }
         ensures up { OnOk result (self.new.down ≡ false) }
@@ -107,7 +107,7 @@ impl<D: Disk> Log<D> {
         ensures down { IsErrOf result LogError.Down ↔ (self.old.down ≡ true) }
         ensures down_leaves { IsErrOf result LogError.Down → self.new ≡ self.old }
         ensures full { IsErrOf result LogError.Full
-            ↔ ((self.old.down ≡ false) × (D.capacity self.old.disk < 144 * (self.old.count + 1) + 1)) }
+            ↔ ((self.old.down ≡ false) × (D.capacity self.old.disk < slot_length * (self.old.count + 1) + 1)) }
         ensures full_leaves { IsErrOf result LogError.Full → self.new ≡ record self.old { down = true } }
         ensures failed { IsErrOf result LogError.Failed → D.failures self.old.disk < D.failures self.new.disk }
         ensures err { OnErr result (self.new ≡ record self.old { disk = self.new.disk; down = true }) }

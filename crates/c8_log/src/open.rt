@@ -2,11 +2,11 @@
 ghost use Rattle.std.specs.Prelude.{◌≡◌, ◌<◌, ◌≤◌, ◌+◌, ◌*◌, ◌^◌, true, length, IfOk, OnOk, IfErr, IsErrOf};
 ghost use Rattle.c8_disk.specs.Disk.{Only, HasCause};
 ghost use Rattle.c8_disk.specs.Runs.{LeavesOnly, IsSameDisk};
-ghost use Rattle.c8_log.specs.Slots.{kept, kept_count};
+ghost use Rattle.c8_log.specs.Slots.{kept, kept_count, slot_length};
 ghost use Rattle.c8_log.specs.Log.{IsUp, KeepsOneOf, IsLeftBy, has_closed_gate, repaired, log_error};
 
 use crate::end::{End, find_end};
-use crate::slot::{CLOSED, SLOT};
+use crate::slot::{CLOSED_GATE, SLOT};
 use crate::write::write_and_sync;
 use c8_disk::{Disk, DiskError};
 
@@ -18,7 +18,7 @@ pub(crate) fn settle<D: Disk>(disk: &mut D) -> Result<u32, DiskError>
     ensures kept { kept (D.seen disk.new) ≡ kept (D.seen disk.old) }
     ensures any_moment { LeavesOnly D.Disk disk.old disk.new (KeepsOneOf (D.may_leave disk.old)) }
     ensures cause { HasCause (D.failures disk.old) (D.failures disk.new) result }
-    ensures full { IsErrOf result DiskError.Full → D.capacity disk.old < 144 * length (kept (D.seen disk.old)) + 1 }
+    ensures full { IsErrOf result DiskError.Full → D.capacity disk.old < slot_length * length (kept (D.seen disk.old)) + 1 }
     ensures changes { D.changes disk.new ≤ D.changes disk.old + 3 }
     ensures no_repair { has_closed_gate (D.seen disk.old) ≡ true → D.changes disk.new ≡ D.changes disk.old + 1 }
     ensures same { IsSameDisk D.Disk disk.old disk.new }
@@ -33,7 +33,7 @@ pub(crate) fn settle<D: Disk>(disk: &mut D) -> Result<u32, DiskError>
 fn repair<D: Disk>(disk: &mut D, end: End) -> Result<(), DiskError>
     requires count { end.count ≡ kept_count (D.seen disk.old) }
     requires closed { end.closed ≡ has_closed_gate (D.seen disk.old) }
-    requires fits { 144 * end.count < 2 ^ 32 }
+    requires fits { slot_length * end.count < 2 ^ 32 }
     requires durable { Only (D.seen disk.old) (D.may_leave disk.old) }
 
     ensures repaired { OnOk result (D.seen disk.new ≡ repaired (D.seen disk.old)) }
@@ -41,7 +41,7 @@ fn repair<D: Disk>(disk: &mut D, end: End) -> Result<(), DiskError>
     ensures up { OnOk result (IsUp D.Disk disk.new end.count) }
     ensures any_moment { LeavesOnly D.Disk disk.old disk.new (λ image. kept image ≡ kept (D.seen disk.old)) }
     ensures cause { HasCause (D.failures disk.old) (D.failures disk.new) result }
-    ensures full { IsErrOf result DiskError.Full → D.capacity disk.old < 144 * length (kept (D.seen disk.old)) + 1 }
+    ensures full { IsErrOf result DiskError.Full → D.capacity disk.old < slot_length * length (kept (D.seen disk.old)) + 1 }
     ensures changes { D.changes disk.new ≤ D.changes disk.old + 2 }
     ensures no_repair { end.closed ≡ true → D.changes disk.new ≡ D.changes disk.old }
     ensures same { IsSameDisk D.Disk disk.old disk.new }
@@ -50,5 +50,5 @@ fn repair<D: Disk>(disk: &mut D, end: End) -> Result<(), DiskError>
     if end.closed {
         return Ok(());
     }
-    write_and_sync(disk, SLOT * end.count, &[CLOSED])
+    write_and_sync(disk, SLOT * end.count, &[CLOSED_GATE])
 }

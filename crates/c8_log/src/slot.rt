@@ -1,32 +1,44 @@
-//! A slot: a gate, and a body behind it.
+//! A slot: a gate, and a body after it.
 ghost use Rattle.std.specs.Prelude.{◌≡◌, [], ◌∷◌, ◌++◌, drop};
+ghost use Rattle.c8_log.specs.Slots.{closed_gate};
 
-/// The bytes of a body.
-pub const BODY: usize = 143;
+/// How many bytes a body has.
+pub const BODY_LENGTH: usize = 143;
 
-/// The bytes of a slot.
-pub(crate) const SLOT: u32 = 144;
+/// How many bytes a slot has: its gate, and a body.
+pub const SLOT_LENGTH: usize = 144;
+
+/// The same, among the places of a disk.
+pub(crate) const SLOT: u32 = SLOT_LENGTH as u32;
 
 /// The gate of a slot that counts.
-pub(crate) const OPEN: u8 = 0xa5;
+pub const OPEN_GATE: u8 = 0xa5;
 
 /// Any other gate is closed, and this one is written.
-pub(crate) const CLOSED: u8 = 0;
+pub const CLOSED_GATE: u8 = 0;
 
 /// Room for what is read of a log.
 #[derive(Drop)]
 pub struct Block {
-    pub(crate) bytes: [u8; 144],
+    pub(crate) bytes: [u8; SLOT_LENGTH],
+}
+
+impl Default for Block {
+    fn default() -> Block {
+        Block::new()
+    }
 }
 
 impl Block {
     /// An empty one.
     pub fn new() -> Block {
-        Block { bytes: [0; 144] }
+        Block {
+            bytes: [0; SLOT_LENGTH],
+        }
     }
 
-    /// What stands behind the gate.
-    pub(crate) fn body(&self) -> &[u8; BODY]
+    /// What stands after the gate.
+    pub(crate) fn body(&self) -> &[u8; BODY_LENGTH]
         ensures { result.now ≡ drop 1 self.now.bytes }
     {
         match self.bytes.split_last_chunk() {
@@ -39,14 +51,14 @@ impl Block {
 /// A slot that was read. It lends the body out of the block.
 #[derive(Clone, Copy)]
 pub struct Slot<'b> {
-    pub body: &'b [u8; BODY],
+    pub body: &'b [u8; BODY_LENGTH],
 }
 
-/// A body, and the closed gate of the slot behind it.
-pub(crate) fn with_closed_gate(body: &[u8; BODY]) -> [u8; 144]
-    ensures { result ≡ body.now ++ 0 ∷ [] }
+/// A body, and the closed gate of the slot after it.
+pub(crate) fn with_closed_gate(body: &[u8; BODY_LENGTH]) -> [u8; SLOT_LENGTH]
+    ensures { result ≡ body.now ++ closed_gate ∷ [] }
 {
-    let mut bytes = [CLOSED; 144];
-    bytes[..BODY].copy_from_slice(body);
+    let mut bytes = [CLOSED_GATE; SLOT_LENGTH];
+    bytes[..BODY_LENGTH].copy_from_slice(body);
     bytes
 }

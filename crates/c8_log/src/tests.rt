@@ -1,4 +1,4 @@
-use crate::{BODY, Block, Log, LogError};
+use crate::{BODY_LENGTH, Block, Log, LogError, kept_body, kept_len};
 use c8_disk::{Arm, Disk, FileDisk, MemDisk};
 use std::alloc::Global;
 use std::fs;
@@ -10,8 +10,8 @@ const CAPACITY: u32 = 1000;
 const CALLS: u32 = 100;
 
 /// A body of one byte repeated.
-fn body_of(byte: u8) -> [u8; BODY] {
-    [byte; BODY]
+fn body_of(byte: u8) -> [u8; BODY_LENGTH] {
+    [byte; BODY_LENGTH]
 }
 
 /// A disk that holds these bytes, all of them synced.
@@ -221,5 +221,20 @@ fn a_log_is_empty_and_up_until_it_is_neither(rt: HostRuntime) -> Result<(), Fail
     assert!(rt; !log.is_empty() && !log.is_down());
     assert_eq!(rt; log.append(&body_of(2)), Err(LogError::Full));
     assert!(rt; !log.is_empty() && log.is_down());
+    Ok(())
+}
+
+#[test]
+fn the_bytes_of_an_image_lend_their_bodies(rt: HostRuntime) -> Result<(), Fail> {
+    for gate in [0, 0xa5] {
+        let mut bytes = slots(rt.alloc(), 200, gate)?;
+        bytes.extend_from_slice(&[9; 100])?;
+        let count = kept_len(&bytes);
+        assert_eq!(rt; count, 200);
+        for n in 0..count {
+            assert_eq!(rt; *kept_body(&bytes, n), body_of(n as u8 + 1));
+        }
+    }
+    assert_eq!(rt; kept_len(&[]), 0);
     Ok(())
 }

@@ -1,6 +1,6 @@
 //! The unit of which a log's changes are made.
 ghost use Rattle.std.specs.Prelude.{◌≡◌, ◌<◌, ◌≤◌, ◌+◌, length, OnOk, IsErrOf};
-ghost use Rattle.c8_disk.specs.Disk.{Only, Writes, HasCause};
+ghost use Rattle.c8_disk.specs.Disk.{Only, Writes, HasCause, longest_write};
 ghost use Rattle.c8_disk.specs.Runs.{LeavesOnly, IsSameDisk};
 ghost use Rattle.c8_log.specs.Written.{IsBeforeOrTorn};
 
@@ -9,7 +9,7 @@ use c8_disk::{Disk, DiskError};
 /// Writes, and puts what was written on the disk.
 pub(crate) fn write_and_sync<D: Disk>(disk: &mut D, at: u32, bytes: &[u8]) -> Result<(), DiskError>
     requires place { at ≤ length (D.seen disk.old) }
-    requires short { length bytes.now ≤ 144 }
+    requires short { length bytes.now ≤ longest_write }
 
     ensures written { Writes at bytes.now (D.seen disk.old) (D.seen disk.new) result }
     ensures durable { OnOk result (Only (D.seen disk.new) (D.may_leave disk.new)) }
