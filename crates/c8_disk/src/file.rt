@@ -4,8 +4,12 @@ ghost use Rattle.c8_disk.specs.Disk.{Only, AddsNone, Writes, WritesImages, Elaps
 ghost use Rattle.c8_disk.specs.Past.{content, are_lawful, IsImage, LeftSince, AddsWrite};
 ghost use Rattle.c8_disk.specs.PastLaws.{reads_image, counts, only};
 
+#[cfg(test)]
+mod fake;
 mod health;
 mod system;
+#[cfg(test)]
+mod tests;
 
 use crate::bytes::overwrite;
 use crate::call::{Call, write_call};
@@ -18,7 +22,11 @@ pub(crate) use system::{OpenedFile, SystemFile};
 
 /// A disk in a file. What the file holds is kept in memory too, and each read is compared with it: what a read gives is
 /// what the file held when it was opened, with what was written since. After a call that failed every call fails, until
-/// the file is opened anew. That a crash leaves in the file what the model of a disk says is a premise.
+/// the file is opened anew. No call takes memory: room for the whole capacity is reserved at the opening, as address
+/// space, of which as much becomes resident as the file is long.
+///
+/// That a crash leaves in the file what the model of a disk says is a premise. So the device has to spare the other
+/// bytes of a sector of which one byte is written.
 #[derive(Drop)]
 pub struct FileDisk<S = OpenedFile> {
     file: S,
@@ -69,7 +77,12 @@ fn reads_known<S: SystemFile>(file: &S, at: u32, buffer: &mut [u8], known: &[u8]
 impl FileDisk {
     ghost use Rattle.c8_disk.specs.File.{file_bytes, file_first, file_calls, file_images, file_room, file_is_down};
 
-    /// Opens the file at this path as a disk with room for `capacity` bytes, and makes the file if there is none.
+    /// Opens the file at this path as a disk with room for `capacity` bytes, and makes the file if there is none. The
+    /// file is locked as long as the disk lives, made durable with its name, and read once, from the device.
+    ///
+    /// `Failed`: it can't be opened to read and to write, is no regular file, is open as a disk elsewhere, or a call of
+    /// the system failed. `Full`: it is longer than `capacity`. `Memory`: the system refuses the room, and no file was
+    /// made. None of its bytes is changed by any of these.
     pub fn open<R: Files<File = File> + AllocGlobal>(
         rt: &R,
         path: &str,

@@ -1,6 +1,8 @@
-use crate::{Arm, Disk, DiskError, FileDisk, FileError, MemDisk};
+mod crash;
+
+use crate::{Arm, Disk, DiskError, FileError, MemDisk};
 use std::alloc::Global;
-use std::fs;
+use std::fmt::Display;
 use std::process::Abort;
 use std::test::Fail;
 
@@ -39,19 +41,6 @@ fn a_crash_leaves_what_was_synced_or_read_or_some_of_each(rt: HostRuntime) -> Re
 }
 
 #[test]
-fn some_pick_leaves_neither_what_was_synced_nor_what_was_read(rt: HostRuntime) -> Result<(), Fail> {
-    let mut is_mixed = false;
-    for pick in 2..20u64 {
-        let left = written(&rt, rt.alloc())?.crash(pick);
-        if left.bytes() != b"abcde".as_slice() && left.bytes() != b"aXYdeZ".as_slice() {
-            is_mixed = true;
-        }
-    }
-    assert!(rt; is_mixed);
-    Ok(())
-}
-
-#[test]
 fn a_disk_stops(rt: HostRuntime) -> Result<(), Fail> {
     let mut disk = written(&rt, rt.alloc())?;
     let length = disk.len();
@@ -79,40 +68,8 @@ fn a_disk_stops(rt: HostRuntime) -> Result<(), Fail> {
     Ok(())
 }
 
-#[test]
-fn a_file_keeps_what_was_written(rt: HostRuntime) -> Result<(), Fail> {
-    const PATH: &str = "c8_disk_test.bytes";
-    let _ = fs::remove_file(&rt, PATH);
-    let mut disk = FileDisk::open(&rt, PATH, 8)?;
-    let length = disk.len();
-    assert_eq!(rt; length, 0);
-    disk.write_at(0, b"abcde")?;
-    disk.sync()?;
-    assert_eq!(rt; disk.capacity(), 8);
-    drop(disk);
-    let mut disk = FileDisk::open(&rt, PATH, 8)?;
-    disk.arm(Arm::Stop(0));
-    let length = disk.len();
-    assert_eq!(rt; length, 5);
-    let mut buffer = [0; 3];
-    disk.read_at(1, &mut buffer)?;
-    assert_eq!(rt; buffer, *b"bcd");
-
-    // Other bytes than were written: another hand is on the file.
-    fs::write(&rt, PATH, b"aBcde".as_slice())?;
-    let length = disk.len();
-    assert_eq!(rt; length, 5);
-    assert_eq!(rt; disk.read_at(1, &mut buffer), Err(DiskError::Failed));
-    assert_eq!(rt; disk.sync(), Err(DiskError::Failed));
-    drop(disk);
-
-    assert!(rt; matches!(FileDisk::open(&rt, PATH, 4), Err(FileError::Full)));
-    assert_eq!(rt; fs::read(&rt, PATH)?.as_slice(), b"aBcde".as_slice());
-    fs::remove_file(&rt, PATH)?;
-    fs::create_dir(&rt, PATH)?;
-    assert!(rt; matches!(FileDisk::open(&rt, PATH, 8), Err(FileError::Failed)));
-    fs::remove_dir(&rt, PATH)?;
-    Ok(())
+fn text_of<E: Display + Drop>(alloc: Global, error: E) -> Result<String, Fail> {
+    Ok(format!(in alloc; "{error}")?)
 }
 
 #[test]
@@ -121,11 +78,8 @@ fn each_refusal_has_its_number_name_and_text(rt: HostRuntime) -> Result<(), Fail
         (DiskError::Failed, 1, "Failed", "the disk failed"),
         (DiskError::Full, 2, "Full", "the disk is full"),
     ] {
-        let shown = format!(in rt.alloc(); "{error}")?;
-        assert_eq!(rt;
-            (error.number(), error.name(), shown.as_str()),
-            (number, name, text)
-        );
+        assert_eq!(rt; (error.number(), error.name()), (number, name));
+        assert_eq!(rt; text_of(rt.alloc(), error)?.as_str(), text);
     }
     for (error, number, name, text) in [
         (FileError::Failed, 1, "Failed", "the file cannot be used"),
@@ -137,11 +91,8 @@ fn each_refusal_has_its_number_name_and_text(rt: HostRuntime) -> Result<(), Fail
         ),
         (FileError::Memory, 3, "Memory", "out of memory"),
     ] {
-        let shown = format!(in rt.alloc(); "{error}")?;
-        assert_eq!(rt;
-            (error.number(), error.name(), shown.as_str()),
-            (number, name, text)
-        );
+        assert_eq!(rt; (error.number(), error.name()), (number, name));
+        assert_eq!(rt; text_of(rt.alloc(), error)?.as_str(), text);
     }
     Ok(())
 }

@@ -31,8 +31,8 @@ pub trait SystemFile: FileExt + Drop {
 /// A file of the operating system, and the folder that has its name.
 #[derive(Drop)]
 pub struct OpenedFile {
-    file: File,
-    folder: File,
+    pub(super) file: File,
+    pub(super) folder: File,
 }
 
 impl OpenedFile {
