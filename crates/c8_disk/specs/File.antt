@@ -3,33 +3,43 @@ use Rattle.std.specs.Prelude.{ℕ, Bool, List, length}
 use Rattle.c8_disk.specs.declared.call.Call.{Call}
 use Rattle.c8_disk.specs.declared.disk.Arm.{Arm}
 use Rattle.c8_disk.specs.declared.file.FileDisk.{FileDisk}
+use Rattle.c8_disk.specs.declared.file.held.Held.{Held}
 use Rattle.c8_disk.specs.Past.{IsImage, LeftSince}
+
+-- Of what it is known to hold: the images that a crash now may leave, how many calls changed it, and the images that a
+-- crash at some moment since may have left.
+abbrev pub images : Held → List ℕ → Type 0
+images held = IsImage held.first.value.items held.calls.items
+
+abbrev pub moment : Held → ℕ
+moment held = length held.calls.items
+
+abbrev pub left_since : Held → ℕ → List ℕ → Type 0
+left_since held = LeftSince held.first.value.items held.calls.items
 
 module _ {S : Type 0} where
   -- what a read gives
   abbrev pub file_bytes : FileDisk S → List ℕ
-  file_bytes disk = disk.bytes.items
+  file_bytes disk = disk.held.bytes.items
 
   -- what it held when it was opened, and each call that wrote or synced since: all that a crash is told from
   abbrev pub file_first : FileDisk S → List ℕ
-  file_first disk = disk.first.value.items
+  file_first disk = disk.held.first.value.items
 
   abbrev pub file_calls : FileDisk S → List Call
-  file_calls disk = disk.calls.items
+  file_calls disk = disk.held.calls.items
 
-  -- the images that a crash now may leave
   abbrev pub file_images : FileDisk S → List ℕ → Type 0
-  file_images disk = IsImage disk.first.value.items disk.calls.items
+  file_images disk = images disk.held
 
-  -- how many calls changed it, and the images that a crash at some moment since may have left
   abbrev pub file_moment : FileDisk S → ℕ
-  file_moment disk = length disk.calls.items
+  file_moment disk = moment disk.held
 
   abbrev pub file_left_since : FileDisk S → ℕ → List ℕ → Type 0
-  file_left_since disk = LeftSince disk.first.value.items disk.calls.items
+  file_left_since disk = left_since disk.held
 
   abbrev pub file_room : FileDisk S → ℕ
-  file_room disk = disk.room
+  file_room disk = disk.held.room
 
   -- a call has failed since it was opened
   abbrev pub file_is_down : FileDisk S → Bool

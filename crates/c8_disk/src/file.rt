@@ -1,23 +1,23 @@
 //! A disk in a file of the operating system.
-ghost use Rattle.std.specs.Prelude.{◌≡◌, ◌≤◌, ◌<◌, ◌+◌, ◌^◌, ◌↔◌, [], ◌∷◌, ◌++◌, true, false, length, take, drop, vec_len, vec_capacity, IfOk, OnOk, OnErr, IsErrOf, IsTrue};
+ghost use Rattle.std.specs.Prelude.{◌≡◌, ◌≤◌, ◌<◌, ◌+◌, ◌↔◌, [], ◌∷◌, ◌++◌, true, false, length, take, drop, vec_len, vec_capacity, IfOk, OnOk, OnErr, IsErrOf, IsTrue};
 ghost use Rattle.c8_disk.specs.Disk.{Only, AddsNone, Writes, WritesImages, Elapses, HasCause};
-ghost use Rattle.c8_disk.specs.Past.{content, are_lawful, IsImage, LeftSince, AddsWrite};
+ghost use Rattle.c8_disk.specs.Past.{IsImage, LeftSince, AddsWrite};
 ghost use Rattle.c8_disk.specs.PastLaws.{reads_image, counts, only};
 
 #[cfg(test)]
 mod fake;
 mod health;
+mod held;
 mod system;
 #[cfg(test)]
 mod tests;
 
-use crate::bytes::overwrite;
-use crate::call::{Call, write_call};
+use crate::call::Call;
 use crate::{Arm, Disk, DiskError, FileError, GhostList};
 use health::Health;
+use held::Held;
 use std::fs::File;
 use std::rt::Files;
-use std::snapshot::Snapshot;
 pub(crate) use system::{OpenedFile, SystemFile};
 
 /// A disk in a file. What the file holds is kept in memory too, and each read is compared with it: what a read gives is
@@ -30,18 +30,10 @@ pub(crate) use system::{OpenedFile, SystemFile};
 #[derive(Drop)]
 pub struct FileDisk<S = OpenedFile> {
     file: S,
-    bytes: Vec<u8>,
-    room: u32,
+    held: Held,
     health: Health,
-    first: Snapshot<Vec<u8>>,
-    calls: GhostList<Call>,
     asked: GhostList<()>,
     arms: GhostList<Arm>,
-    ghost room_fits: { room < 2 ^ 32 },
-    ghost lawful: { are_lawful first.value.items calls.items ≡ true },
-    ghost replayed: { bytes.items ≡ content first.value.items calls.items },
-    ghost within: { vec_len bytes ≤ room },
-    ghost bytes_room: { room ≤ vec_capacity bytes },
 }
 
 /// Locks a file, makes what it holds durable, and reads it once, from the device and not from the system's memory.
@@ -115,17 +107,13 @@ impl<S: SystemFile> FileDisk<S> {
     {
         let mut bytes = bytes;
         read_durable(&file, &mut bytes, capacity)?;
-        let first = Snapshot::of(&bytes);
         Ok(FileDisk {
             file,
-            bytes,
-            room: capacity,
+            held: Held::new(bytes, capacity),
             health: Health {
                 is_down: false,
                 failures: GhostList::new(),
             },
-            first,
-            calls: GhostList::new(),
             asked: GhostList::new(),
             arms: GhostList::new(),
         })
@@ -142,34 +130,34 @@ impl<S: SystemFile> FileDisk<S> {
 impl<S: SystemFile> Disk for FileDisk<S> {
     ghost use Rattle.c8_disk.specs.File.{file_bytes, file_first, file_calls, file_images, file_moment, file_left_since, file_room, file_is_down, file_failures, file_changes, file_arms};
 
-    ghost seen = { λ d. d.bytes.items };
+    ghost seen = { λ d. d.held.bytes.items };
 
-    ghost may_leave = { λ d. IsImage d.first.value.items d.calls.items };
+    ghost may_leave = { λ d. IsImage d.held.first.value.items d.held.calls.items };
 
-    ghost moment = { λ d. length d.calls.items };
+    ghost moment = { λ d. length d.held.calls.items };
 
-    ghost left_since = { λ d. LeftSince d.first.value.items d.calls.items };
+    ghost left_since = { λ d. LeftSince d.held.first.value.items d.held.calls.items };
 
     ghost failures = { λ d. length d.health.failures.items };
 
     ghost changes = { λ d. length d.asked.items };
 
-    ghost capacity = { λ d. d.room };
+    ghost capacity = { λ d. d.held.room };
 
     ghost arms = { λ d. d.arms.items };
 
-    ghost reads_now = { λ d. reads_image d.first.value.items d.calls.items d.bytes.items d.lawful d.replayed };
+    ghost reads_now = { λ d. reads_image d.held.first.value.items d.held.calls.items d.held.bytes.items d.held.lawful d.held.replayed };
 
-    ghost counts_now = { λ d. counts d.first.value.items d.calls.items };
+    ghost counts_now = { λ d. counts d.held.first.value.items d.held.calls.items };
 
-    ghost only_now = { λ d. only d.first.value.items d.calls.items };
+    ghost only_now = { λ d. only d.held.first.value.items d.held.calls.items };
 
     fn len(&self) -> u32 {
-        self.bytes.len() as u32
+        self.held.bytes.len() as u32
     }
 
     fn capacity(&self) -> u32 {
-        self.room
+        self.held.room
     }
 
     fn read_at(&mut self, at: u32, buffer: &mut [u8]) -> Result<(), DiskError>
@@ -191,7 +179,8 @@ impl<S: SystemFile> Disk for FileDisk<S> {
         ensures calls { file_calls self.new ≡ file_calls self.old }
     {
         let place = at as usize;
-        let known = &self.bytes[place..place + buffer.len()];
+        let held = &self.held;
+        let known = &held.bytes[place..place + buffer.len()];
         if self.health.is_down || !reads_known(&self.file, at, buffer, known) {
             self.health.fail();
             return Err(DiskError::Failed);
@@ -229,11 +218,10 @@ impl<S: SystemFile> Disk for FileDisk<S> {
             self.health.fail();
             return Err(DiskError::Failed);
         }
-        if bytes.len() > (self.room - at) as usize {
+        if bytes.len() > (self.held.room - at) as usize {
             return Err(DiskError::Full);
         }
-        overwrite(&mut self.bytes, at as usize, bytes);
-        self.calls = self.calls.and(&write_call(at, bytes));
+        self.held.note_write(at, bytes);
         if self.file.write_all_at(bytes, u64::from(at)).is_err() {
             self.health.fail();
             return Err(DiskError::Failed);
@@ -264,7 +252,7 @@ impl<S: SystemFile> Disk for FileDisk<S> {
             self.health.fail();
             return Err(DiskError::Failed);
         }
-        self.calls = self.calls.and(&Call::Sync);
+        self.held.note_sync();
         Ok(())
     }
 
