@@ -1,3 +1,4 @@
 pub mod Errors
 pub mod Links
 pub mod Held
+pub mod LinkLaws

@@ -5,7 +5,7 @@ use crate::error::HandError;
 use c8_wire::Head;
 
 /// The newest epoch known of a player, 0 if none, and whether it is known to know ours.
-#[derive(Clone, Copy)]
+#[derive(Clone, Copy, Debug)]
 pub(crate) struct Link {
     pub(crate) known: u32,
     pub(crate) is_open: bool,

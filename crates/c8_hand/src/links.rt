@@ -11,7 +11,7 @@ use c8_wire::{Datagram, Head, Kind, Seat};
 use std::marker::Model;
 
 /// For each other player the newest epoch that is known of it, and whether the link to it is open.
-#[derive(Drop)]
+#[derive(Debug, Drop)]
 pub struct Links {
     me: Player,
     players: u8,

@@ -6,12 +6,12 @@ use Rattle.byteorder.specs.Endian.{big_bytes}
 use Rattle.byteorder.specs.Numbers.{big_number-reads_back}
 use Rattle.c8_wire.specs.declared.kinds.Kind.TheVariants as kinds
 use Rattle.c8_wire.specs.Sizes.{most_inputs}
-use Rattle.c8_wire.specs.Packet.{HeadValue, IsHead, DataMessage, IsDataMessage, Data, Fits}
+use Rattle.c8_wire.specs.Packet.{AreBytes, HeadValue, IsHead, DataMessage, IsDataMessage, Data, Fits}
 use Rattle.c8_wire.specs.Spelling.{header_bytes, run_bytes, body_bytes}
 use Rattle.c8_wire.specs.Reading.{number_at, size_at, data_at}
 use Rattle.c8_wire.specs.Refusal.{applies}
-use Rattle.c8_wire.proofs.NumberLemmas.{IsBytes, IsBytes-drop, IsBytes-take, spelled_at}
-use Rattle.c8_wire.proofs.WordLemmas.{words_of-lt, length-spelled_words}
+use Rattle.c8_wire.specs.NumberLaws.{AreBytes-drop, AreBytes-take, spelled_at}
+use Rattle.c8_wire.specs.WordLaws.{words_of-lt, length-spelled_words}
 use Rattle.c8_wire.proofs.HeadLemmas.{then, HasHead, front_accepted}
 use Rattle.c8_wire.proofs.RunLemmas.{IsRunAt, length-words_at, spelled_run, HasRun, run_again}
 use Rattle.c8_wire.proofs.TableLemmas.{IsAccepted}
@@ -35,7 +35,7 @@ data_shaped bytes sized a =
       within = grind (arith, nat_tests);
     }
 
-pub spelled_data : (bytes : List ℕ) → IsBytes bytes → IsDataShaped bytes → drop 24 bytes ≡ body_bytes (Data (data_at bytes))
+pub spelled_data : (bytes : List ℕ) → AreBytes bytes → IsDataShaped bytes → drop 24 bytes ≡ body_bytes (Data (data_at bytes))
 spelled_data bytes fits is =
     let long : 46 ≤ length bytes = omega (arith, is.run.ends) in
     let marked : drop 32 bytes ≡ take 8 (drop 32 bytes) ++ drop 40 bytes = sym (take-append-drop 8 (drop 32 bytes)) ∙ ap (λ (rest : List ℕ). take 8 (drop 32 bytes) ++ rest) (drop-drop 8 32 bytes) in
@@ -43,11 +43,11 @@ spelled_data bytes fits is =
     (then (big_bytes 4 (number_at 28 4 bytes)) (spelled_at 28 4 32 bytes refl (omega arith) fits)
     (then (take 8 (drop 32 bytes)) marked (spelled_run 40 bytes fits is.run)))
 
-pub is_data : (bytes : List ℕ) → IsBytes bytes → IsDataShaped bytes → IsDataMessage (data_at bytes) × Fits (Data (data_at bytes))
+pub is_data : (bytes : List ℕ) → AreBytes bytes → IsDataShaped bytes → IsDataMessage (data_at bytes) × Fits (Data (data_at bytes))
 is_data bytes fits is =
     let count = length-words_at 40 bytes is.run in (
       record { ack = is.ack; mark_frame = is.mark_frame; run = record { short = omega (arith, count, is.run.short); within = omega (arith, count, is.within) } },
-      ((omega (arith, length-take 8 (drop 32 bytes), length-drop 32 bytes, is.run.ends), IsBytes-take 8 (drop 32 bytes) (IsBytes-drop 32 bytes fits)), words_of-lt (drop 46 bytes) (IsBytes-drop 46 bytes fits)),
+      ((omega (arith, length-take 8 (drop 32 bytes), length-drop 32 bytes, is.run.ends), AreBytes-take 8 (drop 32 bytes) (AreBytes-drop 32 bytes fits)), words_of-lt (drop 46 bytes) (AreBytes-drop 46 bytes fits)),
     )
 
 -- the bytes of a datagram of inputs have its numbers where they stand

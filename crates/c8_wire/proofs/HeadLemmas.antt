@@ -8,10 +8,10 @@ use Rattle.c8_wire.specs.declared.error.WireError.TheVariants as errors
 use Rattle.c8_wire.specs.Refusal.{applies}
 use Rattle.c8_wire.specs.declared.kinds.Kind.{Kind}
 use Rattle.c8_wire.specs.Kinds.{code_of}
-use Rattle.c8_wire.specs.Packet.{HeadValue, IsHead}
+use Rattle.c8_wire.specs.Packet.{AreBytes, HeadValue, IsHead}
 use Rattle.c8_wire.specs.Spelling.{header_bytes}
 use Rattle.c8_wire.specs.Reading.{number_at, kind_at, size_at, head_at}
-use Rattle.c8_wire.proofs.NumberLemmas.{IsBytes, spelled_at}
+use Rattle.c8_wire.specs.NumberLaws.{spelled_at}
 use Rattle.c8_wire.proofs.TableLemmas.{kind_of_its_code}
 
 -- what is spelled by a front and a rest, and the rest by what it is
@@ -22,7 +22,7 @@ pub byte_here : (place next : ℕ) (bytes : List ℕ) → place + 1 ≡ next →
 byte_here place next bytes ends long = drop_more bytes place 0 (omega arith) ∙ ap (λ (k : ℕ). get_or bytes place 0 ∷ drop k bytes) ends
 
 -- a header that begins a datagram's bytes spells what it says
-pub spelled_header : (kind : Kind) (bytes : List ℕ) → IsBytes bytes → 24 ≤ length bytes → number_at 0 2 bytes ≡ 0x4338 → slice_index bytes 2 ≡ 1 → slice_index bytes 3 ≡ code_of kind
+pub spelled_header : (kind : Kind) (bytes : List ℕ) → AreBytes bytes → 24 ≤ length bytes → number_at 0 2 bytes ≡ 0x4338 → slice_index bytes 2 ≡ 1 → slice_index bytes 3 ≡ code_of kind
     → bytes ≡ header_bytes (head_at kind bytes) (size_at bytes) ++ drop 24 bytes
 spelled_header kind bytes fits long magic version code =
     let first : bytes ≡ big_bytes 2 0x4338 ++ drop 2 bytes = spelled_at 0 2 2 bytes refl (omega arith) fits ∙ ap (λ (n : ℕ). big_bytes 2 n ++ drop 2 bytes) magic in

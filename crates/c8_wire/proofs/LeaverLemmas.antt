@@ -6,12 +6,12 @@ use Rattle.byteorder.specs.Endian.{big_bytes}
 use Rattle.byteorder.specs.Numbers.{big_number-reads_back}
 use Rattle.c8_wire.specs.declared.kinds.Kind.TheVariants as kinds
 use Rattle.c8_wire.specs.Sizes.{most_inputs}
-use Rattle.c8_wire.specs.Packet.{HeadValue, IsHead, FreezeMessage, IsFreezeMessage, LeaverMessage, IsLeaverMessage, Freeze, AreWords}
+use Rattle.c8_wire.specs.Packet.{AreBytes, HeadValue, IsHead, FreezeMessage, IsFreezeMessage, LeaverMessage, IsLeaverMessage, Freeze, AreWords}
 use Rattle.c8_wire.specs.Spelling.{header_bytes, leaver_bytes, run_bytes, body_bytes}
 use Rattle.c8_wire.specs.Reading.{number_at, size_at, words_of, freeze_at, leaver_at}
 use Rattle.c8_wire.specs.Refusal.{applies}
-use Rattle.c8_wire.proofs.NumberLemmas.{IsBytes, spelled_at}
-use Rattle.c8_wire.proofs.WordLemmas.{length-spelled_words}
+use Rattle.c8_wire.specs.NumberLaws.{spelled_at}
+use Rattle.c8_wire.specs.WordLaws.{length-spelled_words}
 use Rattle.c8_wire.proofs.HeadLemmas.{then, byte_here, HasHead, front_accepted}
 use Rattle.c8_wire.proofs.RunLemmas.{IsRunAt, length-words_at, spelled_run, HasRun, run_again}
 use Rattle.c8_wire.proofs.TableLemmas.{IsAccepted}
@@ -73,7 +73,7 @@ cut_shaped bytes sized a =
     }
 
 -- the leaver, the byte 0 and a number of inputs
-spelled_leaver : (bytes : List ℕ) (rest : List ℕ) → IsBytes bytes → 30 ≤ length bytes → slice_index bytes 25 ≡ 0 → drop 30 bytes ≡ rest
+spelled_leaver : (bytes : List ℕ) (rest : List ℕ) → AreBytes bytes → 30 ≤ length bytes → slice_index bytes 25 ≡ 0 → drop 30 bytes ≡ rest
     → drop 24 bytes ≡ slice_index bytes 24 ∷ 0 ∷ [] ++ (big_bytes 4 (number_at 26 4 bytes) ++ rest)
 spelled_leaver bytes rest fits long reserved after =
     let second : drop 25 bytes ≡ 0 ∷ [] ++ drop 26 bytes = byte_here 25 26 bytes refl (omega arith) ∙ ap (λ (n : ℕ). n ∷ drop 26 bytes) reserved in
@@ -81,10 +81,10 @@ spelled_leaver bytes rest fits long reserved after =
     (then (0 ∷ []) second
     (then (big_bytes 4 (number_at 26 4 bytes)) (spelled_at 26 4 30 bytes refl (omega arith) fits) after))
 
-pub spelled_freeze : (bytes : List ℕ) → IsBytes bytes → IsFreezeShaped bytes → drop 24 bytes ≡ body_bytes (Freeze (freeze_at bytes))
+pub spelled_freeze : (bytes : List ℕ) → AreBytes bytes → IsFreezeShaped bytes → drop 24 bytes ≡ body_bytes (Freeze (freeze_at bytes))
 spelled_freeze bytes fits is = spelled_leaver bytes [] fits (omega (arith, is.size)) is.names.reserved (drop_all 30 bytes (omega (arith, is.size)))
 
-pub spelled_run_of_leaver : (bytes : List ℕ) → IsBytes bytes → IsLeaverShaped bytes → drop 24 bytes ≡ leaver_bytes (leaver_at bytes)
+pub spelled_run_of_leaver : (bytes : List ℕ) → AreBytes bytes → IsLeaverShaped bytes → drop 24 bytes ≡ leaver_bytes (leaver_at bytes)
 spelled_run_of_leaver bytes fits is =
     spelled_leaver bytes (run_bytes (number_at 30 4 bytes) (words_of (drop 36 bytes))) fits (omega (arith, is.run.ends)) is.names.reserved (spelled_run 30 bytes fits is.run)
 

@@ -1,5 +1,3 @@
-pub mod NumberLemmas
-pub mod WordLemmas
 pub mod TableLemmas
 pub mod HeadLemmas
 pub mod RunLemmas

@@ -6,11 +6,11 @@ use Rattle.byteorder.specs.Endian.{big_bytes}
 use Rattle.byteorder.specs.Numbers.{big_number-reads_back}
 use Rattle.c8_wire.specs.declared.kinds.Kind.TheVariants as kinds
 use Rattle.c8_wire.specs.Sizes.{most_inputs}
-use Rattle.c8_wire.specs.Packet.{HeadValue, IsHead, Hello, Welcome}
+use Rattle.c8_wire.specs.Packet.{AreBytes, HeadValue, IsHead, Hello, Welcome}
 use Rattle.c8_wire.specs.Spelling.{header_bytes, body_bytes}
 use Rattle.c8_wire.specs.Reading.{number_at, size_at}
 use Rattle.c8_wire.specs.Refusal.{applies}
-use Rattle.c8_wire.proofs.NumberLemmas.{IsBytes, spelled_at}
+use Rattle.c8_wire.specs.NumberLaws.{spelled_at}
 use Rattle.c8_wire.proofs.HeadLemmas.{then, HasHead, front_accepted}
 use Rattle.c8_wire.proofs.TableLemmas.{IsAccepted}
 
@@ -32,7 +32,7 @@ welcome_shaped bytes sized a =
     let beyond = a.beyond in
     record { size = grind (arith, nat_tests); ack = grind (arith, nat_tests) }
 
-pub spelled_welcome : (bytes : List ℕ) → IsBytes bytes → IsWelcomeShaped bytes → drop 24 bytes ≡ body_bytes (Welcome (number_at 24 4 bytes))
+pub spelled_welcome : (bytes : List ℕ) → AreBytes bytes → IsWelcomeShaped bytes → drop 24 bytes ≡ body_bytes (Welcome (number_at 24 4 bytes))
 spelled_welcome bytes fits is = then (big_bytes 4 (number_at 24 4 bytes)) (spelled_at 24 4 28 bytes refl (omega (arith, is.size)) fits) (drop_all 28 bytes (omega (arith, is.size)))
 
 pub ack_again : (head : HeadValue) (size ack : ℕ) → ack ≤ most_inputs → number_at 24 4 (header_bytes head size ++ body_bytes (Welcome ack)) ≡ ack

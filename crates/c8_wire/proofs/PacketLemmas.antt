@@ -4,12 +4,12 @@ use Rattle.std.proofs.lemmas.List.{length-drop, length-append}
 use Rattle.std.proofs.lemmas.Bool.Decides.{nat_tests}
 use Rattle.c8_wire.specs.declared.kinds.Kind.{Kind}
 use Rattle.c8_wire.specs.declared.kinds.Kind.TheVariants as kinds
-use Rattle.c8_wire.specs.Packet.{HeadValue, IsHead, Message, Hello, Welcome, Data, Freeze, Frozen, Cut, Fits, IsMessage, kind_of, Packet}
+use Rattle.c8_wire.specs.Packet.{AreBytes, HeadValue, IsHead, Message, Hello, Welcome, Data, Freeze, Frozen, Cut, Fits, IsMessage, kind_of, Packet}
 use Rattle.c8_wire.specs.Spelling.{header_bytes, leaver_bytes, body_bytes, spelling, Spells}
 use Rattle.c8_wire.specs.Reading.{number_at, kind_at, size_at, head_at, message_at, packet_at}
 use Rattle.c8_wire.specs.Refusal.{applies, refusal}
-use Rattle.c8_wire.proofs.NumberLemmas.{IsBytes, IsBytes-drop, number_at-lt}
-use Rattle.c8_wire.proofs.WordLemmas.{words_of-lt}
+use Rattle.c8_wire.specs.NumberLaws.{AreBytes-drop, number_at-lt}
+use Rattle.c8_wire.specs.WordLaws.{words_of-lt}
 use Rattle.c8_wire.proofs.LinkLemmas.{length-hello, spelled_hello, welcome_shaped, spelled_welcome, ack_again, hello_accepted, welcome_accepted}
 use Rattle.c8_wire.proofs.LeaverLemmas.{freeze_shaped, frozen_shaped, cut_shaped, spelled_freeze, spelled_run_of_leaver, is_freeze, is_leaver, freeze_again, leaver_again, freeze_values, leaver_values, length-leaver_bytes, freeze_accepted, frozen_accepted, cut_accepted}
 use Rattle.c8_wire.proofs.RunLemmas.{IsRunAt}
@@ -27,7 +27,7 @@ record IsShaped (kind : Kind) (bytes : List ℕ) : Type 0 where
   sized : length bytes ≡ 24 + size_at bytes
   head : IsHead (head_at kind bytes)
 
-shaped : (kind : Kind) (bytes : List ℕ) → IsBytes bytes → IsAccepted kind bytes → IsShaped kind bytes
+shaped : (kind : Kind) (bytes : List ℕ) → AreBytes bytes → IsAccepted kind bytes → IsShaped kind bytes
 unfolding applies
 shaped kind bytes fits a =
     let short = a.short in
@@ -59,7 +59,7 @@ record IsBody (kind : Kind) (bytes : List ℕ) : Type 0 where
   message : IsMessage (message_at kind bytes)
   spelled : drop 24 bytes ≡ body_bytes (message_at kind bytes)
 
-body_found : (kind : Kind) (bytes : List ℕ) → IsBytes bytes → length bytes ≡ 24 + size_at bytes → IsAccepted kind bytes → IsBody kind bytes
+body_found : (kind : Kind) (bytes : List ℕ) → AreBytes bytes → length bytes ≡ 24 + size_at bytes → IsAccepted kind bytes → IsBody kind bytes
 body_found kinds.Hello bytes fits sized a =
     record { named = refl; fits = tt; message = tt; spelled = spelled_hello bytes (length-hello bytes sized a) }
 body_found kinds.Welcome bytes fits sized a =
@@ -74,12 +74,12 @@ body_found kinds.Freeze bytes fits sized a =
     record { named = refl; fits = tt; message = is_freeze bytes is; spelled = spelled_freeze bytes fits is }
 body_found kinds.Frozen bytes fits sized a =
     let is = frozen_shaped bytes sized a in
-    record { named = refl; fits = words_of-lt (drop 36 bytes) (IsBytes-drop 36 bytes fits); message = is_leaver bytes is; spelled = spelled_run_of_leaver bytes fits is }
+    record { named = refl; fits = words_of-lt (drop 36 bytes) (AreBytes-drop 36 bytes fits); message = is_leaver bytes is; spelled = spelled_run_of_leaver bytes fits is }
 body_found kinds.Cut bytes fits sized a =
     let is = cut_shaped bytes sized a in
-    record { named = refl; fits = words_of-lt (drop 36 bytes) (IsBytes-drop 36 bytes fits); message = is_leaver bytes is; spelled = spelled_run_of_leaver bytes fits is }
+    record { named = refl; fits = words_of-lt (drop 36 bytes) (AreBytes-drop 36 bytes fits); message = is_leaver bytes is; spelled = spelled_run_of_leaver bytes fits is }
 
-pub found : (kind : Kind) (bytes : List ℕ) → IsBytes bytes → kind_at bytes ≡ Some kind → refusal bytes ≡ None → Spells bytes (packet_at kind bytes)
+pub found : (kind : Kind) (bytes : List ℕ) → AreBytes bytes → kind_at bytes ≡ Some kind → refusal bytes ≡ None → Spells bytes (packet_at kind bytes)
 unfolding spelling
 found kind bytes fits named none =
     let a = accepted kind bytes named none in
@@ -166,32 +166,32 @@ same_kind kind bytes p named spells =
 
 -- ---- how long an accepted datagram is, by its kind
 
-pub hello_size : (bytes : List ℕ) → IsBytes bytes → kind_at bytes ≡ Some kinds.Hello → refusal bytes ≡ None → length bytes ≡ 24
+pub hello_size : (bytes : List ℕ) → AreBytes bytes → kind_at bytes ≡ Some kinds.Hello → refusal bytes ≡ None → length bytes ≡ 24
 hello_size bytes fits named none =
     let a = accepted kinds.Hello bytes named none in
     length-hello bytes (shaped kinds.Hello bytes fits a).sized a
 
-pub welcome_size : (bytes : List ℕ) → IsBytes bytes → kind_at bytes ≡ Some kinds.Welcome → refusal bytes ≡ None → length bytes ≡ 28
+pub welcome_size : (bytes : List ℕ) → AreBytes bytes → kind_at bytes ≡ Some kinds.Welcome → refusal bytes ≡ None → length bytes ≡ 28
 welcome_size bytes fits named none =
     let a = accepted kinds.Welcome bytes named none in
     (welcome_shaped bytes (shaped kinds.Welcome bytes fits a).sized a).size
 
-pub data_run : (bytes : List ℕ) → IsBytes bytes → kind_at bytes ≡ Some kinds.Data → refusal bytes ≡ None → IsRunAt 40 bytes
+pub data_run : (bytes : List ℕ) → AreBytes bytes → kind_at bytes ≡ Some kinds.Data → refusal bytes ≡ None → IsRunAt 40 bytes
 data_run bytes fits named none =
     let a = accepted kinds.Data bytes named none in
     (data_shaped bytes (shaped kinds.Data bytes fits a).sized a).run
 
-pub freeze_size : (bytes : List ℕ) → IsBytes bytes → kind_at bytes ≡ Some kinds.Freeze → refusal bytes ≡ None → length bytes ≡ 30
+pub freeze_size : (bytes : List ℕ) → AreBytes bytes → kind_at bytes ≡ Some kinds.Freeze → refusal bytes ≡ None → length bytes ≡ 30
 freeze_size bytes fits named none =
     let a = accepted kinds.Freeze bytes named none in
     (freeze_shaped bytes (shaped kinds.Freeze bytes fits a).sized a).size
 
-pub frozen_run : (bytes : List ℕ) → IsBytes bytes → kind_at bytes ≡ Some kinds.Frozen → refusal bytes ≡ None → IsRunAt 30 bytes
+pub frozen_run : (bytes : List ℕ) → AreBytes bytes → kind_at bytes ≡ Some kinds.Frozen → refusal bytes ≡ None → IsRunAt 30 bytes
 frozen_run bytes fits named none =
     let a = accepted kinds.Frozen bytes named none in
     (frozen_shaped bytes (shaped kinds.Frozen bytes fits a).sized a).run
 
-pub cut_run : (bytes : List ℕ) → IsBytes bytes → kind_at bytes ≡ Some kinds.Cut → refusal bytes ≡ None → IsRunAt 30 bytes
+pub cut_run : (bytes : List ℕ) → AreBytes bytes → kind_at bytes ≡ Some kinds.Cut → refusal bytes ≡ None → IsRunAt 30 bytes
 cut_run bytes fits named none =
     let a = accepted kinds.Cut bytes named none in
     (cut_shaped bytes (shaped kinds.Cut bytes fits a).sized a).run

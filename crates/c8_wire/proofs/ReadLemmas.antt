@@ -7,7 +7,6 @@ use Rattle.c8_wire.specs.Spelling.{Spells}
 use Rattle.c8_wire.specs.Reading.{kind_at, packet_at}
 use Rattle.c8_wire.specs.Refusal.{refusal}
 use Rattle.c8_wire.specs.Read.{answer, read}
-use Rattle.c8_wire.proofs.NumberLemmas.{IsBytes}
 use Rattle.c8_wire.proofs.TableLemmas.{kind_named}
 use Rattle.c8_wire.proofs.PacketLemmas.{found, again, same_kind}
 
@@ -30,9 +29,6 @@ read_spelled bytes p spells =
     let is = again bytes p spells in
     read_accepted bytes p.head.kind is.kind is.none ∙ ap Ok is.same
 
-pub are_bytes : (bytes : List ℕ) → AreBytes bytes → IsBytes bytes
-are_bytes bytes are i = omega (arith, are i)
-
 -- what an answer came from
 record IsRead (refused : Option WireError) (named : Option Kind) (bytes : List ℕ) (p : Packet) : Type 0 where
   kind : Kind
@@ -49,12 +45,12 @@ pub spelled_read : (bytes : List ℕ) (p : Packet) → AreBytes bytes → read b
 unfolding read
 spelled_read bytes p are e =
     let from = read_from (refusal bytes) (kind_at bytes) bytes p e in
-    subst (λ (q : Packet). Spells bytes q) from.packet (found from.kind bytes (are_bytes bytes are) from.names from.none)
+    subst (λ (q : Packet). Spells bytes q) from.packet (found from.kind bytes are from.names from.none)
 
 pub spelled_unrefused : (bytes : List ℕ) → AreBytes bytes → refusal bytes ≡ None → (p : Packet) × Spells bytes p
 spelled_unrefused bytes are none =
     let kind = kind_named bytes none in
-    (packet_at kind.0 bytes, found kind.0 bytes (are_bytes bytes are) kind.1 none)
+    (packet_at kind.0 bytes, found kind.0 bytes are kind.1 none)
 
 refused_from : (bytes : List ℕ) (refused : Option WireError) (error : WireError) → refusal bytes ≡ refused → answer refused (kind_at bytes) bytes ≡ Err error → refused ≡ Some error
 refused_from bytes (Some other) error is e = cc

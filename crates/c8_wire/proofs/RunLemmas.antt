@@ -4,10 +4,11 @@ use Rattle.std.specs.List.{flat_map}
 use Rattle.std.proofs.lemmas.List.{length-drop, drop-drop}
 use Rattle.byteorder.specs.Endian.{big_bytes, big_number}
 use Rattle.byteorder.specs.Numbers.{big_number-reads_back}
+use Rattle.c8_wire.specs.Packet.{AreBytes}
 use Rattle.c8_wire.specs.Spelling.{run_bytes}
 use Rattle.c8_wire.specs.Reading.{number_at, words_of}
-use Rattle.c8_wire.proofs.NumberLemmas.{IsBytes, IsBytes-drop, spelled_at}
-use Rattle.c8_wire.proofs.WordLemmas.{length_words_of, spelled_words, words_of-spelled}
+use Rattle.c8_wire.specs.NumberLaws.{AreBytes-drop, spelled_at}
+use Rattle.c8_wire.specs.WordLaws.{length_words_of, spelled_words, words_of-spelled}
 use Rattle.c8_wire.proofs.HeadLemmas.{then}
 
 -- the numbers of a run that stands at a place, in bytes that end with it
@@ -20,7 +21,7 @@ length-words_at place bytes run =
     let left : length (drop (place + 6) bytes) ≡ 2 * number_at (place + 4) 2 bytes = omega (arith, length-drop (place + 6) bytes, run.ends) in
     omega (arith, length_words_of (drop (place + 6) bytes), left)
 
-pub spelled_run : (place : ℕ) (bytes : List ℕ) → IsBytes bytes → IsRunAt place bytes → drop place bytes ≡ run_bytes (number_at place 4 bytes) (words_of (drop (place + 6) bytes))
+pub spelled_run : (place : ℕ) (bytes : List ℕ) → AreBytes bytes → IsRunAt place bytes → drop place bytes ≡ run_bytes (number_at place 4 bytes) (words_of (drop (place + 6) bytes))
 spelled_run place bytes fits run =
     let left : length (drop (place + 6) bytes) ≡ 2 * number_at (place + 4) 2 bytes = omega (arith, length-drop (place + 6) bytes, run.ends) in
     let count = length-words_at place bytes run in
@@ -28,7 +29,7 @@ spelled_run place bytes fits run =
     spelled_at (place + 4) 2 (place + 6) bytes (omega arith) (omega (arith, run.ends)) fits ∙ ap (λ (n : ℕ). big_bytes 2 n ++ drop (place + 6) bytes) (sym count) in
     then (big_bytes 4 (number_at place 4 bytes)) (spelled_at place 4 (place + 4) bytes refl (omega (arith, run.ends)) fits)
     (then (big_bytes 2 (length (words_of (drop (place + 6) bytes)))) counted
-    (sym (spelled_words (drop (place + 6) bytes) (omega (arith, left)) (IsBytes-drop (place + 6) bytes fits))))
+    (sym (spelled_words (drop (place + 6) bytes) (omega (arith, left)) (AreBytes-drop (place + 6) bytes fits))))
 
 -- bytes that end with a run have its numbers where it stands
 pub record HasRun (place : ℕ) (bytes : List ℕ) (start : ℕ) (words : List ℕ) : Type 0 where

@@ -1,5 +1,7 @@
 -- The kinds of datagrams, and how the body of each is laid out. A new kind is a case more in each of these.
-use Rattle.std.specs.Prelude.{ℕ, ◌+◌, ◌==◌, Bool, true, false, List, [], ◌∷◌, Option, find}
+use Rattle.std.specs.Prelude.{◌≡◌, ℕ, ◌+◌, ◌==◌, Bool, true, false, List, [], ◌∷◌, Option, Some, None, Result, MatchResult, find}
+use Rattle.c8_wire.specs.declared.error.WireError.{WireError}
+use Rattle.c8_wire.specs.declared.error.WireError.TheVariants as errors
 use Rattle.c8_wire.specs.declared.kinds.Kind.{Kind}
 use Rattle.c8_wire.specs.declared.kinds.Kind.TheVariants as kinds
 use Rattle.c8_wire.specs.Sizes.{header_length}
@@ -19,6 +21,10 @@ all_kinds = kinds.Hello ∷ kinds.Welcome ∷ kinds.Data ∷ kinds.Freeze ∷ ki
 -- the kind of a number, where there is one
 unfoldable pub kind_of_code : ℕ → Option Kind
 kind_of_code code = find (λ kind. code_of kind == code) all_kinds
+
+-- the answer to a number that should be a kind's
+abbrev pub IsKindOf : ℕ → Result Kind WireError → Type 0
+IsKindOf code answer = MatchResult answer (λ kind. kind_of_code code ≡ Some kind) (λ error. (kind_of_code code ≡ None) × (error ≡ errors.Kind))
 
 -- how many bytes of the body stand before its run, or in all where it has none
 abbrev pub fixed_size : Kind → ℕ

@@ -8,3 +8,5 @@ pub mod Refusal
 pub mod Read
 pub mod Lent
 pub mod Saying
+pub mod NumberLaws
+pub mod WordLaws

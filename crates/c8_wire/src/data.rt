@@ -10,7 +10,7 @@ use crate::run::Run;
 use crate::sizes::MOST_INPUTS;
 
 /// The sender's inputs.
-#[derive(Clone, Copy)]
+#[derive(Clone, Copy, Debug, PartialEq, Eq)]
 pub struct Data<'a> {
     pub(crate) bytes: &'a [u8],
     pub(crate) ghost size: { length bytes.now ≡ 46 + 2 * number_at 44 2 bytes.now },

@@ -8,7 +8,7 @@ use crate::kinds::Kind;
 use crate::leaving::{Cut, Freeze, Frozen};
 
 /// A datagram that lies in the bytes that came.
-#[derive(Clone, Copy)]
+#[derive(Clone, Copy, Debug, PartialEq, Eq)]
 pub enum Datagram<'a> {
     Hello(Hello<'a>),
     Welcome(Welcome<'a>),

@@ -9,7 +9,7 @@ use crate::numbers::u32_at;
 use crate::sizes::MOST_INPUTS;
 
 /// The sender asks for a link. It says nothing beside its header.
-#[derive(Clone, Copy)]
+#[derive(Clone, Copy, Debug, PartialEq, Eq)]
 pub struct Hello<'a> {
     pub(crate) bytes: &'a [u8],
     pub(crate) ghost size: { length bytes.now ≡ 24 },
@@ -17,7 +17,7 @@ pub struct Hello<'a> {
 }
 
 /// The sender answers a HELLO, which opens the addressee's link.
-#[derive(Clone, Copy)]
+#[derive(Clone, Copy, Debug, PartialEq, Eq)]
 pub struct Welcome<'a> {
     pub(crate) bytes: &'a [u8],
     pub(crate) ghost size: { length bytes.now ≡ 28 },

@@ -57,7 +57,7 @@ pub struct Head {
 }
 
 /// The header of a datagram. A field is read from the bytes when it is asked for.
-#[derive(Clone, Copy)]
+#[derive(Clone, Copy, Debug, PartialEq, Eq)]
 pub struct Header<'a> {
     pub(crate) kind: Kind,
     pub(crate) bytes: &'a [u8],

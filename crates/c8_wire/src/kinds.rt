@@ -2,6 +2,7 @@
 ghost use Rattle.std.specs.Prelude.{◌≡◌, ◌≤◌};
 ghost use Rattle.std.specs.Bool.{OnTrue};
 
+use crate::error::WireError;
 use std::fmt;
 
 /// What a datagram is for. Its number is byte 3 of the datagram.
@@ -26,7 +27,7 @@ impl Kind {
 
     /// The kind that has this number, if one has.
     #[tactic(auto, unfolding(crate::specs::Kinds::kind_of_code))]
-    pub fn from_code(code: u8) -> Option<Kind>
+    pub(crate) fn from_code(code: u8) -> Option<Kind>
         ensures { result ≡ kind_of_code code }
     {
         match code {
@@ -93,6 +94,19 @@ impl Kind {
             Kind::Freeze | Kind::Frozen | Kind::Cut => true,
             Kind::Hello | Kind::Welcome | Kind::Data => false,
         }
+    }
+}
+
+impl TryFrom<u8> for Kind {
+    type Error = WireError;
+
+    ghost use Rattle.c8_wire.specs.Kinds.{IsKindOf};
+
+    ghost try_from_gives = { IsKindOf };
+
+    /// The kind that has this number; `WireError::Kind` if none has.
+    fn try_from(code: u8) -> Result<Kind, WireError> {
+        Kind::from_code(code).ok_or(WireError::Kind)
     }
 }
 

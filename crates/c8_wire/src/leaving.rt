@@ -12,7 +12,7 @@ use c8_game::Player;
 
 /// What the three have in common: the leaver, a number of its inputs and, but for FREEZE, a run of
 /// them.
-#[derive(Clone, Copy)]
+#[derive(Clone, Copy, Debug, PartialEq, Eq)]
 pub(crate) struct Leaving<'a> {
     pub(crate) bytes: &'a [u8],
     pub(crate) ghost long: { 30 ≤ length bytes.now },
@@ -60,7 +60,7 @@ impl<'a> Leaving<'a> {
 }
 
 /// The sender tells that a player leaves. That it is player one is judged by who takes it.
-#[derive(Clone, Copy)]
+#[derive(Clone, Copy, Debug, PartialEq, Eq)]
 pub struct Freeze<'a> {
     pub(crate) view: Leaving<'a>,
     pub(crate) ghost size: { length view.bytes.now ≡ 30 },
@@ -88,7 +88,7 @@ impl<'a> Freeze<'a> {
 }
 
 /// What the sender holds of a player who leaves.
-#[derive(Clone, Copy)]
+#[derive(Clone, Copy, Debug, PartialEq, Eq)]
 pub struct Frozen<'a> {
     pub(crate) view: Leaving<'a>,
     pub(crate) ghost size: { length view.bytes.now ≡ 36 + 2 * number_at 34 2 view.bytes.now },
@@ -134,7 +134,7 @@ impl<'a> Frozen<'a> {
 }
 
 /// How many inputs a player who has left is to have at all who stay.
-#[derive(Clone, Copy)]
+#[derive(Clone, Copy, Debug, PartialEq, Eq)]
 pub struct Cut<'a> {
     pub(crate) view: Leaving<'a>,
     pub(crate) ghost size: { length view.bytes.now ≡ 36 + 2 * number_at 34 2 view.bytes.now },

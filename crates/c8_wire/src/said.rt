@@ -3,7 +3,7 @@ use crate::header::Head;
 use c8_game::Player;
 
 /// What is to be said, by kind. A run is lent from the inputs that it is taken from.
-#[derive(Clone, Copy)]
+#[derive(Clone, Copy, Debug, PartialEq, Eq)]
 pub enum Body<'a> {
     /// The sender asks for a link.
     Hello,
@@ -42,7 +42,7 @@ pub enum Body<'a> {
 }
 
 /// A datagram that is to be written.
-#[derive(Clone, Copy)]
+#[derive(Clone, Copy, Debug, PartialEq, Eq)]
 pub struct Said<'a> {
     pub head: Head,
     pub body: Body<'a>,

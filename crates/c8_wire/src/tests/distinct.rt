@@ -2,7 +2,7 @@
 ghost use Rattle.std.specs.Prelude.{◌≡◌, ◌≢◌, ◌≤◌};
 ghost use Rattle.c8_wire.specs.Saying.{MaySay};
 
-use crate::{Body, Datagram, Head, Header, Kind, Run, Said, Seat, view, write};
+use crate::{Body, Datagram, Head, Header, Kind, Run, Said, Seat, WireError, view, write};
 use c8_game::Player;
 use std::test::Fail;
 
@@ -117,13 +117,13 @@ fn names_kinds(rt: HostRuntime) -> Result<(), Fail> {
     ];
     for (kind, code, name) in kinds {
         assert_eq!(rt; kind.code(), code);
-        assert_eq!(rt; Kind::from_code(code), Some(kind));
+        assert_eq!(rt; Kind::try_from(code), Ok(kind));
         assert_eq!(rt; kind.name(), name);
         let shown = format!(in rt.alloc(); "{kind}")?;
         assert_eq!(rt; shown.as_str(), name);
     }
-    assert_eq!(rt; Kind::from_code(0), None);
-    assert_eq!(rt; Kind::from_code(7), None);
+    assert_eq!(rt; Kind::try_from(0), Err(WireError::Kind));
+    assert_eq!(rt; Kind::try_from(7), Err(WireError::Kind));
     Ok(())
 }
 

@@ -1,11 +1,12 @@
--- The key sets of a run, by the bytes that spell them.
+-- Checked, not believed: the key sets of a run, by the bytes that spell them.
 use Rattle.std.proofs.Common.{◌≡◌, ℕ, zero, suc, ◌+◌, ◌*◌, ◌/◌, ◌%◌, ◌^◌, ◌<◌, List, [], ◌∷◌, ◌++◌, length, get_or, drop, Some, refl, sym, ap, ◌∙◌, arith}
 use Rattle.std.specs.Prelude.{slice_get}
 use Rattle.std.specs.List.{flat_map}
 use Rattle.byteorder.specs.Endian.{big_bytes, big_number}
 use Rattle.byteorder.specs.Numbers.{big_number-reads_back}
+use Rattle.c8_wire.specs.Packet.{AreBytes}
 use Rattle.c8_wire.specs.Reading.{number_at, words_of}
-use Rattle.c8_wire.proofs.NumberLemmas.{IsBytes, big_bytes-big_number}
+use Rattle.c8_wire.specs.NumberLaws.{big_bytes-big_number}
 
 pub length_words_of : (bytes : List ℕ) → length (words_of bytes) ≡ length bytes / 2
 unfolding words_of
@@ -35,7 +36,7 @@ drop_words_of (suc place) (high ∷ low ∷ rest) =
     ap (λ (k : ℕ). words_of (drop k (high ∷ low ∷ rest))) moved ∙ drop_words_of place rest
 
 -- the bytes of an even number of them spell their words
-pub spelled_words : (bytes : List ℕ) → length bytes % 2 ≡ 0 → IsBytes bytes → flat_map (big_bytes 2) (words_of bytes) ≡ bytes
+pub spelled_words : (bytes : List ℕ) → length bytes % 2 ≡ 0 → AreBytes bytes → flat_map (big_bytes 2) (words_of bytes) ≡ bytes
 unfolding words_of
 spelled_words [] even fits = refl
 spelled_words (high ∷ []) even fits = absurd (omega arith)
@@ -53,7 +54,7 @@ words_of-spelled (word ∷ words) fits =
     let others = words_of-spelled words (λ i. fits (suc i)) in
     ap (λ (w : ℕ). w ∷ words_of (flat_map (big_bytes 2) words)) (omega (arith, first)) ∙ ap (λ (ws : List ℕ). word ∷ ws) others
 
-pub words_of-lt : (bytes : List ℕ) → IsBytes bytes → (i : ℕ) → get_or (words_of bytes) i 0 < 2 ^ 16
+pub words_of-lt : (bytes : List ℕ) → AreBytes bytes → (i : ℕ) → get_or (words_of bytes) i 0 < 2 ^ 16
 unfolding words_of
 words_of-lt [] fits i = omega arith
 words_of-lt (high ∷ []) fits i = omega arith

@@ -1,4 +1,4 @@
--- What is admitted, and what hearing it changes.
+-- Checked, not believed: what is admitted, and what hearing it changes.
 use Rattle.std.proofs.Common.{◌≡◌, ◌≢◌, ℕ, zero, suc, ◌<◌, ◌≤◌, ◌⊎◌, Bool, true, false, cond, Option, Some, None, refl, sym, ap, subst, ◌∙◌, inl, inr, arith}
 use Rattle.std.specs.Prelude.{◌==◌, not, if◌then◌else◌}
 use Rattle.std.proofs.lemmas.Bool.{cases_lt, cases_eq, ne_eqb, both_ways, lt-ltb, le-ltb}
