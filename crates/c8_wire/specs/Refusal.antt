@@ -20,7 +20,8 @@ abbrev pub is_misfit : Kind → List ℕ → Bool
 is_misfit kind bytes = not (length bytes == header_length + size_at bytes)
     || (if has_run kind then nat_lt (size_at bytes) (fixed_size kind) else not (size_at bytes == fixed_size kind))
 
--- the header does not name two players, or the leaver is none who may leave
+-- The header does not name two players, or the leaver is none who may leave. A kind between other
+-- seats will be judged by its kind here.
 abbrev pub misnames_players : Kind → List ℕ → Bool
 misnames_players kind bytes = not (is_player (slice_index bytes 12)) || not (is_player (slice_index bytes 13))
     || slice_index bytes 12 == slice_index bytes 13 || (names_leaver kind && not (is_within 2 4 (slice_index bytes 24)))

@@ -42,6 +42,15 @@ const CUT: [u8; 42] = [
     0x0b, 0xb7, 0x00, 0x03, 0x0d, 0x10, 0x00, 0x0c, 0xa0, 0x00,
 ];
 
+const WORDS: [u16; 64] = [
+    0x0a5c, 0x1f63, 0x346a, 0x4971, 0x5e78, 0x737f, 0x8886, 0x9d8d, 0xb294, 0xc79b, 0xdca2, 0xf1a9,
+    0x06b0, 0x1bb7, 0x30be, 0x45c5, 0x5acc, 0x6fd3, 0x84da, 0x99e1, 0xaee8, 0xc3ef, 0xd8f6, 0xedfd,
+    0x0304, 0x180b, 0x2d12, 0x4219, 0x5720, 0x6c27, 0x812e, 0x9635, 0xab3c, 0xc043, 0xd54a, 0xea51,
+    0xff58, 0x145f, 0x2966, 0x3e6d, 0x5374, 0x687b, 0x7d82, 0x9289, 0xa790, 0xbc97, 0xd19e, 0xe6a5,
+    0xfbac, 0x10b3, 0x25ba, 0x3ac1, 0x4fc8, 0x64cf, 0x79d6, 0x8edd, 0xa3e4, 0xb8eb, 0xcdf2, 0xe2f9,
+    0xf800, 0x0d07, 0x220e, 0x3715,
+];
+
 fn head_of(kind: Kind, from: u8, to: u8) -> Head
     requires from_one { 1 ≤ from }
     requires from_four { from ≤ 4 }
@@ -251,4 +260,32 @@ fn writes_freeze_frozen_and_cut(rt: HostRuntime) {
         run: &[0x0d10, 0x000c, 0xa000],
     };
     assert!(rt; is_written(&Said { head, body }, &CUT));
+}
+
+/// The longest datagram, written and read again.
+#[test]
+fn writes_64_inputs(rt: HostRuntime) -> Result<(), Fail> {
+    let body = Body::Data {
+        ack: 262148,
+        mark_frame: 262144,
+        mark: [0x9a, 0x8b, 0x7c, 0x6d, 0x5e, 0x4f, 0x30, 0x21],
+        start: 262084,
+        run: &WORDS,
+    };
+    let said = Said {
+        head: head_of(Kind::Data, 3, 2),
+        body,
+    };
+    let mut out = [0x77; 174];
+    assert_eq!(rt; write(&said, &mut out), 174);
+    let Datagram::Data(lent) = view(&out)? else {
+        return Err("no DATA")?;
+    };
+    assert!(rt; says(view(&out)?.header(), Kind::Data, 3, 2));
+    assert_eq!(rt;
+        (lent.ack(), lent.mark_frame(), lent.start()),
+        (262148, 262144, 262084)
+    );
+    assert!(rt; has(lent.run(), &WORDS));
+    Ok(())
 }
