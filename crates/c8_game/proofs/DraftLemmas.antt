@@ -1,147 +1,280 @@
--- What one more line changes of what the lines say.
-use Rattle.std.proofs.Common.{◌≡◌, ◌≢◌, ℕ, ◌⊎◌, Bool, true, false, not, cond, length, List, [], ◌∷◌, ◌++◌, Option, Some, None, Result, Ok, Err, refl, ap, sym, ◌∙◌, inl, inr, add_comm, ◌&&◌}
-use Rattle.std.specs.Prelude.{slice_set, codes, MatchResult, OnOk, IfErr, is_ok}
-use Rattle.std.specs.Option.{option_or}
+-- What one more line changes of what a draft holds.
+use Rattle.std.proofs.Common.{◌≡◌, ◌≢◌, ℕ, ◌⊎◌, Bool, true, false, not, cond, length, List, [], ◌∷◌, ◌++◌, Option, Some, None, Result, Ok, Err, refl, ap, sym, ◌∙◌, inl, inr, ◌&&◌, ◌||◌, ◌==◌, ◌<◌, ◌≤◌, nat_lt, get_or, arith}
+use Rattle.std.specs.Prelude.{slice_set, codes, MatchResult, OnOk, IfErr, is_ok, is_some, nat_le, slice_index, unwrap_or}
+use Rattle.std.specs.List.{list_any, AllZip}
 use Rattle.std.specs.Result.{result_unwrap_or}
-use Rattle.std.proofs.lemmas.Bool.{cases_eq, eqb-true, eq-eqb, ne_eqb}
-use Rattle.std.proofs.lemmas.Grind.{flat_map-append}
+use Rattle.std.specs.Str.{bytes_eq}
+use Rattle.std.proofs.lemmas.Bool.{cases_Bool, cases_eq, both_ways, false_from_ne_true, eq-eqb, ne_eqb, eqb-false, or_right, and_from, lt-ltb, le-ltb, le-leb, ltb-true, ltb-false}
+use Rattle.std.proofs.lemmas.List.Folds.{list_any_at}
+use Rattle.std.proofs.lemmas.List.Concat.{flat_map-append}
 use Rattle.std.proofs.lemmas.List.{append-nil}
-use Rattle.std.proofs.lemmas.Slice.Eq.{bytes_eq-Decides}
 use Rattle.hex.specs.Hex.{decode_of}
 use Rattle.c8_game.specs.declared.error.GameError.{GameError}
-use Rattle.c8_game.specs.declared.error.GameError.TheVariants.{Line, Twice, Memory, Hex}
+use Rattle.c8_game.specs.declared.error.GameError.TheVariants.{Memory, Hex, Missing, Range}
 use Rattle.c8_game.specs.declared.text.draft.Draft.{Draft}
 use Rattle.c8_game.specs.declared.text.field.Field.{Field}
-use Rattle.c8_game.specs.Fields.{index_of, number_of, number_at, field_named, is_mask, is_decimal}
-use Rattle.c8_game.specs.GameText.{is_skipped, is_name_and_value, name_in, value_in, is_code, field_in, is_field, said, code_bytes, program_of, value_fault, field_fault, named_fault, code_fault, line_fault}
-use Rattle.c8_game.specs.Draft.{Holds, AddsLine}
-use Rattle.c8_game.proofs.FieldLemmas.{same_field, number_at-set_same, number_at-set_other}
-use Rattle.std.proofs.Common.{add-one}
+use Rattle.c8_game.specs.declared.text.field.Field.TheVariants.{Players, Ipf, Frames, Delay, Window, Seed, Mask1, Mask2, Mask3, Mask4}
+use Rattle.c8_game.specs.Fields.{fields, owner_of, field_named, number_of}
+use Rattle.c8_game.specs.GameText.{Item, Blank, Number, Code, Says, is_skipped, number_in, numbers_for, code_in, code_of, rule_of, Give}
+use Rattle.c8_game.specs.GameFaults.{is_name_and_value, name_in, value_in, names, is_told, field_fault, named_fault, code_fault, line_fault, players_in, is_lacking, is_stray, end_fault}
+use Rattle.c8_game.specs.Draft.{Holds, AddsLine, AreFirst, first_for}
+use Rattle.c8_game.specs.Rules.{Rules, most_program}
+use Rattle.c8_game.specs.Places.{index_of, number_at, told_by, listed}
+use Rattle.c8_game.proofs.FieldLemmas.{same_field, index_of-small, itself, apart, number_at-set_same, number_at-set_other}
+use Rattle.c8_game.proofs.ItemLemmas.{fault_blank, says_number, says_code, named_told}
 
--- what one line says of a field
-said_by : Field → List ℕ → Option ℕ
-said_by field line = cond (is_field (field_in line) field) (Some (number_of field (value_in line))) None
+pub numbers_more : (field : Field) (items : List Item) (item : Item) → numbers_for field (items ++ item ∷ []) ≡ numbers_for field items ++ number_in field item
+numbers_more field items item = flat_map-append (number_in field) items (item ∷ []) ∙ ap (λ more. numbers_for field items ++ more) (append-nil (number_in field item))
 
-said_more : (field : Field) (before : List (List ℕ)) (line : List ℕ) → said field (before ++ line ∷ []) ≡ option_or (said field before) (said_by field line)
-unfolding said_by
-said_more field [] line = refl
-said_more field (first ∷ more) line =
-    elim (is_field (field_in first) field) as (λ named. cond named (Some (number_of field (value_in first))) (said field (more ++ line ∷ [])) ≡ option_or (cond named (Some (number_of field (value_in first))) (said field more)) (cond (is_field (field_in line) field) (Some (number_of field (value_in line))) None)) [
-      | true ↦ refl
-      | false ↦ said_more field more line
-    ]
+code_more : (items : List Item) (item : Item) → code_of (items ++ item ∷ []) ≡ code_of items ++ code_in item
+code_more items item = flat_map-append code_in items (item ∷ []) ∙ ap (λ more. code_of items ++ more) (append-nil (code_in item))
 
-program_more : (before : List (List ℕ)) (line : List ℕ) → program_of (before ++ line ∷ []) ≡ program_of before ++ code_bytes line
-program_more before line = flat_map-append code_bytes before (line ∷ []) ∙ ap (λ bytes. program_of before ++ bytes) (append-nil (code_bytes line))
+-- an item that is no number leaves the numbers
+numbers_stay : (field : Field) (items : List Item) (item : Item) → number_in field item ≡ [] → numbers_for field (items ++ item ∷ []) ≡ numbers_for field items
+numbers_stay field items item none = numbers_more field items item ∙ ap (λ more. numbers_for field items ++ more) none ∙ append-nil (numbers_for field items)
 
-option_or-none : (o : Option ℕ) → option_or o None ≡ o
-option_or-none None = refl
-option_or-none (Some n) = refl
+code_stays : (items : List Item) (item : Item) → code_in item ≡ [] → code_of items ≡ code_of (items ++ item ∷ [])
+code_stays items item none = sym (code_more items item ∙ ap (λ more. code_of items ++ more) none ∙ append-nil (code_of items))
 
--- a line that names no field and is no code says nothing
-pub nothing_more : (draft : Draft) (before : List (List ℕ)) (line : List ℕ) → Holds draft before → field_in line ≡ None → is_code line ≡ false → Holds draft (before ++ line ∷ [])
-unfolding said_by
-nothing_more draft before line holds unnamed uncoded = record {
-  values = λ field. holds.values field ∙ sym (option_or-none (said field before)) ∙ ap (λ named. option_or (said field before) (cond (is_field named field) (Some (number_of field (value_in line))) None)) (sym unnamed) ∙ sym (said_more field before line);
-  program = holds.program ∙ sym (append-nil (program_of before)) ∙ ap (λ coded. program_of before ++ cond coded (result_unwrap_or (decode_of (value_in line)) []) []) (sym uncoded) ∙ sym (program_more before line);
-}
+pub blank_line : (draft : Draft) (line : List ℕ) → is_skipped line ≡ true → AddsLine draft draft line (Ok tt)
+blank_line draft line skipped before items says holds = (
+  fault_blank before line skipped,
+  (Blank, skipped, record { numbers = λ field. numbers_stay field items Blank refl ∙ holds.numbers field; program = holds.program ∙ code_stays items Blank refl }),
+)
 
--- the name of a comment is no name
-starts_with_hash : (more : List ℕ) → name_in (35 ∷ more) ≡ 35 ∷ name_in more
-starts_with_hash more = rw add_comm (rw add-one refl)
+pub ok_unwrapped : {E : Type 0} (r : Result (List ℕ) E) → is_ok r ≡ true → r ≡ Ok (result_unwrap_or r [])
+ok_unwrapped (Ok bytes) good = refl
+ok_unwrapped (Err e) good = absurd (cc)
 
-comment_unnamed : (more : List ℕ) → field_in (35 ∷ more) ≡ None
-comment_unnamed more = ap field_named (starts_with_hash more)
-
-skipped_unnamed : (line : List ℕ) → is_skipped line ≡ true → field_in line ≡ None
-skipped_unnamed [] skipped = refl
-skipped_unnamed (first ∷ more) skipped = let hash : first ≡ 35 = eqb-true first 35 skipped in rw hash (comment_unnamed more)
-
-skipped_uncoded : (line : List ℕ) → is_skipped line ≡ true → is_code line ≡ false
-skipped_uncoded [] skipped = refl
-skipped_uncoded (first ∷ more) skipped = let hash : first ≡ 35 = eqb-true first 35 skipped in rw (hash, starts_with_hash more) refl
-
-pub skipped_line : (draft : Draft) (before : List (List ℕ)) (line : List ℕ) → Holds draft before → is_skipped line ≡ true → Holds draft (before ++ line ∷ [])
-skipped_line draft before line holds skipped = nothing_more draft before line holds (skipped_unnamed line skipped) (skipped_uncoded line skipped)
-
-pub fault_skipped : (before : List (List ℕ)) (line : List ℕ) → is_skipped line ≡ true → line_fault before line ≡ None
-fault_skipped before line skipped = rw skipped refl
-
-fault_coded : (before : List (List ℕ)) (line : List ℕ) → is_skipped line ≡ false → is_name_and_value line ≡ true → is_code line ≡ true → line_fault before line ≡ code_fault (value_in line)
+pub fault_coded : (before : List (List ℕ)) (line : List ℕ) → is_skipped line ≡ false → is_name_and_value line ≡ true → bytes_eq (name_in line) (codes "code") ≡ true → line_fault before line ≡ code_fault (value_in line)
 fault_coded before line said shaped coded = rw (said, shaped, coded) refl
 
-fault_named : (before : List (List ℕ)) (line : List ℕ) → is_skipped line ≡ false → is_name_and_value line ≡ true → is_code line ≡ false → line_fault before line ≡ named_fault before (field_in line) (value_in line)
+pub fault_named : (before : List (List ℕ)) (line : List ℕ) → is_skipped line ≡ false → is_name_and_value line ≡ true → bytes_eq (name_in line) (codes "code") ≡ false → line_fault before line ≡ named_fault before (field_named (name_in line)) (value_in line)
 fault_named before line said shaped uncoded = rw (said, shaped, uncoded) refl
 
--- no field has the word `code`
-coded_unnamed : (line : List ℕ) → is_code line ≡ true → field_in line ≡ None
-coded_unnamed line coded = ap field_named ((bytes_eq-Decides (name_in line) (codes "code")).0 coded)
-
--- code adds its bytes, and no number
-code_more : (old new : Draft) (before : List (List ℕ)) (line : List ℕ) → Holds old before → is_code line ≡ true → new.values ≡ old.values → new.program.items ≡ old.program.items ++ result_unwrap_or (decode_of (value_in line)) [] → Holds new (before ++ line ∷ [])
-unfolding said_by
-code_more old new before line holds coded same longer = record {
-  values = λ field. ap (λ values. number_at values field) same ∙ holds.values field ∙ sym (option_or-none (said field before))
-      ∙ ap (λ named. option_or (said field before) (cond (is_field named field) (Some (number_of field (value_in line))) None)) (sym (coded_unnamed line coded)) ∙ sym (said_more field before line);
-  program = longer ∙ ap (λ bytes. bytes ++ result_unwrap_or (decode_of (value_in line)) []) holds.program
-      ∙ ap (λ coded. program_of before ++ cond coded (result_unwrap_or (decode_of (value_in line)) []) []) (sym coded) ∙ sym (program_more before line);
-}
-
-pub coded_line : (old new : Draft) (line : List ℕ) (result : Result (Unit {0}) GameError) → is_skipped line ≡ false → is_name_and_value line ≡ true → is_code line ≡ true
+pub coded_line : (old new : Draft) (line : List ℕ) (result : Result (Unit {0}) GameError) → is_skipped line ≡ false → is_name_and_value line ≡ true → bytes_eq (name_in line) (codes "code") ≡ true
     → OnOk result (is_ok (decode_of (value_in line)) ≡ true) → OnOk result (new.program.items ≡ old.program.items ++ result_unwrap_or (decode_of (value_in line)) []) → OnOk result (new.values ≡ old.values)
     → IfErr result (λ e. (e ≡ Memory) ⊎ ((is_ok (decode_of (value_in line)) ≡ false) × (e ≡ Hex))) → AddsLine old new line result
-coded_line old new line (Ok u) said shaped coded good longer same fault before holds = (fault_coded before line said shaped coded ∙ rw good refl, code_more old new before line holds coded same longer)
-coded_line old new line (Err e) said shaped coded good longer same fault before holds =
+coded_line old new line (Ok u) said shaped coded good longer same fault before items says holds =
+    let bytes : List ℕ = result_unwrap_or (decode_of (value_in line)) [] in (
+      fault_coded before line said shaped coded ∙ rw good refl,
+      (
+        Code bytes,
+        says_code line bytes shaped coded (ok_unwrapped (decode_of (value_in line)) good),
+        record {
+          numbers = λ field. numbers_stay field items (Code bytes) refl ∙ holds.numbers field ∙ ap (λ values. listed (number_at values field)) (sym same);
+          program = longer ∙ ap (λ some. some ++ bytes) holds.program ∙ sym (code_more items (Code bytes));
+        },
+      ),
+    )
+coded_line old new line (Err e) said shaped coded good longer same fault before items says holds =
     elim fault [
       | inl memory ↦ inl memory
       | inr bad ↦ inr (fault_coded before line said shaped coded ∙ rw (bad.0, bad.1) refl)
     ]
 
-said_by-same : (line : List ℕ) (field : Field) → field_in line ≡ Some field → said_by field line ≡ Some (number_of field (value_in line))
-unfolding said_by
-said_by-same line field named =
-    ap (λ found. cond (is_field found field) (Some (number_of field (value_in line))) None) named
-    ∙ ap (λ same. cond same (Some (number_of field (value_in line))) None) (eq-eqb (index_of field) (index_of field) refl)
+some_listed : (value : Option ℕ) → is_some value ≡ nat_lt 0 (length (listed value))
+some_listed None = refl
+some_listed (Some number) = refl
 
-said_by-other : (line : List ℕ) (field other : Field) → field_in line ≡ Some field → index_of other ≢ index_of field → said_by other line ≡ None
-unfolding said_by
-said_by-other line field other named apart =
-    ap (λ found. cond (is_field found other) (Some (number_of other (value_in line))) None) named
-    ∙ ap (λ same. cond same (Some (number_of other (value_in line))) None) (ne_eqb (index_of field) (index_of other) (λ same. apart (sym same)))
+none_listed : (value : Option ℕ) → is_some value ≡ false → listed value ≡ []
+none_listed None none = refl
+none_listed (Some number) none = absurd (cc)
 
--- a field that was not said has its number now, and the others theirs
-field_more : (old new : Draft) (before : List (List ℕ)) (line : List ℕ) (field : Field) → length old.values ≡ 10 → Holds old before → is_code line ≡ false → field_in line ≡ Some field → said field before ≡ None
-    → new.values ≡ slice_set old.values (index_of field) (Some (number_of field (value_in line))) → new.program.items ≡ old.program.items → Holds new (before ++ line ∷ [])
-field_more old new before line field size holds uncoded named fresh set same = record {
-  values = λ f. elim (cases_eq (index_of f) (index_of field)) [
+-- the field of a line was named before exactly where the draft has a number for it
+named_before : (draft : Draft) (field : Field) (before : List (List ℕ)) (items : List Item) → AllZip Says before items → Holds draft items → list_any (names field) before ≡ is_some (number_at draft.values field)
+named_before draft field before items says holds = named_told field before items says ∙ ap (λ numbers. nat_lt 0 (length numbers)) (holds.numbers field) ∙ sym (some_listed (number_at draft.values field))
+
+fault_of_field : (draft : Draft) (before : List (List ℕ)) (items : List Item) (line : List ℕ) (field : Field) → AllZip Says before items → Holds draft items → is_skipped line ≡ false → is_name_and_value line ≡ true
+    → bytes_eq (name_in line) (codes "code") ≡ false → field_named (name_in line) ≡ Some field → line_fault before line ≡ field_fault field (is_some (number_at draft.values field)) (value_in line)
+fault_of_field draft before items line field says holds said shaped uncoded named =
+    fault_named before line said shaped uncoded ∙ ap (λ found. named_fault before found (value_in line)) named ∙ ap (λ again. field_fault field again (value_in line)) (named_before draft field before items says holds)
+
+-- a field that had no number has this one now, and the others have theirs
+number_more : (old new : Draft) (items : List Item) (field : Field) (number : ℕ) → length old.values ≡ 10 → Holds old items → is_some (number_at old.values field) ≡ false
+    → new.values ≡ slice_set old.values (index_of field) (Some number) → new.program.items ≡ old.program.items → Holds new (items ++ Number field number ∷ [])
+number_more old new items field number size holds fresh set same = record {
+  numbers = λ f. elim (cases_eq (index_of f) (index_of field)) [
     | inl here ↦ let is : f ≡ field = same_field f field here in
-        rw is (ap (λ values. number_at values field) set ∙ number_at-set_same old.values field (number_of field (value_in line)) size ∙ sym (said_by-same line field named)
-        ∙ ap (λ earlier. option_or earlier (said_by field line)) (sym fresh) ∙ sym (said_more field before line))
-    | inr apart ↦ ap (λ values. number_at values f) set ∙ number_at-set_other old.values field f (number_of field (value_in line)) apart ∙ holds.values f
-        ∙ sym (option_or-none (said f before)) ∙ ap (λ more. option_or (said f before) more) (sym (said_by-other line field f named apart)) ∙ sym (said_more f before line)
+        rw is (numbers_more field items (Number field number) ∙ ap (λ numbers. numbers ++ number_in field (Number field number)) (holds.numbers field ∙ none_listed (number_at old.values field) fresh)
+        ∙ ap (λ same_word. cond same_word (number ∷ []) []) (itself field) ∙ ap listed (sym (ap (λ values. number_at values field) set ∙ number_at-set_same old.values field number size)))
+    | inr differ ↦ numbers_stay f items (Number field number) (ap (λ same_word. cond same_word (number ∷ []) []) (apart f field differ)) ∙ holds.numbers f
+        ∙ ap listed (sym (ap (λ values. number_at values f) set ∙ number_at-set_other old.values field f number differ))
   ];
-  program = same ∙ holds.program ∙ sym (append-nil (program_of before)) ∙ ap (λ coded. program_of before ++ cond coded (result_unwrap_or (decode_of (value_in line)) []) []) (sym uncoded) ∙ sym (program_more before line);
+  program = same ∙ holds.program ∙ code_stays items (Number field number) refl;
 }
 
-named_twice : (malformed : Bool) (rest : Option GameError) → cond malformed (Some Line) (Some Twice) ≡ None → ⊥
-named_twice true rest fine = cc
-named_twice false rest fine = cc
-
-fault_of_field : (old : Draft) (before : List (List ℕ)) (line : List ℕ) (field : Field) → Holds old before → is_skipped line ≡ false → is_name_and_value line ≡ true → is_code line ≡ false → field_in line ≡ Some field
-    → line_fault before line ≡ field_fault field (number_at old.values field) (value_in line)
-fault_of_field old before line field holds said shaped uncoded named =
-    fault_named before line said shaped uncoded ∙ ap (λ found. named_fault before found (value_in line)) named ∙ ap (λ earlier. field_fault field earlier (value_in line)) (sym (holds.values field))
-
--- a field that has no fault was not said before
-fresh_field : (field : Field) (earlier : Option ℕ) (value : List ℕ) → field_fault field earlier value ≡ None → earlier ≡ None
-fresh_field field None value fine = refl
-fresh_field field (Some n) value fine = absurd (named_twice (not (is_mask field) && not (is_decimal value)) (value_fault field value) fine)
-
-pub named_line : (old new : Draft) (line : List ℕ) (field : Field) (result : Result (Unit {0}) GameError) → length old.values ≡ 10 → is_skipped line ≡ false → is_name_and_value line ≡ true → is_code line ≡ false → field_in line ≡ Some field
-    → MatchResult result (λ _. field_fault field (number_at old.values field) (value_in line) ≡ None) (λ e. field_fault field (number_at old.values field) (value_in line) ≡ Some e)
+pub named_line : (old new : Draft) (line : List ℕ) (field : Field) (result : Result (Unit {0}) GameError) → length old.values ≡ 10 → is_skipped line ≡ false → is_name_and_value line ≡ true
+    → bytes_eq (name_in line) (codes "code") ≡ false → field_named (name_in line) ≡ Some field
+    → MatchResult result (λ _. field_fault field (is_some (number_at old.values field)) (value_in line) ≡ None) (λ e. field_fault field (is_some (number_at old.values field)) (value_in line) ≡ Some e)
     → OnOk result (new.values ≡ slice_set old.values (index_of field) (Some (number_of field (value_in line)))) → OnOk result (new.program.items ≡ old.program.items) → AddsLine old new line result
-named_line old new line field (Ok u) size said shaped uncoded named fault set same before holds = (
-  fault_of_field old before line field holds said shaped uncoded named ∙ fault,
-  field_more old new before line field size holds uncoded named (sym (holds.values field) ∙ fresh_field field (number_at old.values field) (value_in line) fault) set same,
-)
-named_line old new line field (Err e) size said shaped uncoded named fault set same before holds = inr (fault_of_field old before line field holds said shaped uncoded named ∙ fault)
+named_line old new line field (Ok u) size said shaped uncoded named fault set same before items says holds =
+    let number = number_of field (value_in line) in
+    let meant = says_number line field (is_some (number_at old.values field)) shaped named fault in (
+      fault_of_field old before items line field says holds said shaped uncoded named ∙ fault,
+      (Number field number, meant.0, number_more old new items field number size holds meant.1 set same),
+    )
+named_line old new line field (Err e) size said shaped uncoded named fault set same before items says holds = inr (fault_of_field old before items line field says holds said shaped uncoded named ∙ fault)
+
+-- ---- the end
+
+any_same : {X : Type 0} (p q : X → Bool) (xs : List X) → ((x : X) → p x ≡ q x) → list_any p xs ≡ list_any q xs
+any_same p q [] same = refl
+any_same p q (x ∷ xs) same = rw (same x, any_same p q xs same) refl
+
+told_same : (draft : Draft) (items : List Item) (field : Field) → Holds draft items → is_told items field ≡ is_some (number_at draft.values field)
+told_same draft items field holds = ap (λ numbers. nat_lt 0 (length numbers)) (holds.numbers field) ∙ sym (some_listed (number_at draft.values field))
+
+first_listed : (value : Option ℕ) → slice_index (listed value) 0 ≡ unwrap_or value 0
+first_listed None = refl
+first_listed (Some number) = refl
+
+pub first_same : (draft : Draft) (items : List Item) → Holds draft items → (field : Field) → told_by draft.values field ≡ first_for items field
+first_same draft items holds field = sym (ap (λ numbers. slice_index numbers 0) (holds.numbers field) ∙ first_listed (number_at draft.values field))
+
+pub four_same : (draft : Draft) (items : List Item) → Holds draft items → told_by draft.values Mask1 ∷ told_by draft.values Mask2 ∷ told_by draft.values Mask3 ∷ told_by draft.values Mask4 ∷ []
+    ≡ first_for items Mask1 ∷ first_for items Mask2 ∷ first_for items Mask3 ∷ first_for items Mask4 ∷ []
+four_same draft items holds =
+    let same = first_same draft items holds in
+    let one : told_by draft.values Mask1 ≡ first_for items Mask1 = same Mask1 in
+    let two : told_by draft.values Mask2 ≡ first_for items Mask2 = same Mask2 in
+    let three : told_by draft.values Mask3 ≡ first_for items Mask3 = same Mask3 in
+    let four : told_by draft.values Mask4 ≡ first_for items Mask4 = same Mask4 in
+    cc
+
+pub some_bytes : (size : ℕ) → (size == 0) ≡ false → 0 < size
+some_bytes size some = let not_0 = eqb-false size 0 some in omega arith
+
+lacks_same : (draft : Draft) (items : List Item) (players : ℕ) → Holds draft items → players ≡ told_by draft.values Players
+    → list_any (λ field. nat_le (owner_of field) players && not (is_some (number_at draft.values field))) fields ≡ list_any (is_lacking items) fields
+lacks_same draft items players holds told =
+    any_same (λ field. nat_le (owner_of field) players && not (is_some (number_at draft.values field))) (is_lacking items) fields (λ field.
+    ap (λ count. nat_le (owner_of field) count && not (is_some (number_at draft.values field))) (told ∙ first_same draft items holds Players)
+    ∙ ap (λ some. nat_le (owner_of field) (players_in items) && not some) (sym (told_same draft items field holds)))
+
+strays_same : (draft : Draft) (items : List Item) (players : ℕ) → Holds draft items → players ≡ told_by draft.values Players
+    → list_any (λ field. nat_lt players (owner_of field) && is_some (number_at draft.values field)) fields ≡ list_any (is_stray items) fields
+strays_same draft items players holds told =
+    any_same (λ field. nat_lt players (owner_of field) && is_some (number_at draft.values field)) (is_stray items) fields (λ field.
+    ap (λ count. nat_lt count (owner_of field) && is_some (number_at draft.values field)) (told ∙ first_same draft items holds Players)
+    ∙ ap (λ some. nat_lt (players_in items) (owner_of field) && some) (sym (told_same draft items field holds)))
+
+size_same : (draft : Draft) (items : List Item) → Holds draft items → length draft.program.items ≡ length (code_of items)
+size_same draft items holds = ap length holds.program
+
+pub finds_missing : (draft : Draft) (items : List Item) (players : ℕ) (lacks : Bool) → Holds draft items → players ≡ told_by draft.values Players
+    → lacks ≡ list_any (λ field. nat_le (owner_of field) players && not (is_some (number_at draft.values field))) fields → (lacks ≡ true) ⊎ (length draft.program.items ≡ 0) → end_fault items ≡ Some Missing
+finds_missing draft items players lacks holds told is either =
+    let lacking = sym (lacks_same draft items players holds told) ∙ sym is in
+    elim either [
+      | inl lacked ↦ rw (lacking, lacked) refl
+      | inr none ↦ let empty : (length (code_of items) == 0) ≡ true = eq-eqb (length (code_of items)) 0 (sym (size_same draft items holds) ∙ none) in
+          rw (or_right (list_any (is_lacking items) fields) (length (code_of items) == 0) empty) refl
+    ]
+
+pub finds_range : (draft : Draft) (items : List Item) (players : ℕ) (lacks strays : Bool) → Holds draft items → players ≡ told_by draft.values Players
+    → lacks ≡ list_any (λ field. nat_le (owner_of field) players && not (is_some (number_at draft.values field))) fields → lacks ≡ false → 0 < length draft.program.items
+    → (most_program < length draft.program.items) ⊎ ((strays ≡ list_any (λ field. nat_lt players (owner_of field) && is_some (number_at draft.values field)) fields) × (strays ≡ true)) → end_fault items ≡ Some Range
+finds_range draft items players lacks strays holds told is none some either =
+    let lacking : list_any (is_lacking items) fields ≡ false = sym (lacks_same draft items players holds told) ∙ sym is ∙ none in
+    let nonempty : (length (code_of items) == 0) ≡ false = ne_eqb (length (code_of items)) 0 (λ empty. omega (arith, size_same draft items holds)) in
+    elim either [
+      | inl long ↦ let past : nat_lt most_program (length (code_of items)) ≡ true = lt-ltb most_program (length (code_of items)) (omega (arith, size_same draft items holds)) in
+          rw (lacking, nonempty, past) refl
+      | inr stray ↦ let straying : list_any (is_stray items) fields ≡ true = sym (strays_same draft items players holds told) ∙ sym stray.0 ∙ stray.1 in
+          rw (lacking, nonempty, or_right (nat_lt most_program (length (code_of items))) (list_any (is_stray items) fields) straying) refl
+    ]
+
+pub finds_none : (draft : Draft) (items : List Item) (players : ℕ) (lacks strays : Bool) → Holds draft items → players ≡ told_by draft.values Players
+    → lacks ≡ list_any (λ field. nat_le (owner_of field) players && not (is_some (number_at draft.values field))) fields → lacks ≡ false → 0 < length draft.program.items
+    → length draft.program.items ≤ most_program → strays ≡ list_any (λ field. nat_lt players (owner_of field) && is_some (number_at draft.values field)) fields → strays ≡ false → end_fault items ≡ None
+finds_none draft items players lacks strays holds told is none some fits stray straight =
+    let lacking : list_any (is_lacking items) fields ≡ false = sym (lacks_same draft items players holds told) ∙ sym is ∙ none in
+    let nonempty : (length (code_of items) == 0) ≡ false = ne_eqb (length (code_of items)) 0 (λ empty. omega (arith, size_same draft items holds)) in
+    let within : nat_lt most_program (length (code_of items)) ≡ false = le-ltb most_program (length (code_of items)) (omega (arith, size_same draft items holds)) in
+    let straying : list_any (is_stray items) fields ≡ false = sym (strays_same draft items players holds told) ∙ sym stray ∙ straight in
+    rw (lacking, nonempty, within, straying) refl
+
+-- ---- from the first number for each field to the rules of a game
+
+-- no field is told twice
+abbrev pub AreOnce : List Item → Type 0
+AreOnce items = (field : Field) → length (numbers_for field items) ≤ 1
+
+length_listed : (value : Option ℕ) → length (listed value) ≤ 1
+length_listed None = omega arith
+length_listed (Some number) = omega arith
+
+pub holds_once : (draft : Draft) (items : List Item) → Holds draft items → AreOnce items
+holds_once draft items holds field = rw (holds.numbers field) (length_listed (number_at draft.values field))
+
+end_tests : (lacks empty long strays : Bool) → cond (lacks || empty) (Some Missing) (cond (long || strays) (Some Range) None) ≡ None → (lacks ≡ false) × (empty ≡ false) × (long ≡ false) × (strays ≡ false)
+end_tests false false false false fine = (refl, refl, refl, refl)
+end_tests true empty long strays fine = absurd (cc)
+end_tests false true long strays fine = absurd (cc)
+end_tests false false true strays fine = absurd (cc)
+end_tests false false false true fine = absurd (cc)
+
+listed_at : (field : Field) → get_or fields (index_of field) Players ≡ field
+listed_at Players = refl
+listed_at Ipf = refl
+listed_at Frames = refl
+listed_at Delay = refl
+listed_at Window = refl
+listed_at Seed = refl
+listed_at Mask1 = refl
+listed_at Mask2 = refl
+listed_at Mask3 = refl
+listed_at Mask4 = refl
+
+-- a test that no field passes
+pub fails_each : (p : Field → Bool) → list_any p fields ≡ false → (field : Field) → p field ≡ false
+fails_each p none field =
+    false_from_ne_true (p field) (λ passes.
+    both_ways (list_any p fields) none (list_any_at p fields (index_of field) Players (index_of-small field) (ap p (listed_at field) ∙ passes)))
+
+single : (numbers : List ℕ) → 0 < length numbers → length numbers ≤ 1 → numbers ≡ slice_index numbers 0 ∷ []
+single [] some one = absurd (omega arith)
+single (first ∷ []) some one = refl
+single (first ∷ second ∷ more) some one = absurd (omega arith)
+
+none_of : (numbers : List ℕ) → nat_lt 0 (length numbers) ≡ false → numbers ≡ []
+none_of [] none = refl
+none_of (first ∷ more) none = let empty = ltb-false 0 (length (first ∷ more)) none in absurd (omega arith)
+
+rule_first : (items : List Item) (rules : Rules) → AreFirst items rules → (field : Field) → first_for items field ≡ rule_of field rules
+rule_first items rules are Players = sym are.players
+rule_first items rules are Ipf = sym are.ipf
+rule_first items rules are Frames = sym are.frames
+rule_first items rules are Delay = sym are.delay
+rule_first items rules are Window = sym are.window
+rule_first items rules are Seed = sym are.seed
+rule_first items rules are Mask1 = sym (ap (λ masks. slice_index masks 0) are.masks)
+rule_first items rules are Mask2 = sym (ap (λ masks. slice_index masks 1) are.masks)
+rule_first items rules are Mask3 = sym (ap (λ masks. slice_index masks 2) are.masks)
+rule_first items rules are Mask4 = sym (ap (λ masks. slice_index masks 3) are.masks)
+
+needed_told : (owner players : ℕ) (told : Bool) → nat_le owner players && not told ≡ false → owner ≤ players → told ≡ true
+needed_told owner players told lacking there = elim (cases_Bool told) [ inl is ↦ is | inr untold ↦ absurd (both_ways (nat_le owner players && not told) lacking (and_from (nat_le owner players) (not told) (le-leb owner players there) (rw untold refl))) ]
+
+stray_untold : (owner players : ℕ) (told : Bool) → nat_lt players owner && told ≡ false → players < owner → told ≡ false
+stray_untold owner players told straying beyond = false_from_ne_true told (λ is. both_ways (nat_lt players owner && told) straying (and_from (nat_lt players owner) told (lt-ltb players owner beyond) is))
+
+pub gives_rules : (items : List Item) (rules : Rules) → AreOnce items → end_fault items ≡ None → AreFirst items rules → Give items rules
+gives_rules items rules once fine are =
+    let tests = end_tests (list_any (is_lacking items) fields) (length (code_of items) == 0) (nat_lt most_program (length (code_of items))) (list_any (is_stray items) fields) fine in
+    let some : ¬ (length (code_of items) ≡ 0) = eqb-false (length (code_of items)) 0 tests.1 in
+    let fits : length (code_of items) ≤ most_program = ltb-false most_program (length (code_of items)) tests.2 in
+    record {
+      once = λ field there.
+          let told = needed_told (owner_of field) (players_in items) (is_told items field) (fails_each (is_lacking items) tests.0 field) (omega (arith, are.players)) in
+          single (numbers_for field items) (ltb-true 0 (length (numbers_for field items)) told) (once field) ∙ ap (λ number. number ∷ []) (rule_first items rules are field);
+      nowhere = λ field beyond.
+          let untold = stray_untold (owner_of field) (players_in items) (is_told items field) (fails_each (is_stray items) tests.3 field) (omega (arith, are.players)) in
+          let none = none_of (numbers_for field items) untold in
+          (none, sym (rule_first items rules are field) ∙ ap (λ numbers. slice_index numbers 0) none);
+      masks = ap length are.masks;
+      program = are.program;
+      some_code = omega (arith, ap length are.program, some);
+      most_code = omega (arith, ap length are.program);
+    }

@@ -1,10 +1,15 @@
 -- A list of numbers by field, after one of them is set.
-use Rattle.std.proofs.Common.{◌≡◌, ◌≢◌, ℕ, ◌<◌, nat_eq, cond, length, List, Option, Some, None, refl, ap, sym, ◌∙◌, arith, get_or-set_same, get_or-set_other, inl, inr}
-use Rattle.std.proofs.lemmas.Bool.{cases_eq}
+use Rattle.std.proofs.Common.{◌≡◌, ◌≢◌, ℕ, ◌<◌, nat_eq, cond, length, Bool, true, false, List, [], ◌∷◌, Option, Some, None, refl, ap, sym, ◌∙◌, arith, get_or-set_same, get_or-set_other, inl, inr}
+use Rattle.std.proofs.lemmas.Bool.{cases_Bool, cases_eq, cond-true, cond-false, false_from_ne_true}
+use Rattle.std.proofs.lemmas.Option.{same_Some}
+use Rattle.std.proofs.lemmas.Slice.Eq.{bytes_eq-Decides}
+use Rattle.std.specs.List.{find}
+use Rattle.std.specs.Str.{bytes_eq}
 use Rattle.std.specs.Prelude.{slice_set}
 use Rattle.c8_game.specs.declared.text.field.Field.{Field}
 use Rattle.c8_game.specs.declared.text.field.Field.TheVariants.{Players, Ipf, Frames, Delay, Window, Seed, Mask1, Mask2, Mask3, Mask4}
-use Rattle.c8_game.specs.Fields.{index_of, IsWithin, number_at}
+use Rattle.c8_game.specs.Fields.{fields, word_of, field_named, is_same, IsWithin}
+use Rattle.c8_game.specs.Places.{index_of, number_at}
 
 field_at : ℕ → Field
 field_at n =
@@ -57,3 +62,39 @@ ranges_kept values field number size kept within f n has =
           rw (is, ← number_is) within
       | inr apart ↦ kept f n (sym (number_at-set_other values field f number apart) ∙ has)
     ]
+
+-- ---- fields and their words
+
+pub named_itself : (field : Field) → field_named (word_of field) ≡ Some field
+named_itself Players = refl
+named_itself Ipf = refl
+named_itself Frames = refl
+named_itself Delay = refl
+named_itself Window = refl
+named_itself Seed = refl
+named_itself Mask1 = refl
+named_itself Mask2 = refl
+named_itself Mask3 = refl
+named_itself Mask4 = refl
+
+found_passes : {X : Type 0} (p : X → Bool) (xs : List X) (x : X) → find p xs ≡ Some x → p x ≡ true
+found_passes p [] x found = absurd (cc)
+found_passes p (first ∷ more) x found =
+    elim (cases_Bool (p first)) [
+      | inl passes ↦ let is : first ≡ x = same_Some first x (sym (cond-true (p first) (Some first) (find p more) passes) ∙ found) in ap p (sym is) ∙ passes
+      | inr fails ↦ found_passes p more x (sym (cond-false (p first) (Some first) (find p more) fails) ∙ found)
+    ]
+
+pub named_word : (word : List ℕ) (field : Field) → field_named word ≡ Some field → word ≡ word_of field
+named_word word field named = sym ((bytes_eq-Decides (word_of field) word).0 (found_passes (λ f. bytes_eq (word_of f) word) fields field named))
+
+pub same_words : (one other : Field) → is_same one other ≡ true → one ≡ other
+same_words one other same =
+    let word : word_of one ≡ word_of other = (bytes_eq-Decides (word_of one) (word_of other)).0 same in
+    same_Some one other (sym (named_itself one) ∙ ap field_named word ∙ named_itself other)
+
+pub itself : (field : Field) → is_same field field ≡ true
+itself field = (bytes_eq-Decides (word_of field) (word_of field)).1 refl
+
+pub apart : (one other : Field) → index_of one ≢ index_of other → is_same one other ≡ false
+apart one other differ = false_from_ne_true (is_same one other) (λ same. differ (ap index_of (same_words one other same)))

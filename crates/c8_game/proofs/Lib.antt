@@ -1,4 +1,10 @@
 pub mod LineLemmas
 pub mod ByteLemmas
 pub mod FieldLemmas
+pub mod ValueLemmas
+pub mod ItemLemmas
 pub mod DraftLemmas
+pub mod ReadLemmas
+pub mod TextLaws
+pub mod TextExists
+pub mod KeyLaws

@@ -8,13 +8,13 @@ use Rattle.std.proofs.lemmas.List.Splits.{slice_split_none, slice_split_first, l
 use Rattle.std.proofs.lemmas.List.Sums.{fails_before_first}
 
 -- a place is found exactly where one lies within the list
-within_if_some : {X : Type 0} (p : X → Bool) (xs : List X) → IsSome (position p xs) → position_or_len p xs < length xs
+pub within_if_some : {X : Type 0} (p : X → Bool) (xs : List X) → IsSome (position p xs) → position_or_len p xs < length xs
 within_if_some p xs some = elim (cases_lt (position_or_len p xs) (length xs)) [ inl within ↦ within | inr past ↦ search (rules, some) ]
 
 past_if_none : {X : Type 0} (p : X → Bool) (xs : List X) → position p xs ≡ None → length xs ≤ position_or_len p xs
 past_if_none p xs none = elim (cases_lt (position_or_len p xs) (length xs)) [ inl within ↦ search (rules, none, within) | inr past ↦ past ]
 
-part_and_more : (part : List ℕ) (parts : List (List ℕ)) → 0 < length parts → lines_of_parts (part ∷ parts) ≡ strip_carriage_return part ∷ lines_of_parts parts
+pub part_and_more : (part : List ℕ) (parts : List (List ℕ)) → 0 < length parts → lines_of_parts (part ∷ parts) ≡ strip_carriage_return part ∷ lines_of_parts parts
 part_and_more part [] none = absurd (omega arith)
 part_and_more part (next ∷ more) some = refl
 

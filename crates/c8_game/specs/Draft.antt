@@ -1,26 +1,46 @@
--- What a draft of a game holds of the lines so far.
-use Rattle.std.specs.Prelude.{◌≡◌, ℕ, List, [], ◌∷◌, ◌++◌, ◌⊎◌, Some, None, Result, MatchResult}
+-- What a draft of a game holds of the lines so far. Only contracts of private functions cite this file: no reader has to
+-- believe it.
+use Rattle.std.specs.Prelude.{◌≡◌, ℕ, List, [], ◌∷◌, ◌++◌, ◌⊎◌, Some, None, slice_index, Result, MatchResult}
+use Rattle.std.specs.List.{AllZip}
 use Rattle.c8_game.specs.declared.error.GameError.{GameError}
 use Rattle.c8_game.specs.declared.error.GameError.TheVariants.{Memory}
 use Rattle.c8_game.specs.declared.text.draft.Draft.{Draft}
 use Rattle.c8_game.specs.declared.text.field.Field.{Field}
-use Rattle.c8_game.specs.Fields.{number_at}
-use Rattle.c8_game.specs.GameText.{said, program_of, line_fault, end_fault, IsToldBy}
+use Rattle.c8_game.specs.declared.text.field.Field.TheVariants.{Players, Ipf, Frames, Delay, Window, Seed, Mask1, Mask2, Mask3, Mask4}
+use Rattle.c8_game.specs.GameText.{Item, Says, numbers_for, code_of}
+use Rattle.c8_game.specs.GameFaults.{line_fault, end_fault}
+use Rattle.c8_game.specs.Places.{number_at, listed}
 use Rattle.c8_game.specs.Rules.{Rules}
 
--- the draft has what these lines say
-pub record Holds (draft : Draft) (text_lines : List (List ℕ)) : Type 0 where
-  pub values : (field : Field) → number_at draft.values field ≡ said field text_lines
-  pub program : draft.program.items ≡ program_of text_lines
+-- the draft has what these items say
+pub record Holds (draft : Draft) (items : List Item) : Type 0 where
+  pub numbers : (field : Field) → numbers_for field items ≡ listed (number_at draft.values field)
+  pub program : draft.program.items ≡ code_of items
 
 -- a line was added to those before it, or its fault was found
 abbrev pub AddsLine : Draft → Draft → List ℕ → Result (Unit {0}) GameError → Type 0
 AddsLine old new line result =
-    (before : List (List ℕ)) → Holds old before
-    → MatchResult result (λ _. (line_fault before line ≡ None) × Holds new (before ++ line ∷ [])) (λ e. (e ≡ Memory) ⊎ (line_fault before line ≡ Some e))
+    (before : List (List ℕ)) (items : List Item) → AllZip Says before items → Holds old items
+    → MatchResult result (λ _. (line_fault before line ≡ None) × ((item : Item) × Says line item × Holds new (items ++ item ∷ [])))
+    (λ e. (e ≡ Memory) ⊎ (line_fault before line ≡ Some e))
 
--- the lines became a game, or the fault that shows after the last of them was found
+-- the first number that the items have for a field, 0 if they have none
+abbrev pub first_for : List Item → Field → ℕ
+first_for items field = slice_index (numbers_for field items) 0
+
+-- the rules are those of the first number for each field
+pub record AreFirst (items : List Item) (rules : Rules) : Type 0 where
+  pub players : rules.players ≡ first_for items Players
+  pub ipf : rules.ipf ≡ first_for items Ipf
+  pub frames : rules.frames ≡ first_for items Frames
+  pub delay : rules.delay ≡ first_for items Delay
+  pub window : rules.window ≡ first_for items Window
+  pub seed : rules.seed ≡ first_for items Seed
+  pub masks : rules.masks ≡ first_for items Mask1 ∷ first_for items Mask2 ∷ first_for items Mask3 ∷ first_for items Mask4 ∷ []
+  pub program : rules.program ≡ code_of items
+
+-- the items became a game, or the fault that shows after the last line was found
 abbrev pub Finishes : Draft → Result Rules GameError → Type 0
 Finishes draft result =
-    (text_lines : List (List ℕ)) → Holds draft text_lines
-    → MatchResult result (λ rules. (end_fault text_lines ≡ None) × IsToldBy text_lines rules) (λ e. end_fault text_lines ≡ Some e)
+    (items : List Item) → Holds draft items
+    → MatchResult result (λ rules. (end_fault items ≡ None) × AreFirst items rules) (λ e. end_fault items ≡ Some e)

@@ -16,7 +16,7 @@ slice_get-seam : {X : Type 0} (xs : List X) (y : X) (ys : List X) → slice_get 
 slice_get-seam [] y ys = refl
 slice_get-seam (x ∷ xs) y ys = slice_get-seam xs y ys
 
-none_or_some : {X : Type 0} (o : Option X) → (o ≡ None) ⊎ ((x : X) × (o ≡ Some x))
+pub none_or_some : {X : Type 0} (o : Option X) → (o ≡ None) ⊎ ((x : X) × (o ≡ Some x))
 none_or_some None = inl refl
 none_or_some (Some x) = inr (x, refl)
 

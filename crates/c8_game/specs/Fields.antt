@@ -1,10 +1,10 @@
--- The fields of a game text, which are all its names but `code`: each has a word, and a number that its
--- value spells.
-use Rattle.std.specs.Prelude.{ℕ, ◌≤◌, ◌+◌, ◌-◌, ◌*◌, ◌&&◌, Bool, nat_lt, nat_le, List, [], ◌∷◌, length, codes, fold, Option, None, unwrap_or, slice_index_or, if◌then◌else◌}
+-- The fields of a game text, which are all its names but `code`: each has a word, a range, and a number that
+-- its value spells.
+use Rattle.std.specs.Prelude.{ℕ, ◌≤◌, ◌+◌, ◌-◌, ◌*◌, ◌^◌, ◌&&◌, Bool, nat_lt, nat_le, List, [], ◌∷◌, length, codes, Option, if◌then◌else◌}
 use Rattle.std.specs.List.{find, list_all}
 use Rattle.std.specs.Char.{is_ascii_digit}
 use Rattle.std.specs.Str.{bytes_eq}
-use Rattle.c8_game.specs.KeysText.{keys_number}
+use Rattle.c8_game.specs.KeysText.{is_keys_text, keys_number}
 use Rattle.c8_game.specs.declared.text.field.Field.{Field}
 use Rattle.c8_game.specs.declared.text.field.Field.TheVariants.{Players, Ipf, Frames, Delay, Window, Seed, Mask1, Mask2, Mask3, Mask4}
 
@@ -22,19 +22,6 @@ word_of Mask1 = codes "mask1"
 word_of Mask2 = codes "mask2"
 word_of Mask3 = codes "mask3"
 word_of Mask4 = codes "mask4"
-
--- the place of a field among the fields
-abbrev pub index_of : Field → ℕ
-index_of Players = 0
-index_of Ipf = 1
-index_of Frames = 2
-index_of Delay = 3
-index_of Window = 4
-index_of Seed = 5
-index_of Mask1 = 6
-index_of Mask2 = 7
-index_of Mask3 = 8
-index_of Mask4 = 9
 
 -- the player whose mask the field is; 0 for a field that every game has
 abbrev pub owner_of : Field → ℕ
@@ -85,21 +72,23 @@ IsWithin field number = (least_of field ≤ number) × (number ≤ greatest_of f
 abbrev pub field_named : List ℕ → Option Field
 field_named word = find (λ field. bytes_eq (word_of field) word) fields
 
--- the number that a list has for a field, if it has one
-abbrev pub number_at : List (Option ℕ) → Field → Option ℕ
-number_at values field = slice_index_or values (index_of field) None
+-- the words of two fields are the same
+abbrev pub is_same : Field → Field → Bool
+is_same one other = bytes_eq (word_of one) (word_of other)
 
--- that number, 0 if there is none
-abbrev pub told_by : List (Option ℕ) → Field → ℕ
-told_by values field = unwrap_or (number_at values field) 0
-
--- a decimal has 1 to 20 digits
+-- a decimal has 1 to 20 digits, and zeros may lead
 abbrev pub is_decimal : List ℕ → Bool
 is_decimal text = nat_lt 0 (length text) && nat_le (length text) 20 && list_all is_ascii_digit text
 
+-- a digit counts as often as ten to the number of digits after it
 abbrev pub decimal_number : List ℕ → ℕ
-decimal_number text = fold (λ number digit. number * 10 + (digit - 48)) 0 text
+decimal_number [] = 0
+decimal_number (digit ∷ more) = (digit - 48) * 10 ^ length more + decimal_number more
 
--- the number that a field's value spells: a mask is a key set, all else a decimal
+-- the value of a mask is a key set of four digits, all other values are decimals
+abbrev pub is_number : Field → List ℕ → Bool
+is_number field value = if is_mask field then is_keys_text value else is_decimal value
+
+-- the number that it spells
 abbrev pub number_of : Field → List ℕ → ℕ
 number_of field value = if is_mask field then keys_number value else decimal_number value

@@ -1,8 +1,11 @@
-pub mod Faults
-pub mod FaultLaws
 pub mod Rules
+pub mod Errors
 pub mod KeysText
-pub mod Lines
 pub mod Fields
 pub mod GameText
+pub mod Faults
+pub mod FaultLaws
+pub mod GameFaults
+pub mod Lines
+pub mod Places
 pub mod Draft

@@ -1,6 +1,6 @@
 -- What a game is, apart from its text and from how the code keeps it.
 use Rattle.std.specs.Prelude.{ℕ, ◌+◌, ◌^◌, ◌≡◌, ◌<◌, ◌≤◌, List, ◌++◌, length, bit_and, bit_or, slice_index, slice_index_or, take}
-use Rattle.std.specs.Int.{from_be_bytes, to_be_bytes, w8, w16, w32, w64}
+use Rattle.std.specs.Int.{bit_at, from_be_bytes, to_be_bytes, w8, w16, w32, w64}
 use Rattle.sha2.specs.Sha256.{sha256}
 use Rattle.c8_game.specs.declared.row.Row.{Row}
 
@@ -15,6 +15,17 @@ pub record Rules : Type 0 where
   pub masks : List ℕ
   pub program : List ℕ
 
+-- the most bytes of a program, which a machine has from address 200 (hexadecimal) on
+abbrev pub most_program : ℕ
+most_program = 3584
+
+-- the most frames of a game, and the greatest length of a player's list of inputs in any game
+abbrev pub most_frames : ℕ
+most_frames = 262144
+
+abbrev pub most_inputs : ℕ
+most_inputs = 262148
+
 -- the numbers lie in their ranges
 pub record AreInRange (rules : Rules) : Type 0 where
   pub at_least_two : 2 ≤ rules.players
@@ -22,7 +33,7 @@ pub record AreInRange (rules : Rules) : Type 0 where
   pub some_instructions : 1 ≤ rules.ipf
   pub instructions : rules.ipf ≤ 100
   pub some_frames : 1 ≤ rules.frames
-  pub frames : rules.frames ≤ 262144
+  pub frames : rules.frames ≤ most_frames
   pub delay : rules.delay ≤ 4
   pub some_window : 1 ≤ rules.window
   pub window : rules.window ≤ 12
@@ -31,16 +42,31 @@ pub record AreInRange (rules : Rules) : Type 0 where
   pub key_sets : (place : ℕ) → slice_index rules.masks place < 2 ^ 16
   pub absent : (place : ℕ) → rules.players ≤ place → slice_index rules.masks place ≡ 0
   pub some_program : 1 ≤ length rules.program
-  pub program : length rules.program ≤ 3584
+  pub program : length rules.program ≤ most_program
   pub bytes : (place : ℕ) → slice_index rules.program place < 2 ^ 8
 
--- the keys at a place of a row, player 1's at place 0, less those that the player's mask lacks
+-- the set that the player at a place of a row holds down, player 1 at place 0
+abbrev pub set_at : Row → ℕ → ℕ
+set_at row place = (slice_index_or row.sets place (record { 0 = 0 })).0
+
+-- that set less the keys that the player's mask lacks
 abbrev pub masked : Rules → Row → ℕ → ℕ
-masked rules row place = bit_and (slice_index_or row.sets place (record { 0 = 0 })).0 (slice_index rules.masks place)
+masked rules row place = bit_and (set_at row place) (slice_index rules.masks place)
 
 -- the keys of a frame: the union over the players; the mask of one who is not in the game is 0
 abbrev pub joined : Rules → Row → ℕ
 joined rules row = bit_or (masked rules row 0) (bit_or (masked rules row 1) (bit_or (masked rules row 2) (masked rules row 3)))
+
+-- a set of keys has a key
+abbrev pub HasKey : ℕ → ℕ → Type 0
+HasKey keys key = bit_at keys key ≡ 1
+
+-- a player of the game holds a key down, and the player's mask has it
+pub record IsHeld (rules : Rules) (row : Row) (key : ℕ) : Type 0 where
+  pub place : ℕ
+  pub in_game : place < rules.players
+  pub held : HasKey (set_at row place) key
+  pub counts : HasKey (slice_index rules.masks place) key
 
 -- the greatest length of a player's list of inputs
 abbrev pub limit_of : Rules → ℕ

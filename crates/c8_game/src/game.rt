@@ -1,10 +1,12 @@
 //! A game: the program that is played, and the numbers that all its players agree on.
 ghost use Rattle.std.specs.Prelude.{◌≡◌, ◌<◌, ◌≤◌, ◌-◌, ◌++◌, ◌⊎◌, IfOk, IfErr, Some, length, slice_get};
 ghost use Rattle.sha2.specs.Sha256.{sha256};
-ghost use Rattle.c8_game.specs.GameText.{Spells, refusal};
+ghost use Rattle.c8_game.specs.GameText.{Spells};
+ghost use Rattle.c8_game.specs.GameFaults.{IsRefused};
 ghost use Rattle.c8_game.specs.declared.error.GameError.TheVariants.{Memory};
 ghost use Rattle.c8_game.specs.Rules.{AreInRange, joined, limit_of, number_bytes, id_of, session_of};
 
+use crate::bounds::{MOST_FRAMES, MOST_INPUTS, MOST_PROGRAM};
 use crate::error::GameError;
 use crate::row::{Keys, Player, Row};
 use crate::text::draft::Draft;
@@ -57,16 +59,16 @@ impl Model for Game {
 
 impl Game {
     /// The game that a text spells. Lines end at a line feed, which the last one may lack, and one
-    /// carriage return before it is dropped; empty lines and lines that begin with `#` say nothing; every other line is a name, one
-    /// space and a value.
+    /// carriage return before it is dropped; empty lines and lines that begin with `#` say nothing; every
+    /// other line is a name, one space and a value.
     ///
     /// Lines are judged in order, within a line first for `Line`, then `Twice`, then `Hex` or `Range`;
     /// after the last line come `Missing`, then `Range` for the program's length and for a mask of a
-    /// player who is not in the game. `Memory` comes only where a growth was refused.
+    /// player who is not in the game. `Memory` comes only where the memory for the program was refused.
     pub fn read(alloc: Global, text: &[u8]) -> Result<Game, GameError>
         ensures game { IfOk result (λ game. Spells text.now game) }
         ensures ranges { IfOk result AreInRange }
-        ensures refused { IfErr result (λ e. (e ≡ Memory) ⊎ (refusal text.now ≡ Some e)) }
+        ensures refused { IfErr result (λ e. (e ≡ Memory) ⊎ IsRefused text.now e) }
     {
         let mut draft = Draft::new(alloc);
         for line in Lines::new(text) {
@@ -104,7 +106,7 @@ impl Game {
     pub fn frames(&self) -> u32
         ensures value { result ≡ self.now.frames }
         ensures least { 1 ≤ result }
-        ensures greatest { result ≤ 262144 }
+        ensures greatest { result ≤ MOST_FRAMES }
     {
         self.frames
     }
@@ -145,7 +147,7 @@ impl Game {
     pub fn program(&self) -> &[u8]
         ensures value { result.now ≡ self.now.program }
         ensures least { 1 ≤ length result.now }
-        ensures greatest { length result.now ≤ 3584 }
+        ensures greatest { length result.now ≤ MOST_PROGRAM }
     {
         &self.program
     }
@@ -153,7 +155,7 @@ impl Game {
     /// The greatest length of a player's list of inputs: `frames` and `delay`.
     pub fn limit(&self) -> u32
         ensures value { result ≡ limit_of self.now }
-        ensures greatest { result ≤ 262148 }
+        ensures greatest { result ≤ MOST_INPUTS }
     {
         self.frames + u32::from(self.delay)
     }

@@ -1,18 +1,22 @@
 //! What is played: key sets and players, and the game that its text describes.
 //!
-//! `Game::read` reads a game from its text; nothing else here takes memory. Contracts see a
-//! game as its `Rules` (`specs/Rules.antt`); `specs/GameText.antt` says which text spells which rules,
-//! and which fault refuses every other text.
+//! `Game::read` reads a game from its text; nothing else here takes memory. Contracts see a game as its `Rules`
+//! (`specs/Rules.antt`). `specs/GameText.antt` says which text spells which rules, `specs/GameFaults.antt` which fault
+//! refuses every other text, by the least line at fault (`specs/Faults.antt`). `laws` has what follows from them.
 #![tactic(auto)]
 
+mod bounds;
 mod error;
 mod game;
+pub mod laws;
 mod row;
 mod text;
 
+pub use bounds::{MOST_FRAMES, MOST_INPUTS, MOST_PROGRAM};
 pub use error::GameError;
 pub use game::Game;
-pub use row::{Keys, Player, Row};
+pub use row::{Keys, NoPlayer, Player, Row};
+pub use text::field::Field;
 pub use text::lines::Lines;
 
 #[cfg(test)]

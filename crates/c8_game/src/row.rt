@@ -1,8 +1,11 @@
 //! Key sets, players, and a row of one key set a player.
-ghost use Rattle.std.specs.Prelude.{◌≡◌, ◌≤◌, true, false, MatchOption};
+ghost use Rattle.std.specs.Prelude.{◌≡◌, ◌≤◌, ◌<◌, ◌⊎◌, true, false, MatchOption, IfOk, IfErr, IfNone, IfSome};
+
+use std::fmt;
+use thiserror::Error;
 
 /// A set of the sixteen keys: key `k` is in it exactly if bit `k` is 1.
-#[derive(Clone, Copy, Debug, PartialEq, Eq)]
+#[derive(Clone, Copy, Debug, Default, PartialEq, Eq)]
 pub struct Keys(pub u16);
 
 impl Keys {
@@ -20,6 +23,13 @@ impl Keys {
     }
 }
 
+/// Four hexadecimal digits, as a game text has them.
+impl fmt::Display for Keys {
+    fn fmt<W: fmt::Write>(&self, f: &mut fmt::Formatter<W>) -> fmt::Result {
+        write!(f, "{:04x}", self.0)
+    }
+}
+
 /// One of the players 1 to 4.
 #[derive(Clone, Copy, Debug, PartialEq, Eq)]
 pub struct Player {
@@ -28,8 +38,47 @@ pub struct Player {
     pub ghost to_four: { number ≤ 4 },
 }
 
+impl Player {
+    /// The player with a number from 1 to 4, none for any other number.
+    pub fn new(number: u8) -> Option<Self>
+        ensures some { IfSome result (λ player. player.number ≡ number) }
+        ensures none { IfNone result ((number < 1) ⊎ (4 < number)) }
+    {
+        if number >= 1 && number <= 4 {
+            Some(Player { number })
+        } else {
+            None
+        }
+    }
+}
+
+/// A number that no player has.
+#[derive(Clone, Copy, Debug, PartialEq, Eq, Error)]
+#[error("a player's number is 1 to 4")]
+pub struct NoPlayer;
+
+impl TryFrom<u8> for Player {
+    type Error = NoPlayer;
+
+    ghost try_from_gives = { λ number result. IfOk result (λ player. player.number ≡ number) × IfErr result (λ _. (number < 1) ⊎ (4 < number)) };
+
+    fn try_from(number: u8) -> Result<Player, NoPlayer> {
+        match Player::new(number) {
+            Some(player) => Ok(player),
+            None => Err(NoPlayer),
+        }
+    }
+}
+
+/// The player's number.
+impl fmt::Display for Player {
+    fn fmt<W: fmt::Write>(&self, f: &mut fmt::Formatter<W>) -> fmt::Result {
+        write!(f, "{}", self.number)
+    }
+}
+
 /// What each of four players holds down in one frame, as entered: player 1's set comes first.
-#[derive(Clone, Copy, Debug, PartialEq, Eq)]
+#[derive(Clone, Copy, Debug, Default, PartialEq, Eq)]
 pub struct Row {
     pub sets: [Keys; 4],
 }

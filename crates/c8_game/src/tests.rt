@@ -163,17 +163,60 @@ fn cuts_a_text_into_lines(rt: HostRuntime) {
 }
 
 #[test]
-fn prints_each_fault(rt: HostRuntime) -> Result<(), Fail> {
+fn numbers_names_and_tells_each_fault(rt: HostRuntime) -> Result<(), Fail> {
     let faults = [
-        (GameError::Line, "1 Line"),
-        (GameError::Range, "2 Range"),
-        (GameError::Missing, "3 Missing"),
-        (GameError::Twice, "4 Twice"),
-        (GameError::Hex, "5 Hex"),
-        (GameError::Memory, "6 Memory"),
+        (
+            GameError::Line,
+            1,
+            "Line",
+            "a line that is no name, space and value",
+        ),
+        (GameError::Range, 2, "Range", "a number out of range"),
+        (GameError::Missing, 3, "Missing", "a name is missing"),
+        (GameError::Twice, 4, "Twice", "a name stands twice"),
+        (
+            GameError::Hex,
+            5,
+            "Hex",
+            "not the hexadecimal digits that are wanted",
+        ),
+        (GameError::Memory, 6, "Memory", "out of memory"),
     ];
-    for (fault, printed) in faults {
-        assert_eq!(rt; fault.to_string(rt.alloc())?.as_str(), printed);
+    for (fault, number, name, told) in faults {
+        assert_eq!(rt; (fault.number(), fault.name()), (number, name));
+        assert_eq!(rt; fault.to_string(rt.alloc())?.as_str(), told);
+    }
+    Ok(())
+}
+
+#[test]
+fn knows_four_players(rt: HostRuntime) -> Result<(), Fail> {
+    for number in 1..5 {
+        let player = Player::try_from(number)?;
+        assert_eq!(rt; Player::new(number), Some(player));
+        assert_eq!(rt; player.number, number);
+    }
+    for number in [0, 5, 255] {
+        assert_eq!(rt; Player::new(number), None);
+        assert_eq!(rt; Player::try_from(number), Err(NoPlayer));
+    }
+    assert_eq!(rt; Player { number: 3 }.to_string(rt.alloc())?.as_str(), "3");
+    assert_eq!(rt;
+        NoPlayer.to_string(rt.alloc())?.as_str(),
+        "a player's number is 1 to 4"
+    );
+    Ok(())
+}
+
+#[test]
+fn prints_key_sets_as_a_game_text_has_them(rt: HostRuntime) -> Result<(), Fail> {
+    for (keys, printed) in [
+        (Keys(0x0abc), "0abc"),
+        (Keys(0xf00f), "f00f"),
+        (Keys::default(), "0000"),
+    ] {
+        assert_eq!(rt; keys.to_string(rt.alloc())?.as_str(), printed);
+        assert_eq!(rt; Keys::from_hex(printed.as_bytes()), Some(keys));
     }
     Ok(())
 }

@@ -1,6 +1,7 @@
 -- What `run` answers to two texts.
-use Rattle.std.specs.Prelude.{◌≡◌, ◌⊎◌, ℕ, List, Some, Result, Ok, Err}
-use Rattle.c8_game.specs.GameText.{Spells, refusal}
+use Rattle.std.specs.Prelude.{◌≡◌, ◌⊎◌, ℕ, List, Result, Ok, Err}
+use Rattle.c8_game.specs.GameFaults.{IsRefused}
+use Rattle.c8_game.specs.GameText.{Spells}
 use Rattle.c8_game.specs.Rules.{Rules}
 use Rattle.c8_game.specs.declared.error.GameError.TheVariants as games
 use Rattle.c8play.specs.KeyLines.{IsRunOf, IsFaultOf}
@@ -14,7 +15,7 @@ IsPlayedFrom game keys played = (rules : Rules) × Spells game rules × IsRunOf 
 
 -- the first text has this first fault, or it spells a game and the second has it; or memory ran out
 abbrev pub IsRefusalOfRun : List ℕ → List ℕ → Refusal → Type 0
-IsRefusalOfRun game keys (Game error) = (error ≡ games.Memory) ⊎ (refusal game ≡ Some error)
+IsRefusalOfRun game keys (Game error) = (error ≡ games.Memory) ⊎ IsRefused game error
 IsRefusalOfRun game keys (Keys error) = (rules : Rules) × Spells game rules × IsFaultOf rules keys error
 IsRefusalOfRun game keys (Hex error) = ⊥
 IsRefusalOfRun game keys (Wire error) = ⊥

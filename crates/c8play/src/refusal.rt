@@ -60,11 +60,7 @@ impl Refusal {
     {
         let part = self.part();
         let (number, name) = match self {
-            // its text is its number and name
-            Refusal::Game(error) => {
-                writeln!(out, "refused: {part} {error}")?;
-                return Ok(self.status());
-            }
+            Refusal::Game(error) => (error.number(), error.name()),
             Refusal::Keys(error) => (error.number(), error.name()),
             Refusal::Hex(error) => (error.number(), error.name()),
             Refusal::Wire(error) => (error.number(), error.name()),

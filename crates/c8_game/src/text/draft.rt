@@ -1,15 +1,18 @@
 //! A game in the making: what the lines so far say.
-ghost use Rattle.std.specs.Prelude.{ℕ, ◌≡◌, ◌<◌, ◌^◌, ◌≤◌, ◌⊎◌, ◌++◌, ◌∷◌, ◌&&◌, true, false, [], Some, None, OnOk, IfErr, IfOk, IsSome, IsTrue, MatchResult, IfNone, IfSome, is_none, is_some, is_ok, nat_lt, nat_le, unwrap_or, slice_index, slice_set};
+ghost use Rattle.std.specs.Prelude.{ℕ, ◌≡◌, ◌<◌, ◌^◌, ◌≤◌, ◌⊎◌, ◌++◌, ◌∷◌, ◌&&◌, true, false, not, [], Some, None, OnOk, IfErr, IfOk, IsSome, IsTrue, MatchResult, IfNone, IfSome, is_none, is_some, is_ok, nat_lt, nat_le, unwrap_or, slice_index, slice_set};
 ghost use Rattle.std.specs.List.{list_any};
 ghost use Rattle.std.specs.Option.{ForSome};
 ghost use Rattle.std.specs.Result.{result_unwrap_or};
 ghost use Rattle.hex.specs.Hex.{decode_of};
-ghost use Rattle.c8_game.specs.Fields.{fields, index_of, owner_of, least_of, greatest_of, IsWithin, number_at, told_by};
-ghost use Rattle.c8_game.specs.GameText.{is_skipped, is_name_and_value, name_in, value_in, field_fault};
+ghost use Rattle.c8_game.specs.Places.{index_of, number_at, told_by};
+ghost use Rattle.c8_game.specs.Fields.{fields, owner_of, least_of, greatest_of, IsWithin};
+ghost use Rattle.c8_game.specs.GameText.{is_skipped};
+ghost use Rattle.c8_game.specs.GameFaults.{is_name_and_value, name_in, value_in, field_fault};
 ghost use Rattle.c8_game.specs.declared.error.GameError.TheVariants.{Hex, Memory};
 ghost use Rattle.c8_game.specs.declared.text.field.Field.{Field};
 ghost use Rattle.c8_game.specs.declared.text.field.Field.TheVariants.{Mask1, Mask2, Mask3, Mask4};
 
+use crate::bounds::MOST_PROGRAM;
 use crate::error::GameError;
 use crate::game::Game;
 use crate::text::field::{FIELDS, Field};
@@ -30,7 +33,7 @@ impl Draft {
     ghost use Rattle.c8_game.specs.Fields.{number_of};
     ghost use Rattle.c8_game.specs.Draft.{Holds, AddsLine, Finishes};
 
-    /// What no line says.
+    /// A draft before its first line.
     pub fn new(alloc: Global) -> Self
         ensures { Holds result [] }
     {
@@ -40,7 +43,7 @@ impl Draft {
         }
     }
 
-    /// Takes in one more line. After an error the draft is of no more use.
+    /// Adds one more line. After an error the draft is of no more use.
     pub fn add(&mut self, alloc: Global, line: &[u8]) -> Result<(), GameError>
         ensures { AddsLine self.old self.new line.now result }
     {
@@ -75,7 +78,7 @@ impl Draft {
     }
 
     fn add_field(&mut self, field: Field, value: &[u8]) -> Result<(), GameError>
-        ensures fault { MatchResult result (λ _. field_fault field (number_at self.old.values field) value.now ≡ None) (λ e. field_fault field (number_at self.old.values field) value.now ≡ Some e) }
+        ensures fault { MatchResult result (λ _. field_fault field (is_some (number_at self.old.values field)) value.now ≡ None) (λ e. field_fault field (is_some (number_at self.old.values field)) value.now ≡ Some e) }
         ensures values { OnOk result (self.new.values ≡ slice_set self.old.values (index_of field) (Some (number_of field value.now))) }
         ensures program { OnOk result (self.new.program.items ≡ self.old.program.items) }
     {
@@ -98,7 +101,7 @@ impl Draft {
         if self.lacks(players) || self.program.is_empty() {
             return Err(GameError::Missing);
         }
-        if self.program.len() > 3584 || self.strays(players) {
+        if self.program.len() > MOST_PROGRAM || self.strays(players) {
             return Err(GameError::Range);
         }
         Ok(Game {
@@ -140,14 +143,14 @@ impl Draft {
         self.value(field).unwrap_or(0)
     }
 
-    /// Whether a field that every game of so many players has is not said.
+    /// Whether a field that every game of this many players has is missing.
     fn lacks(&self, players: u64) -> bool
-        ensures { result ≡ list_any (λ field. nat_le (owner_of field) players && is_none (number_at self.now.values field)) fields }
+        ensures { result ≡ list_any (λ field. nat_le (owner_of field) players && not (is_some (number_at self.now.values field))) fields }
     {
         FIELDS.iter().any(|field| field.owner() <= players && self.value(*field).is_none())
     }
 
-    /// Whether a mask of a player beyond so many is said.
+    /// Whether there is a mask of a player past this number of players.
     fn strays(&self, players: u64) -> bool
         ensures { result ≡ list_any (λ field. nat_lt players (owner_of field) && is_some (number_at self.now.values field)) fields }
     {

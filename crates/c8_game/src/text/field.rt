@@ -1,8 +1,10 @@
 //! The fields of a game text: every name but `code`, each with one number.
 ghost use Rattle.std.specs.Prelude.{◌≡◌, ◌<◌};
 
-/// A name that stands at most once in a game text.
-#[derive(Clone, Copy)]
+use crate::bounds::MOST_FRAMES;
+
+/// A name that stands at most once in a game text, before its number.
+#[derive(Clone, Copy, Debug, PartialEq, Eq)]
 pub enum Field {
     Players,
     Ipf,
@@ -16,11 +18,8 @@ pub enum Field {
     Mask4,
 }
 
-/// How many fields there are.
-pub const FIELD_COUNT: usize = 10;
-
 /// All fields, each at its index.
-pub const FIELDS: [Field; 10] = [
+pub(crate) const FIELDS: [Field; 10] = [
     Field::Players,
     Field::Ipf,
     Field::Frames,
@@ -34,7 +33,8 @@ pub const FIELDS: [Field; 10] = [
 ];
 
 impl Field {
-    ghost use Rattle.c8_game.specs.Fields.{fields, word_of, index_of, owner_of, is_mask, least_of, greatest_of, field_named};
+    ghost use Rattle.c8_game.specs.Places.{index_of};
+    ghost use Rattle.c8_game.specs.Fields.{fields, word_of, owner_of, is_mask, least_of, greatest_of, field_named};
 
     /// The field that a word names.
     pub fn named(word: &[u8]) -> Option<Field>
@@ -43,6 +43,7 @@ impl Field {
         FIELDS.iter().copied().find(|field| field.word() == word)
     }
 
+    /// The word that stands for the field in a text.
     pub fn word(self) -> &'static [u8]
         ensures { result.now ≡ word_of self }
     {
@@ -61,7 +62,7 @@ impl Field {
     }
 
     /// The place of the field among `FIELDS`.
-    pub fn index(self) -> usize
+    pub(crate) fn index(self) -> usize
         ensures value { result ≡ index_of self }
         ensures small { result < 10 }
     {
@@ -81,6 +82,7 @@ impl Field {
         }
     }
 
+    /// Whether the field is a mask, which four hexadecimal digits spell; all others are decimals.
     pub fn is_mask(self) -> bool
         ensures { result ≡ is_mask self }
     {
@@ -105,7 +107,7 @@ impl Field {
         match self {
             Field::Players | Field::Delay => 4,
             Field::Ipf => 100,
-            Field::Frames => 262_144,
+            Field::Frames => u64::from(MOST_FRAMES),
             Field::Window => 12,
             Field::Seed => u64::MAX,
             Field::Mask1 | Field::Mask2 | Field::Mask3 | Field::Mask4 => 65535,

@@ -2,8 +2,8 @@
 ghost use Rattle.std.specs.Prelude.{◌≡◌, true, false, Some, None, IfOk, IsTrue, MatchResult};
 ghost use Rattle.std.specs.Char.{is_ascii_digit};
 ghost use Rattle.std.specs.List.{list_all};
-ghost use Rattle.c8_game.specs.Fields.{is_mask, is_decimal, decimal_number, number_of, IsWithin};
-ghost use Rattle.c8_game.specs.GameText.{value_fault};
+ghost use Rattle.c8_game.specs.Fields.{is_mask, is_decimal, decimal_number, is_number, number_of, IsWithin};
+ghost use Rattle.c8_game.specs.GameFaults.{field_fault};
 
 use crate::error::GameError;
 use crate::row::Keys;
@@ -38,8 +38,8 @@ pub fn decimal_number(text: &[u8]) -> u128
 pub fn number(field: Field, value: &[u8]) -> Result<u64, GameError>
     requires { is_mask field ≡ false → is_decimal value.now ≡ true }
     ensures value { IfOk result (λ n. n ≡ number_of field value.now) }
-    ensures within { IfOk result (λ n. IsWithin field n) }
-    ensures fault { MatchResult result (λ _. value_fault field value.now ≡ None) (λ e. value_fault field value.now ≡ Some e) }
+    ensures within { IfOk result (IsWithin field) }
+    ensures fault { MatchResult result (λ _. field_fault field false value.now ≡ None) (λ e. field_fault field false value.now ≡ Some e) }
 {
     if field.is_mask() {
         return match Keys::from_hex(value) {
