@@ -1,6 +1,6 @@
 //! A disk in a file of the operating system.
 ghost use Rattle.std.specs.Prelude.{◌≡◌, ◌≤◌, ◌<◌, ◌+◌, ◌↔◌, [], ◌∷◌, ◌++◌, true, false, length, take, drop, vec_len, vec_capacity, IfOk, OnOk, OnErr, IsErrOf, IsTrue};
-ghost use Rattle.c8_disk.specs.Disk.{Only, AddsNone, Writes, WritesImages, Elapses, HasCause};
+ghost use Rattle.c8_disk.specs.Disk.{Only, AddsNone, Writes, WritesImages, Elapses, HasCause, longest_write};
 ghost use Rattle.c8_disk.specs.Past.{IsImage, LeftSince, AddsWrite};
 ghost use Rattle.c8_disk.specs.PastLaws.{reads_image, counts, only};
 
@@ -190,7 +190,7 @@ impl<S: SystemFile> Disk for FileDisk<S> {
 
     fn write_at(&mut self, at: u32, bytes: &[u8]) -> Result<(), DiskError>
         requires place { at ≤ length (file_bytes self.old) }
-        requires short { length bytes.now ≤ 144 }
+        requires short { length bytes.now ≤ longest_write }
         ensures written { Writes at bytes.now (file_bytes self.old) (file_bytes self.new) result }
         ensures crash { WritesImages at (length bytes.now) (file_images self.old) (file_images self.new) result }
         ensures time { Elapses (file_moment self.old) (file_moment self.new) (file_left_since self.old) (file_left_since self.new) (file_images self.new) }

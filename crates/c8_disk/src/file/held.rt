@@ -1,6 +1,6 @@
 //! What a file held when it was opened as a disk, and what was done to it since.
 ghost use Rattle.std.specs.Prelude.{◌≡◌, ◌≤◌, ◌<◌, ◌+◌, ◌^◌, [], ◌∷◌, ◌++◌, true, length, vec_len, vec_capacity};
-ghost use Rattle.c8_disk.specs.Disk.{overwritten, Tears, AddsNone, Only, Elapses};
+ghost use Rattle.c8_disk.specs.Disk.{overwritten, longest_write, Tears, AddsNone, Only, Elapses};
 ghost use Rattle.c8_disk.specs.Past.{content, are_lawful, AddsWrite};
 
 use crate::GhostList;
@@ -45,7 +45,7 @@ impl Held {
     /// Notes a write. It counts as whole or torn, so also where the file's own write fails.
     pub(crate) fn note_write(&mut self, at: u32, bytes: &[u8])
         requires place { at ≤ length self.old.bytes.items }
-        requires short { length bytes.now ≤ 144 }
+        requires short { length bytes.now ≤ longest_write }
         requires fits { at + length bytes.now ≤ self.old.room }
         ensures bytes { self.new.bytes.items ≡ overwritten self.old.bytes.items at bytes.now }
         ensures room { self.new.room ≡ self.old.room }

@@ -1,5 +1,5 @@
 //! Which bytes a crash leaves that is chosen by a pick.
-use crate::{Disk, MemDisk};
+use crate::{Disk, LONGEST_WRITE, MemDisk};
 use rand_pcg::Pcg32;
 use rand_pcg::rand_core::{Rng, SeedableRng};
 use std::alloc::Global;
@@ -18,7 +18,7 @@ fn left(rt: &impl Abort, alloc: Global, pick: u64) -> Result<MemDisk, Fail> {
     disk.sync()?;
     for (at, bytes) in WRITES {
         let length = disk.len();
-        assert!(rt; at <= length && bytes.len() <= 144);
+        assert!(rt; at <= length && bytes.len() <= LONGEST_WRITE);
         disk.write_at(at, bytes)?;
     }
     Ok(disk.crash(pick))
@@ -26,7 +26,7 @@ fn left(rt: &impl Abort, alloc: Global, pick: u64) -> Result<MemDisk, Fail> {
 
 /// The same, told from the rule: of each write a part from its start on is on the disk, or all, each byte of it as it
 /// was written or any other, by the words of a generator that is seeded with the pick.
-fn told(alloc: Global, pick: u64) -> Result<Vec<u8>, Fail> {
+fn expected(alloc: Global, pick: u64) -> Result<Vec<u8>, Fail> {
     let mut words = Pcg32::seed_from_u64(pick);
     let mut image = Vec::new(alloc);
     image.extend_from_slice(OLD)?;
@@ -57,7 +57,7 @@ fn a_pick_seeds_the_generator(rt: HostRuntime) -> Result<(), Fail> {
         let disk = left(&rt, rt.alloc(), pick)?;
         assert_eq!(rt;
             disk.bytes(),
-            told(rt.alloc(), pick)?.as_slice(),
+            expected(rt.alloc(), pick)?.as_slice(),
             "pick {pick}"
         );
     }
