@@ -8,7 +8,7 @@ use Rattle.std.proofs.lemmas.Nat.{and_le_r, or_lt, xor_lt}
 use Rattle.std.specs.List.{list_all, range_with_len}
 use Rattle.std.specs.Prelude.{IfSome}
 use Rattle.std.specs.Option.{ForSome}
-use Rattle.c8_screen.specs.Points.{Points, no_points, row_has, clipped, exclusive_or}
+use Rattle.c8_screen.specs.Points.{Points, no_points, row_has, clipped, exclusive_or, AreOnScreen}
 use Rattle.c8_game.specs.Rules.{Rules, AreInRange, masked, joined}
 use Rattle.c8_game.specs.declared.row.Row.{Row}
 use Rattle.c8_machine.specs.declared.machine.Machine.{Machine}
@@ -71,9 +71,6 @@ IsMemory memory = ((at : ℕ) → memory at < 2 ^ 8) × ((at : ℕ) → 0x1000 �
 stored_in : (bytes : List ℕ) (from : ℕ) (memory : Memory) → AllBelow (2 ^ 8) bytes → IsMemory memory → IsMemory (stored bytes from memory)
 stored_in bytes from memory bytes_in (all, none) =
     (λ at. cond_below (2 ^ 8) _ _ _ (bytes_in _) (all at), λ at past. cond-false _ _ _ (and_left _ _ (le-ltb at 0x1000 past)) ∙ none at past)
-
-abbrev AreOnScreen : Points → Type 0
-AreOnScreen points = (x y : ℕ) → points x y ≡ true → (x < 64) × (y < 32)
 
 clipped_in : (points : Points) → AreOnScreen (clipped points)
 clipped_in points x y lit = by_test (nat_lt x 64 && nat_lt y 32) refl lit where

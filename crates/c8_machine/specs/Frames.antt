@@ -32,7 +32,7 @@ goes_on Waits = false
 goes_on Stopped = false
 goes_on Held = false
 
--- one step after another, each told what it is in the list
+-- one step after another, with their answers in the list
 abbrev pub IsChain : Rules → ℕ → State → List Step → State → Type 0
 IsChain rules keys s [] t = t ≡ s
 IsChain rules keys s (step ∷ steps) t = (mid : State) × IsStep rules keys s mid step × IsChain rules keys mid steps t

@@ -1,5 +1,5 @@
 -- What one instruction does: a relation between the machine before and after it, one case for each
--- row of the instruction table.
+-- row of the instruction table of docs/MACHINE.md, under the code that it is written as.
 use Rattle.std.specs.Prelude.{◌≡◌, ℕ, ◌+◌, ◌-◌, ◌*◌, ◌/◌, ◌%◌, ◌^◌, ◌==◌, ◌&&◌, Bool, not, MatchBool, Option, Some, None, List, [], ◌∷◌, ◌++◌, length, take, drop, map, nat_le, nat_lt, bit_and, bit_or, bit_xor, slice_index, slice_set, if◌then◌else◌}
 use Rattle.std.specs.Int.{bit_at, to_be_bytes, w64}
 use Rattle.std.specs.List.{range_with_len}
@@ -72,7 +72,7 @@ drawing s left top rows = clipped (sprite rows (byte_at s) (left % 64) (top % 32
 -- ---- the table
 
 -- what an instruction makes of the machine s, with the game's rules and the keys of the frame: the
--- machine t, and what the step is told to be
+-- machine t, and the answer of the step
 abbrev pub Does : Rules → ℕ → Instruction → State → State → Step → Type 0
 -- 00E0
 Does rules keys Clear s t step = (step ≡ Went) × (t ≡ record (passed s) { screen = no_points })
@@ -151,8 +151,8 @@ Does rules keys (AddAddress x) s t step = (step ≡ Went) × (t ≡ record (pass
 Does rules keys (PointAtDigit x) s t step = (step ≡ Went) × (t ≡ record (passed s) { address = patterns_at + 5 * (register s x % 0x10) })
 -- FX33
 Does rules keys (StoreDigits x) s t step =
-    let digits = register s x / 100 ∷ register s x / 10 % 10 ∷ register s x % 10 ∷ [] in
-    (step ≡ Went) × (t ≡ record (passed s) { memory = stored digits s.address s.memory })
+    let decimals = register s x / 100 ∷ register s x / 10 % 10 ∷ register s x % 10 ∷ [] in
+    (step ≡ Went) × (t ≡ record (passed s) { memory = stored decimals s.address s.memory })
 -- FX55
 Does rules keys (StoreRegisters x) s t step =
     (step ≡ Went) × (t ≡ record (passed s) { memory = stored (take (x + 1) s.registers) s.address s.memory; address = (s.address + x + 1) % memory_size })

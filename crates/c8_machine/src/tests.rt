@@ -184,418 +184,76 @@ struct Case {
 #[rattlefmt::skip]
 const CASES: [Case; 57] = [
     // games that were worked out before
-    Case {
-        code: "6fff61058f141206",
-        registers: &[0, 5],
-        flag: 1,
-        counter: 0x206,
-        address: 0,
-    },
-    Case {
-        code: "60fea300f033f2651208",
-        registers: &[2, 5, 4],
-        flag: 0,
-        counter: 0x208,
-        address: 0x303,
-    },
-    Case {
-        code: "6005610780158306841e8517120c",
-        registers: &[0xfe, 7, 0, 0x7f, 0x0e, 7],
-        flag: 1,
-        counter: 0x20c,
-        address: 0,
-    },
+    Case { code: "6fff61058f141206", registers: &[0, 5], flag: 1, counter: 0x206, address: 0 },
+    Case { code: "60fea300f033f2651208", registers: &[2, 5, 4], flag: 0, counter: 0x208, address: 0x303 },
+    Case { code: "6005610780158306841e8517120c", registers: &[0xfe, 7, 0, 0x7f, 0x0e, 7], flag: 1, counter: 0x20c, address: 0 },
     // skips, each taken and not taken
-    Case {
-        code: "6005300561ff1206",
-        registers: &[5, 0],
-        flag: 0,
-        counter: 0x206,
-        address: 0,
-    },
-    Case {
-        code: "6005300661ff1206",
-        registers: &[5, 0xff],
-        flag: 0,
-        counter: 0x206,
-        address: 0,
-    },
-    Case {
-        code: "6005400661ff1206",
-        registers: &[5, 0],
-        flag: 0,
-        counter: 0x206,
-        address: 0,
-    },
-    Case {
-        code: "6005400561ff1206",
-        registers: &[5, 0xff],
-        flag: 0,
-        counter: 0x206,
-        address: 0,
-    },
-    Case {
-        code: "60056105501062ff1208",
-        registers: &[5, 5, 0],
-        flag: 0,
-        counter: 0x208,
-        address: 0,
-    },
-    Case {
-        code: "60056106501062ff1208",
-        registers: &[5, 6, 0xff],
-        flag: 0,
-        counter: 0x208,
-        address: 0,
-    },
-    Case {
-        code: "60056106901062ff1208",
-        registers: &[5, 6, 0],
-        flag: 0,
-        counter: 0x208,
-        address: 0,
-    },
-    Case {
-        code: "60056105901062ff1208",
-        registers: &[5, 5, 0xff],
-        flag: 0,
-        counter: 0x208,
-        address: 0,
-    },
-    Case {
-        code: "6035e09e61ff1206",
-        registers: &[0x35, 0],
-        flag: 0,
-        counter: 0x206,
-        address: 0,
-    },
-    Case {
-        code: "6036e09e61ff1206",
-        registers: &[0x36, 0xff],
-        flag: 0,
-        counter: 0x206,
-        address: 0,
-    },
-    Case {
-        code: "6036e0a161ff1206",
-        registers: &[0x36, 0],
-        flag: 0,
-        counter: 0x206,
-        address: 0,
-    },
-    Case {
-        code: "6035e0a161ff1206",
-        registers: &[0x35, 0xff],
-        flag: 0,
-        counter: 0x206,
-        address: 0,
-    },
+    Case { code: "6005300561ff1206", registers: &[5, 0], flag: 0, counter: 0x206, address: 0 },
+    Case { code: "6005300661ff1206", registers: &[5, 0xff], flag: 0, counter: 0x206, address: 0 },
+    Case { code: "6005400661ff1206", registers: &[5, 0], flag: 0, counter: 0x206, address: 0 },
+    Case { code: "6005400561ff1206", registers: &[5, 0xff], flag: 0, counter: 0x206, address: 0 },
+    Case { code: "60056105501062ff1208", registers: &[5, 5, 0], flag: 0, counter: 0x208, address: 0 },
+    Case { code: "60056106501062ff1208", registers: &[5, 6, 0xff], flag: 0, counter: 0x208, address: 0 },
+    Case { code: "60056106901062ff1208", registers: &[5, 6, 0], flag: 0, counter: 0x208, address: 0 },
+    Case { code: "60056105901062ff1208", registers: &[5, 5, 0xff], flag: 0, counter: 0x208, address: 0 },
+    Case { code: "6035e09e61ff1206", registers: &[0x35, 0], flag: 0, counter: 0x206, address: 0 },
+    Case { code: "6036e09e61ff1206", registers: &[0x36, 0xff], flag: 0, counter: 0x206, address: 0 },
+    Case { code: "6036e0a161ff1206", registers: &[0x36, 0], flag: 0, counter: 0x206, address: 0 },
+    Case { code: "6035e0a161ff1206", registers: &[0x35, 0xff], flag: 0, counter: 0x206, address: 0 },
     // calls and jumps
-    Case {
-        code: "220661ff1204620500ee",
-        registers: &[0, 0xff, 5],
-        flag: 0,
-        counter: 0x204,
-        address: 0,
-    },
-    Case {
-        code: "6004b20261ff1206",
-        registers: &[4, 0],
-        flag: 0,
-        counter: 0x206,
-        address: 0,
-    },
+    Case { code: "220661ff1204620500ee", registers: &[0, 0xff, 5], flag: 0, counter: 0x204, address: 0 },
+    Case { code: "6004b20261ff1206", registers: &[4, 0], flag: 0, counter: 0x206, address: 0 },
     // values, which have no flag
-    Case {
-        code: "6fff60ff70021206",
-        registers: &[1],
-        flag: 0xff,
-        counter: 0x206,
-        address: 0,
-    },
-    Case {
-        code: "600581001204",
-        registers: &[5, 5],
-        flag: 0,
-        counter: 0x204,
-        address: 0,
-    },
+    Case { code: "6fff60ff70021206", registers: &[1], flag: 0xff, counter: 0x206, address: 0 },
+    Case { code: "600581001204", registers: &[5, 5], flag: 0, counter: 0x204, address: 0 },
     // arithmetic, with each answer of the flag
-    Case {
-        code: "600c610a6fff80111208",
-        registers: &[0x0e, 0x0a],
-        flag: 0,
-        counter: 0x208,
-        address: 0,
-    },
-    Case {
-        code: "600c610a6fff80121208",
-        registers: &[0x08, 0x0a],
-        flag: 0,
-        counter: 0x208,
-        address: 0,
-    },
-    Case {
-        code: "600c610a6fff80131208",
-        registers: &[0x06, 0x0a],
-        flag: 0,
-        counter: 0x208,
-        address: 0,
-    },
-    Case {
-        code: "60f0612080141206",
-        registers: &[0x10, 0x20],
-        flag: 1,
-        counter: 0x206,
-        address: 0,
-    },
-    Case {
-        code: "60f0610f6fff80141208",
-        registers: &[0xff, 0x0f],
-        flag: 0,
-        counter: 0x208,
-        address: 0,
-    },
-    Case {
-        code: "6005610580151206",
-        registers: &[0, 5],
-        flag: 1,
-        counter: 0x206,
-        address: 0,
-    },
-    Case {
-        code: "600561066fff80151208",
-        registers: &[0xff, 6],
-        flag: 0,
-        counter: 0x208,
-        address: 0,
-    },
-    Case {
-        code: "60ff610580161206",
-        registers: &[2, 5],
-        flag: 1,
-        counter: 0x206,
-        address: 0,
-    },
-    Case {
-        code: "61046fff80161206",
-        registers: &[2, 4],
-        flag: 0,
-        counter: 0x206,
-        address: 0,
-    },
-    Case {
-        code: "6005610780171206",
-        registers: &[2, 7],
-        flag: 1,
-        counter: 0x206,
-        address: 0,
-    },
-    Case {
-        code: "600761056fff80171208",
-        registers: &[0xfe, 5],
-        flag: 0,
-        counter: 0x208,
-        address: 0,
-    },
-    Case {
-        code: "6181801e1204",
-        registers: &[2, 0x81],
-        flag: 1,
-        counter: 0x204,
-        address: 0,
-    },
-    Case {
-        code: "61416fff801e1206",
-        registers: &[0x82, 0x41],
-        flag: 0,
-        counter: 0x206,
-        address: 0,
-    },
+    Case { code: "600c610a6fff80111208", registers: &[0x0e, 0x0a], flag: 0, counter: 0x208, address: 0 },
+    Case { code: "600c610a6fff80121208", registers: &[0x08, 0x0a], flag: 0, counter: 0x208, address: 0 },
+    Case { code: "600c610a6fff80131208", registers: &[0x06, 0x0a], flag: 0, counter: 0x208, address: 0 },
+    Case { code: "60f0612080141206", registers: &[0x10, 0x20], flag: 1, counter: 0x206, address: 0 },
+    Case { code: "60f0610f6fff80141208", registers: &[0xff, 0x0f], flag: 0, counter: 0x208, address: 0 },
+    Case { code: "6005610580151206", registers: &[0, 5], flag: 1, counter: 0x206, address: 0 },
+    Case { code: "600561066fff80151208", registers: &[0xff, 6], flag: 0, counter: 0x208, address: 0 },
+    Case { code: "60ff610580161206", registers: &[2, 5], flag: 1, counter: 0x206, address: 0 },
+    Case { code: "61046fff80161206", registers: &[2, 4], flag: 0, counter: 0x206, address: 0 },
+    Case { code: "6005610780171206", registers: &[2, 7], flag: 1, counter: 0x206, address: 0 },
+    Case { code: "600761056fff80171208", registers: &[0xfe, 5], flag: 0, counter: 0x208, address: 0 },
+    Case { code: "6181801e1204", registers: &[2, 0x81], flag: 1, counter: 0x204, address: 0 },
+    Case { code: "61416fff801e1206", registers: &[0x82, 0x41], flag: 0, counter: 0x206, address: 0 },
     // with VF for VX the flag stays, but where there is none
-    Case {
-        code: "61058f101204",
-        registers: &[0, 5],
-        flag: 5,
-        counter: 0x204,
-        address: 0,
-    },
-    Case {
-        code: "6f0c610a8f111206",
-        registers: &[0, 0x0a],
-        flag: 0,
-        counter: 0x206,
-        address: 0,
-    },
-    Case {
-        code: "6f0c610a8f121206",
-        registers: &[0, 0x0a],
-        flag: 0,
-        counter: 0x206,
-        address: 0,
-    },
-    Case {
-        code: "6f0c610a8f131206",
-        registers: &[0, 0x0a],
-        flag: 0,
-        counter: 0x206,
-        address: 0,
-    },
-    Case {
-        code: "6f0161028f141206",
-        registers: &[0, 2],
-        flag: 0,
-        counter: 0x206,
-        address: 0,
-    },
-    Case {
-        code: "6f0561038f151206",
-        registers: &[0, 3],
-        flag: 1,
-        counter: 0x206,
-        address: 0,
-    },
-    Case {
-        code: "61058f161204",
-        registers: &[0, 5],
-        flag: 1,
-        counter: 0x204,
-        address: 0,
-    },
-    Case {
-        code: "6f0361058f171206",
-        registers: &[0, 5],
-        flag: 1,
-        counter: 0x206,
-        address: 0,
-    },
-    Case {
-        code: "61818f1e1204",
-        registers: &[0, 0x81],
-        flag: 1,
-        counter: 0x204,
-        address: 0,
-    },
+    Case { code: "61058f101204", registers: &[0, 5], flag: 5, counter: 0x204, address: 0 },
+    Case { code: "6f0c610a8f111206", registers: &[0, 0x0a], flag: 0, counter: 0x206, address: 0 },
+    Case { code: "6f0c610a8f121206", registers: &[0, 0x0a], flag: 0, counter: 0x206, address: 0 },
+    Case { code: "6f0c610a8f131206", registers: &[0, 0x0a], flag: 0, counter: 0x206, address: 0 },
+    Case { code: "6f0161028f141206", registers: &[0, 2], flag: 0, counter: 0x206, address: 0 },
+    Case { code: "6f0561038f151206", registers: &[0, 3], flag: 1, counter: 0x206, address: 0 },
+    Case { code: "61058f161204", registers: &[0, 5], flag: 1, counter: 0x204, address: 0 },
+    Case { code: "6f0361058f171206", registers: &[0, 5], flag: 1, counter: 0x206, address: 0 },
+    Case { code: "61818f1e1204", registers: &[0, 0x81], flag: 1, counter: 0x204, address: 0 },
     // I, modulo 4096
-    Case {
-        code: "a1231202",
-        registers: &[0],
-        flag: 0,
-        counter: 0x202,
-        address: 0x123,
-    },
-    Case {
-        code: "6fffafff6002f01e1208",
-        registers: &[2],
-        flag: 0xff,
-        counter: 0x208,
-        address: 0x001,
-    },
-    Case {
-        code: "60abf0291204",
-        registers: &[0xab],
-        flag: 0,
-        counter: 0x204,
-        address: 0x087,
-    },
+    Case { code: "a1231202", registers: &[0], flag: 0, counter: 0x202, address: 0x123 },
+    Case { code: "6fffafff6002f01e1208", registers: &[2], flag: 0xff, counter: 0x208, address: 0x001 },
+    Case { code: "60abf0291204", registers: &[0xab], flag: 0, counter: 0x204, address: 0x087 },
     // timers are read in the frame in which they are set
-    Case {
-        code: "6009f0156107f118f207120a",
-        registers: &[9, 7, 9],
-        flag: 0,
-        counter: 0x20a,
-        address: 0,
-    },
+    Case { code: "6009f0156107f118f207120a", registers: &[9, 7, 9], flag: 0, counter: 0x20a, address: 0 },
     // random bytes 0 and 1 of seed 0 are 37 and 7c
-    Case {
-        code: "c0ffc1f01204",
-        registers: &[0x37, 0x70],
-        flag: 0,
-        counter: 0x204,
-        address: 0,
-    },
+    Case { code: "c0ffc1f01204", registers: &[0x37, 0x70], flag: 0, counter: 0x204, address: 0 },
     // memory round its end
-    Case {
-        code: "60feaffff033f2651208",
-        registers: &[2, 5, 4],
-        flag: 0,
-        counter: 0x208,
-        address: 0x002,
-    },
-    Case {
-        code: "600161026203affef255affe600061006200f2651214",
-        registers: &[1, 2, 3],
-        flag: 0,
-        counter: 0x214,
-        address: 0x001,
-    },
+    Case { code: "60feaffff033f2651208", registers: &[2, 5, 4], flag: 0, counter: 0x208, address: 0x002 },
+    Case { code: "600161026203affef255affe600061006200f2651214", registers: &[1, 2, 3], flag: 0, counter: 0x214, address: 0x001 },
     // a program that writes over itself, and one whose instruction stands at FFF and 000
-    Case {
-        code: "60626133a208f1550000120a",
-        registers: &[0x62, 0x33, 0x33],
-        flag: 0,
-        counter: 0x20a,
-        address: 0x20a,
-    },
-    Case {
-        code: "6062614462106301affff3551fff",
-        registers: &[0x62, 0x44, 0x44, 1],
-        flag: 0,
-        counter: 0x001,
-        address: 0x003,
-    },
+    Case { code: "60626133a208f1550000120a", registers: &[0x62, 0x33, 0x33], flag: 0, counter: 0x20a, address: 0x20a },
+    Case { code: "6062614462106301affff3551fff", registers: &[0x62, 0x44, 0x44, 1], flag: 0, counter: 0x001, address: 0x003 },
     // a drawing ends the frame, and its flag is written last
-    Case {
-        code: "6fffd0101204",
-        registers: &[0],
-        flag: 0,
-        counter: 0x204,
-        address: 0,
-    },
-    Case {
-        code: "6f026103a050df111208",
-        registers: &[0, 3],
-        flag: 0,
-        counter: 0x208,
-        address: 0x050,
-    },
-    Case {
-        code: "6f02a050d0f51206",
-        registers: &[0],
-        flag: 0,
-        counter: 0x206,
-        address: 0x050,
-    },
+    Case { code: "6fffd0101204", registers: &[0], flag: 0, counter: 0x204, address: 0 },
+    Case { code: "6f026103a050df111208", registers: &[0, 3], flag: 0, counter: 0x208, address: 0x050 },
+    Case { code: "6f02a050d0f51206", registers: &[0], flag: 0, counter: 0x206, address: 0x050 },
     // a wait ends the frame, and the counter has gone on
-    Case {
-        code: "f30a60ff",
-        registers: &[0, 0, 0, 0],
-        flag: 0,
-        counter: 0x202,
-        address: 0,
-    },
+    Case { code: "f30a60ff", registers: &[0, 0, 0, 0], flag: 0, counter: 0x202, address: 0 },
     // a skip and a jump over the last address
-    Case {
-        code: "60306130affef1551ffe",
-        registers: &[0x30, 0x30],
-        flag: 0,
-        counter: 0x002,
-        address: 0x000,
-    },
-    Case {
-        code: "00e01202",
-        registers: &[0],
-        flag: 0,
-        counter: 0x202,
-        address: 0,
-    },
-    Case {
-        code: "1202",
-        registers: &[0],
-        flag: 0,
-        counter: 0x202,
-        address: 0,
-    },
+    Case { code: "60306130affef1551ffe", registers: &[0x30, 0x30], flag: 0, counter: 0x002, address: 0x000 },
+    Case { code: "00e01202", registers: &[0], flag: 0, counter: 0x202, address: 0 },
+    Case { code: "1202", registers: &[0], flag: 0, counter: 0x202, address: 0 },
 ];
 
 #[test]
@@ -612,6 +270,28 @@ fn follows_the_table(rt: HostRuntime) -> Result<(), Fail> {
         assert_eq!(rt; machine.counter(), case.counter, "counter of {}", case.code);
         assert_eq!(rt; machine.address(), case.address, "I of {}", case.code);
     }
+    Ok(())
+}
+
+#[test]
+fn numbers_the_stops(rt: HostRuntime) {
+    assert_eq!(rt; Stop::UnknownInstruction.number(), 1);
+    assert_eq!(rt; Stop::StackFull.number(), 2);
+    assert_eq!(rt; Stop::StackEmpty.number(), 3);
+}
+
+/// A place that was taken off the stack is no part of the state.
+#[test]
+fn machines_are_equal_where_their_states_are(rt: HostRuntime) -> Result<(), Fail> {
+    // with key 0 down 208 is called and returns to 206, else the machine goes to 206 at once
+    let code = "e09e12062208120600ee";
+    let called = play(rt.alloc(), 10, code, &[1, 0])?;
+    let went = play(rt.alloc(), 10, code, &[0, 0])?;
+    assert_eq!(rt; called, went);
+    assert_ne!(rt;
+        play(rt.alloc(), 10, code, &[1])?,
+        play(rt.alloc(), 10, code, &[0])?
+    );
     Ok(())
 }
 

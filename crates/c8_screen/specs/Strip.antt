@@ -1,4 +1,4 @@
--- Of the code alone, not to be believed: a byte's points within a row of 64, as a number.
+-- Checked, not believed: a byte's points within a row of 64, as a number.
 use Rattle.std.specs.Prelude.{ℕ, ◌*◌, ◌/◌, ◌^◌}
 
 abbrev pub strip : ℕ → ℕ → ℕ
