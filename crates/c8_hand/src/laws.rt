@@ -9,10 +9,14 @@ ghost use Rattle.c8_hand.specs.Links.{LinksValue, link_to, refusal, link_after, 
 /// the own epoch, and but for HELLO and WELCOME it names the epoch that is known of its sender, to whom
 /// the link is open.
 pub fn what_is_admitted()
-    ensures mine { (l : LinksValue) (head : HeadValue) → refusal l head ≡ None → IsForMe l head }
-    ensures welcome { (l : LinksValue) (head : HeadValue) → refusal l head ≡ None → head.kind ≡ kinds.Welcome → head.addressee_epoch ≡ l.epoch }
-    ensures both { (l : LinksValue) (head : HeadValue) → refusal l head ≡ None → head.kind ≢ kinds.Hello → head.kind ≢ kinds.Welcome → NamesBoth l head }
-    ensures is_open { (l : LinksValue) (head : HeadValue) → refusal l head ≡ None → head.kind ≢ kinds.Hello → head.kind ≢ kinds.Welcome → (link_to l head.from).is_open ≡ true }
+    ensures mine { (l : LinksValue) (head : HeadValue) → refusal l head ≡ None
+        → IsForMe l head }
+    ensures welcome { (l : LinksValue) (head : HeadValue) → refusal l head ≡ None
+        → head.kind ≡ kinds.Welcome → head.addressee_epoch ≡ l.epoch }
+    ensures both { (l : LinksValue) (head : HeadValue) → refusal l head ≡ None
+        → head.kind ≢ kinds.Hello → head.kind ≢ kinds.Welcome → NamesBoth l head }
+    ensures is_open { (l : LinksValue) (head : HeadValue) → refusal l head ≡ None
+        → head.kind ≢ kinds.Hello → head.kind ≢ kinds.Welcome → (link_to l head.from).is_open ≡ true }
 {}
 
 /// Hearing a datagram of a player changes the link to that player, and no other.
@@ -25,7 +29,8 @@ pub fn hearing_changes_one_link()
 
 /// Only a WELCOME opens a link: one that names both epochs, of the player to whom the link is.
 pub fn only_a_welcome_opens()
-    ensures { (l : LinksValue) (head : HeadValue) → refusal l head ≡ None → OpensByWelcome l head (heard l head) }
+    ensures { (l : LinksValue) (head : HeadValue) → refusal l head ≡ None
+        → OpensByWelcome l head (heard l head) }
 {}
 
 /// No known epoch falls.

@@ -1,5 +1,5 @@
 -- What bytes say is the packet that they spell, or else their refusal.
-use Rattle.std.proofs.Common.{◌≡◌, ℕ, List, Option, Some, None, Ok, Err, refl, sym, ap, subst, ◌∙◌, arith}
+use Rattle.std.proofs.Common.{◌≡◌, ℕ, List, Option, Some, None, Ok, Err, refl, sym, ap, subst, ◌∙◌}
 use Rattle.c8_wire.specs.declared.error.WireError.{WireError}
 use Rattle.c8_wire.specs.declared.kinds.Kind.{Kind}
 use Rattle.c8_wire.specs.Packet.{AreBytes, Packet}
