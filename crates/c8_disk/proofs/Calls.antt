@@ -56,7 +56,7 @@ passed_sync calls i lt is =
     ap synced_count (one_more calls i Sync lt is) ∙ synced_count-sync (take i calls) ∙ ap (λ (k : ℕ). k + 1) (length-take-le i calls (omega arith))
 
 -- behind the last sync there is none
-abbrev none_synced : List Call → Type 0
+abbrev pub none_synced : List Call → Type 0
 none_synced [] = Unit {0}
 none_synced (Write at count written ∷ calls) = none_synced calls
 none_synced (Sync ∷ calls) = ⊥
@@ -69,7 +69,7 @@ none_from_count (Write at count written ∷ calls) none = elim (cases_Bool (nat_
 ]
 none_from_count (Sync ∷ calls) none = absurd (omega arith)
 
-none_behind : (calls : List Call) → none_synced (drop (synced_count calls) calls)
+pub none_behind : (calls : List Call) → none_synced (drop (synced_count calls) calls)
 none_behind [] = tt
 none_behind (Write at count written ∷ calls) = elim (cases_Bool (nat_lt 0 (synced_count calls))) [
   | inl some ↦

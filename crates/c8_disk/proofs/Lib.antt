@@ -1,3 +1,4 @@
+mod AtOnce
 mod Calls
 mod Past
 mod Tear

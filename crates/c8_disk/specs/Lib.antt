@@ -1,3 +1,4 @@
+pub mod AtOnce
 pub mod Budget
 pub mod Disk
 pub mod Errors

@@ -60,3 +60,8 @@ module _ {D : Type 0} (g : Ghosts D) where
     changes = second.changes ∙ first.changes;
     same = same_then a b c first.same second.same;
   }
+
+  -- a run, and then one that only reads
+  pub then_reads : ((disk : D) (t : ℕ) (image : List ℕ) → t ≤ g.moment disk → g.may_leave disk image → g.left_since disk t image)
+      → (a b c : D) (P : List ℕ → Type 0) → LeavesOnly g a b P → ReadsOnly g b c → LeavesOnly g a c P
+  then_reads counts_now a b c P run reads = then_run a b c P run (weaker b c (g.may_leave b) P reads.any_moment (at_the_end counts_now a b P run))

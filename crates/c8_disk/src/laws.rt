@@ -1,7 +1,10 @@
 //! Laws of the disk model, each the contract of a function that does nothing: what crates above conclude from it.
-ghost use Rattle.std.specs.Prelude.{◌≤◌, ◌⊎◌, ℕ, List, length};
+ghost use Rattle.std.specs.Prelude.{◌≡◌, ◌≤◌, ◌⊎◌, ℕ, true, List, length};
+ghost use Rattle.c8_disk.specs.AtOnce.{IsBetweenSyncs};
 ghost use Rattle.c8_disk.specs.Disk.{overwritten, IsOverwritten, Torn};
-ghost use Rattle.c8_disk.specs.Runs.{LeavesOnly};
+ghost use Rattle.c8_disk.specs.Past.{are_lawful, IsImage};
+ghost use Rattle.c8_disk.specs.Runs.{LeavesOnly, ReadsOnly};
+ghost use Rattle.c8_disk.specs.declared.call.Call.{Call};
 
 use crate::Disk;
 
@@ -28,6 +31,13 @@ pub fn runs_chain<D: Disk, P: Property>()
         → LeavesOnly D.Disk old new (P.has p) }
 {}
 
+/// Runs that only read are one, and a run that is followed by one of them leaves what it left.
+pub fn reads_chain<D: Disk, P: Property>()
+    ensures reads { (old mid new : D) → ReadsOnly D.Disk old mid → ReadsOnly D.Disk mid new → ReadsOnly D.Disk old new }
+    ensures runs { (old mid new : D) (p : P) → LeavesOnly D.Disk old mid (P.has p) → ReadsOnly D.Disk mid new
+        → LeavesOnly D.Disk old new (P.has p) }
+{}
+
 /// What is true of each image since a run began is true of what a read gives after it, and of what a crash then leaves.
 pub fn runs_end<D: Disk, P: Property>()
     ensures read { (old new : D) (p : P) → LeavesOnly D.Disk old new (P.has p) → P.has p (D.seen new) }
@@ -40,4 +50,11 @@ pub fn runs_go_on<D: Disk, P: Property>()
     ensures { (old new : D) (p : P) (t : ℕ) → t ≤ D.moment old
         → ((image : List ℕ) → D.left_since old t image → P.has p image) → LeavesOnly D.Disk old new (P.has p)
         → (image : List ℕ) → D.left_since new t image → P.has p image }
+{}
+
+/// What a crash may leave after the calls, said at once: any length from that of the last sync to the greatest written,
+/// and outside the ranges written since that sync each byte as it was then.
+pub fn images_at_once()
+    ensures { (first : List ℕ) (calls : List Call) (image : List ℕ) → are_lawful first calls ≡ true
+        → IsImage first calls image → IsBetweenSyncs first calls image }
 {}

@@ -1,5 +1,6 @@
 //! A disk in memory that can stop and crash.
 ghost use Rattle.std.specs.Prelude.{◌≡◌, ◌≤◌, ◌<◌, ◌+◌, ◌^◌, ◌↔◌, true, [], ◌∷◌, ◌++◌, length, vec_len, vec_capacity, take, drop, IfOk, OnOk, OnErr, IsErrOf, refl, false};
+ghost use Rattle.c8_disk.specs.AtOnce.{IsBetweenSyncs};
 ghost use Rattle.c8_disk.specs.Disk.{Only, AddsNone, Writes, WritesImages, Elapses, HasCause, longest_write};
 ghost use Rattle.c8_disk.specs.Past.{content, synced, are_lawful, fit, IsImage, LeftSince};
 ghost use Rattle.c8_disk.specs.PastLaws.{reads_image, counts, only};
@@ -48,7 +49,7 @@ fn note(calls: &mut Vec<Call>, call: Call)
 }
 
 impl MemDisk {
-    ghost use Rattle.c8_disk.specs.Memory.{bytes_of, images_of, moment_of, left_since, synced_of, calls_allowed, arms_of, value_of, new_value};
+    ghost use Rattle.c8_disk.specs.Memory.{bytes_of, first_of, calls_of, images_of, moment_of, left_since, synced_of, calls_allowed, arms_of, value_of, new_value};
 
     /// An empty disk with room for `capacity` bytes, which serves `calls` calls.
     pub fn new(alloc: Global, capacity: u32, calls: u32) -> Result<MemDisk, AllocError>
@@ -94,6 +95,7 @@ impl MemDisk {
     /// Pick 0 is what was last synced, pick 1 what a read gives, and any other pick is chosen by a generator seeded with it.
     pub fn crash(self, pick: u64) -> MemDisk
         ensures image { images_of self (bytes_of result) }
+        ensures between_syncs { IsBetweenSyncs (first_of self) (calls_of self) (bytes_of result) }
         ensures synced { pick ≡ 0 → bytes_of result ≡ synced_of self }
         ensures read { pick ≡ 1 → bytes_of result ≡ bytes_of self }
         ensures settled { Only (bytes_of result) (images_of result) }
