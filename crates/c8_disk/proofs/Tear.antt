@@ -1,6 +1,6 @@
 -- Torn writes, one after another.
-use Rattle.std.proofs.Common.{◌≡◌, ◌≤◌, ◌<◌, ℕ, ◌+◌, ◌-◌, List, [], ◌∷◌, ◌++◌, length, take, drop, set, sym, ◌∙◌, ap, arith, length-set}
-use Rattle.std.proofs.lemmas.List.{drop-drop, take-take, take-set-le, drop-set-lt, take-append-le, drop_all, length_push}
+use Rattle.std.proofs.Common.{◌≡◌, ◌≤◌, ℕ, ◌+◌, ◌-◌, List, take, drop, sym, ◌∙◌, ap, arith}
+use Rattle.std.proofs.lemmas.List.{drop-drop, take-take}
 use Rattle.c8_disk.specs.Disk.{Torn}
 
 -- a wider write may do as much

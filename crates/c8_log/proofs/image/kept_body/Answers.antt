@@ -1,5 +1,4 @@
 use Rattle.std.proofs.Common.{Some, sym, ◌∙◌, ap, arith}
-use Rattle.c8_log.specs.Slots.{kept_count}
 use Rattle.c8_log.proofs.Kept.{front_of, kept_at, whole}
 use Rattle.c8_log.proofs.Repair.{length_of_kept}
 use Rattle.c8_log.proofs.image.kept_body.Goals as goal
