@@ -169,7 +169,8 @@ abbrev pub Executes : Rules → ℕ → Option Instruction → State → State �
 Executes rules keys (Some i) s t step = Does rules keys i s t step
 Executes rules keys None s t step = (step ≡ Stopped) × (t ≡ stopped UnknownInstruction s)
 
--- one step of a machine that neither waits nor has stopped: the instruction of the code at its counter
+-- One step of a machine: what the instruction of the code at its counter makes of it. The table asks nothing of waits
+-- and stops: `Machine::step` answers `Held` to a machine that waits or has stopped, and a frame takes no step of one.
 pub record IsStep (rules : Rules) (keys : ℕ) (s t : State) (step : Step) : Type 0 where
   pub instruction : Option Instruction
   pub is : IsInstructionOf (code_at s) instruction

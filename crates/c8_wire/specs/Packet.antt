@@ -1,8 +1,9 @@
 -- What a datagram says, apart from the bytes that spell it.
 use Rattle.std.specs.Prelude.{◌≡◌, ◌≢◌, ℕ, ◌+◌, ◌^◌, ◌<◌, ◌≤◌, List, length, slice_index}
+use Rattle.c8_game.specs.Rules.{most_inputs}
 use Rattle.c8_wire.specs.declared.kinds.Kind.{Kind}
 use Rattle.c8_wire.specs.declared.kinds.Kind.TheVariants as kinds
-use Rattle.c8_wire.specs.Sizes.{longest_run, most_inputs}
+use Rattle.c8_wire.specs.Sizes.{longest_run}
 
 -- Which kind of datagram who says to whom, in which match, and the epochs of both. Who says it and
 -- who is addressed are seats: those of players are 1 to 4.

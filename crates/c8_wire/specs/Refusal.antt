@@ -1,10 +1,11 @@
 -- The table of refusals: where each applies, and which is answered.
 use Rattle.std.specs.Prelude.{ℕ, ◌+◌, ◌*◌, ◌==◌, ◌||◌, ◌&&◌, Bool, false, not, nat_lt, nat_le, List, [], ◌∷◌, ◌++◌, length, slice_index, Option, Some, None, is_none, find, if◌then◌else◌}
+use Rattle.c8_game.specs.Rules.{most_inputs}
 use Rattle.c8_wire.specs.declared.error.WireError.{WireError}
 use Rattle.c8_wire.specs.declared.error.WireError.TheVariants as errors
 use Rattle.c8_wire.specs.declared.kinds.Kind.{Kind}
 use Rattle.c8_wire.specs.declared.kinds.Kind.TheVariants as kinds
-use Rattle.c8_wire.specs.Sizes.{header_length, longest_run, most_inputs}
+use Rattle.c8_wire.specs.Sizes.{header_length, longest_run}
 use Rattle.c8_wire.specs.Kinds.{fixed_size, has_run, names_leaver}
 use Rattle.c8_wire.specs.Reading.{number_at, kind_at, size_at}
 

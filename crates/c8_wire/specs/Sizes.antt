@@ -12,7 +12,3 @@ longest_datagram = 174
 -- the most inputs that a run has
 abbrev pub longest_run : ℕ
 longest_run = 64
-
--- the greatest length of a player's list of inputs, in any game
-abbrev pub most_inputs : ℕ
-most_inputs = 262148

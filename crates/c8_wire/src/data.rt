@@ -7,7 +7,7 @@ ghost use Rattle.c8_wire.specs.Spelling.{Spells};
 
 use crate::numbers::u32_at;
 use crate::run::Run;
-use crate::sizes::MOST_INPUTS;
+use c8_game::MOST_INPUTS;
 
 /// The sender's inputs.
 #[derive(Clone, Copy, Debug, PartialEq, Eq)]

@@ -6,7 +6,7 @@ ghost use Rattle.c8_wire.specs.Reading.{packet_at};
 ghost use Rattle.c8_wire.specs.Spelling.{Spells};
 
 use crate::numbers::u32_at;
-use crate::sizes::MOST_INPUTS;
+use c8_game::MOST_INPUTS;
 
 /// The sender asks for a link. It says nothing beside its header.
 #[derive(Clone, Copy, Debug, PartialEq, Eq)]

@@ -7,8 +7,7 @@ ghost use Rattle.c8_wire.specs.Spelling.{Spells};
 
 use crate::numbers::u32_at;
 use crate::run::Run;
-use crate::sizes::MOST_INPUTS;
-use c8_game::Player;
+use c8_game::{MOST_INPUTS, Player};
 
 /// What the three have in common: the leaver, a number of its inputs and, but for FREEZE, a run of
 /// them.

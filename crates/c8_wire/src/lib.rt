@@ -32,7 +32,7 @@ pub use leaving::{Cut, Freeze, Frozen};
 pub use reading::view;
 pub use run::{Run, Words};
 pub use said::{Body, Said};
-pub use sizes::{HEADER_LENGTH, LONGEST_DATAGRAM, LONGEST_RUN, MOST_INPUTS};
+pub use sizes::{HEADER_LENGTH, LONGEST_DATAGRAM, LONGEST_RUN};
 pub use writing::write;
 
 #[cfg(test)]

@@ -16,7 +16,8 @@ use crate::handshake::{Hello, Welcome};
 use crate::kinds::Kind;
 use crate::leaving::{Cut, Freeze, Frozen, Leaving};
 use crate::numbers::{u16_at, u32_at};
-use crate::sizes::{HEADER_LENGTH, LONGEST_RUN, MOST_INPUTS};
+use crate::sizes::{HEADER_LENGTH, LONGEST_RUN};
+use c8_game::MOST_INPUTS;
 
 /// The datagram that the bytes spell, lent from them; else the first refusal of `WireError`.
 pub fn view(bytes: &[u8]) -> Result<Datagram<'_>, WireError>

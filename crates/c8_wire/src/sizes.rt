@@ -8,6 +8,3 @@ pub const LONGEST_DATAGRAM: usize = 174;
 
 /// The most inputs that a run has.
 pub const LONGEST_RUN: usize = 64;
-
-/// The greatest length of a player's list of inputs, in any game.
-pub const MOST_INPUTS: u32 = 262148;
