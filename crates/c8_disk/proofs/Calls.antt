@@ -4,9 +4,8 @@ use Rattle.std.proofs.lemmas.Bool.{cases_Bool, and_parts, and_from, leb-true, le
 use Rattle.std.proofs.lemmas.List.{drop_more, take_more}
 use Rattle.c8_disk.specs.Disk.{overwritten}
 use Rattle.c8_disk.specs.Past.{content, Leaves, IsImage, synced_count, synced, are_lawful, fit, TornBy}
-use Rattle.c8_disk.specs.PastLaws.{reads}
-use Rattle.c8_disk.specs.TornLaws.{untouched, length-overwritten}
-use Rattle.c8_disk.proofs.Past.{join_leaves}
+use Rattle.c8_disk.specs.PastLaws.{reads, join_leaves, lawful_front, none_synced, none_behind}
+use Rattle.c8_disk.specs.TornLaws.{untouched}
 use Rattle.c8_disk.specs.declared.call.Call.{Call}
 use Rattle.c8_disk.specs.declared.call.Call.TheVariants.{Write, Sync}
 
@@ -55,33 +54,6 @@ pub passed_sync : (calls : List Call) (i : ℕ) → i < length calls → get_or 
 passed_sync calls i lt is =
     ap synced_count (one_more calls i Sync lt is) ∙ synced_count-sync (take i calls) ∙ ap (λ (k : ℕ). k + 1) (length-take-le i calls (omega arith))
 
--- behind the last sync there is none
-abbrev pub none_synced : List Call → Type 0
-none_synced [] = Unit {0}
-none_synced (Write at count written ∷ calls) = none_synced calls
-none_synced (Sync ∷ calls) = ⊥
-
-none_from_count : (calls : List Call) → synced_count calls ≡ 0 → none_synced calls
-none_from_count [] none = tt
-none_from_count (Write at count written ∷ calls) none = elim (cases_Bool (nat_lt 0 (synced_count calls))) [
-  | inl some ↦ absurd (let is : suc (synced_count calls) ≡ 0 = sym (cond-true (nat_lt 0 (synced_count calls)) (suc (synced_count calls)) 0 some) ∙ none in omega arith)
-  | inr nothing ↦ none_from_count calls (let le : synced_count calls ≤ 0 = ltb-false _ _ nothing in omega arith)
-]
-none_from_count (Sync ∷ calls) none = absurd (omega arith)
-
-pub none_behind : (calls : List Call) → none_synced (drop (synced_count calls) calls)
-none_behind [] = tt
-none_behind (Write at count written ∷ calls) = elim (cases_Bool (nat_lt 0 (synced_count calls))) [
-  | inl some ↦
-      let is = cond-true (nat_lt 0 (synced_count calls)) (suc (synced_count calls)) 0 some in
-      subst (λ (k : ℕ). none_synced (drop k (Write at count written ∷ calls))) (sym is) (none_behind calls)
-  | inr nothing ↦
-      let is = cond-false (nat_lt 0 (synced_count calls)) (suc (synced_count calls)) 0 nothing in
-      let le : synced_count calls ≤ 0 = ltb-false _ _ nothing in
-      subst (λ (k : ℕ). none_synced (drop k (Write at count written ∷ calls))) (sym is) (none_from_count calls (omega arith))
-]
-none_behind (Sync ∷ calls) = none_behind calls
-
 torn_leaves : (images : List ℕ → Type 0) (bytes : List ℕ) (calls : List Call) (old new : List ℕ) → none_synced calls → images old → TornBy calls old new → Leaves images bytes calls new
 torn_leaves images bytes [] old new none here torn = subst images (sym torn) here
 torn_leaves images bytes (Write at count written ∷ calls) old new none here torn =
@@ -92,13 +64,6 @@ untorn : (calls : List Call) (bytes : List ℕ) → TornBy calls bytes bytes
 untorn [] bytes = refl
 untorn (Write at count written ∷ calls) bytes = (bytes, untouched at count bytes, untorn calls bytes)
 untorn (Sync ∷ calls) bytes = untorn calls bytes
-
-lawful_front : (bytes : List ℕ) (xs ys : List Call) → are_lawful bytes (xs ++ ys) ≡ true → are_lawful bytes xs ≡ true
-lawful_front bytes [] ys lawful = refl
-lawful_front bytes (Write at count written ∷ xs) ys lawful =
-    let parts = and_parts (nat_le at (length bytes) && nat_le count (length written)) (are_lawful (overwritten bytes at (take count written)) (xs ++ ys)) lawful in
-    and_from _ _ parts.0 (lawful_front (overwritten bytes at (take count written)) xs ys parts.1)
-lawful_front bytes (Sync ∷ xs) ys lawful = lawful_front bytes xs ys lawful
 
 module _ (first : List ℕ) (calls : List Call) (lawful : are_lawful first calls ≡ true) where
   parts_of : take (synced_count calls) calls ++ drop (synced_count calls) calls ≡ calls
@@ -139,18 +104,3 @@ fit_front capacity n calls fits = (fit_parts capacity (take n calls) (drop n cal
 
 pub fit_back : (capacity n : ℕ) (calls : List Call) → fit capacity calls ≡ true → fit capacity (drop n calls) ≡ true
 fit_back capacity n calls fits = (fit_parts capacity (take n calls) (drop n calls) (ap (fit capacity) (take-append-drop n calls) ∙ fits)).1
-
--- no image is longer than what a read gives
-leaves_within : (images : List ℕ → Type 0) (bytes : List ℕ) (calls : List Call) (image : List ℕ) → are_lawful bytes calls ≡ true → ((l : List ℕ) → images l → length l ≤ length bytes) → Leaves images bytes calls image → length image ≤ length (content bytes calls)
-leaves_within images bytes [] image lawful within left = within image left
-leaves_within images bytes (Write at count written ∷ calls) image lawful within left =
-    let parts = and_parts (nat_le at (length bytes) && nat_le count (length written)) (are_lawful (overwritten bytes at (take count written)) calls) lawful in
-    let places = and_parts (nat_le at (length bytes)) (nat_le count (length written)) parts.0 in
-    let size : length (take count written) ≡ count = length-take-le count written (leb-true _ _ places.1) in
-    let grown = length-overwritten bytes at (take count written) (leb-true _ _ places.0) in
-    leaves_within _ (overwritten bytes at (take count written)) calls image parts.1 (λ l torn. let less = within torn.0 torn.1 in let longest = torn.2.no_longer in omega (arith, less, longest, grown, size)) left
-leaves_within images bytes (Sync ∷ calls) image lawful within left =
-    leaves_within _ bytes calls image lawful (λ l is. let same = ap length is in omega (arith, same)) left
-
-pub image_within : (first : List ℕ) (calls : List Call) (image : List ℕ) → are_lawful first calls ≡ true → IsImage first calls image → length image ≤ length (content first calls)
-image_within first calls image lawful left = leaves_within _ first calls image lawful (λ l is. let same = ap length is in omega (arith, same)) left

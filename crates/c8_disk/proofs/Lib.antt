@@ -1,4 +1,3 @@
-mod AtOnce
 mod Calls
 mod Past
 mod Tear

@@ -4,24 +4,9 @@ use Rattle.std.proofs.lemmas.Bool.{cases_lt, and_parts, and_from, le-leb}
 use Rattle.std.proofs.lemmas.List.{take_all, take-append-le, length_push}
 use Rattle.c8_disk.specs.Disk.{overwritten, Torn, Tears, AddsNone, Only, Elapses}
 use Rattle.c8_disk.specs.Past.{content, Leaves, IsImage, LeftSince, are_lawful, fit, IsWriteOf}
-use Rattle.c8_disk.specs.PastLaws.{reads}
+use Rattle.c8_disk.specs.PastLaws.{reads, content-append, split_leaves}
 use Rattle.c8_disk.specs.declared.call.Call.{Call}
 use Rattle.c8_disk.specs.declared.call.Call.TheVariants.{Write, Sync}
-
-pub content-append : (bytes : List ℕ) (xs ys : List Call) → content bytes (xs ++ ys) ≡ content (content bytes xs) ys
-content-append bytes [] ys = refl
-content-append bytes (Write at count written ∷ xs) ys = content-append (overwritten bytes at (take count written)) xs ys
-content-append bytes (Sync ∷ xs) ys = content-append bytes xs ys
-
-pub split_leaves : (images : List ℕ → Type 0) (bytes : List ℕ) (xs ys : List Call) (image : List ℕ) → Leaves images bytes (xs ++ ys) image → Leaves (Leaves images bytes xs) (content bytes xs) ys image
-split_leaves images bytes [] ys image left = left
-split_leaves images bytes (Write at count written ∷ xs) ys image left = split_leaves _ (overwritten bytes at (take count written)) xs ys image left
-split_leaves images bytes (Sync ∷ xs) ys image left = split_leaves _ bytes xs ys image left
-
-pub join_leaves : (images : List ℕ → Type 0) (bytes : List ℕ) (xs ys : List Call) (image : List ℕ) → Leaves (Leaves images bytes xs) (content bytes xs) ys image → Leaves images bytes (xs ++ ys) image
-join_leaves images bytes [] ys image left = left
-join_leaves images bytes (Write at count written ∷ xs) ys image left = join_leaves _ (overwritten bytes at (take count written)) xs ys image left
-join_leaves images bytes (Sync ∷ xs) ys image left = join_leaves _ bytes xs ys image left
 
 pub lawful_more : (bytes : List ℕ) (xs ys : List Call) → are_lawful bytes xs ≡ true → are_lawful (content bytes xs) ys ≡ true → are_lawful bytes (xs ++ ys) ≡ true
 lawful_more bytes [] ys one other = other

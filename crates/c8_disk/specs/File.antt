@@ -6,8 +6,8 @@ use Rattle.c8_disk.specs.declared.file.FileDisk.{FileDisk}
 use Rattle.c8_disk.specs.declared.file.held.Held.{Held}
 use Rattle.c8_disk.specs.Past.{IsImage, LeftSince}
 
--- Of what it is known to hold: the images that a crash now may leave, how many calls changed it, and the images that a
--- crash at some moment since may have left.
+-- Of what it is known to hold: the images that a crash now may leave; the moment, which is how many writes and syncs are
+-- noted; and the images that a crash at some moment since may have left.
 abbrev pub images : Held → List ℕ → Type 0
 images held = IsImage held.first.value.items held.calls.items
 
@@ -48,6 +48,7 @@ module _ {S : Type 0} where
   abbrev pub file_failures : FileDisk S → ℕ
   file_failures disk = length disk.health.failures.items
 
+  -- how many calls were to write or sync since it was opened, with those that were refused
   abbrev pub file_changes : FileDisk S → ℕ
   file_changes disk = length disk.asked.items
 

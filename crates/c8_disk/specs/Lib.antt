@@ -1,4 +1,5 @@
 pub mod AtOnce
+pub mod AtOnceLaws
 pub mod Budget
 pub mod Disk
 pub mod Errors

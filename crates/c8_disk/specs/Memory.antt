@@ -26,7 +26,8 @@ calls_of disk = disk.calls.items
 abbrev pub images_of : MemDisk → List ℕ → Type 0
 images_of disk = IsImage disk.first.items disk.calls.items
 
--- how many calls changed it, and the images that a crash at some moment since may have left
+-- the moment: how many writes and syncs it served since it was made or since the last crash (`changes_of` counts otherwise);
+-- and the images that a crash at some moment since may have left
 abbrev pub moment_of : MemDisk → ℕ
 moment_of disk = length disk.calls.items
 
@@ -57,6 +58,7 @@ arms_of disk = disk.arms.items
 abbrev pub failures_of : MemDisk → ℕ
 failures_of disk = length disk.budget.failures.items
 
+-- how many calls were to write or sync since it was made, over crashes and with those that were refused
 abbrev pub changes_of : MemDisk → ℕ
 changes_of disk = length disk.asked.items
 

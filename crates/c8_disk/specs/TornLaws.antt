@@ -1,6 +1,6 @@
 -- Checked, not believed: what a write leaves, whole or torn.
-use Rattle.std.proofs.Common.{◌≡◌, ◌≤◌, ℕ, ◌+◌, max, List, ◌++◌, length, take, drop, refl, ◌∙◌, ap, arith, append_assoc, length-append, length-take-le, length-drop}
-use Rattle.std.proofs.lemmas.List.{take_at, drop_at}
+use Rattle.std.proofs.Common.{◌≡◌, ◌≤◌, ℕ, ◌+◌, ◌-◌, max, List, ◌++◌, length, take, drop, refl, sym, ◌∙◌, ap, arith, append_assoc, length-append, length-take-le, length-drop}
+use Rattle.std.proofs.lemmas.List.{take_at, drop_at, drop-drop}
 use Rattle.c8_disk.specs.Disk.{overwritten, Torn, IsOverwritten}
 
 module _ (old : List ℕ) (at : ℕ) (bytes : List ℕ) (within : at ≤ length old) where
@@ -42,3 +42,17 @@ module _ (old : List ℕ) (at : ℕ) (bytes : List ℕ) (within : at ≤ length 
 -- and so is none
 pub untouched : (at count : ℕ) (bytes : List ℕ) → Torn at count bytes bytes
 untouched at count bytes = record { before = refl; after = refl; no_shorter = omega arith; no_longer = omega arith }
+
+-- a wider write may do as much
+pub torn_wider : (at less more : ℕ) (old new : List ℕ) → less ≤ more → Torn at less old new → Torn at more old new
+torn_wider at less more old new le torn =
+    let steps : drop (at + more) new ≡ drop (at + more) old = further torn.after in
+    record { before = torn.before; after = steps; no_shorter = torn.no_shorter; no_longer = omega (arith, torn.no_longer) }
+  where
+    reach : at + less + (more - less) ≡ at + more
+    reach = omega arith
+
+    further : drop (at + less) new ≡ drop (at + less) old → drop (at + more) new ≡ drop (at + more) old
+    further same =
+        ap (λ (n : ℕ). drop n new) (sym reach) ∙ sym (drop-drop (more - less) (at + less) new) ∙ ap (λ (l : List ℕ). drop (more - less) l) same
+        ∙ drop-drop (more - less) (at + less) old ∙ ap (λ (n : ℕ). drop n old) reach

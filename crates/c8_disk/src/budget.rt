@@ -18,7 +18,8 @@ impl Budget {
     /// Whether the next call is refused. One that is counts as a failure.
     pub(crate) fn refuses(&mut self) -> bool
         ensures spent { result ≡ is_spent self.old }
-        ensures yes { result ≡ true → (self.new.calls ≡ self.old.calls) × (self.new.arm ≡ self.old.arm)
+        ensures yes { result ≡ true
+            → (self.new.calls ≡ self.old.calls) × (self.new.arm ≡ self.old.arm)
             × (length self.new.failures.items ≡ length self.old.failures.items + 1) }
         ensures no { result ≡ false → self.new ≡ self.old }
     {

@@ -8,12 +8,14 @@ use crate::DiskError;
 /// The most bytes that one write may have.
 pub const LONGEST_WRITE: usize = 144;
 
-/// When the calls of a disk are to fail.
+/// When the calls of a disk are to fail. A [`crate::MemDisk`] fails then; a [`crate::FileDisk`] only notes what it was
+/// told, and fails when it fails.
 #[derive(Clone, Copy, Debug, PartialEq, Eq)]
 pub enum Arm {
     /// No stop.
     Off,
-    /// After this many more calls that read, write or sync: each one from then on fails, with no effect.
+    /// Once this many more calls that read, write or sync are served: each one from then on fails, with no effect. A call
+    /// that is refused is not served, and doesn't count.
     Stop(u64),
 }
 
@@ -25,7 +27,8 @@ pub trait Disk {
     /// The images that a crash at this moment may leave.
     ghost may_leave: { Self → List ℕ → Type 0 };
 
-    /// The moment, as a number that doesn't fall.
+    /// The moment, as a number that doesn't fall. It is no count of calls: one that leaves the images as they are may leave
+    /// the moment too.
     ghost moment: { Self → ℕ };
 
     /// The images that a crash at some moment from that one on may have left, inside a call or between two.
@@ -34,7 +37,8 @@ pub trait Disk {
     /// How often the disk has failed.
     ghost failures: { Self → ℕ };
 
-    /// How many calls that write or sync there were, the refused ones too.
+    /// How many calls that write or sync there were, the refused ones too: a count of what was asked for, and no measure
+    /// of time or of what changed.
     ghost changes: { Self → ℕ };
 
     /// How many bytes there is room for.
@@ -54,10 +58,12 @@ pub trait Disk {
     /// Reads as many bytes as `buffer` has, from the place `at` on. At an error `buffer` may hold anything.
     fn read_at(&mut self, at: u32, buffer: &mut [u8]) -> Result<(), DiskError>
         requires { at + length buffer.old ≤ length (seen self.old) }
-        ensures read { OnOk result (buffer.new ≡ take (length buffer.old) (drop at (seen self.old))) }
+        ensures read { OnOk result
+            (buffer.new ≡ take (length buffer.old) (drop at (seen self.old))) }
         ensures seen { seen self.new ≡ seen self.old }
         ensures crash { AddsNone (may_leave self.old) (may_leave self.new) }
-        ensures time { Elapses (moment self.old) (moment self.new) (left_since self.old) (left_since self.new) (may_leave self.new) }
+        ensures time { Elapses (moment self.old) (moment self.new)
+            (left_since self.old) (left_since self.new) (may_leave self.new) }
         ensures cause { HasCause (failures self.old) (failures self.new) result }
         ensures never_full { IsErrOf result DiskError.Full → ⊥ }
         ensures changes { changes self.new ≡ changes self.old }
@@ -70,8 +76,10 @@ pub trait Disk {
         requires place { at ≤ length (seen self.old) }
         requires short { length bytes.now ≤ longest_write }
         ensures written { Writes at bytes.now (seen self.old) (seen self.new) result }
-        ensures crash { WritesImages at (length bytes.now) (may_leave self.old) (may_leave self.new) result }
-        ensures time { Elapses (moment self.old) (moment self.new) (left_since self.old) (left_since self.new) (may_leave self.new) }
+        ensures crash { WritesImages at (length bytes.now)
+            (may_leave self.old) (may_leave self.new) result }
+        ensures time { Elapses (moment self.old) (moment self.new)
+            (left_since self.old) (left_since self.new) (may_leave self.new) }
         ensures cause { HasCause (failures self.old) (failures self.new) result }
         ensures full { IsErrOf result DiskError.Full → capacity self.old < at + length bytes.now }
         ensures changes { changes self.new ≡ changes self.old + 1 }
@@ -83,7 +91,8 @@ pub trait Disk {
         ensures durable { OnOk result (Only (seen self.old) (may_leave self.new)) }
         ensures seen { seen self.new ≡ seen self.old }
         ensures crash { AddsNone (may_leave self.old) (may_leave self.new) }
-        ensures time { Elapses (moment self.old) (moment self.new) (left_since self.old) (left_since self.new) (may_leave self.new) }
+        ensures time { Elapses (moment self.old) (moment self.new)
+            (left_since self.old) (left_since self.new) (may_leave self.new) }
         ensures cause { HasCause (failures self.old) (failures self.new) result }
         ensures never_full { IsErrOf result DiskError.Full → ⊥ }
         ensures changes { changes self.new ≡ changes self.old + 1 }
@@ -95,7 +104,8 @@ pub trait Disk {
         ensures seen { seen self.new ≡ seen self.old }
         ensures crash { AddsNone (may_leave self.old) (may_leave self.new) }
         ensures crash_keeps { AddsNone (may_leave self.new) (may_leave self.old) }
-        ensures time { Elapses (moment self.old) (moment self.new) (left_since self.old) (left_since self.new) (may_leave self.new) }
+        ensures time { Elapses (moment self.old) (moment self.new)
+            (left_since self.old) (left_since self.new) (may_leave self.new) }
         ensures failures { failures self.new ≡ failures self.old }
         ensures changes { changes self.new ≡ changes self.old }
         ensures capacity { capacity self.new ≡ capacity self.old }
@@ -105,8 +115,10 @@ pub trait Disk {
     ghost reads_now: { (disk : Self) → may_leave disk (seen disk) };
 
     /// This moment is one of those since an earlier one.
-    ghost counts_now: { (disk : Self) (t : ℕ) (image : List ℕ) → t ≤ moment disk → may_leave disk image → left_since disk t image };
+    ghost counts_now: { (disk : Self) (t : ℕ) (image : List ℕ) → t ≤ moment disk
+        → may_leave disk image → left_since disk t image };
 
     /// Since this moment there is no other.
-    ghost only_now: { (disk : Self) (image : List ℕ) → left_since disk (moment disk) image → may_leave disk image };
+    ghost only_now: { (disk : Self) (image : List ℕ)
+        → left_since disk (moment disk) image → may_leave disk image };
 }

@@ -146,7 +146,8 @@ impl<S: SystemFile> Disk for FileDisk<S> {
 
     ghost arms = { λ d. d.arms.items };
 
-    ghost reads_now = { λ d. reads_image d.held.first.value.items d.held.calls.items d.held.bytes.items d.held.lawful d.held.replayed };
+    ghost reads_now = { λ d. reads_image d.held.first.value.items d.held.calls.items
+        d.held.bytes.items d.held.lawful d.held.replayed };
 
     ghost counts_now = { λ d. counts d.held.first.value.items d.held.calls.items };
 
@@ -162,10 +163,12 @@ impl<S: SystemFile> Disk for FileDisk<S> {
 
     fn read_at(&mut self, at: u32, buffer: &mut [u8]) -> Result<(), DiskError>
         requires { at + length buffer.old ≤ length (file_bytes self.old) }
-        ensures read { OnOk result (buffer.new ≡ take (length buffer.old) (drop at (file_bytes self.old))) }
+        ensures read { OnOk result
+            (buffer.new ≡ take (length buffer.old) (drop at (file_bytes self.old))) }
         ensures seen { file_bytes self.new ≡ file_bytes self.old }
         ensures crash { AddsNone (file_images self.old) (file_images self.new) }
-        ensures time { Elapses (file_moment self.old) (file_moment self.new) (file_left_since self.old) (file_left_since self.new) (file_images self.new) }
+        ensures time { Elapses (file_moment self.old) (file_moment self.new)
+            (file_left_since self.old) (file_left_since self.new) (file_images self.new) }
         ensures cause { HasCause (file_failures self.old) (file_failures self.new) result }
         ensures never_full { IsErrOf result DiskError.Full → ⊥ }
         ensures changes { file_changes self.new ≡ file_changes self.old }
@@ -192,8 +195,10 @@ impl<S: SystemFile> Disk for FileDisk<S> {
         requires place { at ≤ length (file_bytes self.old) }
         requires short { length bytes.now ≤ longest_write }
         ensures written { Writes at bytes.now (file_bytes self.old) (file_bytes self.new) result }
-        ensures crash { WritesImages at (length bytes.now) (file_images self.old) (file_images self.new) result }
-        ensures time { Elapses (file_moment self.old) (file_moment self.new) (file_left_since self.old) (file_left_since self.new) (file_images self.new) }
+        ensures crash { WritesImages at (length bytes.now)
+            (file_images self.old) (file_images self.new) result }
+        ensures time { Elapses (file_moment self.old) (file_moment self.new)
+            (file_left_since self.old) (file_left_since self.new) (file_images self.new) }
         ensures cause { HasCause (file_failures self.old) (file_failures self.new) result }
         ensures full { IsErrOf result DiskError.Full
             ↔ ((file_is_down self.old ≡ false) × (file_room self.old < at + length bytes.now)) }
@@ -207,11 +212,14 @@ impl<S: SystemFile> Disk for FileDisk<S> {
         ensures first { file_first self.new ≡ file_first self.old }
 
         // A write that fails is noted too, since it may be torn. One that is not tried is not.
-        ensures noted { OnOk result (AddsWrite at bytes.now (file_calls self.old) (file_calls self.new)) }
+        ensures noted { OnOk result
+            (AddsWrite at bytes.now (file_calls self.old) (file_calls self.new)) }
         ensures noted_failed { IsErrOf result DiskError.Failed → file_is_down self.old ≡ false
             → AddsWrite at bytes.now (file_calls self.old) (file_calls self.new) }
-        ensures unnoted_full { IsErrOf result DiskError.Full → file_calls self.new ≡ file_calls self.old }
-        ensures unnoted_down { file_is_down self.old ≡ true → file_calls self.new ≡ file_calls self.old }
+        ensures unnoted_full { IsErrOf result DiskError.Full
+            → file_calls self.new ≡ file_calls self.old }
+        ensures unnoted_down { file_is_down self.old ≡ true
+            → file_calls self.new ≡ file_calls self.old }
     {
         self.asked = self.asked.and(&());
         if self.health.is_down {
@@ -233,7 +241,8 @@ impl<S: SystemFile> Disk for FileDisk<S> {
         ensures durable { OnOk result (Only (file_bytes self.old) (file_images self.new)) }
         ensures seen { file_bytes self.new ≡ file_bytes self.old }
         ensures crash { AddsNone (file_images self.old) (file_images self.new) }
-        ensures time { Elapses (file_moment self.old) (file_moment self.new) (file_left_since self.old) (file_left_since self.new) (file_images self.new) }
+        ensures time { Elapses (file_moment self.old) (file_moment self.new)
+            (file_left_since self.old) (file_left_since self.new) (file_images self.new) }
         ensures cause { HasCause (file_failures self.old) (file_failures self.new) result }
         ensures never_full { IsErrOf result DiskError.Full → ⊥ }
         ensures changes { file_changes self.new ≡ file_changes self.old + 1 }
@@ -261,7 +270,8 @@ impl<S: SystemFile> Disk for FileDisk<S> {
         ensures seen { file_bytes self.new ≡ file_bytes self.old }
         ensures crash { AddsNone (file_images self.old) (file_images self.new) }
         ensures crash_keeps { AddsNone (file_images self.new) (file_images self.old) }
-        ensures time { Elapses (file_moment self.old) (file_moment self.new) (file_left_since self.old) (file_left_since self.new) (file_images self.new) }
+        ensures time { Elapses (file_moment self.old) (file_moment self.new)
+            (file_left_since self.old) (file_left_since self.new) (file_images self.new) }
         ensures failures { file_failures self.new ≡ file_failures self.old }
         ensures changes { file_changes self.new ≡ file_changes self.old }
         ensures capacity { file_room self.new ≡ file_room self.old }

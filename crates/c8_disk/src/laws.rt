@@ -27,20 +27,30 @@ pub fn nothing_done<D: Disk>()
 
 /// One run of calls after another is a run.
 pub fn runs_chain<D: Disk, P: Property>()
-    ensures { (old mid new : D) (p : P) → LeavesOnly D.Disk old mid (P.has p) → LeavesOnly D.Disk mid new (P.has p)
+    ensures { (old mid new : D) (p : P)
+        → LeavesOnly D.Disk old mid (P.has p) → LeavesOnly D.Disk mid new (P.has p)
         → LeavesOnly D.Disk old new (P.has p) }
+{}
+
+/// A run whose images have a property leaves images that have each weaker one.
+pub fn runs_weaken<D: Disk, P: Property, Q: Property>()
+    ensures { (old new : D) (p : P) (q : Q) → LeavesOnly D.Disk old new (P.has p)
+        → ((image : List ℕ) → P.has p image → Q.has q image) → LeavesOnly D.Disk old new (Q.has q) }
 {}
 
 /// Runs that only read are one, and a run that is followed by one of them leaves what it left.
 pub fn reads_chain<D: Disk, P: Property>()
-    ensures reads { (old mid new : D) → ReadsOnly D.Disk old mid → ReadsOnly D.Disk mid new → ReadsOnly D.Disk old new }
-    ensures runs { (old mid new : D) (p : P) → LeavesOnly D.Disk old mid (P.has p) → ReadsOnly D.Disk mid new
+    ensures reads { (old mid new : D)
+        → ReadsOnly D.Disk old mid → ReadsOnly D.Disk mid new → ReadsOnly D.Disk old new }
+    ensures runs { (old mid new : D) (p : P)
+        → LeavesOnly D.Disk old mid (P.has p) → ReadsOnly D.Disk mid new
         → LeavesOnly D.Disk old new (P.has p) }
 {}
 
 /// What is true of each image since a run began is true of what a read gives after it, and of what a crash then leaves.
 pub fn runs_end<D: Disk, P: Property>()
-    ensures read { (old new : D) (p : P) → LeavesOnly D.Disk old new (P.has p) → P.has p (D.seen new) }
+    ensures read { (old new : D) (p : P)
+        → LeavesOnly D.Disk old new (P.has p) → P.has p (D.seen new) }
     ensures crash { (old new : D) (p : P) → LeavesOnly D.Disk old new (P.has p)
         → (image : List ℕ) → D.may_leave new image → P.has p image }
 {}
@@ -48,13 +58,19 @@ pub fn runs_end<D: Disk, P: Property>()
 /// What is true of each image since an earlier moment, and of each image of a run from now on, is true since that moment.
 pub fn runs_go_on<D: Disk, P: Property>()
     ensures { (old new : D) (p : P) (t : ℕ) → t ≤ D.moment old
-        → ((image : List ℕ) → D.left_since old t image → P.has p image) → LeavesOnly D.Disk old new (P.has p)
+        → ((image : List ℕ) → D.left_since old t image → P.has p image)
+        → LeavesOnly D.Disk old new (P.has p)
         → (image : List ℕ) → D.left_since new t image → P.has p image }
 {}
 
 /// What a crash may leave after the calls, said at once: any length from that of the last sync to the greatest written,
-/// and outside the ranges written since that sync each byte as it was then.
+/// and outside the ranges written since that sync each byte as it was then. It leaves nothing else (`only`), and may leave
+/// each row of bytes that is so (`each`).
 pub fn images_at_once()
-    ensures { (first : List ℕ) (calls : List Call) (image : List ℕ) → are_lawful first calls ≡ true
+    ensures only { (first : List ℕ) (calls : List Call) (image : List ℕ)
+        → are_lawful first calls ≡ true
         → IsImage first calls image → IsBetweenSyncs first calls image }
+    ensures each { (first : List ℕ) (calls : List Call) (image : List ℕ)
+        → are_lawful first calls ≡ true
+        → IsBetweenSyncs first calls image → IsImage first calls image }
 {}

@@ -75,10 +75,12 @@ impl MemDisk {
     /// Serves `calls` more calls that read, write or sync, and fails each one after them.
     pub fn stop_after(&mut self, calls: u64)
         ensures value { value_of self.new
-            ≡ record (value_of self.old) { arm = Arm.Stop calls; arms = arms_of self.old ++ Arm.Stop calls ∷ [] } }
+            ≡ record (value_of self.old)
+            { arm = Arm.Stop calls; arms = arms_of self.old ++ Arm.Stop calls ∷ [] } }
         ensures crash { AddsNone (images_of self.old) (images_of self.new) }
         ensures crash_keeps { AddsNone (images_of self.new) (images_of self.old) }
-        ensures time { Elapses (moment_of self.old) (moment_of self.new) (left_since self.old) (left_since self.new) (images_of self.new) }
+        ensures time { Elapses (moment_of self.old) (moment_of self.new)
+            (left_since self.old) (left_since self.new) (images_of self.new) }
     {
         self.budget.arm = Arm::Stop(calls);
         self.arms = self.arms.and(&Arm::Stop(calls));
@@ -181,7 +183,8 @@ impl Disk for MemDisk {
 
     ghost arms = { λ d. d.arms.items };
 
-    ghost reads_now = { λ d. reads_image d.first.items d.calls.items d.bytes.items d.lawful d.replayed };
+    ghost reads_now = { λ d. reads_image d.first.items d.calls.items
+        d.bytes.items d.lawful d.replayed };
 
     ghost counts_now = { λ d. counts d.first.items d.calls.items };
 
@@ -197,10 +200,12 @@ impl Disk for MemDisk {
 
     fn read_at(&mut self, at: u32, buffer: &mut [u8]) -> Result<(), DiskError>
         requires { at + length buffer.old ≤ length (bytes_of self.old) }
-        ensures read { OnOk result (buffer.new ≡ take (length buffer.old) (drop at (bytes_of self.old))) }
+        ensures read { OnOk result
+            (buffer.new ≡ take (length buffer.old) (drop at (bytes_of self.old))) }
         ensures seen { bytes_of self.new ≡ bytes_of self.old }
         ensures crash { AddsNone (images_of self.old) (images_of self.new) }
-        ensures time { Elapses (moment_of self.old) (moment_of self.new) (left_since self.old) (left_since self.new) (images_of self.new) }
+        ensures time { Elapses (moment_of self.old) (moment_of self.new)
+            (left_since self.old) (left_since self.new) (images_of self.new) }
         ensures cause { HasCause (failures_of self.old) (failures_of self.new) result }
         ensures never_full { IsErrOf result DiskError.Full → ⊥ }
         ensures changes { changes_of self.new ≡ changes_of self.old }
@@ -224,8 +229,10 @@ impl Disk for MemDisk {
         requires place { at ≤ length (bytes_of self.old) }
         requires short { length bytes.now ≤ longest_write }
         ensures written { Writes at bytes.now (bytes_of self.old) (bytes_of self.new) result }
-        ensures crash { WritesImages at (length bytes.now) (images_of self.old) (images_of self.new) result }
-        ensures time { Elapses (moment_of self.old) (moment_of self.new) (left_since self.old) (left_since self.new) (images_of self.new) }
+        ensures crash { WritesImages at (length bytes.now)
+            (images_of self.old) (images_of self.new) result }
+        ensures time { Elapses (moment_of self.old) (moment_of self.new)
+            (left_since self.old) (left_since self.new) (images_of self.new) }
         ensures cause { HasCause (failures_of self.old) (failures_of self.new) result }
         ensures full { IsErrOf result DiskError.Full
             ↔ ((is_stopped self.old ≡ false) × (room_of self.old < at + length bytes.now)) }
@@ -254,7 +261,8 @@ impl Disk for MemDisk {
         ensures durable { OnOk result (Only (bytes_of self.old) (images_of self.new)) }
         ensures seen { bytes_of self.new ≡ bytes_of self.old }
         ensures crash { AddsNone (images_of self.old) (images_of self.new) }
-        ensures time { Elapses (moment_of self.old) (moment_of self.new) (left_since self.old) (left_since self.new) (images_of self.new) }
+        ensures time { Elapses (moment_of self.old) (moment_of self.new)
+            (left_since self.old) (left_since self.new) (images_of self.new) }
         ensures cause { HasCause (failures_of self.old) (failures_of self.new) result }
         ensures never_full { IsErrOf result DiskError.Full → ⊥ }
         ensures changes { changes_of self.new ≡ changes_of self.old + 1 }
@@ -278,7 +286,8 @@ impl Disk for MemDisk {
         ensures seen { bytes_of self.new ≡ bytes_of self.old }
         ensures crash { AddsNone (images_of self.old) (images_of self.new) }
         ensures crash_keeps { AddsNone (images_of self.new) (images_of self.old) }
-        ensures time { Elapses (moment_of self.old) (moment_of self.new) (left_since self.old) (left_since self.new) (images_of self.new) }
+        ensures time { Elapses (moment_of self.old) (moment_of self.new)
+            (left_since self.old) (left_since self.new) (images_of self.new) }
         ensures failures { failures_of self.new ≡ failures_of self.old }
         ensures changes { changes_of self.new ≡ changes_of self.old }
         ensures capacity { room_of self.new ≡ room_of self.old }

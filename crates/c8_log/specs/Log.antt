@@ -8,7 +8,8 @@ use Rattle.c8_log.specs.declared.error.LogError.{LogError}
 use Rattle.c8_log.specs.declared.error.LogError.TheVariants.{Failed, Full, Down}
 use Rattle.c8_log.specs.Slots.{slot_length, open_gate, closed_gate, kept_count, kept}
 
--- a log: its disk, how many bodies it keeps, and whether it is down
+-- A log: its disk, how many bodies it counts (those that it was opened with, and one for each append that answered Ok),
+-- and whether it is down. One that is down may count a body fewer than its disk keeps; one that is up is at rest.
 pub record LogValue (D : Type 0) : Type 0 where
   pub disk : D
   pub count : ℕ
@@ -47,6 +48,15 @@ repaired image = if has_closed_gate image then image else overwritten image (slo
 abbrev pub with_slot : List ℕ → ℕ → List ℕ → List ℕ
 with_slot image n body = overwritten image (slot_length * n) (open_gate ∷ (body ++ closed_gate ∷ []))
 
+-- the image with this body after the gate of slot n, which stays as it is, and a closed gate after the body
+abbrev pub with_body : List ℕ → ℕ → List ℕ → List ℕ
+with_body image n body = overwritten image (slot_length * n + 1) (body ++ closed_gate ∷ [])
+
+-- What an append to slot n that failed leaves of the bytes: the old ones, with what stands from after the slot's gate up
+-- to the next gate torn; or those with the body and a closed gate there, and the slot's own gate torn.
+abbrev pub IsLeftByAppend : ℕ → List ℕ → List ℕ → List ℕ → Type 0
+IsLeftByAppend n body old new = Torn (slot_length * n + 1) slot_length old new ⊎ Torn (slot_length * n) 1 (with_body old n body) new
+
 -- the disk after an opening, which a refused one gives back
 abbrev pub disk_after : {D : Type 0} → Result (LogValue D) (LogError × D) → D
 disk_after (Ok log) = log.disk
@@ -60,7 +70,8 @@ IsLeftBy Full old new = new ≡ old
 IsLeftBy Down old new = ⊥
 
 module _ {D : Type 0} (g : Ghosts D) where
-  -- the log counts what a read gives, and a crash now leaves nothing else
+  -- The log counts the bodies that are kept in what a read gives, and each image that a crash now may leave keeps the
+  -- same ones. What stands after the closed gate is no body, and nothing is said of it here.
   pub record IsAtRest (log : LogValue D) : Type 0 where
     pub count : log.count ≡ length (kept (g.seen log.disk))
     pub durable : AllKeep (kept (g.seen log.disk)) (g.may_leave log.disk)

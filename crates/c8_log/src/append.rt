@@ -3,7 +3,7 @@ ghost use Rattle.std.specs.Prelude.{◌≡◌, ◌≤◌, ◌<◌, ◌+◌, ◌*
 ghost use Rattle.c8_disk.specs.Disk.{HasCause};
 ghost use Rattle.c8_disk.specs.Runs.{LeavesOnly, IsSameDisk};
 ghost use Rattle.c8_log.specs.Slots.{kept, slot_length};
-ghost use Rattle.c8_log.specs.Log.{IsUp, KeepsWithOrWithout, with_slot};
+ghost use Rattle.c8_log.specs.Log.{IsUp, IsLeftByAppend, KeepsWithOrWithout, with_slot};
 
 use crate::slot::{BODY_LENGTH, OPEN_GATE, SLOT, with_closed_gate};
 use crate::write::write_and_sync;
@@ -29,7 +29,10 @@ pub(crate) fn add<D: Disk>(
     ensures up { OnOk result (IsUp D.Disk disk.new (count + 1)) }
     ensures kept { OnOk result (kept (D.seen disk.new) ≡ kept (D.seen disk.old) ++ body.now ∷ []) }
     ensures seen { OnOk result (D.seen disk.new ≡ with_slot (D.seen disk.old) count body.now) }
-    ensures any_moment { LeavesOnly D.Disk disk.old disk.new (KeepsWithOrWithout (kept (D.seen disk.old)) body.now) }
+    ensures any_moment { LeavesOnly D.Disk disk.old disk.new
+        (KeepsWithOrWithout (kept (D.seen disk.old)) body.now) }
+    ensures left { IsErrOf result DiskError.Failed
+        → IsLeftByAppend count body.now (D.seen disk.old) (D.seen disk.new) }
     ensures cause { HasCause (D.failures disk.old) (D.failures disk.new) result }
     ensures never_full { IsErrOf result DiskError.Full → ⊥ }
     ensures changes { D.changes disk.new ≤ D.changes disk.old + 4 }

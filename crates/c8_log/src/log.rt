@@ -26,14 +26,16 @@ impl<D: Disk> Model for Log<D> {
 
     ghost view = { λ log. record { disk = log.disk; count = log.count; down = log.down } };
 
-    ghost invariant = { λ log. IsLog D.Disk (record { disk = log.disk; count = log.count; down = log.down }) };
+    ghost invariant = { λ log.
+        IsLog D.Disk (record { disk = log.disk; count = log.count; down = log.down }) };
 }
 
 impl<D: Disk> Log<D> {
-    ghost use Rattle.c8_log.specs.Log.{KeepsOneOf, KeepsWithOrWithout, IsAtRest, IsLeftBy, disk_after, has_closed_gate, repaired, with_slot};
+    ghost use Rattle.c8_log.specs.Log.{KeepsOneOf, KeepsWithOrWithout, IsAtRest, IsLeftBy, IsLeftByAppend, disk_after, has_closed_gate, repaired, with_slot};
 
     /// Opens the log that a disk holds, and closes the gate after its last body if that was left open or is missing.
-    /// At an error the disk is given back, and it keeps what it kept.
+    /// At an error the disk is given back, and it keeps what it kept. A disk that a failure takes down for good, as it does
+    /// a [`c8_disk::FileDisk`], is to be dropped then, and opened anew by its path.
     pub fn open(disk: D) -> Result<Log<D>, (LogError, D)>
         ensures at_rest { IfOk result (λ log. IsAtRest D.Disk log) }
         ensures up { IfOk result (λ log. log.down ≡ false) }
@@ -41,18 +43,22 @@ impl<D: Disk> Log<D> {
         ensures kept { kept (D.seen (disk_after result)) ≡ kept (D.seen disk) }
 
         // A crash at any moment of the call leaves bodies that a crash before it could have left.
-        ensures any_moment { LeavesOnly D.Disk disk (disk_after result) (KeepsOneOf (D.may_leave disk)) }
+        ensures any_moment { LeavesOnly D.Disk disk (disk_after result)
+            (KeepsOneOf (D.may_leave disk)) }
 
         // When each error comes, and what it leaves. It doesn't give up by itself.
         ensures failed { IfErr result (λ refusal.
             refusal.0 ≡ LogError.Failed → D.failures disk < D.failures refusal.1) }
         ensures full { IfErr result (λ refusal.
-            refusal.0 ≡ LogError.Full → D.capacity disk < slot_length * length (kept (D.seen disk)) + 1) }
-        ensures left { IfErr result (λ refusal. IsLeftBy refusal.0 (D.seen disk) (D.seen refusal.1)) }
+            refusal.0 ≡ LogError.Full → (has_closed_gate (D.seen disk) ≡ false)
+            × (D.capacity disk < slot_length * length (kept (D.seen disk)) + 1)) }
+        ensures left { IfErr result (λ refusal.
+            IsLeftBy refusal.0 (D.seen disk) (D.seen refusal.1)) }
         ensures never_down { IfErr result (λ refusal. refusal.0 ≢ LogError.Down) }
 
         ensures changes { D.changes (disk_after result) ≤ D.changes disk + 3 }
-        ensures no_repair { has_closed_gate (D.seen disk) ≡ true → D.changes (disk_after result) ≡ D.changes disk + 1 }
+        ensures no_repair { has_closed_gate (D.seen disk) ≡ true
+            → D.changes (disk_after result) ≡ D.changes disk + 1 }
         ensures same { IsSameDisk D.Disk disk (disk_after result) }
     {
         let mut disk = disk;
@@ -95,8 +101,10 @@ impl<D: Disk> Log<D> {
         ensures slot { IfOk result (λ slot. slot ≡ self.old.count) }
         ensures count { OnOk result (self.new.count ≡ self.old.count + 1) }
         ensures up { OnOk result (self.new.down ≡ false) }
-        ensures kept { OnOk result (kept (D.seen self.new.disk) ≡ kept (D.seen self.old.disk) ++ body.now ∷ []) }
-        ensures seen { OnOk result (D.seen self.new.disk ≡ with_slot (D.seen self.old.disk) self.old.count body.now) }
+        ensures kept { OnOk result
+            (kept (D.seen self.new.disk) ≡ kept (D.seen self.old.disk) ++ body.now ∷ []) }
+        ensures seen { OnOk result
+            (D.seen self.new.disk ≡ with_slot (D.seen self.old.disk) self.old.count body.now) }
         ensures at_rest { OnOk result (IsAtRest D.Disk self.new) }
 
         // A crash at any moment of the call leaves the bodies from before it, with the new one or without.
@@ -107,10 +115,16 @@ impl<D: Disk> Log<D> {
         ensures down { IsErrOf result LogError.Down ↔ (self.old.down ≡ true) }
         ensures down_leaves { IsErrOf result LogError.Down → self.new ≡ self.old }
         ensures full { IsErrOf result LogError.Full
-            ↔ ((self.old.down ≡ false) × (D.capacity self.old.disk < slot_length * (self.old.count + 1) + 1)) }
-        ensures full_leaves { IsErrOf result LogError.Full → self.new ≡ record self.old { down = true } }
-        ensures failed { IsErrOf result LogError.Failed → D.failures self.old.disk < D.failures self.new.disk }
-        ensures err { OnErr result (self.new ≡ record self.old { disk = self.new.disk; down = true }) }
+            ↔ ((self.old.down ≡ false)
+            × (D.capacity self.old.disk < slot_length * (self.old.count + 1) + 1)) }
+        ensures full_leaves { IsErrOf result LogError.Full
+            → self.new ≡ record self.old { down = true } }
+        ensures failed { IsErrOf result LogError.Failed
+            → D.failures self.old.disk < D.failures self.new.disk }
+        ensures failed_leaves { IsErrOf result LogError.Failed
+            → IsLeftByAppend self.old.count body.now (D.seen self.old.disk) (D.seen self.new.disk) }
+        ensures err { OnErr result
+            (self.new ≡ record self.old { disk = self.new.disk; down = true }) }
 
         ensures changes { D.changes self.new.disk ≤ D.changes self.old.disk + 4 }
         ensures same { IsSameDisk D.Disk self.old.disk self.new.disk }
@@ -133,7 +147,8 @@ impl<D: Disk> Log<D> {
     pub fn read<'b>(&mut self, n: u32, block: &'b mut Block) -> Result<Slot<'b>, LogError>
         requires { n < self.old.count }
 
-        ensures body { IfOk result (λ slot. slice_get (kept (D.seen self.old.disk)) n ≡ Some slot.body.now) }
+        ensures body { IfOk result (λ slot.
+            slice_get (kept (D.seen self.old.disk)) n ≡ Some slot.body.now) }
         ensures ok { OnOk result (self.new ≡ record self.old { disk = self.new.disk }) }
         ensures at_rest { OnOk result (IsAtRest D.Disk self.new) }
 
@@ -144,8 +159,10 @@ impl<D: Disk> Log<D> {
         ensures down { IsErrOf result LogError.Down ↔ (self.old.down ≡ true) }
         ensures down_leaves { IsErrOf result LogError.Down → self.new ≡ self.old }
         ensures never_full { IsErrOf result LogError.Full → ⊥ }
-        ensures failed { IsErrOf result LogError.Failed → D.failures self.old.disk < D.failures self.new.disk }
-        ensures err { OnErr result (self.new ≡ record self.old { disk = self.new.disk; down = true }) }
+        ensures failed { IsErrOf result LogError.Failed
+            → D.failures self.old.disk < D.failures self.new.disk }
+        ensures err { OnErr result
+            (self.new ≡ record self.old { disk = self.new.disk; down = true }) }
     {
         if self.down {
             return Err(LogError::Down);
@@ -160,7 +177,8 @@ impl<D: Disk> Log<D> {
     pub fn arm(&mut self, arm: Arm)
         ensures log { self.new ≡ record self.old { disk = self.new.disk } }
         ensures seen { D.seen self.new.disk ≡ D.seen self.old.disk }
-        ensures any_moment { LeavesOnly D.Disk self.old.disk self.new.disk (D.may_leave self.old.disk) }
+        ensures any_moment { LeavesOnly D.Disk self.old.disk self.new.disk
+            (D.may_leave self.old.disk) }
         ensures crash { AddsNone (D.may_leave self.old.disk) (D.may_leave self.new.disk) }
         ensures crash_keeps { AddsNone (D.may_leave self.new.disk) (D.may_leave self.old.disk) }
         ensures failures { D.failures self.new.disk ≡ D.failures self.old.disk }

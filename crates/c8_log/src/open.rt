@@ -1,5 +1,5 @@
 //! What an opening does to a disk: a sync, the search for the end, and the repair of the gate there.
-ghost use Rattle.std.specs.Prelude.{◌≡◌, ◌<◌, ◌≤◌, ◌+◌, ◌*◌, ◌^◌, true, length, IfOk, OnOk, IfErr, IsErrOf};
+ghost use Rattle.std.specs.Prelude.{◌≡◌, ◌<◌, ◌≤◌, ◌+◌, ◌*◌, ◌^◌, true, false, length, IfOk, OnOk, IfErr, IsErrOf};
 ghost use Rattle.c8_disk.specs.Disk.{Only, HasCause};
 ghost use Rattle.c8_disk.specs.Runs.{LeavesOnly, IsSameDisk};
 ghost use Rattle.c8_log.specs.Slots.{kept, kept_count, slot_length};
@@ -14,13 +14,16 @@ use c8_disk::{Disk, DiskError};
 pub(crate) fn settle<D: Disk>(disk: &mut D) -> Result<u32, DiskError>
     ensures up { IfOk result (IsUp D.Disk disk.new) }
     ensures repaired { OnOk result (D.seen disk.new ≡ repaired (D.seen disk.old)) }
-    ensures left { IfErr result (λ error. IsLeftBy (log_error error) (D.seen disk.old) (D.seen disk.new)) }
+    ensures left { IfErr result (λ error.
+        IsLeftBy (log_error error) (D.seen disk.old) (D.seen disk.new)) }
     ensures kept { kept (D.seen disk.new) ≡ kept (D.seen disk.old) }
     ensures any_moment { LeavesOnly D.Disk disk.old disk.new (KeepsOneOf (D.may_leave disk.old)) }
     ensures cause { HasCause (D.failures disk.old) (D.failures disk.new) result }
-    ensures full { IsErrOf result DiskError.Full → D.capacity disk.old < slot_length * length (kept (D.seen disk.old)) + 1 }
+    ensures full { IsErrOf result DiskError.Full → (has_closed_gate (D.seen disk.old) ≡ false)
+        × (D.capacity disk.old < slot_length * length (kept (D.seen disk.old)) + 1) }
     ensures changes { D.changes disk.new ≤ D.changes disk.old + 3 }
-    ensures no_repair { has_closed_gate (D.seen disk.old) ≡ true → D.changes disk.new ≡ D.changes disk.old + 1 }
+    ensures no_repair { has_closed_gate (D.seen disk.old) ≡ true
+        → D.changes disk.new ≡ D.changes disk.old + 1 }
     ensures same { IsSameDisk D.Disk disk.old disk.new }
 {
     disk.sync()?;
@@ -37,11 +40,14 @@ fn repair<D: Disk>(disk: &mut D, end: End) -> Result<(), DiskError>
     requires durable { Only (D.seen disk.old) (D.may_leave disk.old) }
 
     ensures repaired { OnOk result (D.seen disk.new ≡ repaired (D.seen disk.old)) }
-    ensures left { IfErr result (λ error. IsLeftBy (log_error error) (D.seen disk.old) (D.seen disk.new)) }
+    ensures left { IfErr result (λ error.
+        IsLeftBy (log_error error) (D.seen disk.old) (D.seen disk.new)) }
     ensures up { OnOk result (IsUp D.Disk disk.new end.count) }
-    ensures any_moment { LeavesOnly D.Disk disk.old disk.new (λ image. kept image ≡ kept (D.seen disk.old)) }
+    ensures any_moment { LeavesOnly D.Disk disk.old disk.new
+        (λ image. kept image ≡ kept (D.seen disk.old)) }
     ensures cause { HasCause (D.failures disk.old) (D.failures disk.new) result }
-    ensures full { IsErrOf result DiskError.Full → D.capacity disk.old < slot_length * length (kept (D.seen disk.old)) + 1 }
+    ensures full { IsErrOf result DiskError.Full → (has_closed_gate (D.seen disk.old) ≡ false)
+        × (D.capacity disk.old < slot_length * length (kept (D.seen disk.old)) + 1) }
     ensures changes { D.changes disk.new ≤ D.changes disk.old + 2 }
     ensures no_repair { end.closed ≡ true → D.changes disk.new ≡ D.changes disk.old }
     ensures same { IsSameDisk D.Disk disk.old disk.new }

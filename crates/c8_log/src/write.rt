@@ -13,7 +13,8 @@ pub(crate) fn write_and_sync<D: Disk>(disk: &mut D, at: u32, bytes: &[u8]) -> Re
 
     ensures written { Writes at bytes.now (D.seen disk.old) (D.seen disk.new) result }
     ensures durable { OnOk result (Only (D.seen disk.new) (D.may_leave disk.new)) }
-    ensures any_moment { LeavesOnly D.Disk disk.old disk.new (IsBeforeOrTorn at (length bytes.now) (D.may_leave disk.old)) }
+    ensures any_moment { LeavesOnly D.Disk disk.old disk.new
+        (IsBeforeOrTorn at (length bytes.now) (D.may_leave disk.old)) }
 
     ensures cause { HasCause (D.failures disk.old) (D.failures disk.new) result }
     ensures full { IsErrOf result DiskError.Full → D.capacity disk.old < at + length bytes.now }

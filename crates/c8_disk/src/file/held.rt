@@ -52,7 +52,8 @@ impl Held {
         ensures first { self.new.first.value.items ≡ self.old.first.value.items }
         ensures calls { AddsWrite at bytes.now self.old.calls.items self.new.calls.items }
         ensures crash { Tears at (length bytes.now) (images self.old) (images self.new) }
-        ensures time { Elapses (moment self.old) (moment self.new) (left_since self.old) (left_since self.new) (images self.new) }
+        ensures time { Elapses (moment self.old) (moment self.new)
+            (left_since self.old) (left_since self.new) (images self.new) }
     {
         overwrite(&mut self.bytes, at as usize, bytes);
         self.calls = self.calls.and(&write_call(at, bytes));
@@ -66,7 +67,8 @@ impl Held {
         ensures calls { self.new.calls.items ≡ self.old.calls.items ++ Call.Sync ∷ [] }
         ensures durable { Only self.old.bytes.items (images self.new) }
         ensures crash { AddsNone (images self.old) (images self.new) }
-        ensures time { Elapses (moment self.old) (moment self.new) (left_since self.old) (left_since self.new) (images self.new) }
+        ensures time { Elapses (moment self.old) (moment self.new)
+            (left_since self.old) (left_since self.new) (images self.new) }
     {
         self.calls = self.calls.and(&Call::Sync);
     }

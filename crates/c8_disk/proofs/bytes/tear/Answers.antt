@@ -1,5 +1,6 @@
 use Rattle.std.proofs.Common.{length, arith}
-use Rattle.c8_disk.proofs.Tear.{torn_wider, torn_more}
+use Rattle.c8_disk.specs.TornLaws.{torn_wider}
+use Rattle.c8_disk.proofs.Tear.{torn_more}
 use Rattle.c8_disk.proofs.bytes.tear.Goals as goal
 
 pub returns-then-i-reach-clause-torn : goal.returns-then-i-reach-clause-torn

@@ -1,5 +1,8 @@
-use Rattle.c8_disk.proofs.AtOnce.{between}
+use Rattle.c8_disk.specs.AtOnceLaws.{between, each_between}
 use Rattle.c8_disk.proofs.laws.images_at_once.Goals as goal
 
-pub returns : goal.returns
-returns c = between
+pub returns-clause-only : goal.returns-clause-only
+returns-clause-only c = between
+
+pub returns-clause-each : goal.returns-clause-each
+returns-clause-each c = each_between

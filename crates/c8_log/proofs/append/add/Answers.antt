@@ -1,10 +1,11 @@
-use Rattle.std.proofs.Common.{◌≡◌, ◌+◌, ◌*◌, ◌++◌, [], ◌∷◌, ℕ, List, length, OnOk, ap, ◌∙◌, subst, arith}
-use Rattle.c8_disk.specs.Disk.{overwritten, Only}
+use Rattle.std.proofs.Common.{◌≡◌, inl, inr, ◌+◌, ◌*◌, ◌++◌, [], ◌∷◌, ℕ, List, length, OnOk, IsErrOf, rules, ap, ◌∙◌, subst, arith, length-append}
+use Rattle.c8_disk.specs.Disk.{overwritten, Only, Torn}
+use Rattle.c8_disk.specs.declared.error.DiskError.TheVariants.{Failed}
 use Rattle.c8_log.specs.Slots.{kept}
 use Rattle.c8_log.specs.Log.{has_closed_gate_at, IsUp, KeepsWithOrWithout}
 use Rattle.c8_log.specs.Written.{IsBeforeOrTorn}
 use Rattle.c8_disk.specs.RunLaws.{weaker, then_run}
-use Rattle.c8_log.proofs.Writes.{ok_written, on_ok_both}
+use Rattle.c8_log.proofs.Writes.{ok_written, failed_torn, on_ok_both}
 use Rattle.c8_log.proofs.Staged.{IsStaged, gate_there, staged, first_keeps, second_keeps, two_writes, up_with_it}
 use Rattle.c8_log.proofs.append.add.Given.{Over}
 use Rattle.c8_log.proofs.append.add.Goals as goal
@@ -47,6 +48,22 @@ returns-clause-any_moment g c =
     let second = weaker g.D.Disk c.write_and_sync.new.disk c.write_and_sync-2.new.disk (IsBeforeOrTorn (144 * n) 1 later)
     (KeepsWithOrWithout (kept old) body) c.write_and_sync-2.ensures.any_moment (second_keeps c.writes_keep_the_rest.ensures.whole c.writes_keep_the_rest.ensures.none images old n body up.count_is up.closed up.durable (staged_image g c) is later only) in
     then_run g.D.Disk c.args.disk.now c.write_and_sync.new.disk c.write_and_sync-2.new.disk (KeepsWithOrWithout (kept old) body) first second
+
+pub returns-in_err-write_and_sync-clause-left : goal.returns-in_err-write_and_sync-clause-left
+returns-in_err-write_and_sync-clause-left g c is =
+    let old = g.D.Disk.seen c.args.disk.now in
+    let new = g.D.Disk.seen c.write_and_sync.new.disk in
+    let at = 144 * c.args.count + 1 in
+    let size : length c.with_closed_gate.result ≡ 144 = omega (arith, ap length c.with_closed_gate.ensures, length-append c.args.body.now (0 ∷ []), c.told-body) in
+    let failed : IsErrOf c.write_and_sync.result Failed = search rules in
+    inl (subst (λ (n : ℕ). Torn at n old new) size (failed_torn at c.with_closed_gate.result old new c.write_and_sync.result c.write_and_sync.ensures.written failed))
+
+pub returns-clause-left : goal.returns-clause-left
+returns-clause-left g c is =
+    let staged = g.D.Disk.seen c.write_and_sync.new.disk in
+    let new = g.D.Disk.seen c.write_and_sync-2.new.disk in
+    let gate = 144 * c.args.count in
+    inr (subst (λ (l : List ℕ). Torn gate 1 l new) (first_written g c) (failed_torn gate (0xa5 ∷ []) staged new c.write_and_sync-2.result c.write_and_sync-2.ensures.written is))
 
 gate_written : (g : Over) (c : goal.After-write_and_sync-2 g)
     → OnOk c.write_and_sync-2.result (g.D.Disk.seen c.write_and_sync-2.new.disk ≡ overwritten (g.D.Disk.seen c.write_and_sync.new.disk) (144 * c.args.count) (0xa5 ∷ []))

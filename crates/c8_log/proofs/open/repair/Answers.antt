@@ -40,7 +40,7 @@ pub returns-clause-full : goal.returns-clause-full
 returns-clause-full g c is =
     let image = g.D.Disk.seen c.args.disk.now in
     let full = c.write_and_sync.ensures.full is in
-    omega (arith, full, length_of_kept image, c.requires.count)
+    (sym c.requires.closed ∙ c.if-end.false, omega (arith, full, length_of_kept image, c.requires.count))
 
 pub returns-clause-no_repair : goal.returns-clause-no_repair
 returns-clause-no_repair g c closed = absurd (true≢false (sym closed ∙ c.if-end.false))

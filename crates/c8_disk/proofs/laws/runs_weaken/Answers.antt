@@ -1,0 +1,5 @@
+use Rattle.c8_disk.specs.RunLaws.{weaker}
+use Rattle.c8_disk.proofs.laws.runs_weaken.Goals as goal
+
+pub returns : goal.returns
+returns g c old new p q = weaker g.D.Disk old new (g.P.Property.has p) (g.Q.Property.has q)
