@@ -16,13 +16,15 @@ pub fn what_is_admitted()
     ensures both { (l : LinksValue) (head : HeadValue) → refusal l head ≡ None
         → head.kind ≢ kinds.Hello → head.kind ≢ kinds.Welcome → NamesBoth l head }
     ensures is_open { (l : LinksValue) (head : HeadValue) → refusal l head ≡ None
-        → head.kind ≢ kinds.Hello → head.kind ≢ kinds.Welcome → (link_to l head.from).is_open ≡ true }
+        → head.kind ≢ kinds.Hello → head.kind ≢ kinds.Welcome
+        → (link_to l head.from).is_open ≡ true }
 {}
 
 /// Hearing a datagram of a player changes the link to that player, and no other.
 pub fn hearing_changes_one_link()
     ensures sender { (l : LinksValue) (head : HeadValue) → 1 ≤ head.from → head.from ≤ 4
-        → link_to (heard l head) head.from ≡ link_after head.kind (link_to l head.from) head.sender_epoch }
+        → link_to (heard l head) head.from
+        ≡ link_after head.kind (link_to l head.from) head.sender_epoch }
     ensures others { (l : LinksValue) (head : HeadValue) (player : ℕ) → player ≢ head.from
         → link_to (heard l head) player ≡ link_to l player }
 {}

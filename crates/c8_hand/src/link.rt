@@ -38,7 +38,8 @@ impl Link {
 
     /// The refusal of a HELLO to a player whose epoch is `own`.
     pub(crate) fn refusal_of_hello(&self, own: u32, head: &Head) -> Option<HandError>
-        ensures { result ≡ refusal_of_hello (link_value self.now) own head.now.sender_epoch head.now.addressee_epoch }
+        ensures { result ≡ refusal_of_hello (link_value self.now) own
+            head.now.sender_epoch head.now.addressee_epoch }
     {
         if head.sender_epoch == 0 || head.sender_epoch < self.known {
             Some(HandError::Stale)
@@ -51,7 +52,8 @@ impl Link {
 
     /// The refusal of a WELCOME to a player whose epoch is `own`.
     pub(crate) fn refusal_of_welcome(&self, own: u32, head: &Head) -> Option<HandError>
-        ensures { result ≡ refusal_of_welcome (link_value self.now) own head.now.sender_epoch head.now.addressee_epoch }
+        ensures { result ≡ refusal_of_welcome (link_value self.now) own
+            head.now.sender_epoch head.now.addressee_epoch }
     {
         if head.sender_epoch == 0 || head.sender_epoch < self.known || head.addressee_epoch < own {
             Some(HandError::Stale)
@@ -64,7 +66,8 @@ impl Link {
 
     /// The refusal of the kinds that want an open link, to a player whose epoch is `own`.
     pub(crate) fn refusal_of_others(&self, own: u32, head: &Head) -> Option<HandError>
-        ensures { result ≡ refusal_of_others (link_value self.now) own head.now.sender_epoch head.now.addressee_epoch }
+        ensures { result ≡ refusal_of_others (link_value self.now) own
+            head.now.sender_epoch head.now.addressee_epoch }
     {
         if head.sender_epoch < self.known || head.addressee_epoch < own {
             Some(HandError::Stale)

@@ -98,11 +98,13 @@ impl Links {
         requires { refusal self.old (packet_of datagram.now).head ≡ None }
         ensures heard { self.new ≡ heard self.old (packet_of datagram.now).head }
         ensures sender { let head = (packet_of datagram.now).head in
-            link_to self.new head.from ≡ link_after head.kind (link_to self.old head.from) head.sender_epoch }
+            link_to self.new head.from
+            ≡ link_after head.kind (link_to self.old head.from) head.sender_epoch }
         ensures others { (player : ℕ) → player ≢ (packet_of datagram.now).head.from
             → link_to self.new player ≡ link_to self.old player }
         ensures opens { OpensByWelcome self.old (packet_of datagram.now).head self.new }
-        ensures rises { (player : ℕ) → (link_to self.old player).known ≤ (link_to self.new player).known }
+        ensures rises { (player : ℕ)
+            → (link_to self.old player).known ≤ (link_to self.new player).known }
     {
         self.take(&datagram.header().head());
     }

@@ -64,9 +64,11 @@ impl Draft {
 
     fn add_code(&mut self, alloc: Global, value: &[u8]) -> Result<(), GameError>
         ensures code { OnOk result (is_ok (decode_of value.now) ≡ true) }
-        ensures program { OnOk result (self.new.program.items ≡ self.old.program.items ++ result_unwrap_or (decode_of value.now) []) }
+        ensures program { OnOk result (self.new.program.items
+            ≡ self.old.program.items ++ result_unwrap_or (decode_of value.now) []) }
         ensures values { OnOk result (self.new.values ≡ self.old.values) }
-        ensures fault { IfErr result (λ e. (e ≡ Memory) ⊎ ((is_ok (decode_of value.now) ≡ false) × (e ≡ Hex))) }
+        ensures fault { IfErr result (λ e. (e ≡ Memory)
+            ⊎ ((is_ok (decode_of value.now) ≡ false) × (e ≡ Hex))) }
     {
         let bytes = match hex::decode(alloc, value) {
             Ok(bytes) => bytes,
@@ -78,8 +80,11 @@ impl Draft {
     }
 
     fn add_field(&mut self, field: Field, value: &[u8]) -> Result<(), GameError>
-        ensures fault { MatchResult result (λ _. field_fault field (is_some (number_at self.old.values field)) value.now ≡ None) (λ e. field_fault field (is_some (number_at self.old.values field)) value.now ≡ Some e) }
-        ensures values { OnOk result (self.new.values ≡ slice_set self.old.values (index_of field) (Some (number_of field value.now))) }
+        ensures fault { MatchResult result
+            (λ _. field_fault field (is_some (number_at self.old.values field)) value.now ≡ None)
+            (λ e. field_fault field (is_some (number_at self.old.values field)) value.now ≡ Some e) }
+        ensures values { OnOk result (self.new.values
+            ≡ slice_set self.old.values (index_of field) (Some (number_of field value.now))) }
         ensures program { OnOk result (self.new.program.items ≡ self.old.program.items) }
     {
         if !field.is_mask() && !is_decimal(value) {
@@ -117,7 +122,8 @@ impl Draft {
     }
 
     fn masks(&self) -> [u16; 4]
-        ensures { result ≡ told_by self.now.values Mask1 ∷ told_by self.now.values Mask2 ∷ told_by self.now.values Mask3 ∷ told_by self.now.values Mask4 ∷ [] }
+        ensures { result ≡ told_by self.now.values Mask1 ∷ told_by self.now.values Mask2
+            ∷ told_by self.now.values Mask3 ∷ told_by self.now.values Mask4 ∷ [] }
     {
         [
             self.told(Field::Mask1) as u16,
@@ -145,14 +151,16 @@ impl Draft {
 
     /// Whether a field that every game of this many players has is missing.
     fn lacks(&self, players: u64) -> bool
-        ensures { result ≡ list_any (λ field. nat_le (owner_of field) players && not (is_some (number_at self.now.values field))) fields }
+        ensures { result ≡ list_any (λ field.
+            nat_le (owner_of field) players && not (is_some (number_at self.now.values field))) fields }
     {
         FIELDS.iter().any(|field| field.owner() <= players && self.value(*field).is_none())
     }
 
     /// Whether there is a mask of a player past this number of players.
     fn strays(&self, players: u64) -> bool
-        ensures { result ≡ list_any (λ field. nat_lt players (owner_of field) && is_some (number_at self.now.values field)) fields }
+        ensures { result ≡ list_any (λ field.
+            nat_lt players (owner_of field) && is_some (number_at self.now.values field)) fields }
     {
         FIELDS.iter().any(|field| field.owner() > players && self.value(*field).is_some())
     }

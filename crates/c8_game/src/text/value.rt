@@ -39,7 +39,9 @@ pub fn number(field: Field, value: &[u8]) -> Result<u64, GameError>
     requires { is_mask field ≡ false → is_decimal value.now ≡ true }
     ensures value { IfOk result (λ n. n ≡ number_of field value.now) }
     ensures within { IfOk result (IsWithin field) }
-    ensures fault { MatchResult result (λ _. field_fault field false value.now ≡ None) (λ e. field_fault field false value.now ≡ Some e) }
+    ensures fault { MatchResult result
+        (λ _. field_fault field false value.now ≡ None)
+        (λ e. field_fault field false value.now ≡ Some e) }
 {
     if field.is_mask() {
         return match Keys::from_hex(value) {

@@ -1,7 +1,9 @@
 //! Datagrams of every kind whose numbers all differ: read, and written again.
-ghost use Rattle.std.specs.Prelude.{◌≡◌, ◌≢◌, ◌≤◌};
-ghost use Rattle.c8_wire.specs.Saying.{MaySay};
+ghost use Rattle.std.specs.Prelude.{◌≡◌, ◌≢◌, ◌≤◌, length};
+ghost use Rattle.c8_wire.specs.Packet.{IsMessage, kind_of};
+ghost use Rattle.c8_wire.specs.Saying.{message_of, MaySay};
 
+use crate::tests::KINDS;
 use crate::{Body, Datagram, Head, Header, Kind, Run, Said, Seat, WireError, view, write};
 use c8_game::Player;
 use std::test::Fail;
@@ -51,7 +53,27 @@ const WORDS: [u16; 64] = [
     0xf800, 0x0d07, 0x220e, 0x3715,
 ];
 
-fn head_of(kind: Kind, from: u8, to: u8) -> Head
+const MARK: [u8; 8] = [0x9a, 0x8b, 0x7c, 0x6d, 0x5e, 0x4f, 0x30, 0x21];
+
+/// The datagram of a kind above.
+fn datagram(kind: Kind) -> &'static [u8] {
+    match kind {
+        Kind::Hello => &HELLO,
+        Kind::Welcome => &WELCOME,
+        Kind::Data => &DATA,
+        Kind::Freeze => &FREEZE,
+        Kind::Frozen => &FROZEN,
+        Kind::Cut => &CUT,
+    }
+}
+
+fn words() -> &'static [u16]
+    ensures { length result.now ≡ 64 }
+{
+    &WORDS
+}
+
+fn head_between(kind: Kind, from: u8, to: u8) -> Head
     requires from_one { 1 ≤ from }
     requires from_four { from ≤ 4 }
     requires to_one { 1 ≤ to }
@@ -69,135 +91,220 @@ fn head_of(kind: Kind, from: u8, to: u8) -> Head
     }
 }
 
+/// What its header says.
+fn head(kind: Kind) -> Head
+    ensures { result.kind ≡ kind }
+{
+    match kind {
+        Kind::Hello => head_between(kind, 4, 3),
+        Kind::Welcome => head_between(kind, 2, 4),
+        Kind::Data => head_between(kind, 1, 4),
+        Kind::Freeze => head_between(kind, 1, 2),
+        Kind::Frozen => head_between(kind, 2, 1),
+        Kind::Cut => head_between(kind, 1, 3),
+    }
+}
+
 /// Whether the header says this, by each of its readers and as a whole.
-fn says(header: Header<'_>, kind: Kind, from: u8, to: u8) -> bool {
-    let head = header.head();
-    let mut same = header.kind() == kind && head.kind == kind;
-    same &= header.session() == SESSION && head.session == SESSION;
-    same &= header.from().number == from && head.from.number == from;
-    same &= header.to().number == to && head.to.number == to;
-    same &= header.sender_epoch() == 0x0a0b && head.sender_epoch == 0x0a0b;
-    same &= header.addressee_epoch() == 0x0c0d0e0f && head.addressee_epoch == 0x0c0d0e0f;
+fn says(header: Header<'_>, head: Head) -> bool {
+    let mut same = header.head() == head;
+    same &= header.kind() == head.kind;
+    same &= header.session() == head.session;
+    same &= header.from() == head.from;
+    same &= header.to() == head.to;
+    same &= header.sender_epoch() == head.sender_epoch;
+    same &= header.addressee_epoch() == head.addressee_epoch;
     same
 }
 
 /// Whether a run has these key sets, by each of its readers.
 fn has(run: Run<'_>, words: &[u16]) -> bool {
-    let mut same = run.len() == words.len() && run.is_empty() == words.is_empty();
+    let mut same = run.len() == words.len();
+    same &= run.is_empty() == words.is_empty();
     for (place, word) in words.iter().enumerate() {
         if place < run.len() {
             same &= run.get(place) == *word;
         }
     }
+    same && is_each(run, words)
+}
+
+/// Whether a run goes over these key sets.
+fn is_each(run: Run<'_>, words: &[u16]) -> bool {
     let mut left = words;
     for word in &run {
         let [first, rest @ ..] = left else {
             return false;
         };
-        same &= *first == word;
+        if *first != word {
+            return false;
+        }
         left = rest;
     }
-    same && left.is_empty()
+    left.is_empty()
 }
 
 #[test]
 fn reads_headers(rt: HostRuntime) -> Result<(), Fail> {
-    assert!(rt; says(view(&HELLO)?.header(), Kind::Hello, 4, 3));
-    assert!(rt; says(view(&WELCOME)?.header(), Kind::Welcome, 2, 4));
-    assert!(rt; says(view(&DATA)?.header(), Kind::Data, 1, 4));
-    assert!(rt; says(view(&FREEZE)?.header(), Kind::Freeze, 1, 2));
-    assert!(rt; says(view(&FROZEN)?.header(), Kind::Frozen, 2, 1));
-    assert!(rt; says(view(&CUT)?.header(), Kind::Cut, 1, 3));
-    let seat = view(&HELLO)?.header().from();
+    for kind in KINDS {
+        assert!(rt; says(view(datagram(kind))?.header(), head(kind)), "{kind}");
+    }
+    let seat = head(Kind::Hello).from;
     assert_eq!(rt; seat.player(), Some(Player { number: 4 }));
     assert_eq!(rt; Seat::from(Player { number: 4 }), seat);
     Ok(())
 }
 
+const NAMES: [(Kind, u8, &'static str); 6] = [
+    (Kind::Hello, 1, "HELLO"),
+    (Kind::Welcome, 2, "WELCOME"),
+    (Kind::Data, 3, "DATA"),
+    (Kind::Freeze, 4, "FREEZE"),
+    (Kind::Frozen, 5, "FROZEN"),
+    (Kind::Cut, 6, "CUT"),
+];
+
+fn names() -> [(Kind, u8, &'static str); 6] {
+    NAMES
+}
+
 #[test]
 fn names_kinds(rt: HostRuntime) -> Result<(), Fail> {
-    let kinds = [
-        (Kind::Hello, 1, "HELLO"),
-        (Kind::Welcome, 2, "WELCOME"),
-        (Kind::Data, 3, "DATA"),
-        (Kind::Freeze, 4, "FREEZE"),
-        (Kind::Frozen, 5, "FROZEN"),
-        (Kind::Cut, 6, "CUT"),
-    ];
-    for (kind, code, name) in kinds {
-        assert_eq!(rt; kind.code(), code);
+    for (kind, code, name) in names() {
+        assert_eq!(rt; (kind.code(), kind.name()), (code, name));
         assert_eq!(rt; Kind::try_from(code), Ok(kind));
-        assert_eq!(rt; kind.name(), name);
         let shown = format!(in rt.alloc(); "{kind}")?;
         assert_eq!(rt; shown.as_str(), name);
     }
-    assert_eq!(rt; Kind::try_from(0), Err(WireError::Kind));
-    assert_eq!(rt; Kind::try_from(7), Err(WireError::Kind));
+    for code in [0, 7] {
+        assert_eq!(rt; Kind::try_from(code), Err(WireError::Kind));
+    }
     Ok(())
+}
+
+fn ack_of(bytes: &[u8]) -> Result<u32, Fail> {
+    let Datagram::Welcome(lent) = view(bytes)? else {
+        return Err("no WELCOME")?;
+    };
+    Ok(lent.ack())
+}
+
+/// The readers of a DATA: ack, mark and its frame, start, and whether its run has these key sets.
+fn data_of(bytes: &[u8], words: &[u16]) -> Result<(u32, u32, [u8; 8], u32, bool), Fail> {
+    let Datagram::Data(lent) = view(bytes)? else {
+        return Err("no DATA")?;
+    };
+    let has = has(lent.run(), words);
+    Ok((
+        lent.ack(),
+        lent.mark_frame(),
+        lent.mark(),
+        lent.start(),
+        has,
+    ))
+}
+
+fn freeze_of(bytes: &[u8]) -> Result<(u8, u32), Fail> {
+    let Datagram::Freeze(lent) = view(bytes)? else {
+        return Err("no FREEZE")?;
+    };
+    Ok((lent.leaver().number, lent.have()))
+}
+
+/// The readers of a FROZEN or CUT: the leaver, what is held or the length, the start, and whether its
+/// run has these key sets.
+fn leaver_of(bytes: &[u8], words: &[u16]) -> Result<(u8, u32, u32, bool), Fail> {
+    match view(bytes)? {
+        Datagram::Frozen(lent) => {
+            let has = has(lent.run(), words);
+            Ok((lent.leaver().number, lent.held(), lent.start(), has))
+        }
+        Datagram::Cut(lent) => {
+            let has = has(lent.run(), words);
+            Ok((lent.leaver().number, lent.length(), lent.start(), has))
+        }
+        _ => Err("no FROZEN and no CUT")?,
+    }
 }
 
 #[test]
 fn reads_bodies(rt: HostRuntime) -> Result<(), Fail> {
-    let Datagram::Welcome(lent) = view(&WELCOME)? else {
-        return Err("no WELCOME")?;
-    };
-    assert_eq!(rt; lent.ack(), 66051);
-    let Datagram::Data(lent) = view(&DATA)? else {
+    assert_eq!(rt; ack_of(datagram(Kind::Welcome))?, 66051);
+    let data = data_of(datagram(Kind::Data), &[0x00f0, 0xc00d, 0x1eaf])?;
+    assert_eq!(rt; data, (415, 384, MARK, 109517, true));
+    assert_eq!(rt; freeze_of(datagram(Kind::Freeze))?, (3, 131844));
+    let frozen = leaver_of(datagram(Kind::Frozen), &[0x0b0e, 0xf001])?;
+    assert_eq!(rt; frozen, (4, 43983, 43981, true));
+    let cut = leaver_of(datagram(Kind::Cut), &[0x0d10, 0x000c, 0xa000])?;
+    assert_eq!(rt; cut, (2, 3002, 2999, true));
+    Ok(())
+}
+
+fn run_of(bytes: &[u8]) -> Result<Run<'_>, Fail> {
+    let Datagram::Data(lent) = view(bytes)? else {
         return Err("no DATA")?;
     };
-    assert_eq!(rt; lent.ack(), 415);
-    assert_eq!(rt; lent.mark_frame(), 384);
-    assert_eq!(rt;
-        lent.mark(),
-        [0x9a, 0x8b, 0x7c, 0x6d, 0x5e, 0x4f, 0x30, 0x21]
-    );
-    assert_eq!(rt; lent.start(), 109517);
-    assert!(rt; has(lent.run(), &[0x00f0, 0xc00d, 0x1eaf]));
-    let Datagram::Freeze(lent) = view(&FREEZE)? else {
-        return Err("no FREEZE")?;
-    };
-    assert_eq!(rt; lent.leaver().number, 3);
-    assert_eq!(rt; lent.have(), 131844);
-    let Datagram::Frozen(lent) = view(&FROZEN)? else {
-        return Err("no FROZEN")?;
-    };
-    assert_eq!(rt; lent.leaver().number, 4);
-    assert_eq!(rt; lent.held(), 43983);
-    assert_eq!(rt; lent.start(), 43981);
-    assert!(rt; has(lent.run(), &[0x0b0e, 0xf001]));
-    let Datagram::Cut(lent) = view(&CUT)? else {
-        return Err("no CUT")?;
-    };
-    assert_eq!(rt; lent.leaver().number, 2);
-    assert_eq!(rt; lent.length(), 3002);
-    assert_eq!(rt; lent.start(), 2999);
-    assert!(rt; has(lent.run(), &[0x0d10, 0x000c, 0xa000]));
-    Ok(())
+    Ok(lent.run())
+}
+
+/// Whether the part of a run from a place on has these key sets, spelled by these bytes.
+fn lends(run: Run<'_>, place: usize, words: &[u16], bytes: &[u8]) -> bool {
+    if place > run.len() {
+        return false;
+    }
+    let part = run.from_place(place);
+    has(part, words) && part.bytes() == bytes
 }
 
 #[test]
 fn lends_parts_of_a_run(rt: HostRuntime) -> Result<(), Fail> {
-    let Datagram::Data(lent) = view(&DATA)? else {
-        return Err("no DATA")?;
-    };
-    let run = lent.run();
-    assert_eq!(rt;
-        run.bytes(),
-        [0x00, 0xf0, 0xc0, 0x0d, 0x1e, 0xaf].as_slice()
-    );
-    if run.len() == 3 {
-        assert!(rt; has(run.from_place(0), &[0x00f0, 0xc00d, 0x1eaf]));
-        assert!(rt; has(run.from_place(2), &[0x1eaf]));
-        assert!(rt; has(run.from_place(3), &[]));
-        assert_eq!(rt;
-            run.from_place(1).bytes(),
-            [0xc0, 0x0d, 0x1e, 0xaf].as_slice()
-        );
-    }
+    let run = run_of(datagram(Kind::Data))?;
+    let bytes = [0x00, 0xf0, 0xc0, 0x0d, 0x1e, 0xaf];
+    assert!(rt; lends(run, 0, &[0x00f0, 0xc00d, 0x1eaf], &bytes));
+    assert!(rt; lends(run, 1, &[0xc00d, 0x1eaf], &bytes[2..]));
+    assert!(rt; lends(run, 2, &[0x1eaf], &bytes[4..]));
+    assert!(rt; lends(run, 3, &[], &[]));
+    Ok(())
+}
+
+#[test]
+fn makes_runs(rt: HostRuntime) {
     assert!(rt; has(Run::new(&[0x0b, 0x0e, 0xf0, 0x01]), &[0x0b0e, 0xf001]));
     assert!(rt; has(Run::new(&[]), &[]));
     assert_eq!(rt; Run::new(&[0xa5; 128]).len(), 64);
-    Ok(())
+}
+
+fn body(kind: Kind) -> Body<'static>
+    ensures kind { kind_of (message_of result) ≡ kind }
+    ensures message { IsMessage (message_of result) }
+{
+    match kind {
+        Kind::Hello => Body::Hello,
+        Kind::Welcome => Body::Welcome { ack: 66051 },
+        Kind::Data => Body::Data {
+            ack: 415,
+            mark_frame: 384,
+            mark: MARK,
+            start: 109517,
+            run: &[0x00f0, 0xc00d, 0x1eaf],
+        },
+        Kind::Freeze => Body::Freeze {
+            leaver: Player { number: 3 },
+            have: 131844,
+        },
+        Kind::Frozen => Body::Frozen {
+            leaver: Player { number: 4 },
+            held: 43983,
+            start: 43981,
+            run: &[0x0b0e, 0xf001],
+        },
+        Kind::Cut => Body::Cut {
+            leaver: Player { number: 2 },
+            length: 3002,
+            start: 2999,
+            run: &[0x0d10, 0x000c, 0xa000],
+        },
+    }
 }
 
 /// Whether a datagram is written as these bytes, and the bytes after it stay.
@@ -211,81 +318,41 @@ fn is_written(said: &Said<'_>, bytes: &[u8]) -> bool
 }
 
 #[test]
-fn writes_hello_welcome_and_data(rt: HostRuntime) {
-    let head = head_of(Kind::Hello, 4, 3);
-    assert!(rt;
-        is_written(
-            &Said {
-                head,
-                body: Body::Hello
-            },
-            &HELLO
-        )
-    );
-    let head = head_of(Kind::Welcome, 2, 4);
-    let body = Body::Welcome { ack: 66051 };
-    assert!(rt; is_written(&Said { head, body }, &WELCOME));
-    let head = head_of(Kind::Data, 1, 4);
-    let body = Body::Data {
-        ack: 415,
-        mark_frame: 384,
-        mark: [0x9a, 0x8b, 0x7c, 0x6d, 0x5e, 0x4f, 0x30, 0x21],
-        start: 109517,
-        run: &[0x00f0, 0xc00d, 0x1eaf],
-    };
-    assert!(rt; is_written(&Said { head, body }, &DATA));
+fn writes_each_kind(rt: HostRuntime) {
+    for kind in KINDS {
+        let said = Said {
+            head: head(kind),
+            body: body(kind),
+        };
+        assert!(rt; is_written(&said, datagram(kind)), "{kind}");
+    }
 }
 
-#[test]
-fn writes_freeze_frozen_and_cut(rt: HostRuntime) {
-    let head = head_of(Kind::Freeze, 1, 2);
-    let body = Body::Freeze {
-        leaver: Player { number: 3 },
-        have: 131844,
-    };
-    assert!(rt; is_written(&Said { head, body }, &FREEZE));
-    let head = head_of(Kind::Frozen, 2, 1);
-    let body = Body::Frozen {
-        leaver: Player { number: 4 },
-        held: 43983,
-        start: 43981,
-        run: &[0x0b0e, 0xf001],
-    };
-    assert!(rt; is_written(&Said { head, body }, &FROZEN));
-    let head = head_of(Kind::Cut, 1, 3);
-    let body = Body::Cut {
-        leaver: Player { number: 2 },
-        length: 3002,
-        start: 2999,
-        run: &[0x0d10, 0x000c, 0xa000],
-    };
-    assert!(rt; is_written(&Said { head, body }, &CUT));
-}
-
-/// The longest datagram, written and read again.
-#[test]
-fn writes_64_inputs(rt: HostRuntime) -> Result<(), Fail> {
+/// The longest datagram: a DATA of 64 inputs.
+fn longest() -> Said<'static>
+    ensures { MaySay result }
+{
     let body = Body::Data {
         ack: 262148,
         mark_frame: 262144,
-        mark: [0x9a, 0x8b, 0x7c, 0x6d, 0x5e, 0x4f, 0x30, 0x21],
+        mark: MARK,
         start: 262084,
-        run: &WORDS,
+        run: words(),
     };
-    let said = Said {
-        head: head_of(Kind::Data, 3, 2),
+    Said {
+        head: head_between(Kind::Data, 3, 2),
         body,
-    };
+    }
+}
+
+/// It is written and read again.
+#[test]
+fn writes_64_inputs(rt: HostRuntime) -> Result<(), Fail> {
+    let said = longest();
     let mut out = [0x77; 174];
     assert_eq!(rt; write(&said, &mut out), 174);
-    let Datagram::Data(lent) = view(&out)? else {
-        return Err("no DATA")?;
-    };
-    assert!(rt; says(view(&out)?.header(), Kind::Data, 3, 2));
-    assert_eq!(rt;
-        (lent.ack(), lent.mark_frame(), lent.start()),
-        (262148, 262144, 262084)
-    );
-    assert!(rt; has(lent.run(), &WORDS));
+    assert!(rt; says(view(&out)?.header(), said.head));
+    let data = data_of(&out, words())?;
+    assert_eq!(rt; data, (262148, 262144, MARK, 262084, true));
     Ok(())
 }
