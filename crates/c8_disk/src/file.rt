@@ -1,5 +1,5 @@
 //! A disk in a file of the operating system.
-ghost use Rattle.std.specs.Prelude.{◌≡◌, ◌≤◌, ◌<◌, ◌+◌, ◌↔◌, [], ◌∷◌, ◌++◌, true, false, length, take, drop, vec_len, vec_capacity, IfOk, OnOk, OnErr, IsErrOf, IsTrue};
+ghost use Rattle.std.specs.Prelude.{◌≡◌, ◌≤◌, ◌<◌, ◌+◌, ◌↔◌, [], ◌∷◌, ◌++◌, true, false, length, take, drop, vec_len, vec_capacity, IfOk, IfErr, OnOk, OnErr, IsErrOf, IsTrue};
 ghost use Rattle.c8_disk.specs.Disk.{Only, AddsNone, Writes, WritesImages, Elapses, HasCause, longest_write};
 ghost use Rattle.c8_disk.specs.Past.{IsImage, LeftSince, AddsWrite};
 ghost use Rattle.c8_disk.specs.PastLaws.{reads_image, counts, only};
@@ -16,6 +16,8 @@ use crate::call::Call;
 use crate::{Arm, Disk, DiskError, FileError, GhostList};
 use health::Health;
 use held::Held;
+use std::alloc::Global;
+use std::fmt;
 use std::fs::File;
 use std::rt::Files;
 pub(crate) use system::{OpenedFile, SystemFile};
@@ -34,6 +36,27 @@ pub struct FileDisk<S = OpenedFile> {
     health: Health,
     asked: GhostList<()>,
     arms: GhostList<Arm>,
+}
+
+/// Its length and its capacity, and whether it is down.
+impl<S> fmt::Debug for FileDisk<S> {
+    fn fmt<W: fmt::Write>(&self, f: &mut fmt::Formatter<W>) -> fmt::Result {
+        let length = self.held.bytes.len();
+        let capacity = self.held.room;
+        let down = self.health.is_down;
+        write!(
+            f,
+            "FileDisk {{ length: {length}, capacity: {capacity}, down: {down} }}"
+        )
+    }
+}
+
+/// Reserves room for all that a disk may hold.
+fn reserve(alloc: Global, capacity: u32) -> Result<Vec<u8>, FileError>
+    ensures room { IfOk result (λ bytes. capacity ≤ vec_capacity bytes) }
+    ensures memory { IfErr result (λ error. error ≡ FileError.Memory) }
+{
+    Ok(Vec::with_capacity(alloc, capacity as usize)?)
 }
 
 /// Locks a file, makes what it holds durable, and reads it once, from the device and not from the system's memory.
@@ -87,7 +110,7 @@ impl FileDisk {
         ensures calls { IfOk result (λ disk. file_calls disk ≡ []) }
         ensures down { IfOk result (λ disk. file_is_down disk ≡ false) }
     {
-        let bytes = Vec::with_capacity(rt.alloc(), capacity as usize)?;
+        let bytes = reserve(rt.alloc(), capacity)?;
         FileDisk::settle(OpenedFile::open(rt, path)?, bytes, capacity)
     }
 }

@@ -13,6 +13,7 @@ use crate::{Arm, Disk, DiskError};
 use rand_pcg::Pcg32;
 use rand_pcg::rand_core::SeedableRng;
 use std::alloc::{AllocError, Global};
+use std::fmt;
 
 /// A disk in memory. It serves a number of calls that read, write or sync, and then fails; it keeps what it held at first and
 /// each call that changed it, so that a crash may leave whatever the model allows. All its room is reserved when it is
@@ -37,6 +38,15 @@ pub struct MemDisk {
     ghost bytes_room: { room ≤ vec_capacity bytes },
     ghost calls_left: { vec_len calls + budget.calls ≤ allowed },
     ghost calls_room: { allowed ≤ vec_capacity calls },
+}
+
+/// Its length and its capacity, and no byte of it.
+impl fmt::Debug for MemDisk {
+    fn fmt<W: fmt::Write>(&self, f: &mut fmt::Formatter<W>) -> fmt::Result {
+        let length = self.bytes.len();
+        let capacity = self.room;
+        write!(f, "MemDisk {{ length: {length}, capacity: {capacity} }}")
+    }
 }
 
 /// Notes a call, in room that was reserved.

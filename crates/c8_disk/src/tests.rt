@@ -1,6 +1,8 @@
+pub(crate) mod calls;
 mod crash;
 
 use crate::{Arm, Disk, DiskError, FileError, MemDisk};
+use calls::{read, sync, write};
 use std::alloc::Global;
 use std::fmt::Display;
 use std::process::Abort;
@@ -9,14 +11,12 @@ use std::test::Fail;
 /// A disk that has `abcde` on it for good, and `XY` written over `bc` and `Z` behind the end.
 fn written(rt: &impl Abort, alloc: Global) -> Result<MemDisk, Fail> {
     let mut disk = MemDisk::new(alloc, 8, 10)?;
-    disk.write_at(0, b"abcde")?;
-    disk.sync()?;
-    let length = disk.len();
-    assert_eq!(rt; length, 5);
-    disk.write_at(1, b"XY")?;
-    let length = disk.len();
-    assert_eq!(rt; length, 5);
-    disk.write_at(5, b"Z")?;
+    write(rt, &mut disk, 0, b"abcde")?;
+    sync(&mut disk)?;
+    assert_eq!(rt; disk.len(), 5);
+    write(rt, &mut disk, 1, b"XY")?;
+    assert_eq!(rt; disk.len(), 5);
+    write(rt, &mut disk, 5, b"Z")?;
     Ok(disk)
 }
 
@@ -43,28 +43,27 @@ fn a_crash_leaves_what_was_synced_or_read_or_some_of_each(rt: HostRuntime) -> Re
 #[test]
 fn a_disk_stops(rt: HostRuntime) -> Result<(), Fail> {
     let mut disk = written(&rt, rt.alloc())?;
-    let length = disk.len();
-    assert_eq!(rt; length, 6);
-    assert_eq!(rt; disk.write_at(6, b"too"), Err(DiskError::Full));
+    assert_eq!(rt; disk.len(), 6);
+    assert_eq!(rt; write(&rt, &mut disk, 6, b"too"), Err(DiskError::Full));
     assert_eq!(rt; disk.capacity(), 8);
     disk.stop_after(1);
-    assert_eq!(rt; disk.sync(), Ok(()));
-    let length = disk.len();
-    assert_eq!(rt; length, 6);
-    let mut buffer = [0; 3];
-    assert_eq!(rt; disk.read_at(1, &mut buffer), Err(DiskError::Failed));
+    assert_eq!(rt; sync(&mut disk), Ok(()));
+    assert_eq!(rt; read(&rt, &mut disk, 1), Err(DiskError::Failed));
     disk.arm(Arm::Off);
-    let length = disk.len();
-    assert_eq!(rt; length, 6);
     // Of the ten calls five are served so far.
     for _ in 0..5 {
-        let length = disk.len();
-        assert_eq!(rt; length, 6);
-        disk.read_at(1, &mut buffer)?;
+        assert_eq!(rt; read(&rt, &mut disk, 1), Ok(*b"XYd"));
     }
-    assert_eq!(rt; buffer, *b"XYd");
-    assert_eq!(rt; disk.sync(), Err(DiskError::Failed));
+    assert_eq!(rt; sync(&mut disk), Err(DiskError::Failed));
     assert_eq!(rt; disk.crash(0).bytes(), b"aXYdeZ".as_slice());
+    Ok(())
+}
+
+#[test]
+fn a_disk_prints_its_length_and_capacity(rt: HostRuntime) -> Result<(), Fail> {
+    let disk = written(&rt, rt.alloc())?;
+    let shown = format!(in rt.alloc(); "{disk:?}")?;
+    assert_eq!(rt; shown.as_str(), "MemDisk { length: 6, capacity: 8 }");
     Ok(())
 }
 

@@ -9,6 +9,7 @@ use crate::append::{add, has_room};
 use crate::open::settle;
 use crate::slot::{BODY_LENGTH, Block, SLOT, Slot};
 use c8_disk::{Arm, Disk};
+use std::fmt;
 use std::marker::Model;
 
 /// A list of bodies of 143 bytes each on a disk. Each body for which `append` answered `Ok` is kept, whatever happens.
@@ -28,6 +29,15 @@ impl<D: Disk> Model for Log<D> {
 
     ghost invariant = { λ log.
         IsLog D.Disk (record { disk = log.disk; count = log.count; down = log.down }) };
+}
+
+/// How many bodies it counts, and whether it is down.
+impl<D: Disk> fmt::Debug for Log<D> {
+    fn fmt<W: fmt::Write>(&self, f: &mut fmt::Formatter<W>) -> fmt::Result {
+        let count = self.count;
+        let down = self.down;
+        write!(f, "Log {{ count: {count}, down: {down} }}")
+    }
 }
 
 impl<D: Disk> Log<D> {

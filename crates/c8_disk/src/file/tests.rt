@@ -1,5 +1,6 @@
 use crate::file::fake::{Content, FakeFile, FakeSystem, ROOM};
 use crate::file::{FileDisk, OpenedFile, SystemFile};
+use crate::tests::calls::{read, sync, write};
 use crate::{Arm, Disk, DiskError, FileError};
 use std::alloc::Global;
 use std::fs::{self, File, Permissions};
@@ -29,6 +30,9 @@ fn an_opening_makes_six_calls(rt: HostRuntime) -> Result<(), Fail> {
     assert_eq!(rt; system.calls.get(), 6);
     assert!(rt; !disk.is_down());
     assert_eq!(rt; disk.len(), 5);
+    let shown = format!(in rt.alloc(); "{disk:?}")?;
+    let text = "FileDisk { length: 5, capacity: 16, down: false }";
+    assert_eq!(rt; shown.as_str(), text);
     Ok(())
 }
 
@@ -66,12 +70,10 @@ fn what_an_opening_reads_is_durable(rt: HostRuntime) -> Result<(), Fail> {
         if let Some(calls) = failing {
             system.fail_after(calls);
         }
-        let length = disk.len();
-        assert_eq!(rt; length, 5);
-        let written = disk.write_at(1, b"XY");
+        let written = write(&rt, &mut disk, 1, b"XY");
         if failing == Some(1) {
             assert_eq!(rt; written, Ok(()));
-            assert_eq!(rt; disk.sync(), Err(DiskError::Failed));
+            assert_eq!(rt; sync(&mut disk), Err(DiskError::Failed));
         }
         drop(disk);
         assert_eq!(rt;
@@ -93,10 +95,9 @@ fn what_an_opening_reads_is_durable(rt: HostRuntime) -> Result<(), Fail> {
 fn what_was_synced_is_durable_and_so_is_the_name(rt: HostRuntime) -> Result<(), Fail> {
     let system = FakeSystem::new();
     let mut disk = open(&system, rt.alloc())?;
-    let length = disk.len();
-    assert_eq!(rt; length, 0);
-    disk.write_at(0, b"abcde")?;
-    disk.sync()?;
+    assert_eq!(rt; disk.len(), 0);
+    write(&rt, &mut disk, 0, b"abcde")?;
+    sync(&mut disk)?;
     system.lose_power();
     drop(disk);
     assert_eq!(rt;
@@ -108,13 +109,13 @@ fn what_was_synced_is_durable_and_so_is_the_name(rt: HostRuntime) -> Result<(), 
 
 /// Makes the call with this number: a read, a write or a sync.
 fn call(rt: &impl Abort, disk: &mut FileDisk<FakeFile<'_>>, number: u32) -> Result<(), DiskError> {
-    let length = disk.len();
-    assert_eq!(rt; length, 5);
-    let mut buffer = [0; 2];
     match number {
-        0 => disk.read_at(1, &mut buffer),
-        1 => disk.write_at(1, b"XY"),
-        _ => disk.sync(),
+        0 => {
+            read(rt, disk, 1)?;
+            Ok(())
+        }
+        1 => write(rt, disk, 1, b"XY"),
+        _ => sync(disk),
     }
 }
 
@@ -150,15 +151,9 @@ fn short_reads_and_writes_go_on(rt: HostRuntime) -> Result<(), Fail> {
     let system = FakeSystem::new();
     system.is_short.set(true);
     let mut disk = open(&system, rt.alloc())?;
-    let length = disk.len();
-    assert_eq!(rt; length, 0);
-    disk.write_at(0, b"abcde")?;
-    disk.sync()?;
-    let length = disk.len();
-    assert_eq!(rt; length, 5);
-    let mut buffer = [0; 3];
-    disk.read_at(1, &mut buffer)?;
-    assert_eq!(rt; buffer, *b"bcd");
+    write(&rt, &mut disk, 0, b"abcde")?;
+    sync(&mut disk)?;
+    assert_eq!(rt; read(&rt, &mut disk, 1), Ok(*b"bcd"));
     drop(disk);
     assert_eq!(rt;
         reads(&rt, &system, rt.alloc())?.bytes(),
@@ -174,10 +169,7 @@ fn other_bytes_than_are_known_are_a_failure(rt: HostRuntime) -> Result<(), Fail>
         let mut disk = open(&system, rt.alloc())?;
         system.copy.set(Content::of(text));
         assert_eq!(rt; call(&rt, &mut disk, 2), Ok(()));
-        let length = disk.len();
-        assert_eq!(rt; length, 5);
-        let mut buffer = [0; 1];
-        assert_eq!(rt; disk.read_at(2, &mut buffer), Err(DiskError::Failed));
+        assert_eq!(rt; read(&rt, &mut disk, 2), Err(DiskError::Failed));
         assert!(rt; disk.is_down());
     }
     Ok(())
@@ -187,9 +179,8 @@ fn other_bytes_than_are_known_are_a_failure(rt: HostRuntime) -> Result<(), Fail>
 fn a_full_file_is_no_failure(rt: HostRuntime) -> Result<(), Fail> {
     let system = FakeSystem::holding(b"0123456789abcdef");
     let mut disk = open(&system, rt.alloc())?;
-    let length = disk.len();
-    assert_eq!(rt; length, 16);
-    assert_eq!(rt; disk.write_at(16, b"g"), Err(DiskError::Full));
+    assert_eq!(rt; disk.len(), 16);
+    assert_eq!(rt; write(&rt, &mut disk, 16, b"g"), Err(DiskError::Full));
     assert!(rt; !disk.is_down());
     assert_eq!(rt; disk.capacity(), 16);
     drop(disk);
@@ -199,37 +190,41 @@ fn a_full_file_is_no_failure(rt: HostRuntime) -> Result<(), Fail> {
     Ok(())
 }
 
+/// Why a file is refused as a disk.
+fn refusal(rt: &HostRuntime, path: &str, capacity: u32) -> Option<FileError> {
+    FileDisk::open(rt, path, capacity).err()
+}
+
 #[test]
 fn a_file_keeps_what_was_written(rt: HostRuntime) -> Result<(), Fail> {
     const PATH: &str = "c8_disk_test.bytes";
     let _ = fs::remove_file(&rt, PATH);
     let mut disk = FileDisk::open(&rt, PATH, 8)?;
-    let length = disk.len();
-    assert_eq!(rt; length, 0);
-    disk.write_at(0, b"abcde")?;
-    disk.sync()?;
+    write(&rt, &mut disk, 0, b"abcde")?;
+    sync(&mut disk)?;
     assert_eq!(rt; disk.capacity(), 8);
 
     // The file is this disk's alone.
-    assert!(rt; matches!(FileDisk::open(&rt, PATH, 8), Err(FileError::Failed)));
+    assert_eq!(rt; refusal(&rt, PATH, 8), Some(FileError::Failed));
     drop(disk);
     let mut disk = FileDisk::open(&rt, PATH, 8)?;
     disk.arm(Arm::Stop(0));
-    let length = disk.len();
-    assert_eq!(rt; length, 5);
-    let mut buffer = [0; 3];
-    disk.read_at(1, &mut buffer)?;
-    assert_eq!(rt; buffer, *b"bcd");
+    assert_eq!(rt; read(&rt, &mut disk, 1), Ok(*b"bcd"));
+    fs::remove_file(&rt, PATH)?;
+    Ok(())
+}
 
-    // Other bytes than were written: another hand is on the file.
+/// Other bytes than were written: another hand is on the file.
+#[test]
+fn another_hand_on_the_file_is_a_failure(rt: HostRuntime) -> Result<(), Fail> {
+    const PATH: &str = "c8_disk_test_other.bytes";
+    fs::write(&rt, PATH, b"abcde".as_slice())?;
+    let mut disk = FileDisk::open(&rt, PATH, 8)?;
     fs::write(&rt, PATH, b"aBcde".as_slice())?;
-    let length = disk.len();
-    assert_eq!(rt; length, 5);
-    assert_eq!(rt; disk.read_at(1, &mut buffer), Err(DiskError::Failed));
-    assert_eq!(rt; disk.sync(), Err(DiskError::Failed));
+    assert_eq!(rt; read(&rt, &mut disk, 1), Err(DiskError::Failed));
+    assert_eq!(rt; sync(&mut disk), Err(DiskError::Failed));
     drop(disk);
-
-    assert!(rt; matches!(FileDisk::open(&rt, PATH, 4), Err(FileError::Full)));
+    assert_eq!(rt; refusal(&rt, PATH, 4), Some(FileError::Full));
     assert_eq!(rt; fs::read(&rt, PATH)?.as_slice(), b"aBcde".as_slice());
     fs::remove_file(&rt, PATH)?;
     Ok(())
@@ -244,22 +239,31 @@ fn a_path_may_have_a_folder_and_a_link(rt: HostRuntime) -> Result<(), Fail> {
     let _ = fs::remove_file(&rt, LINK);
     fs::create_dir(&rt, FOLDER)?;
     symlink(&rt, PATH, LINK)?;
-    let opened = OpenedFile::open(&rt, LINK)?;
-    assert_eq!(rt;
-        opened.folder.metadata()?.ino(),
-        fs::metadata(&rt, FOLDER)?.ino()
-    );
-    drop(opened);
     let mut disk = FileDisk::open(&rt, LINK, 8)?;
-    let length = disk.len();
-    assert_eq!(rt; length, 0);
-    disk.write_at(0, b"abc")?;
-    assert!(rt; matches!(FileDisk::open(&rt, PATH, 8), Err(FileError::Failed)));
+    write(&rt, &mut disk, 0, b"abc")?;
+    assert_eq!(rt; refusal(&rt, PATH, 8), Some(FileError::Failed));
     drop(disk);
     assert_eq!(rt; fs::read(&rt, PATH)?.as_slice(), b"abc".as_slice());
-    assert!(rt; matches!(FileDisk::open(&rt, FOLDER, 8), Err(FileError::Failed)));
+    assert_eq!(rt; refusal(&rt, FOLDER, 8), Some(FileError::Failed));
     fs::remove_dir_all(&rt, FOLDER)?;
-    assert!(rt; matches!(FileDisk::open(&rt, PATH, 8), Err(FileError::Failed)));
+    assert_eq!(rt; refusal(&rt, PATH, 8), Some(FileError::Failed));
+    fs::remove_file(&rt, LINK)?;
+    Ok(())
+}
+
+/// The folder that is synced is the one that has the file's own name, and not a link's.
+#[test]
+fn a_link_is_followed_to_its_folder(rt: HostRuntime) -> Result<(), Fail> {
+    const FOLDER: &str = "c8_disk_test_target";
+    const LINK: &str = "c8_disk_test_link_to_it";
+    let _ = fs::remove_dir_all(&rt, FOLDER);
+    let _ = fs::remove_file(&rt, LINK);
+    fs::create_dir(&rt, FOLDER)?;
+    symlink(&rt, "c8_disk_test_target/file", LINK)?;
+    let opened = OpenedFile::open(&rt, LINK)?;
+    let number = opened.folder.metadata()?.ino();
+    assert_eq!(rt; number, fs::metadata(&rt, FOLDER)?.ino());
+    fs::remove_dir_all(&rt, FOLDER)?;
     fs::remove_file(&rt, LINK)?;
     Ok(())
 }
@@ -268,12 +272,7 @@ fn a_path_may_have_a_folder_and_a_link(rt: HostRuntime) -> Result<(), Fail> {
 fn a_file_that_is_not_to_be_written_is_refused(rt: HostRuntime) -> Result<(), Fail> {
     const PATH: &str = "c8_disk_test_readonly.bytes";
     // A program that runs may be written by nobody, root or not.
-    assert!(rt;
-        matches!(
-            FileDisk::open(&rt, "/proc/self/exe", 8),
-            Err(FileError::Failed)
-        )
-    );
+    assert_eq!(rt; refusal(&rt, "/proc/self/exe", 8), Some(FileError::Failed));
     let _ = fs::remove_file(&rt, PATH);
     fs::write(&rt, PATH, b"abc".as_slice())?;
     fs::set_permissions(&rt, PATH, Permissions::from_mode(0o444))?;
@@ -283,6 +282,25 @@ fn a_file_that_is_not_to_be_written_is_refused(rt: HostRuntime) -> Result<(), Fa
     drop(opened);
     assert_eq!(rt; fs::read(&rt, PATH)?.as_slice(), b"abc".as_slice());
     fs::remove_file(&rt, PATH)?;
+    Ok(())
+}
+
+/// What has no bytes to drop says so: the call is made, and what the system says of it is told.
+#[test]
+fn the_system_is_asked_to_drop_its_copies(rt: HostRuntime) -> Result<(), Fail> {
+    const PATH: &str = "c8_disk_test_copies.bytes";
+    fs::write(&rt, PATH, b"abc".as_slice())?;
+    assert!(rt; OpenedFile::open(&rt, PATH)?.drop_copies().is_ok());
+    fs::remove_file(&rt, PATH)?;
+    let mut ends = [0; 2];
+    let made = unsafe { libc::pipe2(&mut ends, libc::O_CLOEXEC) };
+    assert_eq!(rt; made, 0);
+    let path = format!(in rt.alloc(); "/proc/self/fd/{}", ends[0])?;
+    let pipe = OpenedFile {
+        file: File::open(&rt, path.as_str())?,
+        folder: File::open(&rt, "/")?,
+    };
+    assert!(rt; pipe.drop_copies().is_err());
     Ok(())
 }
 
@@ -300,6 +318,6 @@ fn the_system_is_asked_to_sync(rt: HostRuntime) -> Result<(), Fail> {
     assert!(rt; null.sync_data().is_err());
     assert!(rt; null.sync_folder().is_err());
     assert!(rt; null.len().is_err());
-    assert!(rt; matches!(FileDisk::open(&rt, "/dev/null", 8), Err(FileError::Failed)));
+    assert_eq!(rt; refusal(&rt, "/dev/null", 8), Some(FileError::Failed));
     Ok(())
 }

@@ -1,5 +1,6 @@
 //! Which bytes a crash leaves that is chosen by a pick.
-use crate::{Disk, LONGEST_WRITE, MemDisk};
+use crate::MemDisk;
+use crate::tests::calls::{sync, write};
 use rand_pcg::Pcg32;
 use rand_pcg::rand_core::{Rng, SeedableRng};
 use std::alloc::Global;
@@ -14,12 +15,10 @@ const WRITES: [(u32, &[u8]); 2] = [(1, b"abcdef"), (8, b"UVWXYZ")];
 /// What the disk holds for good, and the two writes, not synced. What is left of it by a crash with this pick.
 fn left(rt: &impl Abort, alloc: Global, pick: u64) -> Result<MemDisk, Fail> {
     let mut disk = MemDisk::new(alloc, 16, 8)?;
-    disk.write_at(0, OLD)?;
-    disk.sync()?;
+    write(rt, &mut disk, 0, OLD)?;
+    sync(&mut disk)?;
     for (at, bytes) in WRITES {
-        let length = disk.len();
-        assert!(rt; at <= length && bytes.len() <= LONGEST_WRITE);
-        disk.write_at(at, bytes)?;
+        write(rt, &mut disk, at, bytes)?;
     }
     Ok(disk.crash(pick))
 }
