@@ -1,6 +1,6 @@
 -- One call of a list.
 use Rattle.std.proofs.Common.{◌≡◌, inl, inr, if◌then◌else◌, length-take-le, take-append-drop, ◌≤◌, ◌<◌, ℕ, suc, ◌+◌, nat_le, nat_lt, ◌&&◌, true, List, [], ◌∷◌, ◌++◌, length, take, drop, get_or, refl, sym, ◌∙◌, ap, subst, arith}
-use Rattle.std.proofs.lemmas.Bool.{cases_Bool, and_parts, and_from, leb-true, le-leb, cond-true, cond-false, ltb-false, lt-ltb}
+use Rattle.std.proofs.lemmas.Bool.{cases_Bool, and_parts, and_from, leb-true, le-leb, cond-true, cond-false, lt-ltb}
 use Rattle.std.proofs.lemmas.List.{drop_more, take_more}
 use Rattle.c8_disk.specs.Disk.{overwritten}
 use Rattle.c8_disk.specs.Past.{content, Leaves, IsImage, synced_count, synced, are_lawful, fit, TornBy}

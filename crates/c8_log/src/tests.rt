@@ -221,6 +221,8 @@ fn a_log_is_empty_and_up_until_it_is_neither(rt: HostRuntime) -> Result<(), Fail
     assert!(rt; !log.is_empty() && !log.is_down());
     assert_eq!(rt; log.append(&body_of(2)), Err(LogError::Full));
     assert!(rt; !log.is_empty() && log.is_down());
+    let shown = format!(in rt.alloc(); "{log:?}")?;
+    assert_eq!(rt; shown.as_str(), "Log { count: 1, down: true }");
     Ok(())
 }
 

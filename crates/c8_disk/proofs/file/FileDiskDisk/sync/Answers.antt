@@ -1,0 +1,5 @@
+use Rattle.std.proofs.Common.{rules}
+use Rattle.c8_disk.proofs.file.FileDiskDisk.sync.Goals as goal
+
+pub returns-then-self-clause-unnoted : goal.returns-then-self-clause-unnoted
+returns-then-self-clause-unnoted g c = search rules
