@@ -1,0 +1,7 @@
+use Rattle.std.proofs.Common.{rules}
+use Rattle.c8_wire.specs.Refusal.{applies}
+use Rattle.c8_wire.proofs.reading.body_refusal.Goals as goal
+
+pub returns-then-fills_reserved : goal.returns-then-fills_reserved
+unfolding applies
+returns-then-fills_reserved c = search rules
