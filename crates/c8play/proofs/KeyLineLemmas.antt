@@ -12,7 +12,7 @@ use Rattle.c8_game.specs.FaultLaws.{first_found}
 use Rattle.c8_game.specs.Rules.{Rules}
 use Rattle.c8_game.specs.declared.row.Keys.{Keys}
 use Rattle.c8_game.specs.declared.row.Row.{Row}
-use Rattle.c8play.specs.KeyLines.{is_key_line, is_set_at, key_line_fault, IsFaultOf}
+use Rattle.c8play.specs.KeyLines.{is_key_line, are_keys_at, key_line_fault, IsFaultOf}
 use Rattle.c8play.specs.declared.error.KeysError.TheVariants.{Line, Long}
 
 and-false : (b : Bool) → (b && false) ≡ false
@@ -27,19 +27,19 @@ spoiled p a (suc n) k least within off = elim (cases_lt a k) [
   | inr here ↦ let same : k ≡ a = omega arith in ap (λ b. b && list_all p (range_with_len (a + 1) n)) (ap p (sym same) ∙ off)
 ]
 
-pub no_key_line : (players : ℕ) (line : List ℕ) (place : ℕ) → place < players → is_set_at line place ≡ false → is_key_line players line ≡ false
+pub no_key_line : (players : ℕ) (line : List ℕ) (place : ℕ) → place < players → are_keys_at line place ≡ false → is_key_line players line ≡ false
 no_key_line players line place within off =
-    ap (λ b. nat_eq (length line + 1) (5 * players) && b) (spoiled (is_set_at line) 0 players place (omega arith) (omega arith) off) ∙ and-false _
+    ap (λ b. nat_eq (length line + 1) (5 * players) && b) (spoiled (are_keys_at line) 0 players place (omega arith) (omega arith) off) ∙ and-false _
 
 range_more : (a n k : ℕ) → a + n ≡ k → range_with_len a (suc n) ≡ range_with_len a n ++ k ∷ []
 range_more a zero k same = let here : a ≡ k = omega arith in ap (λ i. i ∷ []) here
 range_more a (suc n) k same = ap (λ more. a ∷ more) (range_more (a + 1) n k (omega arith))
 
-pub one_more_set : (line : List ℕ) (n : ℕ) → list_all (is_set_at line) (range_with_len 0 n) ≡ true → is_set_at line n ≡ true → list_all (is_set_at line) (range_with_len 0 (n + 1)) ≡ true
+pub one_more_set : (line : List ℕ) (n : ℕ) → list_all (are_keys_at line) (range_with_len 0 n) ≡ true → are_keys_at line n ≡ true → list_all (are_keys_at line) (range_with_len 0 (n + 1)) ≡ true
 one_more_set line n all here =
     let next : n + 1 ≡ suc n = omega arith in
-    ap (λ m. list_all (is_set_at line) (range_with_len 0 m)) next ∙ ap (list_all (is_set_at line)) (range_more 0 n n (omega arith))
-    ∙ list_all-append (is_set_at line) (range_with_len 0 n) (n ∷ []) ∙ ap (λ b. b && (is_set_at line n && true)) all ∙ ap (λ b. b && true) here
+    ap (λ m. list_all (are_keys_at line) (range_with_len 0 m)) next ∙ ap (list_all (are_keys_at line)) (range_more 0 n n (omega arith))
+    ∙ list_all-append (are_keys_at line) (range_with_len 0 n) (n ∷ []) ∙ ap (λ b. b && (are_keys_at line n && true)) all ∙ ap (λ b. b && true) here
 
 -- the set of the next place goes where none stood
 pub next_set : (f : ℕ → Keys) (none : Keys) (n : ℕ) → n < 4 → slice_set (map f (range_with_len 0 n) ++ replicate (4 - n) none) n (f n) ≡ map f (range_with_len 0 (n + 1)) ++ replicate (4 - (n + 1)) none

@@ -17,22 +17,26 @@ use Rattle.c8play.specs.declared.keys.Played.{Played}
 abbrev pub digits_at : List ℕ → ℕ → List ℕ
 digits_at line place = take 4 (drop (5 * place) line)
 
--- whether a player's four bytes are digits, with a space before them if another player's stand there
-abbrev pub is_set_at : List ℕ → ℕ → Bool
-is_set_at line place = (place == 0 || slice_index line (5 * place - 1) == 32) && is_keys_text (digits_at line place)
+-- whether a player's four bytes are digits, with a space before them unless they are player 1's
+abbrev pub are_keys_at : List ℕ → ℕ → Bool
+are_keys_at line place =
+    (place == 0 || slice_index line (5 * place - 1) == 32) && is_keys_text (digits_at line place)
 
 abbrev pub is_key_line : ℕ → List ℕ → Bool
-is_key_line players line = length line + 1 == 5 * players && list_all (is_set_at line) (range_with_len 0 players)
+is_key_line players line =
+    length line + 1 == 5 * players && list_all (are_keys_at line) (range_with_len 0 players)
 
 -- the set that a player's digits spell
-abbrev pub set_at : List ℕ → ℕ → Keys
-set_at line place = record { 0 = keys_number (digits_at line place) }
+abbrev pub keys_at : List ℕ → ℕ → Keys
+keys_at line place = record { 0 = keys_number (digits_at line place) }
 
 -- the row of a line: nobody holds a key down at the places behind the players'
 abbrev pub row_of : ℕ → List ℕ → Row
-row_of players line = record { sets = map (set_at line) (range_with_len 0 players) ++ replicate (4 - players) (record { 0 = 0 }) }
+row_of players line = record {
+  sets = map (keys_at line) (range_with_len 0 players) ++ replicate (4 - players) (record { 0 = 0 });
+}
 
--- the fault of a line that follows these: a line after the last frame's, else a line that is no key line
+-- the fault of a line after these: one after the last frame's, else one that is no key line
 abbrev pub key_line_fault : Rules → List (List ℕ) → List ℕ → Option KeysError
 key_line_fault rules before line =
     if nat_le rules.frames (length before) then Some Long
@@ -43,7 +47,7 @@ key_line_fault rules before line =
 abbrev pub IsFaultOf : Rules → List ℕ → KeysError → Type 0
 IsFaultOf rules text fault = IsFirstFault (key_line_fault rules) (lines text) fault
 
--- no line of the text has a fault, and the machine is that of the serial run on its rows, one a frame
+-- no line of the text has a fault; the machine is that of the serial run on its rows, one a frame
 pub record IsRunOf (rules : Rules) (text : List ℕ) (played : Played) : Type 0 where
   pub faultless : AreFaultless (key_line_fault rules) (lines text)
   pub frames : played.frames ≡ length (lines text)

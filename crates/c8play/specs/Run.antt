@@ -3,11 +3,27 @@ use Rattle.std.specs.Prelude.{◌≡◌, ◌⊎◌, ℕ, List, Result, Ok, Err}
 use Rattle.c8_game.specs.GameFaults.{IsRefused}
 use Rattle.c8_game.specs.GameText.{Spells}
 use Rattle.c8_game.specs.Rules.{Rules}
+use Rattle.c8_game.specs.declared.error.GameError.{GameError}
 use Rattle.c8_game.specs.declared.error.GameError.TheVariants as games
 use Rattle.c8play.specs.KeyLines.{IsRunOf, IsFaultOf}
 use Rattle.c8play.specs.declared.keys.Played.{Played}
 use Rattle.c8play.specs.declared.refusal.Refusal.{Refusal}
 use Rattle.c8play.specs.declared.refusal.Refusal.TheVariants.{Game, Keys, Hex, Wire, Disk, Start}
+
+-- what is played of a game by the rows of a text, or the text's first fault: no other refusal
+abbrev pub IsPlayOf : Rules → List ℕ → Result Played Refusal → Type 0
+IsPlayOf rules keys (Ok played) = IsRunOf rules keys played
+IsPlayOf rules keys (Err (Keys error)) = IsFaultOf rules keys error
+IsPlayOf rules keys (Err (Game error)) = ⊥
+IsPlayOf rules keys (Err (Hex error)) = ⊥
+IsPlayOf rules keys (Err (Wire error)) = ⊥
+IsPlayOf rules keys (Err Disk) = ⊥
+IsPlayOf rules keys (Err Start) = ⊥
+
+-- the same of a game that was read, or why there is none
+abbrev pub IsPlayOfRead : Result Rules GameError → List ℕ → Result Played Refusal → Type 0
+IsPlayOfRead (Ok rules) keys outcome = IsPlayOf rules keys outcome
+IsPlayOfRead (Err error) keys outcome = outcome ≡ Err (Game error)
 
 -- the first text spells a game, and this was played of it by the rows of the second
 abbrev pub IsPlayedFrom : List ℕ → List ℕ → Played → Type 0
@@ -16,7 +32,8 @@ IsPlayedFrom game keys played = (rules : Rules) × Spells game rules × IsRunOf 
 -- the first text has this first fault, or it spells a game and the second has it; or memory ran out
 abbrev pub IsRefusalOfRun : List ℕ → List ℕ → Refusal → Type 0
 IsRefusalOfRun game keys (Game error) = (error ≡ games.Memory) ⊎ IsRefused game error
-IsRefusalOfRun game keys (Keys error) = (rules : Rules) × Spells game rules × IsFaultOf rules keys error
+IsRefusalOfRun game keys (Keys error) =
+    (rules : Rules) × Spells game rules × IsFaultOf rules keys error
 IsRefusalOfRun game keys (Hex error) = ⊥
 IsRefusalOfRun game keys (Wire error) = ⊥
 IsRefusalOfRun game keys Disk = ⊥

@@ -14,15 +14,26 @@ abbrev pub IsRefusalOfWord : List ℕ → HexError → Type 0
 IsRefusalOfWord word Bad = IsErr (decode_of word)
 IsRefusalOfWord word Memory = Unit {0}
 
+-- the bytes spell no datagram, for this reason
+abbrev pub IsRefusalOfBytes : List ℕ → Refusal → Type 0
+IsRefusalOfBytes bytes (refusals.Wire error) = refusal bytes ≡ Some error
+IsRefusalOfBytes bytes (refusals.Hex error) = ⊥
+IsRefusalOfBytes bytes (refusals.Game error) = ⊥
+IsRefusalOfBytes bytes (refusals.Keys error) = ⊥
+IsRefusalOfBytes bytes refusals.Disk = ⊥
+IsRefusalOfBytes bytes refusals.Start = ⊥
+
 -- what the bytes of the word say, or why they are refused
 abbrev pub IsRefusalOfShow : List ℕ → Refusal → Type 0
 IsRefusalOfShow word (refusals.Hex error) = IsRefusalOfWord word error
-IsRefusalOfShow word (refusals.Wire error) = (bytes : List ℕ) × (decode_of word ≡ Ok bytes) × (refusal bytes ≡ Some error)
+IsRefusalOfShow word (refusals.Wire error) =
+    (bytes : List ℕ) × (decode_of word ≡ Ok bytes) × IsRefusalOfBytes bytes (refusals.Wire error)
 IsRefusalOfShow word (refusals.Game error) = ⊥
 IsRefusalOfShow word (refusals.Keys error) = ⊥
 IsRefusalOfShow word refusals.Disk = ⊥
 IsRefusalOfShow word refusals.Start = ⊥
 
 abbrev pub IsOutcomeOfShow : List ℕ → Result Packet Refusal → Type 0
-IsOutcomeOfShow word (Ok packet) = (bytes : List ℕ) × (decode_of word ≡ Ok bytes) × Spells bytes packet
+IsOutcomeOfShow word (Ok packet) =
+    (bytes : List ℕ) × (decode_of word ≡ Ok bytes) × Spells bytes packet
 IsOutcomeOfShow word (Err error) = IsRefusalOfShow word error

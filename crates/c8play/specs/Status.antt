@@ -6,11 +6,11 @@ use Rattle.c8play.specs.declared.status.Status.{Status}
 use Rattle.c8play.specs.declared.status.Status.TheVariants.{Done, Refused, CommandLine, Failed}
 
 -- the exit status
-abbrev pub code_of : Status → ℕ
-code_of Done = 0
-code_of Refused = 1
-code_of CommandLine = 2
-code_of Failed = 3
+abbrev pub exit_code_of : Status → ℕ
+exit_code_of Done = 0
+exit_code_of Refused = 1
+exit_code_of CommandLine = 2
+exit_code_of Failed = 3
 
 -- a disk fails, all else that is refused is input
 abbrev pub status_of : Refusal → Status

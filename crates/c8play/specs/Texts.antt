@@ -7,7 +7,8 @@ use Rattle.c8play.specs.declared.error.TextError.TheVariants.{Failed, Memory}
 use Rattle.c8play.specs.declared.refusal.Refusal.{Refusal}
 use Rattle.c8play.specs.declared.refusal.Refusal.TheVariants.{Game, Keys, Disk}
 
--- by the errors of the game's text and of the keys': a file that cannot be read comes before want of memory
+-- by the errors of the two texts: a file that cannot be read comes before want of memory, and the
+-- game before the keys
 abbrev pub refusal_of_texts : Option TextError → Option TextError → Option Refusal
 refusal_of_texts None None = None
 refusal_of_texts None (Some Failed) = Some Disk

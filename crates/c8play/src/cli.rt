@@ -61,8 +61,8 @@ const SHOW_ENDING: &str = "Refusals, each one line on standard error, as 'refuse
 
 Exit status: 0 done, 1 refused, 2 a mistake in the command line, 3 disk 1 Failed";
 
-/// Does what the program's arguments ask for, and answers how it ended. What is printed goes to `out`,
-/// why something is refused to `refused`.
+/// Does what the program's arguments ask for, and answers how it ended. What is printed goes to
+/// `out`, why something is refused to `refused`.
 pub fn answer<R: Files + AllocGlobal, W: Write, E: Write>(
     rt: &R,
     args: io::Result<Args>,
@@ -129,7 +129,8 @@ fn obey<R: Files + AllocGlobal, W: Write, E: Write>(
     }
 }
 
-/// Writes what the command line's reader says: help or the version to `out`, a mistake to `refused`.
+/// Writes what the command line's reader says: help or the version to `out`, a mistake to
+/// `refused`.
 fn tell<W: Write, E: Write>(error: &clap::Error, out: &mut W, refused: &mut E) -> io::Result<Status>
     ensures shown { (kind_of error.now ≡ ErrorKind.DisplayHelp)
         ⊎ (kind_of error.now ≡ ErrorKind.DisplayVersion)

@@ -1,7 +1,7 @@
 //! Why the program refuses what it reads itself: a file, key lines, a hexadecimal word.
 
 ghost use Rattle.std.specs.Prelude.{◌≡◌};
-ghost use Rattle.c8play.specs.Errors.{keys_number_of, hex_number_of};
+ghost use Rattle.c8play.specs.Errors.{keys_error_number, hex_error_number};
 
 use thiserror::Error;
 
@@ -19,7 +19,7 @@ pub enum KeysError {
 impl KeysError {
     /// The number of the refusal.
     pub fn number(self) -> u8
-        ensures { result ≡ keys_number_of self }
+        ensures { result ≡ keys_error_number self }
     {
         match self {
             KeysError::Line => 1,
@@ -50,7 +50,7 @@ pub enum HexError {
 impl HexError {
     /// The number of the refusal.
     pub fn number(self) -> u8
-        ensures { result ≡ hex_number_of self }
+        ensures { result ≡ hex_error_number self }
     {
         match self {
             HexError::Bad => 1,

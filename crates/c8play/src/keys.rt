@@ -1,7 +1,7 @@
 //! Key lines: what the players hold down, one line a frame.
 
 ghost use Rattle.std.specs.Prelude.{◌≡◌, ◌≤◌, ◌+◌, ◌*◌, true, false, Some, MatchOption, MatchResult, length};
-ghost use Rattle.c8play.specs.KeyLines.{is_key_line, is_set_at, set_at, row_of, IsFaultOf, IsRunOf};
+ghost use Rattle.c8play.specs.KeyLines.{is_key_line, are_keys_at, keys_at, row_of, IsFaultOf, IsRunOf};
 
 use crate::error::KeysError;
 use c8_game::{Game, Keys, Lines, Row};
@@ -49,17 +49,17 @@ fn row_in(line: &[u8], players: u8) -> Option<Row>
     }
     let mut sets = [Keys(0); 4];
     for place in 0..usize::from(players) {
-        sets[place] = set_at(line, place)?;
+        sets[place] = keys_at(line, place)?;
     }
     Some(Row { sets })
 }
 
 /// The key set of the player at a place of a line, 0 for player 1.
-fn set_at(line: &[u8], place: usize) -> Option<Keys>
+fn keys_at(line: &[u8], place: usize) -> Option<Keys>
     requires { 5 * place + 4 ≤ length line.now }
     ensures { MatchOption result
-        (is_set_at line.now place ≡ false)
-        (λ keys. (is_set_at line.now place ≡ true) × (keys ≡ set_at line.now place)) }
+        (are_keys_at line.now place ≡ false)
+        (λ keys. (are_keys_at line.now place ≡ true) × (keys ≡ keys_at line.now place)) }
 {
     let start = 5 * place;
     if place > 0 && line[start - 1] != b' ' {

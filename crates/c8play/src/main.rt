@@ -1,7 +1,7 @@
 //! c8play: CHIP-8 programs, played by two to four people who agree on every frame.
 //!
-//! `cli` says what the command line is; each command is a function over texts already read, in a file
-//! of its own, with a writer for what it prints and one for why it refuses.
+//! `cli` says what the command line is; each command is a function over texts already read, in a
+//! file of its own, with a writer for what it prints and one for why it refuses.
 #![tactic(auto)]
 
 mod cli;

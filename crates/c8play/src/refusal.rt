@@ -1,6 +1,7 @@
 //! Why a command refuses what it was given.
 
 ghost use Rattle.std.specs.Prelude.{◌≡◌, IfOk};
+ghost use Rattle.c8play.specs.Errors.{refusal_number};
 ghost use Rattle.c8play.specs.Status.{status_of};
 
 use crate::error::{HexError, KeysError};
@@ -54,19 +55,37 @@ impl Refusal {
         }
     }
 
+    /// The number of the refusal within its part.
+    fn number(self) -> u8
+        ensures { result ≡ refusal_number self }
+    {
+        match self {
+            Refusal::Game(error) => error.number(),
+            Refusal::Keys(error) => error.number(),
+            Refusal::Hex(error) => error.number(),
+            Refusal::Wire(error) => error.number(),
+            Refusal::Disk => 1,
+            Refusal::Start => 5,
+        }
+    }
+
+    /// The name of the refusal within its part.
+    fn name(self) -> &'static str {
+        match self {
+            Refusal::Game(error) => error.name(),
+            Refusal::Keys(error) => error.name(),
+            Refusal::Hex(error) => error.name(),
+            Refusal::Wire(error) => error.name(),
+            Refusal::Disk => "Failed",
+            Refusal::Start => "Memory",
+        }
+    }
+
     /// Writes the one line that a refusal is, as `refused: hex 1 Bad`, and answers the status.
     pub fn tell<W: Write>(self, out: &mut W) -> io::Result<Status>
         ensures { IfOk result (λ status. status ≡ status_of self) }
     {
-        let part = self.part();
-        let (number, name) = match self {
-            Refusal::Game(error) => (error.number(), error.name()),
-            Refusal::Keys(error) => (error.number(), error.name()),
-            Refusal::Hex(error) => (error.number(), error.name()),
-            Refusal::Wire(error) => (error.number(), error.name()),
-            Refusal::Disk => (1, "Failed"),
-            Refusal::Start => (5, "Memory"),
-        };
+        let (part, number, name) = (self.part(), self.number(), self.name());
         writeln!(out, "refused: {part} {number} {name}")?;
         Ok(self.status())
     }

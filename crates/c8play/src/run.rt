@@ -1,7 +1,7 @@
 //! `c8play run`: a game is played alone, from a file of keys.
 
 ghost use Rattle.std.specs.Prelude.{◌≡◌, IfOk, Result};
-ghost use Rattle.c8play.specs.Run.{IsOutcomeOfRun};
+ghost use Rattle.c8play.specs.Run.{IsPlayOfRead, IsOutcomeOfRun};
 ghost use Rattle.c8play.specs.Status.{status_of_outcome};
 ghost use Rattle.c8play.specs.declared.refusal.Refusal.{Refusal};
 ghost use Rattle.c8play.specs.declared.keys.Played.{Played};
@@ -10,14 +10,14 @@ use crate::keys::{Played, play};
 use crate::refusal::Refusal;
 use crate::report::write_report;
 use crate::status::Status;
-use c8_game::Game;
+use c8_game::{Game, GameError};
 use std::alloc::Global;
 use std::io;
 use std::io::Write;
 
-/// Plays the game that `game` spells by the key lines of `keys`, and writes the report of its machine
-/// to `out`; or writes the line of a refusal to `refused`, and nothing to `out`. The error is that of
-/// a writer.
+/// Plays the game that `game` spells by the key lines of `keys`, and writes the report of its
+/// machine to `out`; or writes the line of a refusal to `refused`, and nothing to `out`. The error is
+/// that of a writer.
 pub fn run<W: Write, E: Write>(
     alloc: Global,
     game: &[u8],
@@ -28,16 +28,15 @@ pub fn run<W: Write, E: Write>(
     ensures { IfOk result (λ status. (outcome : Result Played Refusal)
         × IsOutcomeOfRun game.now keys.now outcome × (status ≡ status_of_outcome outcome)) }
 {
-    tell(played_from(alloc, game, keys), out, refused)
+    tell(played_from(Game::read(alloc, game), keys), out, refused)
 }
 
-/// What is played of the game that `game` spells, by the key lines of `keys`.
-///
-/// The text of the game is judged first. `Memory` comes only where a growth was refused.
-fn played_from(alloc: Global, game: &[u8], keys: &[u8]) -> Result<Played, Refusal>
-    ensures { IsOutcomeOfRun game.now keys.now result }
+/// What is played of a game by the key lines of `keys`, where the game was read; else why it was
+/// not. This takes no memory.
+fn played_from(game: Result<Game, GameError>, keys: &[u8]) -> Result<Played, Refusal>
+    ensures { IsPlayOfRead game keys.now result }
 {
-    let game = Game::read(alloc, game).map_err(Refusal::Game)?;
+    let game = game.map_err(Refusal::Game)?;
     let played = play(&game, keys).map_err(Refusal::Keys)?;
     Ok(played)
 }

@@ -2,8 +2,10 @@
 
 ghost use Rattle.std.specs.Prelude.{◌≡◌, IfOk, MatchResult, Result};
 ghost use Rattle.hex.specs.Hex.{decode_of};
+ghost use Rattle.c8_wire.specs.Lent.{packet_of};
 ghost use Rattle.c8_wire.specs.Packet.{Packet};
-ghost use Rattle.c8play.specs.Shown.{IsOutcomeOfShow, IsRefusalOfWord};
+ghost use Rattle.c8_wire.specs.Spelling.{Spells};
+ghost use Rattle.c8play.specs.Shown.{IsOutcomeOfShow, IsRefusalOfWord, IsRefusalOfBytes};
 ghost use Rattle.c8play.specs.Status.{status_of_outcome};
 ghost use Rattle.c8play.specs.declared.refusal.Refusal.{Refusal};
 
@@ -27,16 +29,9 @@ pub fn show<W: Write, E: Write>(
     ensures { IfOk result (λ status. (outcome : Result Packet Refusal)
         × IsOutcomeOfShow word.now outcome × (status ≡ status_of_outcome outcome)) }
 {
-    let bytes = match bytes_of(alloc, word) {
-        Ok(bytes) => bytes,
-        Err(error) => return Refusal::Hex(error).tell(refused),
-    };
-    match view(&bytes) {
-        Ok(datagram) => {
-            write_datagram(out, datagram)?;
-            Ok(Status::Done)
-        }
-        Err(error) => Refusal::Wire(error).tell(refused),
+    match bytes_of(alloc, word) {
+        Ok(bytes) => tell(datagram_in(&bytes), out, refused),
+        Err(error) => tell(Err(Refusal::Hex(error)), out, refused),
     }
 }
 
@@ -49,6 +44,34 @@ fn bytes_of(alloc: Global, word: &str) -> Result<Vec<u8>, HexError>
         Ok(bytes) => Ok(bytes),
         Err(FromHexError::OutOfMemory) => Err(HexError::Memory),
         Err(_) => Err(HexError::Bad),
+    }
+}
+
+/// The datagram that these bytes spell, or the refusal of them.
+fn datagram_in(bytes: &[u8]) -> Result<Datagram<'_>, Refusal>
+    ensures { MatchResult result
+        (λ datagram. Spells bytes.now (packet_of datagram)) (IsRefusalOfBytes bytes.now) }
+{
+    match view(bytes) {
+        Ok(datagram) => Ok(datagram),
+        Err(error) => Err(Refusal::Wire(error)),
+    }
+}
+
+/// Writes the fields of the datagram to `out`, or the line of the refusal to `refused`.
+fn tell<W: Write, E: Write>(
+    outcome: Result<Datagram<'_>, Refusal>,
+    out: &mut W,
+    refused: &mut E,
+) -> io::Result<Status>
+    ensures { IfOk result (λ status. status ≡ status_of_outcome outcome.entry) }
+{
+    match outcome {
+        Ok(datagram) => {
+            write_datagram(out, datagram)?;
+            Ok(Status::Done)
+        }
+        Err(refusal) => refusal.tell(refused),
     }
 }
 

@@ -2,7 +2,7 @@
 
 ghost use Rattle.std.specs.Prelude.{◌≡◌};
 ghost use Rattle.std.specs.Process.{exit_status};
-ghost use Rattle.c8play.specs.Status.{code_of};
+ghost use Rattle.c8play.specs.Status.{exit_code_of};
 
 use std::process::ExitCode;
 
@@ -22,7 +22,7 @@ pub enum Status {
 impl Status {
     /// The exit status of the program.
     pub fn code(self) -> u8
-        ensures { result ≡ code_of self }
+        ensures { result ≡ exit_code_of self }
     {
         match self {
             Status::Done => 0,
@@ -34,7 +34,7 @@ impl Status {
 }
 
 impl From<Status> for ExitCode {
-    ghost from_gives = { λ status code. exit_status code ≡ code_of status };
+    ghost from_gives = { λ status code. exit_status code ≡ exit_code_of status };
 
     fn from(status: Status) -> ExitCode {
         ExitCode::from(status.code())

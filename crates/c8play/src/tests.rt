@@ -43,9 +43,32 @@ impl Write for Short {
     }
 }
 
-#[test]
-fn each_refusal_has_its_line_and_status(rt: HostRuntime) -> Result<(), Fail> {
-    let rows = [
+/// A writer that fails once, after this many calls, and takes all else.
+#[derive(Drop)]
+pub struct FailsOnce {
+    pub after: usize,
+    pub failed: bool,
+}
+
+impl Write for FailsOnce {
+    fn write(&mut self, buf: &[u8]) -> io::Result<usize> {
+        if self.after > 0 {
+            self.after -= 1;
+        } else if !self.failed {
+            self.failed = true;
+            return Err(io::ErrorKind::StorageFull.into());
+        }
+        Ok(buf.len())
+    }
+
+    fn flush(&mut self) -> io::Result<()> {
+        Ok(())
+    }
+}
+
+/// Each refusal, its line and its exit status.
+fn refusals() -> [(Refusal, &'static str, u8); 22] {
+    [
         (Refusal::Game(GameError::Line), "game 1 Line", 1),
         (Refusal::Game(GameError::Range), "game 2 Range", 1),
         (Refusal::Game(GameError::Missing), "game 3 Missing", 1),
@@ -68,8 +91,12 @@ fn each_refusal_has_its_line_and_status(rt: HostRuntime) -> Result<(), Fail> {
         (Refusal::Wire(WireError::Beyond), "wire 9 Beyond", 1),
         (Refusal::Disk, "disk 1 Failed", 3),
         (Refusal::Start, "open 5 Memory", 1),
-    ];
-    for (refusal, name, code) in rows {
+    ]
+}
+
+#[test]
+fn each_refusal_has_its_line_and_status(rt: HostRuntime) -> Result<(), Fail> {
+    for (refusal, name, code) in refusals() {
         let mut line = Vec::new(rt.alloc());
         let status = refusal.tell(&mut line)?;
         let wanted = format!(in rt.alloc(); "refused: {name}\n")?;

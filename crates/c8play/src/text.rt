@@ -1,6 +1,6 @@
 //! Texts that are read whole from files.
 
-ghost use Rattle.std.specs.Prelude.{◌≡◌, ◌≤◌, None, Some, IfOk, IfErr, IfSome, length};
+ghost use Rattle.std.specs.Prelude.{◌≡◌, ◌≤◌, Some, IfOk, IfErr, IfSome, length};
 ghost use Rattle.std.specs.Result.{result_err};
 ghost use Rattle.c8play.specs.Texts.{refusal_of_texts};
 

@@ -149,7 +149,8 @@ fn helps(rt: HostRuntime) -> Result<(), Fail> {
     Ok(())
 }
 
-/// The reader of the command line has texts of its own for these.
+/// With no word at all the mistake is told by the help; the reader of the command line has texts of
+/// its own for the others.
 #[test]
 fn a_mistake_in_the_words_ends_with_2(rt: HostRuntime) -> Result<(), Fail> {
     let rows: [&[&str]; 8] = [
@@ -169,6 +170,7 @@ fn a_mistake_in_the_words_ends_with_2(rt: HostRuntime) -> Result<(), Fail> {
             (2, "")
         );
         assert!(rt; !mistaken.refused.is_empty());
+        assert!(rt; !words.is_empty() || mistaken.refused.as_str() == HELP);
     }
     Ok(())
 }
@@ -178,6 +180,7 @@ fn refuses_input_with_1(rt: HostRuntime) -> Result<(), Fail> {
     let rows = [
         ("", "refused: wire 1 Short\n"),
         ("4", "refused: hex 1 Bad\n"),
+        (" 4338", "refused: hex 1 Bad\n"),
         ("4338", "refused: wire 1 Short\n"),
     ];
     for (word, line) in rows {
@@ -267,9 +270,12 @@ fn arguments_that_cannot_be_read_and_output_that_cannot_be_written(
             (3, "refused: disk 1 Failed\n")
         );
     }
-    let given = words(rt.alloc(), &["show", "4"])?;
-    let mut printed = Vec::new(rt.alloc());
-    let status = answer(&rt, Ok(given), &mut printed, &mut Short { room: 5 });
-    assert_eq!(rt; status.code(), 3);
+    let untold: [&[&str]; 2] = [&["show", "4"], &["play"]];
+    for given in untold {
+        let given = words(rt.alloc(), given)?;
+        let mut printed = Vec::new(rt.alloc());
+        let status = answer(&rt, Ok(given), &mut printed, &mut Short { room: 5 });
+        assert_eq!(rt; status.code(), 3);
+    }
     Ok(())
 }

@@ -1,8 +1,10 @@
 //! Each machine is worked out by hand from the table of instructions.
+//!
+//! Tests take their tables from functions that say nothing of them: a proof is then of any table.
 
 use crate::run::run;
 use crate::status::Status;
-use crate::tests::{Outcome, Short, text_of};
+use crate::tests::{FailsOnce, Outcome, text_of};
 use std::alloc::Global;
 use std::io;
 use std::process::Abort;
@@ -150,9 +152,9 @@ fn prints(
     Ok(())
 }
 
-#[test]
-fn reports_the_machine(rt: HostRuntime) -> Result<(), Fail> {
-    let rows = [
+/// Codes, keys, and the report that they lead to.
+fn reports() -> [(&'static str, &'static str, &'static str); 16] {
+    [
         // keys that play no frame leave the first machine
         (
             "600570031204",
@@ -246,16 +248,20 @@ fn reports_the_machine(rt: HostRuntime) -> Result<(), Fail> {
             "0000 0000\n0000 0000\n0000 0000\n0000 0000\n0000 0000\n0000 0000\n0000 0000\n0000 0000\n0000 0000\n0000 0000\n0000 0000\n0000 0000\n",
             "frames 12\npc 0200 i 0000\nv 00 3c 00 00 00 00 00 00 00 00 00 00 00 00 00 00\ntimer 00 tone 00 draws 0\nstack 0\nstate runs\n",
         ),
-    ];
-    for (code, keys, report) in rows {
+    ]
+}
+
+#[test]
+fn reports_the_machine(rt: HostRuntime) -> Result<(), Fail> {
+    for (code, keys, report) in reports() {
         prints(&rt, rt.alloc(), code, keys, report, DARK)?;
     }
     Ok(())
 }
 
-#[test]
-fn reports_the_screen(rt: HostRuntime) -> Result<(), Fail> {
-    let rows = [
+/// Codes, keys, the report and the screen that they lead to.
+fn screens() -> [(&'static str, &'static str, &'static str, &'static str); 3] {
+    [
         // two rows of 8 points in the lower right corner, of which four columns of one row are on the screen
         (
             "603c611fa20cd012d012120affff",
@@ -277,8 +283,12 @@ fn reports_the_screen(rt: HostRuntime) -> Result<(), Fail> {
             "frames 1\npc 020a i 009b\nv 0f 01 02 00 00 00 00 00 00 00 00 00 00 00 00 00\ntimer 00 tone 00 draws 0\nstack 0\nstate runs\n",
             LETTER,
         ),
-    ];
-    for (code, keys, report, screen) in rows {
+    ]
+}
+
+#[test]
+fn reports_the_screen(rt: HostRuntime) -> Result<(), Fail> {
+    for (code, keys, report, screen) in screens() {
         prints(&rt, rt.alloc(), code, keys, report, screen)?;
     }
     Ok(())
@@ -339,11 +349,9 @@ fn plays_a_game_of_many_comments(rt: HostRuntime) -> Result<(), Fail> {
     Ok(())
 }
 
-#[test]
-fn refuses_with_one_line(rt: HostRuntime) -> Result<(), Fail> {
-    let good =
-        "players 2\nipf 10\nframes 2\ndelay 0\nwindow 8\nseed 0\nmask1 000f\nmask2 fff0\ncode 1200\n";
-    let rows = [
+/// What is replaced in a game, by what, the keys, and the line of the refusal.
+fn faults() -> [(&'static str, &'static str, &'static str, &'static str); 15] {
+    [
         ("ipf 10", "ipf 0", "", "refused: game 2 Range\n"),
         ("seed 0\n", "", "", "refused: game 3 Missing\n"),
         ("ipf 10", "ipf 10\nipf 10", "", "refused: game 4 Twice\n"),
@@ -358,6 +366,7 @@ fn refuses_with_one_line(rt: HostRuntime) -> Result<(), Fail> {
         ("", "", "0000\n", "refused: keys 1 Line\n"),
         ("", "", "0000 0000 0000\n", "refused: keys 1 Line\n"),
         ("", "", "0000  0000\n", "refused: keys 1 Line\n"),
+        ("", "", "0000_0000\n", "refused: keys 1 Line\n"),
         ("", "", "0000 000g\n", "refused: keys 1 Line\n"),
         ("", "", "\n", "refused: keys 1 Line\n"),
         ("", "", "0000 0000\r", "refused: keys 1 Line\n"),
@@ -368,8 +377,14 @@ fn refuses_with_one_line(rt: HostRuntime) -> Result<(), Fail> {
             "0000 0000\nx\n0000 0000\n",
             "refused: keys 1 Line\n",
         ),
-    ];
-    for (old, new, keys, line) in rows {
+    ]
+}
+
+#[test]
+fn refuses_with_one_line(rt: HostRuntime) -> Result<(), Fail> {
+    let good =
+        "players 2\nipf 10\nframes 2\ndelay 0\nwindow 8\nseed 0\nmask1 000f\nmask2 fff0\ncode 1200\n";
+    for (old, new, keys, line) in faults() {
         let game = if old.is_empty() {
             good.to_string(rt.alloc())?
         } else {
@@ -393,16 +408,21 @@ fn takes_keys_of_either_case(rt: HostRuntime) -> Result<(), Fail> {
     Ok(())
 }
 
-/// A report that cannot be written whole is an error, wherever the writer fails.
+/// One call of a writer that fails is an error, wherever it is; then nothing goes to the other writer.
 #[test]
 fn fails_where_its_writer_does(rt: HostRuntime) -> Result<(), Fail> {
     let game = format!(in rt.alloc(); "{RULES}code 1200\n")?;
-    for room in [0, 1, 100, 2000] {
-        let mut printed = Short { room };
-        let mut refused = Vec::new(rt.alloc());
-        let status = run(rt.alloc(), game.as_bytes(), b"", &mut printed, &mut refused);
-        assert!(rt; status.is_err(), "{room}");
-        assert!(rt; refused.is_empty());
+    let texts = [(game.as_bytes(), 200), (b"", 20)];
+    for (text, calls) in texts {
+        for after in 0..calls {
+            let failed = false;
+            let mut out = FailsOnce { after, failed };
+            let mut refused = FailsOnce { after, failed };
+            let ended = run(rt.alloc(), text, b"", &mut out, &mut refused);
+            assert_eq!(rt; ended.is_err(), out.failed || refused.failed, "{after}");
+            assert!(rt; !(out.failed && refused.failed));
+            assert!(rt; after + 1 < calls || ended.is_ok());
+        }
     }
     Ok(())
 }

@@ -1,6 +1,8 @@
+//! Tests take their tables from functions that say nothing of them: a proof is then of any table.
+
 use crate::show::show;
 use crate::status::Status;
-use crate::tests::{Outcome, Short, text_of};
+use crate::tests::{FailsOnce, Outcome, text_of};
 use std::alloc::Global;
 use std::io;
 use std::test::Fail;
@@ -15,10 +17,9 @@ fn shown(alloc: Global, word: &str) -> io::Result<Outcome> {
     })
 }
 
-/// No two fields of a datagram are equal, so that none is printed for another.
-#[test]
-fn prints_each_kind(rt: HostRuntime) -> Result<(), Fail> {
-    let rows = [
+/// Datagrams and their fields.
+fn datagrams() -> [(&'static str, &'static str); 11] {
+    [
         (
             "4338010301020304050607080102001800000001000000010000000000000000a1a2a3a4a5a6a7a80000000000010020",
             "kind DATA\nsession 0102030405060708\nfrom 1 to 2\nepochs 1 1\nack 0\nmark 0 a1a2a3a4a5a6a7a8\nstart 0 count 1\nrun 0020\n",
@@ -28,8 +29,8 @@ fn prints_each_kind(rt: HostRuntime) -> Result<(), Fail> {
             "kind FREEZE\nsession 0102030405060708\nfrom 1 to 2\nepochs 1 1\nleaver 3 have 8\n",
         ),
         (
-            "4338010100abcdef12345678030400000000000c0000abcd",
-            "kind HELLO\nsession 00abcdef12345678\nfrom 3 to 4\nepochs 12 43981\n",
+            "4338010100abcdef12345678030400000000000c0012abcd",
+            "kind HELLO\nsession 00abcdef12345678\nfrom 3 to 4\nepochs 12 1223629\n",
         ),
         (
             "433801020fedcba9876543210402000400010000000000ff0003fffe",
@@ -63,8 +64,13 @@ fn prints_each_kind(rt: HostRuntime) -> Result<(), Fail> {
             "4338010301020304050607080102001800000001000000010000000000000000A1A2A3A4A5A6A7A80000000000010020",
             "kind DATA\nsession 0102030405060708\nfrom 1 to 2\nepochs 1 1\nack 0\nmark 0 a1a2a3a4a5a6a7a8\nstart 0 count 1\nrun 0020\n",
         ),
-    ];
-    for (word, printed) in rows {
+    ]
+}
+
+/// No two fields of a datagram are equal, so that none is printed for another.
+#[test]
+fn prints_each_kind(rt: HostRuntime) -> Result<(), Fail> {
+    for (word, printed) in datagrams() {
         let shown = shown(rt.alloc(), word)?;
         assert_eq!(rt; shown.printed.as_str(), printed, "{word}");
         assert_eq!(rt;
@@ -76,9 +82,9 @@ fn prints_each_kind(rt: HostRuntime) -> Result<(), Fail> {
     Ok(())
 }
 
-#[test]
-fn refuses_with_one_line(rt: HostRuntime) -> Result<(), Fail> {
-    let rows = [
+/// Words, and the line of the refusal.
+fn faults() -> [(&'static str, &'static str); 15] {
+    [
         ("", "refused: wire 1 Short\n"),
         ("433", "refused: hex 1 Bad\n"),
         ("zz", "refused: hex 1 Bad\n"),
@@ -130,8 +136,12 @@ fn refuses_with_one_line(rt: HostRuntime) -> Result<(), Fail> {
             "43380105010203040506070802010010000000010000000103000000000200000001000200010002",
             "refused: wire 9 Beyond\n",
         ),
-    ];
-    for (word, line) in rows {
+    ]
+}
+
+#[test]
+fn refuses_with_one_line(rt: HostRuntime) -> Result<(), Fail> {
+    for (word, line) in faults() {
         let shown = shown(rt.alloc(), word)?;
         assert_eq!(rt; shown.refused.as_str(), line, "{word}");
         assert_eq!(rt;
@@ -143,16 +153,33 @@ fn refuses_with_one_line(rt: HostRuntime) -> Result<(), Fail> {
     Ok(())
 }
 
-/// Fields that cannot be written whole are an error, wherever the writer fails.
+/// A word of each kind, and one of each refusal.
+fn words() -> [&'static str; 8] {
+    [
+        "4338010301020304050607080102001800000001000000010000000000000000a1a2a3a4a5a6a7a80000000000010020",
+        "433801050000cafe0000f00d040100100000000d0000000e020000000bb8000000640002000aff00",
+        "433801060000000000000c0d0103000e0000000f00000010040000001388000007d000010e0f",
+        "433801040102030405060708010200060000000100000001030000000008",
+        "433801010102030405060708020100000000000200000000",
+        "433801020fedcba9876543210402000400010000000000ff0003fffe",
+        "4338",
+        "zz",
+    ]
+}
+
+/// One call of a writer that fails is an error, wherever it is; then nothing goes to the other writer.
 #[test]
 fn fails_where_its_writer_does(rt: HostRuntime) -> Result<(), Fail> {
-    let word = "433801010102030405060708020100000000000200000000";
-    for room in [0, 1, 20, 58] {
-        let mut printed = Short { room };
-        let mut refused = Vec::new(rt.alloc());
-        let status = show(rt.alloc(), word, &mut printed, &mut refused);
-        assert!(rt; status.is_err(), "{room}");
-        assert!(rt; refused.is_empty());
+    for word in words() {
+        for after in 0..60 {
+            let failed = false;
+            let mut out = FailsOnce { after, failed };
+            let mut refused = FailsOnce { after, failed };
+            let ended = show(rt.alloc(), word, &mut out, &mut refused);
+            assert_eq!(rt; ended.is_err(), out.failed || refused.failed, "{after}");
+            assert!(rt; !(out.failed && refused.failed));
+            assert!(rt; after < 59 || ended.is_ok());
+        }
     }
     Ok(())
 }

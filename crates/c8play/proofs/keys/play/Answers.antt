@@ -4,7 +4,7 @@ use Rattle.c8_game.specs.FaultLaws.{faultless_more}
 use Rattle.c8_game.specs.Rules.{joined}
 use Rattle.c8_machine.specs.Serial.{serial}
 use Rattle.c8play.specs.KeyLines.{is_key_line, row_of, key_line_fault}
-use Rattle.c8play.proofs.KeyLineLemmas.{good_line, first_bad, unspelt}
+use Rattle.c8play.proofs.KeyLineLemmas.{good_line, first_long, first_bad, unspelt}
 use Rattle.c8play.proofs.keys.play.Goals as goal
 
 pub loop-line-preserved : goal.loop-line-preserved
@@ -25,6 +25,13 @@ loop-line-preserved c =
           c.frame.ensures.serial (map (row_of game.players) before.seen) (row_of game.players line) before.machine (c.joined.ensures ∙ ap (joined game) spelt.1)
           ∙ ap (serial game) (sym (map-append (row_of game.players) before.seen (line ∷ [])));
     }
+
+-- the line is one too many, and those before it are key lines
+pub returns-then-played-frames : goal.returns-then-played-frames
+returns-then-played-frames c =
+    let before = c.loop-line.invariant in
+    first_long c.args.game.now c.args.keys.now before.seen c.in-Some.line.now _ (before.cut ∙ ap (λ left. before.seen ++ left) c.in-Some.ensures.steps) before.faultless
+    (omega (arith, c.if-played-frames.true, c.frames.ensures.value, before.frames))
 
 -- the line is no key line, and those before it are
 pub returns-in_default : goal.returns-in_default

@@ -1,6 +1,14 @@
-use Rattle.std.proofs.Common.{◌≡◌, refl, Result, Ok, Err, IfOk}
+use Rattle.std.proofs.Common.{◌≡◌, ℕ, List, Result, Ok, Err, IfOk, MatchResult}
+use Rattle.hex.specs.Hex.{decode_of}
 use Rattle.c8_wire.specs.Lent.{packet_of}
-use Rattle.c8play.specs.declared.refusal.Refusal.TheVariants.{Hex, Wire}
+use Rattle.c8_wire.specs.Packet.{Packet}
+use Rattle.c8_wire.specs.Spelling.{Spells}
+use Rattle.c8_wire.specs.declared.datagram.Datagram.{Datagram}
+use Rattle.c8play.specs.Shown.{IsOutcomeOfShow, IsRefusalOfBytes, IsRefusalOfShow}
+use Rattle.c8play.specs.Status.{status_of_outcome}
+use Rattle.c8play.specs.declared.refusal.Refusal.{Refusal}
+use Rattle.c8play.specs.declared.refusal.Refusal.TheVariants as refusals
+use Rattle.c8play.specs.declared.status.Status.{Status}
 use Rattle.c8play.proofs.show.show.Goals as goal
 
 -- what the told status makes true
@@ -8,14 +16,24 @@ told : {T E : Type 0} → (answer : Result T E) (status : T) {Q : T → Type 0} 
 told (Ok x) status then same = then x same
 told (Err e) status then same = tt
 
+-- a refusal of the bytes that a word spells is one of the word
+of_word : (word bytes : List ℕ) (why : Refusal) → decode_of word ≡ Ok bytes → IsRefusalOfBytes bytes why → IsRefusalOfShow word why
+of_word word bytes (refusals.Wire error) decoded refused = (bytes, decoded, refused)
+of_word word bytes (refusals.Hex error) decoded refused = absurd refused
+of_word word bytes (refusals.Game error) decoded refused = absurd refused
+of_word word bytes (refusals.Keys error) decoded refused = absurd refused
+of_word word bytes refusals.Disk decoded refused = absurd refused
+of_word word bytes refusals.Start decoded refused = absurd refused
+
+-- the status that is told of what stands in the bytes is that of what the word spells
+told_of : {E : Type 0} → (word bytes : List ℕ) (found : Result Datagram Refusal) (answer : Result Status E) → decode_of word ≡ Ok bytes
+    → MatchResult found (λ datagram. Spells bytes (packet_of datagram)) (IsRefusalOfBytes bytes) → IfOk answer (λ status. status ≡ status_of_outcome found)
+    → IfOk answer (λ status. (outcome : Result Packet Refusal) × IsOutcomeOfShow word outcome × (status ≡ status_of_outcome outcome))
+told_of word bytes (Ok datagram) answer decoded spells status = told answer _ (λ ended same. (Ok (packet_of datagram), (bytes, decoded, spells), same)) status
+told_of word bytes (Err why) answer decoded refused status = told answer _ (λ ended same. (Err why, of_word word bytes why decoded refused, same)) status
+
 pub returns-in-Err : goal.returns-in-Err
-returns-in-Err g c = told _ _ (λ status same. (Err (Hex c.in-Err.error), c.in-Err.ensures, same)) c.tell.ensures
+returns-in-Err g c = told _ _ (λ status same. (Err (refusals.Hex c.in-Err.error), c.in-Err.ensures, same)) c.tell-in-Err.ensures
 
-pub returns-in-Ok-view : goal.returns-in-Ok-view
-returns-in-Ok-view g c =
-    (Ok (packet_of c.in-Ok-view.datagram), (c.in-Ok.bytes.items, c.in-Ok.ensures, rw (← c.deref.ensures.value) c.in-Ok-view.ensures.found), refl)
-
-pub returns : goal.returns
-returns g c =
-    let why = rw c.deref.ensures.value at c.in-Err-view.ensures.refused in
-    told _ _ (λ status same. (Err (Wire c.in-Err-view.error), (c.in-Ok.bytes.items, c.in-Ok.ensures, why), same)) c.tell-in-Err-view.ensures
+pub returns-in-Ok : goal.returns-in-Ok
+returns-in-Ok g c = told_of _ c.in-Ok.bytes.items c.datagram_in.result c.tell.result c.in-Ok.ensures (rw c.deref.ensures.value at c.datagram_in.ensures) c.tell.ensures
