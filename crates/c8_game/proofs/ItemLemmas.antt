@@ -1,19 +1,18 @@
 -- What a line says, against the name and the value that are read off it.
-use Rattle.std.proofs.Common.{◌≡◌, ℕ, ◌+◌, ◌<◌, ◌≤◌, Bool, true, false, not, cond, eqb, ltb, length, List, [], ◌∷◌, ◌++◌, ◌&&◌, ◌||◌, Option, Some, None, Result, Ok, Err, refl, ap, sym, ◌∙◌, inl, inr, arith, add_comm, add-one, take, drop, get_or, length-append}
-use Rattle.std.specs.Prelude.{codes, is_some, is_ok, nat_lt, nat_le, flat_map, position}
+use Rattle.std.proofs.Common.{◌≡◌, ℕ, ◌+◌, ◌<◌, Bool, true, false, not, cond, length, List, [], ◌∷◌, ◌++◌, ◌&&◌, ◌||◌, Some, None, Ok, refl, ap, sym, ◌∙◌, arith, add_comm, add-one, take, drop, get_or, length-append}
+use Rattle.std.specs.Prelude.{codes, is_some, nat_lt, nat_le, position}
 use Rattle.std.specs.Char.{is_ascii_digit}
-use Rattle.std.specs.List.{position_or_len, before_first, after_first, list_any, list_all, AllZip, AllPass, find}
+use Rattle.std.specs.List.{position_or_len, list_any, list_all, AllZip, AllPass}
 use Rattle.std.specs.Str.{bytes_eq}
-use Rattle.std.specs.Option.{IsSome}
-use Rattle.std.proofs.lemmas.Bool.{cases_Bool, cases_lt, eqb-true, and_parts, or_parts, and_from, or_left, both_ways, false_from_ne_true, lt-ltb, ltb-true, le-leb, leb-true}
+use Rattle.std.proofs.lemmas.Bool.{eqb-true, and_parts, or_parts, and_from, or_left, both_ways, false_from_ne_true, lt-ltb, ltb-true, le-leb, leb-true}
 use Rattle.std.proofs.lemmas.List.Folds.{Any-from_list_any}
 use Rattle.std.proofs.lemmas.List.Sums.{AllPass-from_list_all, split_at_first, passes_at_first}
 use Rattle.std.proofs.lemmas.Slice.Eq.{bytes_eq-Decides}
-use Rattle.hex.specs.Hex.{decode_of, decode_sized, is_hex_digit}
+use Rattle.hex.specs.Hex.{decode_of, is_hex_digit}
 use Rattle.hex.proofs.HexLemmas.{IsOk-decode_sized, decode_of-ok}
 use Rattle.c8_game.specs.declared.text.field.Field.{Field}
 use Rattle.c8_game.specs.declared.text.field.Field.TheVariants.{Players, Ipf, Frames, Delay, Window, Seed, Mask1, Mask2, Mask3, Mask4}
-use Rattle.c8_game.specs.Fields.{fields, word_of, is_mask, field_named, is_same, is_number, is_decimal, number_of, IsWithin, least_of, greatest_of}
+use Rattle.c8_game.specs.Fields.{word_of, is_mask, field_named, is_same, is_number, is_decimal, number_of, IsWithin, least_of, greatest_of}
 use Rattle.c8_game.specs.KeysText.{is_keys_text}
 use Rattle.c8_game.specs.GameText.{Item, Blank, Number, Code, Says, is_skipped, number_in, numbers_for}
 use Rattle.c8_game.specs.declared.error.GameError.TheVariants.{Line, Range, Twice, Hex}

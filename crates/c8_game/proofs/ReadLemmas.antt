@@ -1,5 +1,5 @@
 -- What was read of a text, line after line.
-use Rattle.std.proofs.Common.{◌≡◌, ℕ, ◌⊎◌, List, [], ◌∷◌, ◌++◌, Option, Some, None, Result, Ok, Err, refl, ap, sym, ◌∙◌, inl, inr, append_assoc}
+use Rattle.std.proofs.Common.{◌≡◌, ℕ, ◌⊎◌, List, [], ◌∷◌, ◌++◌, Result, Ok, Err, ap, sym, ◌∙◌, inl, inr, append_assoc}
 use Rattle.std.specs.Prelude.{MatchResult, IfOk, IfErr}
 use Rattle.std.specs.List.{AllZip}
 use Rattle.std.specs.Str.Lines.{lines}
@@ -10,8 +10,8 @@ use Rattle.c8_game.specs.declared.text.draft.Draft.{Draft}
 use Rattle.c8_game.specs.Draft.{Holds, AddsLine, Finishes}
 use Rattle.c8_game.specs.Faults.{AreFaultless}
 use Rattle.c8_game.specs.FaultLaws.{faultless_none, faultless_more, first_found}
-use Rattle.c8_game.specs.GameText.{Item, Says, Give, Spells}
-use Rattle.c8_game.specs.GameFaults.{line_fault, end_fault, IsRefused}
+use Rattle.c8_game.specs.GameText.{Item, Says, Spells}
+use Rattle.c8_game.specs.GameFaults.{line_fault, IsRefused}
 use Rattle.c8_game.specs.Rules.{Rules}
 use Rattle.c8_game.proofs.DraftLemmas.{holds_once, gives_rules}
 

@@ -1,11 +1,11 @@
 -- Rules in range have a text that spells them: one line a field and one of code, each ended by a line feed.
-use Rattle.std.proofs.Common.{◌≡◌, ℕ, zero, suc, ◌+◌, ◌-◌, ◌*◌, ◌/◌, ◌%◌, ◌^◌, ◌<◌, ◌≤◌, ◌⊎◌, Bool, true, false, cond, length, List, [], ◌∷◌, ◌++◌, get_or, Ok, refl, ap, sym, ◌∙◌, inl, inr, arith, nat_lt, ◌&&◌, ◌==◌}
-use Rattle.std.specs.Prelude.{codes, nat_le, flat_map, map, slice_index, is_some}
+use Rattle.std.proofs.Common.{◌≡◌, ℕ, zero, suc, ◌+◌, ◌-◌, ◌*◌, ◌/◌, ◌%◌, ◌^◌, ◌<◌, ◌≤◌, Bool, true, false, cond, length, List, [], ◌∷◌, ◌++◌, get_or, refl, ap, sym, ◌∙◌, inl, inr, arith, nat_lt, ◌&&◌, ◌==◌}
+use Rattle.std.specs.Prelude.{codes, nat_le, flat_map, map, slice_index}
 use Rattle.std.specs.Char.{is_ascii_digit}
-use Rattle.std.specs.Int.{to_be_bytes, from_be_bytes, w16}
-use Rattle.std.specs.List.{All, AllPass, AllZip, list_all, slice_split}
+use Rattle.std.specs.Int.{to_be_bytes, w16}
+use Rattle.std.specs.List.{All, AllZip, list_all, slice_split}
 use Rattle.std.specs.Str.Lines.{lines, lines_of_parts, strip_carriage_return}
-use Rattle.std.proofs.lemmas.Bool.{cases_eq, cases_lt, both_ways, false_from_ne_true, and_from, and_parts, lt-leb, le-leb, lt-ltb, ltb-true, leb-true, ne_eqb}
+use Rattle.std.proofs.lemmas.Bool.{cases_eq, cases_lt, both_ways, and_from, and_parts, lt-leb, le-leb, lt-ltb, ltb-true, leb-true, ne_eqb}
 use Rattle.std.proofs.lemmas.List.{append_assoc, append-nil, get_or_past}
 use Rattle.std.proofs.lemmas.List.Folds.{list_all-append}
 use Rattle.std.proofs.lemmas.List.Splits.{slice_split_at, length-slice_split}
@@ -13,13 +13,13 @@ use Rattle.std.proofs.lemmas.List.Sums.{AllPass-from_list_all, list_all-from_All
 use Rattle.std.proofs.lemmas.Nat.{from_be_bytes-to_be_bytes_2}
 use Rattle.std.proofs.Math.Nat.{div-lt_iff_lt-mul, mul_comm}
 use native.Mathlib.Numerals.{unary_clauses}
-use Rattle.hex.specs.Hex.{decode_of, decode_sized, encode_lower, is_hex_digit, hex_digit_value}
+use Rattle.hex.specs.Hex.{encode_lower, is_hex_digit}
 use Rattle.hex.proofs.HexLemmas.{decode_of-encode_lower, decode_of-ok, decode_sized-encode_lower, IsOk-decode_sized}
 use Rattle.c8_game.specs.declared.text.field.Field.{Field}
 use Rattle.c8_game.specs.declared.text.field.Field.TheVariants.{Players, Ipf, Frames, Delay, Window, Seed, Mask1, Mask2, Mask3, Mask4}
 use Rattle.c8_game.specs.Fields.{word_of, owner_of, is_mask, is_decimal, decimal_number, is_number, number_of, IsWithin}
 use Rattle.c8_game.specs.KeysText.{is_keys_text, keys_number}
-use Rattle.c8_game.specs.GameText.{Item, Blank, Number, Code, Says, numbers_for, code_of, rule_of, Give, Spells}
+use Rattle.c8_game.specs.GameText.{Item, Blank, Number, Code, Says, numbers_for, rule_of, Give, Spells}
 use Rattle.c8_game.specs.Rules.{Rules, AreInRange}
 use Rattle.c8_game.proofs.LineLemmas.{part_and_more}
 

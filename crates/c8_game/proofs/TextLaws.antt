@@ -1,25 +1,25 @@
 -- A text spells one game at most, and it spells one exactly where nothing refuses it.
-use Rattle.std.proofs.Common.{◌≡◌, ◌≢◌, ℕ, zero, suc, ◌+◌, ◌<◌, ◌≤◌, ◌⊎◌, Bool, true, false, not, cond, length, List, [], ◌∷◌, ◌++◌, take, get_or, Option, Some, None, Ok, refl, ap, sym, ◌∙◌, inl, inr, append_assoc, length-append, arith, nat_lt, ◌&&◌, ◌||◌, ◌==◌}
-use Rattle.std.specs.Prelude.{codes, is_ok, is_some, nat_le, slice_index}
+use Rattle.std.proofs.Common.{◌≡◌, ℕ, ◌<◌, ◌≤◌, ◌⊎◌, true, false, not, cond, length, List, [], ◌∷◌, ◌++◌, Some, None, Ok, refl, ap, sym, ◌∙◌, inl, inr, append_assoc, length-append, arith, nat_lt, ◌==◌}
+use Rattle.std.specs.Prelude.{codes, is_ok, nat_le, slice_index}
 use Rattle.std.specs.List.{AllZip, list_any}
 use Rattle.std.specs.Result.{result_unwrap_or}
 use Rattle.std.specs.Str.{bytes_eq}
 use Rattle.std.specs.Str.Lines.{lines}
-use Rattle.std.proofs.lemmas.Bool.{cases_Bool, cases_lt, both_ways, false_from_ne_true, and_parts, leb-true, ltb-true, ltb-false, ne_eqb, le-ltb, lt-ltb}
+use Rattle.std.proofs.lemmas.Bool.{cases_Bool, cases_lt, both_ways, false_from_ne_true, and_parts, leb-true, ltb-true, ltb-false, ne_eqb, le-ltb}
 use Rattle.std.proofs.lemmas.List.{append-nil}
 use Rattle.std.proofs.lemmas.List.Concat.{flat_map-append}
 use Rattle.std.proofs.lemmas.List.Folds.{Any-from_list_any}
 use Rattle.hex.specs.Hex.{decode_of}
 use Rattle.c8_game.specs.declared.error.GameError.{GameError}
-use Rattle.c8_game.specs.declared.error.GameError.TheVariants.{Line, Range, Missing, Twice, Hex}
+use Rattle.c8_game.specs.declared.error.GameError.TheVariants.{Line, Hex}
 use Rattle.c8_game.specs.declared.text.field.Field.{Field}
 use Rattle.c8_game.specs.declared.text.field.Field.TheVariants.{Players, Ipf, Frames, Delay, Window, Seed, Mask1, Mask2, Mask3, Mask4}
 use Rattle.c8_game.specs.Draft.{AreFirst, first_for}
-use Rattle.c8_game.specs.Faults.{AreFaultless, IsFirstFault}
+use Rattle.c8_game.specs.Faults.{AreFaultless}
 use Rattle.c8_game.specs.FaultLaws.{none_or_some, faultless_none, faultless_more, faultless_line, first_or_faultless, faultless_or_first, one_first}
-use Rattle.c8_game.specs.Fields.{fields, word_of, owner_of, is_mask, field_named, is_same, is_number, number_of}
-use Rattle.c8_game.specs.GameText.{Item, Blank, Number, Code, Says, is_skipped, number_in, numbers_for, code_in, code_of, rule_of, Give, Spells}
-use Rattle.c8_game.specs.GameFaults.{is_space, is_name_and_value, name_in, value_in, names, is_told, code_fault, named_fault, field_fault, line_fault, players_in, is_lacking, is_stray, end_fault, IsFaultyAtEnd, IsRefused}
+use Rattle.c8_game.specs.Fields.{fields, word_of, owner_of, field_named, is_same, number_of}
+use Rattle.c8_game.specs.GameText.{Item, Blank, Number, Code, Says, is_skipped, number_in, numbers_for, code_of, rule_of, Give, Spells}
+use Rattle.c8_game.specs.GameFaults.{is_space, is_name_and_value, name_in, value_in, names, is_told, code_fault, named_fault, field_fault, line_fault, players_in, is_lacking, is_stray, end_fault, IsRefused}
 use Rattle.c8_game.specs.Rules.{Rules, most_program}
 use Rattle.c8_game.proofs.DraftLemmas.{AreOnce, ok_unwrapped, fault_coded, fault_named, numbers_more, gives_rules}
 use Rattle.c8_game.proofs.FieldLemmas.{itself, same_words}

@@ -1,4 +1,3 @@
-use Rattle.std.proofs.Common.{List, ℕ}
 use Rattle.std.specs.Str.Lines.{lines}
 use Rattle.c8_game.specs.Lines.{lines_left}
 use Rattle.c8_game.proofs.ReadLemmas.{HasRead}

@@ -1,4 +1,4 @@
-use Rattle.std.proofs.Common.{arith, refl, ◌∙◌, ◌≡◌, ◌+◌, ◌-◌, ◌*◌, ◌<◌, ◌^◌, get_or}
+use Rattle.std.proofs.Common.{refl, ◌<◌}
 use Rattle.c8_game.proofs.ValueLemmas.{decimal_next, ten_more, digit_small}
 use Rattle.c8_game.proofs.text.value.decimal_number.Goals as goal
 

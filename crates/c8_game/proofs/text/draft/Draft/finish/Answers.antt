@@ -1,4 +1,4 @@
-use Rattle.std.proofs.Common.{arith, inl, inr, sym, ◌∙◌, ◌≡◌, ◌<◌, ◌≤◌, length}
+use Rattle.std.proofs.Common.{arith, inl, inr, sym, ◌∙◌, ◌<◌, ◌≤◌, length}
 use Rattle.std.specs.Prelude.{vec_len}
 use Rattle.std.proofs.lemmas.Bool.{eqb-true}
 use Rattle.c8_game.specs.declared.text.field.Field.TheVariants.{Players, Ipf, Frames, Delay, Window, Seed}
