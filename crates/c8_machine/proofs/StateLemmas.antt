@@ -1,9 +1,9 @@
 -- Every part of a machine stays in its range: at the start, over a step, over a frame, over a run.
-use Rattle.std.proofs.Common.{◌≡◌, ◌≢◌, ℕ, zero, suc, ◌+◌, ◌-◌, ◌*◌, ◌/◌, ◌%◌, ◌^◌, ◌<◌, ◌≤◌, ◌&&◌, Bool, true, false, not, cond, nat_eq, nat_le, nat_lt, MatchBool, MatchOption, Option, Some, None, List, [], ◌∷◌, ◌++◌, length, map, take, drop, replicate, fold, find, get_or, bit_and, bit_or, bit_xor, refl, ap, sym, ◌∙◌, subst, inl, inr, arith, length-append, length-drop, length-take}
+use Rattle.std.proofs.Common.{◌≡◌, ℕ, zero, suc, ◌+◌, ◌-◌, ◌/◌, ◌%◌, ◌^◌, ◌<◌, ◌≤◌, ◌&&◌, Bool, true, false, not, cond, nat_le, nat_lt, MatchBool, MatchOption, Option, Some, None, List, [], ◌∷◌, ◌++◌, length, map, take, drop, replicate, fold, find, get_or, refl, sym, ◌∙◌, subst, inl, inr, arith, length-append, length-drop, length-take}
 use Rattle.std.proofs.Math.ListN.{set}
-use Rattle.std.proofs.lemmas.Bool.{cases_Bool, cases_lt, cases_eq, and_parts, and_left, cond-true, cond-false, le-leb, le-ltb, lt-leb, ltb-true, true≢false}
-use Rattle.std.proofs.lemmas.List.{get_or-take, get_or-drop, get_or-replicate, get_or_past, get_or-set_same, get_or-set_other, length-set, length-replicate}
-use Rattle.std.proofs.lemmas.List.FromFn.{length-map-range_with_len, get_or-map-range_with_len}
+use Rattle.std.proofs.lemmas.Bool.{cases_lt, and_parts, and_left, cond-true, cond-false, le-leb, le-ltb, ltb-true, true≢false}
+use Rattle.std.proofs.lemmas.List.{get_or-take, get_or-drop, get_or-replicate, get_or_past, length-set, length-replicate}
+use Rattle.std.proofs.lemmas.List.FromFn.{length-map-range_with_len}
 use Rattle.std.proofs.lemmas.Nat.{and_le_r, or_lt, xor_lt}
 use Rattle.std.specs.List.{list_all, range_with_len}
 use Rattle.std.specs.Prelude.{IfSome}
@@ -16,8 +16,8 @@ use Rattle.c8_machine.specs.declared.machine.Step.{Step}
 use Rattle.c8_machine.specs.declared.machine.Stop.{Stop}
 use Rattle.c8_machine.specs.Instructions.{Instruction, Clear, Return, Jump, Call, SkipIfValue, SkipUnlessValue, SkipIfSame, SetValue, AddValue, Set, Or, And, ExclusiveOr, Add, Subtract, ShiftRight, SubtractFrom, ShiftLeft, SkipUnlessSame, SetAddress, JumpFrom, Random, Draw, SkipIfDown, SkipIfUp, ReadTimer, AwaitKey, SetTimer, SetTone, AddAddress, PointAtDigit, StoreDigits, StoreRegisters, LoadRegisters, IsInRange, IsInstructionOf}
 use Rattle.c8_machine.specs.State.{State, Memory, IsState, state, digit_patterns, first_memory, first_state}
-use Rattle.c8_machine.specs.Steps.{Does, Executes, IsStep, register, with_register, with_flag, flag_if, passed, skipped_if, next, stopped, stored, byte_at, drawing, random_byte, is_down}
-use Rattle.c8_machine.specs.Frames.{IsFrame, IsLiveFrame, IsChain, Runs, Acts, settled, with_key, ended, all_keys, lowest_released}
+use Rattle.c8_machine.specs.Steps.{Does, Executes, register, with_register, with_flag, flag_if, passed, skipped_if, next, stopped, stored, byte_at, drawing, random_byte, is_down}
+use Rattle.c8_machine.specs.Frames.{IsFrame, IsLiveFrame, IsChain, Runs, settled, with_key, ended, lowest_released}
 use Rattle.c8_machine.specs.Serial.{serial, frame_of}
 use Rattle.c8_machine.proofs.FrameLemmas.{is_frame}
 

@@ -1,5 +1,5 @@
 -- The state of a machine, apart from how the code keeps it.
-use Rattle.std.specs.Prelude.{◌≡◌, ℕ, ◌-◌, ◌^◌, ◌<◌, ◌≤◌, true, Option, None, IfSome, List, [], ◌∷◌, length, nat_le, replicate, slice_index, take, if◌then◌else◌}
+use Rattle.std.specs.Prelude.{◌≡◌, ℕ, ◌-◌, ◌^◌, ◌<◌, ◌≤◌, Option, None, IfSome, List, [], ◌∷◌, length, nat_le, replicate, slice_index, take, if◌then◌else◌}
 use Rattle.c8_screen.specs.Points.{Points, no_points, points_of, AreOnScreen}
 use Rattle.c8_game.specs.Rules.{Rules}
 use Rattle.c8_machine.specs.declared.machine.Machine.{Machine}

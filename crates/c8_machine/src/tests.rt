@@ -22,115 +22,144 @@ fn play(alloc: Global, ipf: u8, code: &str, keys: &[u16]) -> Result<Machine, Fai
     Ok(machine)
 }
 
+/// The counter, I, the draws, the timer, the tone and the depth of the stack.
+fn numbers(machine: &Machine) -> (u16, u16, u64, u8, u8, usize) {
+    (
+        machine.counter(),
+        machine.address(),
+        machine.draws(),
+        machine.timer(),
+        machine.tone(),
+        machine.stack().len(),
+    )
+}
+
 #[test]
 fn adds_in_the_first_worked_game(rt: HostRuntime) -> Result<(), Fail> {
-    let machine = play(rt.alloc(), 10, "600570031204", &[])?;
-    assert_eq!(rt;
-        (machine.counter(), machine.address(), machine.draws()),
-        (0x200, 0, 0)
-    );
-    assert_eq!(rt; *machine.registers(), [0; 16]);
-    let machine = play(rt.alloc(), 10, "600570031204", &[0])?;
-    assert_eq!(rt;
-        (machine.counter(), machine.address(), machine.draws()),
-        (0x204, 0, 0)
-    );
-    assert_eq!(rt;
-        *machine.registers(),
-        [8, 0, 0, 0, 0, 0, 0, 0, 0, 0, 0, 0, 0, 0, 0, 0]
-    );
-    assert_eq!(rt; (machine.timer(), machine.tone()), (0, 0));
-    assert!(rt; machine.stack().is_empty());
-    assert_eq!(rt; (machine.waits(), machine.stopped()), (None, None));
+    for (counter, v0, keys) in [(0x200, 0, [].as_slice()), (0x204, 8, [0].as_slice())] {
+        let machine = play(rt.alloc(), 10, "600570031204", keys)?;
+        assert_eq!(rt; numbers(&machine), (counter, 0, 0, 0, 0, 0));
+        let registers = [v0, 0, 0, 0, 0, 0, 0, 0, 0, 0, 0, 0, 0, 0, 0, 0];
+        assert_eq!(rt; *machine.registers(), registers);
+        assert_eq!(rt; (machine.waits(), machine.stopped()), (None, None));
+    }
     Ok(())
 }
 
 #[test]
 fn draws_and_draws_again(rt: HostRuntime) -> Result<(), Fail> {
     let code = "603c611fa20cd012d012120affff";
-    let machine = play(rt.alloc(), 10, code, &[0])?;
-    assert_eq!(rt; (machine.counter(), machine.registers()[0xf]), (0x208, 0));
-    assert_eq!(rt; *machine.screen().row(31), 0xf);
-    assert!(rt; machine.screen().lit(63, 31));
-    let machine = play(rt.alloc(), 10, code, &[0, 0])?;
-    assert_eq!(rt; (machine.counter(), machine.registers()[0xf]), (0x20a, 1));
-    assert_eq!(rt; *machine.screen().row(31), 0);
+    let drawn = [
+        (0x208, 0, 0xf, true, [0].as_slice()),
+        (0x20a, 1, 0, false, [0, 0].as_slice()),
+    ];
+    for (counter, flag, row, lit, keys) in drawn {
+        let machine = play(rt.alloc(), 10, code, keys)?;
+        assert_eq!(rt;
+            (machine.counter(), machine.registers()[0xf]),
+            (counter, flag)
+        );
+        assert_eq!(rt;
+            (*machine.screen().row(31), machine.screen().lit(63, 31)),
+            (row, lit)
+        );
+    }
     Ok(())
 }
 
-/// The timer has run out before the key comes.
+/// A program, the keys of its frames, and what is seen then: what it waits for, the timer, V0, V1 and
+/// the counter.
+#[derive(Clone, Copy)]
+struct Wait {
+    code: &'static str,
+    keys: &'static [u16],
+    waits: Option<u8>,
+    timer: u8,
+    registers: (u8, u8),
+    counter: u16,
+}
+
+#[rattlefmt::skip]
+const WAITS: [Wait; 10] = [
+    // the timer has run out before the key comes
+    Wait { code: "6003f015f10a1206", keys: &[0x20], waits: Some(1), timer: 2, registers: (3, 0), counter: 0x206 },
+    Wait { code: "6003f015f10a1206", keys: &[0x20, 0x20, 0x20], waits: Some(1), timer: 0, registers: (3, 0), counter: 0x206 },
+    Wait { code: "6003f015f10a1206", keys: &[0x20, 0x20, 0x20, 0], waits: None, timer: 0, registers: (3, 5), counter: 0x206 },
+    // a wait ends by the lowest key let go, and by none that was not down or still is
+    Wait { code: "f00a1202", keys: &[0x60], waits: Some(0), timer: 0, registers: (0, 0), counter: 0x202 },
+    Wait { code: "f00a1202", keys: &[0x60, 0x60], waits: Some(0), timer: 0, registers: (0, 0), counter: 0x202 },
+    Wait { code: "f00a1202", keys: &[0, 0x20], waits: Some(0), timer: 0, registers: (0, 0), counter: 0x202 },
+    Wait { code: "f00a1202", keys: &[0x60, 0x20], waits: None, timer: 0, registers: (6, 0), counter: 0x202 },
+    Wait { code: "f00a1202", keys: &[0x60, 0], waits: None, timer: 0, registers: (5, 0), counter: 0x202 },
+    Wait { code: "f00a1202", keys: &[0xffff, 0x7fff], waits: None, timer: 0, registers: (15, 0), counter: 0x202 },
+    // in the frame in which the timer reaches 0
+    Wait { code: "6002f015f10a1206", keys: &[0x20, 0], waits: None, timer: 0, registers: (2, 5), counter: 0x206 },
+];
+
+/// The tables are taken from functions that say nothing of them: a proof is then of any rows.
+fn waits() -> [Wait; 10] {
+    WAITS
+}
+
 #[test]
 fn waits_for_a_key(rt: HostRuntime) -> Result<(), Fail> {
-    let code = "6003f015f10a1206";
-    let machine = play(rt.alloc(), 10, code, &[0x20])?;
-    assert_eq!(rt; (machine.waits(), machine.timer()), (Some(1), 2));
-    let machine = play(rt.alloc(), 10, code, &[0x20, 0x20, 0x20])?;
-    assert_eq!(rt; (machine.waits(), machine.timer()), (Some(1), 0));
-    let machine = play(rt.alloc(), 10, code, &[0x20, 0x20, 0x20, 0])?;
-    assert_eq!(rt;
-        (machine.waits(), machine.registers()[1], machine.counter()),
-        (None, 5, 0x206)
-    );
+    for wait in waits() {
+        let machine = play(rt.alloc(), 10, wait.code, wait.keys)?;
+        let [v0, v1, ..] = *machine.registers();
+        assert_eq!(rt;
+            (machine.waits(), machine.timer()),
+            (wait.waits, wait.timer)
+        );
+        assert_eq!(rt;
+            ((v0, v1), machine.counter()),
+            (wait.registers, wait.counter)
+        );
+        assert_eq!(rt; Some(&machine.keys().0), wait.keys.last());
+    }
     Ok(())
 }
 
-/// A wait ends by the lowest key let go, and by none that was not down or still is.
-#[test]
-fn takes_the_lowest_key_let_go(rt: HostRuntime) -> Result<(), Fail> {
-    let waits: [(&[u16], Option<u8>, u8); 6] = [
-        (&[0x60], Some(0), 0),
-        (&[0x60, 0x60], Some(0), 0),
-        (&[0, 0x20], Some(0), 0),
-        (&[0x60, 0x20], None, 6),
-        (&[0x60, 0], None, 5),
-        (&[0xffff, 0x7fff], None, 15),
-    ];
-    for (keys, waits, key) in waits {
-        let machine = play(rt.alloc(), 10, "f00a1202", keys)?;
-        assert_eq!(rt; (machine.waits(), machine.registers()[0]), (waits, key));
-        assert_eq!(rt; machine.counter(), 0x202);
-        assert_eq!(rt; Some(&machine.keys().0), keys.last());
-    }
-    // in the frame in which the timer reaches 0
-    let machine = play(rt.alloc(), 10, "6002f015f10a1206", &[0x20, 0])?;
-    assert_eq!(rt;
-        (machine.waits(), machine.registers()[1], machine.timer()),
-        (None, 5, 0)
-    );
-    Ok(())
+/// A program, why it stops in its first frame, and the counter and the timer then.
+#[rattlefmt::skip]
+const STOPS: [(&'static str, Stop, u16, u8); 9] = [
+    ("00ee", Stop::StackEmpty, 0x200, 0),
+    ("6003f0150000", Stop::UnknownInstruction, 0x204, 2),
+    ("0123", Stop::UnknownInstruction, 0x200, 0),
+    ("5011", Stop::UnknownInstruction, 0x200, 0),
+    ("8018", Stop::UnknownInstruction, 0x200, 0),
+    ("9011", Stop::UnknownInstruction, 0x200, 0),
+    ("e000", Stop::UnknownInstruction, 0x200, 0),
+    ("f0ff", Stop::UnknownInstruction, 0x200, 0),
+    ("60ffbfff", Stop::UnknownInstruction, 0x0fe, 0),
+];
+
+fn stops() -> [(&'static str, Stop, u16, u8); 9] {
+    STOPS
 }
 
 #[test]
 fn stops_for_good(rt: HostRuntime) -> Result<(), Fail> {
-    let machine = play(rt.alloc(), 100, "2200", &[0])?;
-    assert_eq!(rt;
-        (machine.stopped(), machine.counter()),
-        (Some(Stop::StackFull), 0x200)
-    );
-    assert_eq!(rt; machine.stack(), [0x202; 16].as_slice());
-    let cases = [
-        ("00ee", Stop::StackEmpty, 0x200),
-        ("6003f0150000", Stop::UnknownInstruction, 0x204),
-        ("0123", Stop::UnknownInstruction, 0x200),
-        ("5011", Stop::UnknownInstruction, 0x200),
-        ("8018", Stop::UnknownInstruction, 0x200),
-        ("9011", Stop::UnknownInstruction, 0x200),
-        ("e000", Stop::UnknownInstruction, 0x200),
-        ("f0ff", Stop::UnknownInstruction, 0x200),
-        ("60ffbfff", Stop::UnknownInstruction, 0x0fe),
-    ];
-    for (code, stop, counter) in cases {
+    for (code, stop, counter, timer) in stops() {
         for keys in [[0].as_slice(), [0, 0].as_slice()] {
             let machine = play(rt.alloc(), 10, code, keys)?;
             assert_eq!(rt;
                 (machine.stopped(), machine.counter()),
                 (Some(stop), counter)
             );
-            if code == "6003f0150000" {
-                assert_eq!(rt; machine.timer(), 2);
-            }
+            assert_eq!(rt; machine.timer(), timer);
         }
     }
+    Ok(())
+}
+
+#[test]
+fn stops_at_a_full_stack(rt: HostRuntime) -> Result<(), Fail> {
+    let machine = play(rt.alloc(), 100, "2200", &[0])?;
+    assert_eq!(rt;
+        (machine.stopped(), machine.counter()),
+        (Some(Stop::StackFull), 0x200)
+    );
+    assert_eq!(rt; machine.stack(), [0x202; 16].as_slice());
     Ok(())
 }
 
@@ -144,15 +173,18 @@ fn nests_sixteen_calls(rt: HostRuntime) -> Result<(), Fail> {
         let machine = play(rt.alloc(), ipf, "2200", &[0])?;
         assert_eq!(rt; (machine.stack().len(), machine.stopped()), (depth, stop));
     }
-    // a call at the last two bytes but one returns to address 0
-    let machine = play(
-        rt.alloc(),
-        10,
-        "60226112affef1551ffe00000000000000001212",
-        &[0],
-    )?;
-    assert_eq!(rt; machine.counter(), 0x212);
-    assert_eq!(rt; machine.stack(), [0x000].as_slice());
+    Ok(())
+}
+
+/// A call at the last two bytes but one returns to address 0.
+#[test]
+fn calls_at_the_end_of_memory(rt: HostRuntime) -> Result<(), Fail> {
+    let code = "60226112affef1551ffe00000000000000001212";
+    let machine = play(rt.alloc(), 10, code, &[0])?;
+    assert_eq!(rt;
+        (machine.counter(), machine.stack()),
+        (0x212, [0x000].as_slice())
+    );
     Ok(())
 }
 
@@ -173,6 +205,7 @@ fn tells_what_became_of_a_step(rt: HostRuntime) -> Result<(), Fail> {
 
 /// The registers from V0 on and the flag, the counter and I after one frame of ten instructions with
 /// key 5 down.
+#[derive(Clone, Copy)]
 struct Case {
     code: &'static str,
     registers: &'static [u8],
@@ -256,19 +289,33 @@ const CASES: [Case; 57] = [
     Case { code: "1202", registers: &[0], flag: 0, counter: 0x202, address: 0 },
 ];
 
+fn cases() -> [Case; 57] {
+    CASES
+}
+
+/// Whether the registers from V0 on are these.
+fn begins_with(machine: &Machine, registers: &[u8]) -> bool {
+    machine.registers().starts_with(registers)
+}
+
 #[test]
 fn follows_the_table(rt: HostRuntime) -> Result<(), Fail> {
-    for case in &CASES {
-        let machine = play(rt.alloc(), 10, case.code, &[0x20])?;
-        let registers = machine.registers();
-        assert!(rt;
-            registers.starts_with(case.registers),
-            "registers of {}",
-            case.code
+    for case in cases() {
+        let Case {
+            code,
+            registers,
+            flag,
+            counter,
+            address,
+        } = case;
+        let machine = play(rt.alloc(), 10, code, &[0x20])?;
+        let seen = (
+            machine.registers()[0xf],
+            machine.counter(),
+            machine.address(),
         );
-        assert_eq!(rt; registers[0xf], case.flag, "flag of {}", case.code);
-        assert_eq!(rt; machine.counter(), case.counter, "counter of {}", case.code);
-        assert_eq!(rt; machine.address(), case.address, "I of {}", case.code);
+        assert!(rt; begins_with(&machine, registers), "V0 of {code}");
+        assert_eq!(rt; seen, (flag, counter, address), "{code}");
     }
     Ok(())
 }
@@ -295,40 +342,49 @@ fn machines_are_equal_where_their_states_are(rt: HostRuntime) -> Result<(), Fail
     Ok(())
 }
 
+/// A program, and the rows of the screen that are not dark after two frames of it.
+#[rattlefmt::skip]
+const DRAWINGS: [(&'static str, &'static [(u8, u64)]); 8] = [
+    ("d0101202", &[]),
+    // the digit 0 in the corners
+    ("a050d015", &[(0, 0xf << 60), (1, 9 << 60), (2, 9 << 60), (3, 9 << 60), (4, 0xf << 60)]),
+    ("603ea050d015", &[(0, 3), (1, 2), (2, 2), (3, 2), (4, 3)]),
+    ("611fa050d015", &[(31, 0xf << 60)]),
+    ("603f611fa050d015", &[(31, 1)]),
+    // one row of it from column 65 and row 33
+    ("60416121a050d011", &[(1, 0xf << 59)]),
+    // two bytes at FFF and 000
+    ("60806181affff155afffd222", &[(0, 0x80 << 56), (1, 0x81 << 56)]),
+    // then all points off
+    ("a050d01500e0", &[]),
+];
+
+fn drawings() -> [(&'static str, &'static [(u8, u64)]); 8] {
+    DRAWINGS
+}
+
+/// The row that is listed for a place, else a dark one.
+fn row_at(lit: &[(u8, u64)], place: u8) -> u64 {
+    let mut found = 0;
+    for (y, row) in lit {
+        if *y == place {
+            found = *row;
+        }
+    }
+    found
+}
+
 /// What is drawn is clipped at the right and the lower edge, from an origin that is reduced first.
 #[test]
 fn draws_on_the_screen(rt: HostRuntime) -> Result<(), Fail> {
-    let cases: [(&str, &[(u8, u64)]); 8] = [
-        ("d0101202", &[]),
-        // the digit 0 in the corners
-        (
-            "a050d015",
-            &[
-                (0, 0xf << 60),
-                (1, 9 << 60),
-                (2, 9 << 60),
-                (3, 9 << 60),
-                (4, 0xf << 60),
-            ],
-        ),
-        ("603ea050d015", &[(0, 3), (1, 2), (2, 2), (3, 2), (4, 3)]),
-        ("611fa050d015", &[(31, 0xf << 60)]),
-        ("603f611fa050d015", &[(31, 1)]),
-        // one row of it from column 65 and row 33
-        ("60416121a050d011", &[(1, 0xf << 59)]),
-        // two bytes at FFF and 000
-        (
-            "60806181affff155afffd222",
-            &[(0, 0x80 << 56), (1, 0x81 << 56)],
-        ),
-        // then all points off
-        ("a050d01500e0", &[]),
-    ];
-    for (code, lit) in cases {
+    for (code, lit) in drawings() {
         let machine = play(rt.alloc(), 10, code, &[0, 0])?;
         for y in 0..32 {
-            let row = lit.iter().find(|row| row.0 == y).map_or(0, |row| row.1);
-            assert_eq!(rt; *machine.screen().row(y), row, "row {y} of {code}");
+            assert_eq!(rt;
+                *machine.screen().row(y),
+                row_at(lit, y),
+                "row {y} of {code}"
+            );
         }
     }
     Ok(())

@@ -35,7 +35,8 @@ impl Machine {
         requires { to < MEMORY_SIZE }
         ensures { Performs (Call to) (state self.old) (state self.new) result }
     {
-        if self.depth == 16 {
+        let is_full = self.depth == 16;
+        if is_full {
             return self.stop_with(Stop::StackFull);
         }
         self.places[usize::from(self.depth)] = self.next();

@@ -46,7 +46,8 @@ impl Machine {
     #[inline(always)]
     fn perform(&mut self, game: &Game, keys: Keys, operation: Operation) -> Step
         requires { MatchOption (meaning operation) (Unit {0}) IsInRange }
-        ensures { Executes game.now keys.0 (meaning operation) (state self.old) (state self.new) result }
+        ensures { Executes game.now keys.0 (meaning operation)
+            (state self.old) (state self.new) result }
     {
         match operation {
             Operation::Clear => self.clear(),

@@ -1,5 +1,4 @@
 use Rattle.c8_machine.specs.State.{state}
-use Rattle.c8_machine.specs.Steps.{code_at}
 use Rattle.c8_machine.proofs.FrameLemmas.{step_at_code}
 use Rattle.c8_machine.proofs.machine.Machine.execute.Goals as goal
 
