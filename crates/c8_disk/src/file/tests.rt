@@ -304,20 +304,27 @@ fn the_system_is_asked_to_drop_its_copies(rt: HostRuntime) -> Result<(), Fail> {
     Ok(())
 }
 
-/// What has nothing to sync says so: the calls are made.
+/// What has nothing to sync says so: the calls are made, each of the file or the folder that it is for.
 #[test]
 fn the_system_is_asked_to_sync(rt: HostRuntime) -> Result<(), Fail> {
-    let null = OpenedFile {
-        file: File::options()
-            .read(true)
-            .write(true)
-            .open(&rt, "/dev/null")?,
-        folder: File::open(&rt, "/dev/null")?,
-    };
+    let file = File::options()
+        .read(true)
+        .write(true)
+        .open(&rt, "/dev/null")?;
+    let folder = File::open(&rt, ".")?;
+    let null = OpenedFile { file, folder };
     assert!(rt; null.sync_all().is_err());
     assert!(rt; null.sync_data().is_err());
-    assert!(rt; null.sync_folder().is_err());
+    assert!(rt; null.sync_folder().is_ok());
     assert!(rt; null.len().is_err());
     assert_eq!(rt; refusal(&rt, "/dev/null", 8), Some(FileError::Failed));
+    Ok(())
+}
+
+#[test]
+fn the_system_is_asked_to_sync_the_folder(rt: HostRuntime) -> Result<(), Fail> {
+    let file = File::open(&rt, ".")?;
+    let folder = File::open(&rt, "/dev/null")?;
+    assert!(rt; OpenedFile { file, folder }.sync_folder().is_err());
     Ok(())
 }
