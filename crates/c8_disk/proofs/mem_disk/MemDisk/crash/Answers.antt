@@ -1,4 +1,4 @@
-use Rattle.std.proofs.Common.{vec_capacity, List, ◌∙◌, ap, subst}
+use Rattle.std.proofs.Common.{rules, vec_capacity, List, ◌∙◌, ap, subst}
 use Rattle.c8_disk.specs.Past.{fit, IsImage}
 use Rattle.c8_disk.specs.declared.call.Call.{Call}
 use Rattle.c8_disk.proofs.Calls.{fit_more}
@@ -18,3 +18,6 @@ returns-clause-between_syncs c =
     let d = c.args.self in
     let image = c.leave_image.new.bytes.items in
     between d.first.items d.calls.items image d.lawful (subst (λ (l : List Call). IsImage d.first.items l image) c.deref.ensures.value c.leave_image.ensures.image)
+
+pub returns-clause-value : goal.returns-clause-value
+returns-clause-value c = search rules

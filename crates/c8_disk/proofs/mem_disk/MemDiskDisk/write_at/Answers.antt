@@ -1,4 +1,4 @@
-use Rattle.std.proofs.Common.{◌≤◌, List, ℕ, length, sym, ◌∙◌, ap, subst, arith}
+use Rattle.std.proofs.Common.{rules, ◌≤◌, List, ℕ, length, sym, ◌∙◌, ap, subst, arith}
 use Rattle.c8_disk.specs.Disk.{overwritten, Elapses}
 use Rattle.c8_disk.specs.Past.{content, are_lawful, fit, IsImage, LeftSince}
 use Rattle.c8_disk.specs.declared.call.Call.{Call}
@@ -33,3 +33,6 @@ returns-clause-time c =
     let first = d.first.items in
     let calls = d.calls.items in
     subst (λ (l : List Call). Elapses (length calls) (length l) (LeftSince first calls) (LeftSince first l) (IsImage first l)) (sym c.note.ensures.items) (elapses_push first calls c.write_call.result)
+
+pub returns-then-bytes-self-clause-full : goal.returns-then-bytes-self-clause-full
+returns-then-bytes-self-clause-full c = search rules

@@ -1,0 +1,11 @@
+use Rattle.std.proofs.Common.{rules}
+use Rattle.c8_disk.proofs.mem_disk.MemDiskDisk.read_at.Goals as goal
+
+pub returns-clause-crash : goal.returns-clause-crash
+returns-clause-crash c = search rules
+
+pub returns-clause-time : goal.returns-clause-time
+returns-clause-time c = search rules
+
+pub returns-clause-value : goal.returns-clause-value
+returns-clause-value c = search rules
