@@ -1,0 +1,4 @@
+pub mod ListLemmas
+pub mod TableLemmas
+pub mod ReachLemmas
+pub mod StartLemmas

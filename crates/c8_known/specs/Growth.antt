@@ -1,0 +1,24 @@
+-- What a peer knew and still knows.
+use Rattle.std.specs.Prelude.{ℕ, ◌≡◌, ◌≤◌, List, ◌++◌, length, true, Option, Some}
+use Rattle.c8_known.specs.Known.{PlayerValue, KnownValue, player_in}
+
+-- one list begins another
+pub record Begins {X : Type 0} (early late : List X) : Type 0 where
+  pub rest : List X
+  pub is : late ≡ early ++ rest
+
+-- of one player: nothing that was held is taken back, and a cut and the list that it ends stay as they are
+pub record IsStillKnownOf (old new : PlayerValue) : Type 0 where
+  pub held : Begins old.held new.held
+  pub frozen : old.frozen ≡ true → new.frozen ≡ true
+  pub leaving : old.leaving ≡ true → new.leaving ≡ true
+  pub cut : (K : ℕ) → old.cut ≡ Some K → new.cut ≡ Some K
+  pub ended : (K : ℕ) → old.cut ≡ Some K → new.held ≡ old.held
+
+pub record IsStillKnown (old new : KnownValue) : Type 0 where
+  pub me : new.me ≡ old.me
+  pub delay : new.delay ≡ old.delay
+  pub limit : new.limit ≡ old.limit
+  pub ticks : old.ticks ≤ new.ticks
+  pub players : length new.players ≡ length old.players
+  pub each : (q : ℕ) → IsStillKnownOf (player_in old q) (player_in new q)

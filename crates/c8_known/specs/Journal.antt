@@ -1,0 +1,121 @@
+-- What a journal says. A journal is the list of its records, oldest first; what it says is read off the whole list.
+use Rattle.std.specs.Prelude.{ℕ, List, [], ◌∷◌, ◌++◌, length, Bool, true, false, ◌==◌, if◌then◌else◌, Option, fold, replicate}
+use Rattle.std.specs.List.{count_by, flat_map, list_any, slice_get}
+use Rattle.c8_game.specs.Rules.{Rules}
+
+-- A record, with all that its spelling says. Head, Epoch and Own are of the player whose journal it is, the others of
+-- the player whom they name. A start is the place in the player's list of inputs where the record's inputs stand.
+pub data Record : Type 0 where
+  -- whose journal this is, and of which match: the game's id in 32 bytes, and the room
+  Head : (player : ℕ) → (id : List ℕ) → (room : ℕ) → Record
+  -- the peer was opened again
+  Epoch : (player : ℕ) → (number : ℕ) → Record
+  -- the own player entered a key set
+  Own : (player : ℕ) → (start : ℕ) → (word : ℕ) → Record
+  -- key sets of another player came
+  Got : (player : ℕ) → (start : ℕ) → (words : List ℕ) → Record
+  -- the player's inputs are taken from player one alone from here on
+  Freeze : (player : ℕ) → Record
+  -- player one lets the player go; in another player's journal, that player itself has been dropped
+  Leave : (player : ℕ) → Record
+  -- the player's list of inputs ends at a length, and these are the last of them
+  Cut : (player : ℕ) → (length : ℕ) → (start : ℕ) → (words : List ℕ) → Record
+
+-- ---- what one record says
+
+-- of whom it is
+abbrev pub player_of : Record → ℕ
+player_of (Head player id room) = player
+player_of (Epoch player number) = player
+player_of (Own player start word) = player
+player_of (Got player start words) = player
+player_of (Freeze player) = player
+player_of (Leave player) = player
+player_of (Cut player length start words) = player
+
+-- the inputs that it adds to a player's list
+abbrev pub words_of : ℕ → Record → List ℕ
+words_of q (Head player id room) = []
+words_of q (Epoch player number) = []
+words_of q (Own player start word) = if player == q then word ∷ [] else []
+words_of q (Got player start words) = if player == q then words else []
+words_of q (Freeze player) = []
+words_of q (Leave player) = []
+words_of q (Cut player length start words) = if player == q then words else []
+
+abbrev pub is_own : Record → Bool
+is_own (Head player id room) = false
+is_own (Epoch player number) = false
+is_own (Own player start word) = true
+is_own (Got player start words) = false
+is_own (Freeze player) = false
+is_own (Leave player) = false
+is_own (Cut player length start words) = false
+
+-- the epoch that it begins; a journal's first record begins epoch 1
+abbrev pub epochs_of : Record → List ℕ
+epochs_of (Head player id room) = 1 ∷ []
+epochs_of (Epoch player number) = number ∷ []
+epochs_of (Own player start word) = []
+epochs_of (Got player start words) = []
+epochs_of (Freeze player) = []
+epochs_of (Leave player) = []
+epochs_of (Cut player length start words) = []
+
+abbrev pub freezes : ℕ → Record → Bool
+freezes q (Head player id room) = false
+freezes q (Epoch player number) = false
+freezes q (Own player start word) = false
+freezes q (Got player start words) = false
+freezes q (Freeze player) = player == q
+freezes q (Leave player) = false
+freezes q (Cut player length start words) = false
+
+abbrev pub lets_go : ℕ → Record → Bool
+lets_go q (Head player id room) = false
+lets_go q (Epoch player number) = false
+lets_go q (Own player start word) = false
+lets_go q (Got player start words) = false
+lets_go q (Freeze player) = false
+lets_go q (Leave player) = player == q
+lets_go q (Cut player length start words) = false
+
+-- the length at which it cuts a player's list
+abbrev pub cuts_of : ℕ → Record → List ℕ
+cuts_of q (Head player id room) = []
+cuts_of q (Epoch player number) = []
+cuts_of q (Own player start word) = []
+cuts_of q (Got player start words) = []
+cuts_of q (Freeze player) = []
+cuts_of q (Leave player) = []
+cuts_of q (Cut player length start words) = if player == q then length ∷ [] else []
+
+-- ---- what a journal says
+
+-- A player's inputs, as far as they are held: an empty set for each frame of the delay, then what the records add.
+unfoldable pub held : Rules → ℕ → List Record → List ℕ
+held rules q journal = replicate rules.delay 0 ++ flat_map (words_of q) journal
+
+abbrev pub count : Rules → ℕ → List Record → ℕ
+count rules q journal = length (held rules q journal)
+
+-- how many frames the own player has entered
+unfoldable pub ticks : List Record → ℕ
+ticks journal = count_by is_own journal
+
+-- the epochs in order, and the last of them, 0 before the first
+unfoldable pub epochs : List Record → List ℕ
+epochs journal = flat_map epochs_of journal
+
+abbrev pub epoch : List Record → ℕ
+epoch journal = fold (λ earlier later. later) 0 (epochs journal)
+
+unfoldable pub has_freeze : ℕ → List Record → Bool
+has_freeze q journal = list_any (freezes q) journal
+
+unfoldable pub has_leave : ℕ → List Record → Bool
+has_leave q journal = list_any (lets_go q) journal
+
+-- the length at which a player's list is cut, by the first record that cuts it
+unfoldable pub cut_of : ℕ → List Record → Option ℕ
+cut_of q journal = slice_get (flat_map (cuts_of q) journal) 0

@@ -1,0 +1,11 @@
+pub mod Journal
+pub mod Known
+pub mod Confirmed
+pub mod Growth
+pub mod Errors
+pub mod Tables
+pub mod Fresh
+pub mod KnownLaws
+pub mod OneMore
+pub mod ConfirmedLaws
+pub mod FreshLaws

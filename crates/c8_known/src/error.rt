@@ -1,0 +1,45 @@
+//! Why a run of inputs is refused.
+ghost use Rattle.std.specs.Prelude.{◌≡◌};
+ghost use Rattle.c8_known.specs.Errors.{number_of};
+
+use thiserror::Error;
+
+/// Why a run of inputs is refused.
+#[derive(Clone, Copy, Debug, PartialEq, Eq, Error)]
+pub enum KnownError {
+    /// It starts after the inputs that are held.
+    #[error("inputs before these are missing")]
+    Gap,
+    /// It comes from the player itself, whose inputs are taken from player one alone by now.
+    #[error("from a player who leaves")]
+    FromLeaver,
+    /// An input of it differs from one that is held.
+    #[error("an input differs from the one that is held")]
+    Differs,
+    /// It ends after the last input that the game can have.
+    #[error("inputs after the end of the game")]
+    Full,
+}
+
+impl KnownError {
+    /// The number that stands for it in what a program prints.
+    pub fn number(self) -> u8
+        ensures { result ≡ number_of self }
+    {
+        match self {
+            KnownError::Gap => 1,
+            KnownError::FromLeaver => 2,
+            KnownError::Differs => 3,
+            KnownError::Full => 4,
+        }
+    }
+
+    pub fn name(self) -> &'static str {
+        match self {
+            KnownError::Gap => "Gap",
+            KnownError::FromLeaver => "FromLeaver",
+            KnownError::Differs => "Differs",
+            KnownError::Full => "Full",
+        }
+    }
+}

@@ -1,0 +1,284 @@
+//! What is known of every player, by whom.
+ghost use Rattle.std.specs.Prelude.{◌≡◌, ◌≢◌, ℕ, ◌≤◌, ◌<◌, ◌+◌, ◌-◌, [], ◌∷◌, true, false, None, Some, length, drop, take, ◌==◌, IfOk, MatchResult, OnOk};
+ghost use Rattle.c8_game.specs.Rules.{limit_of};
+ghost use Rattle.c8_wire.specs.Lent.{words, spelled, slice_from};
+ghost use Rattle.c8_known.specs.Journal.{Own, Got, Freeze, Leave, Cut};
+ghost use Rattle.c8_known.specs.Known.{player_in, count_in, is_frozen_in, known_of, with_record, Plays, IsKnown, IsOfGame};
+ghost use Rattle.c8_known.specs.Confirmed.{confirmed, IsConfirmed, input_of, or_empty, best_input, row, best_row};
+ghost use Rattle.c8_known.specs.Growth.{IsStillKnown};
+ghost use Rattle.c8_known.specs.Fresh.{refusal, fresh_words};
+
+use crate::error::KnownError;
+use crate::table::{Table, differ, hold, hold_run, least_reach, tables_of};
+use c8_game::{Game, Keys, Player, Row};
+use c8_wire::Run;
+use std::alloc::{AllocError, Global};
+use std::marker::Model;
+
+/// What one player knows of the inputs of all. Room for a whole game is reserved when it is made.
+#[derive(Drop)]
+pub struct Known {
+    me: Player,
+    delay: u8,
+    limit: u32,
+    ticks: u32,
+    tables: Vec<Table>,
+}
+
+impl Model for Known {
+    ghost use Rattle.c8_known.specs.Known.{KnownValue, IsKnown};
+    ghost use Rattle.c8_known.specs.Tables.{seen, HasRoom};
+
+    ghost Value = { KnownValue };
+
+    ghost view = { λ k. seen k.me.number k.delay k.limit k.ticks k.tables.items };
+
+    ghost invariant = { λ k. IsKnown (seen k.me.number k.delay k.limit k.ticks k.tables.items) × HasRoom k.limit k.tables.items };
+}
+
+impl Known {
+    /// What player `me` knows before its journal says anything: the empty sets of the delay.
+    pub fn new(alloc: Global, game: &Game, me: Player) -> Result<Known, AllocError>
+        requires { me.number ≤ game.now.players }
+        ensures value { IfOk result (λ known. known ≡ known_of game.now me.number []) }
+        ensures of_game { IfOk result (λ known. IsOfGame game.now me.number known) }
+    {
+        let (delay, limit) = (game.delay(), game.limit());
+        Ok(Known {
+            me,
+            delay,
+            limit,
+            ticks: 0,
+            tables: tables_of(alloc, game.players(), delay, limit)?,
+        })
+    }
+
+    /// Whose knowledge it is.
+    pub fn me(&self) -> Player
+        ensures value { result.number ≡ self.now.me }
+        ensures known { IsKnown self.now }
+    {
+        self.me
+    }
+
+    /// How many players the game has.
+    pub fn players(&self) -> u8
+        ensures value { result ≡ length self.now.players }
+        ensures known { IsKnown self.now }
+    {
+        self.tables.len() as u8
+    }
+
+    /// The greatest length of a player's list of inputs in this game.
+    pub fn limit(&self) -> u32
+        ensures { result ≡ self.now.limit }
+    {
+        self.limit
+    }
+
+    /// How many frames the own player has entered.
+    pub fn ticks(&self) -> u32
+        ensures { result ≡ self.now.ticks }
+    {
+        self.ticks
+    }
+
+    /// How many inputs are held of a player, those of the delay included.
+    pub fn count(&self, player: Player) -> u32
+        requires { Plays self.now player.number }
+        ensures value { result ≡ count_in self.now player.number }
+        ensures within { result ≤ self.now.limit }
+    {
+        self.tables[usize::from(player.number - 1)].inputs.len() as u32
+    }
+
+    /// The inputs of a player from one place of its list to another, lent.
+    pub fn inputs(&self, player: Player, from: u32, to: u32) -> &[u16]
+        requires plays { Plays self.now player.number }
+        requires order { from ≤ to }
+        requires within { to ≤ count_in self.now player.number }
+        ensures { result.now ≡ take (to - from) (drop from (player_in self.now player.number).held) }
+    {
+        &self.tables[usize::from(player.number - 1)].inputs[from as usize..to as usize]
+    }
+
+    /// Whether the player's inputs are taken from player one alone, or from nobody any more: a FREEZE or a LEAVE of it
+    /// stands.
+    pub fn frozen(&self, player: Player) -> bool
+        requires { Plays self.now player.number }
+        ensures { result ≡ is_frozen_in self.now player.number }
+    {
+        let table = &self.tables[usize::from(player.number - 1)];
+        table.frozen || table.leaving
+    }
+
+    /// Whether a LEAVE of the player stands.
+    pub fn leaving(&self, player: Player) -> bool
+        requires { Plays self.now player.number }
+        ensures { result ≡ (player_in self.now player.number).leaving }
+    {
+        self.tables[usize::from(player.number - 1)].leaving
+    }
+
+    /// The length at which the player's list is cut.
+    pub fn cut_of(&self, player: Player) -> Option<u32>
+        requires { Plays self.now player.number }
+        ensures { result ≡ (player_in self.now player.number).cut }
+    {
+        self.tables[usize::from(player.number - 1)].cut
+    }
+
+    /// How many frames are confirmed: the greatest number, at most that of the own player's frames, below which every
+    /// player's input is settled at all frames. It costs what the number of players is.
+    pub fn confirmed(&self) -> u32
+        ensures value { result ≡ confirmed self.now }
+        ensures greatest { IsConfirmed self.now result }
+    {
+        least_reach(&self.tables, self.ticks)
+    }
+
+    /// The inputs of a confirmed frame.
+    pub fn row(&self, frame: u32) -> Row
+        requires { frame < confirmed self.now }
+        ensures { result ≡ row self.now frame }
+    {
+        Row {
+            sets: [
+                self.settled(0, frame),
+                self.settled(1, frame),
+                self.settled(2, frame),
+                self.settled(3, frame),
+            ],
+        }
+    }
+
+    fn settled(&self, place: usize, frame: u32) -> Keys
+        ensures { result.0 ≡ or_empty (input_of (player_in self.now (place + 1)) frame) }
+    {
+        match self.tables.get(place) {
+            Some(table) => Keys(table.input(frame).unwrap_or(0)),
+            None => Keys(0),
+        }
+    }
+
+    /// The best guess at the inputs of a frame: each player's settled input, else the last one that is held of it.
+    pub fn best(&self, frame: u32) -> Row
+        ensures value { result ≡ best_row self.now frame }
+    {
+        Row {
+            sets: [
+                self.guess(0, frame),
+                self.guess(1, frame),
+                self.guess(2, frame),
+                self.guess(3, frame),
+            ],
+        }
+    }
+
+    fn guess(&self, place: usize, frame: u32) -> Keys
+        ensures { result.0 ≡ best_input (player_in self.now (place + 1)) frame }
+    {
+        match self.tables.get(place) {
+            Some(table) => Keys(table.best(frame)),
+            None => Keys(0),
+        }
+    }
+
+    /// Judges inputs of a player from a start on, as a player tells them, and lends those of them that are not held yet.
+    /// Checked in this order: `FromLeaver`, `Full`, `Gap`, `Differs`. It changes nothing.
+    #[tactic(auto, unfolding(crate::specs::Fresh::refusal))]
+    pub fn fresh<'a>(
+        &self,
+        player: Player,
+        teller: Player,
+        start: u32,
+        run: Run<'a>,
+    ) -> Result<Run<'a>, KnownError>
+        requires { Plays self.now player.number }
+        ensures judged { MatchResult result
+            (λ _. refusal self.now player.number teller.number start (words run.entry) ≡ None)
+            (λ error. refusal self.now player.number teller.number start (words run.entry) ≡ Some error) }
+        ensures fresh { IfOk result (λ part. words part ≡ fresh_words self.now player.number start (words run.entry)) }
+        ensures slice { IfOk result (λ part.
+            spelled part ≡ slice_from (count_in self.now player.number - start) (spelled run.entry)) }
+        ensures room { IfOk result (λ part. count_in self.now player.number + length (words part) ≤ self.now.limit) }
+    {
+        if teller.number == player.number && self.frozen(player) {
+            return Err(KnownError::FromLeaver);
+        }
+        let inputs = &self.tables[usize::from(player.number - 1)].inputs;
+        let (start, count) = (start as usize, inputs.len());
+        if start + run.len() > self.limit as usize {
+            return Err(KnownError::Full);
+        }
+        if start > count {
+            return Err(KnownError::Gap);
+        }
+        let (_, held) = inputs.split_at(start);
+        if differ(held, run) {
+            return Err(KnownError::Differs);
+        }
+        Ok(run.from_place(run.len().min(count - start)))
+    }
+
+    /// Notes a key set that the own player entered.
+    pub fn own(&mut self, keys: Keys)
+        requires { count_in self.old self.old.me < self.old.limit }
+        ensures value { self.new ≡ with_record self.old (Own self.old.me (count_in self.old self.old.me) keys.0) }
+        ensures known { IsKnown self.new }
+        ensures still { IsStillKnown self.old self.new }
+    {
+        hold(
+            &mut self.tables[usize::from(self.me.number - 1)].inputs,
+            keys.0,
+        );
+        self.ticks += 1;
+    }
+
+    /// Notes inputs of another player that follow those that are held.
+    pub fn take(&mut self, player: Player, run: Run<'_>)
+        requires plays { Plays self.old player.number }
+        requires other { player.number ≢ self.old.me }
+        requires uncut { (player_in self.old player.number).cut ≡ None }
+        requires room { count_in self.old player.number + length (words run) ≤ self.old.limit }
+        ensures value { self.new ≡ with_record self.old (Got player.number (count_in self.old player.number) (words run.entry)) }
+        ensures known { IsKnown self.new }
+        ensures still { IsStillKnown self.old self.new }
+    {
+        hold_run(&mut self.tables[usize::from(player.number - 1)].inputs, run);
+    }
+
+    /// Notes that the player's inputs are taken from player one alone from here on.
+    pub fn freeze(&mut self, player: Player)
+        requires { Plays self.old player.number }
+        ensures value { self.new ≡ with_record self.old (Freeze player.number) }
+        ensures known { IsKnown self.new }
+        ensures still { IsStillKnown self.old self.new }
+    {
+        self.tables[usize::from(player.number - 1)].frozen = true;
+    }
+
+    /// Notes that player one lets the player go or, at the player itself, that it has been dropped.
+    pub fn leave(&mut self, player: Player)
+        requires { Plays self.old player.number }
+        ensures value { self.new ≡ with_record self.old (Leave player.number) }
+        ensures known { IsKnown self.new }
+        ensures still { IsStillKnown self.old self.new }
+    {
+        self.tables[usize::from(player.number - 1)].leaving = true;
+    }
+
+    /// Notes that the list of another player, who leaves, ends where it ends now.
+    pub fn cut(&mut self, player: Player, length: u32)
+        requires plays { Plays self.old player.number }
+        requires other { player.number ≢ self.old.me }
+        requires leaves { is_frozen_in self.old player.number ≡ true }
+        requires uncut { (player_in self.old player.number).cut ≡ None }
+        requires held { count_in self.old player.number ≡ length }
+        ensures value { self.new ≡ with_record self.old (Cut player.number length length []) }
+        ensures known { IsKnown self.new }
+        ensures still { IsStillKnown self.old self.new }
+    {
+        self.tables[usize::from(player.number - 1)].cut = Some(length);
+    }
+}
