@@ -90,14 +90,14 @@ least_one (p ∷ players) bound from =
 
 pub least_confirmed : (k : KnownValue) → IsConfirmed k (least_of k.players k.ticks)
 least_confirmed k = record {
-  entered = least_le k.players k.ticks k.ticks;
+  ticked = least_le k.players k.ticks k.ticks;
   settled = λ frame q below plays.
       let from = plays.from_one in
       let to = plays.in_game in
       let p : PlayerValue = player_in k q in
       let each = least_each k.players k.ticks k.ticks (q - 1) p (slice_get-get_or k.players (q - 1) nobody (omega (arith, from, to))) in
       reaches p.cut p k.ticks frame refl (omega (arith, below, each));
-  greatest = λ m entered settled. elim (least_one k.players k.ticks k.ticks) [
+  no_greater = λ m entered settled. elim (least_one k.players k.ticks k.ticks) [
     | inl all ↦ omega (arith, all, entered)
     | inr one ↦
         let place : ℕ = one.0 in

@@ -41,19 +41,19 @@ unfoldable pub greatest : (ℕ → Bool) → ℕ → ℕ
 greatest test zero = zero
 greatest test (suc n) = if test (suc n) then suc n else greatest test n
 
--- How many frames are confirmed: the greatest number, at most that of the own player's frames, below which every
--- player's input is settled at all frames.
+-- How many frames are confirmed: the greatest number, at most that of the own player's ticks, below which every player's
+-- input is settled at all frames.
 unfoldable pub confirmed : KnownValue → ℕ
 confirmed k = greatest (are_settled_below k) k.ticks
 
--- the same in words: it is such a number, and no greater one is
+-- the same as a fact: it is such a number, and no greater one is
 abbrev pub AreSettledBelow : KnownValue → ℕ → Type 0
 AreSettledBelow k n = (frame q : ℕ) → frame < n → Plays k q → is_settled_of (player_in k q) frame ≡ true
 
 pub record IsConfirmed (k : KnownValue) (n : ℕ) : Type 0 where
-  pub entered : n ≤ k.ticks
+  pub ticked : n ≤ k.ticks
   pub settled : AreSettledBelow k n
-  pub greatest : (m : ℕ) → m ≤ k.ticks → AreSettledBelow k m → m ≤ n
+  pub no_greater : (m : ℕ) → m ≤ k.ticks → AreSettledBelow k m → m ≤ n
 
 -- ---- rows
 
@@ -61,7 +61,8 @@ abbrev pub or_empty : Option ℕ → ℕ
 or_empty (Some input) = input
 or_empty None = 0
 
--- a row of one key set a player, from what a frame has of each
+-- A row: for each of four players what a function gives of it. A player who is not in the game counts as one of whom
+-- nothing is known.
 abbrev pub row_of : (PlayerValue → ℕ) → KnownValue → Row
 row_of input k = record { sets = map (λ q. record { 0 = input (player_in k q) }) (1 ∷ 2 ∷ 3 ∷ 4 ∷ []) }
 
@@ -69,9 +70,12 @@ row_of input k = record { sets = map (λ q. record { 0 = input (player_in k q) }
 abbrev pub row : KnownValue → ℕ → Row
 row k frame = row_of (λ p. or_empty (input_of p frame)) k
 
--- the rows of the confirmed frames, the first frame's first
+-- the rows of the first frames, and of those that are confirmed
+abbrev pub rows_below : KnownValue → ℕ → List Row
+rows_below k n = map (row k) (range_with_len 0 n)
+
 abbrev pub confirmed_rows : KnownValue → List Row
-confirmed_rows k = map (row k) (range_with_len 0 (confirmed k))
+confirmed_rows k = rows_below k (confirmed k)
 
 -- the player's last input that is held, the empty set if none is
 abbrev pub last_held : PlayerValue → ℕ
@@ -88,6 +92,9 @@ best_input p frame = or_last (input_of p frame) p
 abbrev pub best_row : KnownValue → ℕ → Row
 best_row k frame = row_of (λ p. best_input p frame) k
 
--- the best rows of the frames that the own player has entered
+-- the best rows of the first frames, and of those below the own player's ticks
+abbrev pub best_rows_below : KnownValue → ℕ → List Row
+best_rows_below k n = map (best_row k) (range_with_len 0 n)
+
 abbrev pub best_rows : KnownValue → List Row
-best_rows k = map (best_row k) (range_with_len 0 k.ticks)
+best_rows k = best_rows_below k k.ticks

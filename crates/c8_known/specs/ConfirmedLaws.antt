@@ -68,16 +68,16 @@ below_settled k n settled =
 pub confirmed_is : (k : KnownValue) → IsConfirmed k (confirmed k)
 unfolding confirmed
 confirmed_is k = record {
-  entered = greatest_le (are_settled_below k) k.ticks;
+  ticked = greatest_le (are_settled_below k) k.ticks;
   settled = settled_below k (greatest (are_settled_below k) k.ticks) (greatest_passes (are_settled_below k) k.ticks refl);
-  greatest = λ m le settled. greatest_is (are_settled_below k) k.ticks m le (below_settled k m settled);
+  no_greater = λ m le settled. greatest_is (are_settled_below k) k.ticks m le (below_settled k m settled);
 }
 
 pub confirmed_only : (k : KnownValue) (n : ℕ) → IsConfirmed k n → n ≡ confirmed k
 confirmed_only k n is =
     let other = confirmed_is k in
-    let up = other.greatest n is.entered is.settled in
-    let down = is.greatest (confirmed k) other.entered other.settled in
+    let up = other.no_greater n is.ticked is.settled in
+    let down = is.no_greater (confirmed k) other.ticked other.settled in
     omega (arith, up, down)
 
 -- ---- settled inputs stay
@@ -130,9 +130,9 @@ plays_before old new still q plays =
 pub confirmed_rises : (old new : KnownValue) → IsStillKnown old new → confirmed old ≤ confirmed new
 confirmed_rises old new still =
     let was = confirmed_is old in
-    let entered = was.entered in
+    let ticked = was.ticked in
     let later = still.ticks in
-    (confirmed_is new).greatest (confirmed old) (omega (arith, entered, later)) (λ frame q below plays.
+    (confirmed_is new).no_greater (confirmed old) (omega (arith, ticked, later)) (λ frame q below plays.
     let had = some_value (input_of (player_in old q) frame) (was.settled frame q below (plays_before old new still q plays)) in
     value_settled (player_in new q) frame had.0 (input_stays (player_in old q) (player_in new q) (still.each q) frame had.0 had.1))
 

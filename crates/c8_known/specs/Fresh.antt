@@ -10,14 +10,21 @@ differ [] others = false
 differ (input ∷ inputs) [] = false
 differ (input ∷ inputs) (other ∷ others) = not (input == other) || differ inputs others
 
--- Of a player's inputs from a start on, as a player tells them: why they are refused, None where they are not.
-unfoldable pub refusal : KnownValue → ℕ → ℕ → ℕ → List ℕ → Option KnownError
-refusal k player teller start words =
-    if teller == player && is_frozen_in k player then Some errors.FromLeaver
-    else (if nat_lt k.limit (start + length words) then Some errors.Full
+-- a player tells its own inputs, and these are no longer taken from itself
+abbrev pub is_from_leaver : KnownValue → ℕ → ℕ → Bool
+is_from_leaver k player teller = teller == player && is_frozen_in k player
+
+-- Of a player's inputs from a start on: why they cannot be held, None where they can.
+abbrev pub misfit : KnownValue → ℕ → ℕ → List ℕ → Option KnownError
+misfit k player start words =
+    if nat_lt k.limit (start + length words) then Some errors.Full
     else (if nat_lt (count_in k player) start then Some errors.Gap
     else (if differ (drop start (player_in k player).held) words then Some errors.Differs
-    else None)))
+    else None))
+
+-- the same of inputs that a player tells
+unfoldable pub refusal : KnownValue → ℕ → ℕ → ℕ → List ℕ → Option KnownError
+refusal k player teller start words = if is_from_leaver k player teller then Some errors.FromLeaver else misfit k player start words
 
 -- the part that is not held yet
 abbrev pub fresh_words : KnownValue → ℕ → ℕ → List ℕ → List ℕ

@@ -7,7 +7,7 @@ use Rattle.std.proofs.lemmas.List.{length-drop}
 use Rattle.c8_known.specs.declared.error.KnownError.{KnownError}
 use Rattle.c8_known.specs.declared.error.KnownError.TheVariants as errors
 use Rattle.c8_known.specs.Known.{PlayerValue, KnownValue, player_in, count_in, is_frozen_in}
-use Rattle.c8_known.specs.Fresh.{differ, refusal, fresh_words}
+use Rattle.c8_known.specs.Fresh.{differ, is_from_leaver, misfit, refusal, fresh_words}
 
 drop_left : (xs ys : List ℕ) (n : ℕ) → n ≤ length xs → drop n (xs ++ ys) ≡ drop n xs ++ ys
 drop_left xs ys zero within = refl
@@ -48,7 +48,7 @@ pub record IsFresh (k : KnownValue) (player start : ℕ) (words : List ℕ) : Ty
 pub is_fresh : (k : KnownValue) (player teller start : ℕ) (words : List ℕ) → refusal k player teller start words ≡ None → IsFresh k player start words
 unfolding refusal
 is_fresh k player teller start words none =
-    let past = none_past (teller == player && is_frozen_in k player) errors.FromLeaver _ none in
+    let past = none_past (is_from_leaver k player teller) errors.FromLeaver (misfit k player start words) none in
     let full = none_past (nat_lt k.limit (start + length words)) errors.Full _ past.1 in
     let gap = none_past (nat_lt (count_in k player) start) errors.Gap _ full.1 in
     let differs = none_past (differ (drop start (player_in k player).held) words) errors.Differs None gap.1 in

@@ -1,5 +1,5 @@
 -- What a journal says. A journal is the list of its records, oldest first; what it says is read off the whole list.
-use Rattle.std.specs.Prelude.{ℕ, List, [], ◌∷◌, ◌++◌, length, Bool, true, false, ◌==◌, if◌then◌else◌, Option, fold, replicate}
+use Rattle.std.specs.Prelude.{ℕ, List, [], ◌∷◌, ◌++◌, length, Bool, true, false, ◌==◌, if◌then◌else◌, Option, ◌-◌, slice_index, replicate}
 use Rattle.std.specs.List.{count_by, flat_map, list_any, slice_get}
 use Rattle.c8_game.specs.Rules.{Rules}
 
@@ -52,7 +52,7 @@ is_own (Freeze player) = false
 is_own (Leave player) = false
 is_own (Cut player length start words) = false
 
--- the epoch that it begins; a journal's first record begins epoch 1
+-- the epoch that it begins; a HEAD begins epoch 1
 abbrev pub epochs_of : Record → List ℕ
 epochs_of (Head player id room) = 1 ∷ []
 epochs_of (Epoch player number) = number ∷ []
@@ -99,16 +99,19 @@ held rules q journal = replicate rules.delay 0 ++ flat_map (words_of q) journal
 abbrev pub count : Rules → ℕ → List Record → ℕ
 count rules q journal = length (held rules q journal)
 
--- how many frames the own player has entered
+-- how many ticks the own player has made: each enters one key set
 unfoldable pub ticks : List Record → ℕ
 ticks journal = count_by is_own journal
 
--- the epochs in order, and the last of them, 0 before the first
+-- the epochs in order, the last of them, 0 before the first, and whether one was among them
 unfoldable pub epochs : List Record → List ℕ
 epochs journal = flat_map epochs_of journal
 
 abbrev pub epoch : List Record → ℕ
-epoch journal = fold (λ earlier later. later) 0 (epochs journal)
+epoch journal = slice_index (epochs journal) (length (epochs journal) - 1)
+
+unfoldable pub had_epoch : ℕ → List Record → Bool
+had_epoch number journal = list_any (λ epoch. epoch == number) (epochs journal)
 
 unfoldable pub has_freeze : ℕ → List Record → Bool
 has_freeze q journal = list_any (freezes q) journal

@@ -1,5 +1,5 @@
 -- What a peer knows of the players' inputs: what its journal says, laid out by player.
-use Rattle.std.specs.Prelude.{ℕ, ◌+◌, ◌-◌, ◌≡◌, ◌≤◌, List, [], ◌∷◌, ◌++◌, length, map, slice_index_or, slice_set, Bool, true, false, ◌||◌, Option, Some, None, if◌then◌else◌}
+use Rattle.std.specs.Prelude.{ℕ, ◌+◌, ◌-◌, ◌≡◌, ◌≤◌, List, [], ◌∷◌, ◌++◌, length, map, slice_index_or, slice_set, Bool, true, false, ◌||◌, ◌&&◌, nat_le, Option, Some, None, if◌then◌else◌}
 use Rattle.std.specs.List.{range_with_len}
 use Rattle.c8_game.specs.Rules.{Rules, limit_of, most_inputs}
 use Rattle.c8_known.specs.Journal as journals
@@ -13,8 +13,8 @@ pub record PlayerValue : Type 0 where
   pub leaving : Bool
   pub cut : Option ℕ
 
--- what is known, by whom: the delay and the greatest length of a list in its game, how many frames the own player has
--- entered, and what is known of each player, player 1 first
+-- what is known, by whom: the delay and the greatest length of a list in its game, how many ticks the own player has
+-- made, and what is known of each player, player 1 first
 pub record KnownValue : Type 0 where
   pub me : ℕ
   pub delay : ℕ
@@ -26,16 +26,19 @@ pub record KnownValue : Type 0 where
 abbrev pub nobody : PlayerValue
 nobody = record { held = []; frozen = false; leaving = false; cut = None }
 
--- what is known of a player, who has a number from 1 on
+-- what is known of a player (players are numbered from 1 on: nobody asks for player 0, whom this takes for player 1)
 abbrev pub player_in : KnownValue → ℕ → PlayerValue
 player_in k q = slice_index_or k.players (q - 1) nobody
 
 abbrev pub count_in : KnownValue → ℕ → ℕ
 count_in k q = length (player_in k q).held
 
--- the player's inputs are taken from player one alone, or from nobody any more
+-- a FREEZE or a LEAVE of the player stands: its inputs are no longer taken from itself
+abbrev pub is_frozen_of : PlayerValue → Bool
+is_frozen_of p = p.frozen || p.leaving
+
 abbrev pub is_frozen_in : KnownValue → ℕ → Bool
-is_frozen_in k q = (player_in k q).frozen || (player_in k q).leaving
+is_frozen_in k q = is_frozen_of (player_in k q)
 
 -- ---- what is known by a journal
 
@@ -85,14 +88,17 @@ with_record k (Cut player length start words) = with_player k player (with_cut (
 
 -- ---- what is true of all that a peer can know
 
--- the number is that of a player of the game
+-- the number is that of a player of the game, as a test and as a fact
+abbrev pub is_player : KnownValue → ℕ → Bool
+is_player k q = nat_le 1 q && nat_le q (length k.players)
+
 pub record Plays (k : KnownValue) (q : ℕ) : Type 0 where
   pub from_one : 1 ≤ q
   pub in_game : q ≤ length k.players
 
 -- A list that is cut is that of a player who leaves, and ends where it is cut.
 pub record EndsAtCut (p : PlayerValue) (K : ℕ) : Type 0 where
-  pub frozen : p.frozen || p.leaving ≡ true
+  pub leaves : is_frozen_of p ≡ true
   pub count : length p.held ≡ K
 
 pub record IsKnown (k : KnownValue) : Type 0 where
@@ -102,17 +108,17 @@ pub record IsKnown (k : KnownValue) : Type 0 where
   pub limit : k.limit ≤ most_inputs
   pub within : (q : ℕ) → count_in k q ≤ k.limit
   pub own : count_in k k.me ≡ k.delay + k.ticks
-  pub own_list_goes_on : (player_in k k.me).cut ≡ None
+  pub own_uncut : (player_in k k.me).cut ≡ None
   pub cuts : (q K : ℕ) → (player_in k q).cut ≡ Some K → EndsAtCut (player_in k q) K
 
--- the players, the delay and the limit are those of a game, and the own player is `me`
+-- the players, the delay and the limit are those of a game, and the own player is the one given
 pub record IsOfGame (rules : Rules) (me : ℕ) (k : KnownValue) : Type 0 where
   pub players : length k.players ≡ rules.players
   pub delay : k.delay ≡ rules.delay
   pub limit : k.limit ≡ limit_of rules
-  pub own : k.me ≡ me
+  pub player : k.me ≡ me
 
--- a record is of a player of the game
-pub record IsNamed (rules : Rules) (r : Record) : Type 0 where
+-- the player of a record is one of the game
+pub record NamesPlayer (rules : Rules) (r : Record) : Type 0 where
   pub from_one : 1 ≤ player_of r
   pub in_game : player_of r ≤ rules.players

@@ -6,7 +6,7 @@ use Rattle.c8_known.specs.Journal.{Record, Head, Epoch, Own, Got, Freeze, Leave,
 use Rattle.c8_known.specs.Known.{PlayerValue, KnownValue, nobody, player_in, count_in, is_frozen_in, with_player, with_words, cut_at, with_cut, with_record, Plays, EndsAtCut, IsKnown}
 use Rattle.c8_known.specs.Growth.{Begins, IsStillKnownOf, IsStillKnown}
 
--- ---- one player is changed, and the number of frames that are entered
+-- ---- one player is changed, and the number of ticks
 
 abbrev pub changed : KnownValue → ℕ → ℕ → PlayerValue → KnownValue
 changed k ticks q p = record { me = k.me; delay = k.delay; limit = k.limit; ticks = ticks; players = slice_set k.players (q - 1) p }
@@ -24,7 +24,7 @@ place_of k q plays = let from = plays.from_one in let to = plays.in_game in omeg
 pub record KeepsSound (k : KnownValue) (ticks q : ℕ) (p : PlayerValue) : Type 0 where
   pub within : length p.held ≤ k.limit
   pub own : q ≡ k.me → length p.held ≡ k.delay + ticks
-  pub own_list_goes_on : q ≡ k.me → p.cut ≡ None
+  pub own_uncut : q ≡ k.me → p.cut ≡ None
   pub others : q ≢ k.me → ticks ≡ k.ticks
   pub cuts : (K : ℕ) → p.cut ≡ Some K → EndsAtCut p K
 
@@ -51,9 +51,9 @@ sound_changed k ticks q p known plays keeps =
         | inl same ↦ rw (player_same k ticks q p k.me place (ap (λ (n : ℕ). n - 1) same)) (keeps.own (sym same))
         | inr apart ↦ rw (player_other k ticks q p k.me (λ e. apart (omega (arith, e)))) (rw (keeps.others (λ e. apart (sym e))) known.own)
       ];
-      own_list_goes_on = elim (cases_eq k.me q) [
-        | inl same ↦ rw (player_same k ticks q p k.me place (ap (λ (n : ℕ). n - 1) same)) (keeps.own_list_goes_on (sym same))
-        | inr apart ↦ rw (player_other k ticks q p k.me (λ e. apart (omega (arith, e)))) known.own_list_goes_on
+      own_uncut = elim (cases_eq k.me q) [
+        | inl same ↦ rw (player_same k ticks q p k.me place (ap (λ (n : ℕ). n - 1) same)) (keeps.own_uncut (sym same))
+        | inr apart ↦ rw (player_other k ticks q p k.me (λ e. apart (omega (arith, e)))) known.own_uncut
       ];
       cuts = λ other. elim (cases_eq (other - 1) (q - 1)) [
         | inl same ↦ rw (player_same k ticks q p other place same) keeps.cuts
@@ -106,18 +106,18 @@ pub own_known : (k : KnownValue) (start word : ℕ) → IsKnown k → count_in k
 own_known k start word known room =
     let p : PlayerValue = player_in k k.me in
     let own = known.own in
-    let uncut : p.cut ≡ None = known.own_list_goes_on in
+    let uncut : p.cut ≡ None = known.own_uncut in
     sound_changed k (k.ticks + 1) k.me (with_words p (word ∷ [])) known known.me (record {
       within = omega (arith, length_more p.held word);
       own = λ same. omega (arith, length_more p.held word, own);
-      own_list_goes_on = λ same. uncut;
+      own_uncut = λ same. uncut;
       others = λ apart. absurd (apart refl);
       cuts = λ K was. absurd cc;
     })
 
 pub own_still : (k : KnownValue) (start word : ℕ) → IsKnown k → IsStillKnown k (with_record k (Own k.me start word))
 own_still k start word known =
-    still_changed k (k.ticks + 1) k.me (with_words (player_in k k.me) (word ∷ [])) known.me (omega arith) (still_longer (player_in k k.me) (word ∷ []) known.own_list_goes_on)
+    still_changed k (k.ticks + 1) k.me (with_words (player_in k k.me) (word ∷ [])) known.me (omega arith) (still_longer (player_in k k.me) (word ∷ []) known.own_uncut)
 
 pub got_known : (k : KnownValue) (q start : ℕ) (words : List ℕ) → IsKnown k → Plays k q → q ≢ k.me → (player_in k q).cut ≡ None → count_in k q + length words ≤ k.limit → IsKnown (with_record k (Got q start words))
 got_known k q start words known plays other uncut room =
@@ -125,7 +125,7 @@ got_known k q start words known plays other uncut room =
     sound_changed k k.ticks q (with_words p words) known plays (record {
       within = omega (arith, length-append p.held words);
       own = λ same. absurd (other same);
-      own_list_goes_on = λ same. absurd (other same);
+      own_uncut = λ same. absurd (other same);
       others = λ apart. refl;
       cuts = λ K was. absurd cc;
     })
@@ -143,9 +143,9 @@ freeze_known k q known plays =
     sound_changed k k.ticks q (record p { frozen = true }) known plays (record {
       within = known.within q;
       own = λ same. rw same known.own;
-      own_list_goes_on = λ same. rw same known.own_list_goes_on;
+      own_uncut = λ same. rw same known.own_uncut;
       others = λ apart. refl;
-      cuts = λ K was. record { frozen = refl; count = (known.cuts q K was).count };
+      cuts = λ K was. record { leaves = refl; count = (known.cuts q K was).count };
     })
 
 pub freeze_still : (k : KnownValue) (q : ℕ) → Plays k q → IsStillKnown k (with_record k (Freeze q))
@@ -161,9 +161,9 @@ leave_known k q known plays =
     sound_changed k k.ticks q (record p { leaving = true }) known plays (record {
       within = known.within q;
       own = λ same. rw same known.own;
-      own_list_goes_on = λ same. rw same known.own_list_goes_on;
+      own_uncut = λ same. rw same known.own_uncut;
       others = λ apart. refl;
-      cuts = λ K was. record { frozen = or_true p.frozen; count = (known.cuts q K was).count };
+      cuts = λ K was. record { leaves = or_true p.frozen; count = (known.cuts q K was).count };
     })
 
 pub leave_still : (k : KnownValue) (q : ℕ) → Plays k q → IsStillKnown k (with_record k (Leave q))
@@ -185,9 +185,9 @@ cut_known k q K start words known plays other leaves uncut all room =
     sound_changed k k.ticks q (with_cut (with_words p words) K) known plays (record {
       within = omega (arith, longer);
       own = λ same. absurd (other same);
-      own_list_goes_on = λ same. absurd (other same);
+      own_uncut = λ same. absurd (other same);
       others = λ apart. refl;
-      cuts = λ at was. let is : K ≡ at = some_same p.cut at K uncut was in record { frozen = leaves; count = longer ∙ all ∙ is };
+      cuts = λ at was. let is : K ≡ at = some_same p.cut at K uncut was in record { leaves = leaves; count = longer ∙ all ∙ is };
     })
 
 pub cut_still : (k : KnownValue) (q K start : ℕ) (words : List ℕ) → Plays k q → (player_in k q).cut ≡ None → IsStillKnown k (with_record k (Cut q K start words))

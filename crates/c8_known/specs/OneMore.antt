@@ -12,7 +12,7 @@ use Rattle.std.proofs.lemmas.List.FromFn.{get_or-map-range_with_len, length-rang
 use Rattle.c8_game.specs.Rules.{Rules}
 use Rattle.c8_known.specs.Journal as journals
 use Rattle.c8_known.specs.Journal.{Record, Head, Epoch, Own, Got, Freeze, Leave, Cut, words_of, is_own, freezes, lets_go, cuts_of, player_of}
-use Rattle.c8_known.specs.Known.{PlayerValue, KnownValue, nobody, player_in, said_of, known_of, with_player, with_words, cut_at, with_cut, with_record, IsNamed}
+use Rattle.c8_known.specs.Known.{PlayerValue, KnownValue, nobody, player_in, said_of, known_of, with_player, with_words, cut_at, with_cut, with_record, NamesPlayer}
 
 -- ---- one player's part
 
@@ -128,7 +128,7 @@ same_known : (k : KnownValue) {ticks₁ ticks₂ : ℕ} {players₁ players₂ :
     → ◌≡◌ {A = KnownValue} (record k { ticks = ticks₁; players = players₁ }) (record k { ticks = ticks₂; players = players₂ })
 same_known k ticks players = λ i. record k { ticks = ticks i; players = players i }
 
-table_more : (rules : Rules) (me : ℕ) (journal : List Record) (r : Record) → IsNamed rules r
+table_more : (rules : Rules) (me : ℕ) (journal : List Record) (r : Record) → NamesPlayer rules r
     → table rules (journal ++ r ∷ []) ≡ slice_set (table rules journal) (player_of r - 1) (after (player_in (known_of rules me journal) (player_of r)) (player_of r) r)
 table_more rules me journal r named =
     let q : ℕ = player_of r in
@@ -159,7 +159,7 @@ one_tick : (journal : List Record) (r : Record) → is_own r ≡ true → journa
 unfolding journals.ticks
 one_tick journal r own = ticks_more journal r 1 (rw own refl)
 
-pub one_more : (rules : Rules) (me : ℕ) (journal : List Record) (r : Record) → IsNamed rules r → known_of rules me (journal ++ r ∷ []) ≡ with_record (known_of rules me journal) r
+pub one_more : (rules : Rules) (me : ℕ) (journal : List Record) (r : Record) → NamesPlayer rules r → known_of rules me (journal ++ r ∷ []) ≡ with_record (known_of rules me journal) r
 unfolding known_of
 one_more rules me journal (Head player id room) named =
     let r : Record = Head player id room in same_known (known_of rules me journal) (no_tick journal r refl) (table_same rules journal r (λ p q. after_none p q r refl refl refl refl))

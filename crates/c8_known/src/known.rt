@@ -76,7 +76,7 @@ impl Known {
         self.limit
     }
 
-    /// How many frames the own player has entered.
+    /// How many ticks the own player has made: each enters one key set.
     pub fn ticks(&self) -> u32
         ensures { result ≡ self.now.ticks }
     {
@@ -102,8 +102,7 @@ impl Known {
         &self.tables[usize::from(player.number - 1)].inputs[from as usize..to as usize]
     }
 
-    /// Whether the player's inputs are taken from player one alone, or from nobody any more: a FREEZE or a LEAVE of it
-    /// stands.
+    /// Whether a FREEZE or a LEAVE of the player stands: its inputs are no longer taken from itself.
     pub fn frozen(&self, player: Player) -> bool
         requires { Plays self.now player.number }
         ensures { result ≡ is_frozen_in self.now player.number }
@@ -128,7 +127,7 @@ impl Known {
         self.tables[usize::from(player.number - 1)].cut
     }
 
-    /// How many frames are confirmed: the greatest number, at most that of the own player's frames, below which every
+    /// How many frames are confirmed: the greatest number, at most that of the own player's ticks, below which every
     /// player's input is settled at all frames. It costs what the number of players is.
     pub fn confirmed(&self) -> u32
         ensures value { result ≡ confirmed self.now }

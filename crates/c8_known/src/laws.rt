@@ -3,7 +3,7 @@
 ghost use Rattle.std.specs.Prelude.{◌≡◌, ◌≢◌, ℕ, ◌+◌, ◌<◌, ◌≤◌, ◌++◌, ◌∷◌, [], List, length, take, drop, Some, None, true};
 ghost use Rattle.c8_game.specs.Rules.{Rules};
 ghost use Rattle.c8_known.specs.Journal.{Record, Own, Got, Freeze, Leave, Cut};
-ghost use Rattle.c8_known.specs.Known.{KnownValue, known_of, player_in, count_in, is_frozen_in, said_of, with_record, IsNamed, Plays, IsKnown};
+ghost use Rattle.c8_known.specs.Known.{KnownValue, known_of, player_in, count_in, is_frozen_in, said_of, with_record, NamesPlayer, Plays, IsKnown};
 ghost use Rattle.c8_known.specs.Confirmed.{input_of, confirmed, IsConfirmed, row, confirmed_rows, best_row};
 ghost use Rattle.c8_known.specs.Growth.{Begins, IsStillKnown};
 ghost use Rattle.c8_known.specs.Fresh.{refusal, fresh_words};
@@ -11,7 +11,7 @@ ghost use Rattle.c8_known.specs.Fresh.{refusal, fresh_words};
 /// What is known by a journal with one record more, for each kind of record.
 #[tactic(auto, using(crate::specs::OneMore::one_more))]
 pub fn one_record_more()
-    ensures { (rules : Rules) (me : ℕ) (journal : List Record) (r : Record) → IsNamed rules r
+    ensures { (rules : Rules) (me : ℕ) (journal : List Record) (r : Record) → NamesPlayer rules r
         → known_of rules me (journal ++ r ∷ []) ≡ with_record (known_of rules me journal) r }
 {}
 

@@ -1,0 +1,75 @@
+//! What each player has acknowledged of the own inputs.
+ghost use Rattle.std.specs.Prelude.{◌≡◌, ◌≢◌, ℕ, ◌≤◌, ◌<◌, ◌×◌, length, MatchResult};
+ghost use Rattle.c8_known.specs.Known.{count_in};
+ghost use Rattle.c8_window.specs.Window.{acked_of, first_window, acked_more, pending_of};
+
+use crate::error::BadAck;
+use c8_game::{Game, Player};
+use c8_known::Known;
+use c8_wire::LONGEST_RUN;
+use std::marker::Model;
+
+/// How many of the own inputs each other player has acknowledged.
+#[derive(Debug, Drop)]
+pub struct Window {
+    acked: [u32; 4],
+}
+
+impl Model for Window {
+    ghost use Rattle.c8_window.specs.Window.{WindowValue, seen};
+
+    ghost Value = { WindowValue };
+
+    ghost view = { λ w. seen w.acked };
+}
+
+impl Window {
+    /// Nothing is acknowledged but the empty sets of the delay.
+    pub fn new(game: &Game) -> Window
+        ensures { result ≡ first_window game.now.delay }
+    {
+        Window {
+            acked: [u32::from(game.delay()); 4],
+        }
+    }
+
+    /// How many of the own inputs a player has acknowledged.
+    pub fn acked(&self, player: Player) -> u32
+        ensures { result ≡ acked_of self.now player.number }
+    {
+        self.acked[usize::from(player.number - 1)]
+    }
+
+    /// Takes an acknowledgement of `count` of the own inputs. One of more inputs than there are is refused
+    /// and changes nothing; one of fewer than before changes nothing.
+    pub fn ack(&mut self, player: Player, count: u32, known: &Known) -> Result<(), BadAck>
+        ensures judged { MatchResult result
+            (λ _. count ≤ count_in known.now known.now.me)
+            (λ _. count_in known.now known.now.me < count) }
+        ensures value { MatchResult result
+            (λ _. self.new ≡ acked_more self.old player.number count)
+            (λ _. self.new ≡ self.old) }
+        ensures rises { (q : ℕ) → acked_of self.old q ≤ acked_of self.new q }
+        ensures within { (q : ℕ) → acked_of self.old q ≤ count_in known.now known.now.me
+            → acked_of self.new q ≤ count_in known.now known.now.me }
+    {
+        if count > known.count(known.me()) {
+            return Err(BadAck);
+        }
+        let acked = &mut self.acked[usize::from(player.number - 1)];
+        *acked = count.max(*acked);
+        Ok(())
+    }
+
+    /// The own inputs that a player has not acknowledged, at most 64 of them, lent from what is known.
+    pub fn pending<'a>(&self, player: Player, known: &'a Known) -> &'a [u16]
+        ensures pending { result.now ≡ pending_of self.now known.entry.now player.number }
+        ensures most { length result.now ≤ LONGEST_RUN }
+    {
+        let me = known.me();
+        let count = known.count(me);
+        let from = self.acked(player).min(count);
+        let to = count.min(from + LONGEST_RUN as u32);
+        known.inputs(me, from, to)
+    }
+}
