@@ -31,10 +31,10 @@ fn sends_what_is_not_acknowledged(rt: HostRuntime) -> Result<(), Fail> {
     let mut window = Window::new(&game);
     assert!(rt; window.pending(two(), &known).is_empty());
     enter(&mut known, 5);
-    assert!(rt; window.pending(two(), &known) == &[1, 2, 3, 4, 5]);
+    assert!(rt; window.pending(two(), &known) == [1, 2, 3, 4, 5].as_slice());
     assert_eq!(rt; window.ack(two(), 4, &known), Ok(()));
-    assert!(rt; window.pending(two(), &known) == &[3, 4, 5]);
-    assert!(rt; window.pending(three(), &known) == &[1, 2, 3, 4, 5]);
+    assert!(rt; window.pending(two(), &known) == [3, 4, 5].as_slice());
+    assert!(rt; window.pending(three(), &known) == [1, 2, 3, 4, 5].as_slice());
     assert_eq!(rt; window.ack(two(), 3, &known), Ok(()));
     assert_eq!(rt; window.ack(two(), 8, &known), Err(BadAck));
     assert_eq!(rt; window.acked(two()), 4);

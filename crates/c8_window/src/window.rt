@@ -1,5 +1,5 @@
 //! What each player has acknowledged of the own inputs.
-ghost use Rattle.std.specs.Prelude.{◌≡◌, ◌≢◌, ℕ, ◌≤◌, ◌<◌, ◌×◌, length, MatchResult};
+ghost use Rattle.std.specs.Prelude.{◌≡◌, ◌≢◌, ℕ, ◌≤◌, ◌<◌, length, MatchResult};
 ghost use Rattle.c8_known.specs.Known.{count_in};
 ghost use Rattle.c8_window.specs.Window.{acked_of, first_window, acked_more, pending_of};
 
