@@ -63,9 +63,9 @@ pub fn runs_go_on<D: Disk, P: Property>()
         → (image : List ℕ) → D.left_since new t image → P.has p image }
 {}
 
-/// What a crash may leave after the calls, said at once: any length from that of the last sync to the greatest written,
-/// and outside the ranges written since that sync each byte as it was then. It leaves nothing else (`only`), and may leave
-/// each row of bytes that is so (`each`).
+/// What a crash may leave after calls each of which begins within the bytes, said at once: any length from that of the
+/// last sync to the greatest written, and outside the ranges written since that sync each byte as it was then. It leaves
+/// nothing else (`only`), and may leave each row of bytes that is so (`each`).
 pub fn images_at_once()
     ensures only { (first : List ℕ) (calls : List Call) (image : List ℕ)
         → are_lawful first calls ≡ true

@@ -222,7 +222,7 @@ impl Disk for MemDisk {
         ensures capacity { room_of self.new ≡ room_of self.old }
         ensures arms { arms_of self.new ≡ arms_of self.old }
 
-        // It fails once its calls are spent or it is stopped, and only then. A call that was refused counts for nothing.
+        // It fails once its calls are spent or it is stopped, and only then. A call that was refused is not served.
         ensures failed { IsErrOf result DiskError.Failed ↔ (is_stopped self.old ≡ true) }
         ensures value { value_of self.new ≡ after_read result (value_of self.old) }
     {
@@ -250,7 +250,7 @@ impl Disk for MemDisk {
         ensures capacity { room_of self.new ≡ room_of self.old }
         ensures arms { arms_of self.new ≡ arms_of self.old }
 
-        // It fails once its calls are spent or it is stopped, and only then. A call that was refused counts for nothing.
+        // It fails once its calls are spent or it is stopped, and only then. A call that was refused is not served.
         ensures failed { IsErrOf result DiskError.Failed ↔ (is_stopped self.old ≡ true) }
         ensures value { IsWritten at bytes.now result (value_of self.old) (value_of self.new) }
     {
@@ -279,7 +279,7 @@ impl Disk for MemDisk {
         ensures capacity { room_of self.new ≡ room_of self.old }
         ensures arms { arms_of self.new ≡ arms_of self.old }
 
-        // It fails once its calls are spent or it is stopped, and only then. A call that was refused counts for nothing.
+        // It fails once its calls are spent or it is stopped, and only then. A call that was refused is not served.
         ensures failed { IsErrOf result DiskError.Failed ↔ (is_stopped self.old ≡ true) }
         ensures value { value_of self.new ≡ after_sync result (value_of self.old) }
     {

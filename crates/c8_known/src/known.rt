@@ -33,7 +33,8 @@ impl Model for Known {
 
     ghost view = { λ k. seen k.me.number k.delay k.limit k.ticks k.tables.items };
 
-    ghost invariant = { λ k. IsKnown (seen k.me.number k.delay k.limit k.ticks k.tables.items) × HasRoom k.limit k.tables.items };
+    ghost invariant = { λ k. IsKnown (seen k.me.number k.delay k.limit k.ticks k.tables.items)
+        × HasRoom k.limit k.tables.items };
 }
 
 impl Known {
@@ -97,12 +98,13 @@ impl Known {
         requires plays { Plays self.now player.number }
         requires order { from ≤ to }
         requires within { to ≤ count_in self.now player.number }
-        ensures { result.now ≡ take (to - from) (drop from (player_in self.now player.number).held) }
+        ensures { result.now
+            ≡ take (to - from) (drop from (player_in self.now player.number).held) }
     {
         &self.tables[usize::from(player.number - 1)].inputs[from as usize..to as usize]
     }
 
-    /// Whether a FREEZE or a LEAVE of the player stands: its inputs are no longer taken from itself.
+    /// Whether a FREEZE or a LEAVE of the player stands: its inputs are no longer taken from it.
     pub fn frozen(&self, player: Player) -> bool
         requires { Plays self.now player.number }
         ensures { result ≡ is_frozen_in self.now player.number }
@@ -127,8 +129,9 @@ impl Known {
         self.tables[usize::from(player.number - 1)].cut
     }
 
-    /// How many frames are confirmed: the greatest number, at most that of the own player's ticks, below which every
-    /// player's input is settled at all frames. It costs what the number of players is.
+    /// How many frames are confirmed: the greatest number, at most that of the own player's ticks,
+    /// below which every player's input is settled at all frames. It costs what the number of players
+    /// is.
     pub fn confirmed(&self) -> u32
         ensures value { result ≡ confirmed self.now }
         ensures greatest { IsConfirmed self.now result }
@@ -160,7 +163,8 @@ impl Known {
         }
     }
 
-    /// The best guess at the inputs of a frame: each player's settled input, else the last one that is held of it.
+    /// The best guess at the inputs of a frame: each player's settled input, else the last one that
+    /// is held of it.
     pub fn best(&self, frame: u32) -> Row
         ensures value { result ≡ best_row self.now frame }
     {
@@ -183,8 +187,9 @@ impl Known {
         }
     }
 
-    /// Judges inputs of a player from a start on, as a player tells them, and lends those of them that are not held yet.
-    /// Checked in this order: `FromLeaver`, `Full`, `Gap`, `Differs`. It changes nothing.
+    /// Judges inputs of a player from a start on, as a player tells them, and lends those of them
+    /// that are not held yet. Checked in this order: `FromLeaver`, `Full`, `Gap`, `Differs`. It
+    /// changes nothing.
     #[tactic(auto, unfolding(crate::specs::Fresh::refusal))]
     pub fn fresh<'a>(
         &self,
@@ -196,11 +201,15 @@ impl Known {
         requires { Plays self.now player.number }
         ensures judged { MatchResult result
             (λ _. refusal self.now player.number teller.number start (words run.entry) ≡ None)
-            (λ error. refusal self.now player.number teller.number start (words run.entry) ≡ Some error) }
-        ensures fresh { IfOk result (λ part. words part ≡ fresh_words self.now player.number start (words run.entry)) }
+            (λ error. refusal self.now player.number teller.number start (words run.entry)
+            ≡ Some error) }
+        ensures fresh { IfOk result (λ part.
+            words part ≡ fresh_words self.now player.number start (words run.entry)) }
         ensures slice { IfOk result (λ part.
-            spelled part ≡ slice_from (count_in self.now player.number - start) (spelled run.entry)) }
-        ensures room { IfOk result (λ part. count_in self.now player.number + length (words part) ≤ self.now.limit) }
+            spelled part
+            ≡ slice_from (count_in self.now player.number - start) (spelled run.entry)) }
+        ensures room { IfOk result (λ part.
+            count_in self.now player.number + length (words part) ≤ self.now.limit) }
     {
         if teller.number == player.number && self.frozen(player) {
             return Err(KnownError::FromLeaver);
@@ -223,7 +232,8 @@ impl Known {
     /// Notes a key set that the own player entered.
     pub fn own(&mut self, keys: Keys)
         requires { count_in self.old self.old.me < self.old.limit }
-        ensures value { self.new ≡ with_record self.old (Own self.old.me (count_in self.old self.old.me) keys.0) }
+        ensures value { self.new
+            ≡ with_record self.old (Own self.old.me (count_in self.old self.old.me) keys.0) }
         ensures known { IsKnown self.new }
         ensures still { IsStillKnown self.old self.new }
     {
@@ -240,7 +250,8 @@ impl Known {
         requires other { player.number ≢ self.old.me }
         requires uncut { (player_in self.old player.number).cut ≡ None }
         requires room { count_in self.old player.number + length (words run) ≤ self.old.limit }
-        ensures value { self.new ≡ with_record self.old (Got player.number (count_in self.old player.number) (words run.entry)) }
+        ensures value { self.new ≡ with_record self.old
+            (Got player.number (count_in self.old player.number) (words run.entry)) }
         ensures known { IsKnown self.new }
         ensures still { IsStillKnown self.old self.new }
     {

@@ -1,5 +1,5 @@
-//! What callers may rest on that is no single call's: laws of journals and of what is known by them, each
-//! the contract of a function that does nothing.
+//! What callers may rest on that is no single call's: laws of journals and of what is known by
+//! them, each the contract of a function that does nothing.
 ghost use Rattle.std.specs.Prelude.{◌≡◌, ◌≢◌, ℕ, ◌+◌, ◌<◌, ◌≤◌, ◌++◌, ◌∷◌, [], List, length, take, drop, Some, None, true};
 ghost use Rattle.c8_game.specs.Rules.{Rules};
 ghost use Rattle.c8_known.specs.Journal.{Record, Own, Got, Freeze, Leave, Cut};
@@ -9,86 +9,92 @@ ghost use Rattle.c8_known.specs.Growth.{Begins, IsStillKnown};
 ghost use Rattle.c8_known.specs.Fresh.{refusal, fresh_words};
 
 /// What is known by a journal with one record more, for each kind of record.
-#[tactic(auto, using(crate::specs::OneMore::one_more))]
 pub fn one_record_more()
     ensures { (rules : Rules) (me : ℕ) (journal : List Record) (r : Record) → NamesPlayer rules r
         → known_of rules me (journal ++ r ∷ []) ≡ with_record (known_of rules me journal) r }
 {}
 
 /// What is known of a player is what the journal says of it.
-#[tactic(auto, using(crate::specs::OneMore::player_known))]
 pub fn known_is_what_the_journal_says()
     ensures { (rules : Rules) (me q : ℕ) (journal : List Record) → 1 ≤ q → q ≤ rules.players
         → player_in (known_of rules me journal) q ≡ said_of rules q journal }
 {}
 
 /// What was known and is still known later is still known later again.
-#[tactic(auto, using(crate::specs::KnownLaws::still_same, crate::specs::KnownLaws::still_more))]
 pub fn what_is_still_known_chains()
     ensures same { (k : KnownValue) → IsStillKnown k k }
     ensures more { (a b c : KnownValue) → IsStillKnown a b → IsStillKnown b c → IsStillKnown a c }
 {}
 
-/// A record of a player of the game takes nothing back, unless it adds inputs to a list that is cut.
-#[tactic(auto, using(crate::specs::KnownLaws::own_still, crate::specs::KnownLaws::got_still, crate::specs::KnownLaws::freeze_still, crate::specs::KnownLaws::leave_still, crate::specs::KnownLaws::cut_still))]
+/// A record of a player of the game takes nothing back, unless it adds inputs to a list that is
+/// cut.
 pub fn a_record_takes_nothing_back()
-    ensures own { (k : KnownValue) (start word : ℕ) → IsKnown k → IsStillKnown k (with_record k (Own k.me start word)) }
-    ensures got { (k : KnownValue) (q start : ℕ) (words : List ℕ) → Plays k q → (player_in k q).cut ≡ None
-        → IsStillKnown k (with_record k (Got q start words)) }
-    ensures freeze { (k : KnownValue) (q : ℕ) → Plays k q → IsStillKnown k (with_record k (Freeze q)) }
-    ensures leave { (k : KnownValue) (q : ℕ) → Plays k q → IsStillKnown k (with_record k (Leave q)) }
-    ensures cut { (k : KnownValue) (q K start : ℕ) (words : List ℕ) → Plays k q → (player_in k q).cut ≡ None
-        → IsStillKnown k (with_record k (Cut q K start words)) }
+    ensures own { (k : KnownValue) (start word : ℕ) → IsKnown k
+        → IsStillKnown k (with_record k (Own k.me start word)) }
+    ensures got { (k : KnownValue) (q start : ℕ) (words : List ℕ) → Plays k q
+        → (player_in k q).cut ≡ None → IsStillKnown k (with_record k (Got q start words)) }
+    ensures freeze { (k : KnownValue) (q : ℕ) → Plays k q
+        → IsStillKnown k (with_record k (Freeze q)) }
+    ensures leave { (k : KnownValue) (q : ℕ) → Plays k q
+        → IsStillKnown k (with_record k (Leave q)) }
+    ensures cut { (k : KnownValue) (q K start : ℕ) (words : List ℕ) → Plays k q
+        → (player_in k q).cut ≡ None → IsStillKnown k (with_record k (Cut q K start words)) }
 {}
 
 /// Each record that the calls of `Known` allow keeps what is true of all that a peer can know.
 pub fn what_is_known_stays_sound()
     ensures own { (k : KnownValue) (start word : ℕ) → IsKnown k → count_in k k.me < k.limit
         → IsKnown (with_record k (Own k.me start word)) }
-    ensures got { (k : KnownValue) (q start : ℕ) (words : List ℕ) → IsKnown k → Plays k q → q ≢ k.me
-        → (player_in k q).cut ≡ None → count_in k q + length words ≤ k.limit → IsKnown (with_record k (Got q start words)) }
-    ensures freeze { (k : KnownValue) (q : ℕ) → IsKnown k → Plays k q → IsKnown (with_record k (Freeze q)) }
-    ensures leave { (k : KnownValue) (q : ℕ) → IsKnown k → Plays k q → IsKnown (with_record k (Leave q)) }
-    ensures cut { (k : KnownValue) (q K start : ℕ) (words : List ℕ) → IsKnown k → Plays k q → q ≢ k.me
-        → is_frozen_in k q ≡ true → (player_in k q).cut ≡ None → count_in k q + length words ≡ K → K ≤ k.limit
+    ensures got { (k : KnownValue) (q start : ℕ) (words : List ℕ) → IsKnown k → Plays k q
+        → q ≢ k.me → (player_in k q).cut ≡ None → count_in k q + length words ≤ k.limit
+        → IsKnown (with_record k (Got q start words)) }
+    ensures freeze { (k : KnownValue) (q : ℕ) → IsKnown k → Plays k q
+        → IsKnown (with_record k (Freeze q)) }
+    ensures leave { (k : KnownValue) (q : ℕ) → IsKnown k → Plays k q
+        → IsKnown (with_record k (Leave q)) }
+    ensures cut { (k : KnownValue) (q K start : ℕ) (words : List ℕ) → IsKnown k → Plays k q
+        → q ≢ k.me → is_frozen_in k q ≡ true → (player_in k q).cut ≡ None
+        → count_in k q + length words ≡ K → K ≤ k.limit
         → IsKnown (with_record k (Cut q K start words)) }
 {}
 
-/// A record that cuts a list and brings the last inputs of it says what a record that brings them and one that only
-/// cuts say.
+/// A record that cuts a list and brings the last inputs of it says what two records say: one that
+/// brings them, and one that only cuts.
 pub fn a_cut_is_a_run_and_an_end()
     ensures { (k : KnownValue) (q K start later : ℕ) (words : List ℕ) → Plays k q
-        → with_record k (Cut q K start words) ≡ with_record (with_record k (Got q start words)) (Cut q K later []) }
+        → with_record k (Cut q K start words)
+        ≡ with_record (with_record k (Got q start words)) (Cut q K later []) }
 {}
 
 /// The number of confirmed frames is such a greatest number, and the only one.
-#[tactic(auto, using(crate::specs::ConfirmedLaws::confirmed_is, crate::specs::ConfirmedLaws::confirmed_only))]
 pub fn confirmed_is_greatest()
     ensures is { (k : KnownValue) → IsConfirmed k (confirmed k) }
     ensures only { (k : KnownValue) (n : ℕ) → IsConfirmed k n → n ≡ confirmed k }
 {}
 
-/// What is settled stays so with its value, what is confirmed stays confirmed, and the confirmed rows begin those of
-/// later.
-#[tactic(auto, using(crate::specs::ConfirmedLaws::input_stays, crate::specs::ConfirmedLaws::confirmed_rises, crate::specs::ConfirmedLaws::row_stays, crate::specs::ConfirmedLaws::rows_stay))]
+/// What is settled stays so with its value, what is confirmed stays confirmed, and the confirmed
+/// rows begin those of later.
 pub fn confirmed_rows_stay()
-    ensures inputs { (old new : KnownValue) → IsStillKnown old new
-        → (q frame w : ℕ) → input_of (player_in old q) frame ≡ Some w → input_of (player_in new q) frame ≡ Some w }
+    ensures inputs { (old new : KnownValue) → IsStillKnown old new → (q frame w : ℕ)
+        → input_of (player_in old q) frame ≡ Some w → input_of (player_in new q) frame ≡ Some w }
     ensures rises { (old new : KnownValue) → IsStillKnown old new → confirmed old ≤ confirmed new }
     ensures row { (old new : KnownValue) → IsStillKnown old new
         → (frame : ℕ) → frame < confirmed old → row new frame ≡ row old frame }
-    ensures rows { (old new : KnownValue) → IsStillKnown old new → Begins (confirmed_rows old) (confirmed_rows new) }
+    ensures rows { (old new : KnownValue) → IsStillKnown old new
+        → Begins (confirmed_rows old) (confirmed_rows new) }
 {}
 
 /// Of a confirmed frame the best guess is no guess.
-#[tactic(auto, using(crate::specs::ConfirmedLaws::best_of_confirmed))]
 pub fn what_is_confirmed_is_not_guessed()
-    ensures { (k : KnownValue) (frame : ℕ) → frame < confirmed k → best_row k frame ≡ row k frame }
+    ensures { (k : KnownValue) (frame : ℕ) → frame < confirmed k
+        → best_row k frame ≡ row k frame }
 {}
 
 /// A run that is not refused stands in the player's list, once its fresh part is added.
-#[tactic(auto, using(crate::specs::FreshLaws::fresh_stands))]
 pub fn what_is_taken_stands()
-    ensures { (k : KnownValue) (player teller start : ℕ) (words : List ℕ) → refusal k player teller start words ≡ None
-        → take (length words) (drop start ((player_in k player).held ++ fresh_words k player start words)) ≡ words }
+    ensures { (k : KnownValue) (player teller start : ℕ) (words : List ℕ)
+        → refusal k player teller start words ≡ None
+        → take (length words)
+        (drop start ((player_in k player).held ++ fresh_words k player start words))
+        ≡ words }
 {}

@@ -84,7 +84,8 @@ pub(crate) fn tables_of(
 ) -> Result<Vec<Table>, AllocError>
     requires { delay ≤ limit }
     ensures values { IfOk result (λ tables. map table_value tables.items
-        ≡ replicate players (record { held = replicate delay 0; frozen = false; leaving = false; cut = None })) }
+        ≡ replicate players
+        (record { held = replicate delay 0; frozen = false; leaving = false; cut = None })) }
     ensures room { IfOk result (λ tables. HasRoom limit tables.items) }
 {
     let mut tables = Vec::with_capacity(alloc, usize::from(players))?;

@@ -52,8 +52,8 @@ with_slot image n body = overwritten image (slot_length * n) (open_gate ∷ (bod
 abbrev pub with_body : List ℕ → ℕ → List ℕ → List ℕ
 with_body image n body = overwritten image (slot_length * n + 1) (body ++ closed_gate ∷ [])
 
--- What an append to slot n that failed leaves of the bytes: the old ones, with what stands from after the slot's gate up
--- to the next gate torn; or those with the body and a closed gate there, and the slot's own gate torn.
+-- What an append to slot n that failed leaves of the bytes: the old ones, with what stands from after the slot's gate to
+-- the end of the next gate torn; or those with the body and a closed gate there, and the slot's own gate torn.
 abbrev pub IsLeftByAppend : ℕ → List ℕ → List ℕ → List ℕ → Type 0
 IsLeftByAppend n body old new = Torn (slot_length * n + 1) slot_length old new ⊎ Torn (slot_length * n) 1 (with_body old n body) new
 
@@ -64,10 +64,10 @@ disk_after (Err refusal) = refusal.1
 
 -- What a refused opening leaves of the bytes: the old ones; or, where the disk failed and the gate after the kept bodies
 -- was missing or open, the old ones with that gate torn.
-abbrev pub IsLeftBy : LogError → List ℕ → List ℕ → Type 0
-IsLeftBy Failed old new = (new ≡ old) ⊎ ((has_closed_gate old ≡ false) × Torn (slot_length * kept_count old) 1 old new)
-IsLeftBy Full old new = new ≡ old
-IsLeftBy Down old new = ⊥
+abbrev pub IsLeftByOpening : LogError → List ℕ → List ℕ → Type 0
+IsLeftByOpening Failed old new = (new ≡ old) ⊎ ((has_closed_gate old ≡ false) × Torn (slot_length * kept_count old) 1 old new)
+IsLeftByOpening Full old new = new ≡ old
+IsLeftByOpening Down old new = ⊥
 
 module _ {D : Type 0} (g : Ghosts D) where
   -- The log counts the bodies that are kept in what a read gives, and each image that a crash now may leave keeps the

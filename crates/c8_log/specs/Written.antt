@@ -1,4 +1,4 @@
--- What a crash may leave of one write.
+-- What a crash may leave of one write. Only contracts of private functions cite this file: no reader has to believe it.
 use Rattle.std.specs.Prelude.{◌⊎◌, ℕ, List}
 use Rattle.c8_disk.specs.Disk.{Torn}
 

@@ -41,7 +41,7 @@ impl<D: Disk> fmt::Debug for Log<D> {
 }
 
 impl<D: Disk> Log<D> {
-    ghost use Rattle.c8_log.specs.Log.{KeepsOneOf, KeepsWithOrWithout, IsAtRest, IsLeftBy, IsLeftByAppend, disk_after, has_closed_gate, repaired, with_slot};
+    ghost use Rattle.c8_log.specs.Log.{KeepsOneOf, KeepsWithOrWithout, IsAtRest, IsLeftByOpening, IsLeftByAppend, disk_after, has_closed_gate, repaired, with_slot};
 
     /// Opens the log that a disk holds, and closes the gate after its last body if that was left open or is missing.
     /// At an error the disk is given back, and it keeps what it kept. A disk that a failure takes down for good, as it does
@@ -63,7 +63,7 @@ impl<D: Disk> Log<D> {
             refusal.0 ≡ LogError.Full → (has_closed_gate (D.seen disk) ≡ false)
             × (D.capacity disk < slot_length * length (kept (D.seen disk)) + 1)) }
         ensures left { IfErr result (λ refusal.
-            IsLeftBy refusal.0 (D.seen disk) (D.seen refusal.1)) }
+            IsLeftByOpening refusal.0 (D.seen disk) (D.seen refusal.1)) }
         ensures never_down { IfErr result (λ refusal. refusal.0 ≢ LogError.Down) }
 
         ensures changes { D.changes (disk_after result) ≤ D.changes disk + 3 }
@@ -82,7 +82,7 @@ impl<D: Disk> Log<D> {
         }
     }
 
-    /// How many bodies the log keeps: those that it was opened with, and one for each `append` that answered `Ok`.
+    /// How many bodies the log counts: those that it was opened with, and one for each `append` that answered `Ok`.
     pub fn len(&self) -> u32
         ensures count { result ≡ self.now.count }
         ensures at_rest { self.now.down ≡ false → IsAtRest D.Disk self.now }
@@ -106,7 +106,8 @@ impl<D: Disk> Log<D> {
     }
 
     /// Adds a body, and answers the number of its slot. At `Ok` the body is on the disk: from then on each crash leaves
-    /// it. After an error the log is down; the next opening decides whether the body counts.
+    /// it. After an error the log is down: after `Failed` the next opening decides whether the body counts, after `Full`
+    /// and `Down` it was not written.
     pub fn append(&mut self, body: &[u8; BODY_LENGTH]) -> Result<u32, LogError>
         ensures slot { IfOk result (λ slot. slot ≡ self.old.count) }
         ensures count { OnOk result (self.new.count ≡ self.old.count + 1) }
@@ -117,7 +118,8 @@ impl<D: Disk> Log<D> {
             (D.seen self.new.disk ≡ with_slot (D.seen self.old.disk) self.old.count body.now) }
         ensures at_rest { OnOk result (IsAtRest D.Disk self.new) }
 
-        // A crash at any moment of the call leaves the bodies from before it, with the new one or without.
+        // A crash at any moment of the call, where the log was up, leaves the bodies from before it, with the new one or
+        // without.
         ensures any_moment { self.old.down ≡ false → LeavesOnly D.Disk self.old.disk self.new.disk
             (KeepsWithOrWithout (kept (D.seen self.old.disk)) body.now) }
 

@@ -3,7 +3,7 @@ ghost use Rattle.std.specs.Prelude.{◌≡◌, ◌<◌, ◌≤◌, ◌+◌, ◌*
 ghost use Rattle.c8_disk.specs.Disk.{Only, HasCause};
 ghost use Rattle.c8_disk.specs.Runs.{LeavesOnly, IsSameDisk};
 ghost use Rattle.c8_log.specs.Slots.{kept, kept_count, slot_length};
-ghost use Rattle.c8_log.specs.Log.{IsUp, KeepsOneOf, IsLeftBy, has_closed_gate, repaired, log_error};
+ghost use Rattle.c8_log.specs.Log.{IsUp, KeepsOneOf, IsLeftByOpening, has_closed_gate, repaired, log_error};
 
 use crate::end::{End, find_end};
 use crate::slot::{CLOSED_GATE, SLOT};
@@ -15,7 +15,7 @@ pub(crate) fn settle<D: Disk>(disk: &mut D) -> Result<u32, DiskError>
     ensures up { IfOk result (IsUp D.Disk disk.new) }
     ensures repaired { OnOk result (D.seen disk.new ≡ repaired (D.seen disk.old)) }
     ensures left { IfErr result (λ error.
-        IsLeftBy (log_error error) (D.seen disk.old) (D.seen disk.new)) }
+        IsLeftByOpening (log_error error) (D.seen disk.old) (D.seen disk.new)) }
     ensures kept { kept (D.seen disk.new) ≡ kept (D.seen disk.old) }
     ensures any_moment { LeavesOnly D.Disk disk.old disk.new (KeepsOneOf (D.may_leave disk.old)) }
     ensures cause { HasCause (D.failures disk.old) (D.failures disk.new) result }
@@ -41,7 +41,7 @@ fn repair<D: Disk>(disk: &mut D, end: End) -> Result<(), DiskError>
 
     ensures repaired { OnOk result (D.seen disk.new ≡ repaired (D.seen disk.old)) }
     ensures left { IfErr result (λ error.
-        IsLeftBy (log_error error) (D.seen disk.old) (D.seen disk.new)) }
+        IsLeftByOpening (log_error error) (D.seen disk.old) (D.seen disk.new)) }
     ensures up { OnOk result (IsUp D.Disk disk.new end.count) }
     ensures any_moment { LeavesOnly D.Disk disk.old disk.new
         (λ image. kept image ≡ kept (D.seen disk.old)) }

@@ -40,8 +40,8 @@ impl Window {
         self.acked[usize::from(player.number - 1)]
     }
 
-    /// Takes an acknowledgement of `count` of the own inputs. One of more inputs than there are is refused
-    /// and changes nothing; one of fewer than before changes nothing.
+    /// Takes an acknowledgement of `count` of the own inputs. One of more inputs than there are is
+    /// refused and changes nothing; one of fewer than before changes nothing.
     pub fn ack(&mut self, player: Player, count: u32, known: &Known) -> Result<(), BadAck>
         ensures judged { MatchResult result
             (λ _. count ≤ count_in known.now known.now.me)
@@ -61,7 +61,8 @@ impl Window {
         Ok(())
     }
 
-    /// The own inputs that a player has not acknowledged, at most 64 of them, lent from what is known.
+    /// The own inputs that a player has not acknowledged, at most 64 of them, lent from what is
+    /// known.
     pub fn pending<'a>(&self, player: Player, known: &'a Known) -> &'a [u16]
         ensures pending { result.now ≡ pending_of self.now known.entry.now player.number }
         ensures most { length result.now ≤ LONGEST_RUN }

@@ -23,7 +23,7 @@ IsRefusalOfBytes bytes (refusals.Keys error) = ⊥
 IsRefusalOfBytes bytes refusals.Disk = ⊥
 IsRefusalOfBytes bytes refusals.Start = ⊥
 
--- what the bytes of the word say, or why they are refused
+-- why the word, or the bytes that it spells, are refused
 abbrev pub IsRefusalOfShow : List ℕ → Refusal → Type 0
 IsRefusalOfShow word (refusals.Hex error) = IsRefusalOfWord word error
 IsRefusalOfShow word (refusals.Wire error) =

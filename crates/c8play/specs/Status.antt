@@ -12,7 +12,7 @@ exit_code_of Refused = 1
 exit_code_of CommandLine = 2
 exit_code_of Failed = 3
 
--- a disk fails, all else that is refused is input
+-- where a disk failed, the program ends as failed, and else as refused
 abbrev pub status_of : Refusal → Status
 status_of (Game error) = Refused
 status_of (Keys error) = Refused

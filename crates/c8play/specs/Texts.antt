@@ -13,7 +13,7 @@ abbrev pub refusal_of_texts : Option TextError → Option TextError → Option R
 refusal_of_texts None None = None
 refusal_of_texts None (Some Failed) = Some Disk
 refusal_of_texts None (Some Memory) = Some (Keys keys.Memory)
-refusal_of_texts (Some Failed) keys = Some Disk
+refusal_of_texts (Some Failed) other = Some Disk
 refusal_of_texts (Some Memory) None = Some (Game games.Memory)
 refusal_of_texts (Some Memory) (Some Failed) = Some Disk
 refusal_of_texts (Some Memory) (Some Memory) = Some (Game games.Memory)

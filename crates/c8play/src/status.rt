@@ -11,7 +11,7 @@ use std::process::ExitCode;
 pub enum Status {
     /// It did what it was asked.
     Done,
-    /// It refused its input.
+    /// It refused its input, or memory ran out.
     Refused,
     /// The command line asks for nothing that it does.
     CommandLine,

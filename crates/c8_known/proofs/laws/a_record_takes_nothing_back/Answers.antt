@@ -1,0 +1,17 @@
+use Rattle.c8_known.specs.KnownLaws.{own_still, got_still, freeze_still, leave_still, cut_still}
+use Rattle.c8_known.proofs.laws.a_record_takes_nothing_back.Goals as goal
+
+pub returns-clause-own : goal.returns-clause-own
+returns-clause-own c = own_still
+
+pub returns-clause-got : goal.returns-clause-got
+returns-clause-got c = got_still
+
+pub returns-clause-freeze : goal.returns-clause-freeze
+returns-clause-freeze c = freeze_still
+
+pub returns-clause-leave : goal.returns-clause-leave
+returns-clause-leave c = leave_still
+
+pub returns-clause-cut : goal.returns-clause-cut
+returns-clause-cut c = cut_still

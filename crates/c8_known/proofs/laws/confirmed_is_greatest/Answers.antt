@@ -1,0 +1,8 @@
+use Rattle.c8_known.specs.ConfirmedLaws.{confirmed_is, confirmed_only}
+use Rattle.c8_known.proofs.laws.confirmed_is_greatest.Goals as goal
+
+pub returns-clause-is : goal.returns-clause-is
+returns-clause-is c = confirmed_is
+
+pub returns-clause-only : goal.returns-clause-only
+returns-clause-only c = confirmed_only

@@ -1,0 +1,5 @@
+use Rattle.c8_known.specs.OneMore.{player_known}
+use Rattle.c8_known.proofs.laws.known_is_what_the_journal_says.Goals as goal
+
+pub returns : goal.returns
+returns c = player_known

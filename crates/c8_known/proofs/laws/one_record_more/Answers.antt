@@ -1,0 +1,5 @@
+use Rattle.c8_known.specs.OneMore.{one_more}
+use Rattle.c8_known.proofs.laws.one_record_more.Goals as goal
+
+pub returns : goal.returns
+returns c = one_more
