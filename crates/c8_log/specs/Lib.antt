@@ -1,4 +1,5 @@
 pub mod Errors
+pub mod Journal
 pub mod Log
 pub mod Slots
 pub mod Written

@@ -3,6 +3,7 @@ ghost use Rattle.std.specs.Prelude.{◌≡◌, ◌≤◌, ℕ, List, [], ◌∷�
 ghost use Rattle.c8_disk.specs.Runs.{LeavesOnly};
 ghost use Rattle.c8_log.specs.Slots.{kept, IsKept};
 ghost use Rattle.c8_log.specs.Log.{KeepsOneOf, KeepsWithOrWithout, SinceKeeps};
+ghost use Rattle.c8_log.specs.Journal.{KeepsBodies, AllKeepBodies};
 
 use c8_disk::Disk;
 
@@ -20,6 +21,15 @@ pub fn appends_add_one_list<D: Disk>()
         → SinceKeeps D.Disk old t lists
         → LeavesOnly D.Disk old new (KeepsWithOrWithout (kept (D.seen old)) body)
         → SinceKeeps D.Disk new t (lists ++ (kept (D.seen old) ++ body ∷ []) ∷ []) }
+{}
+
+/// And so it is after an `append` of a journal that is up, whose bodies each image keeps before the call.
+pub fn journals_add_one_list<D: Disk>()
+    ensures { (old new : D) (t : ℕ) (lists : List (List (List ℕ)))
+        (bodies : List (List ℕ)) (body : List ℕ) → t ≤ D.moment old
+        → AllKeepBodies bodies None (D.may_leave old) → SinceKeeps D.Disk old t lists
+        → LeavesOnly D.Disk old new (KeepsBodies bodies (Some body))
+        → SinceKeeps D.Disk new t (lists ++ (bodies ++ body ∷ []) ∷ []) }
 {}
 
 /// And after an opening or a `read`, with none added.

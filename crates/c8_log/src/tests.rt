@@ -1,5 +1,7 @@
-use crate::{BODY_LENGTH, Block, Log, LogError, kept_body, kept_len};
-use c8_disk::{Arm, Disk, FileDisk, MemDisk};
+ghost use Rattle.std.specs.Prelude.{◌≡◌, false, IfOk};
+
+use crate::{BODY_LENGTH, Block, Journal, Log, LogError, kept_body, kept_len};
+use c8_disk::{Arm, Disk, DiskError, FileDisk, MemDisk};
 use std::alloc::Global;
 use std::fs;
 use std::process::Abort;
@@ -238,5 +240,71 @@ fn the_bytes_of_an_image_lend_their_bodies(rt: HostRuntime) -> Result<(), Fail> 
         }
     }
     assert_eq!(rt; kept_len(&[]), 0);
+    Ok(())
+}
+
+/// The journal of the log that a disk holds.
+fn journal_on<D: Disk + Drop>(disk: D) -> Result<Journal<D>, LogError>
+    ensures { IfOk result (λ journal. journal.is_down ≡ false) }
+{
+    match Log::open(disk) {
+        Ok(log) => Ok(Journal::over(log)),
+        Err((error, _disk)) => Err(error),
+    }
+}
+
+#[test]
+fn a_journal_stops_after_each_call_of_its_third_append(rt: HostRuntime) -> Result<(), Fail> {
+    for calls in 0..5u64 {
+        for pick in 0..2u64 {
+            let mut journal = journal_on(MemDisk::new(rt.alloc(), CAPACITY, CALLS)?)?;
+            assert!(rt; journal.is_empty());
+            journal.append(&body_of(1))?;
+            journal.append(&body_of(2))?;
+            journal.arm(Arm::Stop(calls));
+            let answer = journal.append(&body_of(3));
+            let is_whole = calls == 4;
+            assert_eq!(rt;
+                answer,
+                if is_whole {
+                    Ok(())
+                } else {
+                    Err(DiskError::Failed)
+                }
+            );
+            assert_eq!(rt; journal.is_down(), !is_whole);
+            assert_eq!(rt; journal.len(), if is_whole { 3 } else { 2 });
+            assert!(rt; !journal.is_empty());
+            let mut log = opened(journal.close().crash(pick))?;
+            let kept = if is_whole || (calls, pick) == (3, 1) {
+                3
+            } else {
+                2
+            };
+            assert!(rt; keeps(&mut log, kept)?, "{calls} {pick}");
+            let mut journal = journal_on(log.close())?;
+            assert_eq!(rt; journal.len(), kept);
+            journal.append(&body_of(if kept == 3 { 4 } else { 3 }))?;
+            assert!(rt; keeps(&mut opened(journal.close().crash(0))?, kept + 1)?);
+        }
+    }
+    Ok(())
+}
+
+#[test]
+fn a_full_journal_goes_down_and_keeps_its_bodies(rt: HostRuntime) -> Result<(), Fail> {
+    for room in [289, 432] {
+        let mut journal = journal_on(MemDisk::new(rt.alloc(), room, CALLS)?)?;
+        journal.append(&body_of(1))?;
+        journal.append(&body_of(2))?;
+        let shown = format!(in rt.alloc(); "{journal:?}")?;
+        assert_eq!(rt; shown.as_str(), "Journal { count: 2, down: false }");
+        assert_eq!(rt; journal.append(&body_of(3)), Err(DiskError::Full));
+        let shown = format!(in rt.alloc(); "{journal:?}")?;
+        assert_eq!(rt; shown.as_str(), "Journal { count: 2, down: true }");
+        journal.arm(Arm::Off);
+        assert!(rt; journal.is_down());
+        assert!(rt; keeps(&mut opened(journal.close().crash(1))?, 2)?);
+    }
     Ok(())
 }
