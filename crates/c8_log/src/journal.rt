@@ -76,7 +76,8 @@ impl<D: Disk> Journal<D> {
         self.log.is_empty()
     }
 
-    /// Whether an `append` was refused since it was made.
+    /// Whether an `append` was refused. It takes no more bodies then: it is to be closed, and its
+    /// disk opened anew.
     pub fn is_down(&self) -> bool
         ensures value { result ≡ self.now.is_down }
 
@@ -90,9 +91,9 @@ impl<D: Disk> Journal<D> {
         self.log.is_down()
     }
 
-    /// Adds a body. At `Ok` it is kept from then on, whenever a crash comes. After an error the
-    /// journal is down, and the body is pending: after `Failed` the next opening decides whether it
-    /// counts, after `Full` nothing was written.
+    /// Adds a body, while the journal is up. At `Ok` it is kept from then on, whenever a crash comes.
+    /// After an error the journal is down, and the body is pending: after `Failed` the next opening
+    /// decides whether it counts, after `Full` nothing was written.
     pub fn append(&mut self, body: &[u8; BODY_LENGTH]) -> Result<(), DiskError>
         requires { self.old.is_down ≡ false }
 

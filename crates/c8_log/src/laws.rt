@@ -23,7 +23,8 @@ pub fn appends_add_one_list<D: Disk>()
         → SinceKeeps D.Disk new t (lists ++ (kept (D.seen old) ++ body ∷ []) ∷ []) }
 {}
 
-/// And so it is after an `append` of a journal that is up, whose bodies each image keeps before the call.
+/// And so it is after an `append` of a journal that is up: before the call each image keeps its
+/// bodies.
 pub fn journals_add_one_list<D: Disk>()
     ensures { (old new : D) (t : ℕ) (lists : List (List (List ℕ)))
         (bodies : List (List ℕ)) (body : List ℕ) → t ≤ D.moment old
