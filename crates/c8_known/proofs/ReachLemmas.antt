@@ -1,17 +1,15 @@
 -- The least reach of all players is how many frames are confirmed.
-use Rattle.std.proofs.Common.{◌≡◌, ◌≢◌, ℕ, zero, suc, ◌+◌, ◌-◌, ◌<◌, ◌≤◌, ◌⊎◌, List, [], ◌∷◌, ◌++◌, length, map, min, take, fold, Bool, true, false, cond, Option, Some, None, refl, sym, ap, subst, ◌∙◌, inl, inr, arith, slice_index_or}
+use Rattle.std.proofs.Common.{◌≡◌, ℕ, zero, suc, ◌+◌, ◌-◌, ◌<◌, ◌≤◌, ◌⊎◌, List, [], ◌∷◌, length, map, min, take, fold, true, false, Option, Some, None, refl, sym, ap, subst, ◌∙◌, inl, inr, arith, slice_index_or}
 use Rattle.std.specs.List.{slice_get}
-use Rattle.std.specs.Prelude.{nat_le}
 use Rattle.std.proofs.Math.Nat.{min-le_left, min-le_right}
 use Rattle.std.proofs.Math.Seq.{take-suc}
 use Rattle.std.proofs.lemmas.Bool.{cases_lt, both_ways, le-leb, lt-leb}
 use Rattle.std.proofs.lemmas.List.{get_or-map, length-map}
 use Rattle.std.proofs.lemmas.List.Sums.{fold-append}
 use Rattle.std.proofs.lemmas.Option.{slice_get-get_or, slice_get_past, slice_get_within}
-use native.Mathlib.Numerals.{unary_clauses}
 use Rattle.c8_known.specs.declared.table.Table.{Table}
 use Rattle.c8_known.specs.Known.{PlayerValue, KnownValue, nobody, player_in, Plays}
-use Rattle.c8_known.specs.Confirmed.{past_cut, unless_held, input_of, has_value, is_settled_of, confirmed, AreSettledBelow, IsConfirmed}
+use Rattle.c8_known.specs.Confirmed.{past_cut, input_of, is_settled_of, confirmed, IsConfirmed}
 use Rattle.c8_known.specs.ConfirmedLaws.{input_held, confirmed_only}
 use Rattle.c8_known.specs.Tables.{table_value, reach_to, reach_of, least_of}
 

@@ -1,10 +1,10 @@
 -- What is known before a journal says anything.
-use Rattle.std.proofs.Common.{◌≡◌, ℕ, zero, suc, ◌+◌, ◌-◌, ◌<◌, ◌≤◌, List, [], ◌∷◌, ◌++◌, length, map, Bool, true, false, Option, Some, None, refl, sym, ap, ◌∙◌, arith, replicate}
+use Rattle.std.proofs.Common.{◌≡◌, ℕ, zero, suc, ◌+◌, List, [], map, false, None, refl, sym, ap, ◌∙◌, replicate}
 use Rattle.std.specs.List.{range_with_len}
 use Rattle.std.proofs.lemmas.List.{append-nil}
 use Rattle.c8_game.specs.Rules.{Rules, limit_of}
 use Rattle.c8_known.specs.Journal as journals
-use Rattle.c8_known.specs.Known.{PlayerValue, KnownValue, said_of, known_of}
+use Rattle.c8_known.specs.Known.{PlayerValue, said_of, known_of}
 use Rattle.c8_known.specs.declared.table.Table.{Table}
 use Rattle.c8_known.specs.Tables.{table_value, seen}
 

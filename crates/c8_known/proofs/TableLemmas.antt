@@ -1,5 +1,5 @@
 -- What one changed table makes of what is known.
-use Rattle.std.proofs.Common.{◌≡◌, ◌≢◌, ℕ, ◌+◌, ◌-◌, ◌<◌, ◌≤◌, ◌^◌, ◌||◌, List, [], ◌∷◌, ◌++◌, length, map, Bool, true, false, Option, Some, None, refl, sym, ap, subst, ◌∙◌, arith, slice_set, slice_index_or, vec_capacity, All}
+use Rattle.std.proofs.Common.{◌≡◌, ◌≢◌, ℕ, ◌+◌, ◌-◌, ◌<◌, ◌≤◌, ◌^◌, List, [], ◌∷◌, ◌++◌, length, map, true, Option, Some, None, refl, sym, ap, subst, ◌∙◌, arith, slice_set, slice_index_or, vec_capacity, All}
 use Rattle.std.proofs.lemmas.List.{map-set, get_or-map, get_or_past, append-nil, length-map}
 use Rattle.std.proofs.lemmas.List.Elements.{All-set}
 use Rattle.c8_known.specs.declared.table.Table.{Table}

@@ -1,9 +1,7 @@
-use Rattle.std.proofs.Common.{◌≡◌, ◌≢◌, ◌≤◌, ◌<◌, ℕ, length, min, drop, Some, sym, ◌∙◌, inl, inr, arith, slice_index_or}
-use Rattle.std.specs.List.{slice_get}
-use Rattle.std.proofs.lemmas.Option.{slice_get-get_or, slice_get_within}
+use Rattle.std.proofs.Common.{◌≤◌, ℕ, length, drop, sym, ◌∙◌, inl, inr, arith, slice_index_or}
+use Rattle.std.proofs.lemmas.Option.{slice_get-get_or}
 use Rattle.std.proofs.lemmas.Bool.{cases_lt}
 use Rattle.c8_wire.specs.Lent.{words}
-use Rattle.c8_known.specs.Fresh.{differ}
 use Rattle.c8_known.proofs.ListLemmas.{differ_later, differ_here, differ_past, differ_past_other}
 use Rattle.c8_known.proofs.table.differ.Goals as goal
 

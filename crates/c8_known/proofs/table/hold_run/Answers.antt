@@ -1,4 +1,4 @@
-use Rattle.std.proofs.Common.{◌≡◌, ◌+◌, ◌≤◌, ◌++◌, ◌∷◌, [], List, ℕ, take, sym, ap, ◌∙◌, append_assoc, arith}
+use Rattle.std.proofs.Common.{◌++◌, ◌∷◌, [], List, ℕ, take, sym, ap, ◌∙◌, append_assoc, arith}
 use Rattle.c8_wire.specs.Lent.{words}
 use Rattle.c8_known.proofs.ListLemmas.{take_more}
 use Rattle.c8_known.proofs.table.hold_run.Goals as goal

@@ -1,6 +1,5 @@
-use Rattle.std.proofs.Common.{◌≡◌, ◌+◌, ◌<◌, ℕ, length, map, min, take, slice_index_or, sym, ap, ◌∙◌}
-use Rattle.c8_known.specs.declared.table.Table.{Table}
-use Rattle.c8_known.specs.Tables.{table_value, reach_of, least_of}
+use Rattle.std.proofs.Common.{ℕ, map, min, take, sym, ap, ◌∙◌}
+use Rattle.c8_known.specs.Tables.{table_value, least_of}
 use Rattle.c8_known.proofs.ReachLemmas.{least_more}
 use Rattle.c8_known.proofs.table.least_reach.Goals as goal
 

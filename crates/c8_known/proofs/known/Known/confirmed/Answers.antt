@@ -1,6 +1,6 @@
-use Rattle.std.proofs.Common.{◌≡◌, ◌+◌, ◌≤◌, ◌<◌, ℕ, length, List, map, sym, ap, subst, ◌∙◌, arith, slice_index_or}
+use Rattle.std.proofs.Common.{◌≡◌, List, map, ap, subst, ◌∙◌}
 use Rattle.c8_known.specs.declared.table.Table.{Table}
-use Rattle.c8_known.specs.Known.{KnownValue, count_in}
+use Rattle.c8_known.specs.Known.{KnownValue}
 use Rattle.c8_known.specs.Confirmed.{confirmed, IsConfirmed}
 use Rattle.c8_known.specs.Tables.{table_value, least_of}
 use Rattle.c8_known.proofs.ReachLemmas.{least_confirmed, least_is}

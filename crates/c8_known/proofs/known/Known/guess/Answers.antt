@@ -1,7 +1,7 @@
-use Rattle.std.proofs.Common.{◌≡◌, ◌+◌, ◌≤◌, length, sym, ap, refl, ◌∙◌, arith}
+use Rattle.std.proofs.Common.{◌≡◌, ◌+◌, ◌≤◌, length, sym, ap}
 use Rattle.std.proofs.lemmas.Bool.{ltb-false}
 use Rattle.c8_known.specs.Known.{PlayerValue, nobody, player_in}
-use Rattle.c8_known.specs.Confirmed.{input_of, or_empty, best_input}
+use Rattle.c8_known.specs.Confirmed.{input_of, best_input}
 use Rattle.c8_known.proofs.TableLemmas.{nobody_there}
 use Rattle.c8_known.proofs.known.Known.guess.Goals as goal
 

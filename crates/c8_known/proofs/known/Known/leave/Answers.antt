@@ -1,7 +1,4 @@
-use Rattle.std.proofs.Common.{◌≡◌, ◌++◌, ◌∷◌, [], refl, sym, ap, subst}
-use Rattle.c8_known.specs.Known.{KnownValue, Plays}
-use Rattle.c8_known.specs.declared.table.Table.{Table}
-use Rattle.c8_known.proofs.TableLemmas.{IsCall, HoldsMore, leave_call}
+use Rattle.c8_known.proofs.TableLemmas.{leave_call}
 use Rattle.c8_known.proofs.known.Known.leave.Goals as goal
 
 pub invariant_of-self : goal.invariant_of-self

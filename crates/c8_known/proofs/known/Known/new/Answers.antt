@@ -1,4 +1,3 @@
-use Rattle.std.proofs.Common.{◌≡◌, ◌∙◌, sym, ap}
 use Rattle.c8_known.proofs.StartLemmas.{seen_at_start}
 use Rattle.c8_known.proofs.known.Known.new.Goals as goal
 

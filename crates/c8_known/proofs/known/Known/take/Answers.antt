@@ -1,8 +1,6 @@
-use Rattle.std.proofs.Common.{◌≡◌, ◌++◌, ◌∷◌, [], refl, sym, ap, subst}
+use Rattle.std.proofs.Common.{refl}
 use Rattle.c8_wire.specs.Lent.{words}
-use Rattle.c8_known.specs.Known.{KnownValue, Plays}
-use Rattle.c8_known.specs.declared.table.Table.{Table}
-use Rattle.c8_known.proofs.TableLemmas.{IsCall, HoldsMore, take_call}
+use Rattle.c8_known.proofs.TableLemmas.{take_call}
 use Rattle.c8_known.proofs.known.Known.take.Goals as goal
 
 pub invariant_of-self : goal.invariant_of-self
