@@ -3,3 +3,6 @@ use Rattle.c8_disk.proofs.file.FileDiskDisk.sync.Goals as goal
 
 pub returns-then-self-clause-unnoted : goal.returns-then-self-clause-unnoted
 returns-then-self-clause-unnoted g c = search rules
+
+pub returns-then-self-clause-down : goal.returns-then-self-clause-down
+returns-then-self-clause-down g c = search rules

@@ -9,3 +9,6 @@ returns-clause-time c = search rules
 
 pub returns-clause-value : goal.returns-clause-value
 returns-clause-value c = search rules
+
+pub invariant_of-self-2 : goal.invariant_of-self-2
+invariant_of-self-2 c = search rules

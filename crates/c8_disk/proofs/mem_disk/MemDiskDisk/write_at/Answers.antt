@@ -1,4 +1,4 @@
-use Rattle.std.proofs.Common.{rules, ◌≤◌, List, ℕ, length, sym, ◌∙◌, ap, subst, arith}
+use Rattle.std.proofs.Common.{rules, ◌≤◌, List, ℕ, length, sym, ◌∙◌, ap, subst, arith, length-append}
 use Rattle.c8_disk.specs.Disk.{overwritten, Elapses}
 use Rattle.c8_disk.specs.Past.{content, are_lawful, fit, IsImage, LeftSince}
 use Rattle.c8_disk.specs.declared.call.Call.{Call}
@@ -36,3 +36,15 @@ returns-clause-time c =
 
 pub returns-then-bytes-self-clause-full : goal.returns-then-bytes-self-clause-full
 returns-then-bytes-self-clause-full c = search rules
+
+pub invariant_of-self-then-bytes-self : goal.invariant_of-self-then-bytes-self
+invariant_of-self-then-bytes-self c = search rules
+
+pub returns-then-bytes-self-clause-crash : goal.returns-then-bytes-self-clause-crash
+returns-then-bytes-self-clause-crash c = search rules
+
+pub returns-then-bytes-self-clause-time : goal.returns-then-bytes-self-clause-time
+returns-then-bytes-self-clause-time c = search rules
+
+pub returns-then-bytes-self-clause-value : goal.returns-then-bytes-self-clause-value
+returns-then-bytes-self-clause-value c = rw (c.refuses.ensures.no c.if-refuses.false, c.and-self.ensures) (search (rules, length-append))
