@@ -1,4 +1,5 @@
 use Rattle.std.proofs.Common.{◌≡◌, ◌++◌, [], ℕ, List, sym, ap, ◌∙◌, arith, length}
+use Rattle.std.proofs.lemmas.Grind.{common_steps}
 use Rattle.std.proofs.lemmas.List.{take_at, length-append}
 use Rattle.c8_wire.specs.Spelling.{header_bytes, body_bytes, spelling}
 use Rattle.c8_wire.specs.Saying.{head_value, message_of}
@@ -40,3 +41,7 @@ returns-clause-spelled c =
     let copied = c.copy_from_slice.ensures.after ∙ c.as_slice-2.ensures.value in
     let front = take_at c.copy_from_slice.new.self _ c.len-size.result (ap length copied ∙ sym c.len-size.ensures.value) in
     spells_both _ head message c.put_header.ensures.head c.requires.kind c.put_body.ensures.fits c.requires.message (front ∙ copied ∙ whole)
+
+-- what is wrong here is refused at once
+pub returns-clause-rest : goal.returns-clause-rest
+returns-clause-rest c = grind (arith, common_steps)

@@ -1,0 +1,9 @@
+use Rattle.std.proofs.Common.{rules}
+use Rattle.c8_wire.proofs.data.Data.start.Goals as goal
+
+-- what is wrong here is refused at once
+pub returns-clause-value : goal.returns-clause-value
+returns-clause-value c = search rules
+
+pub returns-clause-within : goal.returns-clause-within
+returns-clause-within c = search rules
