@@ -1,4 +1,4 @@
-use Rattle.std.proofs.Common.{◌≡◌, ◌-◌, ℕ, List, take, drop, ap, ◌∙◌}
+use Rattle.std.proofs.Common.{ℕ, List, ◌∙◌}
 use Rattle.c8_known.specs.Known.{player_in}
 use Rattle.c8_window.specs.Window.{acked_of}
 use Rattle.c8_window.proofs.PendingLemmas.{part_is}
