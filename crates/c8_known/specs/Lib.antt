@@ -9,3 +9,4 @@ pub mod KnownLaws
 pub mod OneMore
 pub mod ConfirmedLaws
 pub mod FreshLaws
+pub mod StartLaws

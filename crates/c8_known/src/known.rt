@@ -113,6 +113,14 @@ impl Known {
         table.frozen || table.leaving
     }
 
+    /// Whether a FREEZE of the player stands.
+    pub fn has_freeze(&self, player: Player) -> bool
+        requires { Plays self.now player.number }
+        ensures { result ≡ (player_in self.now player.number).frozen }
+    {
+        self.tables[usize::from(player.number - 1)].frozen
+    }
+
     /// Whether a LEAVE of the player stands.
     pub fn leaving(&self, player: Player) -> bool
         requires { Plays self.now player.number }

@@ -1,7 +1,7 @@
 //! What callers may rest on that is no single call's: laws of journals and of what is known by
 //! them, each the contract of a function that does nothing.
 ghost use Rattle.std.specs.Prelude.{◌≡◌, ◌≢◌, ℕ, ◌+◌, ◌<◌, ◌≤◌, ◌++◌, ◌∷◌, [], List, length, take, drop, Some, None, true};
-ghost use Rattle.c8_game.specs.Rules.{Rules};
+ghost use Rattle.c8_game.specs.Rules.{Rules, AreInRange};
 ghost use Rattle.c8_known.specs.Journal.{Record, Own, Got, Freeze, Leave, Cut};
 ghost use Rattle.c8_known.specs.Known.{KnownValue, known_of, player_in, count_in, is_frozen_in, said_of, with_record, NamesPlayer, Plays, IsKnown};
 ghost use Rattle.c8_known.specs.Confirmed.{input_of, confirmed, IsConfirmed, row, confirmed_rows, best_row};
@@ -41,8 +41,11 @@ pub fn a_record_takes_nothing_back()
         → (player_in k q).cut ≡ None → IsStillKnown k (with_record k (Cut q K start words)) }
 {}
 
-/// Each record that the calls of `Known` allow keeps what is true of all that a peer can know.
+/// What is true of all that a peer can know is true before its journal says anything, and each record
+/// that the calls of `Known` allow keeps it.
 pub fn what_is_known_stays_sound()
+    ensures start { (rules : Rules) (me : ℕ) → AreInRange rules → 1 ≤ me → me ≤ rules.players
+        → IsKnown (known_of rules me []) }
     ensures own { (k : KnownValue) (start word : ℕ) → IsKnown k → count_in k k.me < k.limit
         → IsKnown (with_record k (Own k.me start word)) }
     ensures got { (k : KnownValue) (q start : ℕ) (words : List ℕ) → IsKnown k → Plays k q

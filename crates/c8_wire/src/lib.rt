@@ -29,6 +29,7 @@ pub use handshake::{Hello, Welcome};
 pub use header::{Head, Header, Seat};
 pub use kinds::Kind;
 pub use leaving::{Cut, Freeze, Frozen};
+pub use numbers::{u16_at, u32_at, u64_at};
 pub use reading::view;
 pub use run::{Run, Words};
 pub use said::{Body, Said};

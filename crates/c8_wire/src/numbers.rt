@@ -4,8 +4,9 @@ ghost use Rattle.c8_wire.specs.Reading.{number_at};
 
 use byteorder::{BigEndian, ByteOrder};
 
+/// The number in the 2 bytes from a place on.
 #[tactic(auto, unfolding(crate::specs::Reading::number_at))]
-pub(crate) fn u16_at(bytes: &[u8], place: usize) -> u16
+pub fn u16_at(bytes: &[u8], place: usize) -> u16
     requires { place + 2 ≤ length bytes.now }
     ensures { result ≡ number_at place 2 bytes.now }
 {
@@ -13,8 +14,9 @@ pub(crate) fn u16_at(bytes: &[u8], place: usize) -> u16
     BigEndian::read_u16(rest)
 }
 
+/// The number in the 4 bytes from a place on.
 #[tactic(auto, unfolding(crate::specs::Reading::number_at))]
-pub(crate) fn u32_at(bytes: &[u8], place: usize) -> u32
+pub fn u32_at(bytes: &[u8], place: usize) -> u32
     requires { place + 4 ≤ length bytes.now }
     ensures { result ≡ number_at place 4 bytes.now }
 {
@@ -22,8 +24,9 @@ pub(crate) fn u32_at(bytes: &[u8], place: usize) -> u32
     BigEndian::read_u32(rest)
 }
 
+/// The number in the 8 bytes from a place on.
 #[tactic(auto, unfolding(crate::specs::Reading::number_at))]
-pub(crate) fn u64_at(bytes: &[u8], place: usize) -> u64
+pub fn u64_at(bytes: &[u8], place: usize) -> u64
     requires { place + 8 ≤ length bytes.now }
     ensures { result ≡ number_at place 8 bytes.now }
 {

@@ -1,0 +1,64 @@
+-- Checked, not believed: what is known before a journal says anything.
+use Rattle.std.proofs.Common.{◌≡◌, ℕ, zero, suc, ◌+◌, ◌-◌, ◌<◌, ◌≤◌, List, [], length, map, false, None, Some, refl, sym, ap, ◌∙◌, ◌⊎◌, inl, inr, ⊎_elim, arith, replicate, slice_index_or}
+use Rattle.std.specs.List.{range_with_len}
+use Rattle.std.proofs.lemmas.Bool.{cases_lt}
+use Rattle.std.proofs.lemmas.List.{append-nil, length-replicate, get_or_past}
+use Rattle.std.proofs.lemmas.List.FromFn.{length-map-range_with_len}
+use Rattle.c8_game.specs.Rules.{Rules, AreInRange, limit_of}
+use Rattle.c8_known.specs.Journal as journals
+use Rattle.c8_known.specs.Known.{PlayerValue, KnownValue, nobody, player_in, count_in, said_of, known_of, IsKnown}
+use Rattle.c8_known.specs.OneMore.{player_known}
+
+-- a player of whom only the empty sets of the delay are held
+abbrev pub at_start : ℕ → PlayerValue
+at_start delay = record { held = replicate delay 0; frozen = false; leaving = false; cut = None }
+
+pub said_at_start : (rules : Rules) (q : ℕ) → said_of rules q [] ≡ at_start rules.delay
+unfolding journals.held journals.has_freeze journals.has_leave journals.cut_of
+said_at_start rules q = ap (λ (held : List ℕ). record { held = held; frozen = false; leaving = false; cut = None }) (append-nil (replicate rules.delay 0))
+
+pub players_known : (rules : Rules) (me : ℕ) (journal : List journals.Record) → length (known_of rules me journal).players ≡ rules.players
+unfolding known_of
+players_known rules me journal = length-map-range_with_len (λ place. said_of rules (place + 1) journal) 0 rules.players
+
+-- the place of a player's table, whatever its number
+at_place : (rules : Rules) (me q : ℕ) → q - 1 < rules.players → player_in (known_of rules me []) q ≡ at_start rules.delay
+at_place rules me q within =
+    let same : q - 1 + 1 - 1 ≡ q - 1 = omega arith in
+    ap (λ (place : ℕ). slice_index_or (known_of rules me []).players place nobody) (sym same)
+    ∙ player_known rules me (q - 1 + 1) [] (omega arith) (omega (arith, within)) ∙ said_at_start rules (q - 1 + 1)
+
+past_all : (rules : Rules) (me q : ℕ) → rules.players ≤ q - 1 → player_in (known_of rules me []) q ≡ nobody
+past_all rules me q past = get_or_past (known_of rules me []).players (q - 1) nobody (omega (arith, past, players_known rules me []))
+
+count_at_start : (rules : Rules) (me q : ℕ) → q - 1 < rules.players → count_in (known_of rules me []) q ≡ rules.delay
+count_at_start rules me q within = ap (λ (p : PlayerValue). length p.held) (at_place rules me q within) ∙ length-replicate rules.delay 0
+
+few_at_start : (rules : Rules) (me q : ℕ) → count_in (known_of rules me []) q ≤ rules.delay
+few_at_start rules me q =
+    elim (cases_lt (q - 1) rules.players) [
+      | inl within ↦ omega (arith, count_at_start rules me q within)
+      | inr past ↦ omega (arith, ap (λ (p : PlayerValue). length p.held) (past_all rules me q past))
+    ]
+
+uncut_at_start : (rules : Rules) (me q : ℕ) → (player_in (known_of rules me []) q).cut ≡ None
+uncut_at_start rules me q =
+    elim (cases_lt (q - 1) rules.players) [
+      | inl within ↦ ap (λ (p : PlayerValue). p.cut) (at_place rules me q within)
+      | inr past ↦ ap (λ (p : PlayerValue). p.cut) (past_all rules me q past)
+    ]
+
+pub known_at_start : (rules : Rules) (me : ℕ) → AreInRange rules → 1 ≤ me → me ≤ rules.players → IsKnown (known_of rules me [])
+unfolding known_of journals.ticks
+known_at_start rules me range from to =
+    let all = players_known rules me [] in
+    record {
+      at_least_two = omega (arith, all, range.at_least_two);
+      at_most_four = omega (arith, all, range.at_most_four);
+      me = record { from_one = from; in_game = omega (arith, all, to) };
+      limit = omega (arith, range.frames, range.delay);
+      within = λ q. omega (arith, few_at_start rules me q);
+      own = omega (arith, count_at_start rules me me (omega (arith, from, to)));
+      own_uncut = uncut_at_start rules me me;
+      cuts = λ q K is. absurd (cc (uncut_at_start rules me q, is));
+    }

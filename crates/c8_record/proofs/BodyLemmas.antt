@@ -1,0 +1,183 @@
+-- A record that is spelled is read again.
+use Rattle.std.proofs.Common.{◌≡◌, ℕ, zero, suc, ◌+◌, ◌*◌, ◌-◌, ◌/◌, ◌^◌, ◌<◌, ◌≤◌, List, [], ◌∷◌, ◌++◌, length, take, drop, refl, sym, ap, subst, ◌∙◌, arith}
+use Rattle.std.specs.Prelude.{slice_index, replicate}
+use Rattle.std.proofs.Math.Seq.{take-append_seam, drop-append_seam}
+use Rattle.std.proofs.lemmas.List.{append_assoc, length-append}
+use Rattle.byteorder.specs.Endian.{big_bytes, big_number}
+use Rattle.byteorder.specs.Numbers.{big_number-reads_back}
+use Rattle.c8_wire.specs.Packet.{AreBytes, AreWords}
+use Rattle.c8_wire.specs.Reading.{number_at, words_of}
+use Rattle.c8_wire.specs.Spelling.{words_bytes}
+use Rattle.c8_wire.specs.WordLaws.{length-spelled_words, words_of-spelled, words_of-lt}
+use Rattle.c8_known.specs.Journal.{Record, Head, Epoch, Own, Got, Freeze, Leave, Cut}
+use Rattle.c8_record.specs.declared.record.Record.{Record as Lent}
+use Rattle.c8_record.specs.declared.record.Record.TheVariants as lents
+use Rattle.c8_record.specs.Lent.{value_of, HasInputs}
+use Rattle.c8_record.specs.Body.{run_place, run_room, Fields, fields_of, field_bytes, body_of, HasSpelling, Spells, run_at, record_of}
+
+-- ---- fields
+
+zeros_of : List ℕ → List ℕ
+zeros_of run = replicate (run_room - length run) 0
+
+after_start : Fields → List ℕ
+after_start f = big_bytes 2 (length f.run / 2) ++ f.run ++ zeros_of f.run
+
+number_is : (f : Fields) → f.number < 2 ^ 32 → number_at 2 4 (field_bytes f) ≡ f.number
+unfolding number_at after_start zeros_of
+number_is f low = big_number-reads_back 4 f.number (big_bytes 4 f.start ++ after_start f) (omega (arith, low))
+
+start_is : (f : Fields) → f.start < 2 ^ 32 → number_at 6 4 (field_bytes f) ≡ f.start
+unfolding number_at after_start zeros_of
+start_is f low = big_number-reads_back 4 f.start (after_start f) (omega (arith, low))
+
+count_is : (f : Fields) → length f.run ≤ 128 → number_at 10 2 (field_bytes f) ≡ length f.run / 2
+unfolding number_at after_start zeros_of
+count_is f short = big_number-reads_back 2 (length f.run / 2) (f.run ++ zeros_of f.run) (omega (arith, short))
+
+-- the words that the run spells
+run_is : (f : Fields) (words : List ℕ) → f.run ≡ words_bytes words → length f.run ≤ 128 → AreWords words → run_at (field_bytes f) ≡ words
+unfolding zeros_of
+run_is f words is short fits =
+    let bytes : List ℕ = words_bytes words in
+    let long : length bytes ≡ 2 * length words = length-spelled_words words in
+    let all : 2 * number_at 10 2 (field_bytes f) ≡ length bytes = omega (arith, count_is f short, ap length is, long) in
+    ap (λ (n : ℕ). words_of (take n (f.run ++ zeros_of f.run))) all
+    ∙ ap (λ (run : List ℕ). words_of (take (length bytes) (run ++ zeros_of f.run))) is
+    ∙ ap words_of (take-append_seam bytes (zeros_of f.run)) ∙ words_of-spelled words fits
+
+-- ---- records
+
+room_is : (player : ℕ) (id : List ℕ) (room : ℕ) → length id ≡ 32 → room < 2 ^ 64 → number_at 44 8 (field_bytes (fields_of (Head player id room))) ≡ room
+unfolding number_at after_start zeros_of
+room_is player id room long low =
+    let rest : List ℕ = zeros_of (id ++ big_bytes 8 room) in
+    let there : drop 32 ((id ++ big_bytes 8 room) ++ rest) ≡ big_bytes 8 room ++ rest =
+    ap (λ (n : ℕ). drop n ((id ++ big_bytes 8 room) ++ rest)) (sym long) ∙ ap (drop (length id)) (append_assoc id (big_bytes 8 room) rest) ∙ drop-append_seam id (big_bytes 8 room ++ rest) in
+    ap (big_number 8) there ∙ big_number-reads_back 8 room rest (omega (arith, low))
+
+id_is : (id more : List ℕ) (rest : List ℕ) → length id ≡ 32 → take 32 ((id ++ more) ++ rest) ≡ id
+id_is id more rest long = ap (λ (n : ℕ). take n ((id ++ more) ++ rest)) (sym long) ∙ ap (take (length id)) (append_assoc id more rest) ∙ take-append_seam id (more ++ rest)
+
+word_is : (player start word : ℕ) → word < 2 ^ 16 → number_at 12 2 (field_bytes (fields_of (Own player start word))) ≡ word
+unfolding number_at zeros_of
+word_is player start word low = big_number-reads_back 2 word (zeros_of (words_bytes (word ∷ []))) (omega (arith, low))
+
+read_again : (r : Record) → HasSpelling r → record_of (body_of r) ≡ r
+unfolding record_of body_of
+read_again (Head player id room) has =
+    let f : Fields = fields_of (Head player id room) in
+    let same = id_is id (big_bytes 8 room) (replicate (run_room - length f.run) 0) has.parts.0 in
+    let there = room_is player id room has.parts.0 has.parts.2 in
+    λ i. Head player (same i) (there i)
+read_again (Epoch player number) has = ap (Epoch player) (number_is (fields_of (Epoch player number)) has.number)
+read_again (Own player start word) has =
+    let from = start_is (fields_of (Own player start word)) has.start in
+    let input = word_is player start word has.parts in
+    λ i. Own player (from i) (input i)
+read_again (Got player start words) has =
+    let f : Fields = fields_of (Got player start words) in
+    let from = start_is f has.start in
+    let inputs = run_is f words refl has.short has.parts.1 in
+    λ i. Got player (from i) (inputs i)
+read_again (Freeze player) has = refl
+read_again (Leave player) has = refl
+read_again (Cut player cut start words) has =
+    let f : Fields = fields_of (Cut player cut start words) in
+    let ends = number_is f has.number in
+    let from = start_is f has.start in
+    let inputs = run_is f words refl has.short has.parts in
+    λ i. Cut player (ends i) (from i) (inputs i)
+
+pub reads_back : (bytes : List ℕ) (r : Record) → Spells bytes r → record_of bytes ≡ r
+reads_back bytes r spells = ap record_of spells.is ∙ read_again r spells.has
+
+pub one_record : (bytes : List ℕ) (r s : Record) → Spells bytes r → Spells bytes s → r ≡ s
+one_record bytes r s one other = sym (reads_back bytes r one) ∙ reads_back bytes s other
+
+-- ---- what bytes that spell a record have
+
+kind_of : (r : Record) → (1 ≤ (fields_of r).kind) × ((fields_of r).kind ≤ 7)
+kind_of (Head player id room) = (omega arith, omega arith)
+kind_of (Epoch player number) = (omega arith, omega arith)
+kind_of (Own player start word) = (omega arith, omega arith)
+kind_of (Got player start words) = (omega arith, omega arith)
+kind_of (Freeze player) = (omega arith, omega arith)
+kind_of (Leave player) = (omega arith, omega arith)
+kind_of (Cut player cut start words) = (omega arith, omega arith)
+
+pub record IsShaped (bytes : List ℕ) : Type 0 where
+  pub kind_from : 1 ≤ slice_index bytes 0
+  pub kind_to : slice_index bytes 0 ≤ 7
+  pub player_from : 1 ≤ slice_index bytes 1
+  pub player_to : slice_index bytes 1 ≤ 4
+  pub short : number_at 10 2 bytes ≤ 64
+
+pub shaped : (bytes : List ℕ) (r : Record) → Spells bytes r → IsShaped bytes
+unfolding body_of
+shaped bytes r spells =
+    let kind : slice_index bytes 0 ≡ (fields_of r).kind = ap (λ (bs : List ℕ). slice_index bs 0) spells.is in
+    let player : slice_index bytes 1 ≡ (fields_of r).player = ap (λ (bs : List ℕ). slice_index bs 1) spells.is in
+    let count : number_at 10 2 bytes ≡ length (fields_of r).run / 2 = ap (number_at 10 2) spells.is ∙ count_is (fields_of r) spells.has.short in
+    let range = kind_of r in
+    record {
+      kind_from = omega (arith, kind, range.0);
+      kind_to = omega (arith, kind, range.1);
+      player_from = omega (arith, player, spells.has.from_one);
+      player_to = omega (arith, player, spells.has.to_four);
+      short = omega (arith, count, spells.has.short);
+    }
+
+-- ---- what is spelled of lent parts
+
+pub head_spells : (bytes : List ℕ) (player : ℕ) (id : List ℕ) (room : ℕ) → bytes ≡ body_of (Head player id room)
+    → 1 ≤ player → player ≤ 4 → length id ≡ 32 → AreBytes id → room < 2 ^ 64 → Spells bytes (Head player id room)
+head_spells bytes player id room is from to long fits low = record {
+  has = record { from_one = from; to_four = to; number = omega arith; start = omega arith; short = omega (arith, long, length-append id (big_bytes 8 room)); parts = (long, fits, low) };
+  is = is;
+}
+
+pub own_spells : (bytes : List ℕ) (player start word : ℕ) → bytes ≡ body_of (Own player start word)
+    → 1 ≤ player → player ≤ 4 → start < 2 ^ 32 → word < 2 ^ 16 → Spells bytes (Own player start word)
+own_spells bytes player start word is from to low fits = record {
+  has = record { from_one = from; to_four = to; number = omega arith; start = low; short = omega arith; parts = fits };
+  is = is;
+}
+
+are_bytes : (words : List ℕ) → AreBytes (words_bytes words)
+are_bytes [] i = omega arith
+are_bytes (word ∷ words) zero = omega arith
+are_bytes (word ∷ words) (suc zero) = omega arith
+are_bytes (word ∷ words) (suc (suc i)) = are_bytes words i
+
+are_words : (run : List ℕ) → run ≡ words_bytes (words_of run) → AreWords (words_of run)
+are_words run spells = words_of-lt run (subst AreBytes (sym spells) (are_bytes (words_of run)))
+
+-- a run's bytes spell its words
+pub got_spells : (bytes : List ℕ) (player start : ℕ) (run : List ℕ) → bytes ≡ body_of (Got player start (words_of run))
+    → 1 ≤ player → player ≤ 4 → start < 2 ^ 32 → run ≡ words_bytes (words_of run) → length run ≤ 128 → 1 ≤ length (words_of run) → Spells bytes (Got player start (words_of run))
+got_spells bytes player start run is from to low spells short some = record {
+  has = record { from_one = from; to_four = to; number = omega arith; start = low; short = omega (arith, short, ap length spells); parts = (some, are_words run spells) };
+  is = is;
+}
+
+pub cut_spells : (bytes : List ℕ) (player cut start : ℕ) (run : List ℕ) → bytes ≡ body_of (Cut player cut start (words_of run))
+    → 1 ≤ player → player ≤ 4 → cut < 2 ^ 32 → start < 2 ^ 32 → run ≡ words_bytes (words_of run) → length run ≤ 128 → Spells bytes (Cut player cut start (words_of run))
+cut_spells bytes player cut start run is from to low first spells short = record {
+  has = record { from_one = from; to_four = to; number = low; start = first; short = omega (arith, short, ap length spells); parts = are_words run spells };
+  is = is;
+}
+
+-- a record that is spelled has inputs, where it tells of some
+pub has_inputs : (lent : Lent) → HasSpelling (value_of lent) → HasInputs lent
+has_inputs (lents.Head player id room) has = tt
+has_inputs (lents.Epoch player number) has = tt
+has_inputs (lents.Own player start keys) has = tt
+has_inputs (lents.Got player start run) has = has.parts.0
+has_inputs (lents.Freeze player) has = tt
+has_inputs (lents.Leave player) has = tt
+has_inputs (lents.Cut player cut start run) has = tt
+
+-- where a body spells a record, that is the one that its parts are
+pub spells_lent : (bytes : List ℕ) (lent : Lent) (r : Record) → value_of lent ≡ record_of bytes → Spells bytes r → Spells bytes (value_of lent)
+spells_lent bytes lent r is spells = subst (λ (s : Record). Spells bytes s) (sym (is ∙ reads_back bytes r spells)) spells

@@ -1,0 +1,145 @@
+-- How far a replay has come, and what it gives.
+use Rattle.std.proofs.Common.{◌≡◌, ◌<◌, ◌≤◌, ℕ, zero, suc, ◌+◌, List, [], ◌∷◌, ◌++◌, length, map, take, Option, Some, None, Result, Ok, Err, true, false, refl, sym, ap, subst, ◌∙◌, arith}
+use Rattle.std.specs.List.{slice_get, All}
+use Rattle.std.proofs.Math.Seq.{take-length}
+use Rattle.std.proofs.lemmas.List.{map-append, length-map, length-take-le, take_more}
+use Rattle.std.proofs.lemmas.List.Elements.{All-append}
+use Rattle.std.proofs.lemmas.Option.{slice_get_within, get_or_from_slice_get}
+use Rattle.c8_game.specs.Rules.{Rules}
+use Rattle.c8_known.specs.Journal.{Record, Head, Epoch, Own, Got, Freeze, Leave, Cut, epoch, epochs}
+use Rattle.c8_known.specs.Known.{KnownValue, known_of, with_record, IsOfGame}
+use Rattle.c8_record.specs.declared.error.ReplayError.{ReplayError}
+use Rattle.c8_record.specs.declared.error.ReplayError.TheVariants.{WrongGame, WrongPlayer, BadRecord, Disk}
+use Rattle.c8_record.specs.Body.{Spells, record_of, records_of}
+use Rattle.c8_record.specs.Allowed.{Past, past_of, IsHead, IsAllowedAfter, IsAllowed, IsJournal}
+use Rattle.c8_record.specs.Taken.{epoch_after, IsHeadWith, IsOfOtherGame, IsOfOtherPlayer, IsUnfitBody, IsTaken}
+use Rattle.c8_record.specs.Replay.{AreJournalBodies, BeginsWithHead, IsRefusal, is_failed, IsReplayed, IsReplayedFromDisk}
+use Rattle.c8_record.specs.JournalLaws.{journal_none, journal_more, epoch_more, known_more, of_game}
+use Rattle.c8_record.proofs.BodyLemmas.{one_record}
+
+-- the first n bodies are taken
+pub record IsReadTo (rules : Rules) (me room : ℕ) (bodies : List (List ℕ)) (n : ℕ) (now : KnownValue) (last : ℕ) : Type 0 where
+  pub within : n ≤ length bodies
+  pub whose : now.me ≡ me
+  pub journal : AreJournalBodies rules me room (take n bodies)
+  pub known : now ≡ known_of rules me (records_of (take n bodies))
+  pub epoch : last ≡ epoch (records_of (take n bodies))
+
+one_holds : {X : Type 0} (P : X → Type 0) (x : X) → P x → All P (x ∷ [])
+one_holds P x p zero d within = p
+one_holds P x p (suc k) d within = absurd (omega (arith, within))
+
+module _ (rules : Rules) (me room : ℕ) (bodies : List (List ℕ)) where
+  pub read_none : (now : KnownValue) → now ≡ known_of rules me [] → IsReadTo rules me room bodies 0 now 0
+  unfolding epochs known_of
+  read_none now is = record { within = omega arith; whose = ap (λ (k : KnownValue). k.me) is; journal = record { spelled = λ k d within. absurd (omega (arith, within)); journal = journal_none rules me room }; known = is; epoch = refl }
+
+  -- what the records before say, as the code has it
+  same_past : (n : ℕ) (now : KnownValue) (last : ℕ) → IsReadTo rules me room bodies n now last
+      → ◌≡◌ {A = Past} (record { count = n; epoch = last; known = now }) (past_of rules me (records_of (take n bodies)))
+  same_past n now last read =
+      let count : n ≡ length (records_of (take n bodies)) = sym (length-map (take n bodies) record_of ∙ length-take-le n bodies read.within) in
+      λ i. record { count = count i; epoch = read.epoch i; known = read.known i }
+
+  pub read_of_game : (n : ℕ) (now : KnownValue) (last : ℕ) → IsReadTo rules me room bodies n now last → IsOfGame rules now.me now
+  unfolding known_of
+  read_of_game n now last read = subst (λ (k : KnownValue). IsOfGame rules k.me k) (sym read.known) (of_game rules me (records_of (take n bodies)))
+
+  next_body : (n : ℕ) (body : List ℕ) → slice_get bodies n ≡ Some body → take (n + 1) bodies ≡ take n bodies ++ body ∷ []
+  next_body n body is = take_more bodies n body (slice_get_within bodies n body is) ∙ ap (λ (b : List ℕ). take n bodies ++ b ∷ []) (get_or_from_slice_get bodies n body body is)
+
+  pub read_more : (n : ℕ) (old new : KnownValue) (last later : ℕ) (body : List ℕ) → IsReadTo rules me room bodies n old last → slice_get bodies n ≡ Some body
+      → IsTaken rules room (record { count = n; epoch = last; known = old }) body new later → IsReadTo rules me room bodies (n + 1) new later
+  unfolding known_of
+  read_more n old new last later body read is taken =
+      let before : List Record = records_of (take n bodies) in
+      let r : Record = record_of body in
+      let allowed : IsAllowed rules me room before r = subst (λ (past : Past). IsAllowedAfter rules room past r) (same_past n old last read) taken.allowed in
+      let next = next_body n body is in
+      let records : records_of (take (n + 1) bodies) ≡ before ++ r ∷ [] = ap records_of next ∙ map-append record_of (take n bodies) (body ∷ []) in
+      let now : new ≡ known_of rules me (records_of (take (n + 1) bodies)) =
+      taken.known ∙ ap (λ (k : KnownValue). with_record k r) read.known ∙ sym (known_more rules me room before r allowed) ∙ ap (known_of rules me) (sym records) in
+      record {
+        within = omega (arith, slice_get_within bodies n body is);
+        whose = ap (λ (k : KnownValue). k.me) now;
+        journal = record {
+          spelled = subst (λ (some : List (List ℕ)). All (λ b. Spells b (record_of b)) some) (sym next) (All-append (λ b. Spells b (record_of b)) (take n bodies) (body ∷ []) read.journal.spelled (one_holds (λ b. Spells b (record_of b)) body taken.spelled));
+          journal = subst (λ (some : List Record). IsJournal rules me room some) (sym records) (journal_more rules me room before r read.journal.journal allowed);
+        };
+        known = now;
+        epoch = taken.last ∙ ap (λ (e : ℕ). epoch_after e r) read.epoch ∙ sym (epoch_more before r) ∙ ap epoch (sym records);
+      }
+
+  pub read_all : (n : ℕ) (now : KnownValue) (last : ℕ) → IsReadTo rules me room bodies n now last → n ≡ length bodies → IsReplayed rules me room bodies (Ok last) now
+  read_all n now last read all =
+      let whole : take n bodies ≡ bodies = ap (λ (m : ℕ). take m bodies) all ∙ take-length bodies in (
+        subst (λ (some : List (List ℕ)). AreJournalBodies rules me room some) whole read.journal,
+        read.known ∙ ap (λ (some : List (List ℕ)). known_of rules me (records_of some)) whole,
+        read.epoch ∙ ap (λ (some : List (List ℕ)). epoch (records_of some)) whole,
+      )
+
+  other_game : (body : List ℕ) (r : Record) → slice_get bodies 0 ≡ Some body → Spells body r → IsOfOtherGame rules room r → IsRefusal rules me room bodies WrongGame
+  other_game body (Head player id named) first spells other = (player, id, named, (body, first, spells), other)
+  other_game body (Epoch player number) first spells other = absurd other
+  other_game body (Own player start word) first spells other = absurd other
+  other_game body (Got player start words) first spells other = absurd other
+  other_game body (Freeze player) first spells other = absurd other
+  other_game body (Leave player) first spells other = absurd other
+  other_game body (Cut player cut start words) first spells other = absurd other
+
+  other_player : (body : List ℕ) (r : Record) → slice_get bodies 0 ≡ Some body → Spells body r → IsOfOtherPlayer rules me room r → IsRefusal rules me room bodies WrongPlayer
+  other_player body (Head player id named) first spells other =
+      (player, (body, first, subst (λ (one : List ℕ). Spells body (Head player one room)) other.0 (subst (λ (one : ℕ). Spells body (Head player id one)) other.1 spells)), other.2)
+  other_player body (Epoch player number) first spells other = absurd other
+  other_player body (Own player start word) first spells other = absurd other
+  other_player body (Got player start words) first spells other = absurd other
+  other_player body (Freeze player) first spells other = absurd other
+  other_player body (Leave player) first spells other = absurd other
+  other_player body (Cut player cut start words) first spells other = absurd other
+
+  -- why a body is refused after those before it
+  pub read_bad : (n : ℕ) (now : KnownValue) (last : ℕ) (body : List ℕ) (error : ReplayError) → IsReadTo rules me room bodies n now last → slice_get bodies n ≡ Some body
+      → IsUnfitBody rules room (record { count = n; epoch = last; known = now }) body error → IsReplayed rules me room bodies (Err error) now
+  read_bad n now last body WrongGame read is unfit =
+      let none : take n bodies ≡ [] = ap (λ (m : ℕ). take m bodies) unfit.0 in
+      let first : slice_get bodies 0 ≡ Some body = subst (λ (m : ℕ). slice_get bodies m ≡ Some body) unfit.0 is in
+      (other_game body unfit.1 first unfit.2 unfit.3, read.known ∙ ap (λ (some : List (List ℕ)). known_of rules me (records_of some)) none)
+  read_bad n now last body WrongPlayer read is unfit =
+      let none : take n bodies ≡ [] = ap (λ (m : ℕ). take m bodies) unfit.0 in
+      let first : slice_get bodies 0 ≡ Some body = subst (λ (m : ℕ). slice_get bodies m ≡ Some body) unfit.0 is in
+      (other_player body unfit.1 first unfit.2 (subst (λ (q : ℕ). IsOfOtherPlayer rules q room unfit.1) read.whose unfit.3), read.known ∙ ap (λ (some : List (List ℕ)). known_of rules me (records_of some)) none)
+  read_bad n now last body (BadRecord m) read is unfit =
+      let at : m ≡ n = unfit.0 in
+      subst (λ (k : ℕ). IsReplayed rules me room bodies (Err (BadRecord k)) now) (sym at) (
+        (
+          record {
+            within = omega (arith, slice_get_within bodies n body is);
+            before = read.journal;
+            bad = λ b r there spells may.
+                let same : b ≡ body = cc in
+                unfit.2 r (subst (λ (one : List ℕ). Spells one r) same spells) (subst (λ (past : Past). IsAllowedAfter rules room past r) (sym (same_past n now last read)) may);
+          },
+          λ player id named begins none.
+              let b = begins.0 in
+              let first : slice_get bodies 0 ≡ Some body = subst (λ (k : ℕ). slice_get bodies k ≡ Some body) none is in
+              let same : b ≡ body = cc in
+              unfit.1 (Head player id named) (subst (λ (one : List ℕ). Spells one (Head player id named)) same begins.2) none tt,
+        ),
+        read.known,
+      )
+  read_bad n now last body (Disk why) read is unfit = absurd unfit
+
+-- ---- from a disk
+
+pub from_disk : (rules : Rules) (me room : ℕ) (bodies : List (List ℕ)) (result : Result ℕ ReplayError) (now : KnownValue) → IsReplayed rules me room bodies result now → IsReplayedFromDisk rules me room bodies result now
+from_disk rules me room bodies (Ok last) now is = is
+from_disk rules me room bodies (Err WrongGame) now is = is
+from_disk rules me room bodies (Err WrongPlayer) now is = is
+from_disk rules me room bodies (Err (BadRecord n)) now is = is
+from_disk rules me room bodies (Err (Disk why)) now is = absurd is.0
+
+pub not_failed : (rules : Rules) (me room : ℕ) (bodies : List (List ℕ)) (error : ReplayError) (now : KnownValue) → IsReplayed rules me room bodies (Err error) now → is_failed (Err error) ≡ false
+not_failed rules me room bodies WrongGame now is = refl
+not_failed rules me room bodies WrongPlayer now is = refl
+not_failed rules me room bodies (BadRecord n) now is = refl
+not_failed rules me room bodies (Disk why) now is = absurd is.0

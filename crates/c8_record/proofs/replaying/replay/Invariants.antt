@@ -1,0 +1,15 @@
+use Rattle.std.proofs.Common.{◌≡◌, length, false}
+use Rattle.c8_disk.specs.Runs.{ReadsOnly}
+use Rattle.c8_log.specs.Slots.{kept}
+use Rattle.c8_record.proofs.ReplayLemmas.{IsReadTo}
+use Rattle.c8_record.proofs.replaying.replay.Given as goal
+
+abbrev pub invariant-loop-n : goal.invariant-loop-n
+invariant-loop-n g l = record {
+  taken : IsReadTo l.fn.game l.fn.known.me l.fn.room (kept (g.D.Disk.seen l.fn.log.disk)) l.n l.known l.epoch;
+  all : l.n-end ≡ length (kept (g.D.Disk.seen l.fn.log.disk));
+  count : l.log.count ≡ l.fn.log.count;
+  end : l.n-end ≡ l.fn.log.count;
+  up : l.log.down ≡ false;
+  reads : ReadsOnly g.D.Disk l.fn.log.disk l.log.disk;
+}

@@ -1,0 +1,113 @@
+-- Which record may stand after which others in the journal of a player.
+use Rattle.std.specs.Prelude.{ℕ, ◌+◌, ◌≡◌, ◌≢◌, ◌<◌, ◌≤◌, List, length, take, true, false, Option, Some, None}
+use Rattle.std.specs.List.{slice_get}
+use Rattle.c8_game.specs.Rules.{Rules, id_of}
+use Rattle.c8_known.specs.Journal.{Record, Head, Epoch, Own, Got, Freeze, Leave, Cut, player_of, epoch}
+use Rattle.c8_known.specs.Known.{KnownValue, player_in, count_in, known_of, Plays}
+use Rattle.c8_known.specs.Confirmed.{confirmed}
+use Rattle.c8_record.specs.Body.{HasSpelling}
+
+-- What the records before say, as far as the rules ask: how many there are, the last epoch, and what is known by them.
+pub record Past : Type 0 where
+  pub count : ℕ
+  pub epoch : ℕ
+  pub known : KnownValue
+
+abbrev pub past_of : Rules → ℕ → List Record → Past
+past_of rules me before = record { count = length before; epoch = epoch before; known = known_of rules me before }
+
+-- HEAD: the first, of this match and this player
+pub record MayHead (rules : Rules) (room : ℕ) (past : Past) (player : ℕ) (id : List ℕ) (named : ℕ) : Type 0 where
+  pub first : past.count ≡ 0
+  pub of_game : id ≡ id_of rules
+  pub in_room : named ≡ room
+  pub own : player ≡ past.known.me
+
+-- EPOCH: above the last one
+pub record MayEpoch (past : Past) (player number : ℕ) : Type 0 where
+  pub own : player ≡ past.known.me
+  pub above : past.epoch < number
+
+-- OWN: the next own input, before the last frame, less than a window past the confirmed ones, and by no player who has
+-- been dropped
+pub record MayOwn (rules : Rules) (k : KnownValue) (player start : ℕ) : Type 0 where
+  pub own : player ≡ k.me
+  pub next : start ≡ count_in k player
+  pub frames : k.ticks < rules.frames
+  pub window : k.ticks < confirmed k + rules.window
+  pub stays : (player_in k player).leaving ≡ false
+
+-- GOT: the next inputs of another player, as long as its list is not cut
+pub record MayGot (k : KnownValue) (player start : ℕ) (words : List ℕ) : Type 0 where
+  pub other : player ≢ k.me
+  pub next : start ≡ count_in k player
+  pub room : start + length words ≤ k.limit
+  pub uncut : (player_in k player).cut ≡ None
+
+-- FREEZE: elsewhere than at player one, once, of another player who is not player one
+pub record MayFreeze (k : KnownValue) (player : ℕ) : Type 0 where
+  pub other : player ≢ k.me
+  pub not_one : player ≢ 1
+  pub elsewhere : k.me ≢ 1
+  pub once : (player_in k player).frozen ≡ false
+
+-- LEAVE: once, at player one of another player, elsewhere of the own one
+pub record MayLeave (k : KnownValue) (player : ℕ) : Type 0 where
+  pub not_one : player ≢ 1
+  pub elsewhere : k.me ≢ 1 → player ≡ k.me
+  pub once : (player_in k player).leaving ≡ false
+
+-- CUT: once, of another player of whom a LEAVE stands at player one, a FREEZE elsewhere, with the last inputs before the cut
+pub record MayCut (k : KnownValue) (player cut start : ℕ) (words : List ℕ) : Type 0 where
+  pub other : player ≢ k.me
+  pub not_one : player ≢ 1
+  pub next : start ≡ count_in k player
+  pub ends : start + length words ≡ cut
+  pub room : cut ≤ k.limit
+  pub at_one : k.me ≡ 1 → (player_in k player).leaving ≡ true
+  pub elsewhere : k.me ≢ 1 → (player_in k player).frozen ≡ true
+  pub once : (player_in k player).cut ≡ None
+
+abbrev pub MayFollow : Rules → ℕ → Past → Record → Type 0
+MayFollow rules room past (Head player id named) = MayHead rules room past player id named
+MayFollow rules room past (Epoch player number) = MayEpoch past player number
+MayFollow rules room past (Own player start word) = MayOwn rules past.known player start
+MayFollow rules room past (Got player start words) = MayGot past.known player start words
+MayFollow rules room past (Freeze player) = MayFreeze past.known player
+MayFollow rules room past (Leave player) = MayLeave past.known player
+MayFollow rules room past (Cut player length start words) = MayCut past.known player length start words
+
+abbrev pub IsHead : Record → Type 0
+IsHead (Head player id room) = Unit {0}
+IsHead (Epoch player number) = ⊥
+IsHead (Own player start word) = ⊥
+IsHead (Got player start words) = ⊥
+IsHead (Freeze player) = ⊥
+IsHead (Leave player) = ⊥
+IsHead (Cut player length start words) = ⊥
+
+-- a record that an opening adds
+abbrev pub IsOpening : Record → Type 0
+IsOpening (Head player id room) = Unit {0}
+IsOpening (Epoch player number) = Unit {0}
+IsOpening (Own player start word) = ⊥
+IsOpening (Got player start words) = ⊥
+IsOpening (Freeze player) = ⊥
+IsOpening (Leave player) = ⊥
+IsOpening (Cut player length start words) = ⊥
+
+-- A record that the rules allow: it can be spelled, and its player is one of the game; the first is a HEAD, and after its own
+-- LEAVE a player other than player one adds openings alone.
+pub record IsAllowedAfter (rules : Rules) (room : ℕ) (past : Past) (r : Record) : Type 0 where
+  pub spelled : HasSpelling r
+  pub plays : Plays past.known (player_of r)
+  pub may : MayFollow rules room past r
+  pub begins : past.count ≡ 0 → IsHead r
+  pub dropped : past.known.me ≢ 1 → (player_in past.known past.known.me).leaving ≡ true → IsOpening r
+
+abbrev pub IsAllowed : Rules → ℕ → ℕ → List Record → Record → Type 0
+IsAllowed rules me room before r = IsAllowedAfter rules room (past_of rules me before) r
+
+-- A journal: each record is allowed after those before it.
+abbrev pub IsJournal : Rules → ℕ → ℕ → List Record → Type 0
+IsJournal rules me room journal = (n : ℕ) (r : Record) → slice_get journal n ≡ Some r → IsAllowed rules me room (take n journal) r

@@ -1,0 +1,37 @@
+-- What a caller sees of a record that is lent from a body.
+use Rattle.std.specs.Prelude.{ℕ, ◌≡◌, ◌<◌, List, length, take, drop}
+use Rattle.c8_wire.specs.Lent.{words, spelled}
+use Rattle.c8_known.specs.Journal as journals
+use Rattle.c8_record.specs.declared.record.Record.{Record}
+use Rattle.c8_record.specs.declared.record.Record.TheVariants as lent
+use Rattle.c8_record.specs.Body.{run_place}
+
+-- the record that it is
+abbrev pub value_of : Record → journals.Record
+value_of (lent.Head player id room) = journals.Head player.number id.now room
+value_of (lent.Epoch player number) = journals.Epoch player.number number
+value_of (lent.Own player start keys) = journals.Own player.number start keys.0
+value_of (lent.Got player start run) = journals.Got player.number start (words run)
+value_of (lent.Freeze player) = journals.Freeze player.number
+value_of (lent.Leave player) = journals.Leave player.number
+value_of (lent.Cut player cut start run) = journals.Cut player.number cut start (words run)
+
+-- what it lends is the slice of the body where it stands
+abbrev pub IsSliceOf : List ℕ → Record → Type 0
+IsSliceOf body (lent.Head player id room) = id.now ≡ take 32 (drop run_place body)
+IsSliceOf body (lent.Epoch player number) = Unit {0}
+IsSliceOf body (lent.Own player start keys) = Unit {0}
+IsSliceOf body (lent.Got player start run) = spelled run ≡ take (length (spelled run)) (drop run_place body)
+IsSliceOf body (lent.Freeze player) = Unit {0}
+IsSliceOf body (lent.Leave player) = Unit {0}
+IsSliceOf body (lent.Cut player cut start run) = spelled run ≡ take (length (spelled run)) (drop run_place body)
+
+-- a Got has an input at least
+abbrev pub HasInputs : Record → Type 0
+HasInputs (lent.Head player id room) = Unit {0}
+HasInputs (lent.Epoch player number) = Unit {0}
+HasInputs (lent.Own player start keys) = Unit {0}
+HasInputs (lent.Got player start run) = 0 < length (words run)
+HasInputs (lent.Freeze player) = Unit {0}
+HasInputs (lent.Leave player) = Unit {0}
+HasInputs (lent.Cut player cut start run) = Unit {0}

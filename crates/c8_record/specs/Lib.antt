@@ -1,0 +1,7 @@
+pub mod Body
+pub mod Allowed
+pub mod Lent
+pub mod Replay
+pub mod Errors
+pub mod Taken
+pub mod JournalLaws

@@ -1,0 +1,68 @@
+-- What a list of bodies says when it is replayed, or why it is refused.
+use Rattle.std.specs.Prelude.{ℕ, ◌≡◌, ◌≢◌, ◌<◌, ◌⊎◌, List, [], length, take, Result, Ok, Err, Some, Bool, true, false}
+use Rattle.std.specs.List.{slice_get, All}
+use Rattle.c8_game.specs.Rules.{Rules, id_of}
+use Rattle.c8_known.specs.Journal.{Record, Head, Epoch, Own, Got, Freeze, Leave, Cut, epoch}
+use Rattle.c8_known.specs.Known.{KnownValue, known_of}
+use Rattle.c8_record.specs.Body.{Spells, record_of, records_of}
+use Rattle.c8_record.specs.Allowed.{Past, IsAllowed, IsJournal}
+use Rattle.c8_disk.specs.declared.error.DiskError.TheVariants.{Failed}
+use Rattle.c8_record.specs.declared.error.ReplayError.{ReplayError}
+use Rattle.c8_record.specs.declared.error.ReplayError.TheVariants.{WrongGame, WrongPlayer, BadRecord, Disk}
+
+-- Each body spells a record, and the records are a journal of the player, the game and the room.
+pub record AreJournalBodies (rules : Rules) (me room : ℕ) (bodies : List (List ℕ)) : Type 0 where
+  pub spelled : All (λ body. Spells body (record_of body)) bodies
+  pub journal : IsJournal rules me room (records_of bodies)
+
+-- the first body spells this HEAD
+abbrev pub BeginsWithHead : List (List ℕ) → ℕ → List ℕ → ℕ → Type 0
+BeginsWithHead bodies player id room = (body : List ℕ) × (slice_get bodies 0 ≡ Some body) × Spells body (Head player id room)
+
+-- Body n is the first that spells no record, or one that is not allowed there.
+pub record IsFirstBad (rules : Rules) (me room : ℕ) (bodies : List (List ℕ)) (n : ℕ) : Type 0 where
+  pub within : n < length bodies
+  pub before : AreJournalBodies rules me room (take n bodies)
+  pub bad : (body : List ℕ) (r : Record) → slice_get bodies n ≡ Some body → Spells body r → IsAllowed rules me room (records_of (take n bodies)) r → ⊥
+
+-- Why bodies are refused: the first is a HEAD of another game or room; it is one of another player; or else, by its number,
+-- the first body that spells no record or one that is not allowed there.
+abbrev pub IsRefusal : Rules → ℕ → ℕ → List (List ℕ) → ReplayError → Type 0
+IsRefusal rules me room bodies WrongGame =
+    (player : ℕ) × (id : List ℕ) × (named : ℕ) × BeginsWithHead bodies player id named × ((id ≢ id_of rules) ⊎ (named ≢ room))
+IsRefusal rules me room bodies WrongPlayer = (player : ℕ) × BeginsWithHead bodies player (id_of rules) room × (player ≢ me)
+IsRefusal rules me room bodies (BadRecord n) =
+    IsFirstBad rules me room bodies n × ((player : ℕ) (id : List ℕ) (named : ℕ) → BeginsWithHead bodies player id named → n ≢ 0)
+IsRefusal rules me room bodies (Disk why) = ⊥
+
+-- how many bodies were taken before the refused one (nobody asks it of a disk's failure, which depends on the disk)
+abbrev pub taken_before : ReplayError → ℕ
+taken_before WrongGame = 0
+taken_before WrongPlayer = 0
+taken_before (BadRecord n) = n
+taken_before (Disk why) = 0
+
+-- What a replay answers and makes known: what the records say, and the last epoch, 0 if there is none; or the refusal, and
+-- what the records before the refused one say.
+abbrev pub IsReplayed : Rules → ℕ → ℕ → List (List ℕ) → Result ℕ ReplayError → KnownValue → Type 0
+IsReplayed rules me room bodies (Ok last) known =
+    AreJournalBodies rules me room bodies × (known ≡ known_of rules me (records_of bodies)) × (last ≡ epoch (records_of bodies))
+IsReplayed rules me room bodies (Err error) known =
+    IsRefusal rules me room bodies error × (known ≡ known_of rules me (records_of (take (taken_before error) bodies)))
+
+-- the disk failed
+abbrev pub is_failed : Result ℕ ReplayError → Bool
+is_failed (Ok last) = false
+is_failed (Err WrongGame) = false
+is_failed (Err WrongPlayer) = false
+is_failed (Err (BadRecord n)) = false
+is_failed (Err (Disk why)) = true
+
+-- The same of bodies that are read from a disk, which may fail at one of them.
+abbrev pub IsReplayedFromDisk : Rules → ℕ → ℕ → List (List ℕ) → Result ℕ ReplayError → KnownValue → Type 0
+IsReplayedFromDisk rules me room bodies (Err (Disk why)) known =
+    (why ≡ Failed) × (n : ℕ) × (n < length bodies) × AreJournalBodies rules me room (take n bodies) × (known ≡ known_of rules me (records_of (take n bodies)))
+IsReplayedFromDisk rules me room bodies (Err WrongGame) known = IsReplayed rules me room bodies (Err WrongGame) known
+IsReplayedFromDisk rules me room bodies (Err WrongPlayer) known = IsReplayed rules me room bodies (Err WrongPlayer) known
+IsReplayedFromDisk rules me room bodies (Err (BadRecord n)) known = IsReplayed rules me room bodies (Err (BadRecord n)) known
+IsReplayedFromDisk rules me room bodies (Ok last) known = IsReplayed rules me room bodies (Ok last) known

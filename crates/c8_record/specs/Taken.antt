@@ -1,0 +1,58 @@
+-- Checked, not believed: what one body more gives in a replay. Contracts of private functions cite it, and no other.
+use Rattle.std.specs.Prelude.{ℕ, ◌≡◌, ◌≢◌, ◌⊎◌, List, Result, Ok, Err}
+use Rattle.c8_game.specs.Rules.{Rules, id_of}
+use Rattle.c8_known.specs.Journal.{Record, Head, Epoch, Own, Got, Freeze, Leave, Cut}
+use Rattle.c8_known.specs.Known.{KnownValue, with_record, IsKnown}
+use Rattle.c8_record.specs.Body.{Spells, record_of}
+use Rattle.c8_record.specs.Allowed.{Past, IsHead, IsAllowedAfter}
+use Rattle.c8_record.specs.declared.error.ReplayError.{ReplayError}
+use Rattle.c8_record.specs.declared.error.ReplayError.TheVariants.{WrongGame, WrongPlayer, BadRecord, Disk}
+
+-- the last epoch after the record
+abbrev pub epoch_after : ℕ → Record → ℕ
+epoch_after before (Head player id room) = 1
+epoch_after before (Epoch player number) = number
+epoch_after before (Own player start word) = before
+epoch_after before (Got player start words) = before
+epoch_after before (Freeze player) = before
+epoch_after before (Leave player) = before
+epoch_after before (Cut player length start words) = before
+
+-- the record is a HEAD of which this is so
+abbrev pub IsHeadWith : (ℕ → List ℕ → ℕ → Type 0) → Record → Type 0
+IsHeadWith P (Head player id room) = P player id room
+IsHeadWith P (Epoch player number) = ⊥
+IsHeadWith P (Own player start word) = ⊥
+IsHeadWith P (Got player start words) = ⊥
+IsHeadWith P (Freeze player) = ⊥
+IsHeadWith P (Leave player) = ⊥
+IsHeadWith P (Cut player length start words) = ⊥
+
+abbrev pub IsOfOtherGame : Rules → ℕ → Record → Type 0
+IsOfOtherGame rules room r = IsHeadWith (λ player id named. (id ≢ id_of rules) ⊎ (named ≢ room)) r
+
+abbrev pub IsOfOtherPlayer : Rules → ℕ → ℕ → Record → Type 0
+IsOfOtherPlayer rules me room r = IsHeadWith (λ player id named. (id ≡ id_of rules) × (named ≡ room) × (player ≢ me)) r
+
+-- why a record is refused
+abbrev pub IsUnfit : Rules → ℕ → Past → Record → ReplayError → Type 0
+IsUnfit rules room past r WrongGame = (past.count ≡ 0) × IsOfOtherGame rules room r
+IsUnfit rules room past r WrongPlayer = (past.count ≡ 0) × IsOfOtherPlayer rules past.known.me room r
+IsUnfit rules room past r (BadRecord n) = (n ≡ past.count) × (past.count ≡ 0 → IsHead r → ⊥) × (IsAllowedAfter rules room past r → ⊥)
+IsUnfit rules room past r (Disk why) = ⊥
+
+-- why a body is refused
+abbrev pub IsUnfitBody : Rules → ℕ → Past → List ℕ → ReplayError → Type 0
+IsUnfitBody rules room past body WrongGame = (past.count ≡ 0) × (r : Record) × Spells body r × IsOfOtherGame rules room r
+IsUnfitBody rules room past body WrongPlayer = (past.count ≡ 0) × (r : Record) × Spells body r × IsOfOtherPlayer rules past.known.me room r
+IsUnfitBody rules room past body (BadRecord n) =
+    (n ≡ past.count) × ((r : Record) → Spells body r → past.count ≡ 0 → IsHead r → ⊥) × ((r : Record) → Spells body r → IsAllowedAfter rules room past r → ⊥)
+IsUnfitBody rules room past body (Disk why) = ⊥
+
+-- what a body that is taken gives
+pub record IsTaken (rules : Rules) (room : ℕ) (past : Past) (body : List ℕ) (new : KnownValue) (later : ℕ) : Type 0 where
+  pub sound : IsKnown past.known
+  pub spelled : Spells body (record_of body)
+  pub allowed : IsAllowedAfter rules room past (record_of body)
+  pub known : new ≡ with_record past.known (record_of body)
+  pub last : later ≡ epoch_after past.epoch (record_of body)

@@ -1,0 +1,173 @@
+//! Whether a record may stand after those before it.
+ghost use Rattle.std.specs.Prelude.{◌≡◌, ◌≢◌, ◌↔◌, ℕ, true, MatchResult};
+ghost use Rattle.c8_game.specs.Rules.{id_of};
+ghost use Rattle.c8_known.specs.Known.{Plays, IsKnown, IsOfGame};
+ghost use Rattle.c8_wire.specs.Lent.{words};
+ghost use Rattle.c8_record.specs.Allowed.{MayOwn, MayGot, MayFreeze, MayLeave, MayCut, IsAllowedAfter};
+ghost use Rattle.c8_record.specs.Body.{HasSpelling};
+ghost use Rattle.c8_record.specs.Lent.{value_of};
+ghost use Rattle.c8_record.specs.Taken.{IsUnfit};
+
+use crate::error::ReplayError;
+use crate::record::Record;
+use c8_game::{Game, Player};
+use c8_known::Known;
+use c8_wire::Run;
+
+/// Judges a record after `count` others, of which `epoch` is the last epoch, and by which this is
+/// known.
+pub(crate) fn judge(
+    game: &Game,
+    room: u64,
+    count: usize,
+    epoch: u32,
+    known: &Known,
+    lent: &Record<'_>,
+) -> Result<(), ReplayError>
+    requires of_game { IsOfGame game.now known.now.me known.now }
+    requires spelled { HasSpelling (value_of lent.now) }
+    ensures known { IsKnown known.now }
+    ensures judged { MatchResult result
+        (λ _. IsAllowedAfter game.now room
+        (record { count = count; epoch = epoch; known = known.now }) (value_of lent.now))
+        (λ error. IsUnfit game.now room
+        (record { count = count; epoch = epoch; known = known.now }) (value_of lent.now) error) }
+{
+    let me = known.me();
+    if count == 0 {
+        return judge_first(game, room, epoch, known, me, lent);
+    }
+    if may_follow(game, room, count, epoch, known, lent) {
+        Ok(())
+    } else {
+        Err(ReplayError::BadRecord(count))
+    }
+}
+
+/// Judges the first record.
+fn judge_first(
+    game: &Game,
+    room: u64,
+    epoch: u32,
+    known: &Known,
+    me: Player,
+    lent: &Record<'_>,
+) -> Result<(), ReplayError>
+    requires me { me.number ≡ known.now.me }
+    requires plays { Plays known.now me.number }
+    requires spelled { HasSpelling (value_of lent.now) }
+    ensures { MatchResult result
+        (λ _. IsAllowedAfter game.now room
+        (record { count = 0; epoch = epoch; known = known.now }) (value_of lent.now))
+        (λ error. IsUnfit game.now room
+        (record { count = 0; epoch = epoch; known = known.now }) (value_of lent.now) error) }
+{
+    let Record::Head {
+        player,
+        id,
+        room: named,
+    } = *lent
+    else {
+        return Err(ReplayError::BadRecord(0));
+    };
+    if *id != game.id() || named != room {
+        return Err(ReplayError::WrongGame);
+    }
+    if player.number != me.number {
+        return Err(ReplayError::WrongPlayer);
+    }
+    Ok(())
+}
+
+/// Whether a record may stand after others.
+fn may_follow(
+    game: &Game,
+    room: u64,
+    count: usize,
+    epoch: u32,
+    known: &Known,
+    lent: &Record<'_>,
+) -> bool
+    requires later { count ≢ 0 }
+    requires spelled { HasSpelling (value_of lent.now) }
+    ensures { (result ≡ true) ↔ IsAllowedAfter game.now room
+        (record { count = count; epoch = epoch; known = known.now }) (value_of lent.now) }
+{
+    let me = known.me();
+    let dropped = me.number != 1 && known.leaving(me);
+    if lent.player().number > known.players() {
+        return false;
+    }
+    match *lent {
+        Record::Epoch { player, number } => player.number == me.number && number > epoch,
+        Record::Head { .. } => false,
+        _ if dropped => false,
+        Record::Own { player, start, .. } => may_own(game, known, player, start),
+        Record::Got { player, start, run } => may_got(known, player, start, run),
+        Record::Freeze { player } => may_freeze(known, player),
+        Record::Leave { player } => may_leave(known, player),
+        Record::Cut {
+            player,
+            length,
+            start,
+            run,
+        } => may_cut(known, player, length, start, run),
+    }
+}
+
+fn may_own(game: &Game, known: &Known, player: Player, start: u32) -> bool
+    requires { Plays known.now player.number }
+    ensures { (result ≡ true) ↔ MayOwn game.now known.now player.number start }
+{
+    let me = known.me();
+    player.number == me.number
+        && start == known.count(me)
+        && known.ticks() < game.frames()
+        && known.ticks() < known.confirmed() + u32::from(game.window())
+        && !known.leaving(me)
+}
+
+fn may_got(known: &Known, player: Player, start: u32, run: Run<'_>) -> bool
+    requires { Plays known.now player.number }
+    ensures { (result ≡ true) ↔ MayGot known.now player.number start (words run.entry) }
+{
+    let me = known.me();
+    player.number != me.number
+        && start == known.count(player)
+        && start + run.len() as u32 <= known.limit()
+        && known.cut_of(player).is_none()
+}
+
+fn may_freeze(known: &Known, player: Player) -> bool
+    requires { Plays known.now player.number }
+    ensures { (result ≡ true) ↔ MayFreeze known.now player.number }
+{
+    let me = known.me();
+    player.number != me.number && player.number != 1 && me.number != 1 && !known.has_freeze(player)
+}
+
+fn may_leave(known: &Known, player: Player) -> bool
+    requires { Plays known.now player.number }
+    ensures { (result ≡ true) ↔ MayLeave known.now player.number }
+{
+    let me = known.me();
+    player.number != 1 && (me.number == 1 || player.number == me.number) && !known.leaving(player)
+}
+
+fn may_cut(known: &Known, player: Player, length: u32, start: u32, run: Run<'_>) -> bool
+    requires { Plays known.now player.number }
+    ensures { (result ≡ true) ↔ MayCut known.now player.number length start (words run.entry) }
+{
+    let me = known.me();
+    player.number != me.number
+        && player.number != 1
+        && start == known.count(player)
+        && start + run.len() as u32 == length
+        && length <= known.limit()
+        && (if me.number == 1 {
+            known.leaving(player)
+        } else {
+            known.has_freeze(player)
+        })
+        && known.cut_of(player).is_none()
+}

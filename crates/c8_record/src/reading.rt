@@ -1,0 +1,100 @@
+//! Which record a body spells.
+ghost use Rattle.std.specs.Prelude.{◌≡◌, ◌<◌, ◌*◌, ◌↔◌, false, take, drop, MatchOption, IfSome};
+ghost use Rattle.c8_wire.specs.Lent.{spelled};
+ghost use Rattle.c8_wire.specs.Reading.{number_at};
+ghost use Rattle.c8_known.specs.Journal as journals;
+ghost use Rattle.c8_record.specs.Body.{Spells, record_of, run_place};
+ghost use Rattle.c8_record.specs.Lent.{value_of, IsSliceOf, HasInputs};
+ghost use Rattle.c8_wire.specs.Sizes.{longest_run};
+
+use crate::record::{RUN_PLACE, Record};
+use crate::writing::body_of;
+use c8_game::{Keys, Player};
+use c8_log::BODY_LENGTH;
+use c8_wire::{LONGEST_RUN, Run, u16_at, u32_at, u64_at};
+
+/// The record that a body spells, lent from it; none if it spells none.
+pub fn view(body: &[u8; BODY_LENGTH]) -> Option<Record<'_>>
+    ensures value { MatchOption result ((r : journals.Record) → Spells body.now r → ⊥)
+        (λ lent. Spells body.now (value_of lent)) }
+    ensures slice { IfSome result (λ lent. IsSliceOf body.now lent) }
+{
+    let lent = read(body)?;
+    if lacks_inputs(&lent) || body_of(&lent) != *body {
+        return None;
+    }
+    Some(lent)
+}
+
+/// What the body would spell by its kind, and none where a field of it alone says that it spells
+/// nothing.
+#[tactic(auto, unfolding(crate::specs::Body::record_of))]
+fn read(body: &[u8; BODY_LENGTH]) -> Option<Record<'_>>
+    ensures value { MatchOption result ((r : journals.Record) → Spells body.now r → ⊥)
+        (λ lent. value_of lent ≡ record_of body.now) }
+    ensures slice { IfSome result (λ lent. IsSliceOf body.now lent) }
+{
+    let kind = body[0];
+    let player = Player::new(body[1])?;
+    let number = u32_at(body, 2);
+    let start = u32_at(body, 6);
+    let run = run_of(body)?;
+    match kind {
+        1 => Some(Record::Head {
+            player,
+            id: id_of(body),
+            room: u64_at(body, 44),
+        }),
+        2 => Some(Record::Epoch { player, number }),
+        3 => Some(Record::Own {
+            player,
+            start,
+            keys: Keys(u16_at(body, RUN_PLACE)),
+        }),
+        4 => Some(Record::Got { player, start, run }),
+        5 => Some(Record::Freeze { player }),
+        6 => Some(Record::Leave { player }),
+        7 => Some(Record::Cut {
+            player,
+            length: number,
+            start,
+            run,
+        }),
+        _ => None,
+    }
+}
+
+/// The game's id, where the body is that of a `Head`.
+fn id_of(body: &[u8; BODY_LENGTH]) -> &[u8; 32]
+    ensures { result.now ≡ take 32 (drop run_place body.now) }
+{
+    let (_, rest) = body.split_at(RUN_PLACE);
+    match rest.first_chunk() {
+        Some(id) => id,
+        None => unreachable!(),
+    }
+}
+
+/// The run of the body, none where its count says that it is too long.
+fn run_of(body: &[u8; BODY_LENGTH]) -> Option<Run<'_>>
+    ensures { MatchOption result (longest_run < number_at 10 2 body.now)
+        (λ run. spelled run ≡ take (2 * number_at 10 2 body.now) (drop run_place body.now)) }
+{
+    let count = usize::from(u16_at(body, 10));
+    if count > LONGEST_RUN {
+        return None;
+    }
+    let (_, rest) = body.split_at(RUN_PLACE);
+    let (run, _) = rest.split_at(2 * count);
+    Some(Run::new(run))
+}
+
+/// Whether it tells of inputs that came, and has none.
+fn lacks_inputs(lent: &Record<'_>) -> bool
+    ensures { (result ≡ false) ↔ HasInputs lent.now }
+{
+    match lent {
+        Record::Got { run, .. } => run.is_empty(),
+        _ => false,
+    }
+}

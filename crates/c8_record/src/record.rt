@@ -1,0 +1,73 @@
+//! A record, lent from the body of a slot.
+ghost use Rattle.std.specs.Prelude.{◌≡◌};
+ghost use Rattle.c8_known.specs.Journal.{player_of};
+ghost use Rattle.c8_record.specs.Lent.{value_of};
+
+use c8_game::{Keys, Player};
+use c8_wire::Run;
+
+/// Where a run stands in a body.
+pub(crate) const RUN_PLACE: usize = 12;
+
+/// A record. Its inputs, and the id in a `Head`, are lent from the body where they stand.
+///
+/// `Head`, `Epoch` and `Own` are of the player whose journal it is, the others of the player whom they
+/// name. A start is the place in the player's list of inputs where the record's inputs stand.
+#[derive(Clone, Copy, Debug, PartialEq, Eq)]
+pub enum Record<'a> {
+    /// Whose journal this is, and of which match.
+    Head {
+        player: Player,
+        id: &'a [u8; 32],
+        room: u64,
+    },
+    /// The peer was opened again.
+    Epoch {
+        player: Player,
+        number: u32,
+    },
+    /// The own player entered a key set.
+    Own {
+        player: Player,
+        start: u32,
+        keys: Keys,
+    },
+    /// Inputs of another player came.
+    Got {
+        player: Player,
+        start: u32,
+        run: Run<'a>,
+    },
+    /// The player's inputs are taken from player one alone from here on.
+    Freeze {
+        player: Player,
+    },
+    /// Player one lets the player go; in another player's journal, that player has been dropped.
+    Leave {
+        player: Player,
+    },
+    /// The player's list of inputs ends at a length, and these are the last of them.
+    Cut {
+        player: Player,
+        length: u32,
+        start: u32,
+        run: Run<'a>,
+    },
+}
+
+impl Record<'_> {
+    /// Of whom it is.
+    pub fn player(&self) -> Player
+        ensures { result.number ≡ player_of (value_of self.now) }
+    {
+        match *self {
+            Record::Head { player, .. }
+            | Record::Epoch { player, .. }
+            | Record::Own { player, .. }
+            | Record::Got { player, .. }
+            | Record::Freeze { player }
+            | Record::Leave { player }
+            | Record::Cut { player, .. } => player,
+        }
+    }
+}

@@ -1,0 +1,138 @@
+//! What a journal says, read again from its beginning.
+ghost use Rattle.std.specs.Prelude.{◌≡◌, ◌≢◌, ◌<◌, ◌≤◌, ℕ, [], false, true, length, MatchResult, IfOk, IfErr, OnOk, OnErr};
+ghost use Rattle.c8_disk.specs.Runs.{ReadsOnly};
+ghost use Rattle.c8_log.specs.Slots.{kept};
+ghost use Rattle.c8_known.specs.Known.{known_of, with_record, IsKnown, IsOfGame};
+ghost use Rattle.c8_record.specs.Allowed.{IsAllowedAfter};
+ghost use Rattle.c8_record.specs.Lent.{value_of};
+ghost use Rattle.c8_record.specs.Replay.{IsReplayed, IsReplayedFromDisk, is_failed};
+ghost use Rattle.c8_record.specs.Taken.{epoch_after, IsUnfitBody, IsTaken};
+
+use crate::allowed::judge;
+use crate::error::ReplayError;
+use crate::reading::view;
+use crate::record::Record;
+use c8_disk::{Disk, DiskError};
+use c8_game::Game;
+use c8_known::Known;
+use c8_log::{BODY_LENGTH, Block, Log, LogError, kept_body, kept_len};
+
+/// Reads the journal that a log keeps into `known`, which knows nothing yet, one slot after the other.
+/// The answer is the last epoch, 0 if the log keeps no record.
+///
+/// `WrongGame` and `WrongPlayer` are judged first of all, by the first record; `BadRecord` names the
+/// first body that spells no record or one that the rules don't allow there. After an error `known`
+/// has what the records before it say. The log stays as it was, and up, unless the disk fails.
+pub fn replay<D: Disk>(
+    log: &mut Log<D>,
+    game: &Game,
+    room: u64,
+    known: &mut Known,
+) -> Result<u32, ReplayError>
+    requires up { log.old.down ≡ false }
+    requires nothing { known.old ≡ known_of game.now known.old.me [] }
+    ensures replayed { IsReplayedFromDisk game.now known.old.me room
+        (kept (D.seen log.old.disk)) result known.new }
+    ensures reads { ReadsOnly D.Disk log.old.disk log.new.disk }
+    ensures count { log.new.count ≡ log.old.count }
+    ensures down { log.new.down ≡ is_failed result }
+    ensures failed { is_failed result ≡ true → D.failures log.old.disk < D.failures log.new.disk }
+{
+    let mut block = Block::new();
+    let mut epoch = 0;
+    for n in 0..log.len() {
+        let slot = match log.read(n, &mut block) {
+            Ok(slot) => slot,
+            Err(_) => return Err(ReplayError::Disk(DiskError::Failed)),
+        };
+        epoch = take_body(game, room, n as usize, epoch, known, slot.body)?;
+    }
+    Ok(epoch)
+}
+
+/// The same of the bodies that the bytes of a disk keep.
+pub fn replay_bytes(
+    image: &[u8],
+    game: &Game,
+    room: u64,
+    known: &mut Known,
+) -> Result<u32, ReplayError>
+    requires { known.old ≡ known_of game.now known.old.me [] }
+    ensures { IsReplayed game.now known.old.me room (kept image.now) result known.new }
+{
+    let mut epoch = 0;
+    for n in 0..kept_len(image) {
+        epoch = take_body(game, room, n, epoch, known, kept_body(image, n))?;
+    }
+    Ok(epoch)
+}
+
+/// Takes a body after `count` others, of which `epoch` is the last epoch, and answers the last epoch
+/// then.
+fn take_body(
+    game: &Game,
+    room: u64,
+    count: usize,
+    epoch: u32,
+    known: &mut Known,
+    body: &[u8; BODY_LENGTH],
+) -> Result<u32, ReplayError>
+    requires { IsOfGame game.now known.old.me known.old }
+    ensures taken { IfOk result (λ last. IsTaken game.now room
+        (record { count = count; epoch = epoch; known = known.old }) body.now known.new last) }
+    ensures unfit { IfErr result (λ error. IsUnfitBody game.now room
+        (record { count = count; epoch = epoch; known = known.old }) body.now error) }
+    ensures stays { OnErr result (known.new ≡ known.old) }
+{
+    let Some(lent) = view(body) else {
+        return Err(ReplayError::BadRecord(count));
+    };
+    judge(game, room, count, epoch, known, &lent)?;
+    take_record(game, room, count, epoch, known, &lent);
+    Ok(epoch_after(epoch, &lent))
+}
+
+/// Makes known what a record says that may stand there.
+fn take_record(
+    game: &Game,
+    room: u64,
+    count: usize,
+    epoch: u32,
+    known: &mut Known,
+    lent: &Record<'_>,
+)
+    requires of_game { IsOfGame game.now known.old.me known.old }
+    requires known { IsKnown known.old }
+    requires allowed { IsAllowedAfter game.now room
+        (record { count = count; epoch = epoch; known = known.old }) (value_of lent.now) }
+    ensures { known.new ≡ with_record known.old (value_of lent.now) }
+{
+    match *lent {
+        Record::Head { .. } | Record::Epoch { .. } => {}
+        Record::Own { keys, .. } => known.own(keys),
+        Record::Got { player, run, .. } => known.take(player, run),
+        Record::Freeze { player } => known.freeze(player),
+        Record::Leave { player } => known.leave(player),
+        Record::Cut {
+            player,
+            length,
+            run,
+            ..
+        } => {
+            c8_known::laws::a_cut_is_a_run_and_an_end();
+            known.take(player, run);
+            known.cut(player, length);
+        }
+    }
+}
+
+/// The last epoch after a record.
+fn epoch_after(epoch: u32, lent: &Record<'_>) -> u32
+    ensures { result ≡ epoch_after epoch (value_of lent.now) }
+{
+    match *lent {
+        Record::Head { .. } => 1,
+        Record::Epoch { number, .. } => number,
+        _ => epoch,
+    }
+}

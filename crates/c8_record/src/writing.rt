@@ -1,0 +1,105 @@
+//! The body that spells a record.
+ghost use Rattle.std.specs.Prelude.{◌≡◌, ◌≤◌, ◌*◌, ◌++◌, length};
+ghost use Rattle.c8_known.specs.Journal.{Head, Own, Got, Cut};
+ghost use Rattle.c8_wire.specs.Lent.{words};
+ghost use Rattle.byteorder.specs.Endian.{big_bytes};
+ghost use Rattle.c8_wire.specs.Sizes.{longest_run};
+ghost use Rattle.c8_record.specs.Body.{field_bytes, body_of, Spells};
+ghost use Rattle.c8_record.specs.Lent.{value_of, HasInputs};
+
+use crate::record::{RUN_PLACE, Record};
+use c8_game::{Keys, Player};
+use c8_log::BODY_LENGTH;
+use c8_wire::Run;
+
+/// The body that spells a record. The body of a `Got` without inputs spells
+/// no record.
+#[tactic(auto, unfolding(crate::specs::Body::body_of))]
+pub fn body_of(lent: &Record<'_>) -> [u8; BODY_LENGTH]
+    ensures body { result ≡ body_of (value_of lent.now) }
+    ensures spells { HasInputs lent.now → Spells result (value_of lent.now) }
+{
+    match *lent {
+        Record::Head { player, id, room } => head_body(player, id, room),
+        Record::Epoch { player, number } => spell(2, player, number, 0, &[]),
+        Record::Own {
+            player,
+            start,
+            keys,
+        } => own_body(player, start, keys),
+        Record::Got { player, start, run } => got_body(player, start, run),
+        Record::Freeze { player } => spell(5, player, 0, 0, &[]),
+        Record::Leave { player } => spell(6, player, 0, 0, &[]),
+        Record::Cut {
+            player,
+            length,
+            start,
+            run,
+        } => cut_body(player, length, start, run),
+    }
+}
+
+#[tactic(auto, unfolding(crate::specs::Body::body_of))]
+fn head_body(player: Player, id: &[u8; 32], room: u64) -> [u8; BODY_LENGTH]
+    ensures body { result ≡ body_of (Head player.number id.now room) }
+    ensures spells { Spells result (Head player.number id.now room) }
+{
+    spell(1, player, 1, 0, &match_run(id, room))
+}
+
+#[tactic(auto, unfolding(crate::specs::Body::body_of))]
+fn own_body(player: Player, start: u32, keys: Keys) -> [u8; BODY_LENGTH]
+    ensures body { result ≡ body_of (Own player.number start keys.0) }
+    ensures spells { Spells result (Own player.number start keys.0) }
+{
+    spell(3, player, 0, start, &keys.0.to_be_bytes())
+}
+
+#[tactic(auto, unfolding(crate::specs::Body::body_of))]
+fn got_body(player: Player, start: u32, run: Run<'_>) -> [u8; BODY_LENGTH]
+    ensures body { result ≡ body_of (Got player.number start (words run.entry)) }
+    ensures spells { 1 ≤ length (words run.entry)
+        → Spells result (Got player.number start (words run.entry)) }
+{
+    spell(4, player, 0, start, run.bytes())
+}
+
+#[tactic(auto, unfolding(crate::specs::Body::body_of))]
+fn cut_body(player: Player, length: u32, start: u32, run: Run<'_>) -> [u8; BODY_LENGTH]
+    ensures body { result ≡ body_of (Cut player.number length start (words run.entry)) }
+    ensures spells { Spells result (Cut player.number length start (words run.entry)) }
+{
+    spell(7, player, length, start, run.bytes())
+}
+
+/// What the run of a `Head` says: the game's id and the room.
+fn match_run(id: &[u8; 32], room: u64) -> [u8; 40]
+    ensures { result ≡ id.now ++ big_bytes 8 room }
+{
+    let mut run = [0; 40];
+    let (front, back) = run.split_at_mut(32);
+    front.copy_from_slice(id);
+    back.copy_from_slice(&room.to_be_bytes());
+    run
+}
+
+/// The body that has these fields.
+fn spell(kind: u8, player: Player, number: u32, start: u32, run: &[u8]) -> [u8; BODY_LENGTH]
+    requires { length run.now ≤ 2 * longest_run }
+    ensures { result ≡ field_bytes (record {
+      kind = kind;
+      player = player.number;
+      number = number;
+      start = start;
+      run = run.now;
+    }) }
+{
+    let [n0, n1, n2, n3] = number.to_be_bytes();
+    let [s0, s1, s2, s3] = start.to_be_bytes();
+    let [c0, c1] = ((run.len() / 2) as u16).to_be_bytes();
+    let mut body = [0; BODY_LENGTH];
+    let (head, rest) = body.split_at_mut(RUN_PLACE);
+    head.copy_from_slice(&[kind, player.number, n0, n1, n2, n3, s0, s1, s2, s3, c0, c1]);
+    rest[..run.len()].copy_from_slice(run);
+    body
+}
