@@ -31,6 +31,13 @@ at_place rules me q within =
 past_all : (rules : Rules) (me q : ℕ) → rules.players ≤ q - 1 → player_in (known_of rules me []) q ≡ nobody
 past_all rules me q past = get_or_past (known_of rules me []).players (q - 1) nobody (omega (arith, past, players_known rules me []))
 
+pub player_at_start : (rules : Rules) (me q : ℕ) → (player_in (known_of rules me []) q ≡ at_start rules.delay) ⊎ (player_in (known_of rules me []) q ≡ nobody)
+player_at_start rules me q =
+    elim (cases_lt (q - 1) rules.players) [
+      | inl within ↦ inl (at_place rules me q within)
+      | inr past ↦ inr (past_all rules me q past)
+    ]
+
 count_at_start : (rules : Rules) (me q : ℕ) → q - 1 < rules.players → count_in (known_of rules me []) q ≡ rules.delay
 count_at_start rules me q within = ap (λ (p : PlayerValue). length p.held) (at_place rules me q within) ∙ length-replicate rules.delay 0
 
@@ -43,10 +50,7 @@ few_at_start rules me q =
 
 uncut_at_start : (rules : Rules) (me q : ℕ) → (player_in (known_of rules me []) q).cut ≡ None
 uncut_at_start rules me q =
-    elim (cases_lt (q - 1) rules.players) [
-      | inl within ↦ ap (λ (p : PlayerValue). p.cut) (at_place rules me q within)
-      | inr past ↦ ap (λ (p : PlayerValue). p.cut) (past_all rules me q past)
-    ]
+    ⊎_elim (λ held. ap (λ (p : PlayerValue). p.cut) held) (λ none. ap (λ (p : PlayerValue). p.cut) none) (player_at_start rules me q)
 
 pub known_at_start : (rules : Rules) (me : ℕ) → AreInRange rules → 1 ≤ me → me ≤ rules.players → IsKnown (known_of rules me [])
 unfolding known_of journals.ticks

@@ -1,3 +1,3 @@
-pub mod BodyLemmas
 pub mod TakenLemmas
 pub mod ReplayLemmas
+pub mod BodiesLemmas

@@ -15,7 +15,7 @@ use Rattle.c8_record.specs.Allowed.{Past, past_of, IsHead, IsAllowedAfter, IsAll
 use Rattle.c8_record.specs.Taken.{epoch_after, IsHeadWith, IsOfOtherGame, IsOfOtherPlayer, IsUnfitBody, IsTaken}
 use Rattle.c8_record.specs.Replay.{AreJournalBodies, BeginsWithHead, IsRefusal, is_failed, IsReplayed, IsReplayedFromDisk}
 use Rattle.c8_record.specs.JournalLaws.{journal_none, journal_more, epoch_more, known_more, of_game}
-use Rattle.c8_record.proofs.BodyLemmas.{one_record}
+use Rattle.c8_record.specs.BodyLaws.{one_record}
 
 -- the first n bodies are taken
 pub record IsReadTo (rules : Rules) (me room : ℕ) (bodies : List (List ℕ)) (n : ℕ) (now : KnownValue) (last : ℕ) : Type 0 where

@@ -3,7 +3,7 @@ use Rattle.std.specs.Prelude.{ℕ, ◌+◌, ◌≡◌, ◌≢◌, ◌<◌, ◌�
 use Rattle.std.specs.List.{slice_get}
 use Rattle.c8_game.specs.Rules.{Rules, id_of}
 use Rattle.c8_known.specs.Journal.{Record, Head, Epoch, Own, Got, Freeze, Leave, Cut, player_of, epoch}
-use Rattle.c8_known.specs.Known.{KnownValue, player_in, count_in, known_of, Plays}
+use Rattle.c8_known.specs.Known.{PlayerValue, KnownValue, player_in, count_in, known_of, Plays}
 use Rattle.c8_known.specs.Confirmed.{confirmed}
 use Rattle.c8_record.specs.Body.{HasSpelling}
 
@@ -111,3 +111,17 @@ IsAllowed rules me room before r = IsAllowedAfter rules room (past_of rules me b
 -- A journal: each record is allowed after those before it.
 abbrev pub IsJournal : Rules → ℕ → ℕ → List Record → Type 0
 IsJournal rules me room journal = (n : ℕ) (r : Record) → slice_get journal n ≡ Some r → IsAllowed rules me room (take n journal) r
+
+-- What the rules make of leavers, so that `frozen` and `leaving` tell who may leave in whose journal: nothing stands of
+-- player one; at player one no FREEZE stands, and elsewhere a LEAVE of the own player alone, of whom no FREEZE stands; and
+-- who is cut leaves, by a LEAVE at player one and by a FREEZE elsewhere.
+pub record IsOrderlyOf (me q : ℕ) (p : PlayerValue) : Type 0 where
+  pub one_stays : q ≡ 1 → (p.frozen ≡ false) × (p.leaving ≡ false)
+  pub at_one : me ≡ 1 → p.frozen ≡ false
+  pub elsewhere : me ≢ 1 → q ≢ me → p.leaving ≡ false
+  pub own : q ≡ me → p.frozen ≡ false
+  pub cut_at_one : me ≡ 1 → (K : ℕ) → p.cut ≡ Some K → p.leaving ≡ true
+  pub cut_elsewhere : me ≢ 1 → (K : ℕ) → p.cut ≡ Some K → p.frozen ≡ true
+
+abbrev pub IsOrderly : KnownValue → Type 0
+IsOrderly k = (q : ℕ) → 1 ≤ q → IsOrderlyOf k.me q (player_in k q)

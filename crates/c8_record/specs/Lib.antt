@@ -5,3 +5,5 @@ pub mod Replay
 pub mod Errors
 pub mod Taken
 pub mod JournalLaws
+pub mod BodyLaws
+pub mod LeaverLaws

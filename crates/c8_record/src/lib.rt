@@ -9,6 +9,7 @@
 
 mod allowed;
 mod error;
+pub mod laws;
 mod reading;
 mod record;
 mod replaying;
@@ -19,3 +20,6 @@ pub use reading::view;
 pub use record::Record;
 pub use replaying::{replay, replay_bytes};
 pub use writing::body_of;
+
+#[cfg(test)]
+mod tests;

@@ -1,8 +1,9 @@
--- A record that is spelled is read again.
-use Rattle.std.proofs.Common.{◌≡◌, ℕ, zero, suc, ◌+◌, ◌*◌, ◌-◌, ◌/◌, ◌^◌, ◌<◌, ◌≤◌, List, [], ◌∷◌, ◌++◌, length, take, drop, refl, sym, ap, subst, ◌∙◌, arith}
+-- Checked, not believed: a record that is spelled is read again, and bodies and records tell of each other.
+use Rattle.std.proofs.Common.{◌≡◌, ℕ, zero, suc, ◌+◌, ◌*◌, ◌-◌, ◌/◌, ◌^◌, ◌<◌, ◌≤◌, List, [], ◌∷◌, ◌++◌, length, map, take, drop, refl, sym, ap, subst, ◌∙◌, arith}
 use Rattle.std.specs.Prelude.{slice_index, replicate}
+use Rattle.std.specs.List.{All}
 use Rattle.std.proofs.Math.Seq.{take-append_seam, drop-append_seam}
-use Rattle.std.proofs.lemmas.List.{append_assoc, length-append}
+use Rattle.std.proofs.lemmas.List.{append_assoc, length-append, length-replicate}
 use Rattle.byteorder.specs.Endian.{big_bytes, big_number}
 use Rattle.byteorder.specs.Numbers.{big_number-reads_back}
 use Rattle.c8_wire.specs.Packet.{AreBytes, AreWords}
@@ -13,7 +14,7 @@ use Rattle.c8_known.specs.Journal.{Record, Head, Epoch, Own, Got, Freeze, Leave,
 use Rattle.c8_record.specs.declared.record.Record.{Record as Lent}
 use Rattle.c8_record.specs.declared.record.Record.TheVariants as lents
 use Rattle.c8_record.specs.Lent.{value_of, HasInputs}
-use Rattle.c8_record.specs.Body.{run_place, run_room, Fields, fields_of, field_bytes, body_of, HasSpelling, Spells, run_at, record_of}
+use Rattle.c8_record.specs.Body.{records_of, run_place, run_room, Fields, fields_of, field_bytes, body_of, HasSpelling, Spells, run_at, record_of}
 
 -- ---- fields
 
@@ -63,7 +64,7 @@ word_is : (player start word : ℕ) → word < 2 ^ 16 → number_at 12 2 (field_
 unfolding number_at zeros_of
 word_is player start word low = big_number-reads_back 2 word (zeros_of (words_bytes (word ∷ []))) (omega (arith, low))
 
-read_again : (r : Record) → HasSpelling r → record_of (body_of r) ≡ r
+pub read_again : (r : Record) → HasSpelling r → record_of (body_of r) ≡ r
 unfolding record_of body_of
 read_again (Head player id room) has =
     let f : Fields = fields_of (Head player id room) in
@@ -181,3 +182,32 @@ has_inputs (lents.Cut player cut start run) has = tt
 -- where a body spells a record, that is the one that its parts are
 pub spells_lent : (bytes : List ℕ) (lent : Lent) (r : Record) → value_of lent ≡ record_of bytes → Spells bytes r → Spells bytes (value_of lent)
 spells_lent bytes lent r is spells = subst (λ (s : Record). Spells bytes s) (sym (is ∙ reads_back bytes r spells)) spells
+
+-- ---- lists of bodies, and of records
+
+pub length_body : (r : Record) → HasSpelling r → length (body_of r) ≡ 143
+unfolding body_of zeros_of
+length_body r has =
+    let f : Fields = fields_of r in
+    omega (arith, length-append f.run (zeros_of f.run), length-replicate {A = ℕ} (run_room - length f.run) 0, has.short)
+
+pub bodies_back : (bodies : List (List ℕ)) → All (λ body. Spells body (record_of body)) bodies → map body_of (records_of bodies) ≡ bodies
+bodies_back [] all = refl
+bodies_back (body ∷ bodies) all =
+    let first : body_of (record_of body) ≡ body = sym (all 0 [] (omega arith)).is in
+    let rest = bodies_back bodies (λ k d within. all (suc k) d (omega (arith, within))) in
+    λ i. first i ∷ rest i
+
+pub records_back : (records : List Record) → All HasSpelling records → records_of (map body_of records) ≡ records
+records_back [] all = refl
+records_back (r ∷ records) all =
+    let first = read_again r (all 0 r (omega arith)) in
+    let rest = records_back records (λ k d within. all (suc k) d (omega (arith, within))) in
+    λ i. first i ∷ rest i
+
+pub bodies_spell : (records : List Record) → All HasSpelling records → All (λ body. Spells body (record_of body)) (map body_of records)
+bodies_spell [] all k d within = absurd (omega (arith, within))
+bodies_spell (r ∷ records) all zero d within =
+    let has = all 0 r (omega arith) in
+    subst (λ (one : Record). Spells (body_of r) one) (sym (read_again r has)) (record { has = has; is = refl })
+bodies_spell (r ∷ records) all (suc k) d within = bodies_spell records (λ k d within. all (suc k) d (omega (arith, within))) k d (omega (arith, within))

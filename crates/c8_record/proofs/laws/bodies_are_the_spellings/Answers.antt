@@ -1,0 +1,12 @@
+use Rattle.c8_record.specs.BodyLaws.{bodies_back}
+use Rattle.c8_record.proofs.BodiesLemmas.{journal_back, journal_bodies}
+use Rattle.c8_record.proofs.laws.bodies_are_the_spellings.Goals as goal
+
+pub returns-clause-bodies : goal.returns-clause-bodies
+returns-clause-bodies c = λ rules me room bodies are. bodies_back bodies are.spelled
+
+pub returns-clause-records : goal.returns-clause-records
+returns-clause-records c = journal_back
+
+pub returns-clause-spell : goal.returns-clause-spell
+returns-clause-spell c = journal_bodies

@@ -1,0 +1,5 @@
+use Rattle.c8_record.specs.LeaverLaws.{journal_orderly}
+use Rattle.c8_record.proofs.laws.leavers_are_orderly.Goals as goal
+
+pub returns : goal.returns
+returns c = journal_orderly

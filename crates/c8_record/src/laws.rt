@@ -1,0 +1,68 @@
+//! What callers may rest on that is no single call's: laws of records and journals, each the contract
+//! of a function that does nothing.
+ghost use Rattle.std.specs.Prelude.{◌≡◌, ◌≢◌, ℕ, ◌+◌, ◌<◌, ◌≤◌, List, [], ◌∷◌, ◌++◌, length, map};
+ghost use Rattle.c8_game.specs.Rules.{Rules, AreInRange};
+ghost use Rattle.c8_known.specs.Journal.{Record, epoch};
+ghost use Rattle.c8_known.specs.Known.{known_of, with_record, IsKnown};
+ghost use Rattle.c8_known.specs.Confirmed.{confirmed_rows};
+ghost use Rattle.c8_known.specs.Growth.{Begins, IsStillKnown};
+ghost use Rattle.c8_record.specs.Body.{body_of, record_of, records_of, HasSpelling, Spells};
+ghost use Rattle.c8_record.specs.Allowed.{IsAllowed, IsJournal, IsOrderly};
+ghost use Rattle.c8_record.specs.Replay.{AreJournalBodies};
+
+/// A record that can be spelled has one spelling, of 143 bytes, which is read as that record and no
+/// other.
+pub fn a_spelling_reads_back()
+    ensures length { (r : Record) → HasSpelling r → length (body_of r) ≡ 143 }
+    ensures back { (r : Record) → HasSpelling r → record_of (body_of r) ≡ r }
+    ensures only { (body : List ℕ) (r : Record) → Spells body r → r ≡ record_of body }
+{}
+
+/// The bodies of a journal are the spellings of its records, and the spellings of a journal's records
+/// are bodies of it.
+pub fn bodies_are_the_spellings()
+    ensures bodies { (rules : Rules) (me room : ℕ) (bodies : List (List ℕ))
+        → AreJournalBodies rules me room bodies → map body_of (records_of bodies) ≡ bodies }
+    ensures records { (rules : Rules) (me room : ℕ) (journal : List Record)
+        → IsJournal rules me room journal → records_of (map body_of journal) ≡ journal }
+    ensures spell { (rules : Rules) (me room : ℕ) (journal : List Record)
+        → IsJournal rules me room journal
+        → AreJournalBodies rules me room (map body_of journal) }
+{}
+
+/// A journal with an allowed record more is a journal, and so is what a journal begins with.
+pub fn journals_grow_by_one()
+    ensures none { (rules : Rules) (me room : ℕ) → IsJournal rules me room [] }
+    ensures more { (rules : Rules) (me room : ℕ) (journal : List Record) (r : Record)
+        → IsJournal rules me room journal → IsAllowed rules me room journal r
+        → IsJournal rules me room (journal ++ r ∷ []) }
+    ensures next { (rules : Rules) (me room : ℕ) (journal : List Record) (r : Record)
+        (rest : List Record) → IsJournal rules me room (journal ++ r ∷ rest)
+        → IsAllowed rules me room journal r }
+    ensures begins { (rules : Rules) (me room : ℕ) (journal rest : List Record)
+        → IsJournal rules me room (journal ++ rest) → IsJournal rules me room journal }
+    ensures known { (rules : Rules) (me room : ℕ) (journal : List Record) (r : Record)
+        → IsAllowed rules me room journal r
+        → known_of rules me (journal ++ r ∷ []) ≡ with_record (known_of rules me journal) r }
+{}
+
+/// What a journal says is sound, and nothing of it is taken back by a longer one: the confirmed rows
+/// of a journal begin those of every longer journal.
+pub fn what_a_journal_says_stays()
+    ensures known { (rules : Rules) (me room : ℕ) (journal : List Record) → AreInRange rules
+        → 1 ≤ me → me ≤ rules.players → IsJournal rules me room journal
+        → IsKnown (known_of rules me journal) }
+    ensures still { (rules : Rules) (me room : ℕ) (journal rest : List Record) → AreInRange rules
+        → 1 ≤ me → me ≤ rules.players → IsJournal rules me room (journal ++ rest)
+        → IsStillKnown (known_of rules me journal) (known_of rules me (journal ++ rest)) }
+    ensures rows { (rules : Rules) (me room : ℕ) (journal rest : List Record) → AreInRange rules
+        → 1 ≤ me → me ≤ rules.players → IsJournal rules me room (journal ++ rest)
+        → Begins (confirmed_rows (known_of rules me journal))
+        (confirmed_rows (known_of rules me (journal ++ rest))) }
+{}
+
+/// Who may leave in whose journal, and who is cut leaves.
+pub fn leavers_are_orderly()
+    ensures { (rules : Rules) (me room : ℕ) (journal : List Record)
+        → IsJournal rules me room journal → IsOrderly (known_of rules me journal) }
+{}
