@@ -4,8 +4,7 @@ use c8_game::{Game, Keys, Player};
 use c8_known::Known;
 use c8_log::{BODY_LENGTH, Log, LogError};
 use c8_wire::Run;
-use std::alloc::Global;
-use std::fmt::Display;
+use std::alloc::{AllocError, Global};
 use std::test::Fail;
 
 /// Three players and a delay of 1 frame; a list has at most 101 inputs.
@@ -20,7 +19,7 @@ const ROOM: u64 = 0x0102030405060708;
 
 /// What a body has, of whatever kind.
 #[derive(Clone, Copy)]
-struct Fields<'a> {
+struct Parts<'a> {
     kind: u8,
     player: u8,
     number: u32,
@@ -28,15 +27,15 @@ struct Fields<'a> {
     words: &'a [u16],
 }
 
-/// Spells fields as the table of bodies has them.
-fn spelled(fields: Fields<'_>) -> [u8; BODY_LENGTH] {
+/// Spells parts as the table of bodies has them.
+fn spelled(parts: Parts<'_>) -> [u8; BODY_LENGTH] {
     let mut body = [0; BODY_LENGTH];
-    let [n0, n1, n2, n3] = fields.number.to_be_bytes();
-    let [s0, s1, s2, s3] = fields.start.to_be_bytes();
-    let [_, count] = (fields.words.len() as u16).to_be_bytes();
+    let [n0, n1, n2, n3] = parts.number.to_be_bytes();
+    let [s0, s1, s2, s3] = parts.start.to_be_bytes();
+    let count = parts.words.len().min(65) as u8;
     let head = [
-        fields.kind,
-        fields.player,
+        parts.kind,
+        parts.player,
         n0,
         n1,
         n2,
@@ -51,7 +50,7 @@ fn spelled(fields: Fields<'_>) -> [u8; BODY_LENGTH] {
     for (place, byte) in head.iter().enumerate() {
         body[place] = *byte;
     }
-    for (place, word) in fields.words.iter().enumerate() {
+    for (place, word) in parts.words.iter().enumerate() {
         if place < 65 {
             let [high, low] = word.to_be_bytes();
             body[12 + 2 * place] = high;
@@ -61,8 +60,8 @@ fn spelled(fields: Fields<'_>) -> [u8; BODY_LENGTH] {
     body
 }
 
-fn fields(kind: u8, player: u8, number: u32, start: u32, words: &[u16]) -> Fields<'_> {
-    Fields {
+fn raw(kind: u8, player: u8, number: u32, start: u32, words: &[u16]) -> Parts<'_> {
+    Parts {
         kind,
         player,
         number,
@@ -71,33 +70,33 @@ fn fields(kind: u8, player: u8, number: u32, start: u32, words: &[u16]) -> Field
     }
 }
 
-fn epoch(player: u8, number: u32) -> Fields<'static> {
-    fields(2, player, number, 0, &[])
+fn epoch(player: u8, number: u32) -> Parts<'static> {
+    raw(2, player, number, 0, &[])
 }
 
-fn own(player: u8, start: u32, words: &[u16]) -> Fields<'_> {
-    fields(3, player, 0, start, words)
+fn own(player: u8, start: u32, words: &[u16]) -> Parts<'_> {
+    raw(3, player, 0, start, words)
 }
 
-fn got(player: u8, start: u32, words: &[u16]) -> Fields<'_> {
-    fields(4, player, 0, start, words)
+fn got(player: u8, start: u32, words: &[u16]) -> Parts<'_> {
+    raw(4, player, 0, start, words)
 }
 
-fn freeze(player: u8) -> Fields<'static> {
-    fields(5, player, 0, 0, &[])
+fn freeze(player: u8) -> Parts<'static> {
+    raw(5, player, 0, 0, &[])
 }
 
-fn leave(player: u8) -> Fields<'static> {
-    fields(6, player, 0, 0, &[])
+fn leave(player: u8) -> Parts<'static> {
+    raw(6, player, 0, 0, &[])
 }
 
-fn cut(player: u8, length: u32, start: u32, words: &[u16]) -> Fields<'_> {
-    fields(7, player, length, start, words)
+fn cut(player: u8, length: u32, start: u32, words: &[u16]) -> Parts<'_> {
+    raw(7, player, length, start, words)
 }
 
 /// The body of a HEAD of this player, game and room.
 fn head(player: u8, game: &Game, room: u64) -> [u8; BODY_LENGTH] {
-    let mut body = spelled(fields(1, player, 1, 0, &[]));
+    let mut body = spelled(raw(1, player, 1, 0, &[]));
     body[11] = 20;
     for (place, byte) in game.id().iter().enumerate() {
         body[12 + place] = *byte;
@@ -142,8 +141,8 @@ fn judged(
     alloc: Global,
     text: &[u8],
     me: u8,
-    before: &[Fields<'_>],
-    last: Fields<'_>,
+    before: &[Parts<'_>],
+    last: Parts<'_>,
 ) -> Result<Option<Result<u32, ReplayError>>, Fail> {
     let game = Game::read(alloc, text)?;
     let mut image = Vec::new(alloc);
@@ -159,13 +158,13 @@ fn judged(
 }
 
 /// Whether the last record alone is refused.
-fn is_bad(alloc: Global, me: u8, before: &[Fields<'_>], last: Fields<'_>) -> Result<bool, Fail> {
+fn is_bad(alloc: Global, me: u8, before: &[Parts<'_>], last: Parts<'_>) -> Result<bool, Fail> {
     let answer = judged(alloc, GAME, me, before, last)?;
     Ok(answer == Some(Err(ReplayError::BadRecord(before.len() + 1))))
 }
 
 /// Whether all are taken.
-fn is_good(alloc: Global, me: u8, before: &[Fields<'_>], last: Fields<'_>) -> Result<bool, Fail> {
+fn is_good(alloc: Global, me: u8, before: &[Parts<'_>], last: Parts<'_>) -> Result<bool, Fail> {
     match judged(alloc, GAME, me, before, last)? {
         Some(Ok(_)) => Ok(true),
         _ => Ok(false),
@@ -285,5 +284,350 @@ fn bytes_that_spell_nothing(rt: HostRuntime) -> Result<(), Fail> {
     assert!(rt; is_none_with(spelled(leave(2)), 9, 1));
     assert!(rt; is_none_with(spelled(leave(2)), 11, 1));
     assert!(rt; is_none_with(spelled(cut(2, 9, 9, &[])), 12, 1));
+    Ok(())
+}
+
+#[test]
+fn the_first_record_is_a_head_of_this_match(rt: HostRuntime) -> Result<(), Fail> {
+    let alloc = rt.alloc();
+    let game = Game::read(alloc, GAME)?;
+    let other = Game::read(alloc, SHORT_GAME)?;
+    assert_eq!(rt; first(alloc, &game, head(2, &game, ROOM))?, Some(Ok(1)));
+    assert_eq!(rt;
+        first(alloc, &game, head(2, &other, ROOM))?,
+        Some(Err(ReplayError::WrongGame))
+    );
+    assert_eq!(rt;
+        first(alloc, &game, head(2, &game, 1))?,
+        Some(Err(ReplayError::WrongGame))
+    );
+    assert_eq!(rt;
+        first(alloc, &game, head(3, &other, ROOM))?,
+        Some(Err(ReplayError::WrongGame))
+    );
+    assert_eq!(rt;
+        first(alloc, &game, head(3, &game, ROOM))?,
+        Some(Err(ReplayError::WrongPlayer))
+    );
+    assert_eq!(rt;
+        first(alloc, &game, head(4, &game, ROOM))?,
+        Some(Err(ReplayError::WrongPlayer))
+    );
+    let mut second = head(2, &game, ROOM);
+    second[5] = 2;
+    assert_eq!(rt;
+        first(alloc, &game, second)?,
+        Some(Err(ReplayError::BadRecord(0)))
+    );
+    assert_eq!(rt;
+        first(alloc, &game, spelled(epoch(2, 1)))?,
+        Some(Err(ReplayError::BadRecord(0)))
+    );
+    assert_eq!(rt;
+        first(alloc, &game, spelled(own(2, 1, &[1])))?,
+        Some(Err(ReplayError::BadRecord(0)))
+    );
+    Ok(())
+}
+
+/// What the journal of player 2 says that has this body alone.
+fn first(
+    alloc: Global,
+    game: &Game,
+    body: [u8; BODY_LENGTH],
+) -> Result<Option<Result<u32, ReplayError>>, Fail> {
+    let mut image = Vec::new(alloc);
+    add(&mut image, body)?;
+    match replayed(alloc, game, 2, &image)? {
+        Some((answer, _)) => Ok(Some(answer)),
+        None => Ok(None),
+    }
+}
+
+#[test]
+fn an_empty_journal_says_nothing(rt: HostRuntime) -> Result<(), Fail> {
+    let alloc = rt.alloc();
+    let game = Game::read(alloc, GAME)?;
+    assert!(rt; matches!(replayed(alloc, &game, 1, b"")?, Some((Ok(0), _))));
+    assert!(rt; matches!(replayed(alloc, &game, 1, b"\0")?, Some((Ok(0), _))));
+    Ok(())
+}
+
+#[test]
+fn heads_and_epochs(rt: HostRuntime) -> Result<(), Fail> {
+    let alloc = rt.alloc();
+    let game = Game::read(alloc, GAME)?;
+    let mut image = Vec::new(alloc);
+    add(&mut image, head(1, &game, ROOM))?;
+    add(&mut image, head(1, &game, ROOM))?;
+    assert!(rt;
+        matches!(
+            replayed(alloc, &game, 1, &image)?,
+            Some((Err(ReplayError::BadRecord(1)), _))
+        )
+    );
+    assert_eq!(rt;
+        judged(alloc, GAME, 1, &[epoch(1, 2)], epoch(1, 7))?,
+        Some(Ok(7))
+    );
+    assert!(rt; is_bad(alloc, 1, &[], epoch(1, 1))?);
+    assert!(rt; is_bad(alloc, 1, &[epoch(1, 7)], epoch(1, 7))?);
+    assert!(rt; is_bad(alloc, 1, &[epoch(1, 7)], epoch(1, 3))?);
+    assert!(rt; is_bad(alloc, 1, &[], epoch(2, 2))?);
+    Ok(())
+}
+
+#[test]
+fn own_inputs_stay_within_window_and_frames(rt: HostRuntime) -> Result<(), Fail> {
+    let alloc = rt.alloc();
+    assert!(rt; is_good(alloc, 1, &[], own(1, 1, &[5]))?);
+    assert!(rt; is_bad(alloc, 1, &[], own(2, 1, &[5]))?);
+    assert!(rt; is_bad(alloc, 1, &[], own(1, 0, &[5]))?);
+    assert!(rt; is_bad(alloc, 1, &[], own(1, 2, &[5]))?);
+    let three = [own(1, 1, &[5]), own(1, 2, &[6]), own(1, 3, &[7])];
+    assert!(rt; is_bad(alloc, 1, &three, own(1, 4, &[8]))?);
+    let more = [
+        three[0],
+        three[1],
+        three[2],
+        got(2, 1, &[1]),
+        got(3, 1, &[1]),
+    ];
+    assert!(rt; is_good(alloc, 1, &more, own(1, 4, &[8]))?);
+    assert_eq!(rt;
+        judged(alloc, SHORT_GAME, 1, &three[..2], three[2])?,
+        Some(Ok(1))
+    );
+    assert_eq!(rt;
+        judged(alloc, SHORT_GAME, 1, &three, own(1, 4, &[8]))?,
+        Some(Err(ReplayError::BadRecord(4)))
+    );
+    Ok(())
+}
+
+#[test]
+fn inputs_of_others_follow_those_held(rt: HostRuntime) -> Result<(), Fail> {
+    let alloc = rt.alloc();
+    assert!(rt; is_good(alloc, 1, &[], got(2, 1, &[5, 6]))?);
+    assert!(rt; is_bad(alloc, 1, &[], got(1, 1, &[5]))?);
+    assert!(rt; is_bad(alloc, 1, &[], got(4, 1, &[5]))?);
+    assert!(rt; is_bad(alloc, 1, &[], got(2, 0, &[5]))?);
+    assert!(rt; is_bad(alloc, 1, &[], got(2, 2, &[5]))?);
+    let many = [got(2, 1, &[1; 64]), got(2, 65, &[2; 35])];
+    assert!(rt; is_good(alloc, 1, &many, got(2, 100, &[3]))?);
+    assert!(rt; is_bad(alloc, 1, &many, got(2, 100, &[3, 4]))?);
+    assert!(rt; is_bad(alloc, 1, &[leave(2), cut(2, 1, 1, &[])], got(2, 1, &[3]))?);
+    Ok(())
+}
+
+#[test]
+fn freezes_stand_elsewhere_than_at_player_one(rt: HostRuntime) -> Result<(), Fail> {
+    let alloc = rt.alloc();
+    assert!(rt; is_good(alloc, 2, &[], freeze(3))?);
+    assert!(rt; is_bad(alloc, 1, &[], freeze(3))?);
+    assert!(rt; is_bad(alloc, 2, &[], freeze(1))?);
+    assert!(rt; is_bad(alloc, 2, &[], freeze(2))?);
+    assert!(rt; is_bad(alloc, 2, &[], freeze(4))?);
+    assert!(rt; is_bad(alloc, 2, &[freeze(3)], freeze(3))?);
+    Ok(())
+}
+
+#[test]
+fn leaves_stand_at_player_one_or_at_the_leaver(rt: HostRuntime) -> Result<(), Fail> {
+    let alloc = rt.alloc();
+    assert!(rt; is_good(alloc, 1, &[leave(2)], leave(3))?);
+    assert!(rt; is_bad(alloc, 1, &[], leave(1))?);
+    assert!(rt; is_bad(alloc, 1, &[], leave(4))?);
+    assert!(rt; is_bad(alloc, 1, &[leave(2)], leave(2))?);
+    assert!(rt; is_good(alloc, 2, &[], leave(2))?);
+    assert!(rt; is_bad(alloc, 2, &[], leave(3))?);
+    assert!(rt; is_bad(alloc, 2, &[], leave(1))?);
+    Ok(())
+}
+
+#[test]
+fn cuts_end_the_list_of_a_leaver(rt: HostRuntime) -> Result<(), Fail> {
+    let alloc = rt.alloc();
+    assert!(rt; is_good(alloc, 1, &[leave(2)], cut(2, 1, 1, &[]))?);
+    assert!(rt; is_good(alloc, 2, &[freeze(3)], cut(3, 3, 1, &[5, 6]))?);
+    assert!(rt; is_bad(alloc, 1, &[], cut(2, 1, 1, &[]))?);
+    assert!(rt; is_bad(alloc, 2, &[], cut(3, 1, 1, &[]))?);
+    assert!(rt; is_bad(alloc, 1, &[leave(2)], cut(3, 1, 1, &[]))?);
+    assert!(rt; is_bad(alloc, 1, &[leave(2)], cut(2, 2, 1, &[]))?);
+    assert!(rt; is_bad(alloc, 1, &[leave(2)], cut(2, 2, 2, &[]))?);
+    assert!(rt; is_bad(alloc, 1, &[leave(2)], cut(2, 2, 1, &[5, 6]))?);
+    assert!(rt; is_bad(alloc, 1, &[leave(2)], cut(1, 1, 1, &[]))?);
+    assert!(rt; is_bad(alloc, 1, &[leave(2)], cut(4, 1, 1, &[]))?);
+    assert!(rt; is_bad(alloc, 2, &[freeze(3)], cut(2, 1, 1, &[]))?);
+    assert!(rt; is_bad(alloc, 1, &[leave(2), cut(2, 1, 1, &[])], cut(2, 1, 1, &[]))?);
+    let many = [leave(2), got(2, 1, &[1; 64]), got(2, 65, &[2; 36])];
+    assert!(rt; is_good(alloc, 1, &many, cut(2, 101, 101, &[]))?);
+    assert!(rt; is_bad(alloc, 1, &many, cut(2, 102, 101, &[3]))?);
+    Ok(())
+}
+
+#[test]
+fn a_dropped_player_adds_epochs_alone(rt: HostRuntime) -> Result<(), Fail> {
+    let alloc = rt.alloc();
+    let dropped = [freeze(3), leave(2)];
+    assert_eq!(rt; judged(alloc, GAME, 2, &dropped, epoch(2, 9))?, Some(Ok(9)));
+    assert!(rt; is_bad(alloc, 2, &dropped, own(2, 1, &[5]))?);
+    assert!(rt; is_bad(alloc, 2, &dropped, got(1, 1, &[5]))?);
+    assert!(rt; is_bad(alloc, 2, &[leave(2)], freeze(3))?);
+    assert!(rt; is_bad(alloc, 2, &dropped, leave(2))?);
+    assert!(rt; is_bad(alloc, 2, &dropped, cut(3, 1, 1, &[]))?);
+    assert!(rt; is_good(alloc, 1, &[leave(2)], own(1, 1, &[5]))?);
+    Ok(())
+}
+
+/// The journal of player 1 in a match in which player 3 is cut after 70 inputs.
+fn a_match(alloc: Global, game: &Game) -> Result<Vec<u8>, Fail> {
+    let mut image = Vec::new(alloc);
+    add(&mut image, head(1, game, ROOM))?;
+    for frame in 1..70u32 {
+        let word = frame as u16;
+        add(&mut image, spelled(own(1, frame, &[word])))?;
+        add(&mut image, spelled(got(2, frame, &[word + 1000])))?;
+        add(&mut image, spelled(got(3, frame, &[word + 2000])))?;
+    }
+    add(&mut image, spelled(epoch(1, 2)))?;
+    add(&mut image, spelled(leave(3)))?;
+    add(&mut image, spelled(own(1, 70, &[70])))?;
+    add(&mut image, spelled(cut(3, 71, 70, &[2070])))?;
+    add(&mut image, spelled(own(1, 71, &[71])))?;
+    add(&mut image, spelled(got(2, 70, &[1070, 1071])))?;
+    Ok(image)
+}
+
+#[test]
+fn a_match_is_known_again(rt: HostRuntime) -> Result<(), Fail> {
+    let alloc = rt.alloc();
+    let game = Game::read(alloc, GAME)?;
+    let image = a_match(alloc, &game)?;
+    let Some((answer, known)) = replayed(alloc, &game, 1, &image)? else {
+        return Err(Fail::from("no such player"));
+    };
+    assert_eq!(rt; answer, Ok(2));
+    assert_eq!(rt; known.ticks(), 71);
+    assert_eq!(rt; known.confirmed(), 71);
+    let [one, two, three] = [1, 2, 3];
+    assert!(rt; holds(&known, one, 0, 72, None, false));
+    assert!(rt; holds(&known, two, 1000, 72, None, false));
+    assert!(rt; holds(&known, three, 2000, 71, Some(71), true));
+    Ok(())
+}
+
+/// Whether a player's list is an empty set and then the words from the first one on, and its cut and
+/// its leave are these.
+fn holds(
+    known: &Known,
+    player: u8,
+    first: u16,
+    count: u32,
+    cut: Option<u32>,
+    leaving: bool,
+) -> bool {
+    let Some(player) = Player::new(player) else {
+        return false;
+    };
+    if player.number > known.players() || known.count(player) != count {
+        return false;
+    }
+    for (place, word) in known.inputs(player, 0, count).iter().enumerate() {
+        if place > 0 && u32::from(*word) != u32::from(first) + place as u32 {
+            return false;
+        }
+    }
+    known.cut_of(player) == cut && known.leaving(player) == leaving && !known.has_freeze(player)
+}
+
+/// A log that keeps the match.
+fn logged(alloc: Global, game: &Game) -> Result<Log<MemDisk>, Fail> {
+    let disk = MemDisk::new(alloc, 40000, 2000)?;
+    let mut log = match Log::open(disk) {
+        Ok(log) => log,
+        Err((error, _)) => return Err(Fail::from(error)),
+    };
+    for body in a_match(alloc, game)?.chunks(144) {
+        match body.last_chunk() {
+            Some(body) => log.append(body)?,
+            None => return Err(Fail::from("no whole slot")),
+        };
+    }
+    Ok(log)
+}
+
+/// What a replay of the log answers, and the inputs of player 2 that are then held.
+fn replayed_log(
+    alloc: Global,
+    game: &Game,
+    log: &mut Log<MemDisk>,
+) -> Result<Option<(Result<u32, ReplayError>, u32)>, Fail> {
+    game.in_range();
+    if log.is_down() {
+        return Ok(None);
+    }
+    let mut known = Known::new(alloc, game, Player { number: 1 })?;
+    let answer = replay(log, game, ROOM, &mut known);
+    let two = Player { number: 2 };
+    if known.players() < 2 {
+        return Ok(None);
+    }
+    Ok(Some((answer, known.count(two))))
+}
+
+#[test]
+fn a_log_is_replayed(rt: HostRuntime) -> Result<(), Fail> {
+    let alloc = rt.alloc();
+    let game = Game::read(alloc, GAME)?;
+    let mut log = logged(alloc, &game)?;
+    assert_eq!(rt; replayed_log(alloc, &game, &mut log)?, Some((Ok(2), 72)));
+    assert!(rt; !log.is_down());
+    log.append(&spelled(own(1, 75, &[1])))?;
+    assert_eq!(rt;
+        replayed_log(alloc, &game, &mut log)?,
+        Some((Err(ReplayError::BadRecord(214)), 72))
+    );
+    assert!(rt; !log.is_down());
+    log.arm(Arm::Stop(3));
+    assert_eq!(rt;
+        replayed_log(alloc, &game, &mut log)?,
+        Some((Err(ReplayError::Disk(DiskError::Failed)), 2))
+    );
+    assert!(rt; log.is_down());
+    assert_eq!(rt; log.append(&spelled(own(1, 72, &[1]))), Err(LogError::Down));
+    Ok(())
+}
+
+/// Whether an error prints these words, and has this number and this name.
+fn reads(
+    alloc: Global,
+    error: ReplayError,
+    text: &str,
+    number: u8,
+    name: &str,
+) -> Result<bool, AllocError> {
+    let told = format!(in alloc; "{error}")?;
+    Ok(told.as_str() == text && error.number() == number && error.name() == name)
+}
+
+#[test]
+fn errors_say_what_is_wrong(rt: HostRuntime) -> Result<(), Fail> {
+    let alloc = rt.alloc();
+    let game = "a journal of another game or room";
+    let bad = "body 12 is no record that may stand there";
+    let disk = ReplayError::Disk(DiskError::Failed);
+    assert!(rt; reads(alloc, ReplayError::WrongGame, game, 1, "WrongGame")?);
+    assert!(rt;
+        reads(
+            alloc,
+            ReplayError::WrongPlayer,
+            "a journal of another player",
+            2,
+            "WrongPlayer"
+        )?
+    );
+    assert!(rt; reads(alloc, ReplayError::BadRecord(12), bad, 3, "BadRecord")?);
+    assert!(rt; reads(alloc, disk, "the disk failed", 6, "Disk")?);
     Ok(())
 }
