@@ -1,5 +1,5 @@
 -- How far a replay has come, and what it gives.
-use Rattle.std.proofs.Common.{◌≡◌, ◌<◌, ◌≤◌, ℕ, zero, suc, ◌+◌, List, [], ◌∷◌, ◌++◌, length, map, take, Option, Some, None, Result, Ok, Err, true, false, refl, sym, ap, subst, ◌∙◌, arith}
+use Rattle.std.proofs.Common.{◌≡◌, ◌≤◌, ℕ, zero, suc, ◌+◌, List, [], ◌∷◌, ◌++◌, length, take, Some, Result, Ok, Err, false, refl, sym, ap, subst, ◌∙◌, arith}
 use Rattle.std.specs.List.{slice_get, All}
 use Rattle.std.proofs.Math.Seq.{take-length}
 use Rattle.std.proofs.lemmas.List.{map-append, length-map, length-take-le, take_more}
@@ -11,11 +11,10 @@ use Rattle.c8_known.specs.Known.{KnownValue, known_of, with_record, IsOfGame}
 use Rattle.c8_record.specs.declared.error.ReplayError.{ReplayError}
 use Rattle.c8_record.specs.declared.error.ReplayError.TheVariants.{WrongGame, WrongPlayer, BadRecord, Disk}
 use Rattle.c8_record.specs.Body.{Spells, record_of, records_of}
-use Rattle.c8_record.specs.Allowed.{Past, past_of, IsHead, IsAllowedAfter, IsAllowed, IsJournal}
-use Rattle.c8_record.specs.Taken.{epoch_after, IsHeadWith, IsOfOtherGame, IsOfOtherPlayer, IsUnfitBody, IsTaken}
-use Rattle.c8_record.specs.Replay.{AreJournalBodies, BeginsWithHead, IsRefusal, is_failed, IsReplayed, IsReplayedFromDisk}
+use Rattle.c8_record.specs.Allowed.{Past, past_of, IsAllowedAfter, IsAllowed, IsJournal}
+use Rattle.c8_record.specs.Taken.{epoch_after, IsOfOtherGame, IsOfOtherPlayer, IsUnfitBody, IsTaken}
+use Rattle.c8_record.specs.Replay.{AreJournalBodies, IsRefusal, is_failed, IsReplayed, IsReplayedFromDisk}
 use Rattle.c8_record.specs.JournalLaws.{journal_none, journal_more, epoch_more, known_more, of_game}
-use Rattle.c8_record.specs.BodyLaws.{one_record}
 
 -- the first n bodies are taken
 pub record IsReadTo (rules : Rules) (me room : ℕ) (bodies : List (List ℕ)) (n : ℕ) (now : KnownValue) (last : ℕ) : Type 0 where

@@ -1,5 +1,5 @@
 -- Checked, not believed: a record that is spelled is read again, and bodies and records tell of each other.
-use Rattle.std.proofs.Common.{◌≡◌, ℕ, zero, suc, ◌+◌, ◌*◌, ◌-◌, ◌/◌, ◌^◌, ◌<◌, ◌≤◌, List, [], ◌∷◌, ◌++◌, length, map, take, drop, refl, sym, ap, subst, ◌∙◌, arith}
+use Rattle.std.proofs.Common.{◌≡◌, ℕ, zero, suc, ◌*◌, ◌-◌, ◌/◌, ◌^◌, ◌<◌, ◌≤◌, List, [], ◌∷◌, ◌++◌, length, map, take, drop, refl, sym, ap, subst, ◌∙◌, arith}
 use Rattle.std.specs.Prelude.{slice_index, replicate}
 use Rattle.std.specs.List.{All}
 use Rattle.std.proofs.Math.Seq.{take-append_seam, drop-append_seam}
@@ -14,7 +14,7 @@ use Rattle.c8_known.specs.Journal.{Record, Head, Epoch, Own, Got, Freeze, Leave,
 use Rattle.c8_record.specs.declared.record.Record.{Record as Lent}
 use Rattle.c8_record.specs.declared.record.Record.TheVariants as lents
 use Rattle.c8_record.specs.Lent.{value_of, HasInputs}
-use Rattle.c8_record.specs.Body.{records_of, run_place, run_room, Fields, fields_of, field_bytes, body_of, HasSpelling, Spells, run_at, record_of}
+use Rattle.c8_record.specs.Body.{records_of, run_room, Fields, fields_of, field_bytes, body_of, HasSpelling, Spells, run_at, record_of}
 
 -- ---- fields
 

@@ -1,5 +1,5 @@
 -- Checked, not believed: journals, one record after another.
-use Rattle.std.proofs.Common.{◌≡◌, ◌≢◌, ◌⊎◌, inl, inr, ⊎_elim, ℕ, zero, suc, ◌+◌, ◌-◌, ◌<◌, ◌≤◌, List, [], ◌∷◌, ◌++◌, length, map, take, drop, Bool, true, false, ◌||◌, Option, Some, None, refl, sym, ap, subst, ◌∙◌, append_assoc, arith}
+use Rattle.std.proofs.Common.{◌≡◌, ◌⊎◌, inl, inr, ⊎_elim, ℕ, zero, suc, ◌-◌, ◌<◌, ◌≤◌, List, [], ◌∷◌, ◌++◌, length, take, Bool, true, false, ◌||◌, Some, refl, sym, ap, subst, ◌∙◌, append_assoc, arith}
 use Rattle.std.specs.Prelude.{slice_index}
 use Rattle.std.specs.List.{slice_get, flat_map}
 use Rattle.std.proofs.Math.Seq.{take-append_seam}
@@ -7,11 +7,11 @@ use Rattle.std.proofs.lemmas.Bool.{cases_eq}
 use Rattle.std.proofs.lemmas.Grind.{flat_map-append}
 use Rattle.std.proofs.lemmas.List.{append-nil, length-append, take-append-le}
 use Rattle.std.proofs.lemmas.Option.{slice_get_within}
-use Rattle.c8_game.specs.Rules.{Rules, AreInRange, limit_of}
+use Rattle.c8_game.specs.Rules.{Rules, AreInRange}
 use Rattle.c8_known.specs.Journal as journals
 use Rattle.c8_known.specs.Journal.{Record, Head, Epoch, Own, Got, Freeze, Leave, Cut, player_of, epoch, epochs}
-use Rattle.c8_known.specs.Known.{KnownValue, player_in, count_in, is_frozen_in, known_of, with_record, Plays, IsKnown, IsOfGame, NamesPlayer}
-use Rattle.c8_known.specs.Growth.{Begins, IsStillKnown}
+use Rattle.c8_known.specs.Known.{KnownValue, player_in, count_in, is_frozen_in, known_of, with_record, IsKnown, IsOfGame, NamesPlayer}
+use Rattle.c8_known.specs.Growth.{IsStillKnown}
 use Rattle.c8_known.specs.OneMore.{one_more}
 use Rattle.c8_known.specs.StartLaws.{players_known, known_at_start}
 use Rattle.c8_known.specs.KnownLaws.{own_known, own_still, got_known, got_still, freeze_known, freeze_still, leave_known, leave_still, cut_known, cut_still, still_same, still_more}

@@ -1,11 +1,11 @@
 -- What a list of bodies says when it is replayed, or why it is refused.
-use Rattle.std.specs.Prelude.{ℕ, ◌≡◌, ◌≢◌, ◌<◌, ◌⊎◌, List, [], length, take, Result, Ok, Err, Some, Bool, true, false}
+use Rattle.std.specs.Prelude.{ℕ, ◌≡◌, ◌≢◌, ◌<◌, ◌⊎◌, List, length, take, Result, Ok, Err, Some, Bool, true, false}
 use Rattle.std.specs.List.{slice_get, All}
 use Rattle.c8_game.specs.Rules.{Rules, id_of}
-use Rattle.c8_known.specs.Journal.{Record, Head, Epoch, Own, Got, Freeze, Leave, Cut, epoch}
+use Rattle.c8_known.specs.Journal.{Record, Head, epoch}
 use Rattle.c8_known.specs.Known.{KnownValue, known_of}
 use Rattle.c8_record.specs.Body.{Spells, record_of, records_of}
-use Rattle.c8_record.specs.Allowed.{Past, IsAllowed, IsJournal}
+use Rattle.c8_record.specs.Allowed.{IsAllowed, IsJournal}
 use Rattle.c8_disk.specs.declared.error.DiskError.TheVariants.{Failed}
 use Rattle.c8_record.specs.declared.error.ReplayError.{ReplayError}
 use Rattle.c8_record.specs.declared.error.ReplayError.TheVariants.{WrongGame, WrongPlayer, BadRecord, Disk}

@@ -1,5 +1,5 @@
 -- Checked, not believed: what one body more gives in a replay. Contracts of private functions cite it, and no other.
-use Rattle.std.specs.Prelude.{ℕ, ◌≡◌, ◌≢◌, ◌⊎◌, List, Result, Ok, Err}
+use Rattle.std.specs.Prelude.{ℕ, ◌≡◌, ◌≢◌, ◌⊎◌, List}
 use Rattle.c8_game.specs.Rules.{Rules, id_of}
 use Rattle.c8_known.specs.Journal.{Record, Head, Epoch, Own, Got, Freeze, Leave, Cut}
 use Rattle.c8_known.specs.Known.{KnownValue, with_record, IsKnown}

@@ -1,4 +1,3 @@
-use Rattle.std.proofs.Common.{◌≡◌, ◌∙◌, refl}
 use Rattle.c8_log.specs.Slots.{kept}
 use Rattle.c8_record.proofs.ReplayLemmas.{read_none, read_of_game, read_more}
 use Rattle.c8_record.proofs.replaying.replay_bytes.Goals as goal

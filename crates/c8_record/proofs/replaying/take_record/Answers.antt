@@ -1,9 +1,8 @@
-use Rattle.std.proofs.Common.{◌≡◌, ℕ, [], ◌∙◌, sym, ap, subst, arith}
+use Rattle.std.proofs.Common.{[], ◌∙◌, sym, ap, arith}
 use Rattle.c8_known.specs.Journal.{Cut}
 use Rattle.c8_known.specs.Known.{KnownValue, with_record}
 use Rattle.c8_record.specs.declared.record.Record.{Record as Lent}
 use Rattle.c8_record.specs.Lent.{value_of}
-use Rattle.c8_record.specs.Allowed.{MayFollow, MayOwn, MayCut}
 use Rattle.c8_record.proofs.replaying.take_record.Goals as goal
 
 pub own-requires : goal.own-requires
