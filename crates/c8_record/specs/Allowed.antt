@@ -28,8 +28,8 @@ pub record MayEpoch (past : Past) (player number : ℕ) : Type 0 where
   pub own : player ≡ past.known.me
   pub above : past.epoch < number
 
--- OWN: the next own input, before the last frame, less than a window past the confirmed ones, and by no player who has
--- been dropped
+-- OWN: the next own input, with fewer ticks than frames and fewer than a window past the confirmed ones, by no player who
+-- has been dropped
 pub record MayOwn (rules : Rules) (k : KnownValue) (player start : ℕ) : Type 0 where
   pub own : player ≡ k.me
   pub next : start ≡ count_in k player
@@ -37,11 +37,11 @@ pub record MayOwn (rules : Rules) (k : KnownValue) (player start : ℕ) : Type 0
   pub window : k.ticks < confirmed k + rules.window
   pub stays : (player_in k player).leaving ≡ false
 
--- GOT: the next inputs of another player, as long as its list is not cut
+-- GOT: the next inputs of another player, within the limit, as long as its list is not cut
 pub record MayGot (k : KnownValue) (player start : ℕ) (words : List ℕ) : Type 0 where
   pub other : player ≢ k.me
   pub next : start ≡ count_in k player
-  pub room : start + length words ≤ k.limit
+  pub within : start + length words ≤ k.limit
   pub uncut : (player_in k player).cut ≡ None
 
 -- FREEZE: elsewhere than at player one, once, of another player who is not player one
@@ -57,13 +57,14 @@ pub record MayLeave (k : KnownValue) (player : ℕ) : Type 0 where
   pub elsewhere : k.me ≢ 1 → player ≡ k.me
   pub once : (player_in k player).leaving ≡ false
 
--- CUT: once, of another player of whom a LEAVE stands at player one, a FREEZE elsewhere, with the last inputs before the cut
+-- CUT: once, of another player than player one, of whom a LEAVE stands at player one and a FREEZE elsewhere, with the last
+-- inputs before the cut, which is within the limit
 pub record MayCut (k : KnownValue) (player cut start : ℕ) (words : List ℕ) : Type 0 where
   pub other : player ≢ k.me
   pub not_one : player ≢ 1
   pub next : start ≡ count_in k player
   pub ends : start + length words ≡ cut
-  pub room : cut ≤ k.limit
+  pub within : cut ≤ k.limit
   pub at_one : k.me ≡ 1 → (player_in k player).leaving ≡ true
   pub elsewhere : k.me ≢ 1 → (player_in k player).frozen ≡ true
   pub once : (player_in k player).cut ≡ None
@@ -96,8 +97,8 @@ IsOpening (Freeze player) = ⊥
 IsOpening (Leave player) = ⊥
 IsOpening (Cut player length start words) = ⊥
 
--- A record that the rules allow: it can be spelled, and its player is one of the game; the first is a HEAD, and after its own
--- LEAVE a player other than player one adds openings alone.
+-- A record that the rules allow: it can be spelled, its player is one of the game, and what its kind asks is so; the first
+-- is a HEAD, and after its own LEAVE a player other than player one adds openings alone.
 pub record IsAllowedAfter (rules : Rules) (room : ℕ) (past : Past) (r : Record) : Type 0 where
   pub spelled : HasSpelling r
   pub plays : Plays past.known (player_of r)
@@ -112,9 +113,9 @@ IsAllowed rules me room before r = IsAllowedAfter rules room (past_of rules me b
 abbrev pub IsJournal : Rules → ℕ → ℕ → List Record → Type 0
 IsJournal rules me room journal = (n : ℕ) (r : Record) → slice_get journal n ≡ Some r → IsAllowed rules me room (take n journal) r
 
--- What the rules make of leavers, so that `frozen` and `leaving` tell who may leave in whose journal: nothing stands of
--- player one; at player one no FREEZE stands, and elsewhere a LEAVE of the own player alone, of whom no FREEZE stands; and
--- who is cut leaves, by a LEAVE at player one and by a FREEZE elsewhere.
+-- What the rules make of one player q in the journal of `me`: of player one neither a FREEZE nor a LEAVE stands; at player
+-- one no FREEZE stands, and elsewhere a LEAVE of the own player alone, of whom no FREEZE stands; and who is cut leaves, by a
+-- LEAVE at player one and by a FREEZE elsewhere.
 pub record IsOrderlyOf (me q : ℕ) (p : PlayerValue) : Type 0 where
   pub one_stays : q ≡ 1 → (p.frozen ≡ false) × (p.leaving ≡ false)
   pub at_one : me ≡ 1 → p.frozen ≡ false

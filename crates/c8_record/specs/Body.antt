@@ -23,7 +23,8 @@ pub record Fields : Type 0 where
   pub start : ℕ
   pub run : List ℕ
 
--- The fields of each kind of record; what a kind has no use for is 0. A HEAD's run is the game's id and the room.
+-- The fields of each kind of record; a number that a kind has no use for is 0, and a run is empty. A HEAD's number is the
+-- epoch that it begins, and its run is the game's id and the room.
 abbrev pub fields_of : Record → Fields
 fields_of (Head player id room) = record { kind = 1; player = player; number = 1; start = 0; run = id ++ big_bytes 8 room }
 fields_of (Epoch player number) = record { kind = 2; player = player; number = number; start = 0; run = [] }
@@ -33,8 +34,8 @@ fields_of (Freeze player) = record { kind = 5; player = player; number = 0; star
 fields_of (Leave player) = record { kind = 6; player = player; number = 0; start = 0; run = [] }
 fields_of (Cut player length start words) = record { kind = 7; player = player; number = length; start = start; run = words_bytes words }
 
--- The fields in 143 bytes, each number with its most significant byte first: the run comes after the number of its words,
--- and after the run there are zeros.
+-- The fields in 143 bytes, where the run is not too long, each number with its most significant byte first: the run comes
+-- after the number of its words, and after the run there are zeros.
 abbrev pub field_bytes : Fields → List ℕ
 field_bytes f =
     f.kind ∷ f.player ∷ big_bytes 4 f.number ++ big_bytes 4 f.start ++ big_bytes 2 (length f.run / 2) ++ f.run ++ replicate (run_room - length f.run) 0
@@ -72,7 +73,7 @@ pub record Spells (bytes : List ℕ) (r : Record) : Type 0 where
 abbrev pub run_at : List ℕ → List ℕ
 run_at bytes = words_of (take (2 * number_at 10 2 bytes) (drop run_place bytes))
 
--- The record that bytes would spell by their first byte alone: any first byte but 1 to 6 is read as a CUT's. Whether they
+-- The record that bytes would spell, whose kind is told by the first byte: any but 1 to 6 is taken for a CUT's. Whether they
 -- spell it is for `Spells` to say.
 unfoldable pub record_of : List ℕ → Record
 record_of bytes =

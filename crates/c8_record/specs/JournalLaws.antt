@@ -123,11 +123,11 @@ sound_more rules room past (Epoch player number) known of may = known
 sound_more rules room past (Own player start word) known of may =
     subst (λ (q : ℕ). IsKnown (with_record past.known (Own q start word))) (sym may.may.own) (own_known past.known start word known (own_room rules past.known player start known of may.may))
 sound_more rules room past (Got player start words) known of may =
-    got_known past.known player start words known may.plays may.may.other may.may.uncut (omega (arith, may.may.next, may.may.room))
+    got_known past.known player start words known may.plays may.may.other may.may.uncut (omega (arith, may.may.next, may.may.within))
 sound_more rules room past (Freeze player) known of may = freeze_known past.known player known may.plays
 sound_more rules room past (Leave player) known of may = leave_known past.known player known may.plays
 sound_more rules room past (Cut player cut start words) known of may =
-    cut_known past.known player cut start words known may.plays may.may.other (leaves past.known player cut start words may.may) may.may.once (omega (arith, may.may.next, may.may.ends)) may.may.room
+    cut_known past.known player cut start words known may.plays may.may.other (leaves past.known player cut start words may.may) may.may.once (omega (arith, may.may.next, may.may.ends)) may.may.within
 
 pub still_with : (rules : Rules) (room : ℕ) (past : Past) (r : Record) → IsKnown past.known → IsAllowedAfter rules room past r → IsStillKnown past.known (with_record past.known r)
 still_with rules room past (Head player id named) known may = still_same past.known

@@ -25,7 +25,8 @@ pub record IsFirstBad (rules : Rules) (me room : ℕ) (bodies : List (List ℕ))
   pub before : AreJournalBodies rules me room (take n bodies)
   pub bad : (body : List ℕ) (r : Record) → slice_get bodies n ≡ Some body → Spells body r → IsAllowed rules me room (records_of (take n bodies)) r → ⊥
 
--- Why bodies are refused: the first is a HEAD of another game or room; it is one of another player; or else, by its number,
+-- Why bodies are refused: the first is a HEAD of another game or room; it is one of this game and room, and of another
+-- player; or else, by its number,
 -- the first body that spells no record or one that is not allowed there.
 abbrev pub IsRefusal : Rules → ℕ → ℕ → List (List ℕ) → ReplayError → Type 0
 IsRefusal rules me room bodies WrongGame =
@@ -58,7 +59,8 @@ is_failed (Err WrongPlayer) = false
 is_failed (Err (BadRecord n)) = false
 is_failed (Err (Disk why)) = true
 
--- The same of bodies that are read from a disk, which may fail at one of them.
+-- The same of bodies that are read from a disk, which may fail at one of them: then what is known is what some first
+-- records say, which are all in order.
 abbrev pub IsReplayedFromDisk : Rules → ℕ → ℕ → List (List ℕ) → Result ℕ ReplayError → KnownValue → Type 0
 IsReplayedFromDisk rules me room bodies (Err (Disk why)) known =
     (why ≡ Failed) × (n : ℕ) × (n < length bodies) × AreJournalBodies rules me room (take n bodies) × (known ≡ known_of rules me (records_of (take n bodies)))

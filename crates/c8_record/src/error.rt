@@ -24,7 +24,7 @@ pub enum ReplayError {
 }
 
 impl ReplayError {
-    /// The number that a program prints where an opening is refused for it.
+    /// The number that a program prints where an opening is refused for it; an opening has more.
     pub fn number(self) -> u8
         ensures { result ≡ number_of self }
     {

@@ -1,5 +1,5 @@
-//! What callers may rest on that is no single call's: laws of records and journals, each the contract
-//! of a function that does nothing.
+//! What callers may rest on that is no single call's: laws of records and journals, each the
+//! contract of a function that does nothing.
 ghost use Rattle.std.specs.Prelude.{◌≡◌, ◌≢◌, ℕ, ◌+◌, ◌<◌, ◌≤◌, List, [], ◌∷◌, ◌++◌, length, map};
 ghost use Rattle.c8_game.specs.Rules.{Rules, AreInRange};
 ghost use Rattle.c8_known.specs.Journal.{Record, epoch};
@@ -18,8 +18,8 @@ pub fn a_spelling_reads_back()
     ensures only { (body : List ℕ) (r : Record) → Spells body r → r ≡ record_of body }
 {}
 
-/// The bodies of a journal are the spellings of its records, and the spellings of a journal's records
-/// are bodies of it.
+/// The bodies of a journal are the spellings of its records, and the spellings of a journal's
+/// records are bodies of it.
 pub fn bodies_are_the_spellings()
     ensures bodies { (rules : Rules) (me room : ℕ) (bodies : List (List ℕ))
         → AreJournalBodies rules me room bodies → map body_of (records_of bodies) ≡ bodies }
@@ -46,8 +46,8 @@ pub fn journals_grow_by_one()
         → known_of rules me (journal ++ r ∷ []) ≡ with_record (known_of rules me journal) r }
 {}
 
-/// What a journal says is sound, and nothing of it is taken back by a longer one: the confirmed rows
-/// of a journal begin those of every longer journal.
+/// What a journal says is sound, and nothing of it is taken back by a longer one: the confirmed
+/// rows of a journal begin those of every longer journal.
 pub fn what_a_journal_says_stays()
     ensures known { (rules : Rules) (me room : ℕ) (journal : List Record) → AreInRange rules
         → 1 ≤ me → me ≤ rules.players → IsJournal rules me room journal

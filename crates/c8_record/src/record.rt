@@ -11,8 +11,8 @@ pub(crate) const RUN_PLACE: usize = 12;
 
 /// A record. Its inputs, and the id in a `Head`, are lent from the body where they stand.
 ///
-/// `Head`, `Epoch` and `Own` are of the player whose journal it is, the others of the player whom they
-/// name. A start is the place in the player's list of inputs where the record's inputs stand.
+/// `Head`, `Epoch` and `Own` are of the player whose journal it is, the others of the player whom
+/// they name. A start is the place in the player's list of inputs where the record's inputs stand.
 #[derive(Clone, Copy, Debug, PartialEq, Eq)]
 pub enum Record<'a> {
     /// Whose journal this is, and of which match.
@@ -21,7 +21,7 @@ pub enum Record<'a> {
         id: &'a [u8; 32],
         room: u64,
     },
-    /// The peer was opened again.
+    /// The peer was opened again, for the time that the number says; a `Head` is the first.
     Epoch {
         player: Player,
         number: u32,
@@ -46,7 +46,7 @@ pub enum Record<'a> {
     Leave {
         player: Player,
     },
-    /// The player's list of inputs ends at a length, and these are the last of them.
+    /// The player's list of inputs ends at a length, and these are the last, if they weren't held.
     Cut {
         player: Player,
         length: u32,

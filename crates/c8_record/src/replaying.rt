@@ -17,12 +17,13 @@ use c8_game::Game;
 use c8_known::Known;
 use c8_log::{BODY_LENGTH, Block, Log, LogError, kept_body, kept_len};
 
-/// Reads the journal that a log keeps into `known`, which knows nothing yet, one slot after the other.
+/// Reads the journal that a log keeps into `known`, which knows nothing yet, one slot after
+/// the other.
 /// The answer is the last epoch, 0 if the log keeps no record.
 ///
-/// `WrongGame` and `WrongPlayer` are judged first of all, by the first record; `BadRecord` names the
-/// first body that spells no record or one that the rules don't allow there. After an error `known`
-/// has what the records before it say. The log stays as it was, and up, unless the disk fails.
+/// `WrongGame` and `WrongPlayer` are judged first of all, by the first record; `BadRecord` names
+/// the first body that spells no record or one that the rules don't allow there. After an error `known`
+/// has what the records before it say. Nothing is written; where the disk fails the log is down.
 pub fn replay<D: Disk>(
     log: &mut Log<D>,
     game: &Game,
@@ -50,7 +51,7 @@ pub fn replay<D: Disk>(
     Ok(epoch)
 }
 
-/// The same of the bodies that the bytes of a disk keep.
+/// The same of the bodies that the bytes of a disk keep. It never answers `Disk`.
 pub fn replay_bytes(
     image: &[u8],
     game: &Game,

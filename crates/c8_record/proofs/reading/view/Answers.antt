@@ -1,4 +1,4 @@
-use Rattle.std.proofs.Common.{◌∙◌, List, ℕ, not, nat_eq, ap, sym}
+use Rattle.std.proofs.Common.{◌∙◌, List, ℕ, not, nat_eq, ap, sym, rules}
 use Rattle.std.specs.Cmp.Lexicographic.{pointwise, nat_list_eq_equiv}
 use Rattle.c8_record.specs.BodyLaws.{has_inputs, spells_lent}
 use Rattle.c8_record.proofs.reading.view.Goals as goal
@@ -16,3 +16,6 @@ returns-then-lacks_inputs-clause-value c = λ r spells.
           let no = w.if-ne.ensures ∙ ap (λ (bytes : List ℕ). not (pointwise nat_eq bytes c.args.body.now)) same ∙ ap not (nat_list_eq_equiv.refl c.args.body.now) in
           absurd cc
     ]
+
+pub returns-clause-value : goal.returns-clause-value
+returns-clause-value c = search rules

@@ -1,4 +1,4 @@
-use Rattle.std.proofs.Common.{◌≡◌, ◌∙◌, sym, ap, subst}
+use Rattle.std.proofs.Common.{◌≡◌, ◌∙◌, sym, ap, subst, rules}
 use Rattle.std.proofs.lemmas.Result.{err_from_is_err_and}
 use Rattle.c8_known.specs.Journal.{Record}
 use Rattle.c8_known.specs.Known.{with_record}
@@ -28,3 +28,6 @@ returns-clause-taken c =
       known = c.take_record.ensures ∙ ap (λ (r : Record). with_record c.args.known.now r) is;
       last = c.epoch_after.ensures ∙ ap (λ (r : Record). epoch_after c.args.epoch r) is;
     }
+
+pub returns-in_default-clause-unfit : goal.returns-in_default-clause-unfit
+returns-in_default-clause-unfit c = search rules

@@ -1,4 +1,4 @@
-use Rattle.std.proofs.Common.{[], ◌∙◌, sym, ap, arith}
+use Rattle.std.proofs.Common.{[], ◌∙◌, sym, ap, arith, rules}
 use Rattle.c8_known.specs.Journal.{Cut}
 use Rattle.c8_known.specs.Known.{KnownValue, with_record}
 use Rattle.c8_record.specs.declared.record.Record.{Record as Lent}
@@ -17,3 +17,6 @@ returns-in-Cut c =
     c.cut.ensures.value ∙ ap (λ (k : KnownValue). with_record k end) c.take-in-Cut.ensures.value
     ∙ sym (c.a_cut_is_a_run_and_an_end.ensures c.args.known.now c.in-Cut.player.number c.in-Cut.length c.in-Cut.start c.in-Cut.length _ plays)
     ∙ ap (λ (lent : Lent). with_record c.args.known.now (value_of lent)) (sym c.in-Cut.is)
+
+pub returns-in-Freeze : goal.returns-in-Freeze
+returns-in-Freeze c = search rules

@@ -1,0 +1,5 @@
+use Rattle.std.proofs.Common.{rules}
+use Rattle.c8_record.proofs.allowed.may_cut.Goals as goal
+
+pub returns-then-has_freeze : goal.returns-then-has_freeze
+returns-then-has_freeze c = search rules

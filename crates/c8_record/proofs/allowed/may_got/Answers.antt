@@ -1,0 +1,5 @@
+use Rattle.std.proofs.Common.{rules}
+use Rattle.c8_record.proofs.allowed.may_got.Goals as goal
+
+pub returns-then-start-len : goal.returns-then-start-len
+returns-then-start-len c = search rules
