@@ -1,0 +1,5 @@
+pub mod ScreenLemmas
+pub mod MarkLemmas
+pub mod StackLemmas
+pub mod StateLemmas
+pub mod LengthLemmas

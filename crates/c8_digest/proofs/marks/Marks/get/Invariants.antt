@@ -1,0 +1,6 @@
+use Rattle.std.proofs.Common.{◌≡◌, ◌≤◌, ◌++◌, [], ◌∷◌, take, ℕ, ◌+◌, ◌-◌, ◌*◌, ◌<◌}
+use Rattle.c8_digest.specs.Marks.{kept, mark_at, newest_of}
+use Rattle.c8_digest.proofs.marks.Marks.get.Given as goal
+
+abbrev pub invariant-loop-n : goal.invariant-loop-n
+invariant-loop-n l = l.found ≡ mark_at l.fn.frame (take l.n l.fn.self)

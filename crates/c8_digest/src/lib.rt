@@ -1,0 +1,16 @@
+//! Two machines compared by a few bytes.
+//!
+//! `state_bytes` spells a machine's state, `mark` is the beginning of the digest of that, and `Marks`
+//! keeps the last sixteen marks with their frames. The definitions are in `specs/StateBytes.antt` and
+//! `specs/Marks.antt`. Only `Marks::new` takes memory.
+#![tactic(auto)]
+
+mod digest;
+pub mod laws;
+mod marks;
+
+pub use digest::{MARK_LENGTH, STATE_LENGTH, mark, state_bytes};
+pub use marks::{FrameMark, Marks};
+
+#[cfg(test)]
+mod tests;
