@@ -1,12 +1,13 @@
 -- The mark that was put last for a frame, with one mark more.
-use Rattle.std.proofs.Common.{◌≡◌, ℕ, List, [], ◌∷◌, ◌++◌, ◌+◌, take, Option, Some, None, refl, sym, ap, ◌∙◌}
+use Rattle.std.proofs.Common.{◌≡◌, ◌⊎◌, inl, inr, ⊎_elim, ℕ, suc, ◌+◌, ◌-◌, ◌≤◌, List, [], ◌∷◌, ◌++◌, length, take, drop, Bool, true, false, Option, Some, None, refl, sym, ap, ◌∙◌, arith}
 use Rattle.std.specs.List.{slice_get}
-use Rattle.std.proofs.lemmas.List.{take_more}
+use Rattle.std.proofs.lemmas.List.{take_more, length-append, length-drop, drop-append-le}
 use Rattle.std.proofs.lemmas.Option.{slice_get_within, get_or_from_slice_get}
-use Rattle.std.specs.Prelude.{◌==◌, if◌then◌else◌}
+use Rattle.std.specs.Prelude.{◌==◌, if◌then◌else◌, fold}
+use Rattle.std.proofs.lemmas.Bool.{eqb-true}
 use Rattle.std.proofs.lemmas.List.Sums.{fold-append}
 use Rattle.c8_digest.specs.declared.marks.FrameMark.{FrameMark}
-use Rattle.c8_digest.specs.Marks.{mark_at}
+use Rattle.c8_digest.specs.Marks.{kept, mark_at, newest_of}
 
 pub mark_none : (frame : ℕ) → mark_at frame [] ≡ None
 unfolding mark_at
@@ -22,3 +23,46 @@ mark_next frame marks n m found here is =
     let next : take (n + 1) marks ≡ take n marks ++ m ∷ [] =
     take_more marks n m (slice_get_within marks n m here) ∙ ap (λ (one : FrameMark). take n marks ++ one ∷ []) (get_or_from_slice_get marks n m m here) in
     ap (λ (before : Option (List ℕ)). if m.frame == frame then Some m.mark else before) is ∙ sym (mark_more frame (take n marks) m) ∙ ap (mark_at frame) (sym next)
+
+-- ---- laws
+
+pub few : (put : List FrameMark) → length (kept put) ≤ 16
+few put = omega (arith, length-drop (length put - 16) put)
+
+here : (xs : List FrameMark) (m : FrameMark) → slice_get (xs ++ m ∷ []) (length xs) ≡ Some m
+here [] m = refl
+here (x ∷ xs) m = here xs m
+
+newest_here : (xs : List FrameMark) (m : FrameMark) → newest_of (xs ++ m ∷ []) ≡ Some m
+newest_here xs m =
+    let seam : length (xs ++ m ∷ []) - 1 ≡ length xs = omega (arith, length-append xs (m ∷ [])) in
+    ap (slice_get (xs ++ m ∷ [])) seam ∙ here xs m
+
+pub newest : (put : List FrameMark) (m : FrameMark) → newest_of (kept (put ++ m ∷ [])) ≡ Some m
+newest put m =
+    let gone : ℕ = length (put ++ m ∷ []) - 16 in
+    ap newest_of (drop-append-le gone put (m ∷ []) (omega (arith, length-append put (m ∷ [])))) ∙ newest_here (drop gone put) m
+
+-- a mark that is found is that of the first item, or was found before
+found_first : (test : Bool) (frame : ℕ) (mark : List ℕ) (before : Option (List ℕ)) (m : FrameMark) → (m.frame == frame) ≡ test → (if test then Some m.mark else before) ≡ Some mark
+    → (before ≡ Some mark) ⊎ (m ≡ record { frame = frame; mark = mark })
+found_first true frame mark before m same is =
+    let place : m.frame ≡ frame = eqb-true m.frame frame same in
+    let marks : m.mark ≡ mark = cc in
+    inr (λ i. record { frame = place i; mark = marks i })
+found_first false frame mark before m same is = inl is
+
+-- where a mark was found, before the list or in it
+found_in : (frame : ℕ) (mark : List ℕ) (before : Option (List ℕ)) (marks : List FrameMark)
+    → fold (λ (found : Option (List ℕ)) (m : FrameMark). if m.frame == frame then Some m.mark else found) before marks ≡ Some mark
+    → (before ≡ Some mark) ⊎ ((place : ℕ) × slice_get marks place ≡ Some (record { frame = frame; mark = mark }))
+found_in frame mark before [] is = inl is
+found_in frame mark before (m ∷ marks) is =
+    ⊎_elim
+    (λ first. ⊎_elim (λ earlier. inl earlier) (λ same. inr (0, ap Some same)) (found_first (m.frame == frame) frame mark before m refl first))
+    (λ later. inr (suc later.0, later.1))
+    (found_in frame mark (if m.frame == frame then Some m.mark else before) marks is)
+
+pub found : (marks : List FrameMark) (frame : ℕ) (mark : List ℕ) → mark_at frame marks ≡ Some mark → (place : ℕ) × slice_get marks place ≡ Some (record { frame = frame; mark = mark })
+unfolding mark_at
+found marks frame mark is = ⊎_elim (λ none. absurd cc) (λ place. place) (found_in frame mark None marks is)

@@ -1,5 +1,5 @@
 -- The marks that are kept, each with the number of frames after which the machine had it.
-use Rattle.std.specs.Prelude.{ℕ, ◌-◌, ◌==◌, List, [], ◌∷◌, ◌++◌, length, drop, fold, Option, Some, None, if◌then◌else◌}
+use Rattle.std.specs.Prelude.{ℕ, ◌-◌, ◌==◌, List, length, drop, fold, Option, Some, None, if◌then◌else◌}
 use Rattle.std.specs.List.{slice_get}
 use Rattle.c8_digest.specs.declared.marks.FrameMark.{FrameMark}
 

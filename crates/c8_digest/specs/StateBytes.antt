@@ -11,7 +11,7 @@ use Rattle.c8_machine.specs.State.{State, memory_size, stack_size, number_of}
 abbrev pub state_length : ℕ
 state_length = 4419
 
--- the columns of a row before one, as binary digits: the point in the leftmost column is the highest
+-- the number whose binary digits are the points of row y in the columns before x, the leftmost first
 unfoldable pub columns : Points → ℕ → ℕ → ℕ
 columns points y zero = 0
 columns points y (suc x) = 2 * columns points y x + (if points x y then 1 else 0)

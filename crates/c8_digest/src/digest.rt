@@ -18,9 +18,11 @@ pub const STATE_LENGTH: usize = 4419;
 /// How many bytes a mark has.
 pub const MARK_LENGTH: usize = 8;
 
-/// Spells the state of a machine, part after part: memory, registers, I, the counter, the stack with 0
-/// for each place that is not in use, the screen's rows, timer, tone, keys, the register waited for or
-/// FF, draws, and the stop or 0. Each number has its most significant byte first.
+/// Spells the state of a machine, part after part: memory, V0 to VF, I, the program counter, how many
+/// places of the stack are in use, its 16 places (oldest first, 0 where not in use), the rows of the
+/// screen (the leftmost point is the highest bit), timer, tone, remembered keys, the register waited
+/// for or FF, the number of draws, and the stop's number or 0. Each number has its most significant
+/// byte first.
 pub fn state_bytes(machine: &Machine, out: &mut [u8; STATE_LENGTH])
     ensures { out.new ≡ state_bytes (state machine.now) }
 {

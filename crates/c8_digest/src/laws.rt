@@ -1,18 +1,29 @@
 //! What callers may rest on that is no single call's, each the contract of a function that does
 //! nothing.
-ghost use Rattle.std.specs.Prelude.{◌≡◌, List, [], ◌∷◌, ◌++◌, length};
+ghost use Rattle.std.specs.Prelude.{◌≡◌, ◌≤◌, ℕ, List, [], ◌∷◌, ◌++◌, length, Some, slice_get};
 ghost use Rattle.c8_machine.specs.State.{State, IsState};
 ghost use Rattle.c8_digest.specs.declared.marks.FrameMark.{FrameMark};
 ghost use Rattle.c8_digest.specs.StateBytes.{state_length, state_bytes};
-ghost use Rattle.c8_digest.specs.Marks.{kept};
+ghost use Rattle.c8_digest.specs.Marks.{most_marks, kept, mark_at, newest_of};
 
 /// The bytes of a state that a machine can have are 4419.
 pub fn state_bytes_are_4419()
     ensures { (s : State) → IsState s → length (state_bytes s) ≡ state_length }
 {}
 
-/// The last sixteen of those put so far and one more are the last sixteen of all that were put.
+/// Keeping sixteen after every put leaves the last sixteen of all that were put, the newest among
+/// them.
 pub fn marks_are_the_last_sixteen()
-    ensures { (put : List FrameMark) (m : FrameMark)
+    ensures last { (put : List FrameMark) (m : FrameMark)
         → kept (kept put ++ m ∷ []) ≡ kept (put ++ m ∷ []) }
+    ensures few { (put : List FrameMark) → length (kept put) ≤ most_marks }
+    ensures newest { (put : List FrameMark) (m : FrameMark)
+        → newest_of (kept (put ++ m ∷ [])) ≡ Some m }
+{}
+
+/// A mark that is found for a frame is one of those that are kept.
+pub fn found_marks_are_kept()
+    ensures { (marks : List FrameMark) (frame : ℕ) (mark : List ℕ)
+        → mark_at frame marks ≡ Some mark
+        → (place : ℕ) × slice_get marks place ≡ Some (record { frame = frame; mark = mark }) }
 {}

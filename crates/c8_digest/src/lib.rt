@@ -1,8 +1,8 @@
-//! Two machines compared by a few bytes.
+//! A few bytes of a machine, by which two peers notice that theirs differ; equal ones prove nothing.
 //!
-//! `state_bytes` spells a machine's state, `mark` is the beginning of the digest of that, and `Marks`
-//! keeps the last sixteen marks with their frames. The definitions are in `specs/StateBytes.antt` and
-//! `specs/Marks.antt`. Only `Marks::new` takes memory.
+//! `state_bytes` spells a machine's state, `mark` is the beginning of the digest of that, and
+//! `Marks` keeps the last sixteen marks with their frames. The definitions are in
+//! `specs/StateBytes.antt` and `specs/Marks.antt`. Only `Marks::new` takes memory.
 #![tactic(auto)]
 
 mod digest;

@@ -45,7 +45,8 @@ impl Marks {
         })
     }
 
-    /// Notes the mark after some frames. Where sixteen are kept, the oldest is forgotten.
+    /// Notes the mark of the machine after `frame` frames. Where sixteen are kept, the one that was
+    /// put first is forgotten.
     pub fn put(&mut self, frame: u32, mark: [u8; MARK_LENGTH])
         ensures { self.new
             ≡ kept (self.old ++ (record { frame = frame; mark = mark }) ∷ []) }
@@ -67,7 +68,8 @@ impl Marks {
         found
     }
 
-    /// The mark that was put last.
+    /// The mark that was put last, with its frame; none before the first. Where frames are put in
+    /// rising order it is that of the greatest.
     pub fn newest(&self) -> Option<FrameMark>
         ensures { result ≡ newest_of self.now }
     {

@@ -77,12 +77,31 @@ fn spells_stack_stop_and_draws(rt: HostRuntime) -> Result<(), Fail> {
 }
 
 #[test]
+fn spells_each_number_high_byte_first(rt: HostRuntime) -> Result<(), Fail> {
+    // I, V1, two calls, and an unknown instruction
+    let bytes = bytes_of(&play(rt.alloc(), "a123612b22080000220c00000000", &[0])?);
+    assert!(rt; stand(&bytes, 4096, b"\0\x2b\0"));
+    assert!(rt; stand(&bytes, 4112, b"\x01\x23\x02\x0c\x02\x02\x06\x02\x0a\0\0"));
+    assert!(rt; stand(&bytes, 4418, b"\x01"));
+    // a return with no place to return to
+    let bytes = bytes_of(&play(rt.alloc(), "00ee", &[0x8000])?);
+    assert!(rt; stand(&bytes, 4407, b"\x80\0\xff\0\0\0\0\0\0\0\0\x03"));
+    // V0 to memory at E00
+    let bytes = bytes_of(&play(rt.alloc(), "60abae00f0551206", &[0])?);
+    assert!(rt; stand(&bytes, 0xdff, b"\0\xab\0"));
+    assert!(rt; stand(&bytes, 4112, b"\x0e\x01\x02\x06"));
+    Ok(())
+}
+
+#[test]
 fn spells_the_screen_by_rows(rt: HostRuntime) -> Result<(), Fail> {
     let bytes = bytes_of(&play(rt.alloc(), "603c611fa20cd012d012120affff", &[0])?);
     assert!(rt; are_zero(&bytes, 4149, 4404));
     assert!(rt; stand(&bytes, 4397, b"\0\0\0\0\0\0\0\x0f"));
     let bytes = bytes_of(&play(rt.alloc(), "61016202a20ad1211208ff", &[0])?);
     assert!(rt; stand(&bytes, 4149 + 16, b"\x7f\x80\0"));
+    let bytes = bytes_of(&play(rt.alloc(), "a206d00212048040", &[0])?);
+    assert!(rt; stand(&bytes, 4149, b"\x80\0\0\0\0\0\0\0\x40\0"));
     Ok(())
 }
 
@@ -120,7 +139,15 @@ fn keeps_the_last_sixteen(rt: HostRuntime) -> Result<(), Fail> {
             mark: [16; 8]
         })
     );
-    marks.put(32, [0xab; 8]);
-    assert_eq!(rt; marks.get(32), Some([0xab; 8]));
+    marks.put(64, [0xab; 8]);
+    assert_eq!(rt; marks.get(64), Some([0xab; 8]));
+    assert_eq!(rt; marks.get(32), None);
+    assert_eq!(rt;
+        marks.newest(),
+        Some(FrameMark {
+            frame: 64,
+            mark: [0xab; 8]
+        })
+    );
     Ok(())
 }

@@ -52,7 +52,8 @@ fn put(file: &mut Vec<u8>, at: usize, byte: u8)
     }
 }
 
-/// Writes as a crash may leave it: the first of the bytes, as many as it chooses, each as it was to be or as any other.
+/// Writes as a crash may leave it: the first of the bytes, as many as it chooses, each as it was to
+/// be or as any other.
 pub(crate) fn tear(file: &mut Vec<u8>, at: usize, bytes: &[u8], choices: &mut Pcg32)
     requires { at + length bytes.now ≤ vec_capacity file.old }
     ensures torn { Torn at (length bytes.now) file.old.items file.new.items }

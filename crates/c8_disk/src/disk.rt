@@ -8,14 +8,14 @@ use crate::DiskError;
 /// The most bytes that one write may have.
 pub const LONGEST_WRITE: usize = 144;
 
-/// When the calls of a disk are to fail. A [`crate::MemDisk`] fails then; a [`crate::FileDisk`] only notes what it was
-/// told, and fails when it fails.
+/// When the calls of a disk are to fail. A [`crate::MemDisk`] fails then; a [`crate::FileDisk`]
+/// only notes what it was told, and fails when it fails.
 #[derive(Clone, Copy, Debug, PartialEq, Eq)]
 pub enum Arm {
     /// No stop.
     Off,
-    /// Once this many more calls that read, write or sync are served: each one from then on fails, with no effect. A call
-    /// that is refused is not served, and doesn't count.
+    /// Once this many more calls that read, write or sync are served: each one from then on fails,
+    /// with no effect. A call that is refused is not served, and doesn't count.
     Stop(u64),
 }
 
@@ -27,18 +27,19 @@ pub trait Disk {
     /// The images that a crash at this moment may leave.
     ghost may_leave: { Self → List ℕ → Type 0 };
 
-    /// The moment, as a number that doesn't fall. It is no count of calls: one that leaves the images as they are may leave
-    /// the moment too.
+    /// The moment, as a number that doesn't fall. It is no count of calls: one that leaves the
+    /// images as they are may leave the moment too.
     ghost moment: { Self → ℕ };
 
-    /// The images that a crash at some moment from that one on may have left, inside a call or between two.
+    /// The images that a crash at some moment from that one on may have left, inside a call or
+    /// between two.
     ghost left_since: { Self → ℕ → List ℕ → Type 0 };
 
     /// How often the disk has failed.
     ghost failures: { Self → ℕ };
 
-    /// How many calls that write or sync there were, the refused ones too: a count of what was asked for, and no measure
-    /// of time or of what changed.
+    /// How many calls that write or sync there were, the refused ones too: a count of what was
+    /// asked for, and no measure of time or of what changed.
     ghost changes: { Self → ℕ };
 
     /// How many bytes there is room for.
@@ -55,7 +56,8 @@ pub trait Disk {
     fn capacity(&self) -> u32
         ensures { result ≡ capacity self.now };
 
-    /// Reads as many bytes as `buffer` has, from the place `at` on. At an error `buffer` may hold anything.
+    /// Reads as many bytes as `buffer` has, from the place `at` on. At an error `buffer` may hold
+    /// anything.
     fn read_at(&mut self, at: u32, buffer: &mut [u8]) -> Result<(), DiskError>
         requires { at + length buffer.old ≤ length (seen self.old) }
         ensures read { OnOk result
@@ -70,8 +72,9 @@ pub trait Disk {
         ensures capacity { capacity self.new ≡ capacity self.old }
         ensures arms { arms self.new ≡ arms self.old };
 
-    /// Writes over what is there, and past the end. Until a sync that answers `Ok`, a crash may leave any bytes in the
-    /// range. A write that answers `Failed` may have done any part of its work; one that answers `Full` did none.
+    /// Writes over what is there, and past the end. Until a sync that answers `Ok`, a crash may
+    /// leave any bytes in the range. A write that answers `Failed` may have done any part of its
+    /// work; one that answers `Full` did none.
     fn write_at(&mut self, at: u32, bytes: &[u8]) -> Result<(), DiskError>
         requires place { at ≤ length (seen self.old) }
         requires short { length bytes.now ≤ longest_write }

@@ -40,7 +40,8 @@ impl DiskError {
 /// Why a file was not opened as a disk. None of its bytes was changed.
 #[derive(Clone, Copy, Debug, PartialEq, Eq, Error)]
 pub enum FileError {
-    /// A call of the system failed, or what stands at the path is no file that this process alone may read and write.
+    /// A call of the system failed, or what stands at the path is no file that this process alone
+    /// may read and write.
     #[error("the file cannot be used")]
     Failed,
     /// The file is longer than the capacity.

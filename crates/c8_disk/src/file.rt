@@ -22,13 +22,14 @@ use std::fs::File;
 use std::rt::Files;
 pub(crate) use system::{OpenedFile, SystemFile};
 
-/// A disk in a file. What the file holds is kept in memory too, and each read is compared with it: what a read gives is
-/// what the file held when it was opened, with what was written since. After a call that failed every call fails, until
-/// the file is opened anew. No call takes memory: room for the whole capacity is reserved at the opening, as address
-/// space, of which as much becomes resident as the file is long.
+/// A disk in a file. What the file holds is kept in memory too, and each read is compared with it:
+/// what a read gives is what the file held when it was opened, with what was written since. After a
+/// call that failed every call fails, until the file is opened anew. No call takes memory: room for
+/// the whole capacity is reserved at the opening, as address space, of which as much becomes
+/// resident as the file is long.
 ///
-/// That a crash leaves in the file what the model of a disk says is a premise. So the device has to spare the other
-/// bytes of a sector of which one byte is written.
+/// That a crash leaves in the file what the model of a disk says is a premise. So the device has to
+/// spare the other bytes of a sector of which one byte is written.
 #[derive(Drop)]
 pub struct FileDisk<S = OpenedFile> {
     file: S,
@@ -59,7 +60,8 @@ fn reserve(alloc: Global, capacity: u32) -> Result<Vec<u8>, FileError>
     Ok(Vec::with_capacity(alloc, capacity as usize)?)
 }
 
-/// Locks a file, makes what it holds durable, and reads it once, from the device and not from the system's memory.
+/// Locks a file, makes what it holds durable, and reads it once, from the device and not from the
+/// system's memory.
 fn read_durable<S: SystemFile>(
     file: &S,
     bytes: &mut Vec<u8>,
@@ -92,12 +94,14 @@ fn reads_known<S: SystemFile>(file: &S, at: u32, buffer: &mut [u8], known: &[u8]
 impl FileDisk {
     ghost use Rattle.c8_disk.specs.File.{file_bytes, file_first, file_calls, file_images, file_room, file_is_down};
 
-    /// Opens the file at this path as a disk with room for `capacity` bytes, and makes the file if there is none. The
-    /// file is locked as long as the disk lives, made durable with its name, and read once, from the device.
+    /// Opens the file at this path as a disk with room for `capacity` bytes, and makes the file if
+    /// there is none. The file is locked as long as the disk lives, made durable with its name, and
+    /// read once, from the device.
     ///
-    /// `Failed`: it can't be opened to read and to write, is no regular file, is open as a disk elsewhere, or a call of
-    /// the system failed. `Full`: it is longer than `capacity`. `Memory`: the system refuses the room, and no file was
-    /// made. None of its bytes is changed by any of these.
+    /// `Failed`: it can't be opened to read and to write, is no regular file, is open as a disk
+    /// elsewhere, or a call of the system failed. `Full`: it is longer than `capacity`. `Memory`:
+    /// the system refuses the room, and no file was made. None of its bytes is changed by any of
+    /// these.
     pub fn open<R: Files<File = File> + AllocGlobal>(
         rt: &R,
         path: &str,
@@ -272,7 +276,8 @@ impl<S: SystemFile> Disk for FileDisk<S> {
         ensures capacity { file_room self.new ≡ file_room self.old }
         ensures arms { file_arms self.new ≡ file_arms self.old }
 
-        // A call that fails takes the disk down, and a disk that is down fails each call. A sync that fails is not noted.
+        // A call that fails takes the disk down, and a disk that is down fails each call. A sync
+        // that fails is not noted.
         ensures down { IsErrOf result DiskError.Failed ↔ (file_is_down self.new ≡ true) }
         ensures stays_down { file_is_down self.old ≡ true → IsErrOf result DiskError.Failed }
         ensures first { file_first self.new ≡ file_first self.old }

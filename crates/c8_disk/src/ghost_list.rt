@@ -4,8 +4,8 @@ ghost use Rattle.std.specs.Borrow.{ftrue};
 
 use std::marker::{Model, PhantomData};
 
-/// A list that takes no room: it is there for clauses, which read it as `items`. A type keeps one where its contract
-/// has to remember what no byte of it holds, as the calls that were made so far.
+/// A list that takes no room: it is there for clauses, which read it as `items`. A type keeps one
+/// where its contract has to remember what no byte of it holds, as the calls that were made so far.
 #[derive(Drop)]
 pub struct GhostList<T> {
     of: PhantomData<T>,

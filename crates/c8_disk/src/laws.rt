@@ -1,4 +1,5 @@
-//! Laws of the disk model, each the contract of a function that does nothing: what crates above conclude from it.
+//! Laws of the disk model, each the contract of a function that does nothing: what crates above
+//! conclude from it.
 ghost use Rattle.std.specs.Prelude.{◌≡◌, ◌≤◌, ◌⊎◌, ℕ, true, List, length};
 ghost use Rattle.c8_disk.specs.AtOnce.{IsBetweenSyncs};
 ghost use Rattle.c8_disk.specs.Disk.{overwritten, IsOverwritten, Torn};
@@ -13,7 +14,8 @@ pub trait Property {
     ghost has: { Self → List ℕ → Type 0 };
 }
 
-/// A write keeps what stands before it and after it. A whole write is one way in which it may be torn, and so is none.
+/// A write keeps what stands before it and after it. A whole write is one way in which it may be
+/// torn, and so is none.
 pub fn writes_keep_the_rest()
     ensures whole { (old : List ℕ) (at : ℕ) (bytes : List ℕ) → at ≤ length old
         → IsOverwritten at bytes old (overwritten old at bytes) }
@@ -47,7 +49,8 @@ pub fn reads_chain<D: Disk, P: Property>()
         → LeavesOnly D.Disk old new (P.has p) }
 {}
 
-/// What is true of each image since a run began is true of what a read gives after it, and of what a crash then leaves.
+/// What is true of each image since a run began is true of what a read gives after it, and of what
+/// a crash then leaves.
 pub fn runs_end<D: Disk, P: Property>()
     ensures read { (old new : D) (p : P)
         → LeavesOnly D.Disk old new (P.has p) → P.has p (D.seen new) }
@@ -55,7 +58,8 @@ pub fn runs_end<D: Disk, P: Property>()
         → (image : List ℕ) → D.may_leave new image → P.has p image }
 {}
 
-/// What is true of each image since an earlier moment, and of each image of a run from now on, is true since that moment.
+/// What is true of each image since an earlier moment, and of each image of a run from now on, is
+/// true since that moment.
 pub fn runs_go_on<D: Disk, P: Property>()
     ensures { (old new : D) (p : P) (t : ℕ) → t ≤ D.moment old
         → ((image : List ℕ) → D.left_since old t image → P.has p image)
@@ -63,9 +67,10 @@ pub fn runs_go_on<D: Disk, P: Property>()
         → (image : List ℕ) → D.left_since new t image → P.has p image }
 {}
 
-/// What a crash may leave after calls each of which begins within the bytes, said at once: any length from that of the
-/// last sync to the greatest written, and outside the ranges written since that sync each byte as it was then. It leaves
-/// nothing else (`only`), and may leave each row of bytes that is so (`each`).
+/// What a crash may leave after calls each of which begins within the bytes, said at once: any
+/// length from that of the last sync to the greatest written, and outside the ranges written since
+/// that sync each byte as it was then. It leaves nothing else (`only`), and may leave each row of
+/// bytes that is so (`each`).
 pub fn images_at_once()
     ensures only { (first : List ℕ) (calls : List Call) (image : List ℕ)
         → are_lawful first calls ≡ true

@@ -1,8 +1,9 @@
 //! A disk that may stop, fail or crash at any moment, inside any call.
 //!
-//! [`Disk`] is a trait whose contract is the model of a disk: what a read gives, and what a crash may leave. Its words
-//! stand in `specs/Disk.antt`. [`MemDisk`] is such a disk in memory, which can be stopped and crashed, and [`FileDisk`]
-//! one in a file. Both tell their images from what they held at first and each call since, by `specs/Past.antt`.
+//! [`Disk`] is a trait whose contract is the model of a disk: what a read gives, and what a crash
+//! may leave. Its words stand in `specs/Disk.antt`. [`MemDisk`] is such a disk in memory, which can
+//! be stopped and crashed, and [`FileDisk`] one in a file. Both tell their images from what they
+//! held at first and each call since, by `specs/Past.antt`.
 #![tactic(auto)]
 
 mod budget;

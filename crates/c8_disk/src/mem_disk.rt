@@ -15,9 +15,9 @@ use rand_pcg::rand_core::SeedableRng;
 use std::alloc::{AllocError, Global};
 use std::fmt;
 
-/// A disk in memory. It serves a number of calls that read, write or sync, and then fails; it keeps what it held at first and
-/// each call that changed it, so that a crash may leave whatever the model allows. All its room is reserved when it is
-/// made.
+/// A disk in memory. It serves a number of calls that read, write or sync, and then fails; it keeps
+/// what it held at first and each call that changed it, so that a crash may leave whatever the
+/// model allows. All its room is reserved when it is made.
 #[derive(Drop)]
 pub struct MemDisk {
     first: Vec<u8>,
@@ -103,8 +103,9 @@ impl MemDisk {
         &self.bytes
     }
 
-    /// A disk that holds an image which a crash at this moment may leave. It serves all its calls anew, and has no stop.
-    /// Pick 0 is what was last synced, pick 1 what a read gives, and any other pick is chosen by a generator seeded with it.
+    /// A disk that holds an image which a crash at this moment may leave. It serves all its calls
+    /// anew, and has no stop. Pick 0 is what was last synced, pick 1 what a read gives, and any
+    /// other pick is chosen by a generator seeded with it.
     pub fn crash(self, pick: u64) -> MemDisk
         ensures image { images_of self (bytes_of result) }
         ensures between_syncs { IsBetweenSyncs (first_of self) (calls_of self) (bytes_of result) }
@@ -150,7 +151,8 @@ impl MemDisk {
     }
 }
 
-/// Puts an image that a crash may leave in the place of what a read gives. The first bytes are used up.
+/// Puts an image that a crash may leave in the place of what a read gives. The first bytes are used
+/// up.
 fn leave_image(first: &mut Vec<u8>, bytes: &mut Vec<u8>, calls: &[Call], pick: u64)
     requires lawful { are_lawful first.old.items calls.now ≡ true }
     requires replayed { bytes.old.items ≡ content first.old.items calls.now }
@@ -222,7 +224,8 @@ impl Disk for MemDisk {
         ensures capacity { room_of self.new ≡ room_of self.old }
         ensures arms { arms_of self.new ≡ arms_of self.old }
 
-        // It fails once its calls are spent or it is stopped, and only then. A call that was refused is not served.
+        // It fails once its calls are spent or it is stopped, and only then. A call that was
+        // refused is not served.
         ensures failed { IsErrOf result DiskError.Failed ↔ (is_stopped self.old ≡ true) }
         ensures value { value_of self.new ≡ after_read result (value_of self.old) }
     {
@@ -250,7 +253,8 @@ impl Disk for MemDisk {
         ensures capacity { room_of self.new ≡ room_of self.old }
         ensures arms { arms_of self.new ≡ arms_of self.old }
 
-        // It fails once its calls are spent or it is stopped, and only then. A call that was refused is not served.
+        // It fails once its calls are spent or it is stopped, and only then. A call that was
+        // refused is not served.
         ensures failed { IsErrOf result DiskError.Failed ↔ (is_stopped self.old ≡ true) }
         ensures value { IsWritten at bytes.now result (value_of self.old) (value_of self.new) }
     {
@@ -279,7 +283,8 @@ impl Disk for MemDisk {
         ensures capacity { room_of self.new ≡ room_of self.old }
         ensures arms { arms_of self.new ≡ arms_of self.old }
 
-        // It fails once its calls are spent or it is stopped, and only then. A call that was refused is not served.
+        // It fails once its calls are spent or it is stopped, and only then. A call that was
+        // refused is not served.
         ensures failed { IsErrOf result DiskError.Failed ↔ (is_stopped self.old ≡ true) }
         ensures value { value_of self.new ≡ after_sync result (value_of self.old) }
     {

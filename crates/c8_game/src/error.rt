@@ -9,8 +9,8 @@ use thiserror::Error;
 /// Why a text is no game: its first fault.
 #[derive(Clone, Copy, Debug, PartialEq, Eq, Error)]
 pub enum GameError {
-    /// A line that is no name, space and value: an unknown name, no space, an empty value or one with
-    /// a space, or a decimal that is none.
+    /// A line that is no name, space and value: an unknown name, no space, an empty value or one
+    /// with a space, or a decimal that is none.
     #[error("a line that is no name, space and value")]
     Line,
     /// A number outside its range, a program of more than 3584 bytes, or a mask of a player who is

@@ -59,12 +59,13 @@ impl Model for Game {
 
 impl Game {
     /// The game that a text spells. Lines end at a line feed, which the last one may lack, and one
-    /// carriage return before it is dropped; empty lines and lines that begin with `#` say nothing; every
-    /// other line is a name, one space and a value.
+    /// carriage return before it is dropped; empty lines and lines that begin with `#` say nothing;
+    /// every other line is a name, one space and a value.
     ///
-    /// Lines are judged in order, within a line first for `Line`, then `Twice`, then `Hex` or `Range`;
-    /// after the last line come `Missing`, then `Range` for the program's length and for a mask of a
-    /// player who is not in the game. `Memory` comes only where the memory for the program was refused.
+    /// Lines are judged in order, within a line first for `Line`, then `Twice`, then `Hex` or
+    /// `Range`; after the last line come `Missing`, then `Range` for the program's length and for a
+    /// mask of a player who is not in the game. `Memory` comes only where the memory for the
+    /// program was refused.
     pub fn read(alloc: Global, text: &[u8]) -> Result<Game, GameError>
         ensures game { IfOk result (λ game. Spells text.now game) }
         ensures ranges { IfOk result AreInRange }
@@ -77,7 +78,8 @@ impl Game {
         draft.finish()
     }
 
-    /// Tells a caller's proof that the rules of every game are in range; at run time it does nothing.
+    /// Tells a caller's proof that the rules of every game are in range; at run time it does
+    /// nothing.
     pub fn in_range(&self)
         ensures { AreInRange self.now }
     {
@@ -173,8 +175,8 @@ impl Game {
     }
 
     /// SHA-256 (FIPS 180-4) over the rules: players (1 byte), ipf (1), frames (4), delay (1),
-    /// window (1), seed (8), the four masks (2 each), the program's length (2) and the program, each
-    /// number with its most significant byte first.
+    /// window (1), seed (8), the four masks (2 each), the program's length (2) and the program,
+    /// each number with its most significant byte first.
     pub fn id(&self) -> [u8; 32]
         ensures { result ≡ id_of self.now }
     {

@@ -8,13 +8,16 @@ ghost use Rattle.c8_game.specs.Rules.{Rules, AreInRange, HasKey, IsHeld, joined}
 
 /// A text spells a game exactly where no fault refuses it.
 pub fn spelled_or_refused()
-    ensures { (text : List ℕ) → ((rules : Rules) × Spells text rules) ↔ ((fault : GameError) → IsRefused text fault → ⊥) }
+    ensures { (text : List ℕ) → ((rules : Rules) × Spells text rules)
+        ↔ ((fault : GameError) → IsRefused text fault → ⊥) }
 {}
 
 /// A text spells one game at most, and has one first fault at most.
 pub fn one_outcome()
-    ensures game { (text : List ℕ) (one other : Rules) → Spells text one → Spells text other → one ≡ other }
-    ensures fault { (text : List ℕ) (one other : GameError) → IsRefused text one → IsRefused text other → one ≡ other }
+    ensures game { (text : List ℕ) (one other : Rules)
+        → Spells text one → Spells text other → one ≡ other }
+    ensures fault { (text : List ℕ) (one other : GameError)
+        → IsRefused text one → IsRefused text other → one ≡ other }
 {}
 
 /// Every game whose rules are in range has a text that spells it.
@@ -22,7 +25,9 @@ pub fn every_game_has_a_text()
     ensures { (rules : Rules) → AreInRange rules → (text : List ℕ) × Spells text rules }
 {}
 
-/// A key is among the joined keys exactly where a player of the game holds it and the player's mask has it.
+/// A key is among the joined keys exactly where a player of the game holds it and the player's mask
+/// has it.
 pub fn joined_is_a_union()
-    ensures { (rules : Rules) (row : Row) (key : ℕ) → AreInRange rules → HasKey (joined rules row) key ↔ IsHeld rules row key }
+    ensures { (rules : Rules) (row : Row) (key : ℕ) → AreInRange rules
+        → HasKey (joined rules row) key ↔ IsHeld rules row key }
 {}

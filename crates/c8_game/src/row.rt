@@ -11,9 +11,11 @@ pub struct Keys(pub u16);
 impl Keys {
     ghost use Rattle.c8_game.specs.KeysText.{is_keys_text, keys_number};
 
-    /// The set that four hexadecimal digits of either case spell, the most significant first; none for any other text.
+    /// The set that four hexadecimal digits of either case spell, the most significant first; none
+    /// for any other text.
     pub fn from_hex(text: &[u8]) -> Option<Self>
-        ensures { MatchOption result (is_keys_text text.now ≡ false) (λ keys. (is_keys_text text.now ≡ true) × (keys.0 ≡ keys_number text.now)) }
+        ensures { MatchOption result (is_keys_text text.now ≡ false)
+            (λ keys. (is_keys_text text.now ≡ true) × (keys.0 ≡ keys_number text.now)) }
     {
         let mut bytes = [0; 2];
         match hex::decode_to_slice(text, &mut bytes) {
@@ -60,7 +62,8 @@ pub struct NoPlayer;
 impl TryFrom<u8> for Player {
     type Error = NoPlayer;
 
-    ghost try_from_gives = { λ number result. IfOk result (λ player. player.number ≡ number) × IfErr result (λ _. (number < 1) ⊎ (4 < number)) };
+    ghost try_from_gives = { λ number result. IfOk result (λ player. player.number ≡ number)
+        × IfErr result (λ _. (number < 1) ⊎ (4 < number)) };
 
     fn try_from(number: u8) -> Result<Player, NoPlayer> {
         match Player::new(number) {

@@ -14,8 +14,8 @@ pub enum HandError {
     /// epoch of this peer; or it is a HELLO or WELCOME of epoch 0.
     #[error("from or for an older epoch, or from none")]
     Stale,
-    /// It is for a later epoch of this peer; or, but for HELLO and WELCOME, from a later epoch of the
-    /// sender than the known one.
+    /// It is for a later epoch of this peer; or, but for HELLO and WELCOME, from a later epoch of
+    /// the sender than the known one.
     #[error("from or for a later epoch than is known")]
     Ahead,
     /// It is not addressed to this player, or its sender is this player or none of the game.

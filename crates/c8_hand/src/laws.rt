@@ -1,13 +1,13 @@
-//! What callers may rest on that is no single call's: laws of links, each the contract of a function
-//! that does nothing.
+//! What callers may rest on that is no single call's: laws of links, each the contract of a
+//! function that does nothing.
 ghost use Rattle.std.specs.Prelude.{◌≡◌, ◌≢◌, ℕ, ◌≤◌, None, true, false};
 ghost use Rattle.c8_wire.specs.declared.kinds.Kind.TheVariants as kinds;
 ghost use Rattle.c8_wire.specs.Packet.{HeadValue};
 ghost use Rattle.c8_hand.specs.Links.{LinksValue, link_to, refusal, link_after, heard, IsForMe, NamesBoth, OpensByWelcome};
 
-/// What is admitted belongs to this match, and comes from another player of it. But for HELLO it names
-/// the own epoch, and but for HELLO and WELCOME it names the epoch that is known of its sender, to whom
-/// the link is open.
+/// What is admitted belongs to this match, and comes from another player of it. But for HELLO it
+/// names the own epoch, and but for HELLO and WELCOME it names the epoch that is known of its
+/// sender, to whom the link is open.
 pub fn what_is_admitted()
     ensures mine { (l : LinksValue) (head : HeadValue) → refusal l head ≡ None
         → IsForMe l head }

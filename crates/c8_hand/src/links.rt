@@ -92,8 +92,9 @@ impl Links {
         }
     }
 
-    /// Takes what an admitted datagram tells: a HELLO of a later epoch closes the link to its sender,
-    /// a WELCOME opens it, and the sender's epoch is then known. Other kinds change nothing.
+    /// Takes what an admitted datagram tells: a HELLO of a later epoch closes the link to its
+    /// sender, a WELCOME opens it, and the sender's epoch is then known. Other kinds change
+    /// nothing.
     pub fn hear(&mut self, datagram: &Datagram<'_>)
         requires { refusal self.old (packet_of datagram.now).head ≡ None }
         ensures heard { self.new ≡ heard self.old (packet_of datagram.now).head }

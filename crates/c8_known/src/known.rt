@@ -138,8 +138,8 @@ impl Known {
     }
 
     /// How many frames are confirmed: the greatest number, at most that of the own player's ticks,
-    /// below which every player's input is settled at all frames. It costs what the number of players
-    /// is.
+    /// below which every player's input is settled at all frames. It costs what the number of
+    /// players is.
     pub fn confirmed(&self) -> u32
         ensures value { result ≡ confirmed self.now }
         ensures greatest { IsConfirmed self.now result }

@@ -41,8 +41,8 @@ pub fn a_record_takes_nothing_back()
         → (player_in k q).cut ≡ None → IsStillKnown k (with_record k (Cut q K start words)) }
 {}
 
-/// What is true of all that a peer can know is true before its journal says anything, and each record
-/// that the calls of `Known` allow keeps it.
+/// What is true of all that a peer can know is true before its journal says anything, and each
+/// record that the calls of `Known` allow keeps it.
 pub fn what_is_known_stays_sound()
     ensures start { (rules : Rules) (me : ℕ) → AreInRange rules → 1 ≤ me → me ≤ rules.players
         → IsKnown (known_of rules me []) }

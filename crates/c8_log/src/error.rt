@@ -5,13 +5,15 @@ ghost use Rattle.c8_log.specs.Errors.{number_of};
 use c8_disk::DiskError;
 use thiserror::Error;
 
-/// Why a call of a log was refused. After any of these `append` and `read` are refused, until the log is opened again.
+/// Why a call of a log was refused. After any of these `append` and `read` are refused, until the
+/// log is opened again.
 #[derive(Clone, Copy, Debug, PartialEq, Eq, Error)]
 pub enum LogError {
     /// The disk failed. What was to be written may stand or not: the next opening decides.
     #[error("the disk failed")]
     Failed,
-    /// There is no room for one more body, or, at an opening, for the gate after the last one. Nothing was written.
+    /// There is no room for one more body, or, at an opening, for the gate after the last one.
+    /// Nothing was written.
     #[error("the log is full")]
     Full,
     /// An earlier `append` or `read` was refused. An opening never answers this.

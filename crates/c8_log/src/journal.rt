@@ -91,9 +91,9 @@ impl<D: Disk> Journal<D> {
         self.log.is_down()
     }
 
-    /// Adds a body, while the journal is up. At `Ok` it is kept from then on, whenever a crash comes.
-    /// After an error the journal is down, and the body is pending: after `Failed` the next opening
-    /// decides whether it counts, after `Full` nothing was written.
+    /// Adds a body, while the journal is up. At `Ok` it is kept from then on, whenever a crash
+    /// comes. After an error the journal is down, and the body is pending: after `Failed` the next
+    /// opening decides whether it counts, after `Full` nothing was written.
     pub fn append(&mut self, body: &[u8; BODY_LENGTH]) -> Result<(), DiskError>
         requires { self.old.is_down ≡ false }
 

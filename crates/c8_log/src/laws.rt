@@ -7,14 +7,16 @@ ghost use Rattle.c8_log.specs.Journal.{KeepsBodies, AllKeepBodies};
 
 use c8_disk::Disk;
 
-/// The kept bodies are those of the open slots before the first that is not open, and no other list is.
+/// The kept bodies are those of the open slots before the first that is not open, and no other list
+/// is.
 pub fn kept_is_least()
     ensures is { (image : List ℕ) → IsKept image (kept image) }
     ensures only { (image : List ℕ) (bodies : List (List ℕ))
         → IsKept image bodies → bodies ≡ kept image }
 {}
 
-/// If each image since a moment keeps one of some lists of bodies, so it is after an `append`, with its list added.
+/// If each image since a moment keeps one of some lists of bodies, so it is after an `append`, with
+/// its list added.
 pub fn appends_add_one_list<D: Disk>()
     ensures { (old new : D) (t : ℕ) (lists : List (List (List ℕ))) (body : List ℕ)
         → t ≤ D.moment old

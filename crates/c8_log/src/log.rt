@@ -12,7 +12,8 @@ use c8_disk::{Arm, Disk};
 use std::fmt;
 use std::marker::Model;
 
-/// A list of bodies of 143 bytes each on a disk. Each body for which `append` answered `Ok` is kept, whatever happens.
+/// A list of bodies of 143 bytes each on a disk. Each body for which `append` answered `Ok` is
+/// kept, whatever happens.
 #[derive(Drop)]
 pub struct Log<D: Disk> {
     disk: D,
@@ -43,9 +44,10 @@ impl<D: Disk> fmt::Debug for Log<D> {
 impl<D: Disk> Log<D> {
     ghost use Rattle.c8_log.specs.Log.{KeepsOneOf, KeepsWithOrWithout, IsAtRest, IsLeftByOpening, IsLeftByAppend, disk_after, has_closed_gate, repaired, with_slot};
 
-    /// Opens the log that a disk holds, and closes the gate after its last body if that was left open or is missing.
-    /// At an error the disk is given back, and it keeps what it kept. A disk that a failure takes down for good, as it does
-    /// a [`c8_disk::FileDisk`], is to be dropped then, and opened anew by its path.
+    /// Opens the log that a disk holds, and closes the gate after its last body if that was left
+    /// open or is missing. At an error the disk is given back, and it keeps what it kept. A disk
+    /// that a failure takes down for good, as it does a [`c8_disk::FileDisk`], is to be dropped
+    /// then, and opened anew by its path.
     pub fn open(disk: D) -> Result<Log<D>, (LogError, D)>
         ensures at_rest { IfOk result (λ log. IsAtRest D.Disk log) }
         ensures up { IfOk result (λ log. log.down ≡ false) }
@@ -82,7 +84,8 @@ impl<D: Disk> Log<D> {
         }
     }
 
-    /// How many bodies the log counts: those that it was opened with, and one for each `append` that answered `Ok`.
+    /// How many bodies the log counts: those that it was opened with, and one for each `append`
+    /// that answered `Ok`.
     pub fn len(&self) -> u32
         ensures count { result ≡ self.now.count }
         ensures at_rest { self.now.down ≡ false → IsAtRest D.Disk self.now }
@@ -105,9 +108,9 @@ impl<D: Disk> Log<D> {
         self.down
     }
 
-    /// Adds a body, and answers the number of its slot. At `Ok` the body is on the disk: from then on each crash leaves
-    /// it. After an error the log is down: after `Failed` the next opening decides whether the body counts, after `Full`
-    /// and `Down` it was not written.
+    /// Adds a body, and answers the number of its slot. At `Ok` the body is on the disk: from then
+    /// on each crash leaves it. After an error the log is down: after `Failed` the next opening
+    /// decides whether the body counts, after `Full` and `Down` it was not written.
     pub fn append(&mut self, body: &[u8; BODY_LENGTH]) -> Result<u32, LogError>
         ensures slot { IfOk result (λ slot. slot ≡ self.old.count) }
         ensures count { OnOk result (self.new.count ≡ self.old.count + 1) }
@@ -118,8 +121,8 @@ impl<D: Disk> Log<D> {
             (D.seen self.new.disk ≡ with_slot (D.seen self.old.disk) self.old.count body.now) }
         ensures at_rest { OnOk result (IsAtRest D.Disk self.new) }
 
-        // A crash at any moment of the call, where the log was up, leaves the bodies from before it, with the new one or
-        // without.
+        // A crash at any moment of the call, where the log was up, leaves the bodies from before
+        // it, with the new one or without.
         ensures any_moment { self.old.down ≡ false → LeavesOnly D.Disk self.old.disk self.new.disk
             (KeepsWithOrWithout (kept (D.seen self.old.disk)) body.now) }
 
@@ -164,7 +167,8 @@ impl<D: Disk> Log<D> {
         ensures ok { OnOk result (self.new ≡ record self.old { disk = self.new.disk }) }
         ensures at_rest { OnOk result (IsAtRest D.Disk self.new) }
 
-        // Nothing is written, and a crash at any moment of the call leaves what a crash before it could have left.
+        // Nothing is written, and a crash at any moment of the call leaves what a crash before it
+        // could have left.
         ensures reads { ReadsOnly D.Disk self.old.disk self.new.disk }
 
         // When each error comes, and what it leaves.

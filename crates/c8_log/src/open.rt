@@ -1,4 +1,5 @@
-//! What an opening does to a disk: a sync, the search for the end, and the repair of the gate there.
+//! What an opening does to a disk: a sync, the search for the end, and the repair of the gate
+//! there.
 ghost use Rattle.std.specs.Prelude.{◌≡◌, ◌<◌, ◌≤◌, ◌+◌, ◌*◌, ◌^◌, true, false, length, IfOk, OnOk, IfErr, IsErrOf};
 ghost use Rattle.c8_disk.specs.Disk.{Only, HasCause};
 ghost use Rattle.c8_disk.specs.Runs.{LeavesOnly, IsSameDisk};

@@ -2,9 +2,9 @@
 //!
 //! Contracts see a machine as its `State` (`specs/State.antt`). One step is `IsStep`
 //! (`specs/Steps.antt`), one case for each row of the instruction table; one frame is `IsFrame`
-//! (`specs/Frames.antt`), a relation over chains of steps. `serial` (`specs/Serial.antt`) is the run of
-//! many rows. `laws` has what callers chain, and `Machine::in_range` says that every machine's state
-//! is in range (`IsState`). Nothing here takes memory.
+//! (`specs/Frames.antt`), a relation over chains of steps. `serial` (`specs/Serial.antt`) is the
+//! run of many rows. `laws` has what callers chain, and `Machine::in_range` says that every
+//! machine's state is in range (`IsState`). Nothing here takes memory.
 #![tactic(auto)]
 
 pub mod laws;

@@ -34,8 +34,8 @@ pub enum Stop {
 impl Stop {
     ghost use Rattle.c8_machine.specs.State.{number_of};
 
-    /// The number that the program prints: 1 for an unknown instruction, 2 for a full stack, 3 for an
-    /// empty one.
+    /// The number that the program prints: 1 for an unknown instruction, 2 for a full stack, 3 for
+    /// an empty one.
     pub fn number(self) -> u8
         ensures { result ≡ number_of self }
     {

@@ -67,8 +67,8 @@ fn draws_and_draws_again(rt: HostRuntime) -> Result<(), Fail> {
     Ok(())
 }
 
-/// A program, the keys of its frames, and what is seen then: what it waits for, the timer, V0, V1 and
-/// the counter.
+/// A program, the keys of its frames, and what is seen then: what it waits for, the timer, V0, V1
+/// and the counter.
 #[derive(Clone, Copy)]
 struct Wait {
     code: &'static str,
@@ -203,8 +203,8 @@ fn tells_what_became_of_a_step(rt: HostRuntime) -> Result<(), Fail> {
     Ok(())
 }
 
-/// The registers from V0 on and the flag, the counter and I after one frame of ten instructions with
-/// key 5 down.
+/// The registers from V0 on and the flag, the counter and I after one frame of ten instructions
+/// with key 5 down.
 #[derive(Clone, Copy)]
 struct Case {
     code: &'static str,

@@ -1,3 +1,4 @@
 pub mod TakenLemmas
 pub mod ReplayLemmas
 pub mod BodiesLemmas
+pub mod RefusalLemmas

@@ -7,8 +7,9 @@ ghost use Rattle.c8_known.specs.Known.{known_of, with_record, IsKnown};
 ghost use Rattle.c8_known.specs.Confirmed.{confirmed_rows};
 ghost use Rattle.c8_known.specs.Growth.{Begins, IsStillKnown};
 ghost use Rattle.c8_record.specs.Body.{body_of, record_of, records_of, HasSpelling, Spells};
+ghost use Rattle.c8_record.specs.declared.error.ReplayError.{ReplayError};
 ghost use Rattle.c8_record.specs.Allowed.{IsAllowed, IsJournal, IsOrderly};
-ghost use Rattle.c8_record.specs.Replay.{AreJournalBodies};
+ghost use Rattle.c8_record.specs.Replay.{AreJournalBodies, IsRefusal};
 
 /// A record that can be spelled has one spelling, of 143 bytes, which is read as that record and no
 /// other.
@@ -59,6 +60,12 @@ pub fn what_a_journal_says_stays()
         → 1 ≤ me → me ≤ rules.players → IsJournal rules me room (journal ++ rest)
         → Begins (confirmed_rows (known_of rules me journal))
         (confirmed_rows (known_of rules me (journal ++ rest))) }
+{}
+
+/// The bodies of a journal are refused for nothing: a replay of them fails with the disk alone.
+pub fn journals_are_not_refused()
+    ensures { (rules : Rules) (me room : ℕ) (bodies : List (List ℕ)) (error : ReplayError)
+        → AreJournalBodies rules me room bodies → IsRefusal rules me room bodies error → ⊥ }
 {}
 
 /// Who may leave in whose journal, and who is cut leaves.

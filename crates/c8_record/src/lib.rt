@@ -3,8 +3,8 @@
 //!
 //! `view` lends a record from a body, `body_of` spells one; `replay` and `replay_bytes` read a
 //! whole journal, from a log and from the bytes of a disk. The definitions are in `specs/` (the
-//! spelling in `Body.antt`, the rules in `Allowed.antt`, what a replay gives in `Replay.antt`), and `laws` has
-//! what follows from them. Nothing here takes memory.
+//! spelling in `Body.antt`, the rules in `Allowed.antt`, what a replay gives in `Replay.antt`), and
+//! `laws` has what follows from them. Nothing here takes memory.
 #![tactic(auto)]
 
 mod allowed;

@@ -17,13 +17,13 @@ use c8_game::Game;
 use c8_known::Known;
 use c8_log::{BODY_LENGTH, Block, Log, LogError, kept_body, kept_len};
 
-/// Reads the journal that a log keeps into `known`, which knows nothing yet, one slot after
-/// the other.
-/// The answer is the last epoch, 0 if the log keeps no record.
+/// Reads the journal that a log keeps into `known`, which knows nothing yet, one slot after the
+/// other. The answer is the last epoch, 0 if the log keeps no record.
 ///
 /// `WrongGame` and `WrongPlayer` are judged first of all, by the first record; `BadRecord` names
-/// the first body that spells no record or one that the rules don't allow there. After an error `known`
-/// has what the records before it say. Nothing is written; where the disk fails the log is down.
+/// the first body that spells no record or one that the rules don't allow there. After an error
+/// `known` has what the records before it say. Nothing is written; where the disk fails the log is
+/// down.
 pub fn replay<D: Disk>(
     log: &mut Log<D>,
     game: &Game,
@@ -68,8 +68,8 @@ pub fn replay_bytes(
     Ok(epoch)
 }
 
-/// Takes a body after `count` others, of which `epoch` is the last epoch, and answers the last epoch
-/// then.
+/// Takes a body after `count` others, of which `epoch` is the last epoch, and answers the last
+/// epoch then.
 fn take_body(
     game: &Game,
     room: u64,

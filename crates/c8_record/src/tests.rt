@@ -135,8 +135,8 @@ fn replayed(
     Ok(Some((answer, known)))
 }
 
-/// What the journal of this player says that begins with a right HEAD, goes on with these records and
-/// ends with the last one.
+/// What the journal of this player says that begins with a right HEAD, goes on with these records
+/// and ends with the last one.
 fn judged(
     alloc: Global,
     text: &[u8],
@@ -517,8 +517,8 @@ fn a_match_is_known_again(rt: HostRuntime) -> Result<(), Fail> {
     Ok(())
 }
 
-/// Whether a player's list is an empty set and then the words from the first one on, and its cut and
-/// its leave are these.
+/// Whether a player's list is an empty set and then the words from the first one on, and its cut
+/// and its leave are these.
 fn holds(
     known: &Known,
     player: u8,

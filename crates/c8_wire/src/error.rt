@@ -22,7 +22,8 @@ pub enum WireError {
     /// The body is not as long as the header says, or not as its kind wants.
     #[error("the body has another length than it should have")]
     Length,
-    /// The sender or the addressee is not 1 to 4, or both are the same; or the leaver is not 2 to 4.
+    /// The sender or the addressee is not 1 to 4, or both are the same; or the leaver is not 2 to
+    /// 4.
     #[error("a player who cannot stand there")]
     Player,
     /// The byte after the leaver, which must be 0, is not.
@@ -31,8 +32,8 @@ pub enum WireError {
     /// More than 64 inputs, or not as many as the body has room for.
     #[error("more inputs than allowed, or not as many as there is room for")]
     Count,
-    /// A number above 262148, which no game reaches; or a run past that number in DATA, past the inputs
-    /// that are held in FROZEN, past the length in CUT.
+    /// A number above 262148, which no game reaches; or a run past that number in DATA, past the
+    /// inputs that are held in FROZEN, past the length in CUT.
     #[error("a number of inputs, or the end of a run, is too great")]
     Beyond,
 }

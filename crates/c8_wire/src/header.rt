@@ -20,7 +20,8 @@ impl Seat {
 
     /// The player whose seat it is, if it is a player's.
     pub fn player(self) -> Option<Player>
-        ensures { MatchOption result (is_player self.number ≡ false) (λ player. player.number ≡ self.number) }
+        ensures { MatchOption result (is_player self.number ≡ false)
+            (λ player. player.number ≡ self.number) }
     {
         if self.number <= 4 {
             Some(Player {

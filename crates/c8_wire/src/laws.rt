@@ -35,8 +35,8 @@ pub fn what_is_not_read_is_refused()
         → refusal bytes ≡ Some error → read bytes ≡ Err error }
 {}
 
-/// Key sets are read again from their bytes, two bytes each, and bytes are those of what is read from
-/// them.
+/// Key sets are read again from their bytes, two bytes each, and bytes are those of what is read
+/// from them.
 pub fn words_are_their_bytes()
     ensures again { (words : List ℕ) → AreWords words → words_of (words_bytes words) ≡ words }
     ensures spelled { (bytes : List ℕ) → length bytes % 2 ≡ 0 → AreBytes bytes

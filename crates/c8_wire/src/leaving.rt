@@ -126,7 +126,8 @@ impl<'a> Frozen<'a> {
     /// Inputs of the leaver, lent from the bytes that came: those after the first 36.
     pub fn run(&self) -> Run<'a>
         ensures words { words result ≡ (frozen_of self.now).words }
-        ensures slice { spelled result ≡ run_slice kinds.Frozen (bytes_of (datagrams.Frozen self.now)) }
+        ensures slice { spelled result
+            ≡ run_slice kinds.Frozen (bytes_of (datagrams.Frozen self.now)) }
     {
         self.view.run()
     }

@@ -28,7 +28,8 @@ pub fn view(bytes: &[u8]) -> Result<Datagram<'_>, WireError>
     // What is answered is spelled by the bytes.
     ensures found { IfOk result (λ datagram. Spells bytes.now (packet_of datagram)) }
     // What the bytes spell is answered.
-    ensures only { (p : Packet) → Spells bytes.now p → IsOkAnd result (λ datagram. packet_of datagram ≡ p) }
+    ensures only { (p : Packet) → Spells bytes.now p
+        → IsOkAnd result (λ datagram. packet_of datagram ≡ p) }
     // Nothing refuses what is answered, and what is refused has that refusal first.
     ensures refused { MatchResult result
         (λ _. refusal bytes.now ≡ None)
@@ -81,7 +82,8 @@ fn checked_kind(bytes: &[u8]) -> Result<Kind, WireError>
 fn named_kind(bytes: &[u8]) -> Result<Kind, WireError>
     ensures long { OnOk result (24 ≤ length bytes.now) }
     ensures kind { IfOk result (λ kind. kind_at bytes.now ≡ Some kind) }
-    ensures rest { IfOk result (λ kind. refusal bytes.now ≡ first_of body_refusals (Some kind) bytes.now) }
+    ensures rest { IfOk result (λ kind.
+        refusal bytes.now ≡ first_of body_refusals (Some kind) bytes.now) }
     ensures refused { IfErr result (λ error. refusal bytes.now ≡ Some error) }
 {
     if bytes.len() < HEADER_LENGTH {

@@ -1,6 +1,7 @@
 //! What bytes are refused, and how. `distinct` has datagrams whose numbers all differ.
 //!
-//! Tests take the tables of bytes from functions that say nothing of them: a proof is then of any bytes.
+//! Tests take the tables of bytes from functions that say nothing of them: a proof is then of any
+//! bytes.
 ghost use Rattle.std.specs.Prelude.{◌≡◌, ◌+◌, ◌≤◌, length};
 
 use super::*;
@@ -132,7 +133,8 @@ const CASES: [Case; 39] = [
     Case { kind: Kind::Cut, place: 26, with: &[0, 0, 0, 9], refusal: Some(WireError::Beyond) },
 ];
 
-/// What is said of a leaver, in FREEZE, FROZEN and CUT alike: bytes from a place on, and the refusal.
+/// What is said of a leaver, in FREEZE, FROZEN and CUT alike: bytes from a place on, and the
+/// refusal.
 #[rattlefmt::skip]
 const LEAVERS: [(usize, &'static [u8], Option<WireError>); 9] = [
     (24, &[0], Some(WireError::Player)),
@@ -219,8 +221,9 @@ fn refuses_every_cut(rt: HostRuntime) {
     assert_eq!(rt; refused(&longer), Some(WireError::Length));
 }
 
-/// The bytes of a datagram that begins as that of its kind, with a run of `count` inputs after `fixed`
-/// bytes of its body. `inputs` is byte 29, the last one of what is held, or cut at, of a leaver.
+/// The bytes of a datagram that begins as that of its kind, with a run of `count` inputs after
+/// `fixed` bytes of its body. `inputs` is byte 29, the last one of what is held, or cut at, of a
+/// leaver.
 fn with_run(kind: Kind, fixed: u8, count: u8, inputs: u8) -> [u8; 176]
     requires fixed { fixed ≤ 22 }
     requires count { count ≤ 65 }

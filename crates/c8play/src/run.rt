@@ -16,8 +16,8 @@ use std::io;
 use std::io::Write;
 
 /// Plays the game that `game` spells by the key lines of `keys`, and writes the report of its
-/// machine to `out`; or writes the line of a refusal to `refused`, and nothing to `out`. The error is
-/// that of a writer.
+/// machine to `out`; or writes the line of a refusal to `refused`, and nothing to `out`. The error
+/// is that of a writer.
 pub fn run<W: Write, E: Write>(
     alloc: Global,
     game: &[u8],

@@ -32,7 +32,8 @@ impl Content {
     }
 }
 
-/// What the device holds, and the copy of it in the system's memory, which each read and write is of.
+/// What the device holds, and the copy of it in the system's memory, which each read and write is
+/// of.
 #[derive(Drop)]
 pub(super) struct FakeSystem {
     pub(super) device: Cell<Content>,

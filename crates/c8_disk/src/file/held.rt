@@ -8,7 +8,8 @@ use crate::bytes::overwrite;
 use crate::call::{Call, write_call};
 use std::snapshot::Snapshot;
 
-/// The bytes that a file is known to hold, in room that was reserved, and the calls that made them of the first ones.
+/// The bytes that a file is known to hold, in room that was reserved, and the calls that made them
+/// of the first ones.
 #[derive(Drop)]
 pub(crate) struct Held {
     pub(crate) bytes: Vec<u8>,

@@ -5,8 +5,8 @@ use std::os::fd::AsRawFd;
 use std::os::unix::fs::FileExt;
 use std::rt::Files;
 
-/// An open file, by the calls that a disk in it makes. Tests stand in for the system, and let each of these fail.
-/// Bytes are read and written by [`FileExt`].
+/// An open file, by the calls that a disk in it makes. Tests stand in for the system, and let each
+/// of these fail. Bytes are read and written by [`FileExt`].
 pub trait SystemFile: FileExt + Drop {
     /// How many bytes it has. What is no regular file has no length.
     fn len(&self) -> io::Result<u64>;
@@ -20,8 +20,8 @@ pub trait SystemFile: FileExt + Drop {
     /// Makes its bytes and its length durable.
     fn sync_data(&self) -> io::Result<()>;
 
-    /// Drops the system's copies of the file's bytes in memory, but for those that are still to be made durable: the next
-    /// read is of the device.
+    /// Drops the system's copies of the file's bytes in memory, but for those that are still to be
+    /// made durable: the next read is of the device.
     fn drop_copies(&self) -> io::Result<()>;
 
     /// Makes the file's name durable in its folder.

@@ -58,7 +58,8 @@ fn each_call_of_an_opening_may_fail(rt: HostRuntime) -> Result<(), Fail> {
 #[test]
 fn what_an_opening_reads_is_durable(rt: HostRuntime) -> Result<(), Fail> {
     for (failing, left) in [
-        // The process ends before it syncs: what it wrote is in memory, and the opening makes it durable.
+        // The process ends before it syncs: what it wrote is in memory, and the opening makes it
+        // durable.
         (None, b"aXYde".as_slice()),
         // The sync fails: what it was to write is in memory alone, and is not believed.
         (Some(1), b"abcde".as_slice()),
@@ -304,7 +305,8 @@ fn the_system_is_asked_to_drop_its_copies(rt: HostRuntime) -> Result<(), Fail> {
     Ok(())
 }
 
-/// What has nothing to sync says so: the calls are made, each of the file or the folder that it is for.
+/// What has nothing to sync says so: the calls are made, each of the file or the folder that it is
+/// for.
 #[test]
 fn the_system_is_asked_to_sync(rt: HostRuntime) -> Result<(), Fail> {
     let file = File::options()

@@ -1,5 +1,5 @@
-//! The calls of a disk, each a function of its own that shows what the call asks: so the proof of a test that makes many of
-//! them stays short.
+//! The calls of a disk, each a function of its own that shows what the call asks: so the proof of a
+//! test that makes many of them stays short.
 use crate::{Disk, DiskError, LONGEST_WRITE};
 use std::process::Abort;
 

@@ -12,7 +12,8 @@ const OLD: &[u8] = b"0123456789";
 /// A write within the old bytes, and one that begins in them and ends past them.
 const WRITES: [(u32, &[u8]); 2] = [(1, b"abcdef"), (8, b"UVWXYZ")];
 
-/// What the disk holds for good, and the two writes, not synced. What is left of it by a crash with this pick.
+/// What the disk holds for good, and the two writes, not synced. What is left of it by a crash with
+/// this pick.
 fn left(rt: &impl Abort, alloc: Global, pick: u64) -> Result<MemDisk, Fail> {
     let mut disk = MemDisk::new(alloc, 16, 8)?;
     write(rt, &mut disk, 0, OLD)?;
@@ -23,8 +24,9 @@ fn left(rt: &impl Abort, alloc: Global, pick: u64) -> Result<MemDisk, Fail> {
     Ok(disk.crash(pick))
 }
 
-/// The same, told from the rule: of each write a part from its start on is on the disk, or all, each byte of it as it
-/// was written or any other, by the words of a generator that is seeded with the pick.
+/// The same, told from the rule: of each write a part from its start on is on the disk, or all,
+/// each byte of it as it was written or any other, by the words of a generator that is seeded with
+/// the pick.
 fn expected(alloc: Global, pick: u64) -> Result<Vec<u8>, Fail> {
     let mut words = Pcg32::seed_from_u64(pick);
     let mut image = Vec::new(alloc);

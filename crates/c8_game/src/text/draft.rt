@@ -176,7 +176,8 @@ fn is_skipped(line: &[u8]) -> bool
     }
 }
 
-/// The two parts of a line that is a name, one space and a value that is not empty and has no space.
+/// The two parts of a line that is a name, one space and a value that is not empty and has no
+/// space.
 fn name_and_value(line: &[u8]) -> Option<(&[u8], &[u8])>
     ensures none { IfNone result (is_name_and_value line.now ≡ false) }
     ensures some { IfSome result (λ parts. is_name_and_value line.now ≡ true) }

@@ -5,8 +5,8 @@ ghost use Rattle.std.specs.List.{before_first, after_first};
 ghost use Rattle.std.specs.Str.Lines.{lines, strip_carriage_return};
 
 /// The lines of a text that are still to come. A line ends at a line feed, and one carriage return
-/// before that is dropped with it. If nothing follows the last line feed, no line begins there; a last
-/// line that no line feed ends keeps its carriage return.
+/// before that is dropped with it. If nothing follows the last line feed, no line begins there; a
+/// last line that no line feed ends keeps its carriage return.
 #[derive(Clone, Copy)]
 pub struct Lines<'a> {
     rest: &'a [u8],

@@ -211,8 +211,8 @@ fn freeze_of(bytes: &[u8]) -> Result<(u8, u32), Fail> {
     Ok((lent.leaver().number, lent.have()))
 }
 
-/// The readers of a FROZEN or CUT: the leaver, what is held or the length, the start, and whether its
-/// run has these key sets.
+/// The readers of a FROZEN or CUT: the leaver, what is held or the length, the start, and whether
+/// its run has these key sets.
 fn leaver_of(bytes: &[u8], words: &[u16]) -> Result<(u8, u32, u32, bool), Fail> {
     match view(bytes)? {
         Datagram::Frozen(lent) => {

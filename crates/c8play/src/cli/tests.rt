@@ -1,4 +1,5 @@
-//! The command line, from the program's arguments to its exit status. Files lie where the test runs.
+//! The command line, from the program's arguments to its exit status. Files lie where the test
+//! runs.
 
 use crate::cli::answer;
 use crate::tests::{Outcome, Short, text_of};

@@ -236,7 +236,8 @@ fn reports() -> [(&'static str, &'static str, &'static str); 16] {
             "0000 0000\n",
             "frames 1\npc 0ffe i 0000\nv 00 00 00 00 00 00 00 00 00 00 00 00 00 00 00 00\ntimer 00 tone 00 draws 0\nstack 0\nstate stop 1\n",
         ),
-        // draws 0 to 14: the last is the first byte of SHA-256 over 8 bytes 0 and the number 14, which is 4f
+        // draws 0 to 14: the last is the first byte of SHA-256 over 8 bytes 0 and the number 14,
+        // which is 4f
         (
             "c0ff1200",
             "0000 0000\n0000 0000\n0000 0000\n",
@@ -262,7 +263,8 @@ fn reports_the_machine(rt: HostRuntime) -> Result<(), Fail> {
 /// Codes, keys, the report and the screen that they lead to.
 fn screens() -> [(&'static str, &'static str, &'static str, &'static str); 3] {
     [
-        // two rows of 8 points in the lower right corner, of which four columns of one row are on the screen
+        // two rows of 8 points in the lower right corner, of which four columns of one row are on
+        // the screen
         (
             "603c611fa20cd012d012120affff",
             "0000 0000\n",
@@ -408,7 +410,8 @@ fn takes_keys_of_either_case(rt: HostRuntime) -> Result<(), Fail> {
     Ok(())
 }
 
-/// One call of a writer that fails is an error, wherever it is; then nothing goes to the other writer.
+/// One call of a writer that fails is an error, wherever it is; then nothing goes to the other
+/// writer.
 #[test]
 fn fails_where_its_writer_does(rt: HostRuntime) -> Result<(), Fail> {
     let game = format!(in rt.alloc(); "{RULES}code 1200\n")?;

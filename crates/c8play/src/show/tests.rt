@@ -167,7 +167,8 @@ fn words() -> [&'static str; 8] {
     ]
 }
 
-/// One call of a writer that fails is an error, wherever it is; then nothing goes to the other writer.
+/// One call of a writer that fails is an error, wherever it is; then nothing goes to the other
+/// writer.
 #[test]
 fn fails_where_its_writer_does(rt: HostRuntime) -> Result<(), Fail> {
     for word in words() {

@@ -1,0 +1,5 @@
+use Rattle.c8_record.proofs.RefusalLemmas.{not_refused}
+use Rattle.c8_record.proofs.laws.journals_are_not_refused.Goals as goal
+
+pub returns : goal.returns
+returns c = not_refused
