@@ -169,7 +169,7 @@ range_more a (suc n) more =
     let from : a + suc n ≡ a + 1 + n = omega arith in
     rw (many, from) (ap (λ (rest : List ℕ). a ∷ rest) (range_more (a + 1) n more))
 
-map_same : {X : Type 0} (f g : ℕ → X) (a n : ℕ) → ((i : ℕ) → i < a + n → f i ≡ g i) → map f (range_with_len a n) ≡ map g (range_with_len a n)
+pub map_same : {X : Type 0} (f g : ℕ → X) (a n : ℕ) → ((i : ℕ) → i < a + n → f i ≡ g i) → map f (range_with_len a n) ≡ map g (range_with_len a n)
 map_same f g a zero same = refl
 map_same f g a (suc n) same = rw (same a (omega arith), map_same f g (a + 1) n (λ i below. same i (omega (arith, below)))) refl
 
