@@ -1,15 +1,9 @@
 -- The parts of a state, one after another.
-use Rattle.std.proofs.Common.{◌≡◌, ℕ, zero, suc, ◌+◌, ◌*◌, ◌<◌, ◌≤◌, List, [], ◌∷◌, ◌++◌, length, map, refl, sym, ap, ◌∙◌, arith}
+use Rattle.std.proofs.Common.{◌≡◌, ℕ, List, [], ◌++◌, length, map, sym, ap, ◌∙◌, arith}
 use Rattle.std.specs.Prelude.{slice_index}
-use Rattle.std.specs.List.{flat_map, range_with_len}
-use Rattle.std.specs.Int.{to_be_bytes, w16, w64}
-use Rattle.std.proofs.lemmas.List.{append_assoc, length-append, length-map}
+use Rattle.std.specs.List.{range_with_len}
 use Rattle.std.proofs.lemmas.List.FromFn.{length-map-range_with_len, get_or-map-range_with_len}
 use Rattle.std.proofs.lemmas.Grind.{same_number_lists}
-use Rattle.c8_screen.specs.Points.{Points, width}
-use Rattle.c8_machine.specs.State.{State, IsState}
-use Rattle.c8_digest.specs.StateBytes.{columns, places, state_bytes, state_length}
-use Rattle.c8_digest.proofs.StackLemmas.{sixteen}
 
 -- parts that were appended one after another
 pub appended : (m r a c d st sc re b1 b2 b3 b4 b5 b6 b7 : List ℕ) → b1 ≡ [] ++ m → b2 ≡ b1 ++ r → b3 ≡ b2 ++ a → b4 ≡ b3 ++ c → b5 ≡ b4 ++ d ++ st → b6 ≡ b5 ++ sc → b7 ≡ b6 ++ re

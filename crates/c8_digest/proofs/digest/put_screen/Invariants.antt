@@ -1,10 +1,9 @@
-use Rattle.std.proofs.Common.{◌≡◌, ◌+◌, ◌≤◌, [], ◌∷◌, ◌++◌, length, ℕ, ◌-◌, ◌*◌, ◌<◌}
+use Rattle.std.proofs.Common.{◌≡◌, ◌+◌, ◌++◌, ◌*◌}
 use Rattle.std.specs.List.{flat_map, range_with_len}
-use Rattle.std.specs.Int.{to_be_bytes, w16, w64}
+use Rattle.std.specs.Int.{to_be_bytes, w64}
 use Rattle.arrayvec.specs.ArrayVec.{array_vec_len}
 use Rattle.c8_screen.specs.Points.{points_of}
-use Rattle.c8_machine.specs.State.{state}
-use Rattle.c8_digest.specs.StateBytes.{columns, places, state_bytes, mark_of}
+use Rattle.c8_digest.specs.StateBytes.{columns}
 use Rattle.c8_digest.proofs.digest.put_screen.Given as goal
 
 abbrev pub invariant-loop-y : goal.invariant-loop-y

@@ -1,10 +1,8 @@
-use Rattle.std.proofs.Common.{◌≡◌, ◌+◌, ◌≤◌, [], ◌∷◌, ◌++◌, length, take, ℕ, ◌-◌, ◌*◌, ◌<◌}
+use Rattle.std.proofs.Common.{◌≡◌, ◌+◌, [], ◌∷◌, ◌++◌, length, take, ◌*◌}
 use Rattle.std.specs.List.{flat_map}
 use Rattle.std.specs.Int.{to_be_bytes, w16}
 use Rattle.arrayvec.specs.ArrayVec.{array_vec_len}
-use Rattle.c8_screen.specs.Points.{points_of}
-use Rattle.c8_machine.specs.State.{state}
-use Rattle.c8_digest.specs.StateBytes.{screen_bytes, places, state_bytes, mark_of}
+use Rattle.c8_digest.specs.StateBytes.{places}
 use Rattle.c8_digest.proofs.digest.put_stack.Given as goal
 
 abbrev pub invariant-loop-n : goal.invariant-loop-n

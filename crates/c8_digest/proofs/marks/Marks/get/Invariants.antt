@@ -1,5 +1,5 @@
-use Rattle.std.proofs.Common.{◌≡◌, ◌≤◌, ◌++◌, [], ◌∷◌, take, ℕ, ◌+◌, ◌-◌, ◌*◌, ◌<◌}
-use Rattle.c8_digest.specs.Marks.{kept, mark_at, newest_of}
+use Rattle.std.proofs.Common.{◌≡◌, take}
+use Rattle.c8_digest.specs.Marks.{mark_at}
 use Rattle.c8_digest.proofs.marks.Marks.get.Given as goal
 
 abbrev pub invariant-loop-n : goal.invariant-loop-n
