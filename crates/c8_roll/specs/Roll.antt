@@ -19,7 +19,7 @@ mark_step = 32
 abbrev pub mark_after : Rules → KnownValue → ℕ → FrameMark
 mark_after rules k n = record { frame = n; mark = mark_of (serial rules (rows_below k n)) }
 
--- the marks at the multiples up to a number of frames, 0 among them: the last sixteen
+-- of the marks at the multiples from 0 up to a number of frames the last sixteen
 abbrev pub marks_up_to : Rules → KnownValue → ℕ → List FrameMark
 marks_up_to rules k n = kept (map (λ m. mark_after rules k (mark_step * m)) (range_with_len 0 (n / mark_step + 1)))
 
@@ -44,6 +44,6 @@ roll_of rules k = record {
   marks = marks_up_to rules k (confirmed k);
 }
 
--- For all that was known before and still is, whose roll this was: now it is that of what is known now.
+-- Whatever was known whose roll the old one is: if all of it is still known, the new one is the roll of what is known now.
 abbrev pub GrowsTo : RollValue → RollValue → KnownValue → Type 0
 GrowsTo old new now = (before : KnownValue) → old ≡ roll_of old.rules before → IsStillKnown before now → new ≡ roll_of old.rules now

@@ -26,7 +26,8 @@ impl<'g> Roll<'g> {
 
     /// The roll of what is known. All its room is reserved here.
     pub fn open(alloc: Global, game: &'g Game, known: &Known) -> Result<Roll<'g>, AllocError>
-        ensures { IfOk result (λ roll. value_of roll ≡ roll_of game.entry.now known.now) }
+        ensures roll { IfOk result (λ roll. value_of roll ≡ roll_of game.entry.now known.now) }
+        ensures ticks { IfOk result (λ roll. (value_of roll).ticks ≡ known.now.ticks) }
     {
         let mut base = Machine::start(game);
         let mut marks = Marks::new(alloc)?;
@@ -49,7 +50,9 @@ impl<'g> Roll<'g> {
     /// Goes on by one tick of the own player.
     pub fn advance(&mut self, known: &Known)
         requires { known.now.ticks ≡ (value_of self.old).ticks + 1 }
-        ensures { GrowsTo (value_of self.old) (value_of self.new) known.now }
+        ensures grows { GrowsTo (value_of self.old) (value_of self.new) known.now }
+        ensures ticks { (value_of self.new).ticks ≡ known.now.ticks }
+        ensures game { (value_of self.new).rules ≡ (value_of self.old).rules }
     {
         self.run(known);
     }
@@ -57,13 +60,17 @@ impl<'g> Roll<'g> {
     /// Takes what else is known now, where the own player made no tick.
     pub fn settle(&mut self, known: &Known)
         requires { known.now.ticks ≡ (value_of self.old).ticks }
-        ensures { GrowsTo (value_of self.old) (value_of self.new) known.now }
+        ensures grows { GrowsTo (value_of self.old) (value_of self.new) known.now }
+        ensures ticks { (value_of self.new).ticks ≡ known.now.ticks }
+        ensures game { (value_of self.new).rules ≡ (value_of self.old).rules }
     {
         self.run(known);
     }
 
     fn run(&mut self, known: &Known)
-        ensures { GrowsTo (value_of self.old) (value_of self.new) known.now }
+        ensures grows { GrowsTo (value_of self.old) (value_of self.new) known.now }
+        ensures ticks { (value_of self.new).ticks ≡ known.now.ticks }
+        ensures game { (value_of self.new).rules ≡ (value_of self.old).rules }
     {
         let confirmed = known.confirmed();
         run_confirmed(

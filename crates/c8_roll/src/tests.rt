@@ -142,7 +142,7 @@ fn agrees(game: &Game, roll: &Roll<'_>, machines: &[Machine], ticks: u32, held: 
 
 /// Plays some frames, with player 2's inputs so many frames late as a pattern says. Whether the roll
 /// agreed after each call, and then has all marks.
-fn plays(alloc: Global, game: &Game, frames: u32, lags: &[u32]) -> Result<bool, Fail> {
+fn plays(alloc: Global, game: &Game, frames: u32, ahead: u32, lags: &[u32]) -> Result<bool, Fail> {
     let machines = run_all(alloc, game, frames)?;
     let mut known = at_first(alloc, game)?;
     let mut roll = Roll::open(alloc, game, &known)?;
@@ -157,10 +157,15 @@ fn plays(alloc: Global, game: &Game, frames: u32, lags: &[u32]) -> Result<bool, 
             .copied()
             .nth(frame as usize % lags.len().max(1))
             .unwrap_or(0);
-        let due = (frame + 1).saturating_sub(lag);
+        let due = (frame + 1)
+            .saturating_add(ahead)
+            .saturating_sub(lag)
+            .min(frames);
         for next in held..due {
             let (_, two) = entered(next);
-            if !hear(&mut known, &mut roll, &two.to_be_bytes()) {
+            if !hear(&mut known, &mut roll, &two.to_be_bytes())
+                || !agrees(game, &roll, &machines, frame + 1, next + 1)
+            {
                 return Ok(false);
             }
         }
@@ -169,38 +174,49 @@ fn plays(alloc: Global, game: &Game, frames: u32, lags: &[u32]) -> Result<bool, 
             return Ok(false);
         }
     }
+    let again = Roll::open(alloc, game, &known)?;
+    Ok(
+        has_all_marks(&roll, &machines)
+            && has_all_marks(&again, &machines)
+            && agrees(game, &again, &machines, frames, held),
+    )
+}
+
+/// Whether the roll has the mark at each of the last sixteen multiples of 32, and none before.
+fn has_all_marks(roll: &Roll<'_>, machines: &[Machine]) -> bool {
     let (confirmed, _) = roll.base();
     let newest = confirmed / 32;
     for n in newest.saturating_sub(15)..newest + 1 {
         let Some(machine) = machines.get(32 * n as usize) else {
-            return Ok(false);
+            return false;
         };
         if roll.marks().get(32 * n) != Some(mark(machine)) {
-            return Ok(false);
+            return false;
         }
     }
-    Ok(newest < 16 || roll.marks().get(32 * (newest - 16)).is_none())
+    newest < 16 || roll.marks().get(32 * (newest - 16)).is_none()
 }
 
-/// Draws a random byte in every frame, and adds it where a key is down.
-const DRAWS: &str = "c0ff6104e19e1200720182041200";
+/// Draws a random byte in every frame, counts the frames with player 2's key down, and adds the byte
+/// where player 1's is.
+const DRAWS: &str = "c0ff6104e19e120a72016101e19e120082041200";
 
 /// Random bytes, a subroutine that stores registers and draws what it stored, both timers, and a
 /// count of the frames with a key down.
-const ALL: &str = "c30f22126104e19e120c7201f215f4071200a30af355d2358524f51800ee";
+const ALL: &str = "c30f22126104e19e120c7201f215f4071200a30af355a30ad2358524f51800ee";
 
 #[test]
 fn random_bytes_are_those_of_the_real_rows(rt: HostRuntime) -> Result<(), Fail> {
-    let game = read(rt.alloc(), 6, 100, DRAWS)?;
-    assert!(rt; plays(rt.alloc(), &game, 60, &[3])?);
-    assert!(rt; plays(rt.alloc(), &game, 60, &[0, 7, 2, 8, 1])?);
+    let game = read(rt.alloc(), 9, 100, DRAWS)?;
+    assert!(rt; plays(rt.alloc(), &game, 60, 0, &[3])?);
+    assert!(rt; plays(rt.alloc(), &game, 60, 4, &[0, 7, 2, 8, 1])?);
     Ok(())
 }
 
 #[test]
 fn a_long_match_is_that_of_the_real_rows(rt: HostRuntime) -> Result<(), Fail> {
     let game = read(rt.alloc(), 20, 1000, ALL)?;
-    assert!(rt; plays(rt.alloc(), &game, 600, &[0])?);
-    assert!(rt; plays(rt.alloc(), &game, 600, &[8, 1, 5, 0, 3, 8, 8, 2])?);
+    assert!(rt; plays(rt.alloc(), &game, 600, 0, &[0])?);
+    assert!(rt; plays(rt.alloc(), &game, 600, 0, &[7, 1, 5, 0, 3, 7, 7, 2])?);
     Ok(())
 }

@@ -6,8 +6,8 @@ use Rattle.c8_machine.specs.State.{state}
 use Rattle.c8_roll.proofs.RollLemmas.{rolled}
 use Rattle.c8_roll.proofs.roll.Roll.open.Goals as goal
 
-pub returns : goal.returns
-returns c =
+pub returns-clause-roll : goal.returns-clause-roll
+returns-clause-roll c =
     let rules = c.args.game.now in
     let k = c.args.known.now in
     let one : List ℕ → List FrameMark = λ mark. record { frame = 0; mark = mark } ∷ [] in

@@ -4,8 +4,8 @@ use Rattle.c8_roll.specs.Seen.{value_of}
 use Rattle.c8_roll.proofs.RollLemmas.{rolled, still_rolled}
 use Rattle.c8_roll.proofs.roll.Roll.run.Goals as goal
 
-pub returns : goal.returns
-returns c = λ before is still.
+pub returns-clause-grows : goal.returns-clause-grows
+returns-clause-grows c = λ before is still.
     let rules = c.args.self.now.game.now in
     let k = c.args.known.now in
     let old = still_rolled rules before k (value_of c.args.self.now) is still in
