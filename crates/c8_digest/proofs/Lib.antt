@@ -3,3 +3,4 @@ pub mod MarkLemmas
 pub mod StackLemmas
 pub mod StateLemmas
 pub mod LengthLemmas
+pub mod SameLemmas

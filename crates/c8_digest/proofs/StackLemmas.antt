@@ -12,7 +12,7 @@ zeros zero n = refl
 zeros (suc m) zero = refl
 zeros (suc m) (suc n) = zeros m n
 
-padded : (xs : List ℕ) (m n : ℕ) → slice_index (xs ++ replicate m 0) n ≡ slice_index xs n
+pub padded : (xs : List ℕ) (m n : ℕ) → slice_index (xs ++ replicate m 0) n ≡ slice_index xs n
 padded [] m n = zeros m n
 padded (x ∷ xs) m zero = refl
 padded (x ∷ xs) m (suc n) = padded xs m n

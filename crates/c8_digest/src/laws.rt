@@ -11,6 +11,12 @@ pub fn state_bytes_are_4419()
     ensures { (s : State) → IsState s → length (state_bytes s) ≡ state_length }
 {}
 
+/// Two states that machines can have and that have the same bytes are one state: so whatever state a
+/// reader makes of bytes, if it has these bytes, it is the state that they were made of.
+pub fn state_bytes_tell_the_state()
+    ensures { (s t : State) → IsState s → IsState t → state_bytes s ≡ state_bytes t → s ≡ t }
+{}
+
 /// Keeping sixteen after every put leaves the last sixteen of all that were put, the newest among
 /// them.
 pub fn marks_are_the_last_sixteen()

@@ -1,6 +1,6 @@
 //! A roll against machines that are run from the first frame on.
 use crate::Roll;
-use c8_digest::mark;
+use c8_digest::{MARK_LENGTH, mark};
 use c8_game::{Game, Keys, Player, Row};
 use c8_known::Known;
 use c8_machine::Machine;
@@ -114,9 +114,25 @@ fn run_all(alloc: Global, game: &Game, frames: u32) -> Result<Vec<Machine>, Fail
     Ok(machines)
 }
 
+/// The marks after 0, 32, 64 .. frames.
+fn marks_of(alloc: Global, machines: &[Machine]) -> Result<Vec<[u8; MARK_LENGTH]>, Fail> {
+    let mut marks = Vec::new(alloc);
+    for machine in machines.iter().step_by(32) {
+        marks.push(mark(machine))?;
+    }
+    Ok(marks)
+}
+
 /// Whether the roll has the machines that are run from the first frame on, where player 2's inputs
 /// of the first `held` frames are known and the last of them is the guess at all others.
-fn agrees(game: &Game, roll: &Roll<'_>, machines: &[Machine], ticks: u32, held: u32) -> bool {
+fn agrees(
+    game: &Game,
+    roll: &Roll<'_>,
+    machines: &[Machine],
+    marks: &[[u8; MARK_LENGTH]],
+    ticks: u32,
+    held: u32,
+) -> bool {
     let confirmed = ticks.min(held);
     let (count, base) = roll.base();
     let Some(sure) = machines.get(confirmed as usize) else {
@@ -132,24 +148,22 @@ fn agrees(game: &Game, roll: &Roll<'_>, machines: &[Machine], ticks: u32, held: 
         let two = if frame < held { real } else { last };
         shown = gone_on(game, &shown, one, two);
     }
-    let newest = confirmed / 32 * 32;
-    let marked = match (roll.marks().newest(), machines.get(newest as usize)) {
-        (Some(kept), Some(machine)) => kept.frame == newest && kept.mark == mark(machine),
-        _ => false,
-    };
-    count == confirmed && base == sure && *roll.shown() == shown && marked
+    count == confirmed && base == sure && *roll.shown() == shown && has_all_marks(roll, marks)
 }
 
 /// Plays some frames, with player 2's inputs so many frames late as a pattern says. Whether the roll
 /// agreed after each call, and then has all marks.
 fn plays(alloc: Global, game: &Game, frames: u32, ahead: u32, lags: &[u32]) -> Result<bool, Fail> {
     let machines = run_all(alloc, game, frames)?;
+    let marks = marks_of(alloc, &machines)?;
     let mut known = at_first(alloc, game)?;
     let mut roll = Roll::open(alloc, game, &known)?;
     let mut held = 0;
     for frame in 0..frames {
         let (one, _) = entered(frame);
-        if !tick(&mut known, &mut roll, one) || !agrees(game, &roll, &machines, frame + 1, held) {
+        if !tick(&mut known, &mut roll, one)
+            || !agrees(game, &roll, &machines, &marks, frame + 1, held)
+        {
             return Ok(false);
         }
         let lag = lags
@@ -164,33 +178,27 @@ fn plays(alloc: Global, game: &Game, frames: u32, ahead: u32, lags: &[u32]) -> R
         for next in held..due {
             let (_, two) = entered(next);
             if !hear(&mut known, &mut roll, &two.to_be_bytes())
-                || !agrees(game, &roll, &machines, frame + 1, next + 1)
+                || !agrees(game, &roll, &machines, &marks, frame + 1, next + 1)
             {
                 return Ok(false);
             }
         }
         held = held.max(due);
-        if !agrees(game, &roll, &machines, frame + 1, held) {
+        if !agrees(game, &roll, &machines, &marks, frame + 1, held) {
             return Ok(false);
         }
     }
     let again = Roll::open(alloc, game, &known)?;
-    Ok(
-        has_all_marks(&roll, &machines)
-            && has_all_marks(&again, &machines)
-            && agrees(game, &again, &machines, frames, held),
-    )
+    Ok(agrees(game, &again, &machines, &marks, frames, held))
 }
 
 /// Whether the roll has the mark at each of the last sixteen multiples of 32, and none before.
-fn has_all_marks(roll: &Roll<'_>, machines: &[Machine]) -> bool {
+fn has_all_marks(roll: &Roll<'_>, marks: &[[u8; MARK_LENGTH]]) -> bool {
     let (confirmed, _) = roll.base();
     let newest = confirmed / 32;
     for n in newest.saturating_sub(15)..newest + 1 {
-        let Some(machine) = machines.get(32 * n as usize) else {
-            return false;
-        };
-        if roll.marks().get(32 * n) != Some(mark(machine)) {
+        let kept = roll.marks().get(32 * n);
+        if kept.is_none() || kept != marks.get(n as usize).copied() {
             return false;
         }
     }
