@@ -480,22 +480,30 @@ fn a_dropped_player_adds_epochs_alone(rt: HostRuntime) -> Result<(), Fail> {
     Ok(())
 }
 
-/// The journal of player 1 in a match in which player 3 is cut after 70 inputs.
-fn a_match(alloc: Global, game: &Game) -> Result<Vec<u8>, Fail> {
+/// The journal of player 1 or 2 in a match in which player 3 is cut after 71 inputs. Player 2 has
+/// been dropped at the end.
+fn a_match(alloc: Global, game: &Game, me: u8) -> Result<Vec<u8>, Fail> {
+    let other = if me == 1 { 2 } else { 1 };
     let mut image = Vec::new(alloc);
-    add(&mut image, head(1, game, ROOM))?;
+    add(&mut image, head(me, game, ROOM))?;
     for frame in 1..70u32 {
         let word = frame as u16;
-        add(&mut image, spelled(own(1, frame, &[word])))?;
-        add(&mut image, spelled(got(2, frame, &[word + 1000])))?;
+        add(&mut image, spelled(own(me, frame, &[word])))?;
+        add(&mut image, spelled(got(other, frame, &[word + 1000])))?;
         add(&mut image, spelled(got(3, frame, &[word + 2000])))?;
     }
-    add(&mut image, spelled(epoch(1, 2)))?;
-    add(&mut image, spelled(leave(3)))?;
-    add(&mut image, spelled(own(1, 70, &[70])))?;
+    add(&mut image, spelled(epoch(me, 2)))?;
+    add(
+        &mut image,
+        spelled(if me == 1 { leave(3) } else { freeze(3) }),
+    )?;
+    add(&mut image, spelled(own(me, 70, &[70])))?;
     add(&mut image, spelled(cut(3, 71, 70, &[2070])))?;
-    add(&mut image, spelled(own(1, 71, &[71])))?;
-    add(&mut image, spelled(got(2, 70, &[1070, 1071])))?;
+    add(&mut image, spelled(own(me, 71, &[71])))?;
+    add(&mut image, spelled(got(other, 70, &[1070, 1071])))?;
+    if me == 2 {
+        add(&mut image, spelled(leave(2)))?;
+    }
     Ok(image)
 }
 
@@ -503,17 +511,41 @@ fn a_match(alloc: Global, game: &Game) -> Result<Vec<u8>, Fail> {
 fn a_match_is_known_again(rt: HostRuntime) -> Result<(), Fail> {
     let alloc = rt.alloc();
     let game = Game::read(alloc, GAME)?;
-    let image = a_match(alloc, &game)?;
-    let Some((answer, known)) = replayed(alloc, &game, 1, &image)? else {
-        return Err(Fail::from("no such player"));
-    };
-    assert_eq!(rt; answer, Ok(2));
-    assert_eq!(rt; known.ticks(), 71);
-    assert_eq!(rt; known.confirmed(), 71);
-    let [one, two, three] = [1, 2, 3];
-    assert!(rt; holds(&known, one, 0, 72, None, false));
-    assert!(rt; holds(&known, two, 1000, 72, None, false));
-    assert!(rt; holds(&known, three, 2000, 71, Some(71), true));
+    for me in [1, 2] {
+        let image = a_match(alloc, &game, me)?;
+        let Some((answer, known)) = replayed(alloc, &game, me, &image)? else {
+            return Err(Fail::from("no such player"));
+        };
+        assert_eq!(rt; answer, Ok(2));
+        assert_eq!(rt; known.ticks(), 71);
+        assert_eq!(rt; known.confirmed(), 71);
+        let marks = if me == 1 {
+            (true, false)
+        } else {
+            (false, true)
+        };
+        assert!(rt;
+            holds(
+                &known,
+                1,
+                if me == 1 { 0 } else { 1000 },
+                72,
+                None,
+                (false, false)
+            )
+        );
+        assert!(rt;
+            holds(
+                &known,
+                2,
+                if me == 2 { 0 } else { 1000 },
+                72,
+                None,
+                (me == 2, false)
+            )
+        );
+        assert!(rt; holds(&known, 3, 2000, 71, Some(71), marks));
+    }
     Ok(())
 }
 
@@ -525,7 +557,7 @@ fn holds(
     first: u16,
     count: u32,
     cut: Option<u32>,
-    leaving: bool,
+    marks: (bool, bool),
 ) -> bool {
     let Some(player) = Player::new(player) else {
         return false;
@@ -538,7 +570,7 @@ fn holds(
             return false;
         }
     }
-    known.cut_of(player) == cut && known.leaving(player) == leaving && !known.has_freeze(player)
+    known.cut_of(player) == cut && (known.leaving(player), known.has_freeze(player)) == marks
 }
 
 /// A log that keeps the match.
@@ -548,7 +580,7 @@ fn logged(alloc: Global, game: &Game) -> Result<Log<MemDisk>, Fail> {
         Ok(log) => log,
         Err((error, _)) => return Err(Fail::from(error)),
     };
-    for body in a_match(alloc, game)?.chunks(144) {
+    for body in a_match(alloc, game, 1)?.chunks(144) {
         match body.last_chunk() {
             Some(body) => log.append(body)?,
             None => return Err(Fail::from("no whole slot")),
