@@ -1,14 +1,14 @@
 -- Checked, not believed: how many frames are confirmed is a greatest number; what is settled and confirmed stays.
-use Rattle.std.proofs.Common.{◌≡◌, ◌≢◌, ℕ, zero, suc, ◌+◌, ◌-◌, ◌<◌, ◌≤◌, ◌⊎◌, List, [], ◌∷◌, ◌++◌, length, map, Bool, true, false, cond, Option, Some, None, refl, sym, ap, subst, ◌∙◌, inl, inr, arith, slice_index_or}
-use Rattle.std.specs.List.{slice_get, range_with_len, list_all, AllPass}
+use Rattle.std.proofs.Common.{◌≡◌, ℕ, zero, suc, ◌+◌, ◌-◌, ◌<◌, ◌≤◌, ◌⊎◌, List, [], ◌∷◌, ◌++◌, length, map, Bool, true, false, cond, Option, Some, None, refl, sym, ap, subst, ◌∙◌, inl, inr, arith, slice_index_or}
+use Rattle.std.specs.List.{slice_get, range_with_len, AllPass}
 use Rattle.std.proofs.lemmas.Bool.{cases_lt, both_ways}
 use Rattle.std.proofs.lemmas.List.{map-append, get_or_past}
 use Rattle.std.proofs.lemmas.List.FromFn.{length-range_with_len, get_or-range_with_len}
 use Rattle.std.proofs.lemmas.List.Sums.{AllPass-from_list_all, list_all-from_AllPass}
-use Rattle.std.proofs.lemmas.Option.{slice_get-get_or, slice_get_past, slice_get_within}
+use Rattle.std.proofs.lemmas.Option.{slice_get-get_or}
 use Rattle.c8_game.specs.declared.row.Row.{Row}
 use Rattle.c8_known.specs.Known.{PlayerValue, KnownValue, nobody, player_in, Plays}
-use Rattle.c8_known.specs.Confirmed.{past_cut, unless_held, input_of, has_value, is_settled_of, is_settled, are_settled_below, greatest, confirmed, AreSettledBelow, IsConfirmed, or_empty, row, confirmed_rows, last_held, or_last, best_input, best_row}
+use Rattle.c8_known.specs.Confirmed.{unless_held, input_of, has_value, is_settled_of, is_settled, are_settled_below, greatest, confirmed, AreSettledBelow, IsConfirmed, or_empty, row, confirmed_rows, best_input, best_row}
 use Rattle.c8_known.specs.Growth.{Begins, IsStillKnownOf, IsStillKnown}
 
 -- ---- the greatest number that passes a test
@@ -86,7 +86,7 @@ no_value : (o : Option ℕ) → (o ≡ None) ⊎ ((w : ℕ) × (o ≡ Some w))
 no_value None = inl refl
 no_value (Some w) = inr (w, refl)
 
-some_value : (o : Option ℕ) → has_value o ≡ true → (w : ℕ) × (o ≡ Some w)
+pub some_value : (o : Option ℕ) → has_value o ≡ true → (w : ℕ) × (o ≡ Some w)
 some_value (Some w) has = (w, refl)
 some_value None has = absurd cc
 
@@ -138,7 +138,7 @@ confirmed_rises old new still =
 
 -- ---- rows
 
-nobody_past : (k : KnownValue) (q : ℕ) → length k.players < q → player_in k q ≡ nobody
+pub nobody_past : (k : KnownValue) (q : ℕ) → length k.players < q → player_in k q ≡ nobody
 nobody_past k q past = get_or_past k.players (q - 1) nobody (omega (arith, past))
 
 set_stays : (old new : KnownValue) → IsStillKnown old new → (frame q : ℕ) → frame < confirmed old → 1 ≤ q
@@ -152,7 +152,7 @@ set_stays old new still frame q below from =
           ap or_empty (has ∙ sym had.1)
     ]
 
-same_row : (a b : ℕ → ℕ) → a 1 ≡ b 1 → a 2 ≡ b 2 → a 3 ≡ b 3 → a 4 ≡ b 4
+pub same_row : (a b : ℕ → ℕ) → a 1 ≡ b 1 → a 2 ≡ b 2 → a 3 ≡ b 3 → a 4 ≡ b 4
     → ◌≡◌ {A = Row} (record { sets = map (λ q. record { 0 = a q }) (1 ∷ 2 ∷ 3 ∷ 4 ∷ []) }) (record { sets = map (λ q. record { 0 = b q }) (1 ∷ 2 ∷ 3 ∷ 4 ∷ []) })
 same_row a b one two three four = λ i. record { sets = (record { 0 = one i }) ∷ (record { 0 = two i }) ∷ (record { 0 = three i }) ∷ (record { 0 = four i }) ∷ [] }
 

@@ -1,12 +1,12 @@
 -- Checked, not believed: a run that is not refused stands in the list, once the fresh part of it is taken.
-use Rattle.std.proofs.Common.{◌≡◌, ◌≢◌, ℕ, zero, suc, ◌+◌, ◌-◌, ◌<◌, ◌≤◌, ◌⊎◌, ◌||◌, List, [], ◌∷◌, ◌++◌, length, take, drop, Bool, true, false, not, cond, Option, Some, None, refl, sym, ap, subst, ◌∙◌, inl, inr, arith}
-use Rattle.std.specs.Prelude.{◌==◌, ◌&&◌, nat_lt, if◌then◌else◌}
+use Rattle.std.proofs.Common.{◌≡◌, ℕ, zero, suc, ◌+◌, ◌-◌, ◌≤◌, ◌||◌, List, [], ◌∷◌, ◌++◌, length, take, drop, Bool, true, false, not, cond, Option, Some, None, refl, ap, inl, inr, arith}
+use Rattle.std.specs.Prelude.{◌==◌, nat_lt}
 use Rattle.std.proofs.Math.Seq.{take-length}
-use Rattle.std.proofs.lemmas.Bool.{cases_lt, cases_eq, both_ways, ne_eqb, ltb-false}
+use Rattle.std.proofs.lemmas.Bool.{cases_eq, both_ways, ne_eqb, ltb-false}
 use Rattle.std.proofs.lemmas.List.{length-drop}
 use Rattle.c8_known.specs.declared.error.KnownError.{KnownError}
 use Rattle.c8_known.specs.declared.error.KnownError.TheVariants as errors
-use Rattle.c8_known.specs.Known.{PlayerValue, KnownValue, player_in, count_in, is_frozen_in}
+use Rattle.c8_known.specs.Known.{KnownValue, player_in, count_in}
 use Rattle.c8_known.specs.Fresh.{differ, is_from_leaver, misfit, refusal, fresh_words}
 
 drop_left : (xs ys : List ℕ) (n : ℕ) → n ≤ length xs → drop n (xs ++ ys) ≡ drop n xs ++ ys

@@ -1,5 +1,5 @@
 -- What a peer knew and still knows.
-use Rattle.std.specs.Prelude.{ℕ, ◌≡◌, ◌≤◌, List, ◌++◌, length, true, Option, Some}
+use Rattle.std.specs.Prelude.{ℕ, ◌≡◌, ◌≤◌, List, ◌++◌, length, true, Some}
 use Rattle.c8_known.specs.Known.{PlayerValue, KnownValue, player_in}
 
 -- one list begins another

@@ -1,9 +1,9 @@
 -- Checked, not believed: what is known stays sound with each record, and stays known.
-use Rattle.std.proofs.Common.{◌≡◌, ◌≢◌, ℕ, zero, suc, ◌+◌, ◌-◌, ◌<◌, ◌≤◌, ◌⊎◌, ◌||◌, List, [], ◌∷◌, ◌++◌, length, Bool, true, false, Option, Some, None, refl, sym, ap, subst, ◌∙◌, inl, inr, append_assoc, length-append, arith, slice_set, slice_index_or}
+use Rattle.std.proofs.Common.{◌≡◌, ◌≢◌, ℕ, zero, suc, ◌+◌, ◌-◌, ◌<◌, ◌≤◌, ◌||◌, List, [], ◌∷◌, ◌++◌, length, Bool, true, false, Option, Some, None, refl, sym, ap, ◌∙◌, inl, inr, append_assoc, length-append, arith, slice_set, slice_index_or}
 use Rattle.std.proofs.lemmas.Bool.{cases_eq}
 use Rattle.std.proofs.lemmas.List.{append-nil, length-set, get_or-set_same, get_or-set_other}
-use Rattle.c8_known.specs.Journal.{Record, Head, Epoch, Own, Got, Freeze, Leave, Cut}
-use Rattle.c8_known.specs.Known.{PlayerValue, KnownValue, nobody, player_in, count_in, is_frozen_in, with_player, with_words, cut_at, with_cut, with_record, Plays, EndsAtCut, IsKnown}
+use Rattle.c8_known.specs.Journal.{Own, Got, Freeze, Leave, Cut}
+use Rattle.c8_known.specs.Known.{PlayerValue, KnownValue, nobody, player_in, count_in, is_frozen_in, with_words, cut_at, with_cut, with_record, Plays, EndsAtCut, IsKnown}
 use Rattle.c8_known.specs.Growth.{Begins, IsStillKnownOf, IsStillKnown}
 
 -- ---- one player is changed, and the number of ticks

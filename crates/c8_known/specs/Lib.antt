@@ -10,3 +10,5 @@ pub mod OneMore
 pub mod ConfirmedLaws
 pub mod FreshLaws
 pub mod StartLaws
+pub mod BeginsLaws
+pub mod JournalLaws

@@ -1,5 +1,5 @@
 -- Checked, not believed: what is known by a journal with one record more.
-use Rattle.std.proofs.Common.{◌≡◌, ◌≢◌, ℕ, zero, suc, ◌+◌, ◌-◌, ◌<◌, ◌≤◌, ◌||◌, List, [], ◌∷◌, ◌++◌, length, map, Bool, true, false, Option, Some, None, refl, sym, ap, subst, ◌∙◌, append_assoc, arith, slice_set, slice_index_or}
+use Rattle.std.proofs.Common.{◌≡◌, ◌≢◌, ℕ, zero, suc, ◌+◌, ◌-◌, ◌<◌, ◌≤◌, ◌||◌, List, [], ◌∷◌, ◌++◌, map, Bool, true, false, Option, refl, sym, ap, ◌∙◌, append_assoc, arith, slice_set}
 use Rattle.std.specs.Prelude.{◌==◌}
 use Rattle.std.specs.List.{range_with_len, slice_get, flat_map}
 use Rattle.std.proofs.Math.Bool.{or-false}
@@ -8,11 +8,11 @@ use Rattle.std.proofs.lemmas.Grind.{flat_map-append}
 use Rattle.std.proofs.lemmas.List.{append-nil}
 use Rattle.std.proofs.lemmas.List.Folds.{list_any-append}
 use Rattle.std.proofs.lemmas.List.Sums.{sum_by-append}
-use Rattle.std.proofs.lemmas.List.FromFn.{get_or-map-range_with_len, length-range_with_len}
+use Rattle.std.proofs.lemmas.List.FromFn.{get_or-map-range_with_len}
 use Rattle.c8_game.specs.Rules.{Rules}
 use Rattle.c8_known.specs.Journal as journals
 use Rattle.c8_known.specs.Journal.{Record, Head, Epoch, Own, Got, Freeze, Leave, Cut, words_of, is_own, freezes, lets_go, cuts_of, player_of}
-use Rattle.c8_known.specs.Known.{PlayerValue, KnownValue, nobody, player_in, said_of, known_of, with_player, with_words, cut_at, with_cut, with_record, NamesPlayer}
+use Rattle.c8_known.specs.Known.{PlayerValue, KnownValue, nobody, player_in, said_of, known_of, with_words, cut_at, with_cut, with_record, NamesPlayer}
 
 -- ---- one player's part
 

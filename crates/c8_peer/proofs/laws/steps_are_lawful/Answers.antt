@@ -1,0 +1,17 @@
+use Rattle.c8_peer.specs.AllowedLaws.{keeps_allowed}
+use Rattle.c8_peer.specs.MemoryLaws.{memory_kept}
+use Rattle.c8_peer.specs.SayingLaws.{said_true}
+use Rattle.c8_peer.specs.SpellingLaws.{said_spelled}
+use Rattle.c8_peer.proofs.laws.steps_are_lawful.Goals as goal
+
+pub returns-clause-keeps : goal.returns-clause-keeps
+returns-clause-keeps c = keeps_allowed
+
+pub returns-clause-memory : goal.returns-clause-memory
+returns-clause-memory c = memory_kept
+
+pub returns-clause-says : goal.returns-clause-says
+returns-clause-says c = said_true
+
+pub returns-clause-spelled : goal.returns-clause-spelled
+returns-clause-spelled c = said_spelled

@@ -1,0 +1,5 @@
+use Rattle.c8_peer.specs.TruthLaws.{truth_stays}
+use Rattle.c8_peer.proofs.laws.what_is_true_stays.Goals as goal
+
+pub returns : goal.returns
+returns c = truth_stays

@@ -1,0 +1,509 @@
+-- Checked, not believed: what a call of an open peer records is allowed after the records before it.
+use Rattle.std.proofs.Common.{◌≡◌, ◌≢◌, ℕ, zero, suc, ◌+◌, ◌-◌, ◌^◌, ◌<◌, ◌≤◌, List, [], ◌∷◌, length, drop, Bool, true, false, cond, Option, Some, None, refl, sym, ap, subst, ◌∙◌, inl, inr, arith}
+use Rattle.std.specs.Prelude.{◌==◌, ◌||◌, ◌&&◌, not, nat_le, nat_lt, is_some, Result, Ok, Err}
+use Rattle.std.proofs.lemmas.Bool.{cases_lt, cases_eq, both_ways, not-false, ltb-false, leb-true, leb-false, eqb-true, eqb-false, eq-eqb, and_parts, or_parts}
+use Rattle.std.proofs.lemmas.List.{get_or_past, length-drop, get_or-drop}
+use Rattle.c8_game.specs.Rules.{Rules, AreInRange}
+use Rattle.c8_wire.specs.declared.error.WireError.{WireError}
+use Rattle.c8_wire.specs.Packet.{HeadValue, DataMessage, FreezeMessage, LeaverMessage, Message, Packet, AreWords, IsDataMessage, IsFreezeMessage, IsLeaverMessage, IsMessage, Fits, IsPacket}
+use Rattle.c8_wire.specs.Packet as packets
+use Rattle.c8_wire.specs.Sizes.{longest_run}
+use Rattle.c8_wire.specs.WordLaws.{length-spelled_words}
+use Rattle.c8_hand.specs.declared.error.HandError.{HandError}
+use Rattle.c8_hand.specs.Links as links
+use Rattle.c8_hand.specs.LinkLaws.{is_for_me}
+use Rattle.c8_known.specs.declared.error.KnownError.{KnownError}
+use Rattle.c8_known.specs.declared.error.KnownError.TheVariants as errors
+use Rattle.c8_known.specs.Journal.{Record, Own, Got, Freeze, Leave, Cut, player_of, epochs, had_epoch}
+use Rattle.c8_known.specs.Known.{PlayerValue, KnownValue, nobody, player_in, count_in, is_frozen_in, is_player, known_of, Plays, IsKnown}
+use Rattle.c8_known.specs.Confirmed.{confirmed}
+use Rattle.c8_known.specs.Fresh.{is_from_leaver, misfit, fresh_words}
+use Rattle.c8_round.specs.Round.{is_ready, with_report, with_have}
+use Rattle.c8_window.specs.Window.{acked_more}
+use Rattle.c8_record.specs.Body.{HasSpelling}
+use Rattle.c8_record.specs.Allowed.{Past, past_of, MayFollow, IsAllowedAfter, IsAllowed, IsJournal, IsOrderlyOf, IsOrderly}
+use Rattle.c8_record.specs.JournalLaws.{journal_known, of_game}
+use Rattle.c8_record.specs.LeaverLaws.{journal_orderly}
+use Rattle.c8_peer.specs.State.{Memory, Reply, Outcome, answered, recorded, Saying, Call, Tick, Deliver, Say, Decide}
+use Rattle.c8_peer.specs.State as calls
+use Rattle.c8_peer.specs.Calls.{tick, leave, decide}
+use Rattle.c8_peer.specs.Saying.{say, is_not_mine, lacks_record, lacks_link}
+use Rattle.c8_peer.specs.Hearing.{got, is_desync, unless_misfit, unless_hand, hear_data, hear_welcome, hear_freeze, hear_frozen, cut_or_got, hear_end, hear_cut, hear_message, hear_told, deliver}
+use Rattle.c8_peer.specs.Steps.{outcome}
+use Rattle.c8_peer.specs.Lawful.{IsMemory, IsCall}
+
+-- ---- what the records before say
+
+record IsPast (past : Past) : Type 0 where
+  known : IsKnown past.known
+  orderly : IsOrderly past.known
+  some : past.count ≢ 0
+
+-- no LEAVE of the own player stands, or it is player one
+abbrev Stays : KnownValue → Type 0
+Stays k = k.me ≢ 1 → (player_in k k.me).leaving ≡ false
+
+-- ---- tests
+
+-- a test whose refusal records nothing has failed
+failed : (test : Bool) (m : Memory) (reply : Reply) (others : Outcome) (r : Record) → (cond test (answered m reply) others).keeps ≡ Some r → (test ≡ false) × (others.keeps ≡ Some r)
+failed true m reply others r is = absurd cc
+failed false m reply others r is = (refl, is)
+
+either_way : (test : Bool) (one other : Outcome) (r : Record) (P : Type 0) → (cond test one other).keeps ≡ Some r
+    → (test ≡ true → one.keeps ≡ Some r → P) → (test ≡ false → other.keeps ≡ Some r → P) → P
+either_way true one other r P is f g = f refl is
+either_way false one other r P is f g = g refl is
+
+past_misfit : (m : Memory) (o : Option KnownError) (others : Outcome) (r : Record) → (unless_misfit m o others).keeps ≡ Some r → (o ≡ None) × (others.keeps ≡ Some r)
+past_misfit m None others r is = (refl, is)
+past_misfit m (Some error) others r is = absurd cc
+
+past_hand : (m : Memory) (o : Option HandError) (others : Outcome) (r : Record) → (unless_hand m o others).keeps ≡ Some r → (o ≡ None) × (others.keeps ≡ Some r)
+past_hand m None others r is = (refl, is)
+past_hand m (Some error) others r is = absurd cc
+
+-- what is recorded is the record
+the_record : (rules : Rules) (room : ℕ) (past : Past) (r s : Record) → Some r ≡ Some s → IsAllowedAfter rules room past r → IsAllowedAfter rules room past s
+the_record rules room past r s is may = let same : r ≡ s = cc in subst (λ (one : Record). IsAllowedAfter rules room past one) same may
+
+plays_by_test : (k : KnownValue) (q : ℕ) → not (is_player k q) ≡ false → Plays k q
+plays_by_test k q is =
+    let both = and_parts (nat_le 1 q) (nat_le q (length k.players)) (not-false (is_player k q) is) in
+    record { from_one = leb-true 1 q both.0; in_game = leb-true q (length k.players) both.1 }
+
+uncut_by_test : (o : Option ℕ) → is_some o ≡ false → o ≡ None
+uncut_by_test None is = refl
+uncut_by_test (Some n) is = absurd cc
+
+is_one : (n : ℕ) → not (n == 1) ≡ false → n ≡ 1
+is_one n is = eqb-true n 1 (not-false (n == 1) is)
+
+-- ---- a record is allowed
+
+allowed : (rules : Rules) (room : ℕ) (past : Past) (r : Record) → IsPast past → Stays past.known → Plays past.known (player_of r) → HasSpelling r → MayFollow rules room past r → IsAllowedAfter rules room past r
+allowed rules room past r is stays plays spelled may = record {
+  spelled = spelled;
+  plays = plays;
+  may = may;
+  begins = λ none. absurd (is.some none);
+  dropped = λ other leaving. absurd (both_ways (player_in past.known past.known.me).leaving (stays other) leaving);
+}
+
+-- players and counts fit their places
+to_four : (k : KnownValue) (q : ℕ) → IsKnown k → Plays k q → q ≤ 4
+to_four k q known plays = omega (arith, known.at_most_four, plays.in_game)
+
+count_fits : (k : KnownValue) (q : ℕ) → IsKnown k → count_in k q < 2 ^ 32
+count_fits k q known = omega (arith, known.within q, known.limit)
+
+-- ---- a tick
+
+tick_allowed : (rules : Rules) (room : ℕ) (past : Past) (m : Memory) (keys : ℕ) (r : Record) → IsPast past → keys < 2 ^ 16
+    → (tick rules past.known m keys).keeps ≡ Some r → IsAllowedAfter rules room past r
+unfolding tick
+tick_allowed rules room past m keys r is fits kept =
+    let k : KnownValue = past.known in
+    let new : Record = Own k.me (count_in k k.me) keys in
+    let stays = failed (player_in k k.me).leaving m _ _ r kept in
+    let frames = failed (nat_le rules.frames k.ticks) m _ _ r stays.1 in
+    let window = failed (nat_le (confirmed k + rules.window) k.ticks) m _ _ r frames.1 in
+    let spelled : HasSpelling new = record {
+      from_one = is.known.me.from_one;
+      to_four = to_four k k.me is.known is.known.me;
+      number = omega arith;
+      start = count_fits k k.me is.known;
+      short = omega arith;
+      parts = fits;
+    } in
+    the_record rules room past new r window.1 (allowed rules room past new is (λ other. stays.0) is.known.me spelled (record {
+      own = refl;
+      next = refl;
+      frames = leb-false rules.frames k.ticks frames.0;
+      window = leb-false (confirmed k + rules.window) k.ticks window.0;
+      stays = stays.0;
+    }))
+
+-- ---- new inputs
+
+past_none : (test : Bool) (x : KnownError) (others : Option KnownError) → cond test (Some x) others ≡ None → test ≡ false
+past_none true x others e = absurd cc
+past_none false x others e = refl
+
+-- the new part of a run that can be held
+record IsNew (k : KnownValue) (q : ℕ) (words : List ℕ) : Type 0 where
+  within : count_in k q + length words ≤ k.limit
+  short : length words ≤ longest_run
+  fits : AreWords words
+
+words_drop : (n : ℕ) (words : List ℕ) → AreWords words → AreWords (drop n words)
+words_drop n words fits i = rw get_or-drop (fits (n + i))
+
+new_words : (k : KnownValue) (q start : ℕ) (words : List ℕ) → IsKnown k → misfit k q start words ≡ None → length words ≤ longest_run → AreWords words → IsNew k q (fresh_words k q start words)
+new_words k q start words known none short fits =
+    let n : ℕ = count_in k q - start in
+    let many : length (drop n words) ≡ length words - n = length-drop n words in
+    let room = ltb-false k.limit (start + length words) (past_none (nat_lt k.limit (start + length words)) errors.Full _ none) in
+    record {
+      within = omega (arith, many, room, known.within q);
+      short = omega (arith, many, short);
+      fits = words_drop n words fits;
+    }
+
+got_allowed : (rules : Rules) (room : ℕ) (past : Past) (m : Memory) (q : ℕ) (words : List ℕ) (r : Record) → IsPast past → Stays past.known
+    → Plays past.known q → q ≢ past.known.me → (player_in past.known q).cut ≡ None → IsNew past.known q words
+    → (got past.known m q words).keeps ≡ Some r → IsAllowedAfter rules room past r
+got_allowed rules room past m q [] r is stays plays other uncut new kept = absurd cc
+got_allowed rules room past m q (word ∷ words) r is stays plays other uncut new kept =
+    let k : KnownValue = past.known in
+    let got_these : Record = Got q (count_in k q) (word ∷ words) in
+    let spelled : HasSpelling got_these = record {
+      from_one = plays.from_one;
+      to_four = to_four k q is.known plays;
+      number = omega arith;
+      start = count_fits k q is.known;
+      short = omega (arith, length-spelled_words (word ∷ words), new.short);
+      parts = (omega arith, new.fits);
+    } in
+    the_record rules room past got_these r kept (allowed rules room past got_these is stays plays spelled (record { other = other; next = refl; within = new.within; uncut = uncut }))
+
+-- ---- what player one does by itself
+
+leave_allowed : (rules : Rules) (room : ℕ) (past : Past) (m : Memory) (leaver : ℕ) (r : Record) → IsPast past
+    → (leave past.known m leaver).keeps ≡ Some r → IsAllowedAfter rules room past r
+unfolding leave
+leave_allowed rules room past m leaver r is kept =
+    let k : KnownValue = past.known in
+    let new : Record = Leave leaver in
+    let chair = failed (not (k.me == 1)) m _ _ r kept in
+    let myself = failed (leaver == k.me) m _ _ r chair.1 in
+    let playing = failed (not (is_player k leaver)) m _ _ r myself.1 in
+    let already = failed (player_in k leaver).leaving m _ _ r playing.1 in
+    let one : k.me ≡ 1 = is_one k.me chair.0 in
+    let plays : Plays k leaver = plays_by_test k leaver playing.0 in
+    let spelled : HasSpelling new = record {
+      from_one = plays.from_one;
+      to_four = to_four k leaver is.known plays;
+      number = omega arith;
+      start = omega arith;
+      short = omega arith;
+      parts = tt;
+    } in
+    the_record rules room past new r already.1 (allowed rules room past new is (λ other. absurd (other one)) plays spelled (record {
+      not_one = λ same. eqb-false leaver k.me myself.0 (same ∙ sym one);
+      elsewhere = λ other. absurd (other one);
+      once = already.0;
+    }))
+
+-- who leaves is a player of the game: of others nothing is known
+leaver_place : (k : KnownValue) (q : ℕ) → (player_in k q).leaving ≡ true → q - 1 < length k.players
+leaver_place k q leaving =
+    elim (cases_lt (q - 1) (length k.players)) [
+      | inl within ↦ within
+      | inr past ↦
+          let none : player_in k q ≡ nobody = get_or_past k.players (q - 1) nobody past in
+          absurd (both_ways true (sym leaving ∙ ap (λ (p : PlayerValue). p.leaving) none) refl)
+    ]
+
+-- and not player one, for whom player 0 is taken here
+leaver_from_two : (k : KnownValue) (q : ℕ) → IsOrderly k → (player_in k q).leaving ≡ true → 2 ≤ q
+leaver_from_two k zero orderly leaving = absurd (both_ways (player_in k 1).leaving ((orderly 1 (omega arith)).one_stays refl).1 leaving)
+leaver_from_two k (suc zero) orderly leaving = absurd (both_ways (player_in k 1).leaving ((orderly 1 (omega arith)).one_stays refl).1 leaving)
+leaver_from_two k (suc (suc q)) orderly leaving = omega arith
+
+decide_allowed : (rules : Rules) (room : ℕ) (past : Past) (m : Memory) (leaver : ℕ) (r : Record) → IsPast past
+    → (decide past.known m leaver).keeps ≡ Some r → IsAllowedAfter rules room past r
+unfolding decide
+decide_allowed rules room past m leaver r is kept =
+    let k : KnownValue = past.known in
+    let count : ℕ = count_in k leaver in
+    let new : Record = Cut leaver count count [] in
+    let chair = failed (not (k.me == 1) || not (player_in k leaver).leaving) m _ _ r kept in
+    let already = failed (is_some (player_in k leaver).cut) m _ _ r chair.1 in
+    let ready = failed (not (is_ready m.chair k leaver)) m _ _ r already.1 in
+    let tests = or_parts (not (k.me == 1)) (not (player_in k leaver).leaving) chair.0 in
+    let one : k.me ≡ 1 = is_one k.me tests.0 in
+    let leaving : (player_in k leaver).leaving ≡ true = not-false (player_in k leaver).leaving tests.1 in
+    let from_two : 2 ≤ leaver = leaver_from_two k leaver is.orderly leaving in
+    let plays : Plays k leaver = record { from_one = omega (arith, from_two); in_game = omega (arith, leaver_place k leaver leaving) } in
+    let spelled : HasSpelling new = record {
+      from_one = plays.from_one;
+      to_four = to_four k leaver is.known plays;
+      number = count_fits k leaver is.known;
+      start = count_fits k leaver is.known;
+      short = omega arith;
+      parts = λ i. omega arith;
+    } in
+    the_record rules room past new r ready.1 (allowed rules room past new is (λ other. absurd (other one)) plays spelled (record {
+      other = λ same. omega (arith, same, one, from_two);
+      not_one = λ same. omega (arith, same, from_two);
+      next = refl;
+      ends = omega arith;
+      within = is.known.within leaver;
+      at_one = λ at. leaving;
+      elsewhere = λ other. absurd (other one);
+      once = uncut_by_test (player_in k leaver).cut already.0;
+    }))
+
+-- ---- inputs of a player from itself
+
+-- of whom neither a FREEZE nor a LEAVE stands, the list is not cut
+no_number : (o : Option ℕ) → ((K : ℕ) → o ≡ Some K → ⊥) → o ≡ None
+no_number None none = refl
+no_number (Some K) none = absurd (none K refl)
+
+uncut : (me q : ℕ) (p : PlayerValue) → IsOrderlyOf me q p → p.frozen ≡ false → p.leaving ≡ false → p.cut ≡ None
+uncut me q p orderly thawed remains =
+    no_number p.cut (λ K cut. elim (cases_eq me 1) [
+      | inl one ↦ both_ways p.leaving remains (orderly.cut_at_one one K cut)
+      | inr other ↦ both_ways p.frozen thawed (orderly.cut_elsewhere other K cut)
+    ])
+
+second_false : (a b : Bool) → a ≡ true → (a && b) ≡ false → b ≡ false
+second_false true b is none = none
+second_false false b is none = absurd cc
+
+data_allowed : (rules : Rules) (room : ℕ) (past : Past) (m : Memory) (q : ℕ) (d : DataMessage) (r : Record) → IsPast past → Stays past.known
+    → Plays past.known q → q ≢ past.known.me → IsDataMessage d → AreWords d.words
+    → (hear_data rules past.known m q d).keeps ≡ Some r → IsAllowedAfter rules room past r
+unfolding hear_data
+data_allowed rules room past m q d r is stays plays other data_is fits kept =
+    let k : KnownValue = past.known in
+    let leaver = failed (is_from_leaver k q q) m _ _ r kept in
+    let acked = failed (nat_lt (count_in k k.me) d.ack) m _ _ r leaver.1 in
+    let held = past_misfit m (misfit k q d.start d.words) _ r acked.1 in
+    let same = failed (is_desync rules k d) (record m { alarm = true }) _ _ r held.1 in
+    let free = or_parts (player_in k q).frozen (player_in k q).leaving (second_false (q == q) (is_frozen_in k q) (eq-eqb q q refl) leaver.0) in
+    got_allowed rules room past (record m { acks = acked_more m.acks q d.ack }) q (fresh_words k q d.start d.words) r is stays plays other
+    (uncut k.me q (player_in k q) (is.orderly q plays.from_one) free.0 free.1)
+    (new_words k q d.start d.words is.known held.0 data_is.run.short fits) same.1
+
+welcome_allowed : (rules : Rules) (room : ℕ) (past : Past) (m : Memory) (head : HeadValue) (ack : ℕ) (r : Record)
+    → (hear_welcome past.known m head ack).keeps ≡ Some r → IsAllowedAfter rules room past r
+unfolding hear_welcome
+welcome_allowed rules room past m head ack r kept =
+    let acked = failed (nat_lt (count_in past.known past.known.me) ack) m _ _ r kept in
+    let none = acked.1 in
+    absurd cc
+
+-- ---- the drop round
+
+freeze_allowed : (rules : Rules) (room : ℕ) (past : Past) (m : Memory) (q : ℕ) (f : FreezeMessage) (r : Record) → IsPast past → Stays past.known
+    → q ≢ past.known.me → IsFreezeMessage f → (hear_freeze past.known m q f).keeps ≡ Some r → IsAllowedAfter rules room past r
+unfolding hear_freeze
+freeze_allowed rules room past m q f r is stays other freeze_is kept =
+    let k : KnownValue = past.known in
+    let new : Record = Freeze f.leaver in
+    let chair = failed (not (q == 1)) m _ _ r kept in
+    let wrong = failed (f.leaver == k.me || not (is_player k f.leaver)) m _ _ r chair.1 in
+    let once = failed (player_in k f.leaver).frozen (record m { stayer = with_have m.stayer f.leaver f.have }) _ _ r wrong.1 in
+    let one : q ≡ 1 = is_one q chair.0 in
+    let tests = or_parts (f.leaver == k.me) (not (is_player k f.leaver)) wrong.0 in
+    let plays : Plays k f.leaver = plays_by_test k f.leaver tests.1 in
+    let from_two = freeze_is.leaver_from_two in
+    let spelled : HasSpelling new = record {
+      from_one = plays.from_one;
+      to_four = to_four k f.leaver is.known plays;
+      number = omega arith;
+      start = omega arith;
+      short = omega arith;
+      parts = tt;
+    } in
+    the_record rules room past new r once.1 (allowed rules room past new is stays plays spelled (record {
+      other = eqb-false f.leaver k.me tests.0;
+      not_one = λ same. omega (arith, same, from_two);
+      elsewhere = λ at. other (one ∙ sym at);
+      once = once.0;
+    }))
+
+frozen_allowed : (rules : Rules) (room : ℕ) (past : Past) (m : Memory) (q : ℕ) (f : LeaverMessage) (r : Record) → IsPast past → Stays past.known
+    → IsLeaverMessage f → AreWords f.words → (hear_frozen past.known m q f).keeps ≡ Some r → IsAllowedAfter rules room past r
+unfolding hear_frozen
+frozen_allowed rules room past m q f r is stays frozen_is fits kept =
+    let k : KnownValue = past.known in
+    let chair = failed (not (k.me == 1)) m _ _ r kept in
+    let wrong = failed (f.leaver == q || not (is_player k f.leaver)) m _ _ r chair.1 in
+    let leaving = failed (not (player_in k f.leaver).leaving) m _ _ r wrong.1 in
+    let whole = failed (is_some (player_in k f.leaver).cut) (record m { chair = with_report m.chair f.leaver q f.length }) _ _ r leaving.1 in
+    let room_left = failed (nat_lt k.limit f.length) m _ _ r whole.1 in
+    let held = past_misfit m (misfit k f.leaver f.start f.words) _ r room_left.1 in
+    let one : k.me ≡ 1 = is_one k.me chair.0 in
+    let plays : Plays k f.leaver = plays_by_test k f.leaver (or_parts (f.leaver == q) (not (is_player k f.leaver)) wrong.0).1 in
+    let from_two = frozen_is.leaver_from_two in
+    got_allowed rules room past (record m { chair = with_report m.chair f.leaver q f.length }) f.leaver (fresh_words k f.leaver f.start f.words) r is stays plays
+    (λ same. omega (arith, same, one, from_two)) (uncut_by_test (player_in k f.leaver).cut whole.0)
+    (new_words k f.leaver f.start f.words is.known held.0 frozen_is.run.short fits) held.1
+
+-- what is judged of a CUT of another player, elsewhere than at player one
+record IsCutHere (k : KnownValue) (c : LeaverMessage) : Type 0 where
+  plays : Plays k c.leaver
+  other : c.leaver ≢ k.me
+  elsewhere : k.me ≢ 1
+  frozen : (player_in k c.leaver).frozen ≡ true
+  uncut : (player_in k c.leaver).cut ≡ None
+
+cut_or_got_allowed : (rules : Rules) (room : ℕ) (past : Past) (m : Memory) (c : LeaverMessage) (words : List ℕ) (r : Record) → IsPast past → Stays past.known
+    → IsLeaverMessage c → IsCutHere past.known c → IsNew past.known c.leaver words
+    → (cut_or_got past.known m c.leaver c.length words).keeps ≡ Some r → IsAllowedAfter rules room past r
+cut_or_got_allowed rules room past m c words r is stays cut_is here new kept =
+    let k : KnownValue = past.known in
+    let count : ℕ = count_in k c.leaver in
+    let cut_here : Record = Cut c.leaver c.length count words in
+    either_way (count + length words == c.length) _ (got k m c.leaver words) r (IsAllowedAfter rules room past r) kept
+    (λ ends recorded.
+    let sum : count + length words ≡ c.length = eqb-true (count + length words) c.length ends in
+    let from_two = cut_is.leaver_from_two in
+    let longest = cut_is.length in
+    let spelled : HasSpelling cut_here = record {
+      from_one = here.plays.from_one;
+      to_four = to_four k c.leaver is.known here.plays;
+      number = omega (arith, longest);
+      start = count_fits k c.leaver is.known;
+      short = omega (arith, length-spelled_words words, new.short);
+      parts = new.fits;
+    } in
+    the_record rules room past cut_here r recorded (allowed rules room past cut_here is stays here.plays spelled (record {
+      other = here.other;
+      not_one = λ same. omega (arith, same, from_two);
+      next = refl;
+      ends = sum;
+      within = omega (arith, sum, new.within);
+      at_one = λ one. absurd (here.elsewhere one);
+      elsewhere = λ other. here.frozen;
+      once = here.uncut;
+    })))
+    (λ more got_these. got_allowed rules room past m c.leaver words r is stays here.plays here.other here.uncut new got_these)
+
+end_allowed : (rules : Rules) (room : ℕ) (past : Past) (m : Memory) (c : LeaverMessage) (o : Option ℕ) (r : Record) → IsPast past → Stays past.known
+    → IsLeaverMessage c → AreWords c.words → (o ≡ None → IsCutHere past.known c) → (hear_end past.known m c o).keeps ≡ Some r → IsAllowedAfter rules room past r
+end_allowed rules room past m c (Some K) r is stays cut_is fits here kept =
+    either_way (K == c.length) _ _ r (IsAllowedAfter rules room past r) kept (λ same none. absurd cc) (λ other none. absurd cc)
+end_allowed rules room past m c None r is stays cut_is fits here kept =
+    let k : KnownValue = past.known in
+    let fewer = failed (nat_lt c.length (count_in k c.leaver)) m _ _ r kept in
+    let held = past_misfit m (misfit k c.leaver c.start c.words) _ r fewer.1 in
+    cut_or_got_allowed rules room past m c (fresh_words k c.leaver c.start c.words) r is stays cut_is (here refl)
+    (new_words k c.leaver c.start c.words is.known held.0 cut_is.run.short fits) held.1
+
+-- the own player has been cut by player one
+out_allowed : (rules : Rules) (room : ℕ) (past : Past) (r : Record) → IsPast past → past.known.me ≢ 1 → (player_in past.known past.known.me).leaving ≡ false
+    → Some (Leave past.known.me) ≡ Some r → IsAllowedAfter rules room past r
+out_allowed rules room past r is elsewhere stays kept =
+    let k : KnownValue = past.known in
+    let new : Record = Leave k.me in
+    let spelled : HasSpelling new = record {
+      from_one = is.known.me.from_one;
+      to_four = to_four k k.me is.known is.known.me;
+      number = omega arith;
+      start = omega arith;
+      short = omega arith;
+      parts = tt;
+    } in
+    the_record rules room past new r kept (allowed rules room past new is (λ other. stays) is.known.me spelled (record { not_one = elsewhere; elsewhere = λ other. refl; once = stays }))
+
+cut_allowed : (rules : Rules) (room : ℕ) (past : Past) (m : Memory) (q : ℕ) (c : LeaverMessage) (r : Record) → IsPast past → (player_in past.known past.known.me).leaving ≡ false
+    → q ≢ past.known.me → IsLeaverMessage c → AreWords c.words → (hear_cut past.known m q c).keeps ≡ Some r → IsAllowedAfter rules room past r
+unfolding hear_cut
+cut_allowed rules room past m q c r is stays other cut_is fits kept =
+    let k : KnownValue = past.known in
+    let chair = failed (not (q == 1)) m _ _ r kept in
+    let elsewhere : k.me ≢ 1 = λ at. other (is_one q chair.0 ∙ sym at) in
+    either_way (c.leaver == k.me) _ _ r (IsAllowedAfter rules room past r) chair.1
+    (λ own recorded. out_allowed rules room past r is elsewhere stays recorded)
+    (λ another rest.
+    let wrong = failed (not (is_player k c.leaver)) m _ _ r rest in
+    let frozen = failed (not (player_in k c.leaver).frozen) m _ _ r wrong.1 in
+    end_allowed rules room past m c (player_in k c.leaver).cut r is (λ at. stays) cut_is fits
+    (λ uncut. record {
+      plays = plays_by_test k c.leaver wrong.0;
+      other = eqb-false c.leaver k.me another;
+      elsewhere = elsewhere;
+      frozen = not-false (player_in k c.leaver).frozen frozen.0;
+      uncut = uncut;
+    })
+    frozen.1)
+
+-- ---- any delivery
+
+-- the sender is another player of the game
+record IsFromOther (k : KnownValue) (q : ℕ) : Type 0 where
+  plays : Plays k q
+  other : q ≢ k.me
+
+message_allowed : (rules : Rules) (room : ℕ) (past : Past) (m : Memory) (head : HeadValue) (message : Message) (r : Record) → IsPast past → (player_in past.known past.known.me).leaving ≡ false
+    → IsFromOther past.known head.from → IsMessage message → Fits message → (hear_message rules past.known m head message).keeps ≡ Some r → IsAllowedAfter rules room past r
+message_allowed rules room past m head packets.Hello r is stays from means fits kept = absurd cc
+message_allowed rules room past m head (packets.Welcome ack) r is stays from means fits kept = welcome_allowed rules room past m head ack r kept
+message_allowed rules room past m head (packets.Data d) r is stays from means fits kept =
+    data_allowed rules room past m head.from d r is (λ at. stays) from.plays from.other means fits.1 kept
+message_allowed rules room past m head (packets.Freeze f) r is stays from means fits kept = freeze_allowed rules room past m head.from f r is (λ at. stays) from.other means kept
+message_allowed rules room past m head (packets.Frozen f) r is stays from means fits kept = frozen_allowed rules room past m head.from f r is (λ at. stays) means fits kept
+message_allowed rules room past m head (packets.Cut c) r is stays from means fits kept = cut_allowed rules room past m head.from c r is stays from.other means fits kept
+
+-- who is heard is another player of the game
+FromOthers : KnownValue → Memory → Type 0
+FromOthers k m = (head : HeadValue) → links.refusal m.links head ≡ None → IsFromOther k head.from
+
+told_allowed : (rules : Rules) (room : ℕ) (past : Past) (m : Memory) (told : Result Packet WireError) (r : Record) → IsPast past → (player_in past.known past.known.me).leaving ≡ false
+    → FromOthers past.known m → IsCall (Deliver told) → (hear_told rules past.known m told).keeps ≡ Some r → IsAllowedAfter rules room past r
+unfolding FromOthers
+told_allowed rules room past m (Err error) r is stays others call_is kept = absurd cc
+told_allowed rules room past m (Ok p) r is stays others call_is kept =
+    let admitted = past_hand m (links.refusal m.links p.head) (hear_message rules past.known m p.head p.message) r kept in
+    message_allowed rules room past m p.head p.message r is stays (others p.head admitted.0) call_is.message call_is.fits admitted.1
+
+deliver_allowed : (rules : Rules) (room : ℕ) (past : Past) (m : Memory) (told : Result Packet WireError) (r : Record) → IsPast past
+    → FromOthers past.known m → IsCall (Deliver told) → (deliver rules past.known m told).keeps ≡ Some r → IsAllowedAfter rules room past r
+deliver_allowed rules room past m told r is others call_is kept =
+    let stays = failed (player_in past.known past.known.me).leaving m _ _ r kept in
+    told_allowed rules room past m told r is stays.0 others call_is stays.1
+
+-- ---- any call
+
+-- a saying records nothing
+say_allowed : (rules : Rules) (room : ℕ) (past : Past) (m : Memory) (to : ℕ) (what : Saying) (r : Record) → (say rules past.known m to what).keeps ≡ Some r → IsAllowedAfter rules room past r
+unfolding say
+say_allowed rules room past m to what r kept =
+    let k : KnownValue = past.known in
+    let stays = failed (player_in k k.me).leaving m _ _ r kept in
+    let player = failed (to == k.me || not (is_player k to)) m _ _ r stays.1 in
+    let mine = failed (is_not_mine k to what) m _ _ r player.1 in
+    let stands = failed (lacks_record k what) m _ _ r mine.1 in
+    let linked = failed (lacks_link m to what) m _ _ r stands.1 in
+    let none = linked.1 in
+    absurd cc
+
+call_allowed : (rules : Rules) (room : ℕ) (past : Past) (m : Memory) (call : Call) (r : Record) → IsPast past → FromOthers past.known m → IsCall call
+    → (outcome rules past.known m call).keeps ≡ Some r → IsAllowedAfter rules room past r
+call_allowed rules room past m (Tick keys) r is others call_is kept = tick_allowed rules room past m keys r is call_is kept
+call_allowed rules room past m (Deliver told) r is others call_is kept = deliver_allowed rules room past m told r is others call_is kept
+call_allowed rules room past m (Say to what) r is others call_is kept = say_allowed rules room past m to what r kept
+call_allowed rules room past m (calls.Leave leaver) r is others call_is kept = leave_allowed rules room past m leaver r is kept
+call_allowed rules room past m (Decide leaver) r is others call_is kept = decide_allowed rules room past m leaver r is kept
+
+-- a journal that has had an epoch has a record
+some_record : (number : ℕ) (journal : List Record) → had_epoch number journal ≡ true → length journal ≢ 0
+unfolding had_epoch epochs
+some_record number [] had = absurd (both_ways true (sym had) refl)
+some_record number (r ∷ rest) had = λ none. absurd (omega (arith, none))
+
+from_others : (rules : Rules) (me room : ℕ) (journal : List Record) (m : Memory) → IsMemory rules room me journal m → FromOthers (known_of rules me journal) m
+unfolding FromOthers
+from_others rules me room journal m memory head admitted =
+    let game = of_game rules me journal in
+    let sender = is_for_me m.links head admitted in
+    record {
+      plays = record { from_one = sender.from_one; in_game = omega (arith, sender.plays, memory.players, game.players) };
+      other = λ same. sender.apart (same ∙ game.player ∙ sym memory.player);
+    }
+
+pub keeps_allowed : (rules : Rules) (me room : ℕ) (journal : List Record) (m : Memory) (call : Call) (r : Record)
+    → AreInRange rules → 1 ≤ me → me ≤ rules.players → IsJournal rules me room journal → IsMemory rules room me journal m → IsCall call
+    → (outcome rules (known_of rules me journal) m call).keeps ≡ Some r → IsAllowed rules me room journal r
+keeps_allowed rules me room journal m call r range from to is memory call_is kept =
+    let past_is : IsPast (past_of rules me journal) = record {
+      known = journal_known rules me room journal range from to is;
+      orderly = journal_orderly rules me room journal is;
+      some = some_record m.links.epoch journal memory.epoch;
+    } in
+    call_allowed rules room (past_of rules me journal) m call r past_is (from_others rules me room journal m memory) call_is kept

@@ -1,0 +1,136 @@
+-- What a delivery does. Each line is a refusal, in the order in which they are judged.
+use Rattle.std.specs.Prelude.{ℕ, ◌+◌, ◌==◌, ◌||◌, List, [], ◌∷◌, length, Bool, true, false, not, nat_lt, is_some, Option, Some, None, Result, Ok, Err, if◌then◌else◌}
+use Rattle.c8_game.specs.Rules.{Rules}
+use Rattle.c8_wire.specs.declared.error.WireError.{WireError}
+use Rattle.c8_wire.specs.Packet.{HeadValue, DataMessage, FreezeMessage, LeaverMessage, Message, Packet}
+use Rattle.c8_wire.specs.Packet as packets
+use Rattle.c8_hand.specs.declared.error.HandError.{HandError}
+use Rattle.c8_hand.specs.Links.{heard}
+use Rattle.c8_hand.specs.Links as links
+use Rattle.c8_known.specs.declared.error.KnownError.{KnownError}
+use Rattle.c8_known.specs.declared.error.KnownError.TheVariants as knowns
+use Rattle.c8_known.specs.Journal as records
+use Rattle.c8_known.specs.Known.{KnownValue, player_in, count_in, is_player}
+use Rattle.c8_known.specs.Confirmed.{confirmed}
+use Rattle.c8_known.specs.Fresh.{differ, is_from_leaver, misfit, fresh_words}
+use Rattle.c8_digest.specs.Marks.{mark_at}
+use Rattle.c8_roll.specs.Roll.{marks_up_to}
+use Rattle.c8_window.specs.Window.{acked_more}
+use Rattle.c8_round.specs.Round.{with_report, with_have}
+use Rattle.c8_peer.specs.declared.error.Refused.{Refused}
+use Rattle.c8_peer.specs.declared.error.Refused.TheVariants as refusals
+use Rattle.c8_peer.specs.declared.heard.Heard.{Heard}
+use Rattle.c8_peer.specs.declared.heard.Heard.TheVariants as heards
+use Rattle.c8_peer.specs.State.{Memory, Delivered, Outcome, answered, recorded}
+
+abbrev pub refused : Memory → Refused → Outcome
+refused m why = answered m (Delivered (Err why))
+
+abbrev pub taken : Memory → Heard → Outcome
+taken m what = answered m (Delivered (Ok what))
+
+-- ---- inputs
+
+-- where inputs cannot be held that is the answer
+abbrev pub unless_misfit : Memory → Option KnownError → Outcome → Outcome
+unless_misfit m None outcome = outcome
+unless_misfit m (Some error) outcome = refused m (refusals.Known error)
+
+-- inputs of a player that are new are recorded; of none there is nothing to record
+abbrev pub got : KnownValue → Memory → ℕ → List ℕ → Outcome
+got k m q [] = taken m heards.Nothing
+got k m q (word ∷ words) = recorded m (Delivered (Ok heards.Kept)) (records.Got q (count_in k q) (word ∷ words))
+
+-- ---- DATA
+
+-- This peer keeps a mark of the same frame, and it differs.
+abbrev pub differs_from : Option (List ℕ) → List ℕ → Bool
+differs_from None mark = false
+differs_from (Some own) mark = differ own mark
+
+unfoldable pub is_desync : Rules → KnownValue → DataMessage → Bool
+is_desync rules k d = differs_from (mark_at d.mark_frame (marks_up_to rules k (confirmed k))) d.mark
+
+-- From player q. An acknowledgement is kept last, when nothing refuses any more.
+unfoldable pub hear_data : Rules → KnownValue → Memory → ℕ → DataMessage → Outcome
+hear_data rules k m q d =
+    if is_from_leaver k q q then refused m (refusals.Known knowns.FromLeaver)
+    else (if nat_lt (count_in k k.me) d.ack then refused m refusals.BadAck
+    else unless_misfit m (misfit k q d.start d.words)
+    (if is_desync rules k d then answered (record m { alarm = true }) (Delivered (Err refusals.Desync))
+    else got k (record m { acks = acked_more m.acks q d.ack }) q (fresh_words k q d.start d.words)))
+
+-- ---- HELLO and WELCOME
+
+unfoldable pub hear_welcome : KnownValue → Memory → HeadValue → ℕ → Outcome
+hear_welcome k m head ack =
+    if nat_lt (count_in k k.me) ack then refused m refusals.BadAck
+    else taken (record m { links = heard m.links head; acks = acked_more m.acks head.from ack }) heards.Nothing
+
+-- ---- the drop round
+
+-- player one lets a player go; the first one is recorded
+unfoldable pub hear_freeze : KnownValue → Memory → ℕ → FreezeMessage → Outcome
+hear_freeze k m q f =
+    if not (q == 1) then refused m refusals.NotChair
+    else (if f.leaver == k.me || not (is_player k f.leaver) then refused m refusals.WrongLeaver
+    else (if (player_in k f.leaver).frozen then taken (record m { stayer = with_have m.stayer f.leaver f.have }) heards.Nothing
+    else recorded (record m { stayer = with_have m.stayer f.leaver f.have }) (Delivered (Ok heards.Kept)) (records.Freeze f.leaver)))
+
+-- player q answers player one how many of the leaver's inputs it holds, and brings some
+unfoldable pub hear_frozen : KnownValue → Memory → ℕ → LeaverMessage → Outcome
+hear_frozen k m q f =
+    if not (k.me == 1) then refused m refusals.NotChair
+    else (if f.leaver == q || not (is_player k f.leaver) then refused m refusals.WrongLeaver
+    else (if not (player_in k f.leaver).leaving then refused m refusals.NotFrozen
+    else (if is_some (player_in k f.leaver).cut then taken (record m { chair = with_report m.chair f.leaver q f.length }) heards.Nothing
+    else (if nat_lt k.limit f.length then refused m (refusals.Known knowns.Full)
+    else unless_misfit m (misfit k f.leaver f.start f.words)
+    (got k (record m { chair = with_report m.chair f.leaver q f.length }) f.leaver (fresh_words k f.leaver f.start f.words))))))
+
+-- new inputs of a leaver with which its list may be whole: then it is cut
+abbrev pub cut_or_got : KnownValue → Memory → ℕ → ℕ → List ℕ → Outcome
+cut_or_got k m leaver K words =
+    if count_in k leaver + length words == K then recorded m (Delivered (Ok heards.Kept)) (records.Cut leaver K (count_in k leaver) words)
+    else got k m leaver words
+
+-- a leaver's list ends at a length; before it is cut here, and after
+abbrev pub hear_end : KnownValue → Memory → LeaverMessage → Option ℕ → Outcome
+hear_end k m c (Some K) = if K == c.length then taken m heards.Nothing else refused m (refusals.Known knowns.Differs)
+hear_end k m c None =
+    if nat_lt c.length (count_in k c.leaver) then refused m (refusals.Known knowns.Differs)
+    else unless_misfit m (misfit k c.leaver c.start c.words) (cut_or_got k m c.leaver c.length (fresh_words k c.leaver c.start c.words))
+
+-- player one has cut a leaver's list; the leaver itself is out
+unfoldable pub hear_cut : KnownValue → Memory → ℕ → LeaverMessage → Outcome
+hear_cut k m q c =
+    if not (q == 1) then refused m refusals.NotChair
+    else (if c.leaver == k.me then recorded m (Delivered (Ok heards.Out)) (records.Leave k.me)
+    else (if not (is_player k c.leaver) then refused m refusals.WrongLeaver
+    else (if not (player_in k c.leaver).frozen then refused m refusals.NotFrozen
+    else hear_end k m c (player_in k c.leaver).cut)))
+
+-- ---- any delivery
+
+abbrev pub hear_message : Rules → KnownValue → Memory → HeadValue → Message → Outcome
+hear_message rules k m head packets.Hello = taken (record m { links = heard m.links head }) heards.Nothing
+hear_message rules k m head (packets.Welcome ack) = hear_welcome k m head ack
+hear_message rules k m head (packets.Data d) = hear_data rules k m head.from d
+hear_message rules k m head (packets.Freeze f) = hear_freeze k m head.from f
+hear_message rules k m head (packets.Frozen f) = hear_frozen k m head.from f
+hear_message rules k m head (packets.Cut c) = hear_cut k m head.from c
+
+abbrev pub unless_hand : Memory → Option HandError → Outcome → Outcome
+unless_hand m None outcome = outcome
+unless_hand m (Some error) outcome = refused m (refusals.Hand error)
+
+abbrev pub hear : Rules → KnownValue → Memory → Packet → Outcome
+hear rules k m p = unless_hand m (links.refusal m.links p.head) (hear_message rules k m p.head p.message)
+
+abbrev pub hear_told : Rules → KnownValue → Memory → Result Packet WireError → Outcome
+hear_told rules k m (Ok p) = hear rules k m p
+hear_told rules k m (Err error) = refused m (refusals.Wire error)
+
+-- what bytes say, to a peer that is open: one that has been dropped hears nothing
+abbrev pub deliver : Rules → KnownValue → Memory → Result Packet WireError → Outcome
+deliver rules k m told = if (player_in k k.me).leaving then refused m refusals.Dropped else hear_told rules k m told

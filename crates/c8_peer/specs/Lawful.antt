@@ -1,0 +1,28 @@
+-- What holds of a peer's memory as long as it is open, and what is asked of a call: both are so by the types of the code.
+use Rattle.std.specs.Prelude.{◌≡◌, ℕ, ◌^◌, ◌<◌, ◌≤◌, true, List, Ok, Err}
+use Rattle.c8_game.specs.Rules.{Rules, session_of}
+use Rattle.c8_wire.specs.Packet.{IsPacket}
+use Rattle.c8_hand.specs.Links.{link_to}
+use Rattle.c8_known.specs.Journal.{Record, count, had_epoch}
+use Rattle.c8_window.specs.Window.{acked_of}
+use Rattle.c8_peer.specs.State.{Memory, Call, Tick, Deliver, Say, Leave, Decide}
+
+-- The links are those of this player in this match, in an epoch that the journal has had; all epochs fit 32 bits; and
+-- nobody has acknowledged more than the own inputs.
+pub record IsMemory (rules : Rules) (room me : ℕ) (journal : List Record) (m : Memory) : Type 0 where
+  pub player : m.links.me ≡ me
+  pub players : m.links.players ≡ rules.players
+  pub session : m.links.session ≡ session_of rules room
+  pub epoch : had_epoch m.links.epoch journal ≡ true
+  pub epoch_fits : m.links.epoch < 2 ^ 32
+  pub known_fits : (q : ℕ) → (link_to m.links q).known < 2 ^ 32
+  pub acked : (q : ℕ) → acked_of m.acks q ≤ count rules me journal
+
+-- keys are a set of 16 keys, and bytes that are a datagram tell a packet
+abbrev pub IsCall : Call → Type 0
+IsCall (Tick keys) = keys < 2 ^ 16
+IsCall (Deliver (Ok packet)) = IsPacket packet
+IsCall (Deliver (Err error)) = Unit {0}
+IsCall (Say to what) = Unit {0}
+IsCall (Leave leaver) = Unit {0}
+IsCall (Decide leaver) = Unit {0}

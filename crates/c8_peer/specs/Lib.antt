@@ -1,0 +1,16 @@
+pub mod Errors
+pub mod State
+pub mod Calls
+pub mod Hearing
+pub mod Saying
+pub mod Steps
+pub mod Opening
+pub mod Truth
+pub mod TruthLaws
+pub mod Lawful
+pub mod DigestLaws
+pub mod AllowedLaws
+pub mod OpeningLaws
+pub mod MemoryLaws
+pub mod SayingLaws
+pub mod SpellingLaws

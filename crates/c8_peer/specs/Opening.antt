@@ -1,0 +1,74 @@
+-- What an opening comes to.
+use Rattle.std.specs.Prelude.{ℕ, ◌+◌, ◌<◌, ◌≤◌, List, [], ◌∷◌, ◌++◌, map, Option, Some, None, Ok, Err, Bool, if◌then◌else◌, option_to_list}
+use Rattle.c8_game.specs.Rules.{Rules, id_of}
+use Rattle.c8_disk.specs.declared.error.DiskError.{DiskError}
+use Rattle.c8_known.specs.Journal.{Record, Head, Epoch, epoch}
+use Rattle.c8_record.specs.Body.{body_of}
+use Rattle.c8_record.specs.Allowed.{IsJournal}
+use Rattle.c8_record.specs.Replay.{IsRefusal}
+use Rattle.c8_record.specs.declared.error.ReplayError.{ReplayError}
+use Rattle.c8_record.specs.declared.error.ReplayError.TheVariants as replays
+use Rattle.c8_peer.specs.declared.error.OpenError.{OpenError}
+use Rattle.c8_peer.specs.declared.error.OpenError.TheVariants as opens
+use Rattle.c8_peer.specs.State.{Open, Away, State, fresh_memory, Opened}
+use Rattle.c8_peer.specs.Steps.{Stepped}
+
+-- the last epoch that a record can have
+abbrev pub last_epoch : ℕ
+last_epoch = 4294967295
+
+-- what a reading of the disk finds: the journal without the pending record or with it
+abbrev pub found : State → Bool → List Record
+found s with_pending = if with_pending then s.journal ++ option_to_list s.pending else s.journal
+
+-- an empty journal gets a HEAD, another one the next epoch
+abbrev pub opening_record : Rules → ℕ → ℕ → List Record → Record
+opening_record rules room me [] = Head me (id_of rules) room
+opening_record rules room me (r ∷ rest) = Epoch me (epoch (r ∷ rest) + 1)
+
+-- What became of an opening: its record stands; the disk refused its record; memory was refused or the disk failed before
+-- all was read, and nothing is settled; what was found is no journal that this peer may open; or its epochs are spent.
+pub data Opening : Type 0 where
+  Stands : Opening
+  NotWritten : DiskError → Opening
+  NoMemory : Opening
+  NotRead : DiskError → Opening
+  Unfit : ReplayError → Opening
+  Spent : Opening
+
+abbrev pub away : State → List Record → Option Record → State
+away s journal pending = record s { journal = journal; pending = pending; mode = Away }
+
+-- the refusal of a journal as that of an opening
+abbrev pub unfit : ReplayError → OpenError
+unfit replays.WrongGame = opens.WrongGame
+unfit replays.WrongPlayer = opens.WrongPlayer
+unfit (replays.BadRecord n) = opens.BadRecord n
+unfit (replays.Disk why) = opens.Disk why
+
+-- the answer and the state after it, of an opening that finds a journal
+abbrev pub opened : Rules → ℕ → ℕ → State → List Record → Opening → Stepped
+opened rules room me s found Stands = record {
+  reply = Opened (Ok (epoch (found ++ opening_record rules room me found ∷ [])));
+  state = record {
+    journal = found ++ opening_record rules room me found ∷ [];
+    pending = None;
+    mode = Open;
+    memory = fresh_memory rules room me (epoch (found ++ opening_record rules room me found ∷ []));
+  };
+}
+opened rules room me s found (NotWritten why) = record { reply = Opened (Err (opens.Disk why)); state = away s found (Some (opening_record rules room me found)) }
+opened rules room me s found NoMemory = record { reply = Opened (Err opens.Memory); state = away s s.journal s.pending }
+opened rules room me s found (NotRead why) = record { reply = Opened (Err (opens.Disk why)); state = away s s.journal s.pending }
+opened rules room me s found (Unfit error) = record { reply = Opened (Err (unfit error)); state = away s found None }
+opened rules room me s found Spent = record { reply = Opened (Err opens.EpochsSpent); state = away s found None }
+
+-- What may become of it: the record is written, or tried, only over a journal of this player, game and room whose epochs
+-- are not spent; a journal is refused only for what is wrong with its bodies.
+abbrev pub MayBecome : Rules → ℕ → ℕ → List Record → Opening → Type 0
+MayBecome rules room me found Stands = IsJournal rules me room found × (epoch found < last_epoch)
+MayBecome rules room me found (NotWritten why) = IsJournal rules me room found × (epoch found < last_epoch)
+MayBecome rules room me found NoMemory = Unit {0}
+MayBecome rules room me found (NotRead why) = Unit {0}
+MayBecome rules room me found (Unfit error) = IsRefusal rules me room (map body_of found) error
+MayBecome rules room me found Spent = IsJournal rules me room found × (last_epoch ≤ epoch found)

@@ -1,0 +1,134 @@
+-- Checked, not believed: what an opening records is allowed after the journal that it finds, and the memory of a peer that
+-- has just been opened is in order.
+use Rattle.std.proofs.Common.{◌≡◌, ℕ, ◌+◌, ◌^◌, ◌<◌, ◌≤◌, List, [], ◌∷◌, ◌++◌, length, Bool, true, false, cond, refl, sym, ap, ◌∙◌, arith, length-append, replicate}
+use Rattle.std.specs.Prelude.{◌==◌}
+use Rattle.std.specs.List.{flat_map, list_any}
+use Rattle.std.proofs.lemmas.Bool.{eq-eqb, or_left, or_right}
+use Rattle.std.proofs.lemmas.Grind.{flat_map-append}
+use Rattle.std.proofs.lemmas.List.{append-nil, length-replicate}
+use Rattle.std.proofs.lemmas.List.Folds.{list_any-append}
+use Rattle.std.specs.Int.{bytes_high_first}
+use Rattle.c8_game.specs.Rules.{Rules, AreInRange, id_of, number_bytes}
+use Rattle.c8_hand.specs.Links.{LinkValue, no_link, no_links, link_to}
+use Rattle.c8_known.specs.Journal.{Record, Head, Epoch, words_of, epochs_of, epochs, epoch, had_epoch, held, count}
+use Rattle.c8_known.specs.Known.{known_of, Plays}
+use Rattle.c8_known.specs.StartLaws.{players_known}
+use Rattle.c8_record.specs.Body.{HasSpelling}
+use Rattle.c8_record.specs.Allowed.{IsAllowed, IsJournal}
+use Rattle.c8_record.specs.JournalLaws.{epoch_more, of_game}
+use Rattle.c8_window.specs.Window.{first_window, acked_of}
+use Rattle.c8_peer.specs.State.{fresh_memory}
+use Rattle.c8_peer.specs.Opening.{last_epoch, opening_record}
+use Rattle.c8_peer.specs.Lawful.{IsMemory}
+use Rattle.c8_peer.specs.DigestLaws.{digest_length, digest_bytes_fit}
+
+-- ---- the record
+
+me_plays : (rules : Rules) (me : ℕ) (found : List Record) → 1 ≤ me → me ≤ rules.players → Plays (known_of rules me found) me
+me_plays rules me found from to = record { from_one = from; in_game = omega (arith, to, players_known rules me found) }
+
+head_spelled : (rules : Rules) (me room : ℕ) → AreInRange rules → 1 ≤ me → me ≤ rules.players → room < 2 ^ 64 → HasSpelling (Head me (id_of rules) room)
+head_spelled rules me room range from to low =
+    let id : List ℕ = id_of rules in
+    let long : length id ≡ 32 = digest_length (number_bytes rules ++ rules.program) in
+    record {
+      from_one = from;
+      to_four = omega (arith, to, range.at_most_four);
+      number = omega arith;
+      start = omega arith;
+      short = omega (arith, long, length-append id (bytes_high_first 8 room));
+      parts = (long, digest_bytes_fit (number_bytes rules ++ rules.program), low);
+    }
+
+epoch_spelled : (rules : Rules) (me number : ℕ) → AreInRange rules → 1 ≤ me → me ≤ rules.players → number ≤ last_epoch → HasSpelling (Epoch me number)
+epoch_spelled rules me number range from to low = record {
+  from_one = from;
+  to_four = omega (arith, to, range.at_most_four);
+  number = omega (arith, low);
+  start = omega arith;
+  short = omega arith;
+  parts = tt;
+}
+
+pub opening_allowed : (rules : Rules) (me room : ℕ) (found : List Record) → AreInRange rules → 1 ≤ me → me ≤ rules.players → room < 2 ^ 64
+    → IsJournal rules me room found → epoch found < last_epoch → IsAllowed rules me room found (opening_record rules room me found)
+opening_allowed rules me room [] range from to low is few = record {
+  spelled = head_spelled rules me room range from to low;
+  plays = me_plays rules me [] from to;
+  may = record { first = refl; of_game = refl; in_room = refl; own = sym (of_game rules me []).player };
+  begins = λ none. tt;
+  dropped = λ other leaving. tt;
+}
+opening_allowed rules me room (r ∷ rest) range from to low is few = record {
+  spelled = epoch_spelled rules me (epoch (r ∷ rest) + 1) range from to (omega (arith, few));
+  plays = me_plays rules me (r ∷ rest) from to;
+  may = record { own = sym (of_game rules me (r ∷ rest)).player; above = omega arith };
+  begins = λ none. absurd (omega (arith, none));
+  dropped = λ other leaving. tt;
+}
+
+-- ---- the memory
+
+had_next : (journal : List Record) (r : Record) (number : ℕ) → epochs_of r ≡ number ∷ [] → had_epoch number (journal ++ r ∷ []) ≡ true
+unfolding had_epoch epochs
+had_next journal r number is =
+    let before : List ℕ = flat_map epochs_of journal in
+    ap (list_any (λ epoch. epoch == number)) (flat_map-append epochs_of journal (r ∷ []) ∙ ap (λ (more : List ℕ). before ++ more) (append-nil (epochs_of r) ∙ is))
+    ∙ list_any-append (λ epoch. epoch == number) before (number ∷ [])
+    ∙ or_right (list_any (λ epoch. epoch == number) before) _ (or_left (number == number) false (eq-eqb number number refl))
+
+-- the epoch that an opening begins
+record IsBegun (rules : Rules) (room me : ℕ) (found : List Record) : Type 0 where
+  number : ℕ
+  begins : epochs_of (opening_record rules room me found) ≡ number ∷ []
+  last : epoch (found ++ opening_record rules room me found ∷ []) ≡ number
+  fits : number < 2 ^ 32
+
+begun : (rules : Rules) (room me : ℕ) (found : List Record) → epoch found < last_epoch → IsBegun rules room me found
+begun rules room me [] few = record { number = 1; begins = refl; last = epoch_more [] (Head me (id_of rules) room); fits = omega arith }
+begun rules room me (r ∷ rest) few = record {
+  number = epoch (r ∷ rest) + 1;
+  begins = refl;
+  last = epoch_more (r ∷ rest) (Epoch me (epoch (r ∷ rest) + 1));
+  fits = omega (arith, few);
+}
+
+-- one of two links of which nothing is known
+both_none : (test : Bool) (one other : LinkValue) → one.known ≡ 0 → other.known ≡ 0 → (cond test one other).known ≡ 0
+both_none true one other e f = e
+both_none false one other e f = f
+
+none_known : (rules : Rules) (me room number q : ℕ) → (link_to (no_links rules me room number) q).known ≡ 0
+none_known rules me room number q =
+    both_none (q == 1) no_link _ refl (both_none (q == 2) no_link _ refl (both_none (q == 3) no_link _ refl (both_none (q == 4) no_link no_link refl refl)))
+
+both_few : (test : Bool) (one other most : ℕ) → one ≤ most → other ≤ most → cond test one other ≤ most
+both_few true one other most e f = e
+both_few false one other most e f = f
+
+delay_acked : (delay q : ℕ) → acked_of (first_window delay) q ≤ delay
+delay_acked delay q =
+    let all : delay ≤ delay = omega arith in
+    both_few (q == 1) delay _ delay all (both_few (q == 2) delay _ delay all (both_few (q == 3) delay _ delay all (both_few (q == 4) delay 0 delay all (omega arith))))
+
+delay_held : (rules : Rules) (q : ℕ) (journal : List Record) → rules.delay ≤ count rules q journal
+unfolding held
+delay_held rules q journal = omega (arith, length-append (replicate rules.delay 0) (flat_map (words_of q) journal), length-replicate {A = ℕ} rules.delay 0)
+
+pub opening_memory : (rules : Rules) (me room : ℕ) (found : List Record) → AreInRange rules → 1 ≤ me → me ≤ rules.players
+    → IsJournal rules me room found → epoch found < last_epoch
+    → IsMemory rules room me (found ++ opening_record rules room me found ∷ []) (fresh_memory rules room me (epoch (found ++ opening_record rules room me found ∷ [])))
+opening_memory rules me room found range from to is few =
+    let new : Record = opening_record rules room me found in
+    let later : List Record = found ++ new ∷ [] in
+    let new_epoch = begun rules room me found few in
+    let last = new_epoch.last in
+    record {
+      player = refl;
+      players = refl;
+      session = refl;
+      epoch = ap (λ (number : ℕ). had_epoch number later) last ∙ had_next found new new_epoch.number new_epoch.begins;
+      epoch_fits = omega (arith, last, new_epoch.fits);
+      known_fits = λ q. omega (arith, none_known rules me room (epoch later) q);
+      acked = λ q. omega (arith, delay_acked rules.delay q, delay_held rules me later);
+    }

@@ -1,0 +1,99 @@
+-- What a peer says when it is asked to, or why it does not. Each line is a refusal, in the order in which they are judged.
+use Rattle.std.specs.Prelude.{ℕ, ◌*◌, ◌/◌, ◌==◌, ◌||◌, List, take, drop, min, Bool, false, not, is_none, Option, Some, None, Ok, Err, if◌then◌else◌}
+use Rattle.c8_game.specs.Rules.{Rules}
+use Rattle.c8_wire.specs.Sizes.{longest_run}
+use Rattle.c8_wire.specs.Packet.{Message, Packet, kind_of}
+use Rattle.c8_wire.specs.Packet as packets
+use Rattle.c8_hand.specs.Links.{link_to, head_to}
+use Rattle.c8_known.specs.Known.{KnownValue, player_in, count_in, is_player}
+use Rattle.c8_known.specs.Confirmed.{confirmed}
+use Rattle.c8_digest.specs.declared.marks.FrameMark.{FrameMark}
+use Rattle.c8_roll.specs.Roll.{mark_step, mark_after}
+use Rattle.c8_window.specs.Window.{acked_of, pending_of}
+use Rattle.c8_round.specs.Round.{report_of, or_delay, answer_from}
+use Rattle.c8_peer.specs.declared.error.Unsayable.TheVariants as unsayables
+use Rattle.c8_peer.specs.State.{Memory, Saying, Hello, Welcome, Data, Freeze, Frozen, Cut, Said, Outcome, answered}
+
+-- ---- what may not be said
+
+-- FREEZE and CUT are player one's, FROZEN the others' to player one, and FREEZE is not for the leaver
+abbrev pub is_not_mine : KnownValue → ℕ → Saying → Bool
+is_not_mine k to Hello = false
+is_not_mine k to Welcome = false
+is_not_mine k to Data = false
+is_not_mine k to (Freeze leaver) = not (k.me == 1) || to == leaver
+is_not_mine k to (Frozen leaver) = k.me == 1 || not (to == 1)
+is_not_mine k to (Cut leaver) = not (k.me == 1)
+
+-- the journal has no record of what would be told
+abbrev pub lacks_record : KnownValue → Saying → Bool
+lacks_record k Hello = false
+lacks_record k Welcome = false
+lacks_record k Data = false
+lacks_record k (Freeze leaver) = not (player_in k leaver).leaving
+lacks_record k (Frozen leaver) = not (player_in k leaver).frozen
+lacks_record k (Cut leaver) = is_none (player_in k leaver).cut
+
+-- a WELCOME wants an epoch of the other player, and what is no HELLO either an open link
+abbrev pub lacks_link : Memory → ℕ → Saying → Bool
+lacks_link m to Hello = false
+lacks_link m to Welcome = (link_to m.links to).known == 0
+lacks_link m to Data = not (link_to m.links to).is_open
+lacks_link m to (Freeze leaver) = not (link_to m.links to).is_open
+lacks_link m to (Frozen leaver) = not (link_to m.links to).is_open
+lacks_link m to (Cut leaver) = not (link_to m.links to).is_open
+
+-- ---- what is said
+
+-- a player's held inputs from a start on, as many as one datagram carries
+abbrev pub run_from : KnownValue → ℕ → ℕ → List ℕ
+run_from k q start = take longest_run (drop start (player_in k q).held)
+
+-- the mark at the greatest multiple of 32 confirmed frames
+abbrev pub newest_mark : Rules → KnownValue → FrameMark
+newest_mark rules k = mark_after rules k (mark_step * (confirmed k / mark_step))
+
+-- the length at which a list is cut (a list that is not cut is not asked for)
+abbrev pub cut_length : Option ℕ → ℕ
+cut_length None = 0
+cut_length (Some K) = K
+
+-- where a CUT starts: after what the player answered to hold
+abbrev pub cut_start : KnownValue → Memory → ℕ → ℕ → ℕ
+cut_start k m to leaver = min (cut_length (player_in k leaver).cut) (or_delay k (report_of m.chair leaver to))
+
+abbrev pub message : Rules → KnownValue → Memory → ℕ → Saying → Message
+message rules k m to Hello = packets.Hello
+message rules k m to Welcome = packets.Welcome (count_in k to)
+message rules k m to Data = packets.Data (record {
+  ack = count_in k to;
+  mark_frame = (newest_mark rules k).frame;
+  mark = (newest_mark rules k).mark;
+  start = acked_of m.acks to;
+  words = pending_of m.acks k to;
+})
+message rules k m to (Freeze leaver) = packets.Freeze (record { leaver = leaver; have = count_in k leaver })
+message rules k m to (Frozen leaver) = packets.Frozen (record {
+  leaver = leaver;
+  length = count_in k leaver;
+  start = answer_from m.stayer k leaver;
+  words = run_from k leaver (answer_from m.stayer k leaver);
+})
+message rules k m to (Cut leaver) = packets.Cut (record {
+  leaver = leaver;
+  length = cut_length (player_in k leaver).cut;
+  start = cut_start k m to leaver;
+  words = run_from k leaver (cut_start k m to leaver);
+})
+
+abbrev pub packet : Rules → KnownValue → Memory → ℕ → Saying → Packet
+packet rules k m to what = record { head = head_to m.links to (kind_of (message rules k m to what)); message = message rules k m to what }
+
+unfoldable pub say : Rules → KnownValue → Memory → ℕ → Saying → Outcome
+say rules k m to what =
+    if (player_in k k.me).leaving then answered m (Said (Err unsayables.Dropped))
+    else (if to == k.me || not (is_player k to) then answered m (Said (Err unsayables.NotAPlayer))
+    else (if is_not_mine k to what then answered m (Said (Err unsayables.NotMine))
+    else (if lacks_record k what then answered m (Said (Err unsayables.NoRecord))
+    else (if lacks_link m to what then answered m (Said (Err unsayables.NoLink))
+    else answered m (Said (Ok (packet rules k m to what)))))))

@@ -1,0 +1,249 @@
+-- Checked, not believed: what an open peer says is true of its journal.
+use Rattle.std.proofs.Common.{◌≡◌, ◌≢◌, ℕ, zero, suc, ◌-◌, ◌/◌, ◌≤◌, List, [], ◌∷◌, ◌++◌, length, take, drop, Bool, true, false, Option, Some, None, Ok, Err, refl, sym, ap, subst, ◌∙◌, inl, inr, arith}
+use Rattle.std.specs.Prelude.{◌==◌, ◌||◌, not, nat_le, is_none}
+use Rattle.std.proofs.lemmas.Bool.{cases_lt, cases_eq, ne_eqb, eqb-true, eqb-false, leb-true, not-false, or_parts, and_parts, both_ways}
+use Rattle.std.proofs.lemmas.List.{get_or_past}
+use Rattle.c8_game.specs.Rules.{Rules, AreInRange}
+use Rattle.c8_wire.specs.Sizes.{longest_run}
+use Rattle.c8_wire.specs.Packet.{Packet}
+use Rattle.c8_known.specs.Journal as journals
+use Rattle.c8_known.specs.Journal.{Record, Head, Epoch, Own, Got, held, count, has_freeze, has_leave, cut_of}
+use Rattle.c8_known.specs.Known.{PlayerValue, KnownValue, nobody, player_in, count_in, is_frozen_of, is_frozen_in, is_player, known_of, said_of, Plays, IsKnown}
+use Rattle.c8_known.specs.Growth.{Begins}
+use Rattle.c8_known.specs.BeginsLaws.{begins_take}
+use Rattle.c8_known.specs.OneMore.{player_known}
+use Rattle.c8_known.specs.StartLaws.{players_known}
+use Rattle.c8_known.specs.Confirmed.{confirmed}
+use Rattle.c8_roll.specs.Roll.{mark_step}
+use Rattle.c8_window.specs.Window.{acked_of}
+use Rattle.c8_round.specs.Round.{answer_from}
+use Rattle.c8_record.specs.Allowed.{IsJournal, IsOrderly}
+use Rattle.c8_record.specs.JournalLaws.{of_game, journal_known}
+use Rattle.c8_record.specs.LeaverLaws.{journal_orderly}
+use Rattle.c8_peer.specs.State.{Memory, Call, Tick, Deliver, Say, Leave, Decide, Saying, Hello, Welcome, Data, Freeze, Frozen, Cut, Said, Outcome}
+use Rattle.c8_peer.specs.Saying.{is_not_mine, lacks_record, lacks_link, run_from, cut_length, cut_start, message, packet, say}
+use Rattle.c8_peer.specs.Steps.{outcome}
+use Rattle.c8_peer.specs.Truth.{Stands, IsFrozenAt, IsTrueMessage, IsTrue}
+use Rattle.c8_peer.specs.TruthLaws.{count_rises}
+use Rattle.c8_peer.specs.Lawful.{IsMemory, IsCall}
+use Rattle.c8_peer.specs.MemoryLaws.{unless, tick_is, leave_is, decide_is, deliver_is, no_packet_is}
+
+-- ---- what was judged of what is said
+
+-- This was asked, and nothing refused it.
+pub record IsSaid (rules : Rules) (k : KnownValue) (m : Memory) (p : Packet) : Type 0 where
+  pub to : ℕ
+  pub what : Saying
+  pub apart : to ≢ k.me
+  pub plays : Plays k to
+  pub mine : is_not_mine k to what ≡ false
+  pub has : lacks_record k what ≡ false
+  pub is : p ≡ packet rules k m to what
+
+plays_of : (k : KnownValue) (q : ℕ) → not (is_player k q) ≡ false → Plays k q
+plays_of k q is =
+    let both = and_parts (nat_le 1 q) (nat_le q (length k.players)) (not-false (is_player k q) is) in
+    record { from_one = leb-true 1 q both.0; in_game = leb-true q (length k.players) both.1 }
+
+abbrev Tells : Rules → KnownValue → Memory → Packet → Outcome → Type 0
+Tells rules k m p o = o.reply ≡ Said (Ok p) → IsSaid rules k m p
+
+say_said : (rules : Rules) (k : KnownValue) (m : Memory) (to : ℕ) (what : Saying) (p : Packet) → Tells rules k m p (say rules k m to what)
+unfolding say
+say_said rules k m to what p =
+    unless (Tells rules k m p) (player_in k k.me).leaving _ _ (λ e. absurd cc) (λ stays.
+    unless (Tells rules k m p) (to == k.me || not (is_player k to)) _ _ (λ e. absurd cc) (λ player.
+    unless (Tells rules k m p) (is_not_mine k to what) _ _ (λ e. absurd cc) (λ mine.
+    unless (Tells rules k m p) (lacks_record k what) _ _ (λ e. absurd cc) (λ has.
+    unless (Tells rules k m p) (lacks_link m to what) _ _ (λ e. absurd cc) (λ link e.
+    let other = or_parts (to == k.me) (not (is_player k to)) player in
+    record { to = to; what = what; apart = eqb-false to k.me other.0; plays = plays_of k to other.1; mine = mine; has = has; is = cc })))))
+
+-- nothing but a saying is answered by a packet
+pub what_is_said : (rules : Rules) (k : KnownValue) (m : Memory) (call : Call) (p : Packet) → (outcome rules k m call).reply ≡ Said (Ok p) → IsSaid rules k m p
+what_is_said rules k m (Tick keys) p = tick_is (Tells rules k m p) rules k m keys (λ answer keeps e. absurd cc)
+what_is_said rules k m (Deliver (Err error)) p = no_packet_is (Tells rules k m p) rules k m error (λ answer keeps e. absurd cc)
+what_is_said rules k m (Deliver (Ok came)) p =
+    deliver_is (Tells rules k m p) rules k m came (record {
+      rest = λ chair stayer alarm answer keeps e. absurd cc;
+      acks = λ n few answer keeps e. absurd cc;
+      links = λ answer keeps e. absurd cc;
+      both = λ n few answer keeps e. absurd cc;
+    })
+what_is_said rules k m (Say to what) p = say_said rules k m to what p
+what_is_said rules k m (Leave leaver) p = leave_is (Tells rules k m p) k m leaver (λ answer keeps e. absurd cc)
+what_is_said rules k m (Decide leaver) p = decide_is (Tells rules k m p) k m leaver (λ answer keeps e. absurd cc)
+
+-- ---- leavers
+
+-- a player of the game who may leave
+pub record IsLeaver (k : KnownValue) (q : ℕ) : Type 0 where
+  pub from_two : 2 ≤ q
+  pub in_game : q ≤ length k.players
+
+pub leaver_plays : (k : KnownValue) (q : ℕ) → IsLeaver k q → Plays k q
+leaver_plays k q is = let from = is.from_two in record { from_one = omega (arith, from); in_game = is.in_game }
+
+one_remains : (k : KnownValue) → IsOrderly k → is_frozen_in k 1 ≡ false
+one_remains k orderly = let stays = (orderly 1 (omega arith)).one_stays refl in rw (stays.0, stays.1) refl
+
+-- of nobody else a FREEZE or a LEAVE stands
+pub is_leaver : (k : KnownValue) (q : ℕ) → IsOrderly k → is_frozen_in k q ≡ true → IsLeaver k q
+is_leaver k zero orderly leaves = absurd (both_ways (is_frozen_in k 1) (one_remains k orderly) leaves)
+is_leaver k (suc zero) orderly leaves = absurd (both_ways (is_frozen_in k 1) (one_remains k orderly) leaves)
+is_leaver k (suc (suc n)) orderly leaves =
+    elim (cases_lt (length k.players) (suc (suc n))) [
+      | inl past ↦
+          let none : player_in k (suc (suc n)) ≡ nobody = get_or_past k.players (suc (suc n) - 1) nobody (omega (arith, past)) in
+          absurd (both_ways false refl (sym (ap is_frozen_of none) ∙ leaves))
+      | inr within ↦ record { from_two = omega arith; in_game = within }
+    ]
+
+pub frozen_or : (p : PlayerValue) → p.frozen ≡ true → is_frozen_of p ≡ true
+frozen_or p is = rw is refl
+
+or_true : (b : Bool) → (b || true) ≡ true
+or_true true = refl
+or_true false = refl
+
+pub leaving_or : (p : PlayerValue) → p.leaving ≡ true → is_frozen_of p ≡ true
+leaving_or p is = rw is (or_true p.frozen)
+
+-- a journal with a FREEZE of a player has records before it and after it
+record Splits (q : ℕ) (journal : List Record) : Type 0 where
+  before : List Record
+  rest : List Record
+  is : journal ≡ before ++ journals.Freeze q ∷ rest
+
+later : (q : ℕ) (r : Record) (journal : List Record) → Splits q journal → Splits q (r ∷ journal)
+later q r journal at = record { before = r ∷ at.before; rest = at.rest; is = ap (λ (more : List Record). r ∷ more) at.is }
+
+splits : (q : ℕ) (journal : List Record) → has_freeze q journal ≡ true → Splits q journal
+unfolding has_freeze
+splits q [] is = absurd cc
+splits q (Head player id room ∷ journal) is = later q (Head player id room) journal (splits q journal is)
+splits q (Epoch player number ∷ journal) is = later q (Epoch player number) journal (splits q journal is)
+splits q (Own player start word ∷ journal) is = later q (Own player start word) journal (splits q journal is)
+splits q (Got player start words ∷ journal) is = later q (Got player start words) journal (splits q journal is)
+splits q (journals.Freeze player ∷ journal) is =
+    elim (cases_eq player q) [
+      | inl same ↦ record { before = []; rest = journal; is = ap (λ (one : ℕ). journals.Freeze one ∷ journal) same }
+      | inr apart ↦ let more = rw (ne_eqb player q apart) at is in later q (journals.Freeze player) journal (splits q journal more)
+    ]
+splits q (journals.Leave player ∷ journal) is = later q (journals.Leave player) journal (splits q journal is)
+splits q (journals.Cut player length start words ∷ journal) is = later q (journals.Cut player length start words) journal (splits q journal is)
+
+frozen_at : (rules : Rules) (q : ℕ) (journal : List Record) (n : ℕ) → has_freeze q journal ≡ true → n ≡ count rules q journal → IsFrozenAt rules q n journal
+frozen_at rules q journal n is all =
+    let at = splits q journal is in
+    let longer : count rules q at.before ≤ count rules q (at.before ++ journals.Freeze q ∷ at.rest) = count_rises rules q at.before (journals.Freeze q ∷ at.rest) in
+    let whole : count rules q journal ≡ count rules q (at.before ++ journals.Freeze q ∷ at.rest) = ap (count rules q) at.is in
+    record { before = at.before; rest = at.rest; is = at.is; few = omega (arith, longer, whole, all) }
+
+-- ---- what is known, in the words of the journal
+
+pub own_player : (rules : Rules) (me : ℕ) (journal : List Record) → (known_of rules me journal).me ≡ me
+own_player rules me journal = (of_game rules me journal).player
+
+pub said_is : (rules : Rules) (me q : ℕ) (journal : List Record) → Plays (known_of rules me journal) q → player_in (known_of rules me journal) q ≡ said_of rules q journal
+said_is rules me q journal plays =
+    let within = plays.in_game in
+    player_known rules me q journal plays.from_one (omega (arith, within, players_known rules me journal))
+
+count_is : (rules : Rules) (me q : ℕ) (journal : List Record) → Plays (known_of rules me journal) q → count_in (known_of rules me journal) q ≡ count rules q journal
+count_is rules me q journal plays = ap (λ (p : PlayerValue). length p.held) (said_is rules me q journal plays)
+
+stands_in : (xs ys : List ℕ) (n start : ℕ) → xs ≡ ys → Stands start (take n (drop start xs)) ys
+stands_in xs ys n start same = subst (λ (zs : List ℕ). Begins (take n (drop start xs)) (drop start zs)) same (begins_take n (drop start xs))
+
+-- ---- each kind
+
+abbrev TrueOf : Rules → ℕ → List Record → Memory → ℕ → Saying → Type 0
+TrueOf rules me journal m to what = IsTrueMessage rules me to journal (message rules (known_of rules me journal) m to what)
+
+welcome_true : (rules : Rules) (me : ℕ) (journal : List Record) (m : Memory) (to : ℕ) → Plays (known_of rules me journal) to → TrueOf rules me journal m to Welcome
+welcome_true rules me journal m to plays = omega (arith, count_is rules me to journal plays)
+
+data_true : (rules : Rules) (me : ℕ) (journal : List Record) (m : Memory) (to : ℕ) → IsKnown (known_of rules me journal) → Plays (known_of rules me journal) to → TrueOf rules me journal m to Data
+data_true rules me journal m to known plays =
+    let k : KnownValue = known_of rules me journal in
+    let own : (player_in k k.me).held ≡ held rules me journal =
+    ap (λ (p : PlayerValue). p.held) (said_is rules me k.me journal known.me) ∙ ap (λ (q : ℕ). held rules q journal) (own_player rules me journal) in (
+      omega (arith, count_is rules me to journal plays),
+      stands_in (player_in k k.me).held (held rules me journal) longest_run (acked_of m.acks to) own,
+      record { steps = confirmed k / mark_step; at = refl; confirmed = omega arith; is = refl },
+    )
+
+leaver_of : (rules : Rules) (me q : ℕ) (journal : List Record) → IsOrderly (known_of rules me journal) → is_frozen_in (known_of rules me journal) q ≡ true → Plays (known_of rules me journal) q
+leaver_of rules me q journal orderly leaves = leaver_plays (known_of rules me journal) q (is_leaver (known_of rules me journal) q orderly leaves)
+
+run_stands : (rules : Rules) (me q start : ℕ) (journal : List Record) → Plays (known_of rules me journal) q → Stands start (run_from (known_of rules me journal) q start) (held rules q journal)
+run_stands rules me q start journal plays =
+    stands_in (player_in (known_of rules me journal) q).held (held rules q journal) longest_run start (ap (λ (p : PlayerValue). p.held) (said_is rules me q journal plays))
+
+freeze_true : (rules : Rules) (me : ℕ) (journal : List Record) (m : Memory) (to leaver : ℕ) → IsOrderly (known_of rules me journal)
+    → is_not_mine (known_of rules me journal) to (Freeze leaver) ≡ false → lacks_record (known_of rules me journal) (Freeze leaver) ≡ false → TrueOf rules me journal m to (Freeze leaver)
+freeze_true rules me journal m to leaver orderly mine has =
+    let k : KnownValue = known_of rules me journal in
+    let leaves : (player_in k leaver).leaving ≡ true = not-false (player_in k leaver).leaving has in
+    let plays : Plays k leaver = leaver_of rules me leaver journal orderly (leaving_or (player_in k leaver) leaves) in
+    let one : k.me ≡ 1 = eqb-true k.me 1 (not-false (k.me == 1) (or_parts (not (k.me == 1)) (to == leaver) mine).0) in (
+      sym (own_player rules me journal) ∙ one,
+      sym (ap (λ (p : PlayerValue). p.leaving) (said_is rules me leaver journal plays)) ∙ leaves,
+      omega (arith, count_is rules me leaver journal plays),
+    )
+
+frozen_true : (rules : Rules) (me : ℕ) (journal : List Record) (m : Memory) (to leaver : ℕ) → IsOrderly (known_of rules me journal)
+    → lacks_record (known_of rules me journal) (Frozen leaver) ≡ false → TrueOf rules me journal m to (Frozen leaver)
+frozen_true rules me journal m to leaver orderly has =
+    let k : KnownValue = known_of rules me journal in
+    let frozen : (player_in k leaver).frozen ≡ true = not-false (player_in k leaver).frozen has in
+    let plays : Plays k leaver = leaver_of rules me leaver journal orderly (frozen_or (player_in k leaver) frozen) in
+    let all = count_is rules me leaver journal plays in (
+      frozen_at rules leaver journal (count_in k leaver) (sym (ap (λ (p : PlayerValue). p.frozen) (said_is rules me leaver journal plays)) ∙ frozen) all,
+      omega (arith, all),
+      run_stands rules me leaver (answer_from m.stayer k leaver) journal plays,
+    )
+
+pub some_cut : (o : Option ℕ) → is_none o ≡ false → o ≡ Some (cut_length o)
+some_cut None has = absurd cc
+some_cut (Some K) has = refl
+
+cut_true : (rules : Rules) (me : ℕ) (journal : List Record) (m : Memory) (to leaver : ℕ) → IsOrderly (known_of rules me journal) → IsKnown (known_of rules me journal)
+    → is_not_mine (known_of rules me journal) to (Cut leaver) ≡ false → lacks_record (known_of rules me journal) (Cut leaver) ≡ false → TrueOf rules me journal m to (Cut leaver)
+cut_true rules me journal m to leaver orderly known mine has =
+    let k : KnownValue = known_of rules me journal in
+    let cut = some_cut (player_in k leaver).cut has in
+    let plays : Plays k leaver = leaver_of rules me leaver journal orderly (known.cuts leaver (cut_length (player_in k leaver).cut) cut).leaves in
+    let one : k.me ≡ 1 = eqb-true k.me 1 (not-false (k.me == 1) mine) in (
+      sym (own_player rules me journal) ∙ one,
+      sym (ap (λ (p : PlayerValue). p.cut) (said_is rules me leaver journal plays)) ∙ cut,
+      run_stands rules me leaver (cut_start k m to leaver) journal plays,
+    )
+
+message_true : (rules : Rules) (me : ℕ) (journal : List Record) (m : Memory) (to : ℕ) (what : Saying) → IsOrderly (known_of rules me journal) → IsKnown (known_of rules me journal)
+    → Plays (known_of rules me journal) to → is_not_mine (known_of rules me journal) to what ≡ false → lacks_record (known_of rules me journal) what ≡ false → TrueOf rules me journal m to what
+message_true rules me journal m to Hello orderly known plays mine has = tt
+message_true rules me journal m to Welcome orderly known plays mine has = welcome_true rules me journal m to plays
+message_true rules me journal m to Data orderly known plays mine has = data_true rules me journal m to known plays
+message_true rules me journal m to (Freeze leaver) orderly known plays mine has = freeze_true rules me journal m to leaver orderly mine has
+message_true rules me journal m to (Frozen leaver) orderly known plays mine has = frozen_true rules me journal m to leaver orderly has
+message_true rules me journal m to (Cut leaver) orderly known plays mine has = cut_true rules me journal m to leaver orderly known mine has
+
+-- ---- all of it
+
+pub said_true : (rules : Rules) (me room : ℕ) (journal : List Record) (m : Memory)
+    (call : Call) (p : Packet)
+    → AreInRange rules → 1 ≤ me → me ≤ rules.players → IsJournal rules me room journal
+    → IsMemory rules room me journal m → IsCall call
+    → (outcome rules (known_of rules me journal) m call).reply ≡ Said (Ok p)
+    → IsTrue rules me journal p
+said_true rules me room journal m call p range from to journal_is is fits said =
+    let k : KnownValue = known_of rules me journal in
+    let s = what_is_said rules k m call p said in
+    let known : IsKnown k = journal_known rules me room journal range from to journal_is in
+    subst (λ (one : Packet). IsTrue rules me journal one) (sym s.is) (record {
+      from = is.player;
+      epoch = is.epoch;
+      message = message_true rules me journal m s.to s.what (journal_orderly rules me room journal journal_is) known s.plays s.mine s.has;
+    })

@@ -1,0 +1,248 @@
+-- Checked, not believed: what an open peer says can be spelled.
+use Rattle.std.proofs.Common.{◌≡◌, ◌≢◌, ℕ, zero, suc, ◌*◌, ◌/◌, ◌^◌, ◌<◌, ◌≤◌, List, [], ◌∷◌, ◌++◌, length, take, drop, replicate, Bool, true, false, Some, Ok, refl, sym, ap, subst, ◌∙◌, arith}
+use Rattle.std.specs.Prelude.{◌==◌, slice_index, if◌then◌else◌}
+use Rattle.std.specs.Int.{from_be_bytes, to_be_bytes, w64}
+use Rattle.std.specs.List.{slice_get, flat_map}
+use Rattle.std.proofs.lemmas.Bool.{not-false}
+use Rattle.std.proofs.lemmas.List.{length-take, length-drop}
+use Rattle.sha2.specs.Sha256.{sha256}
+use Rattle.c8_game.specs.Rules.{Rules, AreInRange, id_of, session_of, most_inputs}
+use Rattle.c8_machine.specs.Serial.{serial}
+use Rattle.c8_digest.specs.StateBytes.{state_bytes}
+use Rattle.c8_wire.specs.declared.kinds.Kind.{Kind}
+use Rattle.c8_wire.specs.Sizes.{longest_run}
+use Rattle.c8_wire.specs.Packet.{Message, Packet, IsLeaverMessage, AreBytes, AreWords, IsMark, IsRun, Fits, IsMessage, IsHead, IsPacket, kind_of}
+use Rattle.c8_hand.specs.Links.{head_to}
+use Rattle.c8_known.specs.Journal as journals
+use Rattle.c8_known.specs.Journal.{Record, Head, Epoch, Own, Got, words_of, held, count}
+use Rattle.c8_known.specs.Known.{PlayerValue, KnownValue, player_in, count_in, known_of, Plays, IsKnown}
+use Rattle.c8_known.specs.StartLaws.{players_known}
+use Rattle.c8_known.specs.Confirmed.{confirmed, rows_below}
+use Rattle.c8_known.specs.ConfirmedLaws.{confirmed_is}
+use Rattle.c8_roll.specs.Roll.{mark_step}
+use Rattle.c8_window.specs.Window.{acked_of}
+use Rattle.c8_round.specs.Round.{answer_from}
+use Rattle.c8_record.specs.Body.{HasSpelling}
+use Rattle.c8_record.specs.Allowed.{IsJournal, IsOrderly}
+use Rattle.c8_record.specs.JournalLaws.{journal_known}
+use Rattle.c8_record.specs.LeaverLaws.{journal_orderly}
+use Rattle.c8_peer.specs.DigestLaws.{digest_length, digest_bytes_fit}
+use Rattle.c8_peer.specs.State.{Memory, Call, Saying, Hello, Welcome, Data, Freeze, Frozen, Cut, Said}
+use Rattle.c8_peer.specs.Saying.{lacks_record, run_from, cut_length, cut_start, message}
+use Rattle.c8_peer.specs.Steps.{outcome}
+use Rattle.c8_peer.specs.Lawful.{IsMemory, IsCall}
+use Rattle.c8_peer.specs.SayingLaws.{IsLeaver, is_leaver, leaver_plays, frozen_or, leaving_or, some_cut, own_player, said_is, what_is_said}
+
+-- ---- parts of lists
+
+take_low : (xs : List ℕ) (n bound : ℕ) → ((i : ℕ) → slice_index xs i < bound) → (i : ℕ) → slice_index (take n xs) i < bound
+take_low xs zero bound low i = let one = low 0 in omega (arith, one)
+take_low [] (suc n) bound low i = low i
+take_low (x ∷ xs) (suc n) bound low zero = low 0
+take_low (x ∷ xs) (suc n) bound low (suc i) = take_low xs n bound (λ j. low (suc j)) i
+
+drop_low : (xs : List ℕ) (n bound : ℕ) → ((i : ℕ) → slice_index xs i < bound) → (i : ℕ) → slice_index (drop n xs) i < bound
+drop_low xs zero bound low i = low i
+drop_low [] (suc n) bound low i = low i
+drop_low (x ∷ xs) (suc n) bound low i = drop_low xs n bound (λ j. low (suc j)) i
+
+append_low : (xs ys : List ℕ) (bound : ℕ) → ((i : ℕ) → slice_index xs i < bound) → ((i : ℕ) → slice_index ys i < bound) → (i : ℕ) → slice_index (xs ++ ys) i < bound
+append_low [] ys bound one two i = two i
+append_low (x ∷ xs) ys bound one two zero = one 0
+append_low (x ∷ xs) ys bound one two (suc i) = append_low xs ys bound (λ j. one (suc j)) two i
+
+-- ---- digests
+
+-- the first 8 bytes of a digest
+front_is_mark : (bytes : List ℕ) → IsMark (take 8 (sha256 bytes))
+front_is_mark bytes =
+    (omega (arith, length-take 8 (sha256 bytes), digest_length bytes), take_low (sha256 bytes) 8 (2 ^ 8) (digest_bytes_fit bytes))
+
+number_low : (bytes : List ℕ) → AreBytes bytes → from_be_bytes w64 bytes < 2 ^ 64
+number_low bytes fits =
+    let b0 = fits 0 in
+    let b1 = fits 1 in
+    let b2 = fits 2 in
+    let b3 = fits 3 in
+    let b4 = fits 4 in
+    let b5 = fits 5 in
+    let b6 = fits 6 in
+    let b7 = fits 7 in
+    omega (arith, b0, b1, b2, b3, b4, b5, b6, b7)
+
+session_low : (rules : Rules) (room : ℕ) → session_of rules room < 2 ^ 64
+session_low rules room =
+    let bytes : List ℕ = id_of rules ++ to_be_bytes w64 room in
+    number_low (take 8 (sha256 bytes)) (front_is_mark bytes).1
+
+-- ---- inputs
+
+no_words : AreWords []
+no_words i = omega arith
+
+words_if : (test : Bool) (words : List ℕ) → AreWords words → AreWords (if test then words else [])
+words_if true words fit = fit
+words_if false words fit = no_words
+
+one_word : (word : ℕ) → word < 2 ^ 16 → AreWords (word ∷ [])
+one_word word low zero = low
+one_word word low (suc i) = omega arith
+
+words_fit : (q : ℕ) (r : Record) → HasSpelling r → AreWords (words_of q r)
+words_fit q (Head player id room) has = no_words
+words_fit q (Epoch player number) has = no_words
+words_fit q (Own player start word) has = words_if (player == q) (word ∷ []) (one_word word has.parts)
+words_fit q (Got player start words) has = words_if (player == q) words has.parts.1
+words_fit q (journals.Freeze player) has = no_words
+words_fit q (journals.Leave player) has = no_words
+words_fit q (journals.Cut player K start words) has = words_if (player == q) words has.parts
+
+all_words : (q : ℕ) (journal : List Record) → ((n : ℕ) (r : Record) → slice_get journal n ≡ Some r → HasSpelling r) → AreWords (flat_map (words_of q) journal)
+all_words q [] has = no_words
+all_words q (r ∷ journal) has = append_low (words_of q r) (flat_map (words_of q) journal) (2 ^ 16) (words_fit q r (has 0 r refl)) (all_words q journal (λ n s e. has (suc n) s e))
+
+empty_sets : (n : ℕ) → AreWords (replicate n 0)
+empty_sets zero i = omega arith
+empty_sets (suc n) zero = omega arith
+empty_sets (suc n) (suc i) = empty_sets n i
+
+-- every input of a journal is a set of 16 keys
+pub held_words : (rules : Rules) (me room q : ℕ) (journal : List Record) → IsJournal rules me room journal → AreWords (held rules q journal)
+unfolding held
+held_words rules me room q journal is =
+    append_low (replicate rules.delay 0) (flat_map (words_of q) journal) (2 ^ 16) (empty_sets rules.delay) (all_words q journal (λ n r e. (is n r e).spelled))
+
+known_words : (rules : Rules) (me room q : ℕ) (journal : List Record) → IsJournal rules me room journal → Plays (known_of rules me journal) q → AreWords (player_in (known_of rules me journal) q).held
+known_words rules me room q journal is plays =
+    subst AreWords (sym (ap (λ (p : PlayerValue). p.held) (said_is rules me q journal plays))) (held_words rules me room q journal is)
+
+run_words : (xs : List ℕ) (start : ℕ) → AreWords xs → AreWords (take longest_run (drop start xs))
+run_words xs start fit = take_low (drop start xs) longest_run (2 ^ 16) (drop_low xs start (2 ^ 16) fit)
+
+run_is : (xs : List ℕ) (start end : ℕ) → start ≤ end → length xs ≤ end → IsRun start (take longest_run (drop start xs)) end
+run_is xs start end from to =
+    let run = length-take longest_run (drop start xs) in
+    let tail = length-drop start xs in
+    record { short = omega (arith, run); within = omega (arith, run, tail, from, to) }
+
+-- ---- each kind
+
+-- the message has room where it is spelled, and may be said
+record IsSpelled (m : Message) : Type 0 where
+  fits : Fits m
+  may : IsMessage m
+
+few : (k : KnownValue) (q : ℕ) → IsKnown k → count_in k q ≤ most_inputs
+few k q known =
+    let within = known.within q in
+    let limit = known.limit in
+    omega (arith, within, limit)
+
+data_spelled : (rules : Rules) (me room : ℕ) (journal : List Record) (m : Memory) (to : ℕ) → IsJournal rules me room journal → IsMemory rules room me journal m
+    → IsKnown (known_of rules me journal) → IsSpelled (message rules (known_of rules me journal) m to Data)
+data_spelled rules me room journal m to is memory known =
+    let k : KnownValue = known_of rules me journal in
+    let own : List ℕ = (player_in k k.me).held in
+    let all : count_in k k.me ≡ count rules me journal =
+    ap (λ (p : PlayerValue). length p.held) (said_is rules me k.me journal known.me) ∙ ap (λ (q : ℕ). count rules q journal) (own_player rules me journal) in
+    let acked = memory.acked to in
+    let least = few k k.me known in
+    let ticked = (confirmed_is k).ticked in
+    let ticks = known.own in
+    record {
+      fits = (front_is_mark (state_bytes (serial rules (rows_below k (mark_step * (confirmed k / mark_step))))), run_words own (acked_of m.acks to) (known_words rules me room k.me journal is known.me));
+      may = record {
+        ack = few k to known;
+        mark_frame = omega (arith, least, ticked, ticks);
+        run = run_is own (acked_of m.acks to) most_inputs (omega (arith, acked, all, least)) least;
+      };
+    }
+
+freeze_spelled : (rules : Rules) (k : KnownValue) (m : Memory) (to leaver : ℕ) → IsKnown k → IsLeaver k leaver → IsSpelled (message rules k m to (Freeze leaver))
+freeze_spelled rules k m to leaver known leaves =
+    let four = known.at_most_four in
+    let within = leaves.in_game in
+    record { fits = tt; may = record { leaver_from_two = leaves.from_two; leaver_to_four = omega (arith, four, within); have = few k leaver known } }
+
+-- FROZEN and CUT bring inputs of a leaver up to a length, from a place on that is not past it
+leaver_spelled : (k : KnownValue) (leaver : ℕ) (end start : ℕ) → IsKnown k → IsLeaver k leaver → count_in k leaver ≡ end → start ≤ end
+    → IsLeaverMessage (record { leaver = leaver; length = end; start = start; words = run_from k leaver start })
+leaver_spelled k leaver end start known leaves all from =
+    let four = known.at_most_four in
+    let within = leaves.in_game in
+    let least = few k leaver known in
+    record {
+      leaver_from_two = leaves.from_two;
+      leaver_to_four = omega (arith, four, within);
+      length = omega (arith, all, least);
+      run = run_is (player_in k leaver).held start end from (omega (arith, all));
+    }
+
+frozen_spelled : (rules : Rules) (k : KnownValue) (m : Memory) (to leaver : ℕ) → IsKnown k → IsLeaver k leaver → AreWords (player_in k leaver).held → IsSpelled (message rules k m to (Frozen leaver))
+frozen_spelled rules k m to leaver known leaves words = record {
+  fits = run_words (player_in k leaver).held (answer_from m.stayer k leaver) words;
+  may = leaver_spelled k leaver (count_in k leaver) (answer_from m.stayer k leaver) known leaves refl (omega arith);
+}
+
+cut_spelled : (rules : Rules) (k : KnownValue) (m : Memory) (to leaver : ℕ) → IsKnown k → IsLeaver k leaver → count_in k leaver ≡ cut_length (player_in k leaver).cut
+    → AreWords (player_in k leaver).held → IsSpelled (message rules k m to (Cut leaver))
+cut_spelled rules k m to leaver known leaves all words = record {
+  fits = run_words (player_in k leaver).held (cut_start k m to leaver) words;
+  may = leaver_spelled k leaver (cut_length (player_in k leaver).cut) (cut_start k m to leaver) known leaves all (omega arith);
+}
+
+message_spelled : (rules : Rules) (me room : ℕ) (journal : List Record) (m : Memory) (to : ℕ) (what : Saying) → IsJournal rules me room journal → IsMemory rules room me journal m
+    → IsOrderly (known_of rules me journal) → IsKnown (known_of rules me journal) → lacks_record (known_of rules me journal) what ≡ false → IsSpelled (message rules (known_of rules me journal) m to what)
+message_spelled rules me room journal m to Hello is memory orderly known has = record { fits = tt; may = tt }
+message_spelled rules me room journal m to Welcome is memory orderly known has = record { fits = tt; may = few (known_of rules me journal) to known }
+message_spelled rules me room journal m to Data is memory orderly known has = data_spelled rules me room journal m to is memory known
+message_spelled rules me room journal m to (Freeze leaver) is memory orderly known has =
+    let k : KnownValue = known_of rules me journal in
+    freeze_spelled rules k m to leaver known (is_leaver k leaver orderly (leaving_or (player_in k leaver) (not-false (player_in k leaver).leaving has)))
+message_spelled rules me room journal m to (Frozen leaver) is memory orderly known has =
+    let k : KnownValue = known_of rules me journal in
+    let leaves = is_leaver k leaver orderly (frozen_or (player_in k leaver) (not-false (player_in k leaver).frozen has)) in
+    frozen_spelled rules k m to leaver known leaves (known_words rules me room leaver journal is (leaver_plays k leaver leaves))
+message_spelled rules me room journal m to (Cut leaver) is memory orderly known has =
+    let k : KnownValue = known_of rules me journal in
+    let ends = known.cuts leaver (cut_length (player_in k leaver).cut) (some_cut (player_in k leaver).cut has) in
+    let leaves = is_leaver k leaver orderly ends.leaves in
+    cut_spelled rules k m to leaver known leaves ends.count (known_words rules me room leaver journal is (leaver_plays k leaver leaves))
+
+-- ---- the head, and all of it
+
+head_spelled : (rules : Rules) (me room : ℕ) (journal : List Record) (m : Memory) (to : ℕ) (kind : Kind) → AreInRange rules → 1 ≤ me → me ≤ rules.players → IsMemory rules room me journal m
+    → to ≢ (known_of rules me journal).me → Plays (known_of rules me journal) to → IsHead (head_to m.links to kind)
+head_spelled rules me room journal m to kind range from within memory apart plays =
+    let player = memory.player in
+    let four = range.at_most_four in
+    let first = plays.from_one in
+    let last = plays.in_game in
+    record {
+      session = subst (λ (n : ℕ). n < 2 ^ 64) (sym memory.session) (session_low rules room);
+      from_one = omega (arith, player, from);
+      from_four = omega (arith, player, within, four);
+      to_one = first;
+      to_four = omega (arith, last, four, players_known rules me journal);
+      apart = λ same. apart (sym same ∙ player ∙ sym (own_player rules me journal));
+      sender_epoch = memory.epoch_fits;
+      addressee_epoch = memory.known_fits to;
+    }
+
+pub said_spelled : (rules : Rules) (me room : ℕ) (journal : List Record) (m : Memory)
+    (call : Call) (p : Packet)
+    → AreInRange rules → 1 ≤ me → me ≤ rules.players → IsJournal rules me room journal
+    → IsMemory rules room me journal m → IsCall call
+    → (outcome rules (known_of rules me journal) m call).reply ≡ Said (Ok p)
+    → IsPacket p
+said_spelled rules me room journal m call p range from within journal_is memory fits said =
+    let k : KnownValue = known_of rules me journal in
+    let s = what_is_said rules k m call p said in
+    let known : IsKnown k = journal_known rules me room journal range from within journal_is in
+    let spelled = message_spelled rules me room journal m s.to s.what journal_is memory (journal_orderly rules me room journal journal_is) known s.has in
+    subst IsPacket (sym s.is) (record {
+      head = head_spelled rules me room journal m s.to (kind_of (message rules k m s.to s.what)) range from within memory s.apart s.plays;
+      kind = refl;
+      fits = spelled.fits;
+      message = spelled.may;
+    })

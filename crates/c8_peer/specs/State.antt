@@ -1,0 +1,92 @@
+-- What a peer is: its journal, whether it is open, and what it keeps in memory.
+use Rattle.std.specs.Prelude.{ℕ, List, Option, Some, None, Bool, false, Result}
+use Rattle.c8_game.specs.Rules.{Rules}
+use Rattle.c8_wire.specs.declared.error.WireError.{WireError}
+use Rattle.c8_wire.specs.Packet.{Packet}
+use Rattle.c8_hand.specs.Links.{LinksValue, no_links}
+use Rattle.c8_known.specs.Journal.{Record}
+use Rattle.c8_window.specs.Window.{WindowValue, first_window}
+use Rattle.c8_round.specs.Round.{ChairValue, no_reports, StayerValue, no_haves}
+use Rattle.c8_peer.specs.declared.error.OpenError.{OpenError}
+use Rattle.c8_peer.specs.declared.error.TickError.{TickError}
+use Rattle.c8_peer.specs.declared.error.Refused.{Refused}
+use Rattle.c8_peer.specs.declared.error.Unsayable.{Unsayable}
+use Rattle.c8_peer.specs.declared.error.LeaveError.{LeaveError}
+use Rattle.c8_peer.specs.declared.error.DecideError.{DecideError}
+use Rattle.c8_peer.specs.declared.heard.Heard.{Heard}
+
+-- ---- the state
+
+-- What begins anew with each opening: the links, how many of the own inputs each player has acknowledged, what is kept of
+-- a drop round, and whether another peer's machine was seen to differ.
+pub record Memory : Type 0 where
+  pub links : LinksValue
+  pub acks : WindowValue
+  pub chair : ChairValue
+  pub stayer : StayerValue
+  pub alarm : Bool
+
+-- open; down, since the disk refused a record; or away
+pub data Mode : Type 0 where
+  Open : Mode
+  Down : Mode
+  Away : Mode
+
+-- The journal is what has been recorded. A record that the disk refused is pending: the next reading of the disk finds the
+-- journal without it or with it.
+pub record State : Type 0 where
+  pub journal : List Record
+  pub pending : Option Record
+  pub mode : Mode
+  pub memory : Memory
+
+-- the memory of a peer that has just been opened in an epoch
+abbrev pub fresh_memory : Rules → ℕ → ℕ → ℕ → Memory
+fresh_memory rules room me epoch = record {
+  links = no_links rules me room epoch;
+  acks = first_window rules.delay;
+  chair = no_reports;
+  stayer = no_haves;
+  alarm = false;
+}
+
+-- ---- what happens to an open peer, and what it answers
+
+-- what a peer may be asked to say; a leaver is a player's number
+pub data Saying : Type 0 where
+  Hello : Saying
+  Welcome : Saying
+  Data : Saying
+  Freeze : (leaver : ℕ) → Saying
+  Frozen : (leaver : ℕ) → Saying
+  Cut : (leaver : ℕ) → Saying
+
+-- a call; what is delivered is what the bytes say, a packet or the wire's refusal
+pub data Call : Type 0 where
+  Tick : (keys : ℕ) → Call
+  Deliver : (told : Result Packet WireError) → Call
+  Say : (to : ℕ) → (what : Saying) → Call
+  Leave : (leaver : ℕ) → Call
+  Decide : (leaver : ℕ) → Call
+
+-- The answer to an opening and to each call: an opening answers its epoch, a saying the packet that is said, a decision the
+-- length at which it cuts.
+pub data Reply : Type 0 where
+  Opened : Result ℕ OpenError → Reply
+  Ticked : Result (Unit {0}) TickError → Reply
+  Delivered : Result Heard Refused → Reply
+  Said : Result Packet Unsayable → Reply
+  Left : Result (Unit {0}) LeaveError → Reply
+  Decided : Result ℕ DecideError → Reply
+
+-- What a call comes to where the disk takes what it records: the answer, at most one record, and the memory after it.
+pub record Outcome : Type 0 where
+  pub reply : Reply
+  pub keeps : Option Record
+  pub memory : Memory
+
+abbrev pub answered : Memory → Reply → Outcome
+answered m reply = record { reply = reply; keeps = None; memory = m }
+
+abbrev pub recorded : Memory → Reply → Record → Outcome
+recorded m reply r = record { reply = reply; keeps = Some r; memory = m }

@@ -1,0 +1,65 @@
+-- The step of a peer: what a call comes to, and what the disk makes of it.
+use Rattle.std.specs.Prelude.{ℕ, [], ◌∷◌, ◌++◌, Option, Some, None, Err}
+use Rattle.c8_game.specs.Rules.{Rules}
+use Rattle.c8_disk.specs.declared.error.DiskError.{DiskError}
+use Rattle.c8_known.specs.Journal.{Record}
+use Rattle.c8_known.specs.Known.{KnownValue, known_of}
+use Rattle.c8_peer.specs.declared.error.TickError.TheVariants as ticks
+use Rattle.c8_peer.specs.declared.error.Refused.TheVariants as refusals
+use Rattle.c8_peer.specs.declared.error.Unsayable.TheVariants as unsayables
+use Rattle.c8_peer.specs.declared.error.LeaveError.TheVariants as leaves
+use Rattle.c8_peer.specs.declared.error.DecideError.TheVariants as decides
+use Rattle.c8_peer.specs.State.{Memory, Mode, Open, Down, Away, State, Call, Tick, Deliver, Say, Leave, Decide, Reply, Ticked, Delivered, Said, Left, Decided, Outcome}
+use Rattle.c8_peer.specs.Calls.{tick, leave, decide}
+use Rattle.c8_peer.specs.Hearing.{deliver}
+use Rattle.c8_peer.specs.Saying.{say}
+
+-- what a call of an open peer comes to, by what is known
+abbrev pub outcome : Rules → KnownValue → Memory → Call → Outcome
+outcome rules k m (Tick keys) = tick rules k m keys
+outcome rules k m (Deliver told) = deliver rules k m told
+outcome rules k m (Say to what) = say rules k m to what
+outcome rules k m (Leave leaver) = leave k m leaver
+outcome rules k m (Decide leaver) = decide k m leaver
+
+-- What the disk does with a record: it takes it, or it refuses. Where there is nothing to record this says nothing.
+pub data Luck : Type 0 where
+  Works : Luck
+  Refuses : DiskError → Luck
+
+-- the answer where the disk refused the record (a saying records nothing)
+abbrev pub refused_by_disk : Call → DiskError → Reply
+refused_by_disk (Tick keys) why = Ticked (Err (ticks.Disk why))
+refused_by_disk (Deliver told) why = Delivered (Err (refusals.Disk why))
+refused_by_disk (Say to what) why = Said (Err unsayables.Down)
+refused_by_disk (Leave leaver) why = Left (Err (leaves.Disk why))
+refused_by_disk (Decide leaver) why = Decided (Err (decides.Disk why))
+
+-- the answer of a peer that is down
+abbrev pub when_down : Call → Reply
+when_down (Tick keys) = Ticked (Err ticks.Down)
+when_down (Deliver told) = Delivered (Err refusals.Down)
+when_down (Say to what) = Said (Err unsayables.Down)
+when_down (Leave leaver) = Left (Err leaves.Down)
+when_down (Decide leaver) = Decided (Err decides.Down)
+
+-- an answer and the state after it
+pub record Stepped : Type 0 where
+  pub reply : Reply
+  pub state : State
+
+-- A record that the disk takes stands, and the memory is the call's. One that it refuses is pending: the peer is down, and
+-- all else is as it was.
+abbrev pub done : State → Call → Outcome → Option Record → Luck → Stepped
+done s call o None luck = record { reply = o.reply; state = record s { memory = o.memory } }
+done s call o (Some r) Works = record { reply = o.reply; state = record s { journal = s.journal ++ r ∷ []; memory = o.memory } }
+done s call o (Some r) (Refuses why) = record { reply = refused_by_disk call why; state = record s { pending = Some r; mode = Down } }
+
+-- a peer that is not open changes nothing
+abbrev pub at_mode : State → Call → Outcome → Mode → Luck → Stepped
+at_mode s call o Open luck = done s call o o.keeps luck
+at_mode s call o Down luck = record { reply = when_down call; state = s }
+at_mode s call o Away luck = record { reply = when_down call; state = s }
+
+abbrev pub step : Rules → ℕ → State → Call → Luck → Stepped
+step rules me s call luck = at_mode s call (outcome rules (known_of rules me s.journal) s.memory call) s.mode luck

@@ -1,0 +1,85 @@
+-- Checked, not believed: what is true of a journal stays true of every longer one.
+use Rattle.std.proofs.Common.{◌≡◌, ℕ, ◌≤◌, List, ◌∷◌, ◌++◌, drop, sym, ap, ◌∙◌, append_assoc, arith}
+use Rattle.c8_game.specs.Rules.{Rules, AreInRange}
+use Rattle.c8_game.specs.declared.row.Row.{Row}
+use Rattle.c8_machine.specs.Serial.{serial}
+use Rattle.c8_digest.specs.StateBytes.{mark_of}
+use Rattle.c8_wire.specs.Packet.{Message, Packet}
+use Rattle.c8_wire.specs.Packet as packets
+use Rattle.c8_known.specs.Journal.{Record, Freeze, held, count}
+use Rattle.c8_known.specs.Known.{KnownValue, known_of}
+use Rattle.c8_known.specs.Confirmed.{confirmed, row, rows_below}
+use Rattle.c8_known.specs.Growth.{Begins, IsStillKnown}
+use Rattle.c8_known.specs.ConfirmedLaws.{confirmed_rises, row_stays, map_same}
+use Rattle.c8_known.specs.BeginsLaws.{begins_more, begins_drop, begins_length}
+use Rattle.c8_known.specs.JournalLaws.{held_begins, leave_stays, epoch_stays, cut_stays}
+use Rattle.c8_record.specs.Allowed.{IsJournal}
+use Rattle.c8_record.specs.JournalLaws.{journal_grows}
+use Rattle.c8_peer.specs.Truth.{Stands, IsTrueMark, IsFrozenAt, IsTrueMessage, IsTrue}
+
+-- rows that are confirmed stay
+pub rows_same : (early late : KnownValue) (n : ℕ) → IsStillKnown early late → n ≤ confirmed early → rows_below late n ≡ rows_below early n
+rows_same early late n still within = map_same (row late) (row early) 0 n (λ frame below. row_stays early late still frame (omega (arith, below, within)))
+
+pub stands_longer : (start : ℕ) (words short long : List ℕ) → Begins short long → Stands start words short → Stands start words long
+stands_longer start words short long begins stands = begins_more words (drop start short) (drop start long) stands (begins_drop start short long begins)
+
+pub count_rises : (rules : Rules) (q : ℕ) (journal rest : List Record) → count rules q journal ≤ count rules q (journal ++ rest)
+count_rises rules q journal rest = begins_length (held rules q journal) (held rules q (journal ++ rest)) (held_begins rules q journal rest)
+
+pub frozen_stays : (rules : Rules) (leaver n : ℕ) (journal rest : List Record) → IsFrozenAt rules leaver n journal → IsFrozenAt rules leaver n (journal ++ rest)
+frozen_stays rules leaver n journal rest at = record {
+  before = at.before;
+  rest = at.rest ++ rest;
+  is = ap (λ (early : List Record). early ++ rest) at.is ∙ append_assoc at.before (Freeze leaver ∷ at.rest) rest;
+  few = at.few;
+}
+
+mark_stays : (rules : Rules) (me : ℕ) (journal rest : List Record) (frame : ℕ) (mark : List ℕ) → IsStillKnown (known_of rules me journal) (known_of rules me (journal ++ rest))
+    → IsTrueMark rules me journal frame mark → IsTrueMark rules me (journal ++ rest) frame mark
+mark_stays rules me journal rest frame mark still true_mark =
+    let early : KnownValue = known_of rules me journal in
+    let late : KnownValue = known_of rules me (journal ++ rest) in
+    let rises = confirmed_rises early late still in
+    let within = true_mark.confirmed in
+    record {
+      steps = true_mark.steps;
+      at = true_mark.at;
+      confirmed = omega (arith, within, rises);
+      is = true_mark.is ∙ ap (λ (rows : List Row). mark_of (serial rules rows)) (sym (rows_same early late frame still within));
+    }
+
+message_stays : (rules : Rules) (me to : ℕ) (journal rest : List Record) (m : Message) → IsStillKnown (known_of rules me journal) (known_of rules me (journal ++ rest))
+    → IsTrueMessage rules me to journal m → IsTrueMessage rules me to (journal ++ rest) m
+message_stays rules me to journal rest packets.Hello still is = is
+message_stays rules me to journal rest (packets.Welcome ack) still is = omega (arith, is, count_rises rules to journal rest)
+message_stays rules me to journal rest (packets.Data d) still is =
+    let few = is.0 in (
+      omega (arith, few, count_rises rules to journal rest),
+      stands_longer d.start d.words (held rules me journal) (held rules me (journal ++ rest)) (held_begins rules me journal rest) is.1,
+      mark_stays rules me journal rest d.mark_frame d.mark still is.2,
+    )
+message_stays rules me to journal rest (packets.Freeze f) still is =
+    let few = is.2 in
+    (is.0, leave_stays f.leaver journal rest is.1, omega (arith, few, count_rises rules f.leaver journal rest))
+message_stays rules me to journal rest (packets.Frozen f) still is =
+    let few = is.1 in (
+      frozen_stays rules f.leaver f.length journal rest is.0,
+      omega (arith, few, count_rises rules f.leaver journal rest),
+      stands_longer f.start f.words (held rules f.leaver journal) (held rules f.leaver (journal ++ rest)) (held_begins rules f.leaver journal rest) is.2,
+    )
+message_stays rules me to journal rest (packets.Cut c) still is =
+    (is.0, cut_stays c.leaver c.length journal rest is.1, stands_longer c.start c.words (held rules c.leaver journal) (held rules c.leaver (journal ++ rest)) (held_begins rules c.leaver journal rest) is.2)
+
+pub truth_stays : (rules : Rules) (me room : ℕ) (journal rest : List Record) (p : Packet) → AreInRange rules → 1 ≤ me → me ≤ rules.players
+    → IsJournal rules me room (journal ++ rest) → IsTrue rules me journal p → IsTrue rules me (journal ++ rest) p
+truth_stays rules me room journal rest p range from to is true_packet = record {
+  from = true_packet.from;
+  epoch = epoch_stays p.head.sender_epoch journal rest true_packet.epoch;
+  message = message_stays rules me p.head.to journal rest p.message (journal_grows rules me room journal rest range from to is) true_packet.message;
+}
+
+pub confirmed_stays : (rules : Rules) (me room n : ℕ) (journal rest : List Record) → AreInRange rules → 1 ≤ me → me ≤ rules.players
+    → IsJournal rules me room (journal ++ rest) → n ≤ confirmed (known_of rules me journal) → rows_below (known_of rules me (journal ++ rest)) n ≡ rows_below (known_of rules me journal) n
+confirmed_stays rules me room n journal rest range from to is within =
+    rows_same (known_of rules me journal) (known_of rules me (journal ++ rest)) n (journal_grows rules me room journal rest range from to is) within

@@ -1,0 +1,8 @@
+use Rattle.c8_round.specs.RoundLaws.{ready_leaves, ready_answered}
+use Rattle.c8_round.proofs.laws.ready_means_all_have_answered.Goals as goal
+
+pub returns-clause-leaves : goal.returns-clause-leaves
+returns-clause-leaves c = ready_leaves
+
+pub returns-clause-answered : goal.returns-clause-answered
+returns-clause-answered c = ready_answered

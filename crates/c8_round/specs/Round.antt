@@ -1,0 +1,73 @@
+-- The drop round: what player one and those who stay keep of it in memory, and what follows from that. Player one lets a
+-- player go; each who stays answers how many of the leaver's inputs it holds; once player one holds as many as each of
+-- them, it cuts the leaver's list there.
+use Rattle.std.specs.Prelude.{ℕ, ◌-◌, ◌==◌, ◌&&◌, ◌||◌, List, [], length, replicate, slice_index_or, slice_set, min, max, Bool, false, not, nat_le, Option, Some, None}
+use Rattle.std.specs.List.{range_with_len, list_all}
+use Rattle.c8_known.specs.Known.{KnownValue, player_in, count_in}
+
+-- the greater number, where there was one
+abbrev pub raised : Option ℕ → ℕ → Option ℕ
+raised None n = Some n
+raised (Some before) n = Some (max before n)
+
+-- the empty sets of the delay are held by everybody
+abbrev pub or_delay : KnownValue → Option ℕ → ℕ
+or_delay k None = k.delay
+or_delay k (Some n) = n
+
+-- ---- player one
+
+-- For each of four leavers what each of four players has answered, player 1 first: the greatest number of the leaver's
+-- inputs that it said to hold, none as long as it is silent.
+pub record ChairValue : Type 0 where
+  pub reports : List (List (Option ℕ))
+
+abbrev pub no_reports : ChairValue
+no_reports = record { reports = replicate 4 (replicate 4 None) }
+
+abbrev pub report_of : ChairValue → ℕ → ℕ → Option ℕ
+report_of c leaver stayer = slice_index_or (slice_index_or c.reports (leaver - 1) []) (stayer - 1) None
+
+abbrev pub with_report : ChairValue → ℕ → ℕ → ℕ → ChairValue
+with_report c leaver stayer held = record {
+  reports = slice_set c.reports (leaver - 1)
+      (slice_set (slice_index_or c.reports (leaver - 1) []) (stayer - 1) (raised (report_of c leaver stayer) held));
+}
+
+-- Player one holds as many inputs as the answer says. Silence is no answer.
+abbrev pub has_answered : ℕ → Option ℕ → Bool
+has_answered count None = false
+has_answered count (Some held) = nat_le held count
+
+-- a player other than player one of whom no LEAVE stands
+abbrev pub is_stayer : KnownValue → ℕ → Bool
+is_stayer k q = not (q == 1) && not (player_in k q).leaving
+
+-- The leaver may be cut: a LEAVE of it stands, and all who stay have answered.
+unfoldable pub is_ready : ChairValue → KnownValue → ℕ → Bool
+is_ready c k leaver =
+    (player_in k leaver).leaving
+    && list_all (λ q. not (is_stayer k q) || has_answered (count_in k leaver) (report_of c leaver q)) (range_with_len 1 (length k.players))
+
+-- Where the inputs start that a CUT brings to a player: after those that it answered to hold.
+abbrev pub owed : ChairValue → KnownValue → ℕ → ℕ → ℕ
+owed c k stayer leaver = min (count_in k leaver) (or_delay k (report_of c leaver stayer))
+
+-- ---- a player who stays
+
+-- the greatest number of each leaver's inputs that player one said to hold, none before it did, player 1 first
+pub record StayerValue : Type 0 where
+  pub haves : List (Option ℕ)
+
+abbrev pub no_haves : StayerValue
+no_haves = record { haves = replicate 4 None }
+
+abbrev pub have_of : StayerValue → ℕ → Option ℕ
+have_of v leaver = slice_index_or v.haves (leaver - 1) None
+
+abbrev pub with_have : StayerValue → ℕ → ℕ → StayerValue
+with_have v leaver have = record { haves = slice_set v.haves (leaver - 1) (raised (have_of v leaver) have) }
+
+-- Where the inputs start that an answer brings to player one: after those that it said to hold.
+abbrev pub answer_from : StayerValue → KnownValue → ℕ → ℕ
+answer_from v k leaver = min (or_delay k (have_of v leaver)) (count_in k leaver)

@@ -1,0 +1,424 @@
+-- What a call of an open peer records fits, and its memory stays sound.
+use Rattle.std.proofs.Common.{◌≡◌, ◌≢◌, ℕ, ◌+◌, ◌-◌, ◌≤◌, ⊎_elim, List, [], ◌∷◌, length, drop, Bool, true, false, not, cond, Option, Some, None, Ok, Err, refl, sym, ap, subst, ◌∙◌, arith}
+use Rattle.std.specs.Prelude.{◌==◌, ◌&&◌, ◌||◌, nat_lt, nat_le, is_some}
+use Rattle.std.proofs.lemmas.Bool.{eq-eqb, eqb-true, both_ways, ltb-false, leb-true}
+use Rattle.std.proofs.lemmas.List.{length-drop}
+use Rattle.c8_game.specs.Rules.{Rules}
+use Rattle.c8_wire.specs.Packet.{HeadValue, DataMessage, FreezeMessage, LeaverMessage, Message, Packet, IsPacket, IsMessage}
+use Rattle.c8_wire.specs.Packet as packets
+use Rattle.c8_hand.specs.declared.error.HandError.{HandError}
+use Rattle.c8_hand.specs.Links.{LinksValue, link_to, heard, IsForMe}
+use Rattle.c8_hand.specs.Links as links
+use Rattle.c8_hand.specs.LinkLaws.{is_for_me, opens_by_welcome}
+use Rattle.c8_known.specs.declared.error.KnownError.{KnownError}
+use Rattle.c8_known.specs.declared.error.KnownError.TheVariants as knowns
+use Rattle.c8_known.specs.Journal.{Record, held, count, has_freeze, has_leave, cut_of}
+use Rattle.c8_known.specs.Journal as records
+use Rattle.c8_known.specs.Known.{PlayerValue, KnownValue, player_in, count_in, known_of, is_player, is_frozen_of, Plays}
+use Rattle.c8_known.specs.Confirmed.{confirmed}
+use Rattle.c8_known.specs.Fresh.{is_from_leaver, misfit, fresh_words}
+use Rattle.c8_known.specs.StartLaws.{players_known}
+use Rattle.c8_window.specs.Window.{acked_more}
+use Rattle.c8_round.specs.Round.{ChairValue, report_of, with_report, with_have, is_ready}
+use Rattle.c8_round.specs.RoundLaws.{ready_answered, report_is}
+use Rattle.c8_record.specs.Allowed.{IsAllowed}
+use Rattle.c8_peer.specs.declared.error.Refused.TheVariants as refusals
+use Rattle.c8_peer.specs.State.{Memory, Saying, Call, Tick, Deliver, Say, Leave, Decide, Reply, Outcome, answered, recorded}
+use Rattle.c8_peer.specs.Calls.{tick, leave, decide}
+use Rattle.c8_peer.specs.Hearing.{refused, unless_misfit, got, is_desync, hear_data, hear_welcome, hear_freeze, hear_frozen, hear_end, hear_cut, hear_message, unless_hand, deliver}
+use Rattle.c8_peer.specs.Saying.{is_not_mine, lacks_record, lacks_link, say}
+use Rattle.c8_peer.specs.Steps.{outcome}
+use Rattle.c8_peer.specs.Truth.{Stands, IsFrozenAt, IsTrue, IsTrueMessage}
+use Rattle.c8_peer.specs.Lawful.{IsMemory}
+use Rattle.c8_world.specs.Agreement.{IsPlayer, IsAmong, Names}
+use Rattle.c8_world.proofs.Journals.{AreSound, Fits}
+use Rattle.c8_world.proofs.Records.{count_known, freeze_known_by, leave_known_by, me_is, names_player, one_unfrozen, stands_entered, fits_own, fits_got, fits_freeze, fits_leave, fits_cut, fits_decision}
+
+-- ---- what holds of what is kept in memory
+
+-- what player one heard of a leaver: so many inputs, or fewer, held the stayer when it froze it
+abbrev pub AreReported : Rules → (ℕ → List Record) → ℕ → ChairValue → Type 0
+AreReported rules J p c = p ≡ 1 → (L s n : ℕ) → IsPlayer rules s → report_of c L s ≡ Some n → IsFrozenAt rules L n (J s)
+
+-- an open link names both epochs
+abbrev pub AreNamed : List Packet → ℕ → LinksValue → Type 0
+AreNamed said p l = (q : ℕ) → (link_to l q).is_open ≡ true → Names said q p (link_to l q).known l.epoch
+
+pub record IsAwake (rules : Rules) (room : ℕ) (J : ℕ → List Record) (said : List Packet) (p : ℕ) (m : Memory) : Type 0 where
+  pub lawful : IsMemory rules room p (J p) m
+  pub chair : AreReported rules J p m.chair
+  pub links : AreNamed said p m.links
+
+-- each datagram that was said is from a player, true of its journal, and can be spelled
+pub record IsSaid (rules : Rules) (J : ℕ → List Record) (packet : Packet) : Type 0 where
+  pub from : IsPlayer rules packet.head.from
+  pub true_now : IsTrue rules packet.head.from (J packet.head.from) packet
+  pub spelled : IsPacket packet
+
+-- ---- what a call owes
+
+pub record IsGood (rules : Rules) (room : ℕ) (J : ℕ → List Record) (said : List Packet) (p : ℕ) (o : Outcome) : Type 0 where
+  pub keeps : (r : Record) → o.keeps ≡ Some r → IsAllowed rules p room (J p) r → Fits rules room J p r
+  pub chair : AreReported rules J p o.memory.chair
+  pub links : AreNamed said p o.memory.links
+
+pub branch : (P : Outcome → Type 0) (b : Bool) (x y : Outcome) → (b ≡ true → P x) → (b ≡ false → P y) → P (cond b x y)
+branch P true x y when unless = when refl
+branch P false x y when unless = unless refl
+
+good_answered : (rules : Rules) (room : ℕ) (J : ℕ → List Record) (said : List Packet) (p : ℕ) (m : Memory) (reply : Reply) → AreReported rules J p m.chair → AreNamed said p m.links
+    → IsGood rules room J said p (answered m reply)
+good_answered rules room J said p m reply chair named = record { keeps = λ r e. absurd cc; chair = chair; links = named }
+
+good_recorded : (rules : Rules) (room : ℕ) (J : ℕ → List Record) (said : List Packet) (p : ℕ) (m : Memory) (reply : Reply) (r : Record) → AreReported rules J p m.chair → AreNamed said p m.links
+    → (IsAllowed rules p room (J p) r → Fits rules room J p r) → IsGood rules room J said p (recorded m reply r)
+good_recorded rules room J said p m reply r chair named fits = record {
+  keeps = λ s e allowed. let same : r ≡ s = cc in subst (λ (x : Record). Fits rules room J p x) same (fits (subst (λ (x : Record). IsAllowed rules p room (J p) x) (sym same) allowed));
+  chair = chair;
+  links = named;
+}
+
+-- ---- tests
+
+pub not_false : (b : Bool) → not b ≡ false → b ≡ true
+not_false true e = refl
+not_false false e = absurd cc
+
+pub neither : (a b : Bool) → (a || b) ≡ false → (a ≡ false) × (b ≡ false)
+neither true b e = absurd cc
+neither false b e = (refl, e)
+
+pub both : (a b : Bool) → (a && b) ≡ true → (a ≡ true) × (b ≡ true)
+both true b e = (refl, e)
+both false b e = absurd cc
+
+pub in_game : (rules : Rules) (p q : ℕ) (journal : List Record) → is_player (known_of rules p journal) q ≡ true → IsPlayer rules q
+in_game rules p q journal is =
+    let tests = both (nat_le 1 q) (nat_le q (length (known_of rules p journal).players)) is in
+    let from = leb-true 1 q tests.0 in
+    let to = leb-true q (length (known_of rules p journal).players) tests.1 in
+    record { from_one = from; in_game = omega (arith, to, players_known rules p journal) }
+
+is_one : (rules : Rules) (p : ℕ) (journal : List Record) → not ((known_of rules p journal).me == 1) ≡ false → p ≡ 1
+is_one rules p journal e = sym (me_is rules p journal) ∙ eqb-true (known_of rules p journal).me 1 (not_false ((known_of rules p journal).me == 1) e)
+
+none_past : (test : Bool) (x : KnownError) (others : Option KnownError) → cond test (Some x) others ≡ None → (test ≡ false) × (others ≡ None)
+none_past true x others e = absurd cc
+none_past false x others e = (refl, e)
+
+-- what is judged of a run that can be held
+pub record IsFit (k : KnownValue) (q start : ℕ) (words : List ℕ) : Type 0 where
+  pub room : start + length words ≤ k.limit
+  pub no_gap : start ≤ count_in k q
+
+pub is_fit : (k : KnownValue) (q start : ℕ) (words : List ℕ) → misfit k q start words ≡ None → IsFit k q start words
+is_fit k q start words none =
+    let full = none_past (nat_lt k.limit (start + length words)) knowns.Full _ none in
+    let gap = none_past (nat_lt (count_in k q) start) knowns.Gap _ full.1 in
+    let room = ltb-false k.limit (start + length words) full.0 in
+    let from = ltb-false (count_in k q) start gap.0 in
+    record { room = omega (arith, room); no_gap = omega (arith, from) }
+
+unless_misfit_by : (P : Outcome → Type 0) (m : Memory) (o : Option KnownError) (x : Outcome) → ((error : KnownError) → P (refused m (refusals.Known error))) → (o ≡ None → P x) → P (unless_misfit m o x)
+unless_misfit_by P m None x refuses fits = fits refl
+unless_misfit_by P m (Some error) x refuses fits = refuses error
+
+unless_hand_by : (P : Outcome → Type 0) (m : Memory) (o : Option HandError) (x : Outcome) → ((error : HandError) → P (refused m (refusals.Hand error))) → (o ≡ None → P x) → P (unless_hand m o x)
+unless_hand_by P m None x refuses admits = admits refl
+unless_hand_by P m (Some error) x refuses admits = refuses error
+
+-- ---- a tick, a leave, a decision
+
+good_tick : (rules : Rules) (room : ℕ) (J : ℕ → List Record) (said : List Packet) (p : ℕ) (m : Memory) (keys : ℕ) → AreSound rules room J → IsPlayer rules p → IsAwake rules room J said p m
+    → IsGood rules room J said p (tick rules (known_of rules p (J p)) m keys)
+unfolding tick
+good_tick rules room J said p m keys sound plays awake =
+    let P : Outcome → Type 0 = IsGood rules room J said p in
+    let refuses = λ (reply : Reply). good_answered rules room J said p m reply awake.chair awake.links in
+    let k : KnownValue = known_of rules p (J p) in
+    branch P (player_in k k.me).leaving _ _ (λ is. refuses _) (λ stays.
+    branch P (nat_le rules.frames k.ticks) _ _ (λ is. refuses _) (λ before.
+    branch P (nat_le (confirmed k + rules.window) k.ticks) _ _ (λ is. refuses _) (λ within.
+    good_recorded rules room J said p m _ (records.Own k.me (count_in k k.me) keys) awake.chair awake.links (λ allowed.
+    subst (λ (me : ℕ). Fits rules room J p (records.Own me (count_in k k.me) keys)) (sym (me_is rules p (J p)))
+    (fits_own rules room J p (count_in k k.me) keys sound plays (subst (λ (me : ℕ). IsAllowed rules p room (J p) (records.Own me (count_in k k.me) keys)) (me_is rules p (J p)) allowed))))))
+
+good_leave : (rules : Rules) (room : ℕ) (J : ℕ → List Record) (said : List Packet) (p : ℕ) (m : Memory) (leaver : ℕ) → AreSound rules room J → IsPlayer rules p → IsAwake rules room J said p m
+    → IsGood rules room J said p (leave (known_of rules p (J p)) m leaver)
+unfolding leave
+good_leave rules room J said p m leaver sound plays awake =
+    let P : Outcome → Type 0 = IsGood rules room J said p in
+    let refuses = λ (reply : Reply). good_answered rules room J said p m reply awake.chair awake.links in
+    let k : KnownValue = known_of rules p (J p) in
+    branch P (not (k.me == 1)) _ _ (λ is. refuses _) (λ chair.
+    branch P (leaver == k.me) _ _ (λ is. refuses _) (λ other.
+    branch P (not (is_player k leaver)) _ _ (λ is. refuses _) (λ inside.
+    branch P (player_in k leaver).leaving _ _ (λ is. refuses _) (λ stays.
+    good_recorded rules room J said p m _ (records.Leave leaver) awake.chair awake.links (fits_leave rules room J p leaver sound plays)))))
+
+-- what all who stay have answered is what they froze
+decided_by_all : (rules : Rules) (room : ℕ) (J : ℕ → List Record) (said : List Packet) (p : ℕ) (m : Memory) (leaver : ℕ) → IsPlayer rules p → IsPlayer rules leaver → IsAwake rules room J said p m → p ≡ 1
+    → is_ready m.chair (known_of rules p (J p)) leaver ≡ true
+    → (s : ℕ) → IsPlayer rules s → s ≢ 1 → has_leave s (J 1) ≡ false → IsFrozenAt rules leaver (count_in (known_of rules p (J p)) leaver) (J s)
+decided_by_all rules room J said p m leaver plays leaver_plays awake first ready s s_plays other stays =
+    let k : KnownValue = known_of rules p (J p) in
+    let from = s_plays.from_one in
+    let to = s_plays.in_game in
+    let at_k : Plays k s = record { from_one = from; in_game = omega (arith, to, players_known rules p (J p)) } in
+    let stays_here : (player_in k s).leaving ≡ false = leave_known_by rules p s (J p) s_plays ∙ subst (λ (x : ℕ). has_leave s (J x) ≡ false) (sym first) stays in
+    let answer = ready_answered m.chair k leaver ready s at_k other stays_here in
+    let at = awake.chair first leaver s answer.held s_plays answer.told in
+    let few = at.few in
+    let within = answer.few in
+    record { before = at.before; rest = at.rest; is = at.is; few = omega (arith, few, within) }
+
+good_decide : (rules : Rules) (room : ℕ) (J : ℕ → List Record) (said : List Packet) (p : ℕ) (m : Memory) (leaver : ℕ) → AreSound rules room J → IsPlayer rules p → IsAwake rules room J said p m
+    → IsGood rules room J said p (decide (known_of rules p (J p)) m leaver)
+unfolding decide
+good_decide rules room J said p m leaver sound plays awake =
+    let P : Outcome → Type 0 = IsGood rules room J said p in
+    let refuses = λ (reply : Reply). good_answered rules room J said p m reply awake.chair awake.links in
+    let k : KnownValue = known_of rules p (J p) in
+    branch P (not (k.me == 1) || not (player_in k leaver).leaving) _ _ (λ is. refuses _) (λ chair.
+    branch P (is_some (player_in k leaver).cut) _ _ (λ is. refuses _) (λ uncut.
+    branch P (not (is_ready m.chair k leaver)) _ _ (λ is. refuses _) (λ all.
+    let first : p ≡ 1 = is_one rules p (J p) (neither (not (k.me == 1)) (not (player_in k leaver).leaving) chair).0 in
+    let ready : is_ready m.chair k leaver ≡ true = not_false (is_ready m.chair k leaver) all in
+    good_recorded rules room J said p m _ (records.Cut leaver (count_in k leaver) (count_in k leaver) []) awake.chair awake.links (λ allowed.
+    let leaver_plays = names_player rules room p (J p) (records.Cut leaver (count_in k leaver) (count_in k leaver) []) allowed in
+    fits_decision rules room J p leaver (count_in k leaver) (count_in k leaver) sound plays leaver_plays first allowed (decided_by_all rules room J said p m leaver plays leaver_plays awake first ready)))))
+
+-- ---- deliveries
+
+-- new inputs of a player, of a run that stands in what it entered
+good_got : (rules : Rules) (room : ℕ) (J : ℕ → List Record) (said : List Packet) (p : ℕ) (m : Memory) (q start : ℕ) (words fresh : List ℕ) → AreSound rules room J → IsPlayer rules p → IsPlayer rules q
+    → AreReported rules J p m.chair → AreNamed said p m.links
+    → fresh ≡ drop (count rules q (J p) - start) words → start ≤ count rules q (J p) → Stands start words (held rules q (J q))
+    → (has_freeze q (J p) ≡ true → (K : ℕ) × (cut_of q (J 1) ≡ Some K) × (count rules q (J p) + length (drop (count rules q (J p) - start) words) ≤ K))
+    → IsGood rules room J said p (got (known_of rules p (J p)) m q fresh)
+good_got rules room J said p m q start words [] sound plays q_plays chair named e from stands frozen = good_answered rules room J said p m _ chair named
+good_got rules room J said p m q start words (w ∷ ws) sound plays q_plays chair named e from stands frozen =
+    let k : KnownValue = known_of rules p (J p) in
+    good_recorded rules room J said p m _ (records.Got q (count_in k q) (w ∷ ws)) chair named (λ allowed.
+    subst (λ (all : List ℕ). Fits rules room J p (records.Got q (count_in k q) all)) (sym e)
+    (fits_got rules room J p q (count_in k q) start words sound plays q_plays (subst (λ (all : List ℕ). IsAllowed rules p room (J p) (records.Got q (count_in k q) all)) e allowed) from stands frozen))
+
+fresh_is : (rules : Rules) (p q start : ℕ) (words : List ℕ) (journal : List Record) → IsPlayer rules q → fresh_words (known_of rules p journal) q start words ≡ drop (count rules q journal - start) words
+fresh_is rules p q start words journal plays = ap (λ (n : ℕ). drop (n - start) words) (count_known rules p q journal plays)
+
+no_gap_is : (rules : Rules) (p q start : ℕ) (words : List ℕ) (journal : List Record) → IsPlayer rules q → IsFit (known_of rules p journal) q start words → start ≤ count rules q journal
+no_gap_is rules p q start words journal plays fit = let from = fit.no_gap in omega (arith, from, count_known rules p q journal plays)
+
+frozen_off : (p : PlayerValue) → is_frozen_of p ≡ false → p.frozen ≡ false
+frozen_off p e = (neither p.frozen p.leaving e).0
+
+and_off : (a b : Bool) → a ≡ true → (a && b) ≡ false → b ≡ false
+and_off true b is e = e
+and_off false b is e = absurd cc
+
+from_off : (k : KnownValue) (q : ℕ) → is_from_leaver k q q ≡ false → (player_in k q).frozen ≡ false
+from_off k q e = frozen_off (player_in k q) (and_off (q == q) (is_frozen_of (player_in k q)) (eq-eqb q q refl) e)
+
+-- the datagram that is delivered: said by a player, true of its journal, and spelled
+good_data : (rules : Rules) (room : ℕ) (J : ℕ → List Record) (said : List Packet) (p q : ℕ) (m : Memory) (d : DataMessage) → AreSound rules room J → IsPlayer rules p → IsPlayer rules q → IsAwake rules room J said p m
+    → Stands d.start d.words (held rules q (J q)) → IsGood rules room J said p (hear_data rules (known_of rules p (J p)) m q d)
+unfolding hear_data
+good_data rules room J said p q m d sound plays q_plays awake stands =
+    let P : Outcome → Type 0 = IsGood rules room J said p in
+    let refuses = λ (reply : Reply). good_answered rules room J said p m reply awake.chair awake.links in
+    let k : KnownValue = known_of rules p (J p) in
+    branch P (is_from_leaver k q q) _ _ (λ is. refuses _) (λ itself.
+    branch P (nat_lt (count_in k k.me) d.ack) _ _ (λ is. refuses _) (λ ack.
+    unless_misfit_by P m (misfit k q d.start d.words) _ (λ error. refuses _) (λ fits.
+    let fit = is_fit k q d.start d.words fits in
+    let thawed : has_freeze q (J p) ≡ false = sym (freeze_known_by rules p q (J p) q_plays) ∙ from_off k q itself in
+    branch P (is_desync rules k d) _ _ (λ is. good_answered rules room J said p _ _ awake.chair awake.links) (λ same.
+    good_got rules room J said p (record m { acks = acked_more m.acks q d.ack }) q d.start d.words (fresh_words k q d.start d.words) sound plays q_plays awake.chair awake.links
+    (fresh_is rules p q d.start d.words (J p) q_plays) (no_gap_is rules p q d.start d.words (J p) q_plays fit) stands
+    (λ is. absurd (both_ways (has_freeze q (J p)) thawed is))))))
+
+good_freeze : (rules : Rules) (room : ℕ) (J : ℕ → List Record) (said : List Packet) (p q : ℕ) (m : Memory) (f : FreezeMessage) → AreSound rules room J → IsPlayer rules p → IsAwake rules room J said p m
+    → IsGood rules room J said p (hear_freeze (known_of rules p (J p)) m q f)
+unfolding hear_freeze
+good_freeze rules room J said p q m f sound plays awake =
+    let P : Outcome → Type 0 = IsGood rules room J said p in
+    let refuses = λ (reply : Reply). good_answered rules room J said p m reply awake.chair awake.links in
+    let k : KnownValue = known_of rules p (J p) in
+    branch P (not (q == 1)) _ _ (λ is. refuses _) (λ chair.
+    branch P (f.leaver == k.me || not (is_player k f.leaver)) _ _ (λ is. refuses _) (λ who.
+    branch P (player_in k f.leaver).frozen _ _ (λ is. good_answered rules room J said p _ _ awake.chair awake.links) (λ first.
+    good_recorded rules room J said p (record m { stayer = with_have m.stayer f.leaver f.have }) _ (records.Freeze f.leaver) awake.chair awake.links (fits_freeze rules room J p f.leaver sound plays))))
+
+-- a report that is true is sound
+reported_more : (rules : Rules) (J : ℕ → List Record) (p L q n : ℕ) (c : ChairValue) → IsPlayer rules q → 2 ≤ L → AreReported rules J p c → IsFrozenAt rules L n (J q) → AreReported rules J p (with_report c L q n)
+reported_more rules J p L q n c q_plays least reports at first l s m s_plays told =
+    ⊎_elim
+    (λ old. reports first l s m s_plays old)
+    (λ new.
+    let at_leaver = new.0 in
+    let at_stayer = new.1 in
+    let from = q_plays.from_one in
+    let also = s_plays.from_one in
+    let leaver : l ≡ L = omega (arith, at_leaver, least) in
+    let stayer : s ≡ q = omega (arith, at_stayer, from, also) in
+    rw (leaver, stayer, new.2) at)
+    (report_is c L q n l s m told)
+
+good_frozen : (rules : Rules) (room : ℕ) (J : ℕ → List Record) (said : List Packet) (p q : ℕ) (m : Memory) (f : LeaverMessage) → AreSound rules room J → IsPlayer rules p → IsPlayer rules q → IsAwake rules room J said p m
+    → 2 ≤ f.leaver → IsFrozenAt rules f.leaver f.length (J q) → Stands f.start f.words (held rules f.leaver (J q)) → IsGood rules room J said p (hear_frozen (known_of rules p (J p)) m q f)
+unfolding hear_frozen
+good_frozen rules room J said p q m f sound plays q_plays awake least at stands =
+    let P : Outcome → Type 0 = IsGood rules room J said p in
+    let refuses = λ (reply : Reply). good_answered rules room J said p m reply awake.chair awake.links in
+    let k : KnownValue = known_of rules p (J p) in
+    let chair : AreReported rules J p (with_report m.chair f.leaver q f.length) = reported_more rules J p f.leaver q f.length m.chair q_plays least awake.chair at in
+    branch P (not (k.me == 1)) _ _ (λ is. refuses _) (λ one.
+    branch P (f.leaver == q || not (is_player k f.leaver)) _ _ (λ is. refuses _) (λ who.
+    branch P (not (player_in k f.leaver).leaving) _ _ (λ is. refuses _) (λ leaves.
+    branch P (is_some (player_in k f.leaver).cut) _ _ (λ is. good_answered rules room J said p _ _ chair awake.links) (λ uncut.
+    branch P (nat_lt k.limit f.length) _ _ (λ is. refuses _) (λ room_left.
+    unless_misfit_by P m (misfit k f.leaver f.start f.words) _ (λ error. refuses _) (λ fits.
+    let fit = is_fit k f.leaver f.start f.words fits in
+    let leaver : IsPlayer rules f.leaver = in_game rules p f.leaver (J p) (not_false (is_player k f.leaver) (neither (f.leaver == q) (not (is_player k f.leaver)) who).1) in
+    good_got rules room J said p (record m { chair = with_report m.chair f.leaver q f.length }) f.leaver f.start f.words (fresh_words k f.leaver f.start f.words) sound plays leaver chair awake.links
+    (fresh_is rules p f.leaver f.start f.words (J p) leaver) (no_gap_is rules p f.leaver f.start f.words (J p) leaver fit)
+    (stands_entered rules room J q f.leaver f.start f.words sound q_plays leaver stands)
+    (λ is. absurd (both_ways (has_freeze f.leaver (J p)) (one_unfrozen rules room J p f.leaver sound plays leaver (is_one rules p (J p) one)) is))))))))
+
+-- with the new inputs of a run that ends within the cut the list stays within it
+fresh_within : (held start K : ℕ) (words : List ℕ) → held ≤ K → start + length words ≤ K → held + length (drop (held - start) words) ≤ K
+fresh_within held start K words few within =
+    let many : length (drop (held - start) words) ≡ length words - (held - start) = length-drop (held - start) words in
+    omega (arith, many, few, within)
+
+good_end : (rules : Rules) (room : ℕ) (J : ℕ → List Record) (said : List Packet) (p : ℕ) (m : Memory) (c : LeaverMessage) (o : Option ℕ) → AreSound rules room J → IsPlayer rules p → IsPlayer rules c.leaver → IsAwake rules room J said p m
+    → p ≢ 1 → cut_of c.leaver (J 1) ≡ Some c.length → Stands c.start c.words (held rules c.leaver (J c.leaver)) → c.start + length c.words ≤ c.length
+    → IsGood rules room J said p (hear_end (known_of rules p (J p)) m c o)
+good_end rules room J said p m c (Some K) sound plays leaver awake elsewhere cut stands within =
+    let P : Outcome → Type 0 = IsGood rules room J said p in
+    let refuses = λ (reply : Reply). good_answered rules room J said p m reply awake.chair awake.links in
+    branch P (K == c.length) _ _ (λ is. refuses _) (λ differs. refuses _)
+good_end rules room J said p m c None sound plays leaver awake elsewhere cut stands within =
+    let P : Outcome → Type 0 = IsGood rules room J said p in
+    let refuses = λ (reply : Reply). good_answered rules room J said p m reply awake.chair awake.links in
+    let k : KnownValue = known_of rules p (J p) in
+    let fresh : List ℕ = fresh_words k c.leaver c.start c.words in
+    branch P (nat_lt c.length (count_in k c.leaver)) _ _ (λ is. refuses _) (λ few.
+    unless_misfit_by P m (misfit k c.leaver c.start c.words) _ (λ error. refuses _) (λ fits.
+    let fit = is_fit k c.leaver c.start c.words fits in
+    let same = fresh_is rules p c.leaver c.start c.words (J p) leaver in
+    let from = no_gap_is rules p c.leaver c.start c.words (J p) leaver fit in
+    let most = ltb-false c.length (count_in k c.leaver) few in
+    let whole : count rules c.leaver (J p) + length (drop (count rules c.leaver (J p) - c.start) c.words) ≤ c.length =
+    fresh_within (count rules c.leaver (J p)) c.start c.length c.words (omega (arith, most, count_known rules p c.leaver (J p) leaver)) within in
+    branch P (count_in k c.leaver + length fresh == c.length) _ _
+    (λ is. good_recorded rules room J said p m _ (records.Cut c.leaver c.length (count_in k c.leaver) fresh) awake.chair awake.links (λ allowed.
+    subst (λ (all : List ℕ). Fits rules room J p (records.Cut c.leaver c.length (count_in k c.leaver) all)) (sym same)
+    (fits_cut rules room J p c.leaver c.length (count_in k c.leaver) c.start c.words sound plays leaver elsewhere
+    (subst (λ (all : List ℕ). IsAllowed rules p room (J p) (records.Cut c.leaver c.length (count_in k c.leaver) all)) same allowed) from stands cut whole)))
+    (λ short. good_got rules room J said p m c.leaver c.start c.words fresh sound plays leaver awake.chair awake.links same from stands (λ is. (c.length, cut, whole)))))
+
+good_cut : (rules : Rules) (room : ℕ) (J : ℕ → List Record) (said : List Packet) (p q : ℕ) (m : Memory) (c : LeaverMessage) → AreSound rules room J → IsPlayer rules p → IsPlayer rules q → IsAwake rules room J said p m
+    → q ≢ p → q ≡ 1 → cut_of c.leaver (J q) ≡ Some c.length → Stands c.start c.words (held rules c.leaver (J q)) → c.start + length c.words ≤ c.length
+    → IsGood rules room J said p (hear_cut (known_of rules p (J p)) m q c)
+unfolding hear_cut
+good_cut rules room J said p q m c sound plays q_plays awake apart first cut stands within =
+    let P : Outcome → Type 0 = IsGood rules room J said p in
+    let refuses = λ (reply : Reply). good_answered rules room J said p m reply awake.chair awake.links in
+    let k : KnownValue = known_of rules p (J p) in
+    branch P (not (q == 1)) _ _ (λ is. refuses _) (λ chair.
+    branch P (c.leaver == k.me) _ _ (λ is. good_recorded rules room J said p m _ (records.Leave k.me) awake.chair awake.links (fits_leave rules room J p k.me sound plays)) (λ other.
+    branch P (not (is_player k c.leaver)) _ _ (λ is. refuses _) (λ inside.
+    branch P (not (player_in k c.leaver).frozen) _ _ (λ is. refuses _) (λ frozen.
+    let leaver : IsPlayer rules c.leaver = in_game rules p c.leaver (J p) (not_false (is_player k c.leaver) inside) in
+    good_end rules room J said p m c (player_in k c.leaver).cut sound plays leaver awake (λ e. apart (first ∙ sym e))
+    (subst (λ (x : ℕ). cut_of c.leaver (J x) ≡ Some c.length) first cut) (stands_entered rules room J q c.leaver c.start c.words sound q_plays leaver stands) within))))
+
+-- a link that a datagram opens is named by it
+named_heard : (said : List Packet) (p : ℕ) (l : LinksValue) (packet : Packet) → l.me ≡ p → IsAmong said packet → links.refusal l packet.head ≡ None → AreNamed said p l → AreNamed said p (heard l packet.head)
+named_heard said p l packet me among admitted named q opens =
+    ⊎_elim
+    (λ old.
+    let was = named q (ap (λ (link : links.LinkValue). link.is_open) (sym old) ∙ opens) in
+    subst (λ (n : ℕ). Names said q p n l.epoch) (ap (λ (link : links.LinkValue). link.known) (sym old)) was)
+    (λ welcome. record {
+      packet = packet;
+      among = among;
+      from = welcome.from;
+      to = welcome.to ∙ me;
+      sender_epoch = welcome.theirs;
+      addressee_epoch = welcome.mine;
+    })
+    (opens_by_welcome l packet.head admitted q opens)
+
+good_welcome : (rules : Rules) (room : ℕ) (J : ℕ → List Record) (said : List Packet) (p : ℕ) (m : Memory) (packet : Packet) (ack : ℕ) → IsAwake rules room J said p m → IsAmong said packet
+    → links.refusal m.links packet.head ≡ None → IsGood rules room J said p (hear_welcome (known_of rules p (J p)) m packet.head ack)
+unfolding hear_welcome
+good_welcome rules room J said p m packet ack awake among admitted =
+    let P : Outcome → Type 0 = IsGood rules room J said p in
+    let k : KnownValue = known_of rules p (J p) in
+    branch P (nat_lt (count_in k k.me) ack) _ _ (λ is. good_answered rules room J said p m _ awake.chair awake.links)
+    (λ few. good_answered rules room J said p _ _ awake.chair (named_heard said p m.links packet awake.lawful.player among admitted awake.links))
+
+good_message : (rules : Rules) (room : ℕ) (J : ℕ → List Record) (said : List Packet) (p : ℕ) (m : Memory) (packet : Packet) (message : Message) → AreSound rules room J → IsPlayer rules p → IsAwake rules room J said p m → IsAmong said packet
+    → links.refusal m.links packet.head ≡ None → IsPlayer rules packet.head.from → packet.head.from ≢ p
+    → IsTrueMessage rules packet.head.from packet.head.to (J packet.head.from) message → IsMessage message
+    → IsGood rules room J said p (hear_message rules (known_of rules p (J p)) m packet.head message)
+good_message rules room J said p m packet packets.Hello sound plays awake among admitted from apart is_true fits =
+    good_answered rules room J said p _ _ awake.chair (named_heard said p m.links packet awake.lawful.player among admitted awake.links)
+good_message rules room J said p m packet (packets.Welcome ack) sound plays awake among admitted from apart is_true fits =
+    good_welcome rules room J said p m packet ack awake among admitted
+good_message rules room J said p m packet (packets.Data d) sound plays awake among admitted from apart is_true fits =
+    good_data rules room J said p packet.head.from m d sound plays from awake is_true.1
+good_message rules room J said p m packet (packets.Freeze f) sound plays awake among admitted from apart is_true fits =
+    good_freeze rules room J said p packet.head.from m f sound plays awake
+good_message rules room J said p m packet (packets.Frozen f) sound plays awake among admitted from apart is_true fits =
+    good_frozen rules room J said p packet.head.from m f sound plays from awake fits.leaver_from_two is_true.0 is_true.2
+good_message rules room J said p m packet (packets.Cut c) sound plays awake among admitted from apart is_true fits =
+    good_cut rules room J said p packet.head.from m c sound plays from awake apart is_true.0 is_true.1 is_true.2 fits.run.within
+
+-- the sender of an admitted datagram is another player
+pub sender_apart : (rules : Rules) (room p : ℕ) (journal : List Record) (m : Memory) (head : HeadValue) → IsMemory rules room p journal m → links.refusal m.links head ≡ None → head.from ≢ p
+sender_apart rules room p journal m head lawful admitted e = (is_for_me m.links head admitted).apart (e ∙ sym lawful.player)
+
+good_delivery : (rules : Rules) (room : ℕ) (J : ℕ → List Record) (said : List Packet) (p : ℕ) (m : Memory) (packet : Packet) → AreSound rules room J → IsPlayer rules p → IsAwake rules room J said p m → IsAmong said packet → IsSaid rules J packet
+    → IsGood rules room J said p (deliver rules (known_of rules p (J p)) m (Ok packet))
+good_delivery rules room J said p m packet sound plays awake among is_said =
+    let P : Outcome → Type 0 = IsGood rules room J said p in
+    let refuses = λ (reply : Reply). good_answered rules room J said p m reply awake.chair awake.links in
+    let k : KnownValue = known_of rules p (J p) in
+    branch P (player_in k k.me).leaving _ _ (λ is. refuses _) (λ stays.
+    unless_hand_by P m (links.refusal m.links packet.head) _ (λ error. refuses _) (λ admitted.
+    good_message rules room J said p m packet packet.message sound plays awake among admitted is_said.from
+    (sender_apart rules room p (J p) m packet.head awake.lawful admitted) is_said.true_now.message is_said.spelled.message))
+
+good_say : (rules : Rules) (room : ℕ) (J : ℕ → List Record) (said : List Packet) (p : ℕ) (m : Memory) (to : ℕ) (what : Saying) → IsAwake rules room J said p m → IsGood rules room J said p (say rules (known_of rules p (J p)) m to what)
+unfolding say
+good_say rules room J said p m to what awake =
+    let P : Outcome → Type 0 = IsGood rules room J said p in
+    let refuses = λ (reply : Reply). good_answered rules room J said p m reply awake.chair awake.links in
+    let k : KnownValue = known_of rules p (J p) in
+    branch P (player_in k k.me).leaving _ _ (λ is. refuses _) (λ stays.
+    branch P (to == k.me || not (is_player k to)) _ _ (λ is. refuses _) (λ who.
+    branch P (is_not_mine k to what) _ _ (λ is. refuses _) (λ mine.
+    branch P (lacks_record k what) _ _ (λ is. refuses _) (λ kept.
+    branch P (lacks_link m to what) _ _ (λ is. refuses _) (λ linked. refuses _)))))
+
+-- ---- any call of an open peer in a world: what is delivered was said
+
+abbrev pub IsWorldly : Rules → (ℕ → List Record) → List Packet → Call → Type 0
+IsWorldly rules J said (Tick keys) = Unit {0}
+IsWorldly rules J said (Deliver (Ok packet)) = IsAmong said packet × IsSaid rules J packet
+IsWorldly rules J said (Deliver (Err error)) = ⊥
+IsWorldly rules J said (Say to what) = Unit {0}
+IsWorldly rules J said (Leave leaver) = Unit {0}
+IsWorldly rules J said (Decide leaver) = Unit {0}
+
+pub good_call : (rules : Rules) (room : ℕ) (J : ℕ → List Record) (said : List Packet) (p : ℕ) (m : Memory) (call : Call) → AreSound rules room J → IsPlayer rules p → IsAwake rules room J said p m → IsWorldly rules J said call
+    → IsGood rules room J said p (outcome rules (known_of rules p (J p)) m call)
+good_call rules room J said p m (Tick keys) sound plays awake worldly = good_tick rules room J said p m keys sound plays awake
+good_call rules room J said p m (Deliver (Ok packet)) sound plays awake worldly = good_delivery rules room J said p m packet sound plays awake worldly.0 worldly.1
+good_call rules room J said p m (Deliver (Err error)) sound plays awake worldly = absurd worldly
+good_call rules room J said p m (Say to what) sound plays awake worldly = good_say rules room J said p m to what awake
+good_call rules room J said p m (Leave leaver) sound plays awake worldly = good_leave rules room J said p m leaver sound plays awake
+good_call rules room J said p m (Decide leaver) sound plays awake worldly = good_decide rules room J said p m leaver sound plays awake

@@ -1,0 +1,136 @@
+-- What holds of every world that some list of events leads to.
+use Rattle.std.proofs.Common.{◌≡◌, ◌≢◌, ℕ, zero, suc, ◌<◌, ◌≤◌, ◌^◌, inl, inr, List, [], length, true, false, None, refl, sym, ap, subst, ◌∙◌, arith}
+use Rattle.std.proofs.lemmas.Bool.{cases_eq}
+use Rattle.c8_game.specs.Rules.{Rules, AreInRange}
+use Rattle.c8_wire.specs.Packet.{Packet}
+use Rattle.c8_wire.specs.Spelling.{spelling, Spells}
+use Rattle.c8_hand.specs.Links.{link_to}
+use Rattle.c8_known.specs.Journal.{Record, held, had_epoch, has_leave}
+use Rattle.c8_known.specs.Known.{known_of}
+use Rattle.c8_known.specs.Confirmed.{confirmed, rows_below}
+use Rattle.c8_known.specs.Growth.{Begins}
+use Rattle.c8_peer.specs.State.{State}
+use Rattle.c8_peer.specs.Opening.{found, away}
+use Rattle.c8_peer.specs.Truth.{IsTrue}
+use Rattle.c8_world.specs.World.{World, start, peer_of, journal_of, with_peer, Event, Answer, Chain, IsReached}
+use Rattle.c8_world.specs.Agreement.{IsPlayer, NobodyLeaves, AreSameUpTo, AgreeUpTo, Agree, AreEntered, IsBounded, Reads, read_by, AgreeByReads, IsAmong, AreLinked}
+use Rattle.c8_world.proofs.Journals.{AreSound, player_one}
+use Rattle.c8_world.proofs.Moments.{bounded_at, rows_agree, same_up_to, moments_agree, confirmed_entered}
+use Rattle.c8_world.proofs.Worlds.{IsSound, peer_here, peer_there, crash_sound, chain_sound, start_sound}
+
+pub reached_sound : (rules : Rules) (room : ℕ) (w : World) → AreInRange rules → room < 2 ^ 64 → IsReached rules room w → IsSound rules room w
+reached_sound rules room w range few is = (chain_sound rules room (start rules) w is.events is.answers range few (start_sound rules room range) is.chain).sound
+
+-- ---- one moment
+
+pub begins_own : (rules : Rules) (room : ℕ) (w : World) (p q : ℕ) → AreInRange rules → room < 2 ^ 64 → IsReached rules room w → IsPlayer rules p → IsPlayer rules q → Begins (held rules q (journal_of w p)) (held rules q (journal_of w q))
+begins_own rules room w p q range few is plays q_plays = (reached_sound rules room w range few is).journals.begins p q plays q_plays
+
+pub said_holds : (rules : Rules) (room : ℕ) (w : World) (packet : Packet) → AreInRange rules → room < 2 ^ 64 → IsReached rules room w → IsAmong w.said packet → IsTrue rules packet.head.from (journal_of w packet.head.from) packet
+said_holds rules room w packet range few is among = ((reached_sound rules room w range few is).said packet among).true_now
+
+pub said_spells : (rules : Rules) (room : ℕ) (w : World) (packet : Packet) → AreInRange rules → room < 2 ^ 64 → IsReached rules room w → IsAmong w.said packet → Spells (spelling packet) packet
+said_spells rules room w packet range few is among = record { packet = ((reached_sound rules room w range few is).said packet among).spelled; spelled = refl }
+
+pub links_name : (rules : Rules) (room : ℕ) (w : World) (p q : ℕ) → AreInRange rules → room < 2 ^ 64 → IsReached rules room w → IsPlayer rules p → AreLinked w p q
+links_name rules room w p q range few is plays here opens =
+    let sound = reached_sound rules room w range few is in
+    let n = ((sound.peers p plays).awake here).links q opens in
+    let told = (sound.said n.packet n.among).true_now in
+    let number : ℕ = (link_to (peer_of w p).memory.links q).known in
+    record {
+      had = subst (λ (x : ℕ). had_epoch number (journal_of w x) ≡ true) n.from (subst (λ (x : ℕ). had_epoch x (journal_of w n.packet.head.from) ≡ true) n.sender_epoch told.epoch);
+      named = n;
+    }
+
+pub cut_bounds : (rules : Rules) (room : ℕ) (w : World) (p : ℕ) → AreInRange rules → room < 2 ^ 64 → IsReached rules room w → IsPlayer rules p → IsBounded rules w p
+cut_bounds rules room w p range few is plays stays leaver K leaver_plays cut =
+    bounded_at rules room (journal_of w) p leaver K range (reached_sound rules room w range few is).journals plays leaver_plays stays cut
+
+-- ---- two moments
+
+pub peers_agree : (rules : Rules) (room : ℕ) (w v : World) (events : List Event) (answers : List Answer) (p r : ℕ) → AreInRange rules → room < 2 ^ 64 → IsReached rules room w → Chain rules room w events answers v
+    → IsPlayer rules p → IsPlayer rules r → Agree rules w v p r
+peers_agree rules room w v events answers p r range few is chain p_plays r_plays p_stays r_stays n p_counts r_counts =
+    let later = chain_sound rules room w v events answers range few (reached_sound rules room w range few is) chain in
+    moments_agree rules room (journal_of w) (journal_of v) p r n range later.sound.journals later.grown p_plays r_plays p_stays r_stays p_counts r_counts
+
+pub inputs_entered : (rules : Rules) (room : ℕ) (w v : World) (events : List Event) (answers : List Answer) (p : ℕ) → AreInRange rules → room < 2 ^ 64 → IsReached rules room w → Chain rules room w events answers v
+    → IsPlayer rules p → AreEntered rules w v p
+inputs_entered rules room w v events answers p range few is chain plays frame q q_plays below =
+    let sound = reached_sound rules room w range few is in
+    let later = chain_sound rules room w v events answers range few sound chain in
+    let e = confirmed_entered rules room (journal_of w) (journal_of v) p q frame range sound.journals later.grown plays q_plays below in
+    record { word = e.0; is = e.1; entered = e.2 }
+
+-- while nobody leaves
+pub all_agree : (rules : Rules) (room : ℕ) (w v : World) (events : List Event) (answers : List Answer) (p r : ℕ) → AreInRange rules → room < 2 ^ 64 → IsReached rules room w → Chain rules room w events answers v
+    → NobodyLeaves v → IsPlayer rules p → IsPlayer rules r → AgreeUpTo rules w v p r
+all_agree rules room w v events answers p r range few is chain nobody p_plays r_plays = peers_agree rules room w v events answers p r range few is chain p_plays r_plays (nobody p) (nobody r)
+
+-- ---- what reads of the disks give
+
+-- The first n players' journals are what a read of each disk finds, which all stays sound with.
+adopt : World → Reads → ℕ → World
+adopt w reads zero = w
+adopt w reads (suc n) = with_peer (adopt w reads n) (suc n) (away (peer_of (adopt w reads n) (suc n)) (found (peer_of (adopt w reads n) (suc n)) (reads (suc n))) None)
+
+adopt_sound : (rules : Rules) (room : ℕ) (w : World) (reads : Reads) (n : ℕ) → AreInRange rules → IsSound rules room w → n ≤ rules.players → IsSound rules room (adopt w reads n)
+unfolding adopt
+adopt_sound rules room w reads zero range sound within = sound
+adopt_sound rules room w reads (suc n) range sound within =
+    let before = adopt_sound rules room w reads n range sound (omega (arith, within)) in
+    (crash_sound rules room (adopt w reads n) (suc n) (reads (suc n)) range before (record { from_one = omega arith; in_game = within })).sound
+
+other_peer : (rules : Rules) (w : World) (p q : ℕ) (s : State) → IsPlayer rules p → IsPlayer rules q → q ≢ p → peer_of (with_peer w p s) q ≡ peer_of w q
+other_peer rules w p q s plays q_plays apart = peer_there rules w p s [] q plays q_plays apart
+
+this_peer : (rules : Rules) (w : World) (p : ℕ) (s : State) → length w.peers ≡ rules.players → IsPlayer rules p → peer_of (with_peer w p s) p ≡ s
+this_peer rules w p s seats plays = peer_here rules w p s [] seats plays
+
+-- players past the n-th have their peer as it was
+adopt_past : (rules : Rules) (room : ℕ) (w : World) (reads : Reads) (n q : ℕ) → n < q → IsPlayer rules q → peer_of (adopt w reads n) q ≡ peer_of w q
+unfolding adopt
+adopt_past rules room w reads zero q past plays = refl
+adopt_past rules room w reads (suc n) q past plays =
+    let within = plays.in_game in
+    other_peer rules (adopt w reads n) (suc n) q _ (record { from_one = omega arith; in_game = omega (arith, within, past) }) plays (λ e. omega (arith, e, past))
+    ∙ adopt_past rules room w reads n q (omega (arith, past)) plays
+
+adopt_is : (rules : Rules) (room : ℕ) (w : World) (reads : Reads) (n q : ℕ) → AreInRange rules → IsSound rules room w → n ≤ rules.players → q ≤ n → IsPlayer rules q → journal_of (adopt w reads n) q ≡ read_by w reads q
+unfolding adopt
+adopt_is rules room w reads zero q range sound within few plays = let from = plays.from_one in absurd (omega (arith, from, few))
+adopt_is rules room w reads (suc n) q range sound within few plays =
+    let here : IsPlayer rules (suc n) = record { from_one = omega arith; in_game = within } in
+    let before = adopt_sound rules room w reads n range sound (omega (arith, within)) in
+    elim (cases_eq q (suc n)) [
+      | inl same ↦
+          let old : peer_of (adopt w reads n) (suc n) ≡ peer_of w (suc n) = adopt_past rules room w reads n (suc n) (omega arith) here in
+          subst (λ (x : ℕ). journal_of (adopt w reads (suc n)) x ≡ read_by w reads x) (sym same)
+          (ap (λ (s : State). s.journal) (this_peer rules (adopt w reads n) (suc n) _ before.seats here) ∙ ap (λ (s : State). found s (reads (suc n))) old)
+      | inr apart ↦
+          ap (λ (s : State). s.journal) (other_peer rules (adopt w reads n) (suc n) q _ here plays apart)
+          ∙ adopt_is rules room w reads n q range sound (omega (arith, within)) (omega (arith, few, apart)) plays
+    ]
+
+-- journals that are others
+agree_at : (rules : Rules) (room : ℕ) (J : ℕ → List Record) (p r n : ℕ) (one a b : List Record) → AreInRange rules → AreSound rules room J → IsPlayer rules p → IsPlayer rules r
+    → J 1 ≡ one → J p ≡ a → J r ≡ b → has_leave p one ≡ false → has_leave r one ≡ false → n ≤ confirmed (known_of rules p a) → n ≤ confirmed (known_of rules r b)
+    → AreSameUpTo rules (known_of rules p a) (known_of rules r b) n
+agree_at rules room J p r n one a b range sound p_plays r_plays first at_p at_r p_stays r_stays p_counts r_counts =
+    let stays : (q : ℕ) → has_leave q one ≡ false → has_leave q (J 1) ≡ false = λ q e. ap (has_leave q) first ∙ e in
+    let rows = rows_agree rules room J p r n range sound p_plays r_plays (stays p p_stays) (stays r r_stays)
+    (subst (λ (journal : List Record). n ≤ confirmed (known_of rules p journal)) (sym at_p) p_counts)
+    (subst (λ (journal : List Record). n ≤ confirmed (known_of rules r journal)) (sym at_r) r_counts) in
+    same_up_to rules (known_of rules p a) (known_of rules r b) n
+    (subst (λ (journal : List Record). rows_below (known_of rules p journal) n ≡ rows_below (known_of rules r b) n) at_p
+    (subst (λ (journal : List Record). rows_below (known_of rules p (J p)) n ≡ rows_below (known_of rules r journal) n) at_r rows))
+
+pub reads_agree : (rules : Rules) (room : ℕ) (w : World) (reads : Reads) (p r : ℕ) → AreInRange rules → room < 2 ^ 64 → IsReached rules room w → IsPlayer rules p → IsPlayer rules r → AgreeByReads rules w reads p r
+reads_agree rules room w reads p r range few is p_plays r_plays p_stays r_stays n p_counts r_counts =
+    let sound = reached_sound rules room w range few is in
+    let v : World = adopt w reads rules.players in
+    let one = player_one rules range in
+    let at : (q : ℕ) → IsPlayer rules q → journal_of v q ≡ read_by w reads q = λ q plays. adopt_is rules room w reads rules.players q range sound (omega arith) plays.in_game plays in
+    agree_at rules room (journal_of v) p r n (read_by w reads 1) (read_by w reads p) (read_by w reads r) range (adopt_sound rules room w reads rules.players range sound (omega arith)).journals p_plays r_plays
+    (at 1 one) (at p p_plays) (at r r_plays) p_stays r_stays p_counts r_counts

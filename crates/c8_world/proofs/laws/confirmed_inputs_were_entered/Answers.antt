@@ -1,0 +1,5 @@
+use Rattle.c8_world.proofs.Reached.{inputs_entered}
+use Rattle.c8_world.proofs.laws.confirmed_inputs_were_entered.Goals as goal
+
+pub returns : goal.returns
+returns c = inputs_entered

@@ -1,0 +1,5 @@
+use Rattle.c8_world.proofs.Reached.{begins_own}
+use Rattle.c8_world.proofs.laws.held_inputs_were_entered.Goals as goal
+
+pub returns : goal.returns
+returns c = begins_own

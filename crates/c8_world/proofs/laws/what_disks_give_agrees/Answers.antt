@@ -1,0 +1,5 @@
+use Rattle.c8_world.proofs.Reached.{reads_agree}
+use Rattle.c8_world.proofs.laws.what_disks_give_agrees.Goals as goal
+
+pub returns : goal.returns
+returns c = reads_agree

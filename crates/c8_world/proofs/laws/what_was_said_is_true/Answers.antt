@@ -1,0 +1,8 @@
+use Rattle.c8_world.proofs.Reached.{said_holds, said_spells}
+use Rattle.c8_world.proofs.laws.what_was_said_is_true.Goals as goal
+
+pub returns-clause-said : goal.returns-clause-said
+returns-clause-said c = said_holds
+
+pub returns-clause-spelled : goal.returns-clause-spelled
+returns-clause-spelled c = said_spells

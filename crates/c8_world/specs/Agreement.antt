@@ -1,0 +1,112 @@
+-- What all peers of a world have in common.
+use Rattle.std.specs.Prelude.{◌≡◌, ◌≢◌, ℕ, ◌<◌, ◌≤◌, ◌⊎◌, List, true, false, Bool, Option, Some, Err}
+use Rattle.std.specs.List.{slice_get}
+use Rattle.c8_game.specs.Rules.{Rules}
+use Rattle.c8_machine.specs.Serial.{serial}
+use Rattle.c8_wire.specs.Packet.{Packet}
+use Rattle.c8_hand.specs.Links.{link_to}
+use Rattle.c8_known.specs.Journal.{Record, held, count, had_epoch, has_leave, cut_of}
+use Rattle.c8_known.specs.Known.{KnownValue, player_in, known_of}
+use Rattle.c8_known.specs.Confirmed.{input_of, confirmed, rows_below}
+use Rattle.c8_peer.specs.declared.error.OpenError.{OpenError}
+use Rattle.c8_peer.specs.declared.error.OpenError.TheVariants as opens
+use Rattle.c8_peer.specs.declared.error.Refused.{Refused}
+use Rattle.c8_peer.specs.State.{Away, Opened, Delivered}
+use Rattle.c8_peer.specs.Opening.{found}
+use Rattle.c8_world.specs.World.{World, peer_of, journal_of, known_by, Answer, Told}
+
+-- a player of the game
+pub record IsPlayer (rules : Rules) (p : ℕ) : Type 0 where
+  pub from_one : 1 ≤ p
+  pub in_game : p ≤ rules.players
+
+-- The player has not been dropped: player one's journal has no LEAVE of it.
+abbrev pub IsUndropped : World → ℕ → Type 0
+IsUndropped w p = has_leave p (journal_of w 1) ≡ false
+
+-- no player has been dropped
+abbrev pub NobodyLeaves : World → Type 0
+NobodyLeaves w = (q : ℕ) → IsUndropped w q
+
+-- ---- agreement
+
+-- Two of what peers know agree up to a number of frames: they have the same inputs of all players, and so the same machine.
+pub record AreSameUpTo (rules : Rules) (a b : KnownValue) (n : ℕ) : Type 0 where
+  pub rows : rows_below a n ≡ rows_below b n
+  pub machine : serial rules (rows_below a n) ≡ serial rules (rows_below b n)
+
+-- Of peer p at one moment and peer r at a later one, both undropped then: they agree as far as both count frames as
+-- confirmed, each by its own moment.
+abbrev pub AgreeUpTo : Rules → World → World → ℕ → ℕ → Type 0
+AgreeUpTo rules earlier later p r = (n : ℕ) → n ≤ confirmed (known_by rules earlier p) → n ≤ confirmed (known_by rules later r)
+    → AreSameUpTo rules (known_by rules earlier p) (known_by rules later r) n
+
+abbrev pub Agree : Rules → World → World → ℕ → ℕ → Type 0
+Agree rules earlier later p r = IsUndropped later p → IsUndropped later r → AgreeUpTo rules earlier later p r
+
+-- An input of player q that a peer holds as confirmed at a moment: what q's own journal has at that frame, or, by player
+-- one's journal, empty from q's cut on; at a later moment too.
+pub record IsEntered (rules : Rules) (later : World) (q frame : ℕ) (input : Option ℕ) : Type 0 where
+  pub word : ℕ
+  pub is : input ≡ Some word
+  pub entered : (slice_get (held rules q (journal_of later q)) frame ≡ Some word)
+      ⊎ ((word ≡ 0) × (K : ℕ) × (cut_of q (journal_of later 1) ≡ Some K) × (K ≤ frame))
+
+abbrev pub AreEntered : Rules → World → World → ℕ → Type 0
+AreEntered rules earlier later p = (frame q : ℕ) → IsPlayer rules q → frame < confirmed (known_by rules earlier p)
+    → IsEntered rules later q frame (input_of (player_in (known_by rules earlier p) q) frame)
+
+-- who is undropped holds no more of a leaver's inputs than player one's cut
+abbrev pub IsBounded : Rules → World → ℕ → Type 0
+IsBounded rules w p = IsUndropped w p → (leaver K : ℕ) → IsPlayer rules leaver → cut_of leaver (journal_of w 1) ≡ Some K → count rules leaver (journal_of w p) ≤ K
+
+-- ---- the same by what reads of the disks give
+
+-- which of the pending records a read of each player's disk finds
+abbrev pub Reads : Type 0
+Reads = ℕ → Bool
+
+abbrev pub read_by : World → Reads → ℕ → List Record
+read_by w reads p = found (peer_of w p) (reads p)
+
+abbrev pub AgreeByReads : Rules → World → Reads → ℕ → ℕ → Type 0
+AgreeByReads rules w reads p r = has_leave p (read_by w reads 1) ≡ false → has_leave r (read_by w reads 1) ≡ false
+    → (n : ℕ) → n ≤ confirmed (known_of rules p (read_by w reads p)) → n ≤ confirmed (known_of rules r (read_by w reads r))
+    → AreSameUpTo rules (known_of rules p (read_by w reads p)) (known_of rules r (read_by w reads r)) n
+
+-- ---- what was said
+
+-- this is one of the datagrams that were said
+abbrev pub IsAmong : List Packet → Packet → Type 0
+IsAmong said packet = (number : ℕ) × (slice_get said number ≡ Some packet)
+
+-- a datagram of player q to player p names their epochs: q's own one, and p's
+pub record Names (said : List Packet) (q p theirs mine : ℕ) : Type 0 where
+  pub packet : Packet
+  pub among : IsAmong said packet
+  pub from : packet.head.from ≡ q
+  pub to : packet.head.to ≡ p
+  pub sender_epoch : packet.head.sender_epoch ≡ theirs
+  pub addressee_epoch : packet.head.addressee_epoch ≡ mine
+
+-- An open link of p to q: q had the epoch that p knows of it, and in that epoch named p's own one.
+pub record IsLinked (w : World) (p q : ℕ) : Type 0 where
+  pub had : had_epoch (link_to (peer_of w p).memory.links q).known (journal_of w q) ≡ true
+  pub named : Names w.said q p (link_to (peer_of w p).memory.links q).known (peer_of w p).memory.links.epoch
+
+abbrev pub AreLinked : World → ℕ → ℕ → Type 0
+AreLinked w p q = ((peer_of w p).mode ≡ Away → ⊥) → (link_to (peer_of w p).memory.links q).is_open ≡ true → IsLinked w p q
+
+-- ---- answers
+
+abbrev pub refused_for : Refused → Answer
+refused_for why = Told (Delivered (Err why))
+
+abbrev pub not_opened_for : OpenError → Answer
+not_opened_for why = Told (Opened (Err why))
+
+-- no opening of a player's peer finds a journal that it may not open
+pub record IsFit (answer : Answer) : Type 0 where
+  pub game : answer ≢ not_opened_for opens.WrongGame
+  pub player : answer ≢ not_opened_for opens.WrongPlayer
+  pub records : (n : ℕ) → answer ≢ not_opened_for (opens.BadRecord n)

@@ -1,0 +1,191 @@
+-- All peers of one match, all that they ever said, and what one event makes of them.
+use Rattle.std.specs.Prelude.{◌≡◌, ℕ, ◌^◌, ◌-◌, ◌<◌, ◌&&◌, List, [], ◌∷◌, ◌++◌, replicate, slice_index_or, slice_set, nat_le, Bool, true, false, Option, Some, None, Ok, Err, if◌then◌else◌}
+use Rattle.std.specs.List.{slice_get}
+use Rattle.c8_game.specs.Rules.{Rules}
+use Rattle.c8_wire.specs.Packet.{Packet}
+use Rattle.c8_hand.specs.Links.{no_link}
+use Rattle.c8_known.specs.Journal.{Record}
+use Rattle.c8_known.specs.Known.{KnownValue, known_of}
+use Rattle.c8_window.specs.Window.{first_window}
+use Rattle.c8_round.specs.Round.{no_reports, no_haves}
+use Rattle.c8_peer.specs.declared.error.OpenError.TheVariants as opens
+use Rattle.c8_peer.specs.State as calls
+use Rattle.c8_peer.specs.State.{Memory, Mode, Down, Away, State, Saying, Call, Reply, Opened, Ticked, Delivered, Said, Left, Decided}
+use Rattle.c8_peer.specs.Steps.{Luck, Stepped, step}
+use Rattle.c8_peer.specs.Opening.{Opening, found, opened, away, MayBecome}
+
+-- ---- the world
+
+-- each player's peer, player 1 first, and every datagram that was said, the first one number 0
+pub record World : Type 0 where
+  pub peers : List State
+  pub said : List Packet
+
+-- a peer that was never opened: nothing is asked of its memory
+abbrev pub never_opened : State
+never_opened = record {
+  journal = [];
+  pending = None;
+  mode = Away;
+  memory = record {
+    links = record { me = 0; players = 0; session = 0; epoch = 0; one = no_link; two = no_link; three = no_link; four = no_link };
+    acks = first_window 0;
+    chair = no_reports;
+    stayer = no_haves;
+    alarm = false;
+  };
+}
+
+abbrev pub start : Rules → World
+start rules = record { peers = replicate rules.players never_opened; said = [] }
+
+abbrev pub is_player : Rules → ℕ → Bool
+is_player rules p = nat_le 1 p && nat_le p rules.players
+
+abbrev pub peer_of : World → ℕ → State
+peer_of w p = slice_index_or w.peers (p - 1) never_opened
+
+abbrev pub journal_of : World → ℕ → List Record
+journal_of w p = (peer_of w p).journal
+
+-- what a player knows by its journal
+abbrev pub known_by : Rules → World → ℕ → KnownValue
+known_by rules w p = known_of rules p (journal_of w p)
+
+-- the same, but for one player's peer
+abbrev pub with_peer : World → ℕ → State → World
+with_peer w p s = record w { peers = slice_set w.peers (p - 1) s }
+
+-- ---- events
+
+pub data Act : Type 0 where
+  Open : (player : ℕ) → Act
+  Tick : (player : ℕ) → (keys : ℕ) → Act
+  Say : (player : ℕ) → (to : ℕ) → (what : Saying) → Act
+  -- the datagram of a number is delivered to a player
+  Give : (number : ℕ) → (player : ℕ) → Act
+  -- both at player one
+  Leave : (leaver : ℕ) → Act
+  Decide : (leaver : ℕ) → Act
+
+-- An act; or an act inside which the player stops: the disk serves so many calls, and what a crash then leaves is picked.
+pub data Event : Type 0 where
+  Do : Act → Event
+  Stop : Act → (calls : ℕ) → (pick : ℕ) → Event
+
+abbrev pub player_of : Act → ℕ
+player_of (Open player) = player
+player_of (Tick player keys) = player
+player_of (Say player to what) = player
+player_of (Give number player) = player
+player_of (Leave leaver) = 1
+player_of (Decide leaver) = 1
+
+-- what the disk did in an event: whether a reading found the pending record, what became of an opening, whether the record
+-- was taken, and whether a crash left the pending record; an event asks only for what it needs
+pub record Happening : Type 0 where
+  pub finds : Bool
+  pub opening : Opening
+  pub luck : Luck
+  pub leaves : Bool
+
+-- what is answered: what the peer replies; or that it is open already, that it is not open, that there is no such datagram,
+-- or that it was stopped
+pub data Answer : Type 0 where
+  Told : Reply → Answer
+  IsUp : Answer
+  IsDown : Answer
+  NoSuch : Answer
+  Stopped : Answer
+
+pub record After : Type 0 where
+  pub answer : Answer
+  pub world : World
+
+-- ---- one event
+
+-- what a reply says to all
+abbrev pub said_by : Reply → List Packet
+said_by (Opened result) = []
+said_by (Ticked result) = []
+said_by (Delivered result) = []
+said_by (Said (Ok packet)) = packet ∷ []
+said_by (Said (Err error)) = []
+said_by (Left result) = []
+said_by (Decided result) = []
+
+abbrev pub stepped : World → ℕ → Stepped → After
+stepped w p t = record { answer = Told t.reply; world = record { peers = slice_set w.peers (p - 1) t.state; said = w.said ++ said_by t.reply } }
+
+abbrev pub call_at_mode : Rules → World → ℕ → Call → Luck → Mode → After
+call_at_mode rules w p call luck calls.Open = stepped w p (step rules p (peer_of w p) call luck)
+call_at_mode rules w p call luck Down = record { answer = IsDown; world = w }
+call_at_mode rules w p call luck Away = record { answer = IsDown; world = w }
+
+-- a call at a player's peer; a player who is not in the game counts as away
+abbrev pub call_at : Rules → World → ℕ → Call → Luck → After
+call_at rules w p call luck = if is_player rules p then call_at_mode rules w p call luck (peer_of w p).mode else record { answer = IsDown; world = w }
+
+abbrev pub open_at_mode : Rules → ℕ → World → ℕ → Happening → Mode → After
+open_at_mode rules room w p h calls.Open = record { answer = IsUp; world = w }
+open_at_mode rules room w p h Down = stepped w p (opened rules room p (peer_of w p) (found (peer_of w p) h.finds) h.opening)
+open_at_mode rules room w p h Away = stepped w p (opened rules room p (peer_of w p) (found (peer_of w p) h.finds) h.opening)
+
+abbrev pub open_at : Rules → ℕ → World → ℕ → Happening → After
+open_at rules room w p h =
+    if is_player rules p then open_at_mode rules room w p h (peer_of w p).mode else record { answer = Told (Opened (Err opens.WrongPlayer)); world = w }
+
+abbrev pub give_to : Rules → World → ℕ → Luck → Option Packet → After
+give_to rules w p luck None = record { answer = NoSuch; world = w }
+give_to rules w p luck (Some packet) = call_at rules w p (calls.Deliver (Ok packet)) luck
+
+unfoldable pub acted : Rules → ℕ → World → Act → Happening → After
+acted rules room w (Open p) h = open_at rules room w p h
+acted rules room w (Tick p keys) h = call_at rules w p (calls.Tick keys) h.luck
+acted rules room w (Say p to what) h = call_at rules w p (calls.Say to what) h.luck
+acted rules room w (Give number p) h = give_to rules w p h.luck (slice_get w.said number)
+acted rules room w (Leave leaver) h = call_at rules w 1 (calls.Leave leaver) h.luck
+acted rules room w (Decide leaver) h = call_at rules w 1 (calls.Decide leaver) h.luck
+
+-- a crash makes a peer away, with its journal as a reading of the disk finds it
+abbrev pub crashed : Rules → World → ℕ → Bool → World
+crashed rules w p leaves = if is_player rules p then with_peer w p (away (peer_of w p) (found (peer_of w p) leaves) None) else w
+
+-- a stop is the act and then a crash, whatever the act came to
+abbrev pub after : Rules → ℕ → World → Event → Happening → After
+after rules room w (Do act) h = acted rules room w act h
+after rules room w (Stop act calls pick) h = record { answer = Stopped; world = crashed rules (acted rules room w act h).world (player_of act) h.leaves }
+
+-- ---- what may happen
+
+-- keys are a set of 16 keys, and an opening comes to what it may
+abbrev pub MayAct : Rules → ℕ → World → Act → Happening → Type 0
+MayAct rules room w (Open p) h = is_player rules p ≡ true → MayBecome rules room p (found (peer_of w p) h.finds) h.opening
+MayAct rules room w (Tick p keys) h = keys < 2 ^ 16
+MayAct rules room w (Say p to what) h = Unit {0}
+MayAct rules room w (Give number p) h = Unit {0}
+MayAct rules room w (Leave leaver) h = Unit {0}
+MayAct rules room w (Decide leaver) h = Unit {0}
+
+abbrev pub act_of : Event → Act
+act_of (Do act) = act
+act_of (Stop act calls pick) = act
+
+-- an event may be answered so and leave this world
+pub record CanHappen (rules : Rules) (room : ℕ) (w : World) (event : Event) (answer : Answer) (v : World) : Type 0 where
+  pub happening : Happening
+  pub may : MayAct rules room w (act_of event) happening
+  pub is : after rules room w event happening ≡ record { answer = answer; world = v }
+
+-- a list of events, one answer each
+abbrev pub Chain : Rules → ℕ → World → List Event → List Answer → World → Type 0
+Chain rules room w [] [] v = v ≡ w
+Chain rules room w [] (answer ∷ answers) v = ⊥
+Chain rules room w (event ∷ events) [] v = ⊥
+Chain rules room w (event ∷ events) (answer ∷ answers) v = (u : World) × CanHappen rules room w event answer u × Chain rules room u events answers v
+
+-- some list of events leads to this world
+pub record IsReached (rules : Rules) (room : ℕ) (w : World) : Type 0 where
+  pub events : List Event
+  pub answers : List Answer
+  pub chain : Chain rules room (start rules) events answers w

@@ -1,0 +1,89 @@
+//! The theorem that peers agree, over every list of events of a world: each law is the contract of
+//! a function that does nothing. `IsReached` says that some list of events leads to a world, from
+//! the one in which no peer has been opened yet.
+ghost use Rattle.std.specs.Prelude.{◌≡◌, ◌≢◌, ℕ, ◌^◌, ◌<◌, ◌≤◌, List, Some, false};
+ghost use Rattle.std.specs.List.{slice_get};
+ghost use Rattle.c8_game.specs.Rules.{Rules, AreInRange};
+ghost use Rattle.c8_wire.specs.Packet.{Packet};
+ghost use Rattle.c8_wire.specs.Spelling.{spelling, Spells};
+ghost use Rattle.c8_known.specs.Journal.{held};
+ghost use Rattle.c8_known.specs.Known.{player_in};
+ghost use Rattle.c8_known.specs.Growth.{Begins};
+ghost use Rattle.c8_known.specs.declared.error.KnownError.TheVariants.{Differs};
+ghost use Rattle.c8_peer.specs.declared.error.Refused.TheVariants.{BadAck, Desync, Known};
+ghost use Rattle.c8_peer.specs.Truth.{IsTrue};
+ghost use Rattle.c8_world.specs.World.{World, Act, Open, Give, Event, Do, Answer, CanHappen, Chain, IsReached, journal_of};
+ghost use Rattle.c8_world.specs.Agreement.{IsPlayer, IsUndropped, NobodyLeaves, AgreeUpTo, Agree, AreEntered, IsBounded, Reads, AgreeByReads, IsAmong, AreLinked, refused_for, IsFit};
+
+/// What a peer holds of a player's inputs begins what that player entered.
+pub fn held_inputs_were_entered()
+    ensures { (rules : Rules) (room : ℕ) (w : World) (p q : ℕ)
+        → AreInRange rules → room < 2 ^ 64 → IsReached rules room w
+        → IsPlayer rules p → IsPlayer rules q
+        → Begins (held rules q (journal_of w p)) (held rules q (journal_of w q)) }
+{}
+
+/// Each datagram that was said is true of its sender's journal, and has a spelling; so to deliver
+/// the bytes that spell it is to deliver it. No delivery is answered BadAck.
+pub fn what_was_said_is_true()
+    ensures said { (rules : Rules) (room : ℕ) (w : World) (packet : Packet)
+        → AreInRange rules → room < 2 ^ 64 → IsReached rules room w → IsAmong w.said packet
+        → IsTrue rules packet.head.from (journal_of w packet.head.from) packet }
+    ensures spelled { (rules : Rules) (room : ℕ) (w : World) (packet : Packet)
+        → AreInRange rules → room < 2 ^ 64 → IsReached rules room w → IsAmong w.said packet
+        → Spells (spelling packet) packet }
+{}
+
+/// An open link of p to q, at a peer that is open or down: q's journal had the epoch that p knows,
+/// and in that epoch q named p's own one.
+pub fn open_links_name_both_epochs()
+    ensures { (rules : Rules) (room : ℕ) (w : World) (p q : ℕ)
+        → AreInRange rules → room < 2 ^ 64 → IsReached rules room w
+        → IsPlayer rules p → AreLinked w p q }
+{}
+
+/// Whatever happens between two moments: a peer at the earlier and a peer at the later one, both
+/// undropped at the later, have the same inputs and the same machine as far as both count frames
+/// as confirmed.
+pub fn undropped_peers_agree()
+    ensures { (rules : Rules) (room : ℕ) (w v : World) (events : List Event)
+        (answers : List Answer) (p r : ℕ)
+        → AreInRange rules → room < 2 ^ 64 → IsReached rules room w
+        → Chain rules room w events answers v
+        → IsPlayer rules p → IsPlayer rules r → Agree rules w v p r }
+{}
+
+/// Each input that a peer holds as confirmed is what its player entered, by that player's own
+/// journal, or empty from that player's cut on; at every later moment too. This is so of dropped
+/// peers as well.
+pub fn confirmed_inputs_were_entered()
+    ensures { (rules : Rules) (room : ℕ) (w v : World) (events : List Event)
+        (answers : List Answer) (p : ℕ)
+        → AreInRange rules → room < 2 ^ 64 → IsReached rules room w
+        → Chain rules room w events answers v → IsPlayer rules p → AreEntered rules w v p }
+{}
+
+/// Once player one has cut a leaver's list, no undropped peer holds more of it.
+pub fn a_cut_bounds_who_stays()
+    ensures { (rules : Rules) (room : ℕ) (w : World) (p : ℕ)
+        → AreInRange rules → room < 2 ^ 64 → IsReached rules room w
+        → IsPlayer rules p → IsBounded rules w p }
+{}
+
+/// The same agreement by what a reading of each disk gives, whichever of the pending records it
+/// finds.
+pub fn what_disks_give_agrees()
+    ensures { (rules : Rules) (room : ℕ) (w : World) (reads : Reads) (p r : ℕ)
+        → AreInRange rules → room < 2 ^ 64 → IsReached rules room w
+        → IsPlayer rules p → IsPlayer rules r → AgreeByReads rules w reads p r }
+{}
+
+/// While no LEAVE stands at player one, any two peers agree, at any two moments, and no delivery is
+/// answered Differs or Desync.
+pub fn all_agree_while_nobody_leaves()
+    ensures { (rules : Rules) (room : ℕ) (w v : World) (events : List Event)
+        (answers : List Answer) (p r : ℕ)
+        → AreInRange rules → room < 2 ^ 64 → IsReached rules room w
+        → Chain rules room w events answers v → NobodyLeaves v
+        → IsPlayer rules p → IsPlayer rules r → AgreeUpTo rules w v p r }
+{}

@@ -1,0 +1,4 @@
+//! All peers of one match, and the theorem that they agree.
+#![tactic(auto)]
+
+pub mod laws;
