@@ -1,4 +1,2 @@
 pub mod TakenLemmas
 pub mod ReplayLemmas
-pub mod BodiesLemmas
-pub mod RefusalLemmas

@@ -7,3 +7,4 @@ pub mod Taken
 pub mod JournalLaws
 pub mod BodyLaws
 pub mod LeaverLaws
+pub mod RefusalLaws

@@ -4,3 +4,7 @@ pub mod Records
 pub mod Events
 pub mod Worlds
 pub mod Reached
+pub mod Openings
+pub mod Calm
+pub mod Replies
+pub mod Answered

@@ -32,6 +32,9 @@ pub fn what_was_said_is_true()
     ensures spelled { (rules : Rules) (room : ℕ) (w : World) (packet : Packet)
         → AreInRange rules → room < 2 ^ 64 → IsReached rules room w → IsAmong w.said packet
         → Spells (spelling packet) packet }
+    ensures acks { (rules : Rules) (room : ℕ) (w v : World) (event : Event) (answer : Answer)
+        → AreInRange rules → room < 2 ^ 64 → IsReached rules room w
+        → CanHappen rules room w event answer v → answer ≢ refused_for BadAck }
 {}
 
 /// An open link of p to q, at a peer that is open or down: q's journal had the epoch that p knows,
@@ -40,6 +43,13 @@ pub fn open_links_name_both_epochs()
     ensures { (rules : Rules) (room : ℕ) (w : World) (p q : ℕ)
         → AreInRange rules → room < 2 ^ 64 → IsReached rules room w
         → IsPlayer rules p → AreLinked w p q }
+{}
+
+/// No opening of a player's peer is answered WrongGame, WrongPlayer or BadRecord.
+pub fn openings_find_journals()
+    ensures { (rules : Rules) (room : ℕ) (w v : World) (p : ℕ) (answer : Answer)
+        → AreInRange rules → room < 2 ^ 64 → IsReached rules room w → IsPlayer rules p
+        → CanHappen rules room w (Do (Open p)) answer v → IsFit answer }
 {}
 
 /// Whatever happens between two moments: a peer at the earlier and a peer at the later one, both
@@ -70,6 +80,21 @@ pub fn a_cut_bounds_who_stays()
         → IsPlayer rules p → IsBounded rules w p }
 {}
 
+/// A delivery at an undropped peer is never answered Differs, whoever said the datagram, and never
+/// Desync where its sender is undropped too.
+pub fn undropped_peers_see_no_difference()
+    ensures inputs { (rules : Rules) (room : ℕ) (w v : World) (p number : ℕ) (answer : Answer)
+        → AreInRange rules → room < 2 ^ 64 → IsReached rules room w → IsUndropped w p
+        → CanHappen rules room w (Do (Give number p)) answer v
+        → answer ≢ refused_for (Known Differs) }
+    ensures machines { (rules : Rules) (room : ℕ) (w v : World) (p number : ℕ)
+        (packet : Packet) (answer : Answer)
+        → AreInRange rules → room < 2 ^ 64 → IsReached rules room w → IsUndropped w p
+        → slice_get w.said number ≡ Some packet → IsUndropped w packet.head.from
+        → CanHappen rules room w (Do (Give number p)) answer v
+        → answer ≢ refused_for Desync }
+{}
+
 /// The same agreement by what a reading of each disk gives, whichever of the pending records it
 /// finds.
 pub fn what_disks_give_agrees()
@@ -81,9 +106,17 @@ pub fn what_disks_give_agrees()
 /// While no LEAVE stands at player one, any two peers agree, at any two moments, and no delivery is
 /// answered Differs or Desync.
 pub fn all_agree_while_nobody_leaves()
-    ensures { (rules : Rules) (room : ℕ) (w v : World) (events : List Event)
+    ensures rows { (rules : Rules) (room : ℕ) (w v : World) (events : List Event)
         (answers : List Answer) (p r : ℕ)
         → AreInRange rules → room < 2 ^ 64 → IsReached rules room w
         → Chain rules room w events answers v → NobodyLeaves v
         → IsPlayer rules p → IsPlayer rules r → AgreeUpTo rules w v p r }
+    ensures inputs { (rules : Rules) (room : ℕ) (w v : World) (p number : ℕ) (answer : Answer)
+        → AreInRange rules → room < 2 ^ 64 → IsReached rules room w → NobodyLeaves w
+        → CanHappen rules room w (Do (Give number p)) answer v
+        → answer ≢ refused_for (Known Differs) }
+    ensures machines { (rules : Rules) (room : ℕ) (w v : World) (p number : ℕ) (answer : Answer)
+        → AreInRange rules → room < 2 ^ 64 → IsReached rules room w → NobodyLeaves w
+        → CanHappen rules room w (Do (Give number p)) answer v
+        → answer ≢ refused_for Desync }
 {}

@@ -1,5 +1,12 @@
 use Rattle.c8_world.proofs.Reached.{all_agree}
+use Rattle.c8_world.proofs.Answered.{calm_differs, calm_desync}
 use Rattle.c8_world.proofs.laws.all_agree_while_nobody_leaves.Goals as goal
 
-pub returns : goal.returns
-returns c = all_agree
+pub returns-clause-rows : goal.returns-clause-rows
+returns-clause-rows c = all_agree
+
+pub returns-clause-inputs : goal.returns-clause-inputs
+returns-clause-inputs c = calm_differs
+
+pub returns-clause-machines : goal.returns-clause-machines
+returns-clause-machines c = calm_desync

@@ -1,4 +1,5 @@
 use Rattle.c8_world.proofs.Reached.{said_holds, said_spells}
+use Rattle.c8_world.proofs.Answered.{never_bad_ack}
 use Rattle.c8_world.proofs.laws.what_was_said_is_true.Goals as goal
 
 pub returns-clause-said : goal.returns-clause-said
@@ -6,3 +7,6 @@ returns-clause-said c = said_holds
 
 pub returns-clause-spelled : goal.returns-clause-spelled
 returns-clause-spelled c = said_spells
+
+pub returns-clause-acks : goal.returns-clause-acks
+returns-clause-acks c = never_bad_ack

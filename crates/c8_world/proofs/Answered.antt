@@ -1,0 +1,154 @@
+-- What no event is ever answered.
+use Rattle.std.proofs.Common.{◌≡◌, ◌≢◌, ◌⊎◌, inl, inr, ⊎_elim, ℕ, ◌<◌, ◌^◌, List, Option, Some, None, Ok, refl, sym, ap, subst, ◌∙◌}
+use Rattle.std.specs.List.{slice_get}
+use Rattle.c8_game.specs.Rules.{Rules, AreInRange}
+use Rattle.c8_disk.specs.declared.error.DiskError.{DiskError}
+use Rattle.c8_wire.specs.Packet.{Packet}
+use Rattle.c8_known.specs.declared.error.KnownError.TheVariants.{Differs}
+use Rattle.c8_known.specs.Journal.{Record}
+use Rattle.c8_known.specs.Known.{known_of}
+use Rattle.c8_peer.specs.declared.error.Refused.{Refused}
+use Rattle.c8_peer.specs.declared.error.Refused.TheVariants.{BadAck, Desync, Known}
+use Rattle.c8_peer.specs.State as states
+use Rattle.c8_peer.specs.State.{Mode, Down, Away, State, Call, Outcome, Delivered}
+use Rattle.c8_peer.specs.Steps.{outcome, Luck, Works, Refuses, refused_by_disk, Stepped, done, at_mode, step}
+use Rattle.c8_peer.specs.Opening.{Opening, Stands, NotWritten, NoMemory, NotRead, Unfit, Spent, found, opened}
+use Rattle.c8_world.specs.World.{World, is_player, peer_of, journal_of, Act, Open, Tick, Say, Give, Leave, Decide, Event, Do, Stop, Happening, Answer, Told, NoSuch, After, call_at_mode, call_at, open_at_mode, give_to, acted, after, CanHappen, IsReached}
+use Rattle.c8_world.specs.Agreement.{IsPlayer, IsUndropped, NobodyLeaves, refused_for}
+use Rattle.c8_world.proofs.Events.{IsWorldly}
+use Rattle.c8_world.proofs.Worlds.{IsSound, plays_if}
+use Rattle.c8_world.proofs.Reached.{reached_sound}
+use Rattle.c8_world.proofs.Openings.{after_if}
+use Rattle.c8_world.proofs.Replies.{IsCalm, AnswersCalmly, EndsCalmly, calm_other, unrefused, teller_of, calm_call}
+
+-- ---- a call
+
+-- a disk that refuses a record is another answer
+calm_by_disk : (J : ℕ → List Record) (p q : ℕ) (call : Call) (why : DiskError) → AnswersCalmly J p q (refused_by_disk call why)
+calm_by_disk J p q (states.Tick keys) why = unrefused J p q _ (λ x e. cc e)
+calm_by_disk J p q (states.Deliver told) why = calm_other J p q _ (λ e. cc e) (λ e. cc e) (λ e. cc e)
+calm_by_disk J p q (states.Say to what) why = unrefused J p q _ (λ x e. cc e)
+calm_by_disk J p q (states.Leave leaver) why = unrefused J p q _ (λ x e. cc e)
+calm_by_disk J p q (states.Decide leaver) why = unrefused J p q _ (λ x e. cc e)
+
+calm_done : (J : ℕ → List Record) (p q : ℕ) (s : State) (call : Call) (o : Outcome) (kept : Option Record) (luck : Luck) → EndsCalmly J p q o → AnswersCalmly J p q (done s call o kept luck).reply
+calm_done J p q s call o None luck calm = calm
+calm_done J p q s call o (Some r) Works calm = calm
+calm_done J p q s call o (Some r) (Refuses why) calm = calm_by_disk J p q call why
+
+-- the same of an answer
+abbrev IsCalmAnswer : (ℕ → List Record) → ℕ → ℕ → Answer → Type 0
+IsCalmAnswer J p q answer = (why : Refused) → answer ≡ refused_for why → IsCalm J p q why
+
+calm_mode : (rules : Rules) (room : ℕ) (w : World) (p : ℕ) (call : Call) (luck : Luck) (mode : Mode) → AreInRange rules → IsSound rules room w → IsPlayer rules p → (peer_of w p).mode ≡ mode
+    → IsWorldly rules (journal_of w) w.said call → IsCalmAnswer (journal_of w) p (teller_of call) (call_at_mode rules w p call luck mode).answer
+calm_mode rules room w p call luck states.Open range sound plays up worldly why e =
+    let J : ℕ → List Record = journal_of w in
+    let q : ℕ = teller_of call in
+    let o : Outcome = outcome rules (known_of rules p (J p)) (peer_of w p).memory call in
+    let at : step rules p (peer_of w p) call luck ≡ done (peer_of w p) call o o.keeps luck = ap (λ (mode : Mode). at_mode (peer_of w p) call o mode luck) up in
+    let awake = (sound.peers p plays).awake (λ gone. absurd (cc (up, gone))) in
+    let calm : EndsCalmly J p q o = calm_call rules room J w.said p (peer_of w p).memory call range sound.journals plays awake worldly in
+    subst (λ (t : Stepped). AnswersCalmly J p q t.reply) (sym at) (calm_done J p q (peer_of w p) call o o.keeps luck calm) why cc
+calm_mode rules room w p call luck Down range sound plays up worldly why e = absurd (cc e)
+calm_mode rules room w p call luck Away range sound plays up worldly why e = absurd (cc e)
+
+calm_call_at : (rules : Rules) (room : ℕ) (w : World) (p : ℕ) (call : Call) (luck : Luck) → AreInRange rules → IsSound rules room w → IsWorldly rules (journal_of w) w.said call
+    → IsCalmAnswer (journal_of w) p (teller_of call) (call_at rules w p call luck).answer
+calm_call_at rules room w p call luck range sound worldly =
+    after_if (λ (a : After). IsCalmAnswer (journal_of w) p (teller_of call) a.answer) (is_player rules p) _ _
+    (λ is. calm_mode rules room w p call luck (peer_of w p).mode range sound (plays_if rules p is) refl worldly)
+    (λ down why e. absurd (cc e))
+
+-- ---- a delivery
+
+-- a refusal of what was said: somebody said it
+record IsRefusalOf (w : World) (p : ℕ) (o : Option Packet) (why : Refused) : Type 0 where
+  packet : Packet
+  is : o ≡ Some packet
+  calm : IsCalm (journal_of w) p packet.head.from why
+
+calm_given : (rules : Rules) (room : ℕ) (w : World) (p number : ℕ) (luck : Luck) (o : Option Packet) (why : Refused) → AreInRange rules → IsSound rules room w → slice_get w.said number ≡ o
+    → (give_to rules w p luck o).answer ≡ refused_for why → IsRefusalOf w p o why
+calm_given rules room w p number luck None why range sound at e = absurd (cc e)
+calm_given rules room w p number luck (Some packet) why range sound at e = record {
+  packet = packet;
+  is = refl;
+  calm = calm_call_at rules room w p (states.Deliver (Ok packet)) luck range sound ((number, at), sound.said packet (number, at)) why e;
+}
+
+given : (rules : Rules) (room : ℕ) (w v : World) (p number : ℕ) (answer : Answer) (why : Refused) → AreInRange rules → IsSound rules room w
+    → CanHappen rules room w (Do (Give number p)) answer v → answer ≡ refused_for why → IsRefusalOf w p (slice_get w.said number) why
+unfolding acted
+given rules room w v p number answer why range sound can e =
+    calm_given rules room w p number can.happening.luck (slice_get w.said number) why range sound refl (ap (λ (a : After). a.answer) can.is ∙ e)
+
+pub never_differs : (rules : Rules) (room : ℕ) (w v : World) (p number : ℕ) (answer : Answer) → AreInRange rules → room < 2 ^ 64 → IsReached rules room w → IsUndropped w p
+    → CanHappen rules room w (Do (Give number p)) answer v → answer ≢ refused_for (Known Differs)
+never_differs rules room w v p number answer range few reached stays can e =
+    (given rules room w v p number answer (Known Differs) range (reached_sound rules room w range few reached) can e).calm.inputs stays refl
+
+pub never_desync : (rules : Rules) (room : ℕ) (w v : World) (p number : ℕ) (packet : Packet) (answer : Answer) → AreInRange rules → room < 2 ^ 64 → IsReached rules room w → IsUndropped w p
+    → slice_get w.said number ≡ Some packet → IsUndropped w packet.head.from → CanHappen rules room w (Do (Give number p)) answer v → answer ≢ refused_for Desync
+never_desync rules room w v p number packet answer range few reached stays at teller_stays can e =
+    let found = given rules room w v p number answer Desync range (reached_sound rules room w range few reached) can e in
+    let same : packet ≡ found.packet = cc (at, found.is) in
+    found.calm.machines stays (subst (λ (x : Packet). IsUndropped w x.head.from) same teller_stays) refl
+
+-- ---- any event
+
+opened_otherwise : (rules : Rules) (room p : ℕ) (s : State) (journal : List Record) (outcome : Opening) (why : Refused) → Told (opened rules room p s journal outcome).reply ≢ refused_for why
+opened_otherwise rules room p s journal Stands why = λ e. cc e
+opened_otherwise rules room p s journal (NotWritten error) why = λ e. cc e
+opened_otherwise rules room p s journal NoMemory why = λ e. cc e
+opened_otherwise rules room p s journal (NotRead error) why = λ e. cc e
+opened_otherwise rules room p s journal (Unfit error) why = λ e. cc e
+opened_otherwise rules room p s journal Spent why = λ e. cc e
+
+opens_otherwise : (rules : Rules) (room : ℕ) (w : World) (p : ℕ) (h : Happening) (mode : Mode) (why : Refused) → (open_at_mode rules room w p h mode).answer ≢ refused_for why
+opens_otherwise rules room w p h states.Open why = λ e. cc e
+opens_otherwise rules room w p h Down why = opened_otherwise rules room p (peer_of w p) (found (peer_of w p) h.finds) h.opening why
+opens_otherwise rules room w p h Away why = opened_otherwise rules room p (peer_of w p) (found (peer_of w p) h.finds) h.opening why
+
+acted_well : (rules : Rules) (room : ℕ) (w : World) (act : Act) (h : Happening) → AreInRange rules → IsSound rules room w → (acted rules room w act h).answer ≢ refused_for BadAck
+unfolding acted
+acted_well rules room w (Open p) h range sound =
+    after_if (λ (a : After). a.answer ≢ refused_for BadAck) (is_player rules p) _ _ (λ is. opens_otherwise rules room w p h (peer_of w p).mode BadAck) (λ none e. cc e)
+acted_well rules room w (Tick p keys) h range sound = λ e. (calm_call_at rules room w p (states.Tick keys) h.luck range sound tt BadAck e).ack refl
+acted_well rules room w (Say p to what) h range sound = λ e. (calm_call_at rules room w p (states.Say to what) h.luck range sound tt BadAck e).ack refl
+acted_well rules room w (Give number p) h range sound = λ e. (calm_given rules room w p number h.luck (slice_get w.said number) BadAck range sound refl e).calm.ack refl
+acted_well rules room w (Leave leaver) h range sound = λ e. (calm_call_at rules room w 1 (states.Leave leaver) h.luck range sound tt BadAck e).ack refl
+acted_well rules room w (Decide leaver) h range sound = λ e. (calm_call_at rules room w 1 (states.Decide leaver) h.luck range sound tt BadAck e).ack refl
+
+after_well : (rules : Rules) (room : ℕ) (w : World) (event : Event) (h : Happening) → AreInRange rules → IsSound rules room w → (after rules room w event h).answer ≢ refused_for BadAck
+after_well rules room w (Do act) h range sound = acted_well rules room w act h range sound
+after_well rules room w (Stop act calls pick) h range sound = λ e. cc e
+
+pub never_bad_ack : (rules : Rules) (room : ℕ) (w v : World) (event : Event) (answer : Answer) → AreInRange rules → room < 2 ^ 64 → IsReached rules room w
+    → CanHappen rules room w event answer v → answer ≢ refused_for BadAck
+never_bad_ack rules room w v event answer range few reached can e =
+    after_well rules room w event can.happening range (reached_sound rules room w range few reached) (ap (λ (a : After). a.answer) can.is ∙ e)
+
+-- ---- while nobody leaves
+
+-- of a number that is not there nothing is delivered
+none_given : (rules : Rules) (w : World) (p : ℕ) (luck : Luck) (o : Option Packet) (answer : Answer) (v : World) → o ≡ None → give_to rules w p luck o ≡ record { answer = answer; world = v } → answer ≢ refused_for Desync
+none_given rules w p luck None answer v none is e = let same : NoSuch ≡ answer = ap (λ (a : After). a.answer) is in absurd (cc (same, e))
+none_given rules w p luck (Some packet) answer v none is e = absurd cc
+
+said_or_not : (o : Option Packet) → (o ≡ None) ⊎ ((packet : Packet) × (o ≡ Some packet))
+said_or_not None = inl refl
+said_or_not (Some packet) = inr (packet, refl)
+
+pub calm_differs : (rules : Rules) (room : ℕ) (w v : World) (p number : ℕ) (answer : Answer) → AreInRange rules → room < 2 ^ 64 → IsReached rules room w → NobodyLeaves w
+    → CanHappen rules room w (Do (Give number p)) answer v → answer ≢ refused_for (Known Differs)
+calm_differs rules room w v p number answer range few is nobody can = never_differs rules room w v p number answer range few is (nobody p) can
+
+pub calm_desync : (rules : Rules) (room : ℕ) (w v : World) (p number : ℕ) (answer : Answer) → AreInRange rules → room < 2 ^ 64 → IsReached rules room w → NobodyLeaves w
+    → CanHappen rules room w (Do (Give number p)) answer v → answer ≢ refused_for Desync
+unfolding acted
+calm_desync rules room w v p number answer range few is nobody can =
+    ⊎_elim
+    (λ none. none_given rules w p can.happening.luck (slice_get w.said number) answer v none can.is)
+    (λ told. never_desync rules room w v p number told.0 answer range few is (nobody p) told.1 (nobody told.0.head.from) can)
+    (said_or_not (slice_get w.said number))

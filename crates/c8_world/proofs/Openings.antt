@@ -1,0 +1,64 @@
+-- What a reading finds of a player's disk is a journal, so that no opening refuses it.
+use Rattle.std.proofs.Common.{◌≡◌, ℕ, ◌^◌, ◌<◌, List, ◌++◌, Bool, true, false, cond, Option, Some, None, sym, subst, refl}
+use Rattle.std.specs.Prelude.{if◌then◌else◌, option_to_list}
+use Rattle.std.proofs.lemmas.Bool.{le-leb, both_ways}
+use Rattle.std.proofs.lemmas.List.{append-nil}
+use Rattle.c8_game.specs.Rules.{Rules, AreInRange}
+use Rattle.c8_known.specs.Journal.{Record}
+use Rattle.c8_record.specs.Allowed.{IsJournal}
+use Rattle.c8_record.specs.JournalLaws.{journal_more}
+use Rattle.c8_record.specs.RefusalLaws.{journal_not_refused}
+use Rattle.c8_peer.specs.State as states
+use Rattle.c8_peer.specs.State.{Mode, Down, Away, State}
+use Rattle.c8_peer.specs.Opening.{Opening, Stands, NotWritten, NoMemory, NotRead, Unfit, Spent, found, opened, MayBecome}
+use Rattle.c8_world.specs.World.{World, is_player, peer_of, journal_of, Open, Do, Happening, Answer, Told, After, open_at_mode, open_at, acted, CanHappen, IsReached}
+use Rattle.c8_world.specs.Agreement.{IsPlayer, IsFit}
+use Rattle.c8_world.proofs.Worlds.{IsSound}
+use Rattle.c8_world.proofs.Reached.{reached_sound}
+
+found_by : (rules : Rules) (room : ℕ) (w : World) (p : ℕ) (finds : Bool) (o : Option Record) → IsSound rules room w → IsPlayer rules p → (peer_of w p).pending ≡ o
+    → IsJournal rules p room (if finds then journal_of w p ++ option_to_list o else journal_of w p)
+found_by rules room w p false o sound plays e = sound.journals.valid p plays
+found_by rules room w p true None sound plays e = subst (λ (journal : List Record). IsJournal rules p room journal) (sym (append-nil (journal_of w p))) (sound.journals.valid p plays)
+found_by rules room w p true (Some r) sound plays e =
+    journal_more rules p room (journal_of w p) r (sound.journals.valid p plays) (((sound.peers p plays).pending r e).1).allowed
+
+-- whatever is found of a pending record
+found_valid : (rules : Rules) (room : ℕ) (w : World) (p : ℕ) (finds : Bool) → IsSound rules room w → IsPlayer rules p → IsJournal rules p room (found (peer_of w p) finds)
+found_valid rules room w p finds sound plays = found_by rules room w p finds (peer_of w p).pending sound plays refl
+
+opened_fit : (rules : Rules) (room p : ℕ) (s : State) (journal : List Record) (outcome : Opening) → IsJournal rules p room journal → MayBecome rules room p journal outcome
+    → IsFit (Told (opened rules room p s journal outcome).reply)
+opened_fit rules room p s journal Stands is may = record { game = λ e. cc e; player = λ e. cc e; records = λ n e. cc e }
+opened_fit rules room p s journal (NotWritten why) is may = record { game = λ e. cc e; player = λ e. cc e; records = λ n e. cc e }
+opened_fit rules room p s journal NoMemory is may = record { game = λ e. cc e; player = λ e. cc e; records = λ n e. cc e }
+opened_fit rules room p s journal (NotRead why) is may = record { game = λ e. cc e; player = λ e. cc e; records = λ n e. cc e }
+opened_fit rules room p s journal (Unfit error) is may = absurd (journal_not_refused rules p room journal error is may)
+opened_fit rules room p s journal Spent is may = record { game = λ e. cc e; player = λ e. cc e; records = λ n e. cc e }
+
+mode_fit : (rules : Rules) (room : ℕ) (w : World) (p : ℕ) (h : Happening) (mode : Mode) → IsSound rules room w → IsPlayer rules p → MayBecome rules room p (found (peer_of w p) h.finds) h.opening
+    → IsFit (open_at_mode rules room w p h mode).answer
+mode_fit rules room w p h states.Open sound plays may = record { game = λ e. cc e; player = λ e. cc e; records = λ n e. cc e }
+mode_fit rules room w p h Down sound plays may = opened_fit rules room p (peer_of w p) (found (peer_of w p) h.finds) h.opening (found_valid rules room w p h.finds sound plays) may
+mode_fit rules room w p h Away sound plays may = opened_fit rules room p (peer_of w p) (found (peer_of w p) h.finds) h.opening (found_valid rules room w p h.finds sound plays) may
+
+plays_so : (rules : Rules) (p : ℕ) → IsPlayer rules p → is_player rules p ≡ true
+plays_so rules p plays = rw (le-leb 1 p plays.from_one, le-leb p rules.players plays.in_game) refl
+
+-- a test decides what comes of it
+pub after_if : (P : After → Type 0) (b : Bool) (x y : After) → (b ≡ true → P x) → (b ≡ false → P y) → P (cond b x y)
+after_if P true x y when unless = when refl
+after_if P false x y when unless = unless refl
+
+open_fit : (rules : Rules) (room : ℕ) (w : World) (p : ℕ) (h : Happening) → IsSound rules room w → IsPlayer rules p → (is_player rules p ≡ true → MayBecome rules room p (found (peer_of w p) h.finds) h.opening)
+    → IsFit (open_at rules room w p h).answer
+open_fit rules room w p h sound plays may =
+    after_if (λ (a : After). IsFit a.answer) (is_player rules p) _ _
+    (λ is. mode_fit rules room w p h (peer_of w p).mode sound plays (may is))
+    (λ none. absurd (both_ways (is_player rules p) none (plays_so rules p plays)))
+
+pub openings_fit : (rules : Rules) (room : ℕ) (w v : World) (p : ℕ) (answer : Answer) → AreInRange rules → room < 2 ^ 64 → IsReached rules room w → IsPlayer rules p
+    → CanHappen rules room w (Do (Open p)) answer v → IsFit answer
+unfolding acted
+openings_fit rules room w v p answer range few reached plays can =
+    subst (λ (a : After). IsFit a.answer) can.is (open_fit rules room w p can.happening (reached_sound rules room w range few reached) plays can.may)

@@ -1,0 +1,260 @@
+-- What a call of an open peer never answers.
+use Rattle.std.proofs.Common.{◌≡◌, ◌≢◌, ℕ, ◌+◌, ◌≤◌, List, [], ◌∷◌, length, false, not, Option, Some, None, Result, Ok, Err, refl, sym, ap, subst, ◌∙◌, arith}
+use Rattle.std.specs.Prelude.{◌==◌, ◌||◌, nat_lt, nat_le, is_some}
+use Rattle.std.proofs.lemmas.Bool.{both_ways, ltb-true, eq-eqb}
+use Rattle.c8_game.specs.Rules.{Rules, AreInRange}
+use Rattle.c8_wire.specs.Packet.{HeadValue, DataMessage, FreezeMessage, LeaverMessage, Message, Packet}
+use Rattle.c8_wire.specs.Packet as packets
+use Rattle.c8_hand.specs.declared.error.HandError.{HandError}
+use Rattle.c8_hand.specs.Links.{heard}
+use Rattle.c8_hand.specs.Links as links
+use Rattle.c8_hand.specs.LinkLaws.{is_for_me}
+use Rattle.c8_known.specs.declared.error.KnownError.{KnownError}
+use Rattle.c8_known.specs.declared.error.KnownError.TheVariants as knowns
+use Rattle.c8_known.specs.Journal.{Record, held, count, has_leave, cut_of}
+use Rattle.c8_known.specs.Known.{PlayerValue, KnownValue, player_in, count_in, known_of, is_player}
+use Rattle.c8_known.specs.Confirmed.{confirmed}
+use Rattle.c8_known.specs.Fresh.{is_from_leaver, misfit, fresh_words}
+use Rattle.c8_round.specs.Round.{is_ready}
+use Rattle.c8_peer.specs.declared.error.Refused.{Refused}
+use Rattle.c8_peer.specs.declared.error.Refused.TheVariants as refusals
+use Rattle.c8_peer.specs.declared.error.TickError.{TickError}
+use Rattle.c8_peer.specs.declared.error.Unsayable.{Unsayable}
+use Rattle.c8_peer.specs.declared.error.LeaveError.{LeaveError}
+use Rattle.c8_peer.specs.declared.error.DecideError.{DecideError}
+use Rattle.c8_peer.specs.declared.heard.Heard.{Heard}
+use Rattle.c8_peer.specs.State.{Memory, Saying, Call, Tick, Deliver, Say, Leave, Decide, Reply, Ticked, Delivered, Said, Left, Decided, Outcome}
+use Rattle.c8_peer.specs.Calls.{tick, leave, decide}
+use Rattle.c8_peer.specs.Hearing.{refused, unless_misfit, got, is_desync, hear_data, hear_welcome, hear_freeze, hear_frozen, hear_end, hear_cut, hear_message, unless_hand, deliver}
+use Rattle.c8_peer.specs.Saying.{is_not_mine, lacks_record, lacks_link, say}
+use Rattle.c8_peer.specs.Steps.{outcome}
+use Rattle.c8_peer.specs.Truth.{Stands, IsTrueMark, IsTrueMessage}
+use Rattle.c8_world.specs.Agreement.{IsPlayer}
+use Rattle.c8_world.proofs.Journals.{AreSound}
+use Rattle.c8_world.proofs.Moments.{bounded_at}
+use Rattle.c8_world.proofs.Records.{said_known, count_known, stands_entered}
+use Rattle.c8_world.proofs.Events.{IsAwake, IsSaid, IsWorldly, branch, not_false, neither, in_game}
+use Rattle.c8_world.proofs.Calm.{no_bad_ack, no_difference, not_differs, no_desync}
+
+-- ---- what holds of each refusal
+
+-- of a delivery to player p of what player q said
+pub record IsCalm (J : ℕ → List Record) (p q : ℕ) (why : Refused) : Type 0 where
+  pub ack : why ≢ refusals.BadAck
+  pub inputs : has_leave p (J 1) ≡ false → why ≢ refusals.Known knowns.Differs
+  pub machines : has_leave p (J 1) ≡ false → has_leave q (J 1) ≡ false → why ≢ refusals.Desync
+
+abbrev pub AnswersCalmly : (ℕ → List Record) → ℕ → ℕ → Reply → Type 0
+AnswersCalmly J p q reply = (why : Refused) → reply ≡ Delivered (Err why) → IsCalm J p q why
+
+abbrev pub EndsCalmly : (ℕ → List Record) → ℕ → ℕ → Outcome → Type 0
+EndsCalmly J p q o = AnswersCalmly J p q o.reply
+
+calm_reply : (J : ℕ → List Record) (p q : ℕ) (why : Refused) → IsCalm J p q why → AnswersCalmly J p q (Delivered (Err why))
+calm_reply J p q why calm other e = let same : why ≡ other = cc in subst (λ (x : Refused). IsCalm J p q x) same calm
+
+-- a refusal that is none of the three
+pub calm_other : (J : ℕ → List Record) (p q : ℕ) (why : Refused) → why ≢ refusals.BadAck → why ≢ refusals.Known knowns.Differs → why ≢ refusals.Desync → AnswersCalmly J p q (Delivered (Err why))
+calm_other J p q why ack inputs machines = calm_reply J p q why (record { ack = ack; inputs = λ stays. inputs; machines = λ stays also. machines })
+
+-- why inputs cannot be held, where they do not differ
+calm_known : (J : ℕ → List Record) (p q : ℕ) (error : KnownError) → error ≢ knowns.Differs → AnswersCalmly J p q (Delivered (Err (refusals.Known error)))
+calm_known J p q error apart = calm_other J p q (refusals.Known error) (λ e. cc e) (λ e. let same : error ≡ knowns.Differs = cc in apart same) (λ e. cc e)
+
+unless_misfit_calm : (P : Outcome → Type 0) (m : Memory) (o : Option KnownError) (x : Outcome) → ((error : KnownError) → o ≡ Some error → P (refused m (refusals.Known error))) → P x → P (unless_misfit m o x)
+unless_misfit_calm P m None x refuses fits = fits
+unless_misfit_calm P m (Some error) x refuses fits = refuses error refl
+
+unless_hand_calm : (P : Outcome → Type 0) (m : Memory) (o : Option HandError) (x : Outcome) → ((error : HandError) → P (refused m (refusals.Hand error))) → (o ≡ None → P x) → P (unless_hand m o x)
+unless_hand_calm P m None x refuses admits = admits refl
+unless_hand_calm P m (Some error) x refuses admits = refuses error
+
+-- ---- deliveries
+
+-- an answer that refuses no delivery
+pub unrefused : (J : ℕ → List Record) (p q : ℕ) (reply : Reply) → ((why : Refused) → reply ≢ Delivered (Err why)) → AnswersCalmly J p q reply
+unrefused J p q reply not why e = absurd (not why e)
+
+calm_got : (J : ℕ → List Record) (p q : ℕ) (k : KnownValue) (m : Memory) (player : ℕ) (words : List ℕ) → EndsCalmly J p q (got k m player words)
+calm_got J p q k m player [] = unrefused J p q _ (λ why e. cc e)
+calm_got J p q k m player (w ∷ ws) = unrefused J p q _ (λ why e. cc e)
+
+calm_data : (rules : Rules) (room : ℕ) (J : ℕ → List Record) (p q : ℕ) (m : Memory) (d : DataMessage) → AreInRange rules → AreSound rules room J → IsPlayer rules p → IsPlayer rules q
+    → d.ack ≤ count rules p (J q) → Stands d.start d.words (held rules q (J q)) → IsTrueMark rules q (J q) d.mark_frame d.mark
+    → EndsCalmly J p q (hear_data rules (known_of rules p (J p)) m q d)
+unfolding hear_data
+calm_data rules room J p q m d range sound plays q_plays few stands is_mark =
+    let P : Outcome → Type 0 = EndsCalmly J p q in
+    let k : KnownValue = known_of rules p (J p) in
+    branch P (is_from_leaver k q q) _ _ (λ is. calm_other J p q _ (λ e. cc e) (λ e. cc e) (λ e. cc e)) (λ itself.
+    branch P (nat_lt (count_in k k.me) d.ack) _ _ (λ is. absurd (no_bad_ack rules room J p q d.ack sound plays q_plays few is)) (λ ack.
+    unless_misfit_calm P m (misfit k q d.start d.words) _
+    (λ error e. calm_known J p q error (not_differs k q d.start d.words error (no_difference rules room J p q d.start d.words sound plays q_plays stands) e))
+    (branch P (is_desync rules k d) _ _
+    (λ is. calm_reply J p q refusals.Desync (record {
+      ack = λ e. cc e;
+      inputs = λ stays e. cc e;
+      machines = λ stays q_stays. absurd (both_ways (is_desync rules k d) (no_desync rules room J p q d range sound plays q_plays stays q_stays is_mark) is);
+    }))
+    (λ same. calm_got J p q k _ q (fresh_words k q d.start d.words)))))
+
+calm_freeze : (J : ℕ → List Record) (p q : ℕ) (k : KnownValue) (m : Memory) (f : FreezeMessage) → EndsCalmly J p q (hear_freeze k m q f)
+unfolding hear_freeze
+calm_freeze J p q k m f =
+    let P : Outcome → Type 0 = EndsCalmly J p q in
+    let hears = λ (what : Heard). unrefused J p q (Delivered (Ok what)) (λ why e. cc e) in
+    branch P (not (q == 1)) _ _ (λ is. calm_other J p q _ (λ e. cc e) (λ e. cc e) (λ e. cc e)) (λ chair.
+    branch P (f.leaver == k.me || not (is_player k f.leaver)) _ _ (λ is. calm_other J p q _ (λ e. cc e) (λ e. cc e) (λ e. cc e)) (λ who.
+    branch P (player_in k f.leaver).frozen _ _ (λ is. hears _) (λ first. hears _)))
+
+calm_frozen : (rules : Rules) (room : ℕ) (J : ℕ → List Record) (p q : ℕ) (m : Memory) (f : LeaverMessage) → AreSound rules room J → IsPlayer rules p → IsPlayer rules q
+    → Stands f.start f.words (held rules f.leaver (J q)) → EndsCalmly J p q (hear_frozen (known_of rules p (J p)) m q f)
+unfolding hear_frozen
+calm_frozen rules room J p q m f sound plays q_plays stands =
+    let P : Outcome → Type 0 = EndsCalmly J p q in
+    let hears = λ (what : Heard). unrefused J p q (Delivered (Ok what)) (λ why e. cc e) in
+    let k : KnownValue = known_of rules p (J p) in
+    branch P (not (k.me == 1)) _ _ (λ is. calm_other J p q _ (λ e. cc e) (λ e. cc e) (λ e. cc e)) (λ one.
+    branch P (f.leaver == q || not (is_player k f.leaver)) _ _ (λ is. calm_other J p q _ (λ e. cc e) (λ e. cc e) (λ e. cc e)) (λ who.
+    branch P (not (player_in k f.leaver).leaving) _ _ (λ is. calm_other J p q _ (λ e. cc e) (λ e. cc e) (λ e. cc e)) (λ leaves.
+    branch P (is_some (player_in k f.leaver).cut) _ _ (λ is. hears _) (λ uncut.
+    branch P (nat_lt k.limit f.length) _ _ (λ is. calm_known J p q knowns.Full (λ e. cc e)) (λ room_left.
+    let leaver : IsPlayer rules f.leaver = in_game rules p f.leaver (J p) (not_false (is_player k f.leaver) (neither (f.leaver == q) (not (is_player k f.leaver)) who).1) in
+    let entered : Stands f.start f.words (held rules f.leaver (J f.leaver)) = stands_entered rules room J q f.leaver f.start f.words sound q_plays leaver stands in
+    unless_misfit_calm P m (misfit k f.leaver f.start f.words) _
+    (λ error e. calm_known J p q error (not_differs k f.leaver f.start f.words error (no_difference rules room J p f.leaver f.start f.words sound plays leaver entered) e))
+    (calm_got J p q k _ f.leaver (fresh_words k f.leaver f.start f.words)))))))
+
+-- at an undropped player a cut has player one's length, and no more inputs than that are held
+calm_end : (rules : Rules) (room : ℕ) (J : ℕ → List Record) (p q : ℕ) (m : Memory) (c : LeaverMessage) (o : Option ℕ) → AreInRange rules → AreSound rules room J → IsPlayer rules p → IsPlayer rules c.leaver
+    → cut_of c.leaver (J 1) ≡ Some c.length → Stands c.start c.words (held rules c.leaver (J c.leaver)) → (player_in (known_of rules p (J p)) c.leaver).cut ≡ o
+    → EndsCalmly J p q (hear_end (known_of rules p (J p)) m c o)
+calm_end rules room J p q m c (Some K) range sound plays leaver cut stands e =
+    let P : Outcome → Type 0 = EndsCalmly J p q in
+    let here : cut_of c.leaver (J p) ≡ Some K = sym (ap (λ (v : PlayerValue). v.cut) (said_known rules p c.leaver (J p) leaver)) ∙ e in
+    let at_one : cut_of c.leaver (J 1) ≡ Some K = sound.cuts p c.leaver K plays here in
+    let same : K ≡ c.length = cc (at_one, cut) in
+    branch P (K == c.length) _ _ (λ is. unrefused J p q _ (λ why x. cc x)) (λ apart. absurd (both_ways (K == c.length) apart (eq-eqb K c.length same)))
+calm_end rules room J p q m c None range sound plays leaver cut stands e =
+    let P : Outcome → Type 0 = EndsCalmly J p q in
+    let k : KnownValue = known_of rules p (J p) in
+    let fresh : List ℕ = fresh_words k c.leaver c.start c.words in
+    branch P (nat_lt c.length (count_in k c.leaver)) _ _
+    (λ is. calm_reply J p q (refusals.Known knowns.Differs) (record {
+      ack = λ x. cc x;
+      inputs = λ stays.
+          let past = ltb-true c.length (count_in k c.leaver) is in
+          let most = bounded_at rules room J p c.leaver c.length range sound plays leaver stays cut in
+          absurd (omega (arith, past, most, count_known rules p c.leaver (J p) leaver));
+      machines = λ stays also x. cc x;
+    }))
+    (λ few.
+    unless_misfit_calm P m (misfit k c.leaver c.start c.words) _
+    (λ error x. calm_known J p q error (not_differs k c.leaver c.start c.words error (no_difference rules room J p c.leaver c.start c.words sound plays leaver stands) x))
+    (branch P (count_in k c.leaver + length fresh == c.length) _ _ (λ is. unrefused J p q _ (λ why x. cc x)) (λ short. calm_got J p q k m c.leaver fresh)))
+
+calm_cut : (rules : Rules) (room : ℕ) (J : ℕ → List Record) (p q : ℕ) (m : Memory) (c : LeaverMessage) → AreInRange rules → AreSound rules room J → IsPlayer rules p → IsPlayer rules q
+    → q ≡ 1 → cut_of c.leaver (J q) ≡ Some c.length → Stands c.start c.words (held rules c.leaver (J q)) → EndsCalmly J p q (hear_cut (known_of rules p (J p)) m q c)
+unfolding hear_cut
+calm_cut rules room J p q m c range sound plays q_plays first cut stands =
+    let P : Outcome → Type 0 = EndsCalmly J p q in
+    let hears = λ (what : Heard). unrefused J p q (Delivered (Ok what)) (λ why e. cc e) in
+    let k : KnownValue = known_of rules p (J p) in
+    branch P (not (q == 1)) _ _ (λ is. calm_other J p q _ (λ e. cc e) (λ e. cc e) (λ e. cc e)) (λ chair.
+    branch P (c.leaver == k.me) _ _ (λ is. hears _) (λ other.
+    branch P (not (is_player k c.leaver)) _ _ (λ is. calm_other J p q _ (λ e. cc e) (λ e. cc e) (λ e. cc e)) (λ inside.
+    branch P (not (player_in k c.leaver).frozen) _ _ (λ is. calm_other J p q _ (λ e. cc e) (λ e. cc e) (λ e. cc e)) (λ frozen.
+    let leaver : IsPlayer rules c.leaver = in_game rules p c.leaver (J p) (not_false (is_player k c.leaver) inside) in
+    calm_end rules room J p q m c (player_in k c.leaver).cut range sound plays leaver
+    (subst (λ (x : ℕ). cut_of c.leaver (J x) ≡ Some c.length) first cut) (stands_entered rules room J q c.leaver c.start c.words sound q_plays leaver stands) refl))))
+
+calm_welcome : (rules : Rules) (room : ℕ) (J : ℕ → List Record) (p : ℕ) (m : Memory) (head : HeadValue) (ack : ℕ) → AreSound rules room J → IsPlayer rules p → IsPlayer rules head.from
+    → ack ≤ count rules p (J head.from) → EndsCalmly J p head.from (hear_welcome (known_of rules p (J p)) m head ack)
+unfolding hear_welcome
+calm_welcome rules room J p m head ack sound plays q_plays few =
+    let P : Outcome → Type 0 = EndsCalmly J p head.from in
+    let hears = λ (what : Heard). unrefused J p head.from (Delivered (Ok what)) (λ why e. cc e) in
+    let k : KnownValue = known_of rules p (J p) in
+    branch P (nat_lt (count_in k k.me) ack) _ _ (λ is. absurd (no_bad_ack rules room J p head.from ack sound plays q_plays few is)) (λ within. hears _)
+
+calm_message : (rules : Rules) (room : ℕ) (J : ℕ → List Record) (p : ℕ) (m : Memory) (head : HeadValue) (message : Message) → AreInRange rules → AreSound rules room J → IsPlayer rules p → IsPlayer rules head.from
+    → IsTrueMessage rules head.from p (J head.from) message → EndsCalmly J p head.from (hear_message rules (known_of rules p (J p)) m head message)
+calm_message rules room J p m head packets.Hello range sound plays q_plays is_true = unrefused J p head.from _ (λ why e. cc e)
+calm_message rules room J p m head (packets.Welcome ack) range sound plays q_plays is_true = calm_welcome rules room J p m head ack sound plays q_plays is_true
+calm_message rules room J p m head (packets.Data d) range sound plays q_plays is_true = calm_data rules room J p head.from m d range sound plays q_plays is_true.0 is_true.1 is_true.2
+calm_message rules room J p m head (packets.Freeze f) range sound plays q_plays is_true = calm_freeze J p head.from (known_of rules p (J p)) m f
+calm_message rules room J p m head (packets.Frozen f) range sound plays q_plays is_true = calm_frozen rules room J p head.from m f sound plays q_plays is_true.2
+calm_message rules room J p m head (packets.Cut c) range sound plays q_plays is_true = calm_cut rules room J p head.from m c range sound plays q_plays is_true.0 is_true.1 is_true.2
+
+calm_delivery : (rules : Rules) (room : ℕ) (J : ℕ → List Record) (said : List Packet) (p : ℕ) (m : Memory) (packet : Packet) → AreInRange rules → AreSound rules room J → IsPlayer rules p → IsAwake rules room J said p m → IsSaid rules J packet
+    → EndsCalmly J p packet.head.from (deliver rules (known_of rules p (J p)) m (Ok packet))
+calm_delivery rules room J said p m packet range sound plays awake is_said =
+    let q : ℕ = packet.head.from in
+    let P : Outcome → Type 0 = EndsCalmly J p q in
+    let k : KnownValue = known_of rules p (J p) in
+    branch P (player_in k k.me).leaving _ _ (λ is. calm_other J p q _ (λ e. cc e) (λ e. cc e) (λ e. cc e)) (λ stays.
+    unless_hand_calm P m (links.refusal m.links packet.head) _ (λ error. calm_other J p q _ (λ e. cc e) (λ e. cc e) (λ e. cc e)) (λ admitted.
+    let mine : packet.head.to ≡ p = (is_for_me m.links packet.head admitted).to ∙ awake.lawful.player in
+    calm_message rules room J p m packet.head packet.message range sound plays is_said.from
+    (subst (λ (to : ℕ). IsTrueMessage rules q to (J q) packet.message) mine is_said.true_now.message)))
+
+-- ---- the other calls
+
+calm_tick : (J : ℕ → List Record) (p q : ℕ) (rules : Rules) (k : KnownValue) (m : Memory) (keys : ℕ) → EndsCalmly J p q (tick rules k m keys)
+unfolding tick
+calm_tick J p q rules k m keys =
+    let P : Outcome → Type 0 = EndsCalmly J p q in
+    let told = λ (result : Result (Unit {0}) TickError). unrefused J p q (Ticked result) (λ why e. cc e) in
+    branch P (player_in k k.me).leaving _ _ (λ is. told _) (λ stays.
+    branch P (nat_le rules.frames k.ticks) _ _ (λ is. told _) (λ before.
+    branch P (nat_le (confirmed k + rules.window) k.ticks) _ _ (λ is. told _) (λ within. told _)))
+
+calm_leave : (J : ℕ → List Record) (p q : ℕ) (k : KnownValue) (m : Memory) (leaver : ℕ) → EndsCalmly J p q (leave k m leaver)
+unfolding leave
+calm_leave J p q k m leaver =
+    let P : Outcome → Type 0 = EndsCalmly J p q in
+    let told = λ (result : Result (Unit {0}) LeaveError). unrefused J p q (Left result) (λ why e. cc e) in
+    branch P (not (k.me == 1)) _ _ (λ is. told _) (λ chair.
+    branch P (leaver == k.me) _ _ (λ is. told _) (λ other.
+    branch P (not (is_player k leaver)) _ _ (λ is. told _) (λ inside.
+    branch P (player_in k leaver).leaving _ _ (λ is. told _) (λ stays. told _))))
+
+calm_decide : (J : ℕ → List Record) (p q : ℕ) (k : KnownValue) (m : Memory) (leaver : ℕ) → EndsCalmly J p q (decide k m leaver)
+unfolding decide
+calm_decide J p q k m leaver =
+    let P : Outcome → Type 0 = EndsCalmly J p q in
+    let told = λ (result : Result ℕ DecideError). unrefused J p q (Decided result) (λ why e. cc e) in
+    branch P (not (k.me == 1) || not (player_in k leaver).leaving) _ _ (λ is. told _) (λ chair.
+    branch P (is_some (player_in k leaver).cut) _ _ (λ is. told _) (λ uncut.
+    branch P (not (is_ready m.chair k leaver)) _ _ (λ is. told _) (λ all. told _)))
+
+calm_say : (J : ℕ → List Record) (p q : ℕ) (rules : Rules) (k : KnownValue) (m : Memory) (to : ℕ) (what : Saying) → EndsCalmly J p q (say rules k m to what)
+unfolding say
+calm_say J p q rules k m to what =
+    let P : Outcome → Type 0 = EndsCalmly J p q in
+    let told = λ (result : Result Packet Unsayable). unrefused J p q (Said result) (λ why e. cc e) in
+    branch P (player_in k k.me).leaving _ _ (λ is. told _) (λ stays.
+    branch P (to == k.me || not (is_player k to)) _ _ (λ is. told _) (λ who.
+    branch P (is_not_mine k to what) _ _ (λ is. told _) (λ mine.
+    branch P (lacks_record k what) _ _ (λ is. told _) (λ kept.
+    branch P (lacks_link m to what) _ _ (λ is. told _) (λ linked. told _)))))
+
+-- ---- any call
+
+-- who said what is delivered; nobody says what is not
+abbrev pub teller_of : Call → ℕ
+teller_of (Tick keys) = 0
+teller_of (Deliver (Ok packet)) = packet.head.from
+teller_of (Deliver (Err error)) = 0
+teller_of (Say to what) = 0
+teller_of (Leave leaver) = 0
+teller_of (Decide leaver) = 0
+
+pub calm_call : (rules : Rules) (room : ℕ) (J : ℕ → List Record) (said : List Packet) (p : ℕ) (m : Memory) (call : Call) → AreInRange rules → AreSound rules room J → IsPlayer rules p → IsAwake rules room J said p m → IsWorldly rules J said call
+    → EndsCalmly J p (teller_of call) (outcome rules (known_of rules p (J p)) m call)
+calm_call rules room J said p m (Tick keys) range sound plays awake worldly = calm_tick J p 0 rules (known_of rules p (J p)) m keys
+calm_call rules room J said p m (Deliver (Ok packet)) range sound plays awake worldly = calm_delivery rules room J said p m packet range sound plays awake worldly.1
+calm_call rules room J said p m (Deliver (Err error)) range sound plays awake worldly = absurd worldly
+calm_call rules room J said p m (Say to what) range sound plays awake worldly = calm_say J p 0 rules (known_of rules p (J p)) m to what
+calm_call rules room J said p m (Leave leaver) range sound plays awake worldly = calm_leave J p 0 (known_of rules p (J p)) m leaver
+calm_call rules room J said p m (Decide leaver) range sound plays awake worldly = calm_decide J p 0 (known_of rules p (J p)) m leaver

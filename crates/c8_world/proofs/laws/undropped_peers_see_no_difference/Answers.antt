@@ -1,0 +1,8 @@
+use Rattle.c8_world.proofs.Answered.{never_differs, never_desync}
+use Rattle.c8_world.proofs.laws.undropped_peers_see_no_difference.Goals as goal
+
+pub returns-clause-inputs : goal.returns-clause-inputs
+returns-clause-inputs c = never_differs
+
+pub returns-clause-machines : goal.returns-clause-machines
+returns-clause-machines c = never_desync
