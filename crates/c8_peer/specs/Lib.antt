@@ -8,9 +8,3 @@ pub mod Opening
 pub mod Truth
 pub mod TruthLaws
 pub mod Lawful
-pub mod DigestLaws
-pub mod AllowedLaws
-pub mod OpeningLaws
-pub mod MemoryLaws
-pub mod SayingLaws
-pub mod SpellingLaws

@@ -1,2 +1,1 @@
 pub mod Round
-pub mod RoundLaws

@@ -1,7 +1,7 @@
 -- The drop round: what player one and those who stay keep of it in memory, and what follows from that. Player one lets a
 -- player go; each who stays answers how many of the leaver's inputs it holds; once player one holds as many as each of
 -- them, it cuts the leaver's list there.
-use Rattle.std.specs.Prelude.{ℕ, ◌-◌, ◌==◌, ◌&&◌, ◌||◌, List, [], length, replicate, slice_index_or, slice_set, min, max, Bool, false, not, nat_le, Option, Some, None}
+use Rattle.std.specs.Prelude.{◌≡◌, ◌≤◌, ◌⊎◌, ℕ, ◌-◌, ◌==◌, ◌&&◌, ◌||◌, List, [], length, replicate, slice_index_or, slice_set, min, max, Bool, false, not, nat_le, Option, Some, None}
 use Rattle.std.specs.List.{range_with_len, list_all}
 use Rattle.c8_known.specs.Known.{KnownValue, player_in, count_in}
 
@@ -48,6 +48,18 @@ unfoldable pub is_ready : ChairValue → KnownValue → ℕ → Bool
 is_ready c k leaver =
     (player_in k leaver).leaving
     && list_all (λ q. not (is_stayer k q) || has_answered (count_in k leaver) (report_of c leaver q)) (range_with_len 1 (length k.players))
+
+-- ---- what follows is said of these in laws
+
+-- a player has answered, with no more inputs than player one holds
+pub record HasAnswered (c : ChairValue) (k : KnownValue) (leaver q : ℕ) : Type 0 where
+  pub held : ℕ
+  pub told : report_of c leaver q ≡ Some held
+  pub few : held ≤ count_in k leaver
+
+-- A report stood before, or is the one that came.
+abbrev pub IsOldOrNew : ChairValue → ℕ → ℕ → ℕ → ℕ → ℕ → ℕ → Type 0
+IsOldOrNew c leaver stayer held l s n = (report_of c l s ≡ Some n) ⊎ ((l - 1 ≡ leaver - 1) × (s - 1 ≡ stayer - 1) × (n ≡ held))
 
 -- Where the inputs start that a CUT brings to a player: after those that it answered to hold.
 abbrev pub owed : ChairValue → KnownValue → ℕ → ℕ → ℕ

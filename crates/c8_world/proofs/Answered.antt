@@ -13,6 +13,7 @@ use Rattle.c8_peer.specs.State as states
 use Rattle.c8_peer.specs.State.{Mode, Down, Away, State, Call, Outcome, Delivered}
 use Rattle.c8_peer.specs.Steps.{outcome, Luck, Works, Refuses, refused_by_disk, Stepped, done, at_mode, step}
 use Rattle.c8_peer.specs.Opening.{Opening, Stands, NotWritten, NoMemory, NotRead, Unfit, Spent, found, opened}
+use Rattle.c8_world.specs.Below.{ArePeersLawful}
 use Rattle.c8_world.specs.World.{World, is_player, peer_of, journal_of, Act, Open, Tick, Say, Give, Leave, Decide, Event, Do, Stop, Happening, Answer, Told, NoSuch, After, call_at_mode, call_at, open_at_mode, give_to, acted, after, CanHappen, IsReached}
 use Rattle.c8_world.specs.Agreement.{IsPlayer, IsUndropped, NobodyLeaves, refused_for}
 use Rattle.c8_world.proofs.Events.{IsWorldly}
@@ -83,15 +84,15 @@ unfolding acted
 given rules room w v p number answer why range sound can e =
     calm_given rules room w p number can.happening.luck (slice_get w.said number) why range sound refl (ap (λ (a : After). a.answer) can.is ∙ e)
 
-pub never_differs : (rules : Rules) (room : ℕ) (w v : World) (p number : ℕ) (answer : Answer) → AreInRange rules → room < 2 ^ 64 → IsReached rules room w → IsUndropped w p
+pub never_differs : (laws : ArePeersLawful) (rules : Rules) (room : ℕ) (w v : World) (p number : ℕ) (answer : Answer) → AreInRange rules → room < 2 ^ 64 → IsReached rules room w → IsUndropped w p
     → CanHappen rules room w (Do (Give number p)) answer v → answer ≢ refused_for (Known Differs)
-never_differs rules room w v p number answer range few reached stays can e =
-    (given rules room w v p number answer (Known Differs) range (reached_sound rules room w range few reached) can e).calm.inputs stays refl
+never_differs laws rules room w v p number answer range few reached stays can e =
+    (given rules room w v p number answer (Known Differs) range (reached_sound laws rules room w range few reached) can e).calm.inputs stays refl
 
-pub never_desync : (rules : Rules) (room : ℕ) (w v : World) (p number : ℕ) (packet : Packet) (answer : Answer) → AreInRange rules → room < 2 ^ 64 → IsReached rules room w → IsUndropped w p
+pub never_desync : (laws : ArePeersLawful) (rules : Rules) (room : ℕ) (w v : World) (p number : ℕ) (packet : Packet) (answer : Answer) → AreInRange rules → room < 2 ^ 64 → IsReached rules room w → IsUndropped w p
     → slice_get w.said number ≡ Some packet → IsUndropped w packet.head.from → CanHappen rules room w (Do (Give number p)) answer v → answer ≢ refused_for Desync
-never_desync rules room w v p number packet answer range few reached stays at teller_stays can e =
-    let found = given rules room w v p number answer Desync range (reached_sound rules room w range few reached) can e in
+never_desync laws rules room w v p number packet answer range few reached stays at teller_stays can e =
+    let found = given rules room w v p number answer Desync range (reached_sound laws rules room w range few reached) can e in
     let same : packet ≡ found.packet = cc (at, found.is) in
     found.calm.machines stays (subst (λ (x : Packet). IsUndropped w x.head.from) same teller_stays) refl
 
@@ -124,10 +125,10 @@ after_well : (rules : Rules) (room : ℕ) (w : World) (event : Event) (h : Happe
 after_well rules room w (Do act) h range sound = acted_well rules room w act h range sound
 after_well rules room w (Stop act calls pick) h range sound = λ e. cc e
 
-pub never_bad_ack : (rules : Rules) (room : ℕ) (w v : World) (event : Event) (answer : Answer) → AreInRange rules → room < 2 ^ 64 → IsReached rules room w
+pub never_bad_ack : (laws : ArePeersLawful) (rules : Rules) (room : ℕ) (w v : World) (event : Event) (answer : Answer) → AreInRange rules → room < 2 ^ 64 → IsReached rules room w
     → CanHappen rules room w event answer v → answer ≢ refused_for BadAck
-never_bad_ack rules room w v event answer range few reached can e =
-    after_well rules room w event can.happening range (reached_sound rules room w range few reached) (ap (λ (a : After). a.answer) can.is ∙ e)
+never_bad_ack laws rules room w v event answer range few reached can e =
+    after_well rules room w event can.happening range (reached_sound laws rules room w range few reached) (ap (λ (a : After). a.answer) can.is ∙ e)
 
 -- ---- while nobody leaves
 
@@ -140,15 +141,15 @@ said_or_not : (o : Option Packet) → (o ≡ None) ⊎ ((packet : Packet) × (o 
 said_or_not None = inl refl
 said_or_not (Some packet) = inr (packet, refl)
 
-pub calm_differs : (rules : Rules) (room : ℕ) (w v : World) (p number : ℕ) (answer : Answer) → AreInRange rules → room < 2 ^ 64 → IsReached rules room w → NobodyLeaves w
+pub calm_differs : (laws : ArePeersLawful) (rules : Rules) (room : ℕ) (w v : World) (p number : ℕ) (answer : Answer) → AreInRange rules → room < 2 ^ 64 → IsReached rules room w → NobodyLeaves w
     → CanHappen rules room w (Do (Give number p)) answer v → answer ≢ refused_for (Known Differs)
-calm_differs rules room w v p number answer range few is nobody can = never_differs rules room w v p number answer range few is (nobody p) can
+calm_differs laws rules room w v p number answer range few is nobody can = never_differs laws rules room w v p number answer range few is (nobody p) can
 
-pub calm_desync : (rules : Rules) (room : ℕ) (w v : World) (p number : ℕ) (answer : Answer) → AreInRange rules → room < 2 ^ 64 → IsReached rules room w → NobodyLeaves w
+pub calm_desync : (laws : ArePeersLawful) (rules : Rules) (room : ℕ) (w v : World) (p number : ℕ) (answer : Answer) → AreInRange rules → room < 2 ^ 64 → IsReached rules room w → NobodyLeaves w
     → CanHappen rules room w (Do (Give number p)) answer v → answer ≢ refused_for Desync
 unfolding acted
-calm_desync rules room w v p number answer range few is nobody can =
+calm_desync laws rules room w v p number answer range few is nobody can =
     ⊎_elim
     (λ none. none_given rules w p can.happening.luck (slice_get w.said number) answer v none can.is)
-    (λ told. never_desync rules room w v p number told.0 answer range few is (nobody p) told.1 (nobody told.0.head.from) can)
+    (λ told. never_desync laws rules room w v p number told.0 answer range few is (nobody p) told.1 (nobody told.0.head.from) can)
     (said_or_not (slice_get w.said number))

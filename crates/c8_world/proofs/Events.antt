@@ -20,7 +20,6 @@ use Rattle.c8_known.specs.Fresh.{is_from_leaver, misfit, fresh_words}
 use Rattle.c8_known.specs.StartLaws.{players_known}
 use Rattle.c8_window.specs.Window.{acked_more}
 use Rattle.c8_round.specs.Round.{ChairValue, report_of, with_report, with_have, is_ready}
-use Rattle.c8_round.specs.RoundLaws.{ready_answered, report_is}
 use Rattle.c8_record.specs.Allowed.{IsAllowed}
 use Rattle.c8_peer.specs.declared.error.Refused.TheVariants as refusals
 use Rattle.c8_peer.specs.State.{Memory, Saying, Call, Tick, Deliver, Say, Leave, Decide, Reply, Outcome, answered, recorded}
@@ -30,6 +29,7 @@ use Rattle.c8_peer.specs.Saying.{is_not_mine, lacks_record, lacks_link, say}
 use Rattle.c8_peer.specs.Steps.{outcome}
 use Rattle.c8_peer.specs.Truth.{Stands, IsFrozenAt, IsTrue, IsTrueMessage}
 use Rattle.c8_peer.specs.Lawful.{IsMemory}
+use Rattle.c8_world.specs.Below.{ArePeersLawful}
 use Rattle.c8_world.specs.Agreement.{IsPlayer, IsAmong, Names}
 use Rattle.c8_world.proofs.Journals.{AreSound, Fits}
 use Rattle.c8_world.proofs.Records.{count_known, freeze_known_by, leave_known_by, me_is, names_player, one_unfrozen, stands_entered, fits_own, fits_got, fits_freeze, fits_leave, fits_cut, fits_decision}
@@ -157,25 +157,25 @@ good_leave rules room J said p m leaver sound plays awake =
     good_recorded rules room J said p m _ (records.Leave leaver) awake.chair awake.links (fits_leave rules room J p leaver sound plays)))))
 
 -- what all who stay have answered is what they froze
-decided_by_all : (rules : Rules) (room : ℕ) (J : ℕ → List Record) (said : List Packet) (p : ℕ) (m : Memory) (leaver : ℕ) → IsPlayer rules p → IsPlayer rules leaver → IsAwake rules room J said p m → p ≡ 1
+decided_by_all : (laws : ArePeersLawful) (rules : Rules) (room : ℕ) (J : ℕ → List Record) (said : List Packet) (p : ℕ) (m : Memory) (leaver : ℕ) → IsPlayer rules p → IsPlayer rules leaver → IsAwake rules room J said p m → p ≡ 1
     → is_ready m.chair (known_of rules p (J p)) leaver ≡ true
     → (s : ℕ) → IsPlayer rules s → s ≢ 1 → has_leave s (J 1) ≡ false → IsFrozenAt rules leaver (count_in (known_of rules p (J p)) leaver) (J s)
-decided_by_all rules room J said p m leaver plays leaver_plays awake first ready s s_plays other stays =
+decided_by_all laws rules room J said p m leaver plays leaver_plays awake first ready s s_plays other stays =
     let k : KnownValue = known_of rules p (J p) in
     let from = s_plays.from_one in
     let to = s_plays.in_game in
     let at_k : Plays k s = record { from_one = from; in_game = omega (arith, to, players_known rules p (J p)) } in
     let stays_here : (player_in k s).leaving ≡ false = leave_known_by rules p s (J p) s_plays ∙ subst (λ (x : ℕ). has_leave s (J x) ≡ false) (sym first) stays in
-    let answer = ready_answered m.chair k leaver ready s at_k other stays_here in
+    let answer = laws.answered m.chair k leaver ready s at_k other stays_here in
     let at = awake.chair first leaver s answer.held s_plays answer.told in
     let few = at.few in
     let within = answer.few in
     record { before = at.before; rest = at.rest; is = at.is; few = omega (arith, few, within) }
 
-good_decide : (rules : Rules) (room : ℕ) (J : ℕ → List Record) (said : List Packet) (p : ℕ) (m : Memory) (leaver : ℕ) → AreSound rules room J → IsPlayer rules p → IsAwake rules room J said p m
+good_decide : (laws : ArePeersLawful) (rules : Rules) (room : ℕ) (J : ℕ → List Record) (said : List Packet) (p : ℕ) (m : Memory) (leaver : ℕ) → AreSound rules room J → IsPlayer rules p → IsAwake rules room J said p m
     → IsGood rules room J said p (decide (known_of rules p (J p)) m leaver)
 unfolding decide
-good_decide rules room J said p m leaver sound plays awake =
+good_decide laws rules room J said p m leaver sound plays awake =
     let P : Outcome → Type 0 = IsGood rules room J said p in
     let refuses = λ (reply : Reply). good_answered rules room J said p m reply awake.chair awake.links in
     let k : KnownValue = known_of rules p (J p) in
@@ -186,7 +186,7 @@ good_decide rules room J said p m leaver sound plays awake =
     let ready : is_ready m.chair k leaver ≡ true = not_false (is_ready m.chair k leaver) all in
     good_recorded rules room J said p m _ (records.Cut leaver (count_in k leaver) (count_in k leaver) []) awake.chair awake.links (λ allowed.
     let leaver_plays = names_player rules room p (J p) (records.Cut leaver (count_in k leaver) (count_in k leaver) []) allowed in
-    fits_decision rules room J p leaver (count_in k leaver) (count_in k leaver) sound plays leaver_plays first allowed (decided_by_all rules room J said p m leaver plays leaver_plays awake first ready)))))
+    fits_decision rules room J p leaver (count_in k leaver) (count_in k leaver) sound plays leaver_plays first allowed (decided_by_all laws rules room J said p m leaver plays leaver_plays awake first ready)))))
 
 -- ---- deliveries
 
@@ -250,8 +250,8 @@ good_freeze rules room J said p q m f sound plays awake =
     good_recorded rules room J said p (record m { stayer = with_have m.stayer f.leaver f.have }) _ (records.Freeze f.leaver) awake.chair awake.links (fits_freeze rules room J p f.leaver sound plays))))
 
 -- a report that is true is sound
-reported_more : (rules : Rules) (J : ℕ → List Record) (p L q n : ℕ) (c : ChairValue) → IsPlayer rules q → 2 ≤ L → AreReported rules J p c → IsFrozenAt rules L n (J q) → AreReported rules J p (with_report c L q n)
-reported_more rules J p L q n c q_plays least reports at first l s m s_plays told =
+reported_more : (laws : ArePeersLawful) (rules : Rules) (J : ℕ → List Record) (p L q n : ℕ) (c : ChairValue) → IsPlayer rules q → 2 ≤ L → AreReported rules J p c → IsFrozenAt rules L n (J q) → AreReported rules J p (with_report c L q n)
+reported_more laws rules J p L q n c q_plays least reports at first l s m s_plays told =
     ⊎_elim
     (λ old. reports first l s m s_plays old)
     (λ new.
@@ -262,16 +262,16 @@ reported_more rules J p L q n c q_plays least reports at first l s m s_plays tol
     let leaver : l ≡ L = omega (arith, at_leaver, least) in
     let stayer : s ≡ q = omega (arith, at_stayer, from, also) in
     rw (leaver, stayer, new.2) at)
-    (report_is c L q n l s m told)
+    (laws.reports c L q n l s m told)
 
-good_frozen : (rules : Rules) (room : ℕ) (J : ℕ → List Record) (said : List Packet) (p q : ℕ) (m : Memory) (f : LeaverMessage) → AreSound rules room J → IsPlayer rules p → IsPlayer rules q → IsAwake rules room J said p m
+good_frozen : (laws : ArePeersLawful) (rules : Rules) (room : ℕ) (J : ℕ → List Record) (said : List Packet) (p q : ℕ) (m : Memory) (f : LeaverMessage) → AreSound rules room J → IsPlayer rules p → IsPlayer rules q → IsAwake rules room J said p m
     → 2 ≤ f.leaver → IsFrozenAt rules f.leaver f.length (J q) → Stands f.start f.words (held rules f.leaver (J q)) → IsGood rules room J said p (hear_frozen (known_of rules p (J p)) m q f)
 unfolding hear_frozen
-good_frozen rules room J said p q m f sound plays q_plays awake least at stands =
+good_frozen laws rules room J said p q m f sound plays q_plays awake least at stands =
     let P : Outcome → Type 0 = IsGood rules room J said p in
     let refuses = λ (reply : Reply). good_answered rules room J said p m reply awake.chair awake.links in
     let k : KnownValue = known_of rules p (J p) in
-    let chair : AreReported rules J p (with_report m.chair f.leaver q f.length) = reported_more rules J p f.leaver q f.length m.chair q_plays least awake.chair at in
+    let chair : AreReported rules J p (with_report m.chair f.leaver q f.length) = reported_more laws rules J p f.leaver q f.length m.chair q_plays least awake.chair at in
     branch P (not (k.me == 1)) _ _ (λ is. refuses _) (λ one.
     branch P (f.leaver == q || not (is_player k f.leaver)) _ _ (λ is. refuses _) (λ who.
     branch P (not (player_in k f.leaver).leaving) _ _ (λ is. refuses _) (λ leaves.
@@ -360,36 +360,36 @@ good_welcome rules room J said p m packet ack awake among admitted =
     branch P (nat_lt (count_in k k.me) ack) _ _ (λ is. good_answered rules room J said p m _ awake.chair awake.links)
     (λ few. good_answered rules room J said p _ _ awake.chair (named_heard said p m.links packet awake.lawful.player among admitted awake.links))
 
-good_message : (rules : Rules) (room : ℕ) (J : ℕ → List Record) (said : List Packet) (p : ℕ) (m : Memory) (packet : Packet) (message : Message) → AreSound rules room J → IsPlayer rules p → IsAwake rules room J said p m → IsAmong said packet
+good_message : (laws : ArePeersLawful) (rules : Rules) (room : ℕ) (J : ℕ → List Record) (said : List Packet) (p : ℕ) (m : Memory) (packet : Packet) (message : Message) → AreSound rules room J → IsPlayer rules p → IsAwake rules room J said p m → IsAmong said packet
     → links.refusal m.links packet.head ≡ None → IsPlayer rules packet.head.from → packet.head.from ≢ p
     → IsTrueMessage rules packet.head.from packet.head.to (J packet.head.from) message → IsMessage message
     → IsGood rules room J said p (hear_message rules (known_of rules p (J p)) m packet.head message)
-good_message rules room J said p m packet packets.Hello sound plays awake among admitted from apart is_true fits =
+good_message laws rules room J said p m packet packets.Hello sound plays awake among admitted from apart is_true fits =
     good_answered rules room J said p _ _ awake.chair (named_heard said p m.links packet awake.lawful.player among admitted awake.links)
-good_message rules room J said p m packet (packets.Welcome ack) sound plays awake among admitted from apart is_true fits =
+good_message laws rules room J said p m packet (packets.Welcome ack) sound plays awake among admitted from apart is_true fits =
     good_welcome rules room J said p m packet ack awake among admitted
-good_message rules room J said p m packet (packets.Data d) sound plays awake among admitted from apart is_true fits =
+good_message laws rules room J said p m packet (packets.Data d) sound plays awake among admitted from apart is_true fits =
     good_data rules room J said p packet.head.from m d sound plays from awake is_true.1
-good_message rules room J said p m packet (packets.Freeze f) sound plays awake among admitted from apart is_true fits =
+good_message laws rules room J said p m packet (packets.Freeze f) sound plays awake among admitted from apart is_true fits =
     good_freeze rules room J said p packet.head.from m f sound plays awake
-good_message rules room J said p m packet (packets.Frozen f) sound plays awake among admitted from apart is_true fits =
-    good_frozen rules room J said p packet.head.from m f sound plays from awake fits.leaver_from_two is_true.0 is_true.2
-good_message rules room J said p m packet (packets.Cut c) sound plays awake among admitted from apart is_true fits =
+good_message laws rules room J said p m packet (packets.Frozen f) sound plays awake among admitted from apart is_true fits =
+    good_frozen laws rules room J said p packet.head.from m f sound plays from awake fits.leaver_from_two is_true.0 is_true.2
+good_message laws rules room J said p m packet (packets.Cut c) sound plays awake among admitted from apart is_true fits =
     good_cut rules room J said p packet.head.from m c sound plays from awake apart is_true.0 is_true.1 is_true.2 fits.run.within
 
 -- the sender of an admitted datagram is another player
 pub sender_apart : (rules : Rules) (room p : ℕ) (journal : List Record) (m : Memory) (head : HeadValue) → IsMemory rules room p journal m → links.refusal m.links head ≡ None → head.from ≢ p
 sender_apart rules room p journal m head lawful admitted e = (is_for_me m.links head admitted).apart (e ∙ sym lawful.player)
 
-good_delivery : (rules : Rules) (room : ℕ) (J : ℕ → List Record) (said : List Packet) (p : ℕ) (m : Memory) (packet : Packet) → AreSound rules room J → IsPlayer rules p → IsAwake rules room J said p m → IsAmong said packet → IsSaid rules J packet
+good_delivery : (laws : ArePeersLawful) (rules : Rules) (room : ℕ) (J : ℕ → List Record) (said : List Packet) (p : ℕ) (m : Memory) (packet : Packet) → AreSound rules room J → IsPlayer rules p → IsAwake rules room J said p m → IsAmong said packet → IsSaid rules J packet
     → IsGood rules room J said p (deliver rules (known_of rules p (J p)) m (Ok packet))
-good_delivery rules room J said p m packet sound plays awake among is_said =
+good_delivery laws rules room J said p m packet sound plays awake among is_said =
     let P : Outcome → Type 0 = IsGood rules room J said p in
     let refuses = λ (reply : Reply). good_answered rules room J said p m reply awake.chair awake.links in
     let k : KnownValue = known_of rules p (J p) in
     branch P (player_in k k.me).leaving _ _ (λ is. refuses _) (λ stays.
     unless_hand_by P m (links.refusal m.links packet.head) _ (λ error. refuses _) (λ admitted.
-    good_message rules room J said p m packet packet.message sound plays awake among admitted is_said.from
+    good_message laws rules room J said p m packet packet.message sound plays awake among admitted is_said.from
     (sender_apart rules room p (J p) m packet.head awake.lawful admitted) is_said.true_now.message is_said.spelled.message))
 
 good_say : (rules : Rules) (room : ℕ) (J : ℕ → List Record) (said : List Packet) (p : ℕ) (m : Memory) (to : ℕ) (what : Saying) → IsAwake rules room J said p m → IsGood rules room J said p (say rules (known_of rules p (J p)) m to what)
@@ -414,11 +414,11 @@ IsWorldly rules J said (Say to what) = Unit {0}
 IsWorldly rules J said (Leave leaver) = Unit {0}
 IsWorldly rules J said (Decide leaver) = Unit {0}
 
-pub good_call : (rules : Rules) (room : ℕ) (J : ℕ → List Record) (said : List Packet) (p : ℕ) (m : Memory) (call : Call) → AreSound rules room J → IsPlayer rules p → IsAwake rules room J said p m → IsWorldly rules J said call
+pub good_call : (laws : ArePeersLawful) (rules : Rules) (room : ℕ) (J : ℕ → List Record) (said : List Packet) (p : ℕ) (m : Memory) (call : Call) → AreSound rules room J → IsPlayer rules p → IsAwake rules room J said p m → IsWorldly rules J said call
     → IsGood rules room J said p (outcome rules (known_of rules p (J p)) m call)
-good_call rules room J said p m (Tick keys) sound plays awake worldly = good_tick rules room J said p m keys sound plays awake
-good_call rules room J said p m (Deliver (Ok packet)) sound plays awake worldly = good_delivery rules room J said p m packet sound plays awake worldly.0 worldly.1
-good_call rules room J said p m (Deliver (Err error)) sound plays awake worldly = absurd worldly
-good_call rules room J said p m (Say to what) sound plays awake worldly = good_say rules room J said p m to what awake
-good_call rules room J said p m (Leave leaver) sound plays awake worldly = good_leave rules room J said p m leaver sound plays awake
-good_call rules room J said p m (Decide leaver) sound plays awake worldly = good_decide rules room J said p m leaver sound plays awake
+good_call laws rules room J said p m (Tick keys) sound plays awake worldly = good_tick rules room J said p m keys sound plays awake
+good_call laws rules room J said p m (Deliver (Ok packet)) sound plays awake worldly = good_delivery laws rules room J said p m packet sound plays awake worldly.0 worldly.1
+good_call laws rules room J said p m (Deliver (Err error)) sound plays awake worldly = absurd worldly
+good_call laws rules room J said p m (Say to what) sound plays awake worldly = good_say rules room J said p m to what awake
+good_call laws rules room J said p m (Leave leaver) sound plays awake worldly = good_leave rules room J said p m leaver sound plays awake
+good_call laws rules room J said p m (Decide leaver) sound plays awake worldly = good_decide laws rules room J said p m leaver sound plays awake

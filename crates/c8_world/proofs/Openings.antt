@@ -11,6 +11,7 @@ use Rattle.c8_record.specs.RefusalLaws.{journal_not_refused}
 use Rattle.c8_peer.specs.State as states
 use Rattle.c8_peer.specs.State.{Mode, Down, Away, State}
 use Rattle.c8_peer.specs.Opening.{Opening, Stands, NotWritten, NoMemory, NotRead, Unfit, Spent, found, opened, MayBecome}
+use Rattle.c8_world.specs.Below.{ArePeersLawful}
 use Rattle.c8_world.specs.World.{World, is_player, peer_of, journal_of, Open, Do, Happening, Answer, Told, After, open_at_mode, open_at, acted, CanHappen, IsReached}
 use Rattle.c8_world.specs.Agreement.{IsPlayer, IsFit}
 use Rattle.c8_world.proofs.Worlds.{IsSound}
@@ -57,8 +58,8 @@ open_fit rules room w p h sound plays may =
     (λ is. mode_fit rules room w p h (peer_of w p).mode sound plays (may is))
     (λ none. absurd (both_ways (is_player rules p) none (plays_so rules p plays)))
 
-pub openings_fit : (rules : Rules) (room : ℕ) (w v : World) (p : ℕ) (answer : Answer) → AreInRange rules → room < 2 ^ 64 → IsReached rules room w → IsPlayer rules p
+pub openings_fit : (laws : ArePeersLawful) (rules : Rules) (room : ℕ) (w v : World) (p : ℕ) (answer : Answer) → AreInRange rules → room < 2 ^ 64 → IsReached rules room w → IsPlayer rules p
     → CanHappen rules room w (Do (Open p)) answer v → IsFit answer
 unfolding acted
-openings_fit rules room w v p answer range few reached plays can =
-    subst (λ (a : After). IsFit a.answer) can.is (open_fit rules room w p can.happening (reached_sound rules room w range few reached) plays can.may)
+openings_fit laws rules room w v p answer range few reached plays can =
+    subst (λ (a : After). IsFit a.answer) can.is (open_fit rules room w p can.happening (reached_sound laws rules room w range few reached) plays can.may)

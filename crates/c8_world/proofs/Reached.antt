@@ -12,29 +12,30 @@ use Rattle.c8_known.specs.Growth.{Begins}
 use Rattle.c8_peer.specs.State.{State}
 use Rattle.c8_peer.specs.Opening.{found, away}
 use Rattle.c8_peer.specs.Truth.{IsTrue}
+use Rattle.c8_world.specs.Below.{ArePeersLawful}
 use Rattle.c8_world.specs.World.{World, start, peer_of, journal_of, with_peer, Event, Answer, Chain, IsReached}
 use Rattle.c8_world.specs.Agreement.{IsPlayer, NobodyLeaves, AreSameUpTo, AgreeUpTo, Agree, AreEntered, IsBounded, Reads, read_by, AgreeByReads, IsAmong, AreLinked}
 use Rattle.c8_world.proofs.Journals.{AreSound, player_one}
 use Rattle.c8_world.proofs.Moments.{bounded_at, rows_agree, same_up_to, moments_agree, confirmed_entered}
 use Rattle.c8_world.proofs.Worlds.{IsSound, peer_here, peer_there, crash_sound, chain_sound, start_sound}
 
-pub reached_sound : (rules : Rules) (room : ℕ) (w : World) → AreInRange rules → room < 2 ^ 64 → IsReached rules room w → IsSound rules room w
-reached_sound rules room w range few is = (chain_sound rules room (start rules) w is.events is.answers range few (start_sound rules room range) is.chain).sound
+pub reached_sound : (laws : ArePeersLawful) (rules : Rules) (room : ℕ) (w : World) → AreInRange rules → room < 2 ^ 64 → IsReached rules room w → IsSound rules room w
+reached_sound laws rules room w range few is = (chain_sound laws rules room (start rules) w is.events is.answers range few (start_sound rules room range) is.chain).sound
 
 -- ---- one moment
 
-pub begins_own : (rules : Rules) (room : ℕ) (w : World) (p q : ℕ) → AreInRange rules → room < 2 ^ 64 → IsReached rules room w → IsPlayer rules p → IsPlayer rules q → Begins (held rules q (journal_of w p)) (held rules q (journal_of w q))
-begins_own rules room w p q range few is plays q_plays = (reached_sound rules room w range few is).journals.begins p q plays q_plays
+pub begins_own : (laws : ArePeersLawful) (rules : Rules) (room : ℕ) (w : World) (p q : ℕ) → AreInRange rules → room < 2 ^ 64 → IsReached rules room w → IsPlayer rules p → IsPlayer rules q → Begins (held rules q (journal_of w p)) (held rules q (journal_of w q))
+begins_own laws rules room w p q range few is plays q_plays = (reached_sound laws rules room w range few is).journals.begins p q plays q_plays
 
-pub said_holds : (rules : Rules) (room : ℕ) (w : World) (packet : Packet) → AreInRange rules → room < 2 ^ 64 → IsReached rules room w → IsAmong w.said packet → IsTrue rules packet.head.from (journal_of w packet.head.from) packet
-said_holds rules room w packet range few is among = ((reached_sound rules room w range few is).said packet among).true_now
+pub said_holds : (laws : ArePeersLawful) (rules : Rules) (room : ℕ) (w : World) (packet : Packet) → AreInRange rules → room < 2 ^ 64 → IsReached rules room w → IsAmong w.said packet → IsTrue rules packet.head.from (journal_of w packet.head.from) packet
+said_holds laws rules room w packet range few is among = ((reached_sound laws rules room w range few is).said packet among).true_now
 
-pub said_spells : (rules : Rules) (room : ℕ) (w : World) (packet : Packet) → AreInRange rules → room < 2 ^ 64 → IsReached rules room w → IsAmong w.said packet → Spells (spelling packet) packet
-said_spells rules room w packet range few is among = record { packet = ((reached_sound rules room w range few is).said packet among).spelled; spelled = refl }
+pub said_spells : (laws : ArePeersLawful) (rules : Rules) (room : ℕ) (w : World) (packet : Packet) → AreInRange rules → room < 2 ^ 64 → IsReached rules room w → IsAmong w.said packet → Spells (spelling packet) packet
+said_spells laws rules room w packet range few is among = record { packet = ((reached_sound laws rules room w range few is).said packet among).spelled; spelled = refl }
 
-pub links_name : (rules : Rules) (room : ℕ) (w : World) (p q : ℕ) → AreInRange rules → room < 2 ^ 64 → IsReached rules room w → IsPlayer rules p → AreLinked w p q
-links_name rules room w p q range few is plays here opens =
-    let sound = reached_sound rules room w range few is in
+pub links_name : (laws : ArePeersLawful) (rules : Rules) (room : ℕ) (w : World) (p q : ℕ) → AreInRange rules → room < 2 ^ 64 → IsReached rules room w → IsPlayer rules p → AreLinked w p q
+links_name laws rules room w p q range few is plays here opens =
+    let sound = reached_sound laws rules room w range few is in
     let n = ((sound.peers p plays).awake here).links q opens in
     let told = (sound.said n.packet n.among).true_now in
     let number : ℕ = (link_to (peer_of w p).memory.links q).known in
@@ -43,30 +44,30 @@ links_name rules room w p q range few is plays here opens =
       named = n;
     }
 
-pub cut_bounds : (rules : Rules) (room : ℕ) (w : World) (p : ℕ) → AreInRange rules → room < 2 ^ 64 → IsReached rules room w → IsPlayer rules p → IsBounded rules w p
-cut_bounds rules room w p range few is plays stays leaver K leaver_plays cut =
-    bounded_at rules room (journal_of w) p leaver K range (reached_sound rules room w range few is).journals plays leaver_plays stays cut
+pub cut_bounds : (laws : ArePeersLawful) (rules : Rules) (room : ℕ) (w : World) (p : ℕ) → AreInRange rules → room < 2 ^ 64 → IsReached rules room w → IsPlayer rules p → IsBounded rules w p
+cut_bounds laws rules room w p range few is plays stays leaver K leaver_plays cut =
+    bounded_at rules room (journal_of w) p leaver K range (reached_sound laws rules room w range few is).journals plays leaver_plays stays cut
 
 -- ---- two moments
 
-pub peers_agree : (rules : Rules) (room : ℕ) (w v : World) (events : List Event) (answers : List Answer) (p r : ℕ) → AreInRange rules → room < 2 ^ 64 → IsReached rules room w → Chain rules room w events answers v
+pub peers_agree : (laws : ArePeersLawful) (rules : Rules) (room : ℕ) (w v : World) (events : List Event) (answers : List Answer) (p r : ℕ) → AreInRange rules → room < 2 ^ 64 → IsReached rules room w → Chain rules room w events answers v
     → IsPlayer rules p → IsPlayer rules r → Agree rules w v p r
-peers_agree rules room w v events answers p r range few is chain p_plays r_plays p_stays r_stays n p_counts r_counts =
-    let later = chain_sound rules room w v events answers range few (reached_sound rules room w range few is) chain in
+peers_agree laws rules room w v events answers p r range few is chain p_plays r_plays p_stays r_stays n p_counts r_counts =
+    let later = chain_sound laws rules room w v events answers range few (reached_sound laws rules room w range few is) chain in
     moments_agree rules room (journal_of w) (journal_of v) p r n range later.sound.journals later.grown p_plays r_plays p_stays r_stays p_counts r_counts
 
-pub inputs_entered : (rules : Rules) (room : ℕ) (w v : World) (events : List Event) (answers : List Answer) (p : ℕ) → AreInRange rules → room < 2 ^ 64 → IsReached rules room w → Chain rules room w events answers v
+pub inputs_entered : (laws : ArePeersLawful) (rules : Rules) (room : ℕ) (w v : World) (events : List Event) (answers : List Answer) (p : ℕ) → AreInRange rules → room < 2 ^ 64 → IsReached rules room w → Chain rules room w events answers v
     → IsPlayer rules p → AreEntered rules w v p
-inputs_entered rules room w v events answers p range few is chain plays frame q q_plays below =
-    let sound = reached_sound rules room w range few is in
-    let later = chain_sound rules room w v events answers range few sound chain in
+inputs_entered laws rules room w v events answers p range few is chain plays frame q q_plays below =
+    let sound = reached_sound laws rules room w range few is in
+    let later = chain_sound laws rules room w v events answers range few sound chain in
     let e = confirmed_entered rules room (journal_of w) (journal_of v) p q frame range sound.journals later.grown plays q_plays below in
     record { word = e.0; is = e.1; entered = e.2 }
 
 -- while nobody leaves
-pub all_agree : (rules : Rules) (room : ℕ) (w v : World) (events : List Event) (answers : List Answer) (p r : ℕ) → AreInRange rules → room < 2 ^ 64 → IsReached rules room w → Chain rules room w events answers v
+pub all_agree : (laws : ArePeersLawful) (rules : Rules) (room : ℕ) (w v : World) (events : List Event) (answers : List Answer) (p r : ℕ) → AreInRange rules → room < 2 ^ 64 → IsReached rules room w → Chain rules room w events answers v
     → NobodyLeaves v → IsPlayer rules p → IsPlayer rules r → AgreeUpTo rules w v p r
-all_agree rules room w v events answers p r range few is chain nobody p_plays r_plays = peers_agree rules room w v events answers p r range few is chain p_plays r_plays (nobody p) (nobody r)
+all_agree laws rules room w v events answers p r range few is chain nobody p_plays r_plays = peers_agree laws rules room w v events answers p r range few is chain p_plays r_plays (nobody p) (nobody r)
 
 -- ---- what reads of the disks give
 
@@ -126,9 +127,9 @@ agree_at rules room J p r n one a b range sound p_plays r_plays first at_p at_r 
     (subst (λ (journal : List Record). rows_below (known_of rules p journal) n ≡ rows_below (known_of rules r b) n) at_p
     (subst (λ (journal : List Record). rows_below (known_of rules p (J p)) n ≡ rows_below (known_of rules r journal) n) at_r rows))
 
-pub reads_agree : (rules : Rules) (room : ℕ) (w : World) (reads : Reads) (p r : ℕ) → AreInRange rules → room < 2 ^ 64 → IsReached rules room w → IsPlayer rules p → IsPlayer rules r → AgreeByReads rules w reads p r
-reads_agree rules room w reads p r range few is p_plays r_plays p_stays r_stays n p_counts r_counts =
-    let sound = reached_sound rules room w range few is in
+pub reads_agree : (laws : ArePeersLawful) (rules : Rules) (room : ℕ) (w : World) (reads : Reads) (p r : ℕ) → AreInRange rules → room < 2 ^ 64 → IsReached rules room w → IsPlayer rules p → IsPlayer rules r → AgreeByReads rules w reads p r
+reads_agree laws rules room w reads p r range few is p_plays r_plays p_stays r_stays n p_counts r_counts =
+    let sound = reached_sound laws rules room w range few is in
     let v : World = adopt w reads rules.players in
     let one = player_one rules range in
     let at : (q : ℕ) → IsPlayer rules q → journal_of v q ≡ read_by w reads q = λ q plays. adopt_is rules room w reads rules.players q range sound (omega arith) plays.in_game plays in

@@ -23,11 +23,7 @@ use Rattle.c8_peer.specs.Opening.{Opening, Stands, NotWritten, NoMemory, NotRead
 use Rattle.c8_peer.specs.Lawful.{IsMemory, IsCall}
 use Rattle.c8_peer.specs.Truth.{IsTrue}
 use Rattle.c8_peer.specs.TruthLaws.{truth_stays}
-use Rattle.c8_peer.specs.AllowedLaws.{keeps_allowed}
-use Rattle.c8_peer.specs.OpeningLaws.{opening_allowed, opening_memory}
-use Rattle.c8_peer.specs.MemoryLaws.{memory_kept}
-use Rattle.c8_peer.specs.SayingLaws.{said_true}
-use Rattle.c8_peer.specs.SpellingLaws.{said_spelled}
+use Rattle.c8_world.specs.Below.{ArePeersLawful}
 use Rattle.c8_world.specs.World.{World, never_opened, start, is_player, peer_of, journal_of, with_peer, Act, Open, Tick, Say, Give, Leave, Decide, Event, Do, Stop, player_of, Happening, Answer, After, said_by, stepped, call_at_mode, call_at, open_at_mode, give_to, acted, crashed, after, MayAct, act_of, CanHappen, Chain}
 use Rattle.c8_world.specs.Agreement.{IsPlayer, IsAmong}
 use Rattle.c8_world.proofs.Journals.{AreSound, Fits, Grown, HasMore, player_one, more_grown, held_grown, frozen_grown, sound_more, fits_later}
@@ -239,27 +235,27 @@ record Owes (rules : Rules) (room : ℕ) (w : World) (p : ℕ) (o : Outcome) : T
   awake : IsAwake rules room (journal_of w) w.said p o.memory
   says : (packet : Packet) → IsAmong (said_by o.reply) packet → IsSaid rules (journal_of w) packet
 
-call_owes : (rules : Rules) (room : ℕ) (w : World) (p : ℕ) (call : Call) → AreInRange rules → IsSound rules room w → IsPlayer rules p → (peer_of w p).mode ≡ states.Open → IsCall call → IsWorldly rules (journal_of w) w.said call
+call_owes : (laws : ArePeersLawful) (rules : Rules) (room : ℕ) (w : World) (p : ℕ) (call : Call) → AreInRange rules → IsSound rules room w → IsPlayer rules p → (peer_of w p).mode ≡ states.Open → IsCall call → IsWorldly rules (journal_of w) w.said call
     → Owes rules room w p (outcome rules (known_of rules p (journal_of w p)) (peer_of w p).memory call)
-call_owes rules room w p call range sound plays up is_call worldly =
+call_owes laws rules room w p call range sound plays up is_call worldly =
     let m : Memory = (peer_of w p).memory in
     let J : ℕ → List Record = journal_of w in
     let awake : IsAwake rules room J w.said p m = (sound.peers p plays).awake (λ e. absurd (cc (up, e))) in
     let valid = sound.journals.valid p plays in
     let from = plays.from_one in
     let to = plays.in_game in
-    let good = good_call rules room J w.said p m call sound.journals plays awake worldly in
+    let good = good_call laws rules room J w.said p m call sound.journals plays awake worldly in
     record {
-      fits = λ r e. good.keeps r e (keeps_allowed rules p room (J p) m call r range from to valid awake.lawful is_call e);
-      awake = record { lawful = memory_kept rules p room (J p) m call range from to valid awake.lawful is_call; chair = good.chair; links = good.links };
+      fits = λ r e. good.keeps r e (laws.keeps_allowed rules p room (J p) m call r range from to valid awake.lawful is_call e);
+      awake = record { lawful = laws.memory_kept rules p room (J p) m call range from to valid awake.lawful is_call; chair = good.chair; links = good.links };
       says = λ packet among.
           let e = said_is (outcome rules (known_of rules p (J p)) m call).reply packet among in
-          let is_true = said_true rules p room (J p) m call packet range from to valid awake.lawful is_call e in
+          let is_true = laws.said_true rules p room (J p) m call packet range from to valid awake.lawful is_call e in
           let whose : p ≡ packet.head.from = sym is_true.from in
           record {
             from = subst (λ (q : ℕ). IsPlayer rules q) whose plays;
             true_now = subst (λ (q : ℕ). IsTrue rules q (J q) packet) whose is_true;
-            spelled = said_spelled rules p room (J p) m call packet range from to valid awake.lawful is_call e;
+            spelled = laws.said_spelled rules p room (J p) m call packet range from to valid awake.lawful is_call e;
           };
     }
 
@@ -298,15 +294,15 @@ done_sound rules room w p call o (Some r) (Refuses why) range sound plays up owe
 pub stays_as : (rules : Rules) (room : ℕ) (w : World) → IsSound rules room w → Reaches rules room w w
 stays_as rules room w sound = record { sound = sound; grown = λ q plays. begins_same (journal_of w q) }
 
-mode_sound : (rules : Rules) (room : ℕ) (w : World) (p : ℕ) (call : Call) (luck : Luck) (mode : Mode) → AreInRange rules → IsSound rules room w → IsPlayer rules p → (peer_of w p).mode ≡ mode → IsCall call → IsWorldly rules (journal_of w) w.said call
+mode_sound : (laws : ArePeersLawful) (rules : Rules) (room : ℕ) (w : World) (p : ℕ) (call : Call) (luck : Luck) (mode : Mode) → AreInRange rules → IsSound rules room w → IsPlayer rules p → (peer_of w p).mode ≡ mode → IsCall call → IsWorldly rules (journal_of w) w.said call
     → Reaches rules room w (call_at_mode rules w p call luck mode).world
-mode_sound rules room w p call luck states.Open range sound plays up is_call worldly =
+mode_sound laws rules room w p call luck states.Open range sound plays up is_call worldly =
     let o : Outcome = outcome rules (known_of rules p (journal_of w p)) (peer_of w p).memory call in
     let at : step rules p (peer_of w p) call luck ≡ done (peer_of w p) call o o.keeps luck = ap (λ (mode : Mode). at_mode (peer_of w p) call o mode luck) up in
     subst (λ (t : Stepped). Reaches rules room w (stepped w p t).world) (sym at)
-    (done_sound rules room w p call o o.keeps luck range sound plays up (call_owes rules room w p call range sound plays up is_call worldly) refl)
-mode_sound rules room w p call luck Down range sound plays up is_call worldly = stays_as rules room w sound
-mode_sound rules room w p call luck Away range sound plays up is_call worldly = stays_as rules room w sound
+    (done_sound rules room w p call o o.keeps luck range sound plays up (call_owes laws rules room w p call range sound plays up is_call worldly) refl)
+mode_sound laws rules room w p call luck Down range sound plays up is_call worldly = stays_as rules room w sound
+mode_sound laws rules room w p call luck Away range sound plays up is_call worldly = stays_as rules room w sound
 
 pub plays_if : (rules : Rules) (p : ℕ) → is_player rules p ≡ true → IsPlayer rules p
 plays_if rules p is =
@@ -326,11 +322,11 @@ if_player : (P : After → Type 0) (b : Bool) (x y : After) → (b ≡ true → 
 if_player P true x y when unless = when refl
 if_player P false x y when unless = unless
 
-call_sound : (rules : Rules) (room : ℕ) (w : World) (p : ℕ) (call : Call) (luck : Luck) → AreInRange rules → IsSound rules room w → IsCall call → IsWorldly rules (journal_of w) w.said call
+call_sound : (laws : ArePeersLawful) (rules : Rules) (room : ℕ) (w : World) (p : ℕ) (call : Call) (luck : Luck) → AreInRange rules → IsSound rules room w → IsCall call → IsWorldly rules (journal_of w) w.said call
     → Reaches rules room w (call_at rules w p call luck).world
-call_sound rules room w p call luck range sound is_call worldly =
+call_sound laws rules room w p call luck range sound is_call worldly =
     if_player (λ (a : After). Reaches rules room w a.world) (is_player rules p) _ _
-    (λ is. mode_sound rules room w p call luck (peer_of w p).mode range sound (plays_if rules p is) refl is_call worldly)
+    (λ is. mode_sound laws rules room w p call luck (peer_of w p).mode range sound (plays_if rules p is) refl is_call worldly)
     (stays_as rules room w sound)
 
 -- ---- what a reading finds
@@ -413,37 +409,37 @@ placed_twice : (w : World) (p : ℕ) (s t : State) (new : List Packet) → place
 placed_twice w p s t new = λ i. record { peers = set-set w.peers (p - 1) s t i; said = append-nil w.said i ++ new }
 
 -- an opening that finds a journal, from the world in which that journal is the peer's
-opened_sound : (rules : Rules) (room : ℕ) (w : World) (p : ℕ) (s : State) (journal : List Record) (outcome : Opening) → AreInRange rules → room < 2 ^ 64 → IsSound rules room w → IsPlayer rules p
+opened_sound : (laws : ArePeersLawful) (rules : Rules) (room : ℕ) (w : World) (p : ℕ) (s : State) (journal : List Record) (outcome : Opening) → AreInRange rules → room < 2 ^ 64 → IsSound rules room w → IsPlayer rules p
     → journal_of w p ≡ journal → (peer_of w p).pending ≡ None → (peer_of w p).mode ≡ Away → MayBecome rules room p journal outcome
     → (outcome ≢ NoMemory) → ((why : DiskError) → outcome ≢ NotRead why)
     → Reaches rules room w (stepped w p (opened rules room p s journal outcome)).world
-opened_sound rules room w p s journal Stands range few sound plays is settled gone may memory read =
+opened_sound laws rules room w p s journal Stands range few sound plays is settled gone may memory read =
     let r : Record = opening_record rules room p journal in
     let from = plays.from_one in
     let to = plays.in_game in
     let n : ℕ = epoch (journal ++ r ∷ []) in
     let t : State = record { journal = journal ++ r ∷ []; pending = None; mode = states.Open; memory = fresh_memory rules room p n } in
-    let allowed : IsAllowed rules p room (journal_of w p) r = subst (λ (j : List Record). IsAllowed rules p room j r) (sym is) (opening_allowed rules p room journal range from to few may.0 may.1) in
+    let allowed : IsAllowed rules p room (journal_of w p) r = subst (λ (j : List Record). IsAllowed rules p room j r) (sym is) (laws.opening_allowed rules p room journal range from to few may.0 may.1) in
     placed_more rules room w p t [] r range sound plays (ap (λ (j : List Record). j ++ r ∷ []) (sym is)) (fits_opening rules room p (journal_of w) journal sound.journals plays allowed) refl
     (λ journals grown mode.
     let here : journal_of (placed w p t []) p ≡ journal ++ r ∷ [] = journal_here rules w p t [] sound.seats plays in
     fresh_awake rules room p (journal_of (placed w p t [])) (w.said ++ []) n
-    (subst (λ (j : List Record). IsMemory rules room p j (fresh_memory rules room p n)) (sym here) (opening_memory rules p room journal range from to may.0 may.1)))
+    (subst (λ (j : List Record). IsMemory rules room p j (fresh_memory rules room p n)) (sym here) (laws.opening_memory rules p room journal range from to may.0 may.1)))
     (λ packet among. absurd (no_item packet among))
-opened_sound rules room w p s journal (NotWritten why) range few sound plays is settled gone may memory read =
+opened_sound laws rules room w p s journal (NotWritten why) range few sound plays is settled gone may memory read =
     let r : Record = opening_record rules room p journal in
-    let allowed : IsAllowed rules p room (journal_of w p) r = subst (λ (j : List Record). IsAllowed rules p room j r) (sym is) (opening_allowed rules p room journal range plays.from_one plays.in_game few may.0 may.1) in
+    let allowed : IsAllowed rules p room (journal_of w p) r = subst (λ (j : List Record). IsAllowed rules p room j r) (sym is) (laws.opening_allowed rules p room journal range plays.from_one plays.in_game few may.0 may.1) in
     placed_same rules room w p (away s journal (Some r)) [] range sound plays (sym is)
     (record {
       pending = λ t e. (λ mode. absurd cc, let same : r ≡ t = cc in subst (λ (x : Record). Fits rules room (journal_of w) p x) same (fits_opening rules room p (journal_of w) journal sound.journals plays allowed));
       awake = λ mode. absurd (mode refl);
     })
     (λ packet among. absurd (no_item packet among))
-opened_sound rules room w p s journal NoMemory range few sound plays is settled gone may memory read = absurd (memory refl)
-opened_sound rules room w p s journal (NotRead why) range few sound plays is settled gone may memory read = absurd (read why refl)
-opened_sound rules room w p s journal (Unfit error) range few sound plays is settled gone may memory read =
+opened_sound laws rules room w p s journal NoMemory range few sound plays is settled gone may memory read = absurd (memory refl)
+opened_sound laws rules room w p s journal (NotRead why) range few sound plays is settled gone may memory read = absurd (read why refl)
+opened_sound laws rules room w p s journal (Unfit error) range few sound plays is settled gone may memory read =
     placed_same rules room w p (away s journal None) [] range sound plays (sym is) (record { pending = λ t e. absurd cc; awake = λ mode. absurd (mode refl) }) (λ packet among. absurd (no_item packet among))
-opened_sound rules room w p s journal Spent range few sound plays is settled gone may memory read =
+opened_sound laws rules room w p s journal Spent range few sound plays is settled gone may memory read =
     placed_same rules room w p (away s journal None) [] range sound plays (sym is) (record { pending = λ t e. absurd cc; awake = λ mode. absurd (mode refl) }) (λ packet among. absurd (no_item packet among))
 
 -- an opening that read nothing
@@ -453,10 +449,10 @@ unread_sound rules room w p range sound plays =
     (record { pending = λ r e. (λ mode. absurd cc, ((sound.peers p plays).pending r e).1); awake = λ mode. absurd (mode refl) }) (λ packet among. absurd (no_item packet among))
 
 -- an opening that settles what it found: first the journal that was found is the peer's, then it is opened
-settle_open : (rules : Rules) (room : ℕ) (w : World) (p : ℕ) (finds : Bool) (outcome : Opening) → AreInRange rules → room < 2 ^ 64 → IsSound rules room w → IsPlayer rules p
+settle_open : (laws : ArePeersLawful) (rules : Rules) (room : ℕ) (w : World) (p : ℕ) (finds : Bool) (outcome : Opening) → AreInRange rules → room < 2 ^ 64 → IsSound rules room w → IsPlayer rules p
     → MayBecome rules room p (found (peer_of w p) finds) outcome → outcome ≢ NoMemory → ((why : DiskError) → outcome ≢ NotRead why)
     → Reaches rules room w (stepped w p (opened rules room p (peer_of w p) (found (peer_of w p) finds) outcome)).world
-settle_open rules room w p finds outcome range few sound plays may memory read =
+settle_open laws rules room w p finds outcome range few sound plays may memory read =
     let s : State = peer_of w p in
     let journal : List Record = found s finds in
     let t : State = away s journal None in
@@ -464,63 +460,63 @@ settle_open rules room w p finds outcome range few sound plays may memory read =
     let one = found_sound rules room w p finds s.pending range sound plays refl in
     let here : peer_of u p ≡ t = peer_here rules w p t [] sound.seats plays in
     let step : Stepped = opened rules room p s journal outcome in
-    let two = opened_sound rules room u p s journal outcome range few one.sound plays (ap (λ (x : State). x.journal) here) (ap (λ (x : State). x.pending) here) (ap (λ (x : State). x.mode) here) may memory read in
+    let two = opened_sound laws rules room u p s journal outcome range few one.sound plays (ap (λ (x : State). x.journal) here) (ap (λ (x : State). x.pending) here) (ap (λ (x : State). x.mode) here) may memory read in
     subst (λ (v : World). Reaches rules room w v) (placed_twice w p t step.state (said_by step.reply))
     (reaches_more rules room w u (stepped u p step).world one two)
 
-open_sound : (rules : Rules) (room : ℕ) (w : World) (p : ℕ) (finds : Bool) (outcome : Opening) → AreInRange rules → room < 2 ^ 64 → IsSound rules room w → IsPlayer rules p
+open_sound : (laws : ArePeersLawful) (rules : Rules) (room : ℕ) (w : World) (p : ℕ) (finds : Bool) (outcome : Opening) → AreInRange rules → room < 2 ^ 64 → IsSound rules room w → IsPlayer rules p
     → MayBecome rules room p (found (peer_of w p) finds) outcome → Reaches rules room w (stepped w p (opened rules room p (peer_of w p) (found (peer_of w p) finds) outcome)).world
-open_sound rules room w p finds NoMemory range few sound plays may = unread_sound rules room w p range sound plays
-open_sound rules room w p finds (NotRead why) range few sound plays may = unread_sound rules room w p range sound plays
-open_sound rules room w p finds Stands range few sound plays may = settle_open rules room w p finds Stands range few sound plays may (λ e. cc e) (λ why e. cc e)
-open_sound rules room w p finds (NotWritten why) range few sound plays may = settle_open rules room w p finds (NotWritten why) range few sound plays may (λ e. cc e) (λ other e. cc e)
-open_sound rules room w p finds (Unfit error) range few sound plays may = settle_open rules room w p finds (Unfit error) range few sound plays may (λ e. cc e) (λ other e. cc e)
-open_sound rules room w p finds Spent range few sound plays may = settle_open rules room w p finds Spent range few sound plays may (λ e. cc e) (λ why e. cc e)
+open_sound laws rules room w p finds NoMemory range few sound plays may = unread_sound rules room w p range sound plays
+open_sound laws rules room w p finds (NotRead why) range few sound plays may = unread_sound rules room w p range sound plays
+open_sound laws rules room w p finds Stands range few sound plays may = settle_open laws rules room w p finds Stands range few sound plays may (λ e. cc e) (λ why e. cc e)
+open_sound laws rules room w p finds (NotWritten why) range few sound plays may = settle_open laws rules room w p finds (NotWritten why) range few sound plays may (λ e. cc e) (λ other e. cc e)
+open_sound laws rules room w p finds (Unfit error) range few sound plays may = settle_open laws rules room w p finds (Unfit error) range few sound plays may (λ e. cc e) (λ other e. cc e)
+open_sound laws rules room w p finds Spent range few sound plays may = settle_open laws rules room w p finds Spent range few sound plays may (λ e. cc e) (λ why e. cc e)
 
-mode_opens : (rules : Rules) (room : ℕ) (w : World) (p : ℕ) (h : Happening) (mode : Mode) → AreInRange rules → room < 2 ^ 64 → IsSound rules room w → IsPlayer rules p
+mode_opens : (laws : ArePeersLawful) (rules : Rules) (room : ℕ) (w : World) (p : ℕ) (h : Happening) (mode : Mode) → AreInRange rules → room < 2 ^ 64 → IsSound rules room w → IsPlayer rules p
     → MayBecome rules room p (found (peer_of w p) h.finds) h.opening → Reaches rules room w (open_at_mode rules room w p h mode).world
-mode_opens rules room w p h states.Open range few sound plays may = stays_as rules room w sound
-mode_opens rules room w p h Down range few sound plays may = open_sound rules room w p h.finds h.opening range few sound plays may
-mode_opens rules room w p h Away range few sound plays may = open_sound rules room w p h.finds h.opening range few sound plays may
+mode_opens laws rules room w p h states.Open range few sound plays may = stays_as rules room w sound
+mode_opens laws rules room w p h Down range few sound plays may = open_sound laws rules room w p h.finds h.opening range few sound plays may
+mode_opens laws rules room w p h Away range few sound plays may = open_sound laws rules room w p h.finds h.opening range few sound plays may
 
 -- ---- any event
 
-given_sound : (rules : Rules) (room : ℕ) (w : World) (p number : ℕ) (luck : Luck) (o : Option Packet) → AreInRange rules → IsSound rules room w → slice_get w.said number ≡ o → Reaches rules room w (give_to rules w p luck o).world
-given_sound rules room w p number luck None range sound e = stays_as rules room w sound
-given_sound rules room w p number luck (Some packet) range sound e =
+given_sound : (laws : ArePeersLawful) (rules : Rules) (room : ℕ) (w : World) (p number : ℕ) (luck : Luck) (o : Option Packet) → AreInRange rules → IsSound rules room w → slice_get w.said number ≡ o → Reaches rules room w (give_to rules w p luck o).world
+given_sound laws rules room w p number luck None range sound e = stays_as rules room w sound
+given_sound laws rules room w p number luck (Some packet) range sound e =
     let is_said = sound.said packet (number, e) in
-    call_sound rules room w p (states.Deliver (Ok packet)) luck range sound is_said.spelled ((number, e), is_said)
+    call_sound laws rules room w p (states.Deliver (Ok packet)) luck range sound is_said.spelled ((number, e), is_said)
 
-pub acted_sound : (rules : Rules) (room : ℕ) (w : World) (act : Act) (h : Happening) → AreInRange rules → room < 2 ^ 64 → IsSound rules room w → MayAct rules room w act h → Reaches rules room w (acted rules room w act h).world
+pub acted_sound : (laws : ArePeersLawful) (rules : Rules) (room : ℕ) (w : World) (act : Act) (h : Happening) → AreInRange rules → room < 2 ^ 64 → IsSound rules room w → MayAct rules room w act h → Reaches rules room w (acted rules room w act h).world
 unfolding acted
-acted_sound rules room w (Open p) h range few sound may =
-    if_player (λ (a : After). Reaches rules room w a.world) (is_player rules p) _ _ (λ is. mode_opens rules room w p h (peer_of w p).mode range few sound (plays_if rules p is) (may is)) (stays_as rules room w sound)
-acted_sound rules room w (Tick p keys) h range few sound may = call_sound rules room w p (states.Tick keys) h.luck range sound may tt
-acted_sound rules room w (Say p to what) h range few sound may = call_sound rules room w p (states.Say to what) h.luck range sound tt tt
-acted_sound rules room w (Give number p) h range few sound may = given_sound rules room w p number h.luck (slice_get w.said number) range sound refl
-acted_sound rules room w (Leave leaver) h range few sound may = call_sound rules room w 1 (states.Leave leaver) h.luck range sound tt tt
-acted_sound rules room w (Decide leaver) h range few sound may = call_sound rules room w 1 (states.Decide leaver) h.luck range sound tt tt
+acted_sound laws rules room w (Open p) h range few sound may =
+    if_player (λ (a : After). Reaches rules room w a.world) (is_player rules p) _ _ (λ is. mode_opens laws rules room w p h (peer_of w p).mode range few sound (plays_if rules p is) (may is)) (stays_as rules room w sound)
+acted_sound laws rules room w (Tick p keys) h range few sound may = call_sound laws rules room w p (states.Tick keys) h.luck range sound may tt
+acted_sound laws rules room w (Say p to what) h range few sound may = call_sound laws rules room w p (states.Say to what) h.luck range sound tt tt
+acted_sound laws rules room w (Give number p) h range few sound may = given_sound laws rules room w p number h.luck (slice_get w.said number) range sound refl
+acted_sound laws rules room w (Leave leaver) h range few sound may = call_sound laws rules room w 1 (states.Leave leaver) h.luck range sound tt tt
+acted_sound laws rules room w (Decide leaver) h range few sound may = call_sound laws rules room w 1 (states.Decide leaver) h.luck range sound tt tt
 
-pub after_sound : (rules : Rules) (room : ℕ) (w : World) (event : Event) (h : Happening) → AreInRange rules → room < 2 ^ 64 → IsSound rules room w → MayAct rules room w (act_of event) h → Reaches rules room w (after rules room w event h).world
-after_sound rules room w (Do act) h range few sound may = acted_sound rules room w act h range few sound may
-after_sound rules room w (Stop act calls pick) h range few sound may =
+pub after_sound : (laws : ArePeersLawful) (rules : Rules) (room : ℕ) (w : World) (event : Event) (h : Happening) → AreInRange rules → room < 2 ^ 64 → IsSound rules room w → MayAct rules room w (act_of event) h → Reaches rules room w (after rules room w event h).world
+after_sound laws rules room w (Do act) h range few sound may = acted_sound laws rules room w act h range few sound may
+after_sound laws rules room w (Stop act calls pick) h range few sound may =
     let u : World = (acted rules room w act h).world in
-    let one = acted_sound rules room w act h range few sound may in
+    let one = acted_sound laws rules room w act h range few sound may in
     reaches_more rules room w u (crashed rules u (player_of act) h.leaves) one (crashed_sound rules room u (player_of act) h.leaves range one.sound)
 
-pub event_sound : (rules : Rules) (room : ℕ) (w v : World) (event : Event) (answer : Answer) → AreInRange rules → room < 2 ^ 64 → IsSound rules room w → CanHappen rules room w event answer v → Reaches rules room w v
-event_sound rules room w v event answer range few sound can =
-    subst (λ (a : After). Reaches rules room w a.world) can.is (after_sound rules room w event can.happening range few sound can.may)
+pub event_sound : (laws : ArePeersLawful) (rules : Rules) (room : ℕ) (w v : World) (event : Event) (answer : Answer) → AreInRange rules → room < 2 ^ 64 → IsSound rules room w → CanHappen rules room w event answer v → Reaches rules room w v
+event_sound laws rules room w v event answer range few sound can =
+    subst (λ (a : After). Reaches rules room w a.world) can.is (after_sound laws rules room w event can.happening range few sound can.may)
 
 -- ---- any list of events
 
-pub chain_sound : (rules : Rules) (room : ℕ) (w v : World) (events : List Event) (answers : List Answer) → AreInRange rules → room < 2 ^ 64 → IsSound rules room w → Chain rules room w events answers v → Reaches rules room w v
-chain_sound rules room w v [] [] range few sound chain = subst (λ (x : World). Reaches rules room w x) (sym chain) (stays_as rules room w sound)
-chain_sound rules room w v [] (answer ∷ answers) range few sound chain = absurd chain
-chain_sound rules room w v (event ∷ events) [] range few sound chain = absurd chain
-chain_sound rules room w v (event ∷ events) (answer ∷ answers) range few sound chain =
-    let one = event_sound rules room w chain.0 event answer range few sound chain.1 in
-    reaches_more rules room w chain.0 v one (chain_sound rules room chain.0 v events answers range few one.sound chain.2)
+pub chain_sound : (laws : ArePeersLawful) (rules : Rules) (room : ℕ) (w v : World) (events : List Event) (answers : List Answer) → AreInRange rules → room < 2 ^ 64 → IsSound rules room w → Chain rules room w events answers v → Reaches rules room w v
+chain_sound laws rules room w v [] [] range few sound chain = subst (λ (x : World). Reaches rules room w x) (sym chain) (stays_as rules room w sound)
+chain_sound laws rules room w v [] (answer ∷ answers) range few sound chain = absurd chain
+chain_sound laws rules room w v (event ∷ events) [] range few sound chain = absurd chain
+chain_sound laws rules room w v (event ∷ events) (answer ∷ answers) range few sound chain =
+    let one = event_sound laws rules room w chain.0 event answer range few sound chain.1 in
+    reaches_more rules room w chain.0 v one (chain_sound laws rules room chain.0 v events answers range few one.sound chain.2)
 
 -- ---- the start
 

@@ -1,5 +1,5 @@
 //! The theorem that peers agree, over every list of events of a world: each law is the contract of
-//! a function that does nothing. `IsReached` says that some list of events leads to a world, from
+//! a function that only calls laws of the crates below. `IsReached` says that some list of events leads to a world, from
 //! the one in which no peer has been opened yet.
 ghost use Rattle.std.specs.Prelude.{◌≡◌, ◌≢◌, ℕ, ◌^◌, ◌<◌, ◌≤◌, List, Some, false};
 ghost use Rattle.std.specs.List.{slice_get};
@@ -15,13 +15,17 @@ ghost use Rattle.c8_peer.specs.Truth.{IsTrue};
 ghost use Rattle.c8_world.specs.World.{World, Act, Open, Give, Event, Do, Answer, CanHappen, Chain, IsReached, journal_of};
 ghost use Rattle.c8_world.specs.Agreement.{IsPlayer, IsUndropped, NobodyLeaves, AgreeUpTo, Agree, AreEntered, IsBounded, Reads, AgreeByReads, IsAmong, AreLinked, refused_for, IsFit};
 
+use crate::below::peers_are_lawful;
+
 /// What a peer holds of a player's inputs begins what that player entered.
 pub fn held_inputs_were_entered()
     ensures { (rules : Rules) (room : ℕ) (w : World) (p q : ℕ)
         → AreInRange rules → room < 2 ^ 64 → IsReached rules room w
         → IsPlayer rules p → IsPlayer rules q
         → Begins (held rules q (journal_of w p)) (held rules q (journal_of w q)) }
-{}
+{
+    peers_are_lawful();
+}
 
 /// Each datagram that was said is true of its sender's journal, and has a spelling; so to deliver
 /// the bytes that spell it is to deliver it. No delivery is answered BadAck.
@@ -35,7 +39,9 @@ pub fn what_was_said_is_true()
     ensures acks { (rules : Rules) (room : ℕ) (w v : World) (event : Event) (answer : Answer)
         → AreInRange rules → room < 2 ^ 64 → IsReached rules room w
         → CanHappen rules room w event answer v → answer ≢ refused_for BadAck }
-{}
+{
+    peers_are_lawful();
+}
 
 /// An open link of p to q, at a peer that is open or down: q's journal had the epoch that p knows,
 /// and in that epoch q named p's own one.
@@ -43,14 +49,18 @@ pub fn open_links_name_both_epochs()
     ensures { (rules : Rules) (room : ℕ) (w : World) (p q : ℕ)
         → AreInRange rules → room < 2 ^ 64 → IsReached rules room w
         → IsPlayer rules p → AreLinked w p q }
-{}
+{
+    peers_are_lawful();
+}
 
 /// No opening of a player's peer is answered WrongGame, WrongPlayer or BadRecord.
 pub fn openings_find_journals()
     ensures { (rules : Rules) (room : ℕ) (w v : World) (p : ℕ) (answer : Answer)
         → AreInRange rules → room < 2 ^ 64 → IsReached rules room w → IsPlayer rules p
         → CanHappen rules room w (Do (Open p)) answer v → IsFit answer }
-{}
+{
+    peers_are_lawful();
+}
 
 /// Whatever happens between two moments: a peer at the earlier and a peer at the later one, both
 /// undropped at the later, have the same inputs and the same machine as far as both count frames
@@ -61,7 +71,9 @@ pub fn undropped_peers_agree()
         → AreInRange rules → room < 2 ^ 64 → IsReached rules room w
         → Chain rules room w events answers v
         → IsPlayer rules p → IsPlayer rules r → Agree rules w v p r }
-{}
+{
+    peers_are_lawful();
+}
 
 /// Each input that a peer holds as confirmed is what its player entered, by that player's own
 /// journal, or empty from that player's cut on; at every later moment too. This is so of dropped
@@ -71,14 +83,18 @@ pub fn confirmed_inputs_were_entered()
         (answers : List Answer) (p : ℕ)
         → AreInRange rules → room < 2 ^ 64 → IsReached rules room w
         → Chain rules room w events answers v → IsPlayer rules p → AreEntered rules w v p }
-{}
+{
+    peers_are_lawful();
+}
 
 /// Once player one has cut a leaver's list, no undropped peer holds more of it.
 pub fn a_cut_bounds_who_stays()
     ensures { (rules : Rules) (room : ℕ) (w : World) (p : ℕ)
         → AreInRange rules → room < 2 ^ 64 → IsReached rules room w
         → IsPlayer rules p → IsBounded rules w p }
-{}
+{
+    peers_are_lawful();
+}
 
 /// A delivery at an undropped peer is never answered Differs, whoever said the datagram, and never
 /// Desync where its sender is undropped too.
@@ -93,7 +109,9 @@ pub fn undropped_peers_see_no_difference()
         → slice_get w.said number ≡ Some packet → IsUndropped w packet.head.from
         → CanHappen rules room w (Do (Give number p)) answer v
         → answer ≢ refused_for Desync }
-{}
+{
+    peers_are_lawful();
+}
 
 /// The same agreement by what a reading of each disk gives, whichever of the pending records it
 /// finds.
@@ -101,7 +119,9 @@ pub fn what_disks_give_agrees()
     ensures { (rules : Rules) (room : ℕ) (w : World) (reads : Reads) (p r : ℕ)
         → AreInRange rules → room < 2 ^ 64 → IsReached rules room w
         → IsPlayer rules p → IsPlayer rules r → AgreeByReads rules w reads p r }
-{}
+{
+    peers_are_lawful();
+}
 
 /// While no LEAVE stands at player one, any two peers agree, at any two moments, and no delivery is
 /// answered Differs or Desync.
@@ -119,4 +139,6 @@ pub fn all_agree_while_nobody_leaves()
         → AreInRange rules → room < 2 ^ 64 → IsReached rules room w → NobodyLeaves w
         → CanHappen rules room w (Do (Give number p)) answer v
         → answer ≢ refused_for Desync }
-{}
+{
+    peers_are_lawful();
+}

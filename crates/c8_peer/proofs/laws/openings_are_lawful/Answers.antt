@@ -1,4 +1,4 @@
-use Rattle.c8_peer.specs.OpeningLaws.{opening_allowed, opening_memory}
+use Rattle.c8_peer.proofs.OpeningLemmas.{opening_allowed, opening_memory}
 use Rattle.c8_peer.proofs.laws.openings_are_lawful.Goals as goal
 
 pub returns-clause-keeps : goal.returns-clause-keeps

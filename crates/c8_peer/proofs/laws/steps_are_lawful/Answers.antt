@@ -1,7 +1,7 @@
-use Rattle.c8_peer.specs.AllowedLaws.{keeps_allowed}
-use Rattle.c8_peer.specs.MemoryLaws.{memory_kept}
-use Rattle.c8_peer.specs.SayingLaws.{said_true}
-use Rattle.c8_peer.specs.SpellingLaws.{said_spelled}
+use Rattle.c8_peer.proofs.AllowedLemmas.{keeps_allowed}
+use Rattle.c8_peer.proofs.MemoryLemmas.{memory_kept}
+use Rattle.c8_peer.proofs.SayingLemmas.{said_true}
+use Rattle.c8_peer.proofs.SpellingLemmas.{said_spelled}
 use Rattle.c8_peer.proofs.laws.steps_are_lawful.Goals as goal
 
 pub returns-clause-keeps : goal.returns-clause-keeps

@@ -1,4 +1,4 @@
-use Rattle.c8_round.specs.RoundLaws.{ready_leaves, ready_answered}
+use Rattle.c8_round.proofs.RoundLemmas.{ready_leaves, ready_answered}
 use Rattle.c8_round.proofs.laws.ready_means_all_have_answered.Goals as goal
 
 pub returns-clause-leaves : goal.returns-clause-leaves

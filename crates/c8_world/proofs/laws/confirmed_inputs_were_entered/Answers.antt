@@ -2,4 +2,4 @@ use Rattle.c8_world.proofs.Reached.{inputs_entered}
 use Rattle.c8_world.proofs.laws.confirmed_inputs_were_entered.Goals as goal
 
 pub returns : goal.returns
-returns c = inputs_entered
+returns c = inputs_entered c.peers_are_lawful.ensures

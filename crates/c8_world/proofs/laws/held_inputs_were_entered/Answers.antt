@@ -2,4 +2,4 @@ use Rattle.c8_world.proofs.Reached.{begins_own}
 use Rattle.c8_world.proofs.laws.held_inputs_were_entered.Goals as goal
 
 pub returns : goal.returns
-returns c = begins_own
+returns c = begins_own c.peers_are_lawful.ensures

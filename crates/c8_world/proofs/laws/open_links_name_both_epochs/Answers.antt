@@ -2,4 +2,4 @@ use Rattle.c8_world.proofs.Reached.{links_name}
 use Rattle.c8_world.proofs.laws.open_links_name_both_epochs.Goals as goal
 
 pub returns : goal.returns
-returns c = links_name
+returns c = links_name c.peers_are_lawful.ensures

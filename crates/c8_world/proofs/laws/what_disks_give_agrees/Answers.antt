@@ -2,4 +2,4 @@ use Rattle.c8_world.proofs.Reached.{reads_agree}
 use Rattle.c8_world.proofs.laws.what_disks_give_agrees.Goals as goal
 
 pub returns : goal.returns
-returns c = reads_agree
+returns c = reads_agree c.peers_are_lawful.ensures

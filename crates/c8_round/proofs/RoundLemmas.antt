@@ -1,4 +1,4 @@
--- Checked, not believed: what it means that a leaver may be cut, and what a report changes.
+-- What it means that a leaver may be cut, and what a report changes.
 use Rattle.std.proofs.Common.{◌≡◌, ◌≢◌, ℕ, ◌+◌, ◌-◌, ◌≤◌, ◌⊎◌, inl, inr, List, [], length, Bool, true, false, not, ◌&&◌, ◌||◌, Option, Some, None, refl, sym, ap, ◌∙◌, subst, arith, slice_index_or, slice_set}
 use Rattle.std.specs.Prelude.{max}
 use Rattle.std.specs.List.{range_with_len, AllPass}
@@ -7,13 +7,7 @@ use Rattle.std.proofs.lemmas.List.{get_or-set_same, get_or-set_other, get_or_pas
 use Rattle.std.proofs.lemmas.List.FromFn.{length-range_with_len, get_or-range_with_len}
 use Rattle.std.proofs.lemmas.List.Sums.{AllPass-from_list_all}
 use Rattle.c8_known.specs.Known.{KnownValue, player_in, count_in, Plays}
-use Rattle.c8_round.specs.Round.{ChairValue, report_of, with_report, raised, has_answered, is_stayer, is_ready}
-
--- a player has answered, with no more inputs than player one holds
-pub record HasAnswered (c : ChairValue) (k : KnownValue) (leaver q : ℕ) : Type 0 where
-  pub held : ℕ
-  pub told : report_of c leaver q ≡ Some held
-  pub few : held ≤ count_in k leaver
+use Rattle.c8_round.specs.Round.{HasAnswered, IsOldOrNew, ChairValue, report_of, with_report, raised, has_answered, is_stayer, is_ready}
 
 and_true : (a b : Bool) → (a && b) ≡ true → (a ≡ true) × (b ≡ true)
 and_true true b e = (refl, e)
@@ -47,10 +41,6 @@ ready_answered c k leaver ready q plays other stays =
     let here : test q ≡ true = subst (λ (p : ℕ). test p ≡ true) (at ∙ omega (arith, from)) (all (q - 1) 0 (omega (arith, from, to, length-range_with_len 1 n))) in
     let told = answered (count_in k leaver) (report_of c leaver q) (past_not (is_stayer k q) _ (stays_true k q other stays) here) in
     record { held = told.0; told = told.1; few = told.2 }
-
--- A report stood before, or is the one that came.
-abbrev pub IsOldOrNew : ChairValue → ℕ → ℕ → ℕ → ℕ → ℕ → ℕ → Type 0
-IsOldOrNew c leaver stayer held l s n = (report_of c l s ≡ Some n) ⊎ ((l - 1 ≡ leaver - 1) × (s - 1 ≡ stayer - 1) × (n ≡ held))
 
 max_is : (a b : ℕ) → (max a b ≡ a) ⊎ (max a b ≡ b)
 max_is a b =

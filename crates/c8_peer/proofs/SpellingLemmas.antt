@@ -1,4 +1,4 @@
--- Checked, not believed: what an open peer says can be spelled.
+-- What an open peer says can be spelled.
 use Rattle.std.proofs.Common.{◌≡◌, ◌≢◌, ℕ, zero, suc, ◌*◌, ◌/◌, ◌^◌, ◌<◌, ◌≤◌, List, [], ◌∷◌, ◌++◌, length, take, drop, replicate, Bool, true, false, Some, Ok, refl, sym, ap, subst, ◌∙◌, arith}
 use Rattle.std.specs.Prelude.{◌==◌, slice_index, if◌then◌else◌}
 use Rattle.std.specs.Int.{from_be_bytes, to_be_bytes, w64}
@@ -26,12 +26,12 @@ use Rattle.c8_record.specs.Body.{HasSpelling}
 use Rattle.c8_record.specs.Allowed.{IsJournal, IsOrderly}
 use Rattle.c8_record.specs.JournalLaws.{journal_known}
 use Rattle.c8_record.specs.LeaverLaws.{journal_orderly}
-use Rattle.c8_peer.specs.DigestLaws.{digest_length, digest_bytes_fit}
+use Rattle.c8_peer.proofs.DigestLemmas.{digest_length, digest_bytes_fit}
 use Rattle.c8_peer.specs.State.{Memory, Call, Saying, Hello, Welcome, Data, Freeze, Frozen, Cut, Said}
 use Rattle.c8_peer.specs.Saying.{lacks_record, run_from, cut_length, cut_start, message}
 use Rattle.c8_peer.specs.Steps.{outcome}
 use Rattle.c8_peer.specs.Lawful.{IsMemory, IsCall}
-use Rattle.c8_peer.specs.SayingLaws.{IsLeaver, is_leaver, leaver_plays, frozen_or, leaving_or, some_cut, own_player, said_is, what_is_said}
+use Rattle.c8_peer.proofs.SayingLemmas.{IsLeaver, is_leaver, leaver_plays, frozen_or, leaving_or, some_cut, own_player, said_is, what_is_said}
 
 -- ---- parts of lists
 

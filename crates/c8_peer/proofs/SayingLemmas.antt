@@ -1,4 +1,4 @@
--- Checked, not believed: what an open peer says is true of its journal.
+-- What an open peer says is true of its journal.
 use Rattle.std.proofs.Common.{◌≡◌, ◌≢◌, ℕ, zero, suc, ◌-◌, ◌/◌, ◌≤◌, List, [], ◌∷◌, ◌++◌, length, take, drop, Bool, true, false, Option, Some, None, Ok, Err, refl, sym, ap, subst, ◌∙◌, inl, inr, arith}
 use Rattle.std.specs.Prelude.{◌==◌, ◌||◌, not, nat_le, is_none}
 use Rattle.std.proofs.lemmas.Bool.{cases_lt, cases_eq, ne_eqb, eqb-true, eqb-false, leb-true, not-false, or_parts, and_parts, both_ways}
@@ -26,7 +26,7 @@ use Rattle.c8_peer.specs.Steps.{outcome}
 use Rattle.c8_peer.specs.Truth.{Stands, IsFrozenAt, IsTrueMessage, IsTrue}
 use Rattle.c8_peer.specs.TruthLaws.{count_rises}
 use Rattle.c8_peer.specs.Lawful.{IsMemory, IsCall}
-use Rattle.c8_peer.specs.MemoryLaws.{unless, tick_is, leave_is, decide_is, deliver_is, no_packet_is}
+use Rattle.c8_peer.proofs.MemoryLemmas.{unless, tick_is, leave_is, decide_is, deliver_is, no_packet_is}
 
 -- ---- what was judged of what is said
 

@@ -1,4 +1,4 @@
--- Checked, not believed: a digest has 32 bytes, each below 256.
+-- A digest has 32 bytes, each below 256.
 use Rattle.std.proofs.Common.{◌≡◌, ℕ, zero, suc, ◌*◌, List, [], ◌∷◌, ◌++◌, length, refl, arith, length-append}
 use Rattle.std.specs.Prelude.{slice_index}
 use Rattle.std.specs.Int.{to_be_bytes, w32}

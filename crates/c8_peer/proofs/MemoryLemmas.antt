@@ -1,4 +1,4 @@
--- Checked, not believed: a peer's memory stays in order, whatever it is called to do.
+-- A peer's memory stays in order, whatever it is called to do.
 use Rattle.std.proofs.Common.{◌≡◌, ℕ, zero, suc, ◌+◌, ◌^◌, ◌<◌, ◌≤◌, List, [], ◌∷◌, length, Bool, true, false, Option, Some, None, Ok, Err, refl, ap, arith}
 use Rattle.std.specs.Prelude.{◌==◌, ◌||◌, not, nat_lt, nat_le, is_some, if◌then◌else◌, Result}
 use Rattle.std.proofs.lemmas.Bool.{ltb-false, ne_eqb}

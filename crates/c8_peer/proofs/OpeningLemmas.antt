@@ -1,4 +1,4 @@
--- Checked, not believed: what an opening records is allowed after the journal that it finds, and the memory of a peer that
+-- What an opening records is allowed after the journal that it finds, and the memory of a peer that
 -- has just been opened is in order.
 use Rattle.std.proofs.Common.{◌≡◌, ℕ, ◌+◌, ◌^◌, ◌<◌, ◌≤◌, List, [], ◌∷◌, ◌++◌, length, Bool, true, false, cond, refl, sym, ap, ◌∙◌, arith, length-append, replicate}
 use Rattle.std.specs.Prelude.{◌==◌}
@@ -20,7 +20,7 @@ use Rattle.c8_window.specs.Window.{first_window, acked_of}
 use Rattle.c8_peer.specs.State.{fresh_memory}
 use Rattle.c8_peer.specs.Opening.{last_epoch, opening_record}
 use Rattle.c8_peer.specs.Lawful.{IsMemory}
-use Rattle.c8_peer.specs.DigestLaws.{digest_length, digest_bytes_fit}
+use Rattle.c8_peer.proofs.DigestLemmas.{digest_length, digest_bytes_fit}
 
 -- ---- the record
 

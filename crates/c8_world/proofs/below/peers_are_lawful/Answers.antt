@@ -1,0 +1,13 @@
+use Rattle.c8_world.proofs.below.peers_are_lawful.Goals as goal
+
+pub returns : goal.returns
+returns c = record {
+  answered = c.ready_means_all_have_answered.ensures.answered;
+  reports = c.a_report_changes_one_place.ensures;
+  opening_allowed = c.openings_are_lawful.ensures.keeps;
+  opening_memory = c.openings_are_lawful.ensures.memory;
+  keeps_allowed = c.steps_are_lawful.ensures.keeps;
+  memory_kept = c.steps_are_lawful.ensures.memory;
+  said_true = c.steps_are_lawful.ensures.says;
+  said_spelled = c.steps_are_lawful.ensures.spelled;
+}

@@ -1,0 +1,35 @@
+-- What the laws of one peer and of the round say, gathered for the proofs about all of them.
+use Rattle.std.specs.Prelude.{◌≡◌, ◌≢◌, ℕ, ◌^◌, ◌<◌, ◌≤◌, List, [], ◌∷◌, ◌++◌, Some, Ok, true, false}
+use Rattle.c8_game.specs.Rules.{Rules, AreInRange}
+use Rattle.c8_wire.specs.Packet.{Packet, IsPacket}
+use Rattle.c8_known.specs.Journal.{Record, epoch}
+use Rattle.c8_known.specs.Known.{KnownValue, player_in, known_of, Plays}
+use Rattle.c8_round.specs.Round.{ChairValue, report_of, with_report, is_ready, HasAnswered, IsOldOrNew}
+use Rattle.c8_record.specs.Allowed.{IsAllowed, IsJournal}
+use Rattle.c8_peer.specs.State.{Memory, Call, Said, fresh_memory}
+use Rattle.c8_peer.specs.Steps.{outcome}
+use Rattle.c8_peer.specs.Opening.{last_epoch, opening_record}
+use Rattle.c8_peer.specs.Truth.{IsTrue}
+use Rattle.c8_peer.specs.Lawful.{IsMemory, IsCall}
+
+pub record ArePeersLawful : Type 0 where
+  pub answered : (c : ChairValue) (k : KnownValue) (leaver : ℕ) → is_ready c k leaver ≡ true
+      → (q : ℕ) → Plays k q → q ≢ 1 → (player_in k q).leaving ≡ false → HasAnswered c k leaver q
+  pub reports : (c : ChairValue) (leaver stayer held l s n : ℕ) → report_of (with_report c leaver stayer held) l s ≡ Some n → IsOldOrNew c leaver stayer held l s n
+  pub opening_allowed : (rules : Rules) (me room : ℕ) (found : List Record) → AreInRange rules → 1 ≤ me → me ≤ rules.players → room < 2 ^ 64
+      → IsJournal rules me room found → epoch found < last_epoch → IsAllowed rules me room found (opening_record rules room me found)
+  pub opening_memory : (rules : Rules) (me room : ℕ) (found : List Record) → AreInRange rules → 1 ≤ me → me ≤ rules.players
+      → IsJournal rules me room found → epoch found < last_epoch
+      → IsMemory rules room me (found ++ opening_record rules room me found ∷ []) (fresh_memory rules room me (epoch (found ++ opening_record rules room me found ∷ [])))
+  pub keeps_allowed : (rules : Rules) (me room : ℕ) (journal : List Record) (m : Memory) (call : Call) (r : Record) → AreInRange rules → 1 ≤ me → me ≤ rules.players
+      → IsJournal rules me room journal → IsMemory rules room me journal m → IsCall call
+      → (outcome rules (known_of rules me journal) m call).keeps ≡ Some r → IsAllowed rules me room journal r
+  pub memory_kept : (rules : Rules) (me room : ℕ) (journal : List Record) (m : Memory) (call : Call) → AreInRange rules → 1 ≤ me → me ≤ rules.players
+      → IsJournal rules me room journal → IsMemory rules room me journal m → IsCall call
+      → IsMemory rules room me journal (outcome rules (known_of rules me journal) m call).memory
+  pub said_true : (rules : Rules) (me room : ℕ) (journal : List Record) (m : Memory) (call : Call) (p : Packet) → AreInRange rules → 1 ≤ me → me ≤ rules.players
+      → IsJournal rules me room journal → IsMemory rules room me journal m → IsCall call
+      → (outcome rules (known_of rules me journal) m call).reply ≡ Said (Ok p) → IsTrue rules me journal p
+  pub said_spelled : (rules : Rules) (me room : ℕ) (journal : List Record) (m : Memory) (call : Call) (p : Packet) → AreInRange rules → 1 ≤ me → me ≤ rules.players
+      → IsJournal rules me room journal → IsMemory rules room me journal m → IsCall call
+      → (outcome rules (known_of rules me journal) m call).reply ≡ Said (Ok p) → IsPacket p
