@@ -13,3 +13,6 @@ pub mod laws;
 
 pub use error::{DecideError, LeaveError, OpenError, Refused, TickError, Unsayable};
 pub use heard::Heard;
+
+#[cfg(test)]
+mod tests;
