@@ -8,3 +8,5 @@ pub mod Openings
 pub mod Calm
 pub mod Replies
 pub mod Answered
+pub mod Runs
+pub mod Matches

@@ -1,3 +1,4 @@
 pub mod World
 pub mod Agreement
 pub mod Below
+pub mod Matches

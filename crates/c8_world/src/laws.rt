@@ -1,10 +1,10 @@
 //! The theorem that peers agree, over every list of events of a world: each law is the contract of
 //! a function that only calls laws of the crates below. `IsReached` says that some list of events leads to a world, from
 //! the one in which no peer has been opened yet.
-ghost use Rattle.std.specs.Prelude.{◌≡◌, ◌≢◌, ℕ, ◌^◌, ◌<◌, ◌≤◌, List, Some, false};
+ghost use Rattle.std.specs.Prelude.{◌≡◌, ◌≢◌, ◌⊎◌, ℕ, ◌^◌, ◌<◌, ◌≤◌, List, length, Some, false};
 ghost use Rattle.std.specs.List.{slice_get};
-ghost use Rattle.c8_game.specs.Rules.{Rules, AreInRange};
-ghost use Rattle.c8_wire.specs.Packet.{Packet};
+ghost use Rattle.c8_game.specs.Rules.{Rules, AreInRange, id_of};
+ghost use Rattle.c8_wire.specs.Packet.{Packet, AreBytes};
 ghost use Rattle.c8_wire.specs.Spelling.{spelling, Spells};
 ghost use Rattle.c8_known.specs.Journal.{held};
 ghost use Rattle.c8_known.specs.Known.{player_in};
@@ -14,6 +14,7 @@ ghost use Rattle.c8_peer.specs.declared.error.Refused.TheVariants.{BadAck, Desyn
 ghost use Rattle.c8_peer.specs.Truth.{IsTrue};
 ghost use Rattle.c8_world.specs.World.{World, Act, Open, Give, Event, Do, Answer, CanHappen, Chain, IsReached, journal_of};
 ghost use Rattle.c8_world.specs.Agreement.{IsPlayer, IsUndropped, NobodyLeaves, AgreeUpTo, Agree, AreEntered, IsBounded, Reads, AgreeByReads, IsAmong, AreLinked, refused_for, IsFit};
+ghost use Rattle.c8_world.specs.Matches.{two, three, four, GoesInTurn, StopsInTick, CutsWhereHeld, CutsAfterRestart, WaitsForSilent, DiffersWhenDropped, EndsAfterLastFrame, RefusesOther};
 
 use crate::below::peers_are_lawful;
 
@@ -139,6 +140,46 @@ pub fn all_agree_while_nobody_leaves()
         → AreInRange rules → room < 2 ^ 64 → IsReached rules room w → NobodyLeaves w
         → CanHappen rules room w (Do (Give number p)) answer v
         → answer ≢ refused_for Desync }
+{
+    peers_are_lawful();
+}
+
+/// Matches worked out by these definitions, from the start on, with every answer.
+///
+/// - `ranges`: the games that are played are games.
+/// - `turns`: two players, a window of one frame. The second tick is refused until the other
+///   player's set is there; DATA that comes twice brings nothing the second time.
+/// - `stops`: player one stops inside a tick. Its set may be lost, and another one is entered; it
+///   may be there although the disk refused it; and where the disk took it, it is there.
+/// - `cuts`: player one lets player three go. Player two brings the two inputs that player one
+///   lacks, and both cut player three's list after them.
+/// - `restarts`: the same, but player two stops after its answer and is opened again. What was said
+///   to its first epoch is stale, it takes nothing more from player three, and the cut is the same.
+/// - `waits`: of four players one is let go, and nothing is decided before each who stays has
+///   answered, or has been let go too.
+/// - `differs`: as in `cuts`, but player three has entered one set more, which reached nobody, and
+///   counts eleven frames as confirmed, as the others do after the cut. Its rows differ from theirs;
+///   then it is told that it is out, and may tick no more.
+/// - `undropped`: so the law `undropped_peers_agree` is false without its two premises that the
+///   peers have not been dropped.
+/// - `ends`: in a game of one frame the second tick is refused as past the end, whether or not the
+///   frame is confirmed.
+/// - `refuses`: a journal of another game or another room is refused, and stays as it is.
+pub fn worked_matches()
+    ensures ranges { AreInRange (two 100 1) × AreInRange (two 100 8) × AreInRange (two 1 1)
+        × AreInRange three × AreInRange four }
+    ensures turns { GoesInTurn }
+    ensures stops { (calls pick : ℕ) → StopsInTick calls pick }
+    ensures cuts { CutsWhereHeld }
+    ensures restarts { CutsAfterRestart }
+    ensures waits { WaitsForSilent }
+    ensures differs { DiffersWhenDropped }
+    ensures undropped { ((rules : Rules) (room : ℕ) (w : World) (p r : ℕ)
+        → AreInRange rules → room < 2 ^ 64 → IsReached rules room w
+        → IsPlayer rules p → IsPlayer rules r → AgreeUpTo rules w w p r) → ⊥ }
+    ensures ends { EndsAfterLastFrame }
+    ensures refuses { (id : List ℕ) (room : ℕ) → length id ≡ 32 → AreBytes id → room < 2 ^ 64
+        → (id ≢ id_of (two 100 8)) ⊎ (room ≢ 0) → RefusesOther id room }
 {
     peers_are_lawful();
 }

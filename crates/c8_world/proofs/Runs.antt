@@ -1,0 +1,319 @@
+-- How a match is worked out: what an event makes of a world where the sessions are the same and the marks agree, all of
+-- which computes; and why a list of such events is a chain.
+use Rattle.std.proofs.Common.{◌≡◌, ℕ, ◌<◌, ◌^◌, List, [], ◌∷◌, Bool, true, false, Option, Some, None, Ok, refl, ap, subst, ◌∙◌, arith}
+use Rattle.std.specs.Prelude.{◌&&◌, not, nat_lt, if◌then◌else◌}
+use Rattle.std.specs.List.{slice_get}
+use Rattle.std.proofs.lemmas.Bool.{eq-eqb, ltb-true}
+use Rattle.c8_game.specs.Rules.{Rules, AreInRange}
+use Rattle.c8_wire.specs.Packet.{HeadValue, DataMessage, Message, Packet}
+use Rattle.c8_wire.specs.Packet as packets
+use Rattle.c8_hand.specs.declared.error.HandError.{HandError}
+use Rattle.c8_hand.specs.declared.error.HandError.TheVariants as errors
+use Rattle.c8_hand.specs.Links.{LinksValue, link_to, is_mine, refusal_by_kind}
+use Rattle.c8_hand.specs.Links as links
+use Rattle.c8_known.specs.declared.error.KnownError.TheVariants as knowns
+use Rattle.c8_known.specs.Journal.{epoch}
+use Rattle.c8_known.specs.Known.{KnownValue, player_in, count_in, known_of}
+use Rattle.c8_known.specs.Confirmed.{confirmed}
+use Rattle.c8_known.specs.Fresh.{is_from_leaver, misfit, fresh_words}
+use Rattle.c8_known.specs.BeginsLaws.{begins_same, begin_one}
+use Rattle.c8_digest.specs.Marks.{mark_at}
+use Rattle.c8_roll.specs.Roll.{marks_up_to}
+use Rattle.c8_window.specs.Window.{acked_more}
+use Rattle.c8_peer.specs.declared.error.Refused.TheVariants as refusals
+use Rattle.c8_peer.specs.State as states
+use Rattle.c8_peer.specs.State.{Memory, Mode, Down, Away, State, Call, Outcome}
+use Rattle.c8_peer.specs.Steps.{outcome, Luck, done, at_mode}
+use Rattle.c8_peer.specs.Hearing.{refused, unless_misfit, got, differs_from, is_desync, hear_data, hear_message, unless_hand, deliver}
+use Rattle.c8_peer.specs.Opening.{Opening, Stands, NotWritten, NoMemory, NotRead, Unfit, Spent, found, MayBecome, last_epoch}
+use Rattle.c8_world.specs.Below.{ArePeersLawful}
+use Rattle.c8_world.specs.World.{World, is_player, peer_of, journal_of, Act, Open, Tick, Say, Give, Leave, Decide, Event, Do, Stop, player_of, Happening, Answer, IsDown, NoSuch, Stopped, After, stepped, call_at_mode, give_to, acted, crashed, after, MayAct, act_of, Chain}
+use Rattle.c8_world.specs.Agreement.{IsPlayer}
+use Rattle.c8_world.specs.Matches.{Line, events_of, answers_of, Leads}
+use Rattle.c8_world.proofs.Worlds.{IsSound, plays_if, after_sound}
+
+-- ---- a delivery where the session is the own one and no machine differs
+
+abbrev pub refusal_here : LinksValue → HeadValue → Option HandError
+refusal_here l head =
+    if is_mine l head then refusal_by_kind head.kind (link_to l head.from) l.epoch head.sender_epoch head.addressee_epoch else Some errors.NotMine
+
+refusal_is : (l : LinksValue) (head : HeadValue) → head.session ≡ l.session → links.refusal l head ≡ refusal_here l head
+unfolding links.refusal
+refusal_is l head same = rw (eq-eqb head.session l.session same) refl
+
+abbrev pub data_here : KnownValue → Memory → ℕ → DataMessage → Outcome
+data_here k m q d =
+    if is_from_leaver k q q then refused m (refusals.Known knowns.FromLeaver)
+    else (if nat_lt (count_in k k.me) d.ack then refused m refusals.BadAck
+    else unless_misfit m (misfit k q d.start d.words) (got k (record m { acks = acked_more m.acks q d.ack }) q (fresh_words k q d.start d.words)))
+
+data_is : (rules : Rules) (k : KnownValue) (m : Memory) (q : ℕ) (d : DataMessage) → is_desync rules k d ≡ false → hear_data rules k m q d ≡ data_here k m q d
+unfolding hear_data
+data_is rules k m q d same = rw same refl
+
+abbrev pub message_here : Rules → KnownValue → Memory → HeadValue → Message → Outcome
+message_here rules k m head packets.Hello = hear_message rules k m head packets.Hello
+message_here rules k m head (packets.Welcome ack) = hear_message rules k m head (packets.Welcome ack)
+message_here rules k m head (packets.Data d) = data_here k m head.from d
+message_here rules k m head (packets.Freeze f) = hear_message rules k m head (packets.Freeze f)
+message_here rules k m head (packets.Frozen f) = hear_message rules k m head (packets.Frozen f)
+message_here rules k m head (packets.Cut c) = hear_message rules k m head (packets.Cut c)
+
+abbrev pub deliver_here : Rules → KnownValue → Memory → Packet → Outcome
+deliver_here rules k m packet =
+    if (player_in k k.me).leaving then refused m refusals.Dropped
+    else unless_hand m (refusal_here m.links packet.head) (message_here rules k m packet.head packet.message)
+
+-- ---- what has to be the same
+
+-- a session, and a mark
+pub record Marks : Type 0 where
+  pub session : ℕ
+  pub mark : Option (List ℕ)
+
+abbrev pub mark_in : Message → Option (List ℕ)
+mark_in packets.Hello = None
+mark_in (packets.Welcome ack) = None
+mark_in (packets.Data d) = Some d.mark
+mark_in (packets.Freeze f) = None
+mark_in (packets.Frozen f) = None
+mark_in (packets.Cut c) = None
+
+abbrev pub mark_for : Rules → KnownValue → Message → Option (List ℕ)
+mark_for rules k packets.Hello = None
+mark_for rules k (packets.Welcome ack) = None
+mark_for rules k (packets.Data d) = mark_at d.mark_frame (marks_up_to rules k (confirmed k))
+mark_for rules k (packets.Freeze f) = None
+mark_for rules k (packets.Frozen f) = None
+mark_for rules k (packets.Cut c) = None
+
+-- those of a datagram, and the peer's own ones
+abbrev pub named_in : Packet → Marks
+named_in packet = record { session = packet.head.session; mark = mark_in packet.message }
+
+abbrev pub own_for : Rules → KnownValue → Memory → Packet → Marks
+own_for rules k m packet = record { session = m.links.session; mark = mark_for rules k packet.message }
+
+same_mark : (own : Option (List ℕ)) (mark : List ℕ) → Some mark ≡ own → differs_from own mark ≡ false
+same_mark own mark is = subst (λ (x : Option (List ℕ)). differs_from x mark ≡ false) is (begin_one mark mark mark (begins_same mark) (begins_same mark))
+
+alike : (rules : Rules) (k : KnownValue) (d : DataMessage) → Some d.mark ≡ mark_at d.mark_frame (marks_up_to rules k (confirmed k)) → is_desync rules k d ≡ false
+unfolding is_desync
+alike rules k d is = same_mark (mark_at d.mark_frame (marks_up_to rules k (confirmed k))) d.mark is
+
+message_is : (rules : Rules) (k : KnownValue) (m : Memory) (head : HeadValue) (message : Message) → mark_in message ≡ mark_for rules k message
+    → hear_message rules k m head message ≡ message_here rules k m head message
+message_is rules k m head packets.Hello same = refl
+message_is rules k m head (packets.Welcome ack) same = refl
+message_is rules k m head (packets.Data d) same = data_is rules k m head.from d (alike rules k d same)
+message_is rules k m head (packets.Freeze f) same = refl
+message_is rules k m head (packets.Frozen f) same = refl
+message_is rules k m head (packets.Cut c) same = refl
+
+choose : (b : Bool) (x y z : Outcome) → y ≡ z → (if b then x else y) ≡ (if b then x else z)
+choose true x y z same = refl
+choose false x y z same = same
+
+deliver_is : (rules : Rules) (k : KnownValue) (m : Memory) (packet : Packet) → named_in packet ≡ own_for rules k m packet
+    → deliver rules k m (Ok packet) ≡ deliver_here rules k m packet
+deliver_is rules k m packet same =
+    let session = ap (λ (t : Marks). t.session) same in
+    let mark = ap (λ (t : Marks). t.mark) same in
+    choose (player_in k k.me).leaving _ _ _
+    (ap (λ (o : Option HandError). unless_hand m o (hear_message rules k m packet.head packet.message)) (refusal_is m.links packet.head session)
+    ∙ ap (λ (o : Outcome). unless_hand m (refusal_here m.links packet.head) o) (message_is rules k m packet.head packet.message mark))
+
+-- ---- an event
+
+abbrev pub given_at : Rules → World → ℕ → Luck → Packet → Mode → After
+given_at rules w p luck packet states.Open =
+    stepped w p (done (peer_of w p) (states.Deliver (Ok packet)) (deliver_here rules (known_of rules p (journal_of w p)) (peer_of w p).memory packet)
+    (deliver_here rules (known_of rules p (journal_of w p)) (peer_of w p).memory packet).keeps luck)
+given_at rules w p luck packet Down = record { answer = IsDown; world = w }
+given_at rules w p luck packet Away = record { answer = IsDown; world = w }
+
+abbrev pub give_here : Rules → World → ℕ → Luck → Option Packet → After
+give_here rules w p luck None = record { answer = NoSuch; world = w }
+give_here rules w p luck (Some packet) = if is_player rules p then given_at rules w p luck packet (peer_of w p).mode else record { answer = IsDown; world = w }
+
+abbrev pub acted_here : Rules → ℕ → World → Act → Happening → After
+acted_here rules room w (Open p) h = acted rules room w (Open p) h
+acted_here rules room w (Tick p keys) h = acted rules room w (Tick p keys) h
+acted_here rules room w (Say p to what) h = acted rules room w (Say p to what) h
+acted_here rules room w (Give number p) h = give_here rules w p h.luck (slice_get w.said number)
+acted_here rules room w (Leave leaver) h = acted rules room w (Leave leaver) h
+acted_here rules room w (Decide leaver) h = acted rules room w (Decide leaver) h
+
+abbrev pub after_here : Rules → ℕ → World → Event → Happening → After
+after_here rules room w (Do act) h = acted_here rules room w act h
+after_here rules room w (Stop act calls pick) h =
+    record { answer = Stopped; world = crashed rules (acted_here rules room w act h).world (player_of act) h.leaves }
+
+-- what the datagram that an act gives names, and what the player who gets it has of its own
+abbrev pub named_of : Option Packet → Option Marks
+named_of None = None
+named_of (Some packet) = Some (named_in packet)
+
+abbrev pub own_of : Rules → World → ℕ → Option Packet → Option Marks
+own_of rules w p None = None
+own_of rules w p (Some packet) = Some (own_for rules (known_of rules p (journal_of w p)) (peer_of w p).memory packet)
+
+abbrev pub named_by : World → Act → Option Marks
+named_by w (Open p) = None
+named_by w (Tick p keys) = None
+named_by w (Say p to what) = None
+named_by w (Give number p) = named_of (slice_get w.said number)
+named_by w (Leave leaver) = None
+named_by w (Decide leaver) = None
+
+abbrev pub own_by : Rules → World → Act → Option Marks
+own_by rules w (Open p) = None
+own_by rules w (Tick p keys) = None
+own_by rules w (Say p to what) = None
+own_by rules w (Give number p) = own_of rules w p (slice_get w.said number)
+own_by rules w (Leave leaver) = None
+own_by rules w (Decide leaver) = None
+
+given_is : (rules : Rules) (w : World) (p : ℕ) (luck : Luck) (packet : Packet) (mode : Mode) → (peer_of w p).mode ≡ mode
+    → named_in packet ≡ own_for rules (known_of rules p (journal_of w p)) (peer_of w p).memory packet
+    → call_at_mode rules w p (states.Deliver (Ok packet)) luck mode ≡ given_at rules w p luck packet mode
+given_is rules w p luck packet states.Open up same =
+    let s : State = peer_of w p in
+    let call : Call = states.Deliver (Ok packet) in
+    let o : Outcome = outcome rules (known_of rules p s.journal) s.memory call in
+    ap (λ (mode : Mode). stepped w p (at_mode s call o mode luck)) up
+    ∙ ap (λ (o : Outcome). stepped w p (done s call o o.keeps luck)) (deliver_is rules (known_of rules p s.journal) s.memory packet same)
+given_is rules w p luck packet Down up same = refl
+given_is rules w p luck packet Away up same = refl
+
+choose_after : (b : Bool) (x y z : After) → x ≡ y → (if b then x else z) ≡ (if b then y else z)
+choose_after true x y z same = same
+choose_after false x y z same = refl
+
+give_is : (rules : Rules) (w : World) (p : ℕ) (luck : Luck) (o : Option Packet) → named_of o ≡ own_of rules w p o → give_to rules w p luck o ≡ give_here rules w p luck o
+give_is rules w p luck None same = refl
+give_is rules w p luck (Some packet) same =
+    choose_after (is_player rules p) _ _ _ (given_is rules w p luck packet (peer_of w p).mode refl cc)
+
+acted_is : (rules : Rules) (room : ℕ) (w : World) (act : Act) (h : Happening) → named_by w act ≡ own_by rules w act → acted rules room w act h ≡ acted_here rules room w act h
+unfolding acted
+acted_is rules room w (Open p) h same = refl
+acted_is rules room w (Tick p keys) h same = refl
+acted_is rules room w (Say p to what) h same = refl
+acted_is rules room w (Give number p) h same = give_is rules w p h.luck (slice_get w.said number) same
+acted_is rules room w (Leave leaver) h same = refl
+acted_is rules room w (Decide leaver) h same = refl
+
+after_is : (rules : Rules) (room : ℕ) (w : World) (event : Event) (h : Happening) → named_by w (act_of event) ≡ own_by rules w (act_of event)
+    → after rules room w event h ≡ after_here rules room w event h
+after_is rules room w (Do act) h same = acted_is rules room w act h same
+after_is rules room w (Stop act calls pick) h same =
+    ap (λ (a : After). record { answer = Stopped; world = crashed rules a.world (player_of act) h.leaves }) (acted_is rules room w act h same)
+
+-- ---- what may happen
+
+-- an opening stands, over a journal without a pending record and with an epoch to come
+abbrev pub stands_here : World → ℕ → Happening → Opening → Bool
+stands_here w p h Stands = not h.finds && nat_lt (epoch (journal_of w p)) last_epoch
+stands_here w p h (NotWritten why) = false
+stands_here w p h NoMemory = false
+stands_here w p h (NotRead why) = false
+stands_here w p h (Unfit error) = false
+stands_here w p h Spent = false
+
+abbrev pub may_here : World → Act → Happening → Bool
+may_here w (Open p) h = stands_here w p h h.opening
+may_here w (Tick p keys) h = nat_lt keys (2 ^ 16)
+may_here w (Say p to what) h = true
+may_here w (Give number p) h = true
+may_here w (Leave leaver) h = true
+may_here w (Decide leaver) h = true
+
+both_hold : (a b : Bool) → (not a && b) ≡ true → (a ≡ false) × (b ≡ true)
+both_hold false b is = (refl, is)
+both_hold true b is = absurd cc
+
+stands_is : (rules : Rules) (room : ℕ) (w : World) (p : ℕ) (h : Happening) (opening : Opening) → IsSound rules room w → IsPlayer rules p → stands_here w p h opening ≡ true
+    → MayBecome rules room p (found (peer_of w p) h.finds) opening
+stands_is rules room w p h Stands sound plays is =
+    let tests = both_hold h.finds (nat_lt (epoch (journal_of w p)) last_epoch) is in
+    let finds : found (peer_of w p) h.finds ≡ journal_of w p = ap (λ (b : Bool). found (peer_of w p) b) tests.0 in
+    rw finds (sound.journals.valid p plays, ltb-true (epoch (journal_of w p)) last_epoch tests.1)
+stands_is rules room w p h (NotWritten why) sound plays is = absurd cc
+stands_is rules room w p h NoMemory sound plays is = absurd cc
+stands_is rules room w p h (NotRead why) sound plays is = absurd cc
+stands_is rules room w p h (Unfit error) sound plays is = absurd cc
+stands_is rules room w p h Spent sound plays is = absurd cc
+
+may_is : (rules : Rules) (room : ℕ) (w : World) (act : Act) (h : Happening) → IsSound rules room w → may_here w act h ≡ true → MayAct rules room w act h
+may_is rules room w (Open p) h sound is = λ plays. stands_is rules room w p h h.opening sound (plays_if rules p plays) is
+may_is rules room w (Tick p keys) h sound is = ltb-true keys (2 ^ 16) is
+may_is rules room w (Say p to what) h sound is = tt
+may_is rules room w (Give number p) h sound is = tt
+may_is rules room w (Leave leaver) h sound is = tt
+may_is rules room w (Decide leaver) h sound is = tt
+
+-- ---- a list of events
+
+-- the answers, the world at the end, and what has to be so on the way
+pub record Course : Type 0 where
+  pub answers : List Answer
+  pub named : List (Option Marks)
+  pub own : List (Option Marks)
+  pub may : List Bool
+  pub world : World
+
+abbrev pub course : Rules → ℕ → World → List Line → Course
+course rules room w [] = record { answers = []; named = []; own = []; may = []; world = w }
+course rules room w (line ∷ lines) =
+    let a : After = after_here rules room w line.event line.happening in
+    let rest : Course = course rules room a.world lines in
+    record {
+      answers = a.answer ∷ rest.answers;
+      named = named_by w (act_of line.event) ∷ rest.named;
+      own = own_by rules w (act_of line.event) ∷ rest.own;
+      may = may_here w (act_of line.event) line.happening ∷ rest.may;
+      world = rest.world;
+    }
+
+abbrev pub all_true : List Line → List Bool
+all_true [] = []
+all_true (line ∷ lines) = true ∷ all_true lines
+
+-- what is worked out
+pub record IsCourse (rules : Rules) (room : ℕ) (w : World) (lines : List Line) (answers : List Answer) (v : World) : Type 0 where
+  pub chain : Chain rules room w (events_of lines) answers v
+  pub sound : IsSound rules room v
+
+pub course_is : (laws : ArePeersLawful) (rules : Rules) (room : ℕ) (w : World) (lines : List Line) → AreInRange rules → room < 2 ^ 64 → IsSound rules room w
+    → (course rules room w lines).named ≡ (course rules room w lines).own → (course rules room w lines).may ≡ all_true lines
+    → IsCourse rules room w lines (course rules room w lines).answers (course rules room w lines).world
+course_is laws rules room w [] range few sound same may = record { chain = refl; sound = sound }
+course_is laws rules room w (line ∷ lines) range few sound same may =
+    let u : World = (after_here rules room w line.event line.happening).world in
+    let here : named_by w (act_of line.event) ≡ own_by rules w (act_of line.event) = cc in
+    let there : (course rules room u lines).named ≡ (course rules room u lines).own = cc in
+    let may_now : may_here w (act_of line.event) line.happening ≡ true = cc in
+    let may_then : (course rules room u lines).may ≡ all_true lines = cc in
+    let is = after_is rules room w line.event line.happening here in
+    let acts = may_is rules room w (act_of line.event) line.happening sound may_now in
+    let after_it = after_sound laws rules room w line.event line.happening range few sound acts in
+    let sound_u : IsSound rules room u = subst (λ (a : After). IsSound rules room a.world) is after_it.sound in
+    let rest = course_is laws rules room u lines range few sound_u there may_then in
+    record {
+      chain = (u, record { happening = line.happening; may = acts; is = is }, rest.chain);
+      sound = rest.sound;
+    }
+
+-- what is worked out in room 0, where the answers are those of the lines
+pub record IsWorked (rules : Rules) (w : World) (lines : List Line) (v : World) : Type 0 where
+  pub leads : Leads rules w lines v
+  pub sound : IsSound rules 0 v
+
+pub worked : (laws : ArePeersLawful) (rules : Rules) (w : World) (lines : List Line) → AreInRange rules → IsSound rules 0 w
+    → (course rules 0 w lines).named ≡ (course rules 0 w lines).own → (course rules 0 w lines).may ≡ all_true lines → (course rules 0 w lines).answers ≡ answers_of lines
+    → IsWorked rules w lines (course rules 0 w lines).world
+worked laws rules w lines range sound same may is =
+    let c = course_is laws rules 0 w lines range (omega arith) sound same may in
+    record { leads = subst (λ (answers : List Answer). Chain rules 0 w (events_of lines) answers (course rules 0 w lines).world) is c.chain; sound = c.sound }
