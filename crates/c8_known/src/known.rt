@@ -77,6 +77,13 @@ impl Known {
         self.limit
     }
 
+    /// How many empty sets begin each player's list.
+    pub fn delay(&self) -> u8
+        ensures { result ≡ self.now.delay }
+    {
+        self.delay
+    }
+
     /// How many ticks the own player has made: each enters one key set.
     pub fn ticks(&self) -> u32
         ensures { result ≡ self.now.ticks }

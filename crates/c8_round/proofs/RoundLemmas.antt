@@ -1,8 +1,8 @@
 -- What it means that a leaver may be cut, and what a report changes.
 use Rattle.std.proofs.Common.{◌≡◌, ◌≢◌, ℕ, ◌+◌, ◌-◌, ◌≤◌, ◌⊎◌, inl, inr, List, [], length, Bool, true, false, not, ◌&&◌, ◌||◌, Option, Some, None, refl, sym, ap, ◌∙◌, subst, arith, slice_index_or, slice_set}
 use Rattle.std.specs.Prelude.{max}
-use Rattle.std.specs.List.{range_with_len, AllPass}
-use Rattle.std.proofs.lemmas.Bool.{cases_eq, cases_lt, ne_eqb, leb-true}
+use Rattle.std.specs.List.{range_with_len, list_all, AllPass}
+use Rattle.std.proofs.lemmas.Bool.{cases_eq, cases_lt, ne_eqb, leb-true, both_ways, false_from_ne_true}
 use Rattle.std.proofs.lemmas.List.{get_or-set_same, get_or-set_other, get_or_past, length-set}
 use Rattle.std.proofs.lemmas.List.FromFn.{length-range_with_len, get_or-range_with_len}
 use Rattle.std.proofs.lemmas.List.Sums.{AllPass-from_list_all}
@@ -87,3 +87,12 @@ report_is c leaver stayer held l s n e =
                 ]
           ]
     ]
+
+-- a test that fails at one number of a range
+pub fails_at : (test : ℕ → Bool) (n m : ℕ) → 1 ≤ m → m ≤ n → test m ≡ false → list_all test (range_with_len 1 n) ≡ false
+fails_at test n m from to fails =
+    false_from_ne_true (list_all test (range_with_len 1 n)) (λ all.
+    let each : AllPass test (range_with_len 1 n) = AllPass-from_list_all test (range_with_len 1 n) all in
+    let at : slice_index_or (range_with_len 1 n) (m - 1) 0 ≡ 1 + (m - 1) = get_or-range_with_len 1 n (m - 1) 0 (omega (arith, from, to)) in
+    let here : test m ≡ true = subst (λ (p : ℕ). test p ≡ true) (at ∙ omega (arith, from)) (each (m - 1) 0 (omega (arith, from, to, length-range_with_len 1 n))) in
+    both_ways (test m) fails here)
