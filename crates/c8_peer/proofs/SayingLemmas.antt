@@ -2,7 +2,7 @@
 use Rattle.std.proofs.Common.{◌≡◌, ◌≢◌, ℕ, zero, suc, ◌-◌, ◌/◌, ◌≤◌, List, [], ◌∷◌, ◌++◌, length, take, drop, Bool, true, false, Option, Some, None, Ok, Err, refl, sym, ap, subst, ◌∙◌, inl, inr, arith}
 use Rattle.std.specs.Prelude.{◌==◌, ◌||◌, not, nat_le, is_none}
 use Rattle.std.proofs.lemmas.Bool.{cases_lt, cases_eq, ne_eqb, eqb-true, eqb-false, leb-true, not-false, or_parts, and_parts, both_ways}
-use Rattle.std.proofs.lemmas.List.{get_or_past}
+use Rattle.std.proofs.lemmas.List.{length-drop, get_or_past}
 use Rattle.c8_game.specs.Rules.{Rules, AreInRange}
 use Rattle.c8_wire.specs.Sizes.{longest_run}
 use Rattle.c8_wire.specs.Packet.{Packet}
@@ -10,18 +10,18 @@ use Rattle.c8_known.specs.Journal as journals
 use Rattle.c8_known.specs.Journal.{Record, Head, Epoch, Own, Got, held, count, has_freeze, has_leave, cut_of}
 use Rattle.c8_known.specs.Known.{PlayerValue, KnownValue, nobody, player_in, count_in, is_frozen_of, is_frozen_in, is_player, known_of, said_of, Plays, IsKnown}
 use Rattle.c8_known.specs.Growth.{Begins}
-use Rattle.c8_known.specs.BeginsLaws.{begins_take}
+use Rattle.c8_known.specs.BeginsLaws.{begins_length, begins_take}
 use Rattle.c8_known.specs.OneMore.{player_known}
 use Rattle.c8_known.specs.StartLaws.{players_known}
 use Rattle.c8_known.specs.Confirmed.{confirmed}
 use Rattle.c8_roll.specs.Roll.{mark_step}
 use Rattle.c8_window.specs.Window.{acked_of}
-use Rattle.c8_round.specs.Round.{answer_from}
+use Rattle.c8_round.specs.Round.{owed, answer_from}
 use Rattle.c8_record.specs.Allowed.{IsJournal, IsOrderly}
 use Rattle.c8_record.specs.JournalLaws.{of_game, journal_known}
 use Rattle.c8_record.specs.LeaverLaws.{journal_orderly}
 use Rattle.c8_peer.specs.State.{Memory, Call, Tick, Deliver, Say, Leave, Decide, Saying, Hello, Welcome, Data, Freeze, Frozen, Cut, Said, Outcome}
-use Rattle.c8_peer.specs.Saying.{is_not_mine, lacks_record, lacks_link, run_from, cut_length, cut_start, message, packet, say}
+use Rattle.c8_peer.specs.Saying.{is_not_mine, lacks_record, lacks_link, run_from, cut_length, message, packet, say}
 use Rattle.c8_peer.specs.Steps.{outcome}
 use Rattle.c8_peer.specs.Truth.{Stands, IsFrozenAt, IsTrueMessage, IsTrue}
 use Rattle.c8_peer.specs.TruthLaws.{count_rises}
@@ -153,8 +153,13 @@ said_is rules me q journal plays =
 count_is : (rules : Rules) (me q : ℕ) (journal : List Record) → Plays (known_of rules me journal) q → count_in (known_of rules me journal) q ≡ count rules q journal
 count_is rules me q journal plays = ap (λ (p : PlayerValue). length p.held) (said_is rules me q journal plays)
 
-stands_in : (xs ys : List ℕ) (n start : ℕ) → xs ≡ ys → Stands start (take n (drop start xs)) ys
-stands_in xs ys n start same = subst (λ (zs : List ℕ). Begins (take n (drop start xs)) (drop start zs)) same (begins_take n (drop start xs))
+stands_in : (xs ys : List ℕ) (n start : ℕ) → xs ≡ ys → start ≤ length xs → Stands start (take n (drop start xs)) ys
+stands_in xs ys n start same from =
+    let most = begins_length (take n (drop start xs)) (drop start xs) (begins_take n (drop start xs)) in
+    record {
+      within = omega (arith, from, most, length-drop start xs, ap (λ (zs : List ℕ). length zs) same);
+      is = subst (λ (zs : List ℕ). Begins (take n (drop start xs)) (drop start zs)) same (begins_take n (drop start xs));
+    }
 
 -- ---- each kind
 
@@ -164,22 +169,22 @@ TrueOf rules me journal m to what = IsTrueMessage rules me to journal (message r
 welcome_true : (rules : Rules) (me : ℕ) (journal : List Record) (m : Memory) (to : ℕ) → Plays (known_of rules me journal) to → TrueOf rules me journal m to Welcome
 welcome_true rules me journal m to plays = omega (arith, count_is rules me to journal plays)
 
-data_true : (rules : Rules) (me : ℕ) (journal : List Record) (m : Memory) (to : ℕ) → IsKnown (known_of rules me journal) → Plays (known_of rules me journal) to → TrueOf rules me journal m to Data
-data_true rules me journal m to known plays =
+data_true : (rules : Rules) (me : ℕ) (journal : List Record) (m : Memory) (to : ℕ) → IsKnown (known_of rules me journal) → acked_of m.acks to ≤ count rules me journal → Plays (known_of rules me journal) to → TrueOf rules me journal m to Data
+data_true rules me journal m to known acked plays =
     let k : KnownValue = known_of rules me journal in
     let own : (player_in k k.me).held ≡ held rules me journal =
     ap (λ (p : PlayerValue). p.held) (said_is rules me k.me journal known.me) ∙ ap (λ (q : ℕ). held rules q journal) (own_player rules me journal) in (
       omega (arith, count_is rules me to journal plays),
-      stands_in (player_in k k.me).held (held rules me journal) longest_run (acked_of m.acks to) own,
+      stands_in (player_in k k.me).held (held rules me journal) longest_run (acked_of m.acks to) own (omega (arith, acked, ap (λ (xs : List ℕ). length xs) own)),
       record { steps = confirmed k / mark_step; at = refl; confirmed = omega arith; is = refl },
     )
 
 leaver_of : (rules : Rules) (me q : ℕ) (journal : List Record) → IsOrderly (known_of rules me journal) → is_frozen_in (known_of rules me journal) q ≡ true → Plays (known_of rules me journal) q
 leaver_of rules me q journal orderly leaves = leaver_plays (known_of rules me journal) q (is_leaver (known_of rules me journal) q orderly leaves)
 
-run_stands : (rules : Rules) (me q start : ℕ) (journal : List Record) → Plays (known_of rules me journal) q → Stands start (run_from (known_of rules me journal) q start) (held rules q journal)
-run_stands rules me q start journal plays =
-    stands_in (player_in (known_of rules me journal) q).held (held rules q journal) longest_run start (ap (λ (p : PlayerValue). p.held) (said_is rules me q journal plays))
+run_stands : (rules : Rules) (me q start : ℕ) (journal : List Record) → Plays (known_of rules me journal) q → start ≤ count_in (known_of rules me journal) q → Stands start (run_from (known_of rules me journal) q start) (held rules q journal)
+run_stands rules me q start journal plays from =
+    stands_in (player_in (known_of rules me journal) q).held (held rules q journal) longest_run start (ap (λ (p : PlayerValue). p.held) (said_is rules me q journal plays)) from
 
 freeze_true : (rules : Rules) (me : ℕ) (journal : List Record) (m : Memory) (to leaver : ℕ) → IsOrderly (known_of rules me journal)
     → is_not_mine (known_of rules me journal) to (Freeze leaver) ≡ false → lacks_record (known_of rules me journal) (Freeze leaver) ≡ false → TrueOf rules me journal m to (Freeze leaver)
@@ -202,7 +207,7 @@ frozen_true rules me journal m to leaver orderly has =
     let all = count_is rules me leaver journal plays in (
       frozen_at rules leaver journal (count_in k leaver) (sym (ap (λ (p : PlayerValue). p.frozen) (said_is rules me leaver journal plays)) ∙ frozen) all,
       omega (arith, all),
-      run_stands rules me leaver (answer_from m.stayer k leaver) journal plays,
+      run_stands rules me leaver (answer_from m.stayer k leaver) journal plays (omega arith),
     )
 
 pub some_cut : (o : Option ℕ) → is_none o ≡ false → o ≡ Some (cut_length o)
@@ -218,17 +223,17 @@ cut_true rules me journal m to leaver orderly known mine has =
     let one : k.me ≡ 1 = eqb-true k.me 1 (not-false (k.me == 1) mine) in (
       sym (own_player rules me journal) ∙ one,
       sym (ap (λ (p : PlayerValue). p.cut) (said_is rules me leaver journal plays)) ∙ cut,
-      run_stands rules me leaver (cut_start k m to leaver) journal plays,
+      run_stands rules me leaver (owed m.chair k to leaver) journal plays (omega arith),
     )
 
-message_true : (rules : Rules) (me : ℕ) (journal : List Record) (m : Memory) (to : ℕ) (what : Saying) → IsOrderly (known_of rules me journal) → IsKnown (known_of rules me journal)
+message_true : (rules : Rules) (me : ℕ) (journal : List Record) (m : Memory) (to : ℕ) (what : Saying) → IsOrderly (known_of rules me journal) → IsKnown (known_of rules me journal) → acked_of m.acks to ≤ count rules me journal
     → Plays (known_of rules me journal) to → is_not_mine (known_of rules me journal) to what ≡ false → lacks_record (known_of rules me journal) what ≡ false → TrueOf rules me journal m to what
-message_true rules me journal m to Hello orderly known plays mine has = tt
-message_true rules me journal m to Welcome orderly known plays mine has = welcome_true rules me journal m to plays
-message_true rules me journal m to Data orderly known plays mine has = data_true rules me journal m to known plays
-message_true rules me journal m to (Freeze leaver) orderly known plays mine has = freeze_true rules me journal m to leaver orderly mine has
-message_true rules me journal m to (Frozen leaver) orderly known plays mine has = frozen_true rules me journal m to leaver orderly has
-message_true rules me journal m to (Cut leaver) orderly known plays mine has = cut_true rules me journal m to leaver orderly known mine has
+message_true rules me journal m to Hello orderly known acked plays mine has = tt
+message_true rules me journal m to Welcome orderly known acked plays mine has = welcome_true rules me journal m to plays
+message_true rules me journal m to Data orderly known acked plays mine has = data_true rules me journal m to known acked plays
+message_true rules me journal m to (Freeze leaver) orderly known acked plays mine has = freeze_true rules me journal m to leaver orderly mine has
+message_true rules me journal m to (Frozen leaver) orderly known acked plays mine has = frozen_true rules me journal m to leaver orderly has
+message_true rules me journal m to (Cut leaver) orderly known acked plays mine has = cut_true rules me journal m to leaver orderly known mine has
 
 -- ---- all of it
 
@@ -245,5 +250,5 @@ said_true rules me room journal m call p range from to journal_is is fits said =
     subst (λ (one : Packet). IsTrue rules me journal one) (sym s.is) (record {
       from = is.player;
       epoch = is.epoch;
-      message = message_true rules me journal m s.to s.what (journal_orderly rules me room journal journal_is) known s.plays s.mine s.has;
+      message = message_true rules me journal m s.to s.what (journal_orderly rules me room journal journal_is) known (is.acked s.to) s.plays s.mine s.has;
     })

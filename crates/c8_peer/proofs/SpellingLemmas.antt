@@ -21,14 +21,14 @@ use Rattle.c8_known.specs.Confirmed.{confirmed, rows_below}
 use Rattle.c8_known.specs.ConfirmedLaws.{confirmed_is}
 use Rattle.c8_roll.specs.Roll.{mark_step}
 use Rattle.c8_window.specs.Window.{acked_of}
-use Rattle.c8_round.specs.Round.{answer_from}
+use Rattle.c8_round.specs.Round.{owed, answer_from}
 use Rattle.c8_record.specs.Body.{HasSpelling}
 use Rattle.c8_record.specs.Allowed.{IsJournal, IsOrderly}
 use Rattle.c8_record.specs.JournalLaws.{journal_known}
 use Rattle.c8_record.specs.LeaverLaws.{journal_orderly}
 use Rattle.c8_peer.proofs.DigestLemmas.{digest_length, digest_bytes_fit}
 use Rattle.c8_peer.specs.State.{Memory, Call, Saying, Hello, Welcome, Data, Freeze, Frozen, Cut, Said}
-use Rattle.c8_peer.specs.Saying.{lacks_record, run_from, cut_length, cut_start, message}
+use Rattle.c8_peer.specs.Saying.{lacks_record, run_from, cut_length, message}
 use Rattle.c8_peer.specs.Steps.{outcome}
 use Rattle.c8_peer.specs.Lawful.{IsMemory, IsCall}
 use Rattle.c8_peer.proofs.SayingLemmas.{IsLeaver, is_leaver, leaver_plays, frozen_or, leaving_or, some_cut, own_player, said_is, what_is_said}
@@ -187,8 +187,8 @@ frozen_spelled rules k m to leaver known leaves words = record {
 cut_spelled : (rules : Rules) (k : KnownValue) (m : Memory) (to leaver : ℕ) → IsKnown k → IsLeaver k leaver → count_in k leaver ≡ cut_length (player_in k leaver).cut
     → AreWords (player_in k leaver).held → IsSpelled (message rules k m to (Cut leaver))
 cut_spelled rules k m to leaver known leaves all words = record {
-  fits = run_words (player_in k leaver).held (cut_start k m to leaver) words;
-  may = leaver_spelled k leaver (cut_length (player_in k leaver).cut) (cut_start k m to leaver) known leaves all (omega arith);
+  fits = run_words (player_in k leaver).held (owed m.chair k to leaver) words;
+  may = leaver_spelled k leaver (cut_length (player_in k leaver).cut) (owed m.chair k to leaver) known leaves all (omega (arith, all));
 }
 
 message_spelled : (rules : Rules) (me room : ℕ) (journal : List Record) (m : Memory) (to : ℕ) (what : Saying) → IsJournal rules me room journal → IsMemory rules room me journal m

@@ -26,9 +26,10 @@ abbrev pub opening_record : Rules → ℕ → ℕ → List Record → Record
 opening_record rules room me [] = Head me (id_of rules) room
 opening_record rules room me (r ∷ rest) = Epoch me (epoch (r ∷ rest) + 1)
 
--- What became of an opening: its record stands; the disk refused its record; memory was refused or the disk failed before
+-- What became of an opening: there is no such player in the game; its record stands; the disk refused its record; memory was refused or the disk failed before
 -- all was read, and nothing is settled; what was found is no journal that this peer may open; or its epochs are spent.
 pub data Opening : Type 0 where
+  NoPlayer : Opening
   Stands : Opening
   NotWritten : DiskError → Opening
   NoMemory : Opening
@@ -58,17 +59,19 @@ opened rules room me s found Stands = record {
   };
 }
 opened rules room me s found (NotWritten why) = record { reply = Opened (Err (opens.Disk why)); state = away s found (Some (opening_record rules room me found)) }
+opened rules room me s found NoPlayer = record { reply = Opened (Err opens.WrongPlayer); state = away s s.journal s.pending }
 opened rules room me s found NoMemory = record { reply = Opened (Err opens.Memory); state = away s s.journal s.pending }
 opened rules room me s found (NotRead why) = record { reply = Opened (Err (opens.Disk why)); state = away s s.journal s.pending }
 opened rules room me s found (Unfit error) = record { reply = Opened (Err (unfit error)); state = away s found None }
 opened rules room me s found Spent = record { reply = Opened (Err opens.EpochsSpent); state = away s found None }
 
--- What may become of it: the record is written, or tried, only over a journal of this player, game and room whose epochs
--- are not spent; a journal is refused only for what is wrong with its bodies.
+-- What may become of it, for a player of the game: the record is written, or tried, only over a journal of this player, game
+-- and room whose epochs are not spent; a journal is refused only for what is wrong with its bodies.
 abbrev pub MayBecome : Rules → ℕ → ℕ → List Record → Opening → Type 0
-MayBecome rules room me found Stands = IsJournal rules me room found × (epoch found < last_epoch)
-MayBecome rules room me found (NotWritten why) = IsJournal rules me room found × (epoch found < last_epoch)
-MayBecome rules room me found NoMemory = Unit {0}
-MayBecome rules room me found (NotRead why) = Unit {0}
-MayBecome rules room me found (Unfit error) = IsRefusal rules me room (map body_of found) error
-MayBecome rules room me found Spent = IsJournal rules me room found × (last_epoch ≤ epoch found)
+MayBecome rules room me found NoPlayer = rules.players < me
+MayBecome rules room me found Stands = IsJournal rules me room found × (epoch found < last_epoch) × (me ≤ rules.players)
+MayBecome rules room me found (NotWritten why) = IsJournal rules me room found × (epoch found < last_epoch) × (me ≤ rules.players)
+MayBecome rules room me found NoMemory = me ≤ rules.players
+MayBecome rules room me found (NotRead why) = me ≤ rules.players
+MayBecome rules room me found (Unfit error) = IsRefusal rules me room (map body_of found) error × (me ≤ rules.players)
+MayBecome rules room me found Spent = IsJournal rules me room found × (last_epoch ≤ epoch found) × (me ≤ rules.players)

@@ -1,5 +1,5 @@
 -- What a peer says when it is asked to, or why it does not. Each line is a refusal, in the order in which they are judged.
-use Rattle.std.specs.Prelude.{ℕ, ◌*◌, ◌/◌, ◌==◌, ◌||◌, List, take, drop, min, Bool, false, not, is_none, Option, Some, None, Ok, Err, if◌then◌else◌}
+use Rattle.std.specs.Prelude.{ℕ, ◌*◌, ◌/◌, ◌==◌, ◌||◌, List, take, drop, Bool, false, not, is_none, Option, Some, None, Ok, Err, if◌then◌else◌}
 use Rattle.c8_game.specs.Rules.{Rules}
 use Rattle.c8_wire.specs.Sizes.{longest_run}
 use Rattle.c8_wire.specs.Packet.{Message, Packet, kind_of}
@@ -10,7 +10,7 @@ use Rattle.c8_known.specs.Confirmed.{confirmed}
 use Rattle.c8_digest.specs.declared.marks.FrameMark.{FrameMark}
 use Rattle.c8_roll.specs.Roll.{mark_step, mark_after}
 use Rattle.c8_window.specs.Window.{acked_of, pending_of}
-use Rattle.c8_round.specs.Round.{report_of, or_delay, answer_from}
+use Rattle.c8_round.specs.Round.{owed, answer_from}
 use Rattle.c8_peer.specs.declared.error.Unsayable.TheVariants as unsayables
 use Rattle.c8_peer.specs.State.{Memory, Saying, Hello, Welcome, Data, Freeze, Frozen, Cut, Said, Outcome, answered}
 
@@ -58,10 +58,6 @@ abbrev pub cut_length : Option ℕ → ℕ
 cut_length None = 0
 cut_length (Some K) = K
 
--- where a CUT starts: after what the player answered to hold
-abbrev pub cut_start : KnownValue → Memory → ℕ → ℕ → ℕ
-cut_start k m to leaver = min (cut_length (player_in k leaver).cut) (or_delay k (report_of m.chair leaver to))
-
 abbrev pub message : Rules → KnownValue → Memory → ℕ → Saying → Message
 message rules k m to Hello = packets.Hello
 message rules k m to Welcome = packets.Welcome (count_in k to)
@@ -82,8 +78,8 @@ message rules k m to (Frozen leaver) = packets.Frozen (record {
 message rules k m to (Cut leaver) = packets.Cut (record {
   leaver = leaver;
   length = cut_length (player_in k leaver).cut;
-  start = cut_start k m to leaver;
-  words = run_from k leaver (cut_start k m to leaver);
+  start = owed m.chair k to leaver;
+  words = run_from k leaver (owed m.chair k to leaver);
 })
 
 abbrev pub packet : Rules → KnownValue → Memory → ℕ → Saying → Packet

@@ -1,5 +1,5 @@
 -- When a datagram is true of a journal of its sender.
-use Rattle.std.specs.Prelude.{◌≡◌, ℕ, ◌*◌, ◌≤◌, List, ◌∷◌, ◌++◌, drop, true, Some}
+use Rattle.std.specs.Prelude.{◌≡◌, ℕ, ◌*◌, ◌≤◌, List, ◌∷◌, ◌++◌, drop, true, Some, ◌+◌, length}
 use Rattle.c8_game.specs.Rules.{Rules}
 use Rattle.c8_machine.specs.Serial.{serial}
 use Rattle.c8_digest.specs.StateBytes.{mark_of}
@@ -11,9 +11,10 @@ use Rattle.c8_known.specs.Confirmed.{confirmed, rows_below}
 use Rattle.c8_known.specs.Growth.{Begins}
 use Rattle.c8_roll.specs.Roll.{mark_step}
 
--- a run stands in a list at a start
-abbrev pub Stands : ℕ → List ℕ → List ℕ → Type 0
-Stands start words list = Begins words (drop start list)
+-- A run stands in a list at a start: the list reaches to its end, and has these inputs there.
+pub record Stands (start : ℕ) (words list : List ℕ) : Type 0 where
+  pub within : start + length words ≤ length list
+  pub is : Begins words (drop start list)
 
 -- the mark is that of the machine after so many first confirmed rows, a multiple of 32
 pub record IsTrueMark (rules : Rules) (me : ℕ) (journal : List Record) (frame : ℕ) (mark : List ℕ) : Type 0 where

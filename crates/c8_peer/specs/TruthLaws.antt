@@ -22,7 +22,13 @@ pub rows_same : (early late : KnownValue) (n : ℕ) → IsStillKnown early late 
 rows_same early late n still within = map_same (row late) (row early) 0 n (λ frame below. row_stays early late still frame (omega (arith, below, within)))
 
 pub stands_longer : (start : ℕ) (words short long : List ℕ) → Begins short long → Stands start words short → Stands start words long
-stands_longer start words short long begins stands = begins_more words (drop start short) (drop start long) stands (begins_drop start short long begins)
+stands_longer start words short long begins stands =
+    let within = stands.within in
+    let rises = begins_length short long begins in
+    record {
+      within = omega (arith, within, rises);
+      is = begins_more words (drop start short) (drop start long) stands.is (begins_drop start short long begins);
+    }
 
 pub count_rises : (rules : Rules) (q : ℕ) (journal rest : List Record) → count rules q journal ≤ count rules q (journal ++ rest)
 count_rises rules q journal rest = begins_length (held rules q journal) (held rules q (journal ++ rest)) (held_begins rules q journal rest)
@@ -83,3 +89,8 @@ pub confirmed_stays : (rules : Rules) (me room n : ℕ) (journal rest : List Rec
     → IsJournal rules me room (journal ++ rest) → n ≤ confirmed (known_of rules me journal) → rows_below (known_of rules me (journal ++ rest)) n ≡ rows_below (known_of rules me journal) n
 confirmed_stays rules me room n journal rest range from to is within =
     rows_same (known_of rules me journal) (known_of rules me (journal ++ rest)) n (journal_grows rules me room journal rest range from to is) within
+
+pub confirmed_counts : (rules : Rules) (me room : ℕ) (journal rest : List Record) → AreInRange rules → 1 ≤ me → me ≤ rules.players
+    → IsJournal rules me room (journal ++ rest) → confirmed (known_of rules me journal) ≤ confirmed (known_of rules me (journal ++ rest))
+confirmed_counts rules me room journal rest range from to is =
+    confirmed_rises (known_of rules me journal) (known_of rules me (journal ++ rest)) (journal_grows rules me room journal rest range from to is)

@@ -28,8 +28,8 @@ pub enum OpenError {
     /// Memory was refused, before the disk was touched.
     #[error("out of memory")]
     Memory,
-    /// The disk refused a call. The next opening finds the journal as it was, or with the record that this one
-    /// would have added.
+    /// The disk refused a call. The next opening finds the journal as it was, or with one record
+    /// more: the one that this opening would have added, or one that was pending before.
     #[error("the disk refused a call")]
     Disk(DiskError),
 }

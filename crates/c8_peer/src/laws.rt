@@ -21,10 +21,15 @@ pub fn what_is_true_stays()
         → IsTrue rules me (journal ++ rest) p }
 {}
 
-/// Rows that are confirmed by a journal are so by every journal that the rules allow and that it
-/// begins.
+/// Frames that are confirmed by a journal are so by every journal that the rules allow and that it
+/// begins, with the same rows.
 pub fn what_is_confirmed_stays()
-    ensures { (rules : Rules) (me room n : ℕ) (journal rest : List Record)
+    ensures counts { (rules : Rules) (me room : ℕ) (journal rest : List Record)
+        → AreInRange rules → 1 ≤ me → me ≤ rules.players
+        → IsJournal rules me room (journal ++ rest)
+        → confirmed (known_of rules me journal)
+        ≤ confirmed (known_of rules me (journal ++ rest)) }
+    ensures rows { (rules : Rules) (me room n : ℕ) (journal rest : List Record)
         → AreInRange rules → 1 ≤ me → me ≤ rules.players
         → IsJournal rules me room (journal ++ rest) → n ≤ confirmed (known_of rules me journal)
         → rows_below (known_of rules me (journal ++ rest)) n

@@ -12,7 +12,7 @@ use Rattle.c8_peer.specs.declared.error.Refused.TheVariants.{BadAck, Desync, Kno
 use Rattle.c8_peer.specs.State as states
 use Rattle.c8_peer.specs.State.{Mode, Down, Away, State, Call, Outcome, Delivered}
 use Rattle.c8_peer.specs.Steps.{outcome, Luck, Works, Refuses, refused_by_disk, Stepped, done, at_mode, step}
-use Rattle.c8_peer.specs.Opening.{Opening, Stands, NotWritten, NoMemory, NotRead, Unfit, Spent, found, opened}
+use Rattle.c8_peer.specs.Opening.{Opening, NoPlayer, Stands, NotWritten, NoMemory, NotRead, Unfit, Spent, found, opened}
 use Rattle.c8_world.specs.Below.{ArePeersLawful}
 use Rattle.c8_world.specs.World.{World, is_player, peer_of, journal_of, Act, Open, Tick, Say, Give, Leave, Decide, Event, Do, Stop, Happening, Answer, Told, NoSuch, After, call_at_mode, call_at, open_at_mode, give_to, acted, after, CanHappen, IsReached}
 use Rattle.c8_world.specs.Agreement.{IsPlayer, IsUndropped, NobodyLeaves, refused_for}
@@ -101,6 +101,7 @@ never_desync laws rules room w v p number packet answer range few reached stays 
 opened_otherwise : (rules : Rules) (room p : ℕ) (s : State) (journal : List Record) (outcome : Opening) (why : Refused) → Told (opened rules room p s journal outcome).reply ≢ refused_for why
 opened_otherwise rules room p s journal Stands why = λ e. cc e
 opened_otherwise rules room p s journal (NotWritten error) why = λ e. cc e
+opened_otherwise rules room p s journal NoPlayer why = λ e. cc e
 opened_otherwise rules room p s journal NoMemory why = λ e. cc e
 opened_otherwise rules room p s journal (NotRead error) why = λ e. cc e
 opened_otherwise rules room p s journal (Unfit error) why = λ e. cc e

@@ -50,7 +50,7 @@ pub no_difference : (rules : Rules) (room : ℕ) (J : ℕ → List Record) (p q 
 no_difference rules room J p q start words sound plays q_plays stands =
     let same : (player_in (known_of rules p (J p)) q).held ≡ held rules q (J p) = ap (λ (v : PlayerValue). v.held) (said_known rules p q (J p) q_plays) in
     subst (λ (xs : List ℕ). differ (drop start xs) words ≡ false) (sym same)
-    (begin_one (drop start (held rules q (J p))) words (drop start (held rules q (J q))) (begins_drop start (held rules q (J p)) (held rules q (J q)) (sound.begins p q plays q_plays)) stands)
+    (begin_one (drop start (held rules q (J p))) words (drop start (held rules q (J q))) (begins_drop start (held rules q (J p)) (held rules q (J q)) (sound.begins p q plays q_plays)) stands.is)
 
 some_past : (test : Bool) (x error : KnownError) (others : Option KnownError) → cond test (Some x) others ≡ Some error → x ≢ knowns.Differs → (others ≡ Some error → error ≢ knowns.Differs) → error ≢ knowns.Differs
 some_past true x error others e apart rest = λ same. let here : x ≡ error = cc in apart (here ∙ same)

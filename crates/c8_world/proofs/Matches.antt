@@ -371,7 +371,7 @@ refuses_other id room long fit few other = record {
   end = (acted (two 100 8) 0 (with_head id room) (Open 1) refuses).world;
   refused = record {
     happening = refuses;
-    may = λ plays. (1, id, room, (body_of (Head 1 id room), refl, record { has = head_spelled id room long fit few; is = refl }), other);
+    may = λ plays. ((1, id, room, (body_of (Head 1 id room), refl, record { has = head_spelled id room long fit few; is = refl }), other), omega arith);
     is = refl;
   };
   stays = refl;

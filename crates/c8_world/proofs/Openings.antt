@@ -1,5 +1,5 @@
 -- What a reading finds of a player's disk is a journal, so that no opening refuses it.
-use Rattle.std.proofs.Common.{◌≡◌, ℕ, ◌^◌, ◌<◌, List, ◌++◌, Bool, true, false, cond, Option, Some, None, sym, subst, refl}
+use Rattle.std.proofs.Common.{arith, ◌≡◌, ℕ, ◌^◌, ◌<◌, List, ◌++◌, Bool, true, false, cond, Option, Some, None, sym, subst, refl}
 use Rattle.std.specs.Prelude.{if◌then◌else◌, option_to_list}
 use Rattle.std.proofs.lemmas.Bool.{le-leb, both_ways}
 use Rattle.std.proofs.lemmas.List.{append-nil}
@@ -10,7 +10,7 @@ use Rattle.c8_record.specs.JournalLaws.{journal_more}
 use Rattle.c8_record.specs.RefusalLaws.{journal_not_refused}
 use Rattle.c8_peer.specs.State as states
 use Rattle.c8_peer.specs.State.{Mode, Down, Away, State}
-use Rattle.c8_peer.specs.Opening.{Opening, Stands, NotWritten, NoMemory, NotRead, Unfit, Spent, found, opened, MayBecome}
+use Rattle.c8_peer.specs.Opening.{Opening, NoPlayer, Stands, NotWritten, NoMemory, NotRead, Unfit, Spent, found, opened, MayBecome}
 use Rattle.c8_world.specs.Below.{ArePeersLawful}
 use Rattle.c8_world.specs.World.{World, is_player, peer_of, journal_of, Open, Do, Happening, Answer, Told, After, open_at_mode, open_at, acted, CanHappen, IsReached}
 use Rattle.c8_world.specs.Agreement.{IsPlayer, IsFit}
@@ -28,20 +28,21 @@ found_by rules room w p true (Some r) sound plays e =
 found_valid : (rules : Rules) (room : ℕ) (w : World) (p : ℕ) (finds : Bool) → IsSound rules room w → IsPlayer rules p → IsJournal rules p room (found (peer_of w p) finds)
 found_valid rules room w p finds sound plays = found_by rules room w p finds (peer_of w p).pending sound plays refl
 
-opened_fit : (rules : Rules) (room p : ℕ) (s : State) (journal : List Record) (outcome : Opening) → IsJournal rules p room journal → MayBecome rules room p journal outcome
+opened_fit : (rules : Rules) (room p : ℕ) (s : State) (journal : List Record) (outcome : Opening) → IsPlayer rules p → IsJournal rules p room journal → MayBecome rules room p journal outcome
     → IsFit (Told (opened rules room p s journal outcome).reply)
-opened_fit rules room p s journal Stands is may = record { game = λ e. cc e; player = λ e. cc e; records = λ n e. cc e }
-opened_fit rules room p s journal (NotWritten why) is may = record { game = λ e. cc e; player = λ e. cc e; records = λ n e. cc e }
-opened_fit rules room p s journal NoMemory is may = record { game = λ e. cc e; player = λ e. cc e; records = λ n e. cc e }
-opened_fit rules room p s journal (NotRead why) is may = record { game = λ e. cc e; player = λ e. cc e; records = λ n e. cc e }
-opened_fit rules room p s journal (Unfit error) is may = absurd (journal_not_refused rules p room journal error is may)
-opened_fit rules room p s journal Spent is may = record { game = λ e. cc e; player = λ e. cc e; records = λ n e. cc e }
+opened_fit rules room p s journal Stands plays is may = record { game = λ e. cc e; player = λ e. cc e; records = λ n e. cc e }
+opened_fit rules room p s journal (NotWritten why) plays is may = record { game = λ e. cc e; player = λ e. cc e; records = λ n e. cc e }
+opened_fit rules room p s journal NoPlayer plays is may = let in_game = plays.in_game in absurd (omega (arith, may, in_game))
+opened_fit rules room p s journal NoMemory plays is may = record { game = λ e. cc e; player = λ e. cc e; records = λ n e. cc e }
+opened_fit rules room p s journal (NotRead why) plays is may = record { game = λ e. cc e; player = λ e. cc e; records = λ n e. cc e }
+opened_fit rules room p s journal (Unfit error) plays is may = absurd (journal_not_refused rules p room journal error is may.0)
+opened_fit rules room p s journal Spent plays is may = record { game = λ e. cc e; player = λ e. cc e; records = λ n e. cc e }
 
 mode_fit : (rules : Rules) (room : ℕ) (w : World) (p : ℕ) (h : Happening) (mode : Mode) → IsSound rules room w → IsPlayer rules p → MayBecome rules room p (found (peer_of w p) h.finds) h.opening
     → IsFit (open_at_mode rules room w p h mode).answer
 mode_fit rules room w p h states.Open sound plays may = record { game = λ e. cc e; player = λ e. cc e; records = λ n e. cc e }
-mode_fit rules room w p h Down sound plays may = opened_fit rules room p (peer_of w p) (found (peer_of w p) h.finds) h.opening (found_valid rules room w p h.finds sound plays) may
-mode_fit rules room w p h Away sound plays may = opened_fit rules room p (peer_of w p) (found (peer_of w p) h.finds) h.opening (found_valid rules room w p h.finds sound plays) may
+mode_fit rules room w p h Down sound plays may = opened_fit rules room p (peer_of w p) (found (peer_of w p) h.finds) h.opening plays (found_valid rules room w p h.finds sound plays) may
+mode_fit rules room w p h Away sound plays may = opened_fit rules room p (peer_of w p) (found (peer_of w p) h.finds) h.opening plays (found_valid rules room w p h.finds sound plays) may
 
 plays_so : (rules : Rules) (p : ℕ) → IsPlayer rules p → is_player rules p ≡ true
 plays_so rules p plays = rw (le-leb 1 p plays.from_one, le-leb p rules.players plays.in_game) refl

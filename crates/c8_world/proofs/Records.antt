@@ -8,11 +8,12 @@ use Rattle.c8_game.specs.Rules.{Rules}
 use Rattle.c8_known.specs.Journal.{Record, Head, Epoch, Own, Got, Freeze, Leave, Cut, player_of, words_of, cuts_of, held, count, has_freeze, has_leave, cut_of}
 use Rattle.c8_known.specs.Known.{PlayerValue, KnownValue, player_in, count_in, said_of, known_of}
 use Rattle.c8_known.specs.Growth.{Begins}
-use Rattle.c8_known.specs.BeginsLaws.{begins_more, begins_fresh, begins_drop}
+use Rattle.c8_known.specs.BeginsLaws.{begins_fresh}
 use Rattle.c8_known.specs.OneMore.{player_known}
 use Rattle.c8_known.specs.StartLaws.{players_known}
 use Rattle.c8_record.specs.Allowed.{IsAllowed, IsOrderly}
 use Rattle.c8_record.specs.LeaverLaws.{journal_orderly}
+use Rattle.c8_peer.specs.TruthLaws.{stands_longer}
 use Rattle.c8_peer.specs.Truth.{Stands, IsFrozenAt}
 use Rattle.c8_world.specs.Agreement.{IsPlayer}
 use Rattle.c8_world.proofs.Journals.{AreSound, Fits}
@@ -157,13 +158,13 @@ fits_own rules room J p start word sound plays allowed =
 -- new inputs of a player, of a run that stands in what it entered
 adds_fresh : (rules : Rules) (room : ℕ) (J : ℕ → List Record) (p q start : ℕ) (words : List ℕ) → AreSound rules room J → IsPlayer rules p → IsPlayer rules q
     → start ≤ count rules q (J p) → Stands start words (held rules q (J q)) → Begins (held rules q (J p) ++ drop (count rules q (J p) - start) words) (held rules q (J q))
-adds_fresh rules room J p q start words sound plays q_plays from stands = begins_fresh (held rules q (J p)) words (held rules q (J q)) start (sound.begins p q plays q_plays) from stands
+adds_fresh rules room J p q start words sound plays q_plays from stands = begins_fresh (held rules q (J p)) words (held rules q (J q)) start (sound.begins p q plays q_plays) from stands.is
 
 -- a run that stands in what a player holds stands in what was entered
 pub stands_entered : (rules : Rules) (room : ℕ) (J : ℕ → List Record) (s q start : ℕ) (words : List ℕ) → AreSound rules room J → IsPlayer rules s → IsPlayer rules q
     → Stands start words (held rules q (J s)) → Stands start words (held rules q (J q))
 stands_entered rules room J s q start words sound plays q_plays stands =
-    begins_more words (drop start (held rules q (J s))) (drop start (held rules q (J q))) stands (begins_drop start (held rules q (J s)) (held rules q (J q)) (sound.begins s q plays q_plays))
+    stands_longer start words (held rules q (J s)) (held rules q (J q)) (sound.begins s q plays q_plays) stands
 
 pub fits_got : (rules : Rules) (room : ℕ) (J : ℕ → List Record) (p q at start : ℕ) (words : List ℕ) → AreSound rules room J → IsPlayer rules p → IsPlayer rules q
     → IsAllowed rules p room (J p) (Got q at (drop (count rules q (J p) - start) words)) → start ≤ count rules q (J p) → Stands start words (held rules q (J q))

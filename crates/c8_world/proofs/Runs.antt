@@ -25,7 +25,7 @@ use Rattle.c8_peer.specs.State as states
 use Rattle.c8_peer.specs.State.{Memory, Mode, Down, Away, State, Call, Outcome}
 use Rattle.c8_peer.specs.Steps.{outcome, Luck, done, at_mode}
 use Rattle.c8_peer.specs.Hearing.{refused, unless_misfit, got, differs_from, is_desync, hear_data, hear_message, unless_hand, deliver}
-use Rattle.c8_peer.specs.Opening.{Opening, Stands, NotWritten, NoMemory, NotRead, Unfit, Spent, found, MayBecome, last_epoch}
+use Rattle.c8_peer.specs.Opening.{Opening, NoPlayer, Stands, NotWritten, NoMemory, NotRead, Unfit, Spent, found, MayBecome, last_epoch}
 use Rattle.c8_world.specs.Below.{ArePeersLawful}
 use Rattle.c8_world.specs.World.{World, is_player, peer_of, journal_of, Act, Open, Tick, Say, Give, Leave, Decide, Event, Do, Stop, player_of, Happening, Answer, IsDown, NoSuch, Stopped, After, stepped, call_at_mode, give_to, acted, crashed, after, MayAct, act_of, Chain}
 use Rattle.c8_world.specs.Agreement.{IsPlayer}
@@ -217,6 +217,7 @@ after_is rules room w (Stop act calls pick) h same =
 abbrev pub stands_here : World → ℕ → Happening → Opening → Bool
 stands_here w p h Stands = not h.finds && nat_lt (epoch (journal_of w p)) last_epoch
 stands_here w p h (NotWritten why) = false
+stands_here w p h NoPlayer = false
 stands_here w p h NoMemory = false
 stands_here w p h (NotRead why) = false
 stands_here w p h (Unfit error) = false
@@ -239,8 +240,9 @@ stands_is : (rules : Rules) (room : ℕ) (w : World) (p : ℕ) (h : Happening) (
 stands_is rules room w p h Stands sound plays is =
     let tests = both_hold h.finds (nat_lt (epoch (journal_of w p)) last_epoch) is in
     let finds : found (peer_of w p) h.finds ≡ journal_of w p = ap (λ (b : Bool). found (peer_of w p) b) tests.0 in
-    rw finds (sound.journals.valid p plays, ltb-true (epoch (journal_of w p)) last_epoch tests.1)
+    rw finds (sound.journals.valid p plays, ltb-true (epoch (journal_of w p)) last_epoch tests.1, plays.in_game)
 stands_is rules room w p h (NotWritten why) sound plays is = absurd cc
+stands_is rules room w p h NoPlayer sound plays is = absurd cc
 stands_is rules room w p h NoMemory sound plays is = absurd cc
 stands_is rules room w p h (NotRead why) sound plays is = absurd cc
 stands_is rules room w p h (Unfit error) sound plays is = absurd cc

@@ -19,7 +19,7 @@ use Rattle.c8_record.specs.JournalLaws.{journal_none}
 use Rattle.c8_peer.specs.State as states
 use Rattle.c8_peer.specs.State.{Memory, Mode, Down, Away, State, Call, Reply, Opened, Ticked, Delivered, Said, Left, Decided, Outcome, fresh_memory}
 use Rattle.c8_peer.specs.Steps.{outcome, Luck, Works, Refuses, refused_by_disk, Stepped, done, at_mode, step}
-use Rattle.c8_peer.specs.Opening.{Opening, Stands, NotWritten, NoMemory, NotRead, Unfit, Spent, found, opening_record, away, opened, MayBecome}
+use Rattle.c8_peer.specs.Opening.{Opening, NoPlayer, Stands, NotWritten, NoMemory, NotRead, Unfit, Spent, found, opening_record, away, opened, MayBecome}
 use Rattle.c8_peer.specs.Lawful.{IsMemory, IsCall}
 use Rattle.c8_peer.specs.Truth.{IsTrue}
 use Rattle.c8_peer.specs.TruthLaws.{truth_stays}
@@ -435,6 +435,7 @@ opened_sound laws rules room w p s journal (NotWritten why) range few sound play
       awake = λ mode. absurd (mode refl);
     })
     (λ packet among. absurd (no_item packet among))
+opened_sound laws rules room w p s journal NoPlayer range few sound plays is settled gone may memory read = let in_game = plays.in_game in absurd (omega (arith, may, in_game))
 opened_sound laws rules room w p s journal NoMemory range few sound plays is settled gone may memory read = absurd (memory refl)
 opened_sound laws rules room w p s journal (NotRead why) range few sound plays is settled gone may memory read = absurd (read why refl)
 opened_sound laws rules room w p s journal (Unfit error) range few sound plays is settled gone may memory read =
@@ -466,6 +467,7 @@ settle_open laws rules room w p finds outcome range few sound plays may memory r
 
 open_sound : (laws : ArePeersLawful) (rules : Rules) (room : ℕ) (w : World) (p : ℕ) (finds : Bool) (outcome : Opening) → AreInRange rules → room < 2 ^ 64 → IsSound rules room w → IsPlayer rules p
     → MayBecome rules room p (found (peer_of w p) finds) outcome → Reaches rules room w (stepped w p (opened rules room p (peer_of w p) (found (peer_of w p) finds) outcome)).world
+open_sound laws rules room w p finds NoPlayer range few sound plays may = unread_sound rules room w p range sound plays
 open_sound laws rules room w p finds NoMemory range few sound plays may = unread_sound rules room w p range sound plays
 open_sound laws rules room w p finds (NotRead why) range few sound plays may = unread_sound rules room w p range sound plays
 open_sound laws rules room w p finds Stands range few sound plays may = settle_open laws rules room w p finds Stands range few sound plays may (λ e. cc e) (λ why e. cc e)

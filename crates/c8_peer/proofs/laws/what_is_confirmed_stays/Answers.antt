@@ -1,5 +1,8 @@
-use Rattle.c8_peer.specs.TruthLaws.{confirmed_stays}
+use Rattle.c8_peer.specs.TruthLaws.{confirmed_counts, confirmed_stays}
 use Rattle.c8_peer.proofs.laws.what_is_confirmed_stays.Goals as goal
 
-pub returns : goal.returns
-returns c = confirmed_stays
+pub returns-clause-counts : goal.returns-clause-counts
+returns-clause-counts c = confirmed_counts
+
+pub returns-clause-rows : goal.returns-clause-rows
+returns-clause-rows c = confirmed_stays
