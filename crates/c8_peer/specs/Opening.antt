@@ -26,8 +26,9 @@ abbrev pub opening_record : Rules → ℕ → ℕ → List Record → Record
 opening_record rules room me [] = Head me (id_of rules) room
 opening_record rules room me (r ∷ rest) = Epoch me (epoch (r ∷ rest) + 1)
 
--- What became of an opening: there is no such player in the game; its record stands; the disk refused its record; memory was refused or the disk failed before
--- all was read, and nothing is settled; what was found is no journal that this peer may open; or its epochs are spent.
+-- What became of an opening: there is no such player in the game; its record stands; the disk refused its record; memory was
+-- refused or the disk failed before all was read, and nothing is settled; what was found is no journal that this peer may
+-- open; or its epochs are spent.
 pub data Opening : Type 0 where
   NoPlayer : Opening
   Stands : Opening

@@ -4,7 +4,8 @@
 //! most one record to the journal and says at most one datagram. The definitions are in `specs/`
 //! (the state in `State.antt`, deliveries in `Hearing.antt`, sayings in `Saying.antt`, the other
 //! calls in `Calls.antt`, the step in `Steps.antt`, openings in `Opening.antt`, the truth of a
-//! datagram in `Truth.antt`), and `laws` has what follows from them.
+//! datagram in `Truth.antt`), and `laws` has what follows from them. The calls that are these steps
+//! are to come.
 #![tactic(auto)]
 
 mod error;

@@ -35,12 +35,13 @@ pub record AreSameUpTo (rules : Rules) (a b : KnownValue) (n : ℕ) : Type 0 whe
   pub rows : rows_below a n ≡ rows_below b n
   pub machine : serial rules (rows_below a n) ≡ serial rules (rows_below b n)
 
--- Of peer p at one moment and peer r at a later one, both undropped then: they agree as far as both count frames as
--- confirmed, each by its own moment.
+-- Peer p at one moment and peer r at that or a later one agree as far as both count frames as confirmed, each at its own
+-- moment.
 abbrev pub AgreeUpTo : Rules → World → World → ℕ → ℕ → Type 0
 AgreeUpTo rules earlier later p r = (n : ℕ) → n ≤ confirmed (known_by rules earlier p) → n ≤ confirmed (known_by rules later r)
     → AreSameUpTo rules (known_by rules earlier p) (known_by rules later r) n
 
+-- the same, if both are undropped at the later moment
 abbrev pub Agree : Rules → World → World → ℕ → ℕ → Type 0
 Agree rules earlier later p r = IsUndropped later p → IsUndropped later r → AgreeUpTo rules earlier later p r
 
