@@ -1,10 +1,11 @@
 -- Checked, not believed: what is known stays sound with each record, and stays known.
-use Rattle.std.proofs.Common.{◌≡◌, ◌≢◌, ℕ, zero, suc, ◌+◌, ◌-◌, ◌<◌, ◌≤◌, ◌||◌, List, [], ◌∷◌, ◌++◌, length, Bool, true, false, Option, Some, None, refl, sym, ap, ◌∙◌, inl, inr, append_assoc, length-append, arith, slice_set, slice_index_or}
+use Rattle.std.proofs.Common.{◌≡◌, ◌≢◌, ℕ, zero, suc, ◌+◌, ◌-◌, ◌<◌, ◌≤◌, ◌||◌, List, [], ◌∷◌, ◌++◌, length, Bool, true, false, Option, Some, None, refl, sym, ap, ◌∙◌, inl, inr, length-append, arith, slice_set, slice_index_or}
 use Rattle.std.proofs.lemmas.Bool.{cases_eq}
 use Rattle.std.proofs.lemmas.List.{append-nil, length-set, get_or-set_same, get_or-set_other}
 use Rattle.c8_known.specs.Journal.{Own, Got, Freeze, Leave, Cut}
 use Rattle.c8_known.specs.Known.{PlayerValue, KnownValue, nobody, player_in, count_in, is_frozen_in, with_words, cut_at, with_cut, with_record, Plays, EndsAtCut, IsKnown}
-use Rattle.c8_known.specs.Growth.{Begins, IsStillKnownOf, IsStillKnown}
+use Rattle.c8_known.specs.Growth.{IsStillKnownOf, IsStillKnown}
+use Rattle.c8_known.specs.BeginsLaws.{begins_more}
 
 -- ---- one player is changed, and the number of ticks
 
@@ -214,12 +215,6 @@ cut_in_two k q K start later words plays =
     (sym twice ∙ ap (λ (new : PlayerValue). slice_set (slice_set k.players (q - 1) longer) (q - 1) (with_cut new K)) (sym (ap (λ (x : PlayerValue). with_words x []) there ∙ no_more)))
 
 -- ---- what is still known stays so
-
-begins_same : {X : Type 0} (xs : List X) → Begins xs xs
-begins_same xs = record { rest = []; is = sym (append-nil xs) }
-
-begins_more : {X : Type 0} (xs ys zs : List X) → Begins xs ys → Begins ys zs → Begins xs zs
-begins_more {X = X} xs ys zs one two = record { rest = one.rest ++ two.rest; is = two.is ∙ ap (λ (early : List X). early ++ two.rest) one.is ∙ append_assoc xs one.rest two.rest }
 
 pub still_same : (k : KnownValue) → IsStillKnown k k
 still_same k = record { me = refl; delay = refl; limit = refl; ticks = omega arith; players = refl; each = λ q. still_of_same (player_in k q) }

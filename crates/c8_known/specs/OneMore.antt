@@ -1,17 +1,17 @@
 -- Checked, not believed: what is known by a journal with one record more.
-use Rattle.std.proofs.Common.{◌≡◌, ◌≢◌, ℕ, zero, suc, ◌+◌, ◌-◌, ◌<◌, ◌≤◌, ◌||◌, List, [], ◌∷◌, ◌++◌, map, Bool, true, false, Option, refl, sym, ap, ◌∙◌, append_assoc, arith, slice_set}
+use Rattle.std.proofs.Common.{◌≡◌, ◌≢◌, ℕ, zero, suc, ◌+◌, ◌-◌, ◌<◌, ◌≤◌, ◌||◌, List, [], ◌∷◌, ◌++◌, map, Bool, true, false, Option, refl, sym, ap, ◌∙◌, arith, slice_set}
 use Rattle.std.specs.Prelude.{◌==◌}
 use Rattle.std.specs.List.{range_with_len, slice_get, flat_map}
 use Rattle.std.proofs.Math.Bool.{or-false}
 use Rattle.std.proofs.lemmas.Bool.{eq-eqb, ne_eqb}
 use Rattle.std.proofs.lemmas.Grind.{flat_map-append}
 use Rattle.std.proofs.lemmas.List.{append-nil}
-use Rattle.std.proofs.lemmas.List.Folds.{list_any-append}
 use Rattle.std.proofs.lemmas.List.Sums.{sum_by-append}
 use Rattle.std.proofs.lemmas.List.FromFn.{get_or-map-range_with_len}
 use Rattle.c8_game.specs.Rules.{Rules}
 use Rattle.c8_known.specs.Journal as journals
 use Rattle.c8_known.specs.Journal.{Record, Head, Epoch, Own, Got, Freeze, Leave, Cut, words_of, is_own, freezes, lets_go, cuts_of, player_of}
+use Rattle.c8_known.specs.JournalLaws.{held_next, freeze_next, leave_next}
 use Rattle.c8_known.specs.Known.{PlayerValue, KnownValue, nobody, player_in, said_of, known_of, with_words, cut_at, with_cut, with_record, NamesPlayer}
 
 -- ---- one player's part
@@ -35,18 +35,6 @@ after p q r = record {
   cut = cut_more p.cut (cuts_of q r);
 }
 
-held_more : (rules : Rules) (q : ℕ) (journal : List Record) (r : Record) → journals.held rules q (journal ++ r ∷ []) ≡ journals.held rules q journal ++ words_of q r
-unfolding journals.held
-held_more rules q journal r = rw (flat_map-append (words_of q) journal (r ∷ []), append-nil (words_of q r)) (sym (append_assoc _ (flat_map (words_of q) journal) (words_of q r)))
-
-freeze_more : (q : ℕ) (journal : List Record) (r : Record) → journals.has_freeze q (journal ++ r ∷ []) ≡ journals.has_freeze q journal || freezes q r
-unfolding journals.has_freeze
-freeze_more q journal r = rw (list_any-append (freezes q) journal (r ∷ []), or-false (freezes q r)) refl
-
-leave_more : (q : ℕ) (journal : List Record) (r : Record) → journals.has_leave q (journal ++ r ∷ []) ≡ journals.has_leave q journal || lets_go q r
-unfolding journals.has_leave
-leave_more q journal r = rw (list_any-append (lets_go q) journal (r ∷ []), or-false (lets_go q r)) refl
-
 cut_of_more : (q : ℕ) (journal : List Record) (r : Record) → journals.cut_of q (journal ++ r ∷ []) ≡ cut_more (journals.cut_of q journal) (cuts_of q r)
 unfolding journals.cut_of
 cut_of_more q journal r = rw (flat_map-append (cuts_of q) journal (r ∷ []), append-nil (cuts_of q r)) (first_more (flat_map (cuts_of q) journal) (cuts_of q r))
@@ -56,7 +44,7 @@ same_player : {h₁ h₂ : List ℕ} {f₁ f₂ l₁ l₂ : Bool} {c₁ c₂ : O
 same_player h f l c = λ i. record { held = h i; frozen = f i; leaving = l i; cut = c i }
 
 said_more : (rules : Rules) (q : ℕ) (journal : List Record) (r : Record) → said_of rules q (journal ++ r ∷ []) ≡ after (said_of rules q journal) q r
-said_more rules q journal r = same_player (held_more rules q journal r) (freeze_more q journal r) (leave_more q journal r) (cut_of_more q journal r)
+said_more rules q journal r = same_player (held_next rules q journal r) (freeze_next q journal r) (leave_next q journal r) (cut_of_more q journal r)
 
 -- what says nothing of a player changes nothing
 after_none : (p : PlayerValue) (q : ℕ) (r : Record) → words_of q r ≡ [] → freezes q r ≡ false → lets_go q r ≡ false → cuts_of q r ≡ [] → after p q r ≡ p

@@ -4,7 +4,7 @@ ghost use Rattle.std.specs.Prelude.{◌≡◌, ℕ, ◌^◌, ◌<◌, ◌≤◌,
 ghost use Rattle.c8_game.specs.Rules.{Rules, AreInRange};
 ghost use Rattle.c8_wire.specs.Packet.{Packet, IsPacket};
 ghost use Rattle.c8_known.specs.Journal.{Record, epoch};
-ghost use Rattle.c8_known.specs.Known.{KnownValue, known_of};
+ghost use Rattle.c8_known.specs.Known.{known_of};
 ghost use Rattle.c8_known.specs.Confirmed.{confirmed, rows_below};
 ghost use Rattle.c8_record.specs.Allowed.{IsAllowed, IsJournal};
 ghost use Rattle.c8_peer.specs.State.{Memory, Call, Said, fresh_memory};

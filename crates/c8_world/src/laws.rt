@@ -1,18 +1,17 @@
 //! The theorem that peers agree, over every list of events of a world: each law is the contract of
 //! a function that only calls laws of the crates below. `IsReached` says that some list of events leads to a world, from
 //! the one in which no peer has been opened yet.
-ghost use Rattle.std.specs.Prelude.{◌≡◌, ◌≢◌, ◌⊎◌, ℕ, ◌^◌, ◌<◌, ◌≤◌, List, length, Some, false};
+ghost use Rattle.std.specs.Prelude.{◌≡◌, ◌≢◌, ◌⊎◌, ℕ, ◌^◌, ◌<◌, List, length, Some, false};
 ghost use Rattle.std.specs.List.{slice_get};
 ghost use Rattle.c8_game.specs.Rules.{Rules, AreInRange, id_of};
 ghost use Rattle.c8_wire.specs.Packet.{Packet, AreBytes};
 ghost use Rattle.c8_wire.specs.Spelling.{spelling, Spells};
 ghost use Rattle.c8_known.specs.Journal.{held};
-ghost use Rattle.c8_known.specs.Known.{player_in};
 ghost use Rattle.c8_known.specs.Growth.{Begins};
 ghost use Rattle.c8_known.specs.declared.error.KnownError.TheVariants.{Differs};
 ghost use Rattle.c8_peer.specs.declared.error.Refused.TheVariants.{BadAck, Desync, Known};
 ghost use Rattle.c8_peer.specs.Truth.{IsTrue};
-ghost use Rattle.c8_world.specs.World.{World, Act, Open, Give, Event, Do, Answer, CanHappen, Chain, IsReached, journal_of};
+ghost use Rattle.c8_world.specs.World.{World, Open, Give, Event, Do, Answer, CanHappen, Chain, IsReached, journal_of};
 ghost use Rattle.c8_world.specs.Agreement.{IsPlayer, IsUndropped, NobodyLeaves, AgreeUpTo, Agree, AreEntered, IsBounded, Reads, AgreeByReads, IsAmong, AreLinked, refused_for, IsFit};
 ghost use Rattle.c8_world.specs.Matches.{two, three, four, GoesInTurn, StopsInTick, CutsWhereHeld, CutsAfterRestart, WaitsForSilent, DiffersWhenDropped, EndsAfterLastFrame, RefusesOther};
 
