@@ -43,6 +43,20 @@ impl Links {
         }
     }
 
+    /// Whose links they are.
+    pub fn me(&self) -> Player
+        ensures { result.number ≡ self.now.me }
+    {
+        self.me
+    }
+
+    /// The own epoch.
+    pub fn epoch(&self) -> u32
+        ensures { result ≡ self.now.epoch }
+    {
+        self.epoch
+    }
+
     /// The epoch that is known of a player, 0 if none is.
     pub fn known(&self, player: Player) -> u32
         ensures { result ≡ (link_to self.now player.number).known }

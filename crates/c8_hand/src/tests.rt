@@ -110,6 +110,8 @@ fn begins_closed(rt: HostRuntime) -> Result<(), Fail> {
 fn heads_name_both_epochs(rt: HostRuntime) -> Result<(), Fail> {
     let game = Game::read(rt.alloc(), GAME)?;
     let mut links = Links::new(player_two(), &game, 0, 7);
+    assert_eq!(rt; links.me().number, 2);
+    assert_eq!(rt; links.epoch(), 7);
     let welcome = Header {
         kind: WELCOME,
         session: game.session(0),

@@ -1,13 +1,41 @@
--- Checked, not believed: a run that is not refused stands in the list, once the fresh part of it is taken.
-use Rattle.std.proofs.Common.{◌≡◌, ℕ, zero, suc, ◌+◌, ◌-◌, ◌≤◌, ◌||◌, List, [], ◌∷◌, ◌++◌, length, take, drop, Bool, true, false, not, cond, Option, Some, None, refl, ap, inl, inr, arith}
+-- Checked, not believed: when two lists differ, why a run is refused, and that a run that is not refused stands in the list,
+-- once the fresh part of it is taken.
+use Rattle.std.proofs.Common.{◌≡◌, ◌≢◌, ℕ, zero, suc, ◌+◌, ◌-◌, ◌≤◌, ◌||◌, List, [], ◌∷◌, ◌++◌, length, take, drop, Bool, true, false, not, cond, Option, Some, None, refl, sym, ap, ◌∙◌, inl, inr, arith}
 use Rattle.std.specs.Prelude.{◌==◌, nat_lt}
 use Rattle.std.proofs.Math.Seq.{take-length}
-use Rattle.std.proofs.lemmas.Bool.{cases_eq, both_ways, ne_eqb, ltb-false}
+use Rattle.std.proofs.lemmas.Bool.{cases_eq, both_ways, eq-eqb, ne_eqb, ltb-false}
 use Rattle.std.proofs.lemmas.List.{length-drop}
 use Rattle.c8_known.specs.declared.error.KnownError.{KnownError}
 use Rattle.c8_known.specs.declared.error.KnownError.TheVariants as errors
 use Rattle.c8_known.specs.Known.{KnownValue, player_in, count_in}
 use Rattle.c8_known.specs.Fresh.{differ, is_from_leaver, misfit, refusal, fresh_words}
+
+-- ---- when two lists differ
+
+pub differ_same : (xs : List ℕ) → differ xs xs ≡ false
+unfolding differ
+differ_same [] = refl
+differ_same (x ∷ xs) = rw (eq-eqb x x refl) (differ_same xs)
+
+or_true : (test : Bool) → test || true ≡ true
+or_true true = refl
+or_true false = refl
+
+-- lists of one length that are not the same
+pub differ_apart : (xs ys : List ℕ) → length xs ≡ length ys → xs ≢ ys → differ xs ys ≡ true
+unfolding differ
+differ_apart [] [] long apart = absurd (apart refl)
+differ_apart [] (y ∷ ys) long apart = absurd (omega arith)
+differ_apart (x ∷ xs) [] long apart = absurd (omega arith)
+differ_apart (x ∷ xs) (y ∷ ys) long apart =
+    elim (cases_eq x y) [
+      | inl same ↦
+          let rest = differ_apart xs ys (omega arith) (λ all. apart (cc)) in
+          ap (λ (later : Bool). not (x == y) || later) rest ∙ or_true (not (x == y))
+      | inr other ↦ rw (ne_eqb x y other) refl
+    ]
+
+-- ---- what stands in the list
 
 drop_left : (xs ys : List ℕ) (n : ℕ) → n ≤ length xs → drop n (xs ++ ys) ≡ drop n xs ++ ys
 drop_left xs ys zero within = refl
@@ -35,9 +63,25 @@ stands held words start from same =
     let many : length (drop start held) ≡ length held - start = length-drop start held in
     rw (drop_left held (drop (length held - start) words) start from, ← many) (stands_here (drop start held) words same)
 
+-- ---- why a run is refused
+
 none_past : (test : Bool) (x : KnownError) (others : Option KnownError) → cond test (Some x) others ≡ None → (test ≡ false) × (others ≡ None)
 none_past true x others e = absurd cc
 none_past false x others e = (refl, e)
+
+not_at_first : (test : Bool) (x : KnownError) (others : Option KnownError) → test ≡ false → cond test (Some x) others ≡ others
+not_at_first test x others fails = rw fails refl
+
+-- but for a leaver's own word a run is judged by what is held
+pub misfit_none : (k : KnownValue) (player teller start : ℕ) (words : List ℕ) → refusal k player teller start words ≡ None → misfit k player start words ≡ None
+unfolding refusal
+misfit_none k player teller start words none = (none_past (is_from_leaver k player teller) errors.FromLeaver (misfit k player start words) none).1
+
+pub misfit_is : (k : KnownValue) (player teller start : ℕ) (words : List ℕ) (error : KnownError) → refusal k player teller start words ≡ Some error
+    → is_from_leaver k player teller ≡ false → misfit k player start words ≡ Some error
+unfolding refusal
+misfit_is k player teller start words error is stays =
+    sym (not_at_first (is_from_leaver k player teller) errors.FromLeaver (misfit k player start words) stays) ∙ is
 
 -- what is judged of a run that is not refused
 pub record IsFresh (k : KnownValue) (player start : ℕ) (words : List ℕ) : Type 0 where
@@ -46,10 +90,8 @@ pub record IsFresh (k : KnownValue) (player start : ℕ) (words : List ℕ) : Ty
   pub same : differ (drop start (player_in k player).held) words ≡ false
 
 pub is_fresh : (k : KnownValue) (player teller start : ℕ) (words : List ℕ) → refusal k player teller start words ≡ None → IsFresh k player start words
-unfolding refusal
 is_fresh k player teller start words none =
-    let past = none_past (is_from_leaver k player teller) errors.FromLeaver (misfit k player start words) none in
-    let full = none_past (nat_lt k.limit (start + length words)) errors.Full _ past.1 in
+    let full = none_past (nat_lt k.limit (start + length words)) errors.Full _ (misfit_none k player teller start words none) in
     let gap = none_past (nat_lt (count_in k player) start) errors.Gap _ full.1 in
     let differs = none_past (differ (drop start (player_in k player).held) words) errors.Differs None gap.1 in
     let room = ltb-false k.limit (start + length words) full.0 in

@@ -3,7 +3,7 @@ use Rattle.std.specs.Prelude.{ℕ, ◌+◌, ◌≡◌, ◌≢◌, ◌<◌, ◌�
 use Rattle.std.specs.List.{slice_get}
 use Rattle.c8_game.specs.Rules.{Rules, id_of}
 use Rattle.c8_known.specs.Journal.{Record, Head, Epoch, Own, Got, Freeze, Leave, Cut, player_of, epoch}
-use Rattle.c8_known.specs.Known.{PlayerValue, KnownValue, player_in, count_in, known_of, Plays}
+use Rattle.c8_known.specs.Known.{PlayerValue, KnownValue, player_in, count_in, known_of, Plays, IsOfGame}
 use Rattle.c8_known.specs.Confirmed.{confirmed}
 use Rattle.c8_record.specs.Body.{HasSpelling}
 
@@ -105,6 +105,15 @@ pub record IsAllowedAfter (rules : Rules) (room : ℕ) (past : Past) (r : Record
   pub may : MayFollow rules room past r
   pub begins : past.count ≡ 0 → IsHead r
   pub dropped : past.known.me ≢ 1 → (player_in past.known past.known.me).leaving ≡ true → IsOpening r
+
+-- The rules allow the record after some records by which this is known.
+pub record CanFollow (k : KnownValue) (r : Record) : Type 0 where
+  pub rules : Rules
+  pub room : ℕ
+  pub past : Past
+  pub known : past.known ≡ k
+  pub of_game : IsOfGame rules k.me k
+  pub allowed : IsAllowedAfter rules room past r
 
 abbrev pub IsAllowed : Rules → ℕ → ℕ → List Record → Record → Type 0
 IsAllowed rules me room before r = IsAllowedAfter rules room (past_of rules me before) r

@@ -2,14 +2,14 @@
 ghost use Rattle.std.specs.Prelude.{◌≡◌, ◌≢◌, ◌<◌, ◌≤◌, ℕ, [], false, true, length, MatchResult, IfOk, IfErr, OnOk, OnErr};
 ghost use Rattle.c8_disk.specs.Runs.{ReadsOnly};
 ghost use Rattle.c8_log.specs.Slots.{kept};
-ghost use Rattle.c8_known.specs.Known.{known_of, with_record, IsKnown, IsOfGame};
-ghost use Rattle.c8_record.specs.Allowed.{IsAllowedAfter};
+ghost use Rattle.c8_known.specs.Known.{known_of, IsOfGame};
 ghost use Rattle.c8_record.specs.Lent.{value_of};
 ghost use Rattle.c8_record.specs.Replay.{IsReplayed, IsReplayedFromDisk, is_failed};
 ghost use Rattle.c8_record.specs.Taken.{epoch_after, IsUnfitBody, IsTaken};
 
 use crate::allowed::judge;
 use crate::error::ReplayError;
+use crate::knowing::make_known;
 use crate::reading::view;
 use crate::record::Record;
 use c8_disk::{Disk, DiskError};
@@ -89,42 +89,8 @@ fn take_body(
         return Err(ReplayError::BadRecord(count));
     };
     judge(game, room, count, epoch, known, &lent)?;
-    take_record(game, room, count, epoch, known, &lent);
+    make_known(known, &lent);
     Ok(epoch_after(epoch, &lent))
-}
-
-/// Makes known what a record says that may stand there.
-fn take_record(
-    game: &Game,
-    room: u64,
-    count: usize,
-    epoch: u32,
-    known: &mut Known,
-    lent: &Record<'_>,
-)
-    requires of_game { IsOfGame game.now known.old.me known.old }
-    requires known { IsKnown known.old }
-    requires allowed { IsAllowedAfter game.now room
-        (record { count = count; epoch = epoch; known = known.old }) (value_of lent.now) }
-    ensures { known.new ≡ with_record known.old (value_of lent.now) }
-{
-    match *lent {
-        Record::Head { .. } | Record::Epoch { .. } => {}
-        Record::Own { keys, .. } => known.own(keys),
-        Record::Got { player, run, .. } => known.take(player, run),
-        Record::Freeze { player } => known.freeze(player),
-        Record::Leave { player } => known.leave(player),
-        Record::Cut {
-            player,
-            length,
-            run,
-            ..
-        } => {
-            c8_known::laws::a_cut_is_a_run_and_an_end();
-            known.take(player, run);
-            known.cut(player, length);
-        }
-    }
 }
 
 /// The last epoch after a record.

@@ -1,3 +1,5 @@
+ghost use Rattle.c8_known.specs.Known.{IsOfGame};
+
 use super::*;
 use c8_disk::{Arm, DiskError, MemDisk};
 use c8_game::{Game, Keys, Player};
@@ -546,6 +548,31 @@ fn a_match_is_known_again(rt: HostRuntime) -> Result<(), Fail> {
         );
         assert!(rt; holds(&known, 3, 2000, 71, Some(71), marks));
     }
+    Ok(())
+}
+
+/// Makes known what a body says that may stand after a HEAD alone, and tells whether it may.
+fn is_noted(game: &Game, known: &mut Known, body: &[u8; BODY_LENGTH]) -> bool
+    requires { IsOfGame game.now known.old.me known.old }
+{
+    let Some(lent) = view(body) else {
+        return false;
+    };
+    if allowed::judge(game, ROOM, 1, 1, known, &lent).is_err() {
+        return false;
+    }
+    make_known(known, &lent);
+    true
+}
+
+#[test]
+fn a_record_is_made_known(rt: HostRuntime) -> Result<(), Fail> {
+    let game = Game::read(rt.alloc(), GAME)?;
+    let me = Player { number: 1 };
+    game.in_range();
+    let mut known = Known::new(rt.alloc(), &game, me)?;
+    assert!(rt; is_noted(&game, &mut known, &spelled(got(2, 1, &[7, 8]))));
+    assert!(rt; holds(&known, 2, 6, 3, None, (false, false)));
     Ok(())
 }
 

@@ -25,7 +25,7 @@ returns-clause-taken c =
       sound = c.in_ok-judge.ensures.known;
       spelled = subst (λ (r : Record). Spells c.args.body.now r) is c.in-Some.ensures.value;
       allowed = subst (λ (r : Record). IsAllowedAfter c.args.game.now c.args.room past r) is c.in_ok-judge.ensures.judged;
-      known = c.take_record.ensures ∙ ap (λ (r : Record). with_record c.args.known.now r) is;
+      known = c.make_known.ensures.value ∙ ap (λ (r : Record). with_record c.args.known.now r) is;
       last = c.epoch_after.ensures ∙ ap (λ (r : Record). epoch_after c.args.epoch r) is;
     }
 

@@ -1,0 +1,38 @@
+//! What a record makes known.
+ghost use Rattle.std.specs.Prelude.{◌≡◌};
+ghost use Rattle.c8_known.specs.Known.{with_record, IsKnown};
+ghost use Rattle.c8_known.specs.Growth.{IsStillKnown};
+ghost use Rattle.c8_record.specs.Allowed.{CanFollow};
+ghost use Rattle.c8_record.specs.Lent.{value_of};
+
+use crate::record::Record;
+use c8_known::Known;
+
+/// Makes known what a record says that the rules allow after those by which this is known.
+pub fn make_known(known: &mut Known, lent: &Record<'_>)
+    requires { CanFollow known.old (value_of lent.now) }
+    ensures value { known.new ≡ with_record known.old (value_of lent.now) }
+    ensures known { IsKnown known.new }
+    ensures still { IsStillKnown known.old known.new }
+{
+    // For the proof: what is known so far is sound.
+    let _me = known.me();
+    c8_known::laws::what_is_still_known_chains();
+    match *lent {
+        Record::Head { .. } | Record::Epoch { .. } => {}
+        Record::Own { keys, .. } => known.own(keys),
+        Record::Got { player, run, .. } => known.take(player, run),
+        Record::Freeze { player } => known.freeze(player),
+        Record::Leave { player } => known.leave(player),
+        Record::Cut {
+            player,
+            length,
+            run,
+            ..
+        } => {
+            c8_known::laws::a_cut_is_a_run_and_an_end();
+            known.take(player, run);
+            known.cut(player, length);
+        }
+    }
+}

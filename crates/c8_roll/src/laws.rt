@@ -1,0 +1,18 @@
+//! What callers may rest on that is no single call's, each the contract of a function that does
+//! nothing.
+ghost use Rattle.std.specs.Prelude.{◌≡◌, ◌*◌, ◌/◌, ℕ, Some};
+ghost use Rattle.c8_game.specs.Rules.{Rules};
+ghost use Rattle.c8_digest.specs.Marks.{newest_of};
+ghost use Rattle.c8_known.specs.Known.{KnownValue};
+ghost use Rattle.c8_known.specs.Confirmed.{confirmed};
+ghost use Rattle.c8_roll.specs.Roll.{mark_step, mark_after, marks_up_to, RollValue, roll_of};
+
+/// The newest mark is that of the machine after the last multiple of 32 confirmed frames.
+pub fn the_newest_mark_is_at_the_last_step()
+    ensures up_to { (rules : Rules) (k : KnownValue) (n : ℕ)
+        → newest_of (marks_up_to rules k n)
+        ≡ Some (mark_after rules k (mark_step * (n / mark_step))) }
+    ensures roll { (rules : Rules) (k : KnownValue) (v : RollValue) → v ≡ roll_of rules k
+        → newest_of v.marks
+        ≡ Some (mark_after rules k (mark_step * (confirmed k / mark_step))) }
+{}
