@@ -4,3 +4,9 @@ pub mod OpeningLemmas
 pub mod MemoryLemmas
 pub mod SayingLemmas
 pub mod SpellingLemmas
+pub mod JudgingLemmas
+pub mod WritingLemmas
+pub mod PeerLemmas
+pub mod AnswerLemmas
+pub mod ReaderLemmas
+pub mod DeliveryLemmas

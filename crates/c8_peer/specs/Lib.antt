@@ -8,3 +8,7 @@ pub mod Opening
 pub mod Truth
 pub mod TruthLaws
 pub mod Lawful
+pub mod Peer
+pub mod Verdicts
+pub mod Asked
+pub mod Held

@@ -1,0 +1,89 @@
+-- What every call answers for, at each of its ends.
+use Rattle.std.proofs.Common.{◌≡◌, ◌≤◌, ◌+◌, ◌++◌, ℕ, [], ◌∷◌, Some, None, refl, sym, subst, ◌∙◌, arith}
+use Rattle.c8_game.specs.Rules.{Rules}
+use Rattle.c8_disk.specs.declared.disk.Disk.{Ghosts}
+use Rattle.c8_disk.specs.declared.error.DiskError.{DiskError}
+use Rattle.c8_disk.specs.Runs.{LeavesOnly, IsSameDisk}
+use Rattle.c8_log.specs.Journal.{JournalValue}
+use Rattle.c8_known.specs.Journal.{Record}
+use Rattle.c8_known.specs.Known.{KnownValue}
+use Rattle.c8_peer.specs.State.{Memory, Open, Down, Call, Reply, Outcome, answered, recorded}
+use Rattle.c8_peer.specs.Steps.{Works, Refuses, outcome, refused_by_disk, when_down}
+use Rattle.c8_peer.specs.Peer.{PeerValue, known_by, luck_of, IsStep, added, KeepsWithOrWithout, LeavesJournal, HasCause, IsAnswered, IsSound}
+use Rattle.c8_peer.specs.Held.{IsPeer}
+use Rattle.c8_peer.proofs.PeerLemmas.{view}
+
+-- what a call comes to, by what the peer knows inside and as it is seen
+pub outcome_seen : {D : Type 0} (v : PeerValue D) (rules : Rules) (room : ℕ) (j : JournalValue D) (k : KnownValue) (m : Memory) → IsPeer rules room j k m → view rules room k.me j m ≡ v
+    → (call : Call) (o : Memory → Outcome) → outcome rules k m call ≡ o m → outcome v.rules (known_by v) v.state.memory call ≡ o v.state.memory
+outcome_seen {D} v rules room j k m is seen call o comes =
+    subst (λ (x : PeerValue D). outcome x.rules (known_by x) x.state.memory call ≡ o x.state.memory) seen
+    (subst (λ (known : KnownValue). outcome rules known m call ≡ o m) is.known comes)
+
+module _ {D : Type 0} (g : Ghosts D) where
+  same_disk : (disk : D) → IsSameDisk g disk disk
+  same_disk disk = record { capacity = refl; arms = refl; no_fewer = omega arith }
+
+  -- the disk is left alone
+  quiet : (v : PeerValue D) (m : Memory) (call : Call) (reply : Reply) → IsSound g v → added v call ≡ None → luck_of reply ≡ Works
+      → IsStep v call reply (record v { state = record v.state { memory = m } }) → IsAnswered g v call reply (record v { state = record v.state { memory = m } })
+  quiet v m call reply sound none luck step = record {
+    step = step;
+    cause = λ why e. let never : Works ≡ Refuses why = sym luck ∙ e in absurd cc;
+    any_moment = rw none sound.still;
+    journal = sound.leaves;
+    untouched = λ e. refl;
+    changes = omega arith;
+    same = record { rules = refl; room = refl; me = refl; disk_is = same_disk v.disk };
+  }
+
+  -- the peer is down
+  pub answers_down : (v : PeerValue D) (call : Call) (reply : Reply) → IsSound g v → v.state.mode ≡ Down → reply ≡ when_down call → luck_of reply ≡ Works → IsAnswered g v call reply v
+  answers_down v call reply sound mode is luck =
+      quiet v v.state.memory call reply sound (rw mode refl) luck (rw (mode, is) refl)
+
+  -- nothing is recorded; the memory may change
+  pub answers : (v : PeerValue D) (m : Memory) (call : Call) (reply : Reply) → IsSound g v → v.state.mode ≡ Open → outcome v.rules (known_by v) v.state.memory call ≡ answered m reply
+      → luck_of reply ≡ Works → IsAnswered g v call reply (record v { state = record v.state { memory = m } })
+  answers v m call reply sound mode comes luck = quiet v m call reply sound (rw (mode, comes) refl) luck (rw (mode, comes) refl)
+
+  -- what a call that records does with the disk
+  pub record Kept (v : PeerValue D) (r : Record) (new : D) : Type 0 where
+    pub any_moment : LeavesOnly g v.disk new (KeepsWithOrWithout v.state.journal (Some r))
+    pub changes : g.changes new ≤ g.changes v.disk + 4
+    pub same : IsSameDisk g v.disk new
+
+  abbrev pub with_record : PeerValue D → D → Record → Memory → PeerValue D
+  with_record v disk r m = record v { disk = disk; state = record v.state { journal = v.state.journal ++ r ∷ []; memory = m } }
+
+  abbrev pub without_record : PeerValue D → D → Record → PeerValue D
+  without_record v disk r = record v { disk = disk; state = record v.state { pending = Some r; mode = Down } }
+
+  -- the disk takes the record
+  pub records : (v : PeerValue D) (disk : D) (m : Memory) (call : Call) (reply : Reply) (r : Record) → v.state.mode ≡ Open
+      → outcome v.rules (known_by v) v.state.memory call ≡ recorded m reply r → luck_of reply ≡ Works → Kept v r disk
+      → LeavesJournal g (with_record v disk r m) → IsAnswered g v call reply (with_record v disk r m)
+  records v disk m call reply r mode comes luck kept leaves = record {
+    step = rw (mode, comes, luck) refl;
+    cause = λ why e. let never : Works ≡ Refuses why = sym luck ∙ e in absurd cc;
+    any_moment = rw (mode, comes) kept.any_moment;
+    journal = leaves;
+    untouched = λ e. let never : Some r ≡ None = sym (rw (mode, comes) refl) ∙ e in absurd cc;
+    changes = kept.changes;
+    same = record { rules = refl; room = refl; me = refl; disk_is = kept.same };
+  }
+
+  -- the disk refuses it
+  pub is_refused : (v : PeerValue D) (disk : D) (m : Memory) (call : Call) (reply said : Reply) (r : Record) (why : DiskError) → v.state.mode ≡ Open
+      → outcome v.rules (known_by v) v.state.memory call ≡ recorded m said r → reply ≡ refused_by_disk call why → luck_of reply ≡ Refuses why → Kept v r disk
+      → HasCause g v (without_record v disk r) why → LeavesJournal g (without_record v disk r) → IsAnswered g v call reply (without_record v disk r)
+  is_refused v disk m call reply said r why mode comes is luck kept cause leaves = record {
+    step = rw (mode, comes, luck, is) refl;
+    cause = λ other e. let same : Refuses why ≡ Refuses other = sym luck ∙ e in
+        let this : why ≡ other = cc in subst (HasCause g v (without_record v disk r)) this cause;
+    any_moment = rw (mode, comes) kept.any_moment;
+    journal = leaves;
+    untouched = λ e. let never : Some r ≡ None = sym (rw (mode, comes) refl) ∙ e in absurd cc;
+    changes = kept.changes;
+    same = record { rules = refl; room = refl; me = refl; disk_is = kept.same };
+  }

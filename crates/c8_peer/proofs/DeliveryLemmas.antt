@@ -1,0 +1,73 @@
+-- A delivery that the links admit.
+use Rattle.std.proofs.Common.{◌≡◌, ◌≤◌, ◌<◌, ◌+◌, ◌*◌, ◌++◌, [], ◌∷◌, length, Some, None, false, Ok, Err, refl, ap, subst, ◌∙◌, arith}
+use Rattle.std.specs.Prelude.{IsErrOf}
+use Rattle.c8_disk.specs.declared.disk.Disk.{Ghosts}
+use Rattle.c8_disk.specs.declared.error.DiskError.{DiskError}
+use Rattle.c8_disk.specs.declared.error.DiskError.TheVariants as errors
+use Rattle.c8_log.specs.Slots.{slot_length}
+use Rattle.c8_wire.specs.Packet.{Message, Hello, Welcome, Data, Freeze, Frozen, Cut, Packet, IsPacket}
+use Rattle.c8_hand.specs.Links.{refusal}
+use Rattle.c8_known.specs.Journal.{Record}
+use Rattle.c8_known.specs.Known.{KnownValue, player_in, count_in, known_of}
+use Rattle.c8_known.specs.Growth.{IsStillKnown}
+use Rattle.c8_known.specs.BeginsLaws.{begins_length}
+use Rattle.c8_record.specs.Allowed.{IsAllowed}
+use Rattle.c8_record.specs.JournalLaws.{journal_more, journal_grows}
+use Rattle.c8_peer.specs.State.{Deliver, Outcome}
+use Rattle.c8_peer.specs.Hearing.{hear_message}
+use Rattle.c8_peer.specs.Steps.{outcome}
+use Rattle.c8_peer.specs.Lawful.{IsMemory}
+use Rattle.c8_peer.specs.Peer.{PeerValue, known_by, IsSound, HasCause}
+use Rattle.c8_peer.specs.declared.verdict.Verdict.{Verdict}
+use Rattle.c8_peer.specs.Verdicts.{AcksWithin, by_verdict, memory_after}
+use Rattle.c8_peer.proofs.AllowedLemmas.{keeps_allowed}
+use Rattle.c8_peer.proofs.MemoryLemmas.{memory_kept}
+use Rattle.c8_peer.proofs.SayingLemmas.{own_player}
+
+-- nobody acknowledges more than there is when there is more
+acks_more : (early late : KnownValue) → IsStillKnown early late → (message : Message) → AcksWithin early message → AcksWithin late message
+acks_more early late still Hello within = within
+acks_more early late still (Welcome ack) within =
+    let rises : count_in early early.me ≤ count_in late early.me = begins_length (player_in early early.me).held (player_in late early.me).held (still.each early.me).held in
+    let same = still.me in
+    rw same (omega (arith, within, rises))
+acks_more early late still (Data d) within =
+    let rises : count_in early early.me ≤ count_in late early.me = begins_length (player_in early early.me).held (player_in late early.me).held (still.each early.me).held in
+    let same = still.me in
+    rw same (omega (arith, within, rises))
+acks_more early late still (Freeze f) within = within
+acks_more early late still (Frozen f) within = within
+acks_more early late still (Cut c) within = within
+
+module _ {D : Type 0} where
+  -- what it comes to is what its message does
+  pub heard_is : (v : PeerValue D) (p : Packet) → (player_in (known_by v) v.me).leaving ≡ false → refusal v.state.memory.links p.head ≡ None
+      → outcome v.rules (known_by v) v.state.memory (Deliver (Ok p)) ≡ hear_message v.rules (known_by v) v.state.memory p.head p.message
+  heard_is v p stays admitted = rw (own_player v.rules v.me v.state.journal, stays, admitted) refl
+
+  pub comes_to : (v : PeerValue D) (p : Packet) (verdict found : Verdict) → (player_in (known_by v) v.me).leaving ≡ false → refusal v.state.memory.links p.head ≡ None
+      → hear_message v.rules (known_by v) v.state.memory p.head p.message ≡ by_verdict found v.state.memory (memory_after v.state.memory p) → found ≡ verdict
+      → outcome v.rules (known_by v) v.state.memory (Deliver (Ok p)) ≡ by_verdict verdict v.state.memory (memory_after v.state.memory p)
+  comes_to v p verdict found stays admitted comes same = heard_is v p stays admitted ∙ comes ∙ ap (λ (x : Verdict). by_verdict x v.state.memory (memory_after v.state.memory p)) same
+
+  pub memory_noted : (g : Ghosts D) (v : PeerValue D) (p : Packet) (o : Outcome) → IsSound g v → IsPacket p
+      → outcome v.rules (known_by v) v.state.memory (Deliver (Ok p)) ≡ o → IsMemory v.rules v.room v.me v.state.journal o.memory
+  memory_noted g v p o sound packet is =
+      subst (λ (x : Outcome). IsMemory v.rules v.room v.me v.state.journal x.memory) is
+      (memory_kept v.rules v.me v.room v.state.journal v.state.memory (Deliver (Ok p)) sound.range sound.plays.0 sound.plays.1 sound.is_journal sound.memory packet)
+
+  pub record_allowed : (g : Ghosts D) (v : PeerValue D) (p : Packet) (o : Outcome) (r : Record) → IsSound g v → IsPacket p
+      → outcome v.rules (known_by v) v.state.memory (Deliver (Ok p)) ≡ o → o.keeps ≡ Some r → IsAllowed v.rules v.me v.room v.state.journal r
+  record_allowed g v p o r sound packet is keeps =
+      keeps_allowed v.rules v.me v.room v.state.journal v.state.memory (Deliver (Ok p)) r sound.range sound.plays.0 sound.plays.1 sound.is_journal sound.memory packet (ap (λ (x : Outcome). x.keeps) is ∙ keeps)
+
+  pub acks_kept : (g : Ghosts D) (v : PeerValue D) (message : Message) (r : Record) → IsSound g v → IsAllowed v.rules v.me v.room v.state.journal r
+      → AcksWithin (known_by v) message → AcksWithin (known_of v.rules v.me (v.state.journal ++ r ∷ [])) message
+  acks_kept g v message r sound may within =
+      acks_more (known_by v) (known_of v.rules v.me (v.state.journal ++ r ∷ []))
+      (journal_grows v.rules v.me v.room v.state.journal (r ∷ []) sound.range sound.plays.0 sound.plays.1 (journal_more v.rules v.me v.room v.state.journal r sound.is_journal may)) message within
+
+  pub cause_of : (g : Ghosts D) (v new : PeerValue D) (why : DiskError) → (IsErrOf {T = Unit {0}} (Err why) errors.Failed → g.failures v.disk < g.failures new.disk)
+      → (IsErrOf {T = Unit {0}} (Err why) errors.Full → g.capacity v.disk < slot_length * (length v.state.journal + 1) + 1) → HasCause g v new why
+  cause_of g v new errors.Failed failed full = failed refl
+  cause_of g v new errors.Full failed full = full refl

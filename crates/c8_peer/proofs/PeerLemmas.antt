@@ -1,0 +1,207 @@
+-- What holds of a peer's parts goes on through its calls.
+use Rattle.std.proofs.Common.{◌≡◌, ◌≤◌, ◌+◌, ℕ, List, [], ◌∷◌, ◌++◌, map, option_map, Some, true, false, refl, sym, ap, subst, ◌∙◌, inl, inr, ⊎_elim, arith}
+use Rattle.std.proofs.lemmas.List.{map-append}
+use Rattle.c8_game.specs.Rules.{Rules}
+use Rattle.c8_disk.specs.declared.disk.Disk.{Ghosts}
+use Rattle.c8_disk.specs.Runs.{LeavesOnly}
+use Rattle.c8_disk.specs.RunLaws.{weaker}
+use Rattle.c8_log.specs.Journal.{JournalValue, KeepsBodies}
+use Rattle.c8_known.specs.Journal.{Record, Head, Epoch, Own, Got, Freeze, Leave, Cut, epoch}
+use Rattle.c8_known.specs.JournalLaws.{epoch_stays}
+use Rattle.c8_known.specs.Known.{KnownValue, known_of, with_record, IsOfGame}
+use Rattle.c8_known.specs.Growth.{IsStillKnown}
+use Rattle.c8_record.specs.Body.{body_of, record_of, records_of, HasSpelling, Spells}
+use Rattle.c8_record.specs.BodyLaws.{bodies_back, read_again}
+use Rattle.c8_record.specs.RefusalLaws.{journal_bodies}
+use Rattle.c8_record.specs.Allowed.{IsAllowed, past_of, CanFollow}
+use Rattle.c8_record.specs.Replay.{AreJournalBodies}
+use Rattle.c8_record.specs.JournalLaws.{journal_more, known_more, epoch_more, of_game}
+use Rattle.c8_roll.specs.Roll.{RollValue, roll_of}
+use Rattle.c8_peer.specs.State.{Memory, Down, Call, Reply, Outcome, recorded}
+use Rattle.c8_peer.specs.Steps.{outcome}
+use Rattle.c8_peer.proofs.AllowedLemmas.{keeps_allowed}
+use Rattle.c8_peer.specs.Lawful.{IsMemory, IsCall}
+use Rattle.c8_peer.specs.TruthLaws.{count_rises}
+use Rattle.c8_peer.specs.Peer.{PeerValue, mode_of, state_of, KeepsWithOrWithout}
+use Rattle.c8_peer.specs.Held.{IsPeer, is_opening, WasRoll}
+
+-- the memory stays in order with each record more
+pub memory_more : (rules : Rules) (room me : ℕ) (journal more : List Record) (m : Memory) → IsMemory rules room me journal m → IsMemory rules room me (journal ++ more) m
+memory_more rules room me journal more m is = record {
+  player = is.player;
+  players = is.players;
+  session = is.session;
+  epoch = epoch_stays m.links.epoch journal more is.epoch;
+  epoch_fits = is.epoch_fits;
+  known_fits = is.known_fits;
+  acked = λ q. let few = is.acked q in omega (arith, few, count_rises rules me journal more);
+}
+
+-- a record that no opening adds begins no epoch
+same_epoch : (journal : List Record) (r : Record) → is_opening r ≡ false → epoch (journal ++ r ∷ []) ≡ epoch journal
+same_epoch journal (Head player id room) other = absurd cc
+same_epoch journal (Epoch player number) other = absurd cc
+same_epoch journal (Own player start word) other = epoch_more journal (Own player start word)
+same_epoch journal (Got player start words) other = epoch_more journal (Got player start words)
+same_epoch journal (Freeze player) other = epoch_more journal (Freeze player)
+same_epoch journal (Leave player) other = epoch_more journal (Leave player)
+same_epoch journal (Cut player length start words) other = epoch_more journal (Cut player length start words)
+
+-- ---- bodies and records
+
+pub one_body_more : (bodies : List (List ℕ)) (r : Record) → HasSpelling r → records_of (bodies ++ body_of r ∷ []) ≡ records_of bodies ++ r ∷ []
+one_body_more bodies r has = map-append record_of bodies (body_of r ∷ []) ∙ ap (λ (s : Record). records_of bodies ++ s ∷ []) (read_again r has)
+
+pub spellings_more : (rules : Rules) (me room : ℕ) (bodies : List (List ℕ)) (r : Record) → AreJournalBodies rules me room bodies → map body_of (records_of bodies ++ r ∷ []) ≡ bodies ++ body_of r ∷ []
+spellings_more rules me room bodies r are =
+    map-append body_of (records_of bodies) (r ∷ []) ∙ ap (λ (before : List (List ℕ)). before ++ body_of r ∷ []) (bodies_back bodies are.spelled)
+
+pub bodies_more : (rules : Rules) (me room : ℕ) (bodies : List (List ℕ)) (r : Record) → AreJournalBodies rules me room bodies → IsAllowed rules me room (records_of bodies) r
+    → AreJournalBodies rules me room (bodies ++ body_of r ∷ [])
+bodies_more rules me room bodies r are may =
+    subst (AreJournalBodies rules me room) (spellings_more rules me room bodies r are)
+    (journal_bodies rules me room (records_of bodies ++ r ∷ []) (journal_more rules me room (records_of bodies) r are.journal may))
+
+-- what a crash leaves, in the words of the records
+pub keeps_records : (rules : Rules) (me room : ℕ) (bodies : List (List ℕ)) (r : Record) → AreJournalBodies rules me room bodies
+    → (image : List ℕ) → KeepsBodies bodies (Some (body_of r)) image → KeepsWithOrWithout (records_of bodies) (Some r) image
+keeps_records rules me room bodies r are image =
+    ⊎_elim
+    (λ without. inl (without ∙ sym (bodies_back bodies are.spelled)))
+    (λ with. inr (with ∙ sym (spellings_more rules me room bodies r are)))
+
+-- ---- the parts of a peer
+
+module _ {D : Type 0} where
+  pub peer_refused : (rules : Rules) (room : ℕ) (old new : JournalValue D) (k : KnownValue) (m : Memory) (r : Record) → IsPeer rules room old k m → HasSpelling r
+      → new.bodies ≡ old.bodies → new.pending ≡ Some (body_of r) → IsPeer rules room new k m
+  peer_refused rules room old new k m r is has same pending = record {
+    range = is.range;
+    from_one = is.from_one;
+    in_game = is.in_game;
+    bodies = subst (AreJournalBodies rules k.me room) (sym same) is.bodies;
+    pending = λ body e.
+        let this : body_of r ≡ body = cc in
+        subst (λ (one : List ℕ). Spells one (record_of one)) this (rw (read_again r has) (record { has = has; is = refl }));
+    known = is.known ∙ ap (λ (bodies : List (List ℕ)). known_of rules k.me (records_of bodies)) (sym same);
+    memory = subst (λ (bodies : List (List ℕ)). IsMemory rules room k.me (records_of bodies) m) (sym same) is.memory;
+    last = is.last ∙ ap (λ (bodies : List (List ℕ)). epoch (records_of bodies)) (sym same);
+  }
+
+  pub can_follow : (rules : Rules) (room : ℕ) (journal : JournalValue D) (k : KnownValue) (m : Memory) (r : Record) → IsPeer rules room journal k m
+      → IsAllowed rules k.me room (records_of journal.bodies) r → CanFollow k r
+  unfolding known_of
+  can_follow rules room journal k m r is may = record {
+    rules = rules;
+    room = room;
+    past = past_of rules k.me (records_of journal.bodies);
+    known = sym is.known;
+    of_game = subst (λ (known : KnownValue). IsOfGame rules known.me known) (sym is.known) (of_game rules k.me (records_of journal.bodies));
+    allowed = may;
+  }
+
+  pub peer_more : (rules : Rules) (room : ℕ) (old new : JournalValue D) (k later : KnownValue) (m : Memory) (r : Record) → IsPeer rules room old k m
+      → IsAllowed rules k.me room (records_of old.bodies) r → is_opening r ≡ false
+      → new.bodies ≡ old.bodies ++ body_of r ∷ [] → new.pending ≡ old.pending → later ≡ with_record k r → later.me ≡ k.me → IsPeer rules room new later m
+  peer_more rules room old new k later m r is may other more pending known same =
+      let journal : List Record = records_of old.bodies in
+      let longer : records_of new.bodies ≡ journal ++ r ∷ [] = ap records_of more ∙ one_body_more old.bodies r may.spelled in
+      let all : IsPeer rules room new later m = record {
+        range = is.range;
+        from_one = rw same is.from_one;
+        in_game = rw same is.in_game;
+        bodies = rw (same, more) (bodies_more rules k.me room old.bodies r is.bodies may);
+        pending = λ body e. is.pending body (sym pending ∙ e);
+        known = known ∙ rw (same, longer) (ap (λ (before : KnownValue). with_record before r) is.known ∙ sym (known_more rules k.me room journal r may));
+        memory = rw (same, longer) (memory_more rules room k.me journal (r ∷ []) m is.memory);
+        last = is.last ∙ sym (same_epoch journal r other) ∙ ap epoch (sym longer);
+      } in
+      all
+
+-- ---- the roll
+
+one_tick : (k : KnownValue) (r : Record) → (with_record k r).ticks ≤ k.ticks + 1
+one_tick k (Head player id room) = omega arith
+one_tick k (Epoch player number) = omega arith
+one_tick k (Own player start word) = omega arith
+one_tick k (Got player start words) = omega arith
+one_tick k (Freeze player) = omega arith
+one_tick k (Leave player) = omega arith
+one_tick k (Cut player length start words) = omega arith
+
+pub was_roll : (rules : Rules) (v : RollValue) (k later : KnownValue) (r : Record) → v ≡ roll_of rules k → later ≡ with_record k r → IsStillKnown k later → WasRoll v later
+unfolding roll_of
+was_roll rules v k later r is more still = record {
+  before = k;
+  was = is ∙ ap (λ (one : Rules). roll_of one k) (sym (ap (λ (x : RollValue). x.rules) is));
+  still = still;
+  one_tick = rw more (one_tick k r);
+}
+
+pub roll_rules : (rules : Rules) (v : RollValue) (k : KnownValue) → v ≡ roll_of rules k → v.rules ≡ rules
+unfolding roll_of
+roll_rules rules v k is = ap (λ (x : RollValue). x.rules) is
+
+pub roll_ticks : (v : RollValue) (k : KnownValue) → v ≡ roll_of v.rules k → v.ticks ≡ k.ticks
+unfolding roll_of
+roll_ticks v k is = ap (λ (x : RollValue). x.ticks) is
+
+-- ---- the peer as it is seen
+
+module _ {D : Type 0} where
+  abbrev pub view : Rules → ℕ → ℕ → JournalValue D → Memory → PeerValue D
+  view rules room me j m = record { rules = rules; room = room; me = me; disk = j.disk; state = state_of j.bodies j.pending j.is_down m }
+
+  pub allowed_inside : {v w : PeerValue D} (r : Record) → v ≡ w → IsAllowed w.rules w.me w.room w.state.journal r → IsAllowed v.rules v.me v.room v.state.journal r
+  allowed_inside r is may = subst (λ (x : PeerValue D). IsAllowed x.rules x.me x.room x.state.journal r) (sym is) may
+
+  pub view_refused : (v : PeerValue D) (rules : Rules) (room me : ℕ) (old new : JournalValue D) (m : Memory) (r : Record) (body : List ℕ) → view rules room me old m ≡ v
+      → new.bodies ≡ old.bodies → new.pending ≡ Some body → new.is_down ≡ true → record_of body ≡ r
+      → view rules room me new m ≡ record v { disk = new.disk; state = record v.state { pending = Some r; mode = Down } }
+  view_refused v rules room me old new m r body is bodies pending down reads =
+      subst (λ (x : PeerValue D). view rules room me new m ≡ record x { disk = new.disk; state = record x.state { pending = Some r; mode = Down } }) is
+      (λ i. record {
+        rules = rules;
+        room = room;
+        me = me;
+        disk = new.disk;
+        state = record {
+          journal = records_of (bodies i);
+          pending = (ap (option_map record_of) pending ∙ ap (λ (x : Record). Some x) reads) i;
+          mode = mode_of (down i);
+          memory = m;
+        };
+      })
+
+  pub view_more : (v : PeerValue D) (rules : Rules) (room me later : ℕ) (old new : JournalValue D) (m : Memory) (r : Record) → view rules room me old m ≡ v
+      → records_of new.bodies ≡ records_of old.bodies ++ r ∷ [] → new.pending ≡ old.pending → new.is_down ≡ old.is_down → later ≡ me
+      → view rules room later new m ≡ record v { disk = new.disk; state = record v.state { journal = v.state.journal ++ r ∷ [] } }
+  view_more v rules room me later old new m r is records pending down same =
+      subst (λ (x : PeerValue D). view rules room later new m ≡ record x { disk = new.disk; state = record x.state { journal = x.state.journal ++ r ∷ [] } }) is
+      (λ i. record {
+        rules = rules;
+        room = room;
+        me = same i;
+        disk = new.disk;
+        state = record { journal = records i; pending = option_map record_of (pending i); mode = mode_of (down i); memory = m };
+      })
+
+  -- a crash inside the call that adds a record
+  pub leaves_records : (g : Ghosts D) (v : PeerValue D) (rules : Rules) (room me : ℕ) (old : JournalValue D) (new : D) (m : Memory) (r : Record) (body : List ℕ)
+      → view rules room me old m ≡ v → AreJournalBodies rules me room old.bodies → body ≡ body_of r
+      → LeavesOnly g old.disk new (KeepsBodies old.bodies (Some body)) → LeavesOnly g v.disk new (KeepsWithOrWithout v.state.journal (Some r))
+  leaves_records g v rules room me old new m r body is are spelled run =
+      subst (λ (x : PeerValue D). LeavesOnly g x.disk new (KeepsWithOrWithout x.state.journal (Some r))) is
+      (weaker g old.disk new (KeepsBodies old.bodies (Some body)) (KeepsWithOrWithout (records_of old.bodies) (Some r)) run
+      (λ image keeps. keeps_records rules me room old.bodies r are image (subst (λ (one : List ℕ). KeepsBodies old.bodies (Some one) image) spelled keeps)))
+
+  pub allowed_outside : {v w : PeerValue D} (r : Record) → v ≡ w → IsAllowed v.rules v.me v.room v.state.journal r → IsAllowed w.rules w.me w.room w.state.journal r
+  allowed_outside r is may = subst (λ (x : PeerValue D). IsAllowed x.rules x.me x.room x.state.journal r) is may
+
+  -- what a call records may be recorded
+  pub may_record : (rules : Rules) (room : ℕ) (j : JournalValue D) (k : KnownValue) (m : Memory) → IsPeer rules room j k m → (call : Call) → IsCall call
+      → (noted : Memory) (reply : Reply) (r : Record) → outcome rules k m call ≡ recorded noted reply r → IsAllowed rules k.me room (records_of j.bodies) r
+  may_record rules room j k m is call may noted reply r comes =
+      let keeps : (outcome rules (known_of rules k.me (records_of j.bodies)) m call).keeps ≡ Some r =
+      subst (λ (known : KnownValue). (outcome rules known m call).keeps ≡ Some r) is.known (ap (λ (o : Outcome). o.keeps) comes) in
+      keeps_allowed rules k.me room (records_of j.bodies) m call r is.range is.from_one is.in_game is.bodies.journal is.memory may keeps

@@ -1,0 +1,96 @@
+-- What is so of every peer between two calls, and what its readers rest on.
+use Rattle.std.proofs.Common.{◌≡◌, ◌⊎◌, ◌≤◌, ℕ, List, [], ◌∷◌, ◌++◌, map, option_map, Option, Some, None, Bool, true, false, refl, sym, ap, subst, ◌∙◌, inl, inr, ⊎_elim, length, arith}
+use Rattle.std.proofs.lemmas.List.{map-append}
+use Rattle.c8_game.specs.Rules.{Rules}
+use Rattle.c8_disk.specs.declared.disk.Disk.{Ghosts}
+use Rattle.c8_disk.specs.Runs.{LeavesOnly}
+use Rattle.c8_disk.specs.RunLaws.{weaker}
+use Rattle.c8_log.specs.Journal.{JournalValue, KeepsBodies, AllKeepBodies}
+use Rattle.c8_known.specs.Journal.{ticks}
+use Rattle.c8_known.specs.Known.{KnownValue, known_of, Plays}
+use Rattle.c8_known.specs.StartLaws.{players_known}
+use Rattle.c8_record.specs.Body.{body_of, record_of, records_of, Spells}
+use Rattle.c8_record.specs.BodyLaws.{bodies_back}
+use Rattle.c8_record.specs.Replay.{AreJournalBodies}
+use Rattle.c8_roll.specs.Roll.{RollValue, roll_of}
+use Rattle.c8_peer.specs.State.{Memory, Open, Down}
+use Rattle.c8_peer.specs.Peer.{PeerValue, known_by, mode_of, KeepsWithOrWithout, IsSound}
+use Rattle.c8_peer.specs.Held.{IsPeer}
+use Rattle.c8_peer.proofs.PeerLemmas.{view}
+
+-- ---- what a crash leaves, in the words of the records
+
+-- each pending body spells a record
+abbrev SpellsPending : Option (List ℕ) → Type 0
+SpellsPending pending = (body : List ℕ) → pending ≡ Some body → Spells body (record_of body)
+
+pub keeps_pending : (rules : Rules) (me room : ℕ) (bodies : List (List ℕ)) (pending : Option (List ℕ)) → AreJournalBodies rules me room bodies → SpellsPending pending
+    → (image : List ℕ) → KeepsBodies bodies pending image → KeepsWithOrWithout (records_of bodies) (option_map record_of pending) image
+keeps_pending rules me room bodies None are spells image keeps = inl (keeps ∙ sym (bodies_back bodies are.spelled))
+keeps_pending rules me room bodies (Some body) are spells image keeps =
+    let back : map body_of (records_of bodies) ≡ bodies = bodies_back bodies are.spelled in
+    let more : map body_of (records_of bodies ++ record_of body ∷ []) ≡ bodies ++ body ∷ [] =
+    map-append body_of (records_of bodies) (record_of body ∷ [])
+    ∙ ap (λ (before : List (List ℕ)). before ++ body_of (record_of body) ∷ []) back
+    ∙ ap (λ (one : List ℕ). bodies ++ one ∷ []) (sym (spells body refl).is) in
+    ⊎_elim (λ without. inl (without ∙ sym back)) (λ with. inr (with ∙ sym more)) keeps
+
+-- ---- every peer between two calls
+
+open_or_down : (is_down : Bool) → (mode_of is_down ≡ Open) ⊎ (mode_of is_down ≡ Down)
+open_or_down true = inr refl
+open_or_down false = inl refl
+
+up_if_open : (is_down : Bool) → mode_of is_down ≡ Open → is_down ≡ false
+up_if_open true is = absurd cc
+up_if_open false is = refl
+
+module _ {D : Type 0} where
+  pub peer_sound : (g : Ghosts D) (v : PeerValue D) (rules : Rules) (room : ℕ) (j : JournalValue D) (k : KnownValue) (m : Memory) → view rules room k.me j m ≡ v → IsPeer rules room j k m
+      → AllKeepBodies j.bodies j.pending (g.may_leave j.disk) → (j.is_down ≡ false → j.pending ≡ None) → LeavesOnly g j.disk j.disk (KeepsBodies j.bodies j.pending) → IsSound g v
+  peer_sound g v rules room j k m seen is keeps up still =
+      let words : (image : List ℕ) → KeepsBodies j.bodies j.pending image → KeepsWithOrWithout (records_of j.bodies) (option_map record_of j.pending) image =
+      keeps_pending rules k.me room j.bodies j.pending is.bodies is.pending in
+      subst (IsSound g) seen (record {
+        range = is.range;
+        plays = (is.from_one, is.in_game);
+        is_journal = is.bodies.journal;
+        memory = is.memory;
+        epoch_is = is.last;
+        held = open_or_down j.is_down;
+        none_pending = λ opened. ap (option_map record_of) (up (up_if_open j.is_down opened));
+        leaves = λ image left. words image (keeps image left);
+        still = weaker g j.disk j.disk (KeepsBodies j.bodies j.pending) (KeepsWithOrWithout (records_of j.bodies) (option_map record_of j.pending)) still words;
+      })
+
+  -- a crash inside a call that adds no record
+  pub leaves_kept : (g : Ghosts D) (v : PeerValue D) (rules : Rules) (room : ℕ) (j : JournalValue D) (new : D) (k : KnownValue) (m : Memory) → view rules room k.me j m ≡ v → IsPeer rules room j k m
+      → LeavesOnly g j.disk new (KeepsBodies j.bodies j.pending) → LeavesOnly g v.disk new (KeepsWithOrWithout v.state.journal v.state.pending)
+  leaves_kept g v rules room j new k m seen is run =
+      subst (λ (x : PeerValue D). LeavesOnly g x.disk new (KeepsWithOrWithout x.state.journal x.state.pending)) seen
+      (weaker g j.disk new (KeepsBodies j.bodies j.pending) (KeepsWithOrWithout (records_of j.bodies) (option_map record_of j.pending)) run
+      (keeps_pending rules k.me room j.bodies j.pending is.bodies is.pending))
+
+  -- ---- readers
+
+  -- what a reader finds of the parts, in the words of the peer
+  pub known_is : (v : PeerValue D) (rules : Rules) (room : ℕ) (j : JournalValue D) (k : KnownValue) (m : Memory) → view rules room k.me j m ≡ v → IsPeer rules room j k m → k ≡ known_by v
+  known_is v rules room j k m seen is = is.known ∙ ap known_by seen
+
+  pub players_are : (v : PeerValue D) (rules : Rules) (room : ℕ) (j : JournalValue D) (k : KnownValue) (m : Memory) → view rules room k.me j m ≡ v → IsPeer rules room j k m → length k.players ≡ v.rules.players
+  players_are v rules room j k m seen is = ap (λ (known : KnownValue). length known.players) (known_is v rules room j k m seen is) ∙ players_known v.rules v.me v.state.journal
+
+  pub plays_inside : (v : PeerValue D) (rules : Rules) (room : ℕ) (j : JournalValue D) (k : KnownValue) (m : Memory) (q : ℕ) → view rules room k.me j m ≡ v → IsPeer rules room j k m
+      → 1 ≤ q → q ≤ v.rules.players → Plays k q
+  plays_inside v rules room j k m q seen is from to = record { from_one = from; in_game = omega (arith, to, players_are v rules room j k m seen is) }
+
+  pub ticks_are : (v : PeerValue D) (rules : Rules) (room : ℕ) (j : JournalValue D) (k : KnownValue) (m : Memory) → view rules room k.me j m ≡ v → IsPeer rules room j k m → k.ticks ≡ ticks v.state.journal
+  unfolding known_of
+  ticks_are v rules room j k m seen is = ap (λ (known : KnownValue). known.ticks) (known_is v rules room j k m seen is)
+
+  pub roll_is : (v : PeerValue D) (rules : Rules) (room : ℕ) (j : JournalValue D) (k : KnownValue) (m : Memory) (roll : RollValue) → view rules room k.me j m ≡ v → IsPeer rules room j k m
+      → roll ≡ roll_of rules k → roll ≡ roll_of v.rules (known_by v)
+  roll_is v rules room j k m roll seen is rolled =
+      let same : rules ≡ v.rules = ap (λ (x : PeerValue D). x.rules) seen in
+      let known : k ≡ known_by v = known_is v rules room j k m seen is in
+      rolled ∙ (λ i. roll_of (same i) (known i))

@@ -1,0 +1,28 @@
+use Rattle.std.proofs.Common.{◌≡◌, ◌∙◌, arith, ap, subst}
+use Rattle.c8_wire.specs.Packet.{HeadValue}
+use Rattle.c8_wire.specs.Lent.{packet_of}
+use Rattle.c8_known.specs.Known.{KnownValue}
+use Rattle.c8_roll.specs.Seen.{value_of as seen}
+use Rattle.c8_roll.specs.RollLaws.{roll_marks}
+use Rattle.c8_peer.specs.Hearing.{hear_message}
+use Rattle.c8_peer.specs.Peer.{PeerValue, known_by}
+use Rattle.c8_peer.specs.Verdicts.{Judges, memory_after}
+use Rattle.c8_peer.proofs.ReaderLemmas.{plays_inside}
+use Rattle.c8_peer.proofs.peer.Peer.judge.Goals as goal
+
+pub judge-requires-clause-plays : goal.judge-requires-clause-plays
+judge-requires-clause-plays g c =
+    let v = c.args.self.now in
+    let players = subst (λ (x : PeerValue g.row.D.Denot). x.state.memory.links.players ≡ x.rules.players) c.self.view_is c.self.invariant.0.memory.players in
+    let from = ap (λ (head : HeadValue). head.from) c.header.ensures in
+    plays_inside v c.self.inside.game.now c.self.inside.room c.self.inside.journal c.self.inside.known c.self.inside.memory c.in-Some.sender.number c.self.view_is c.self.invariant.0 c.in-Some.sender.from_one
+    (omega (arith, c.in-Some.ensures, c.from.ensures, from, c.requires.plays, players))
+
+pub returns-clause-judged : goal.returns-clause-judged
+returns-clause-judged g c =
+    let p = packet_of c.args.datagram.now in
+    let game = c.self.inside.game.now in
+    let m = c.self.inside.memory in
+    let marks = c.marks.ensures ∙ roll_marks game c.self.inside.known (seen c.self.inside.roll) c.self.invariant.1 in
+    subst (λ (x : PeerValue g.row.D.Denot). Judges (hear_message x.rules (known_by x) x.state.memory p.head p.message) x.state.memory (memory_after x.state.memory p) c.judge.result) c.self.view_is
+    (subst (λ (known : KnownValue). Judges (hear_message game known m p.head p.message) m (memory_after m p) c.judge.result) c.self.invariant.0.known (c.judge.ensures.judged game m marks))

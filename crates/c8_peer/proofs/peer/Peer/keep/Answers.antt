@@ -1,0 +1,74 @@
+use Rattle.std.proofs.Common.{◌∙◌, ◌++◌, ◌∷◌, [], ap, List, ℕ, Some}
+use Rattle.c8_game.specs.Rules.{Rules}
+use Rattle.c8_roll.specs.Roll.{roll_of}
+use Rattle.c8_roll.specs.Seen.{value_of as seen}
+use Rattle.c8_log.specs.Journal.{JournalValue}
+use Rattle.c8_record.specs.Body.{record_of, records_of}
+use Rattle.c8_record.specs.BodyLaws.{read_again}
+use Rattle.c8_record.specs.Lent.{value_of}
+use Rattle.c8_peer.proofs.PeerLemmas.{peer_refused, can_follow, peer_more, was_roll, roll_rules, allowed_inside, view_refused, view_more, leaves_records, one_body_more}
+use Rattle.c8_peer.proofs.peer.Peer.keep.Goals as goal
+
+pub invariant_of-self-in-Err : goal.invariant_of-self-in-Err
+invariant_of-self-in-Err g c =
+    let r = value_of c.args.lent.now in
+    let may = allowed_inside r c.self.view_is c.requires.allowed in
+    let is = c.in-Err.ensures.err in (
+      peer_refused c.self.inside.game.now c.self.inside.room c.self.inside.journal c.append.new.self c.self.inside.known c.self.inside.memory r c.self.invariant.0 may.spelled
+          (ap (λ (j : JournalValue g.row.D.Denot). j.bodies) is)
+          (ap (λ (j : JournalValue g.row.D.Denot). j.pending) is ∙ ap (λ (body : List ℕ). Some body) c.body_of.ensures.body),
+      c.self.invariant.1,
+    )
+
+pub returns-in-Err-clause-err : goal.returns-in-Err-clause-err
+returns-in-Err-clause-err g c =
+    let r = value_of c.args.lent.now in
+    let may = allowed_inside r c.self.view_is c.requires.allowed in
+    let is = c.in-Err.ensures.err in
+    view_refused c.args.self.now c.self.inside.game.now c.self.inside.room c.self.inside.known.me c.self.inside.journal c.append.new.self c.self.inside.memory r c.body_of.result c.self.view_is
+    (ap (λ (j : JournalValue g.row.D.Denot). j.bodies) is)
+    (ap (λ (j : JournalValue g.row.D.Denot). j.pending) is)
+    (ap (λ (j : JournalValue g.row.D.Denot). j.is_down) is)
+    (ap record_of c.body_of.ensures.body ∙ read_again r may.spelled)
+
+pub returns-in-Err-clause-any_moment : goal.returns-in-Err-clause-any_moment
+returns-in-Err-clause-any_moment g c =
+    leaves_records g.D.Disk c.args.self.now c.self.inside.game.now c.self.inside.room c.self.inside.known.me c.self.inside.journal c.append.new.self.disk c.self.inside.memory (value_of c.args.lent.now) c.body_of.result
+    c.self.view_is c.self.invariant.0.bodies c.body_of.ensures.body c.append.ensures.any_moment
+
+pub make_known-requires : goal.make_known-requires
+make_known-requires g c =
+    let r = value_of c.args.lent.now in
+    can_follow c.self.inside.game.now c.self.inside.room c.self.inside.journal c.self.inside.known c.self.inside.memory r c.self.invariant.0 (allowed_inside r c.self.view_is c.requires.allowed)
+
+pub go_on-requires : goal.go_on-requires
+go_on-requires g c =
+    was_roll c.self.inside.game.now (seen c.self.inside.roll) c.self.inside.known c.make_known.new.known (value_of c.args.lent.now) c.self.invariant.1 c.make_known.ensures.value c.make_known.ensures.still
+
+pub invariant_of-self : goal.invariant_of-self
+invariant_of-self g c =
+    let r = value_of c.args.lent.now in
+    let is = c.in-Ok.ensures.ok in (
+      peer_more c.self.inside.game.now c.self.inside.room c.self.inside.journal c.append.new.self c.self.inside.known c.make_known.new.known c.self.inside.memory r c.self.invariant.0
+          (allowed_inside r c.self.view_is c.requires.allowed) c.requires.later
+          (ap (λ (j : JournalValue g.row.D.Denot). j.bodies) is ∙ ap (λ (body : List ℕ). c.self.inside.journal.bodies ++ body ∷ []) c.body_of.ensures.body)
+          (ap (λ (j : JournalValue g.row.D.Denot). j.pending) is)
+          c.make_known.ensures.value c.make_known.ensures.still.me,
+      c.go_on.ensures ∙ ap (λ (rules : Rules). roll_of rules c.make_known.new.known) (roll_rules c.self.inside.game.now (seen c.self.inside.roll) c.self.inside.known c.self.invariant.1),
+    )
+
+pub returns-in-Ok-clause-ok : goal.returns-in-Ok-clause-ok
+returns-in-Ok-clause-ok g c =
+    let r = value_of c.args.lent.now in
+    let may = allowed_inside r c.self.view_is c.requires.allowed in
+    let is = c.in-Ok.ensures.ok in
+    view_more c.args.self.now c.self.inside.game.now c.self.inside.room c.self.inside.known.me c.make_known.new.known.me c.self.inside.journal c.append.new.self c.self.inside.memory r c.self.view_is
+    (ap (λ (j : JournalValue g.row.D.Denot). records_of j.bodies) is ∙ ap (λ (body : List ℕ). records_of (c.self.inside.journal.bodies ++ body ∷ [])) c.body_of.ensures.body ∙ one_body_more c.self.inside.journal.bodies r may.spelled)
+    (ap (λ (j : JournalValue g.row.D.Denot). j.pending) is)
+    (ap (λ (j : JournalValue g.row.D.Denot). j.is_down) is)
+    c.make_known.ensures.still.me
+
+pub returns-in-Ok-clause-any_moment : goal.returns-in-Ok-clause-any_moment
+returns-in-Ok-clause-any_moment g c =
+    leaves_records g.D.Disk c.args.self.now c.self.inside.game.now c.self.inside.room c.self.inside.known.me c.self.inside.journal c.append.new.self.disk c.self.inside.memory (value_of c.args.lent.now) c.body_of.result
+    c.self.view_is c.self.invariant.0.bodies c.body_of.ensures.body c.append.ensures.any_moment

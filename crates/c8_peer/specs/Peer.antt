@@ -1,0 +1,193 @@
+-- A peer as its calls are seen, what the disk did by what a call answered, and what a crash may leave.
+use Rattle.std.specs.Prelude.{◌≡◌, ◌⊎◌, ℕ, ◌+◌, ◌*◌, ◌<◌, ◌≤◌, List, length, ◌++◌, map, Bool, Option, Some, None, Result, Ok, Err, option_map, option_to_list, if◌then◌else◌}
+use Rattle.c8_game.specs.Rules.{Rules, AreInRange}
+use Rattle.c8_disk.specs.declared.disk.Disk.{Ghosts}
+use Rattle.c8_disk.specs.declared.error.DiskError.{DiskError}
+use Rattle.c8_disk.specs.declared.error.DiskError.TheVariants as errors
+use Rattle.c8_disk.specs.Runs.{LeavesOnly, IsSameDisk}
+use Rattle.c8_log.specs.Slots.{slot_length, kept}
+use Rattle.c8_known.specs.Journal.{Record, epoch}
+use Rattle.c8_known.specs.Known.{KnownValue, known_of}
+use Rattle.c8_record.specs.Body.{body_of, record_of, records_of}
+use Rattle.c8_record.specs.Allowed.{IsJournal}
+use Rattle.c8_peer.specs.declared.error.TickError.{TickError}
+use Rattle.c8_peer.specs.declared.error.TickError.TheVariants as ticks
+use Rattle.c8_peer.specs.declared.error.Refused.{Refused}
+use Rattle.c8_peer.specs.declared.error.Refused.TheVariants as refusals
+use Rattle.c8_peer.specs.declared.error.LeaveError.{LeaveError}
+use Rattle.c8_peer.specs.declared.error.LeaveError.TheVariants as leaves
+use Rattle.c8_peer.specs.declared.error.DecideError.{DecideError}
+use Rattle.c8_peer.specs.declared.error.DecideError.TheVariants as decides
+use Rattle.c8_peer.specs.State.{Memory, Mode, Open, Down, Away, State, Call, Reply, Opened, Ticked, Delivered, Said, Left, Decided}
+use Rattle.c8_wire.specs.Packet.{Packet}
+use Rattle.c8_wire.specs.Spelling.{Spells}
+use Rattle.c8_peer.specs.Truth.{IsTrue}
+use Rattle.c8_peer.specs.Lawful.{IsMemory}
+use Rattle.c8_peer.specs.Steps.{Luck, Works, Refuses, Stepped, outcome, step}
+
+-- ---- the peer
+
+-- the match and the player, the disk that holds the journal, and the peer's state
+pub record PeerValue (D : Type 0) : Type 0 where
+  pub rules : Rules
+  pub room : ℕ
+  pub me : ℕ
+  pub disk : D
+  pub state : State
+
+abbrev pub mode_of : Bool → Mode
+mode_of is_down = if is_down then Down else Open
+
+-- the state of a peer whose journal keeps these bodies, and of which the disk refused one
+abbrev pub state_of : List (List ℕ) → Option (List ℕ) → Bool → Memory → State
+state_of bodies pending is_down m = record {
+  journal = records_of bodies;
+  pending = option_map record_of pending;
+  mode = mode_of is_down;
+  memory = m;
+}
+
+-- what a peer knows by its journal
+abbrev pub known_by : {D : Type 0} → PeerValue D → KnownValue
+known_by p = known_of p.rules p.me p.state.journal
+
+-- it is a peer of the same match and player, on the same disk
+pub record IsSamePeer {D : Type 0} (disk : Ghosts D) (old new : PeerValue D) : Type 0 where
+  pub rules : new.rules ≡ old.rules
+  pub room : new.room ≡ old.room
+  pub me : new.me ≡ old.me
+  pub disk_is : IsSameDisk disk old.disk new.disk
+
+-- ---- a call is a step
+
+-- what the disk did with a record, by the answer
+abbrev pub luck_of_tick : Result (Unit {0}) TickError → Luck
+luck_of_tick (Ok done) = Works
+luck_of_tick (Err ticks.Threshold) = Works
+luck_of_tick (Err ticks.End) = Works
+luck_of_tick (Err ticks.Dropped) = Works
+luck_of_tick (Err (ticks.Disk why)) = Refuses why
+luck_of_tick (Err ticks.Down) = Works
+
+abbrev pub luck_of_refusal : Refused → Luck
+luck_of_refusal (refusals.Wire error) = Works
+luck_of_refusal (refusals.Hand error) = Works
+luck_of_refusal (refusals.Known error) = Works
+luck_of_refusal refusals.BadAck = Works
+luck_of_refusal refusals.NotChair = Works
+luck_of_refusal refusals.NotFrozen = Works
+luck_of_refusal refusals.WrongLeaver = Works
+luck_of_refusal refusals.Desync = Works
+luck_of_refusal (refusals.Disk why) = Refuses why
+luck_of_refusal refusals.Down = Works
+luck_of_refusal refusals.Dropped = Works
+
+abbrev pub luck_of_leave : Result (Unit {0}) LeaveError → Luck
+luck_of_leave (Ok done) = Works
+luck_of_leave (Err leaves.NotChair) = Works
+luck_of_leave (Err leaves.Myself) = Works
+luck_of_leave (Err leaves.Already) = Works
+luck_of_leave (Err (leaves.Disk why)) = Refuses why
+luck_of_leave (Err leaves.Down) = Works
+luck_of_leave (Err leaves.NotPlaying) = Works
+
+abbrev pub luck_of_decision : Result ℕ DecideError → Luck
+luck_of_decision (Ok length) = Works
+luck_of_decision (Err decides.NotLeaving) = Works
+luck_of_decision (Err decides.NotReady) = Works
+luck_of_decision (Err decides.Already) = Works
+luck_of_decision (Err (decides.Disk why)) = Refuses why
+luck_of_decision (Err decides.Down) = Works
+
+abbrev pub luck_of : Reply → Luck
+luck_of (Opened result) = Works
+luck_of (Ticked result) = luck_of_tick result
+luck_of (Delivered (Ok heard)) = Works
+luck_of (Delivered (Err why)) = luck_of_refusal why
+luck_of (Said result) = Works
+luck_of (Left result) = luck_of_leave result
+luck_of (Decided result) = luck_of_decision result
+
+-- an answer, and the state after it
+abbrev pub told : {D : Type 0} → Reply → PeerValue D → Stepped
+told reply p = record { reply = reply; state = p.state }
+
+-- The call that is answered so is the one step of the definitions.
+abbrev pub IsStep : {D : Type 0} → PeerValue D → Call → Reply → PeerValue D → Type 0
+IsStep old call reply new = told reply new ≡ step old.rules old.me old.state call (luck_of reply)
+
+-- ---- the disk
+
+-- the record that a call adds, where the disk takes it
+abbrev pub added_at : Mode → Option Record → Option Record
+added_at Open keeps = keeps
+added_at Down keeps = None
+added_at Away keeps = None
+
+abbrev pub added : {D : Type 0} → PeerValue D → Call → Option Record
+added p call = added_at p.state.mode (outcome p.rules (known_by p) p.state.memory call).keeps
+
+-- the image keeps just these records
+abbrev pub Keeps : List Record → List ℕ → Type 0
+Keeps journal image = kept image ≡ map body_of journal
+
+-- the records of the journal, with one more or without
+abbrev pub KeepsWithOrWithout : List Record → Option Record → List ℕ → Type 0
+KeepsWithOrWithout journal more image = Keeps journal image ⊎ Keeps (journal ++ option_to_list more) image
+
+-- one record or the other
+abbrev pub or_pending : Option Record → Option Record → Option Record
+or_pending (Some r) pending = Some r
+or_pending None pending = pending
+
+-- What a crash inside a call may leave: the journal as it was, with the record that the call adds or without; where it adds
+-- none, with the pending one or without.
+abbrev pub MayLeave : {D : Type 0} → PeerValue D → Call → List ℕ → Type 0
+MayLeave p call = KeepsWithOrWithout p.state.journal (or_pending (added p call) p.state.pending)
+
+-- What a crash now leaves: the journal, with the pending record or without; none is pending at a peer that is open.
+abbrev pub LeavesJournal : {D : Type 0} → Ghosts D → PeerValue D → Type 0
+LeavesJournal {D} disk p = (image : List ℕ) → disk.may_leave p.disk image → KeepsWithOrWithout p.state.journal p.state.pending image
+
+-- When the disk may refuse a record: it failed in the call, or it has no room for one slot more and the gate after it.
+abbrev pub HasCause : {D : Type 0} → Ghosts D → PeerValue D → PeerValue D → DiskError → Type 0
+HasCause disk old new errors.Failed = disk.failures old.disk < disk.failures new.disk
+HasCause disk old new errors.Full = disk.capacity old.disk < slot_length * (length old.state.journal + 1) + 1
+
+-- What every call answers for, of a peer before it and after it. The record that it adds is that of `added`.
+--
+-- - `step`: it is the one step of the definitions.
+-- - `cause`: the disk is blamed for a refusal only where it has one.
+-- - `any_moment`: what a crash inside the call may leave.
+-- - `journal`: what a crash after it may leave.
+-- - `untouched`: where it adds no record the disk is not called.
+-- - `changes`: it writes and syncs twice at most.
+-- - `same`: match, player and disk stay.
+pub record IsAnswered {D : Type 0} (disk : Ghosts D) (old : PeerValue D) (call : Call) (reply : Reply) (new : PeerValue D) : Type 0 where
+  pub step : IsStep old call reply new
+  pub cause : (why : DiskError) → luck_of reply ≡ Refuses why → HasCause disk old new why
+  pub any_moment : LeavesOnly disk old.disk new.disk (MayLeave old call)
+  pub journal : LeavesJournal disk new
+  pub untouched : added old call ≡ None → new.disk ≡ old.disk
+  pub changes : disk.changes new.disk ≤ disk.changes old.disk + 4
+  pub same : IsSamePeer disk old new
+
+-- What is so of every peer between two calls: its journal is one of this match and player, the memory is in order, and a crash
+-- leaves the journal, with the pending record or without.
+pub record IsSound {D : Type 0} (disk : Ghosts D) (p : PeerValue D) : Type 0 where
+  pub range : AreInRange p.rules
+  pub plays : (1 ≤ p.me) × (p.me ≤ p.rules.players)
+  pub is_journal : IsJournal p.rules p.me p.room p.state.journal
+  pub memory : IsMemory p.rules p.room p.me p.state.journal p.state.memory
+  pub epoch_is : p.state.memory.links.epoch ≡ epoch p.state.journal
+  pub held : (p.state.mode ≡ Open) ⊎ (p.state.mode ≡ Down)
+  pub none_pending : p.state.mode ≡ Open → p.state.pending ≡ None
+  pub leaves : LeavesJournal disk p
+  pub still : LeavesOnly disk p.disk p.disk (KeepsWithOrWithout p.state.journal p.state.pending)
+
+-- What is said: a packet that the bytes spell, which is the answer to the call, and true of the journal.
+pub record IsSaid {D : Type 0} (p : PeerValue D) (call : Call) (bytes : List ℕ) : Type 0 where
+  pub packet : Packet
+  pub spelled : Spells bytes packet
+  pub step : IsStep p call (Said (Ok packet)) p
+  pub is_true : IsTrue p.rules p.me p.state.journal packet

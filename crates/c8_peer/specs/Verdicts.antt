@@ -1,0 +1,59 @@
+-- Checked, not believed: deliveries in two parts, what is judged and what is kept in memory once nothing refuses. Contracts
+-- of private functions cite it, and no other.
+use Rattle.std.specs.Prelude.{◌≡◌, ◌≤◌, true, false, Result, Ok, Err}
+use Rattle.c8_wire.specs.Packet.{HeadValue, Message, Packet}
+use Rattle.c8_wire.specs.Packet as packets
+use Rattle.c8_hand.specs.Links.{heard}
+use Rattle.c8_known.specs.Known.{KnownValue, count_in}
+use Rattle.c8_window.specs.Window.{acked_more}
+use Rattle.c8_round.specs.Round.{with_report, with_have}
+use Rattle.c8_record.specs.Lent.{value_of}
+use Rattle.c8_peer.specs.declared.error.Refused.{Refused}
+use Rattle.c8_peer.specs.declared.error.Refused.TheVariants as refusals
+use Rattle.c8_peer.specs.declared.heard.Heard.TheVariants as heards
+use Rattle.c8_peer.specs.declared.verdict.Verdict.{Verdict}
+use Rattle.c8_peer.specs.declared.verdict.Verdict.TheVariants as verdicts
+use Rattle.c8_peer.specs.State.{Memory, Delivered, Outcome, answered, recorded}
+use Rattle.c8_peer.specs.Hearing.{refused, taken}
+use Rattle.c8_peer.specs.Steps.{Works}
+use Rattle.c8_peer.specs.Peer.{luck_of_refusal}
+use Rattle.c8_peer.specs.Held.{is_opening}
+
+-- the memory after a message that nothing refused
+abbrev pub memory_after_message : Memory → HeadValue → Message → Memory
+memory_after_message m head packets.Hello = record m { links = heard m.links head }
+memory_after_message m head (packets.Welcome ack) = record m { links = heard m.links head; acks = acked_more m.acks head.from ack }
+memory_after_message m head (packets.Data d) = record m { acks = acked_more m.acks head.from d.ack }
+memory_after_message m head (packets.Freeze f) = record m { stayer = with_have m.stayer f.leaver f.have }
+memory_after_message m head (packets.Frozen f) = record m { chair = with_report m.chair f.leaver head.from f.length }
+memory_after_message m head (packets.Cut c) = m
+
+abbrev pub memory_after : Memory → Packet → Memory
+memory_after m p = memory_after_message m p.head p.message
+
+-- nobody acknowledges more than there is
+abbrev pub AcksWithin : KnownValue → Message → Type 0
+AcksWithin k packets.Hello = Unit {0}
+AcksWithin k (packets.Welcome ack) = ack ≤ count_in k k.me
+AcksWithin k (packets.Data d) = d.ack ≤ count_in k k.me
+AcksWithin k (packets.Freeze f) = Unit {0}
+AcksWithin k (packets.Frozen f) = Unit {0}
+AcksWithin k (packets.Cut c) = Unit {0}
+
+-- What a delivery comes to by its verdict, where the memory is one before it, and another once the datagram is noted. A
+-- machine that differs raises the alarm.
+abbrev pub by_verdict : Verdict → Memory → Memory → Outcome
+by_verdict verdicts.Nothing m noted = taken noted heards.Nothing
+by_verdict verdicts.Alarm m noted = answered (record m { alarm = true }) (Delivered (Err refusals.Desync))
+by_verdict (verdicts.Keep lent what) m noted = recorded noted (Delivered (Ok what)) (value_of lent)
+
+-- a verdict records nothing that an opening records
+abbrev pub IsLater : Verdict → Type 0
+IsLater verdicts.Nothing = Unit {0}
+IsLater verdicts.Alarm = Unit {0}
+IsLater (verdicts.Keep lent what) = is_opening (value_of lent) ≡ false
+
+-- A judgement: what is to be done, or the refusal, which is not the disk's.
+abbrev pub Judges : Outcome → Memory → Memory → Result Verdict Refused → Type 0
+Judges outcome m noted (Ok verdict) = (outcome ≡ by_verdict verdict m noted) × IsLater verdict
+Judges outcome m noted (Err error) = (outcome ≡ refused m error) × (luck_of_refusal error ≡ Works)

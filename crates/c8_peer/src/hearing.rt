@@ -1,0 +1,286 @@
+//! What an admitted datagram comes to, or why it is refused. Nothing here changes anything.
+ghost use Rattle.std.specs.Prelude.{◌≡◌, ℕ, ◌+◌, ◌≤◌, ◌<◌, false, MatchResult, IfOk, IfErr, OnOk};
+ghost use Rattle.c8_game.specs.Rules.{Rules};
+ghost use Rattle.c8_wire.specs.Packet.{HeadValue};
+ghost use Rattle.c8_wire.specs.Packet as packets;
+ghost use Rattle.c8_wire.specs.Lent.{words, ack_of, data_of, freeze_of, frozen_of, cut_of, packet_of};
+ghost use Rattle.c8_known.specs.Known.{Plays, player_in, count_in};
+ghost use Rattle.c8_known.specs.Confirmed.{confirmed};
+ghost use Rattle.c8_known.specs.Fresh.{differ, is_from_leaver, misfit, fresh_words};
+ghost use Rattle.c8_digest.specs.Marks.{mark_at};
+ghost use Rattle.c8_roll.specs.Roll.{marks_up_to};
+ghost use Rattle.c8_window.specs.Window.{acked_more};
+ghost use Rattle.c8_round.specs.Round.{with_report, with_have};
+ghost use Rattle.c8_peer.specs.State.{Memory, Outcome};
+ghost use Rattle.c8_peer.specs.Hearing.{refused, unless_misfit, got, differs_from, hear_data, hear_welcome, hear_freeze, hear_frozen, hear_end, hear_cut, cut_or_got, hear_message};
+ghost use Rattle.c8_peer.specs.Steps.{Works};
+ghost use Rattle.c8_peer.specs.Peer.{luck_of_refusal};
+ghost use Rattle.c8_peer.specs.Verdicts.{AcksWithin, IsLater, by_verdict, Judges, memory_after};
+
+use crate::error::Refused;
+use crate::heard::Heard;
+use crate::verdict::Verdict;
+use c8_digest::{MARK_LENGTH, Marks};
+use c8_game::Player;
+use c8_known::{Known, KnownError};
+use c8_record::Record;
+use c8_wire::{Cut, Data, Datagram, Freeze, Frozen, Run, Welcome};
+
+/// What a datagram of player q comes to.
+pub(crate) fn judge<'a>(
+    known: &Known,
+    marks: &Marks,
+    q: Player,
+    datagram: &Datagram<'a>,
+) -> Result<Verdict<'a>, Refused>
+    requires plays { Plays known.now q.number }
+    requires from { q.number ≡ (packet_of datagram.now).head.from }
+    ensures judged { (rules : Rules) (m : Memory)
+        → marks.now ≡ marks_up_to rules known.now (confirmed known.now)
+        → Judges (hear_message rules known.now m (packet_of datagram.now).head
+        (packet_of datagram.now).message)
+        m (memory_after m (packet_of datagram.now)) result }
+    ensures acks { OnOk result (AcksWithin known.now (packet_of datagram.now).message) }
+{
+    match datagram {
+        Datagram::Hello(_) => Ok(Verdict::Nothing),
+        Datagram::Welcome(welcome) => judge_welcome(known, welcome),
+        Datagram::Data(data) => judge_data(known, marks, q, data),
+        Datagram::Freeze(freeze) => judge_freeze(known, q, freeze),
+        Datagram::Frozen(frozen) => judge_frozen(known, q, frozen),
+        Datagram::Cut(cut) => judge_cut(known, q, cut),
+    }
+}
+
+#[tactic(auto, unfolding(crate::specs::Hearing::hear_welcome))]
+fn judge_welcome<'a>(known: &Known, welcome: &Welcome<'a>) -> Result<Verdict<'a>, Refused>
+    ensures judged { (m : Memory) (head : HeadValue)
+        → Judges (hear_welcome known.now m head (ack_of welcome.now)) m
+        (memory_after m (record { head = head; message = packets.Welcome (ack_of welcome.now) }))
+        result }
+    ensures acks { OnOk result (ack_of welcome.now ≤ count_in known.now known.now.me) }
+{
+    if welcome.ack() > known.count(known.me()) {
+        return Err(Refused::BadAck);
+    }
+    Ok(Verdict::Nothing)
+}
+
+/// The sender's inputs, and its mark.
+#[tactic(auto, unfolding(crate::specs::Hearing::hear_data, crate::specs::Hearing::is_desync))]
+fn judge_data<'a>(
+    known: &Known,
+    marks: &Marks,
+    q: Player,
+    data: &Data<'a>,
+) -> Result<Verdict<'a>, Refused>
+    requires { Plays known.now q.number }
+    ensures judged { (rules : Rules) (m : Memory)
+        → marks.now ≡ marks_up_to rules known.now (confirmed known.now)
+        → Judges (hear_data rules known.now m q.number (data_of data.now)) m
+        (record m { acks = acked_more m.acks q.number (data_of data.now).ack }) result }
+    ensures acks { OnOk result ((data_of data.now).ack ≤ count_in known.now known.now.me) }
+{
+    if known.frozen(q) {
+        return Err(Refused::Known(KnownError::FromLeaver));
+    }
+    if data.ack() > known.count(known.me()) {
+        return Err(Refused::BadAck);
+    }
+    let fresh = fresh_part(known, q, q, data.start(), data.run())?;
+    if differs(marks, data) {
+        return Ok(Verdict::Alarm);
+    }
+    Ok(got(known, q, fresh))
+}
+
+/// Whether the sender's mark differs from the own one of the same frame, where that is kept.
+fn differs(marks: &Marks, data: &Data<'_>) -> bool
+    ensures { result ≡ differs_from (mark_at (data_of data.now).mark_frame marks.now)
+        (data_of data.now).mark }
+{
+    match marks.get(data.mark_frame()) {
+        Some(own) => are_apart(&own, &data.mark()),
+        None => false,
+    }
+}
+
+fn are_apart(own: &[u8; MARK_LENGTH], theirs: &[u8; MARK_LENGTH]) -> bool
+    ensures { result ≡ differ own.now theirs.now }
+{
+    *own != *theirs
+}
+
+/// Player one lets a player go.
+#[tactic(auto, unfolding(crate::specs::Hearing::hear_freeze))]
+fn judge_freeze<'a>(known: &Known, q: Player, freeze: &Freeze<'a>) -> Result<Verdict<'a>, Refused>
+    ensures { (m : Memory)
+        → Judges (hear_freeze known.now m q.number (freeze_of freeze.now)) m
+        (record m {
+          stayer = with_have m.stayer (freeze_of freeze.now).leaver
+              (freeze_of freeze.now).have;
+        }) result }
+{
+    let leaver = freeze.leaver();
+    if q.number != 1 {
+        return Err(Refused::NotChair);
+    }
+    if leaver.number == known.me().number || leaver.number > known.players() {
+        return Err(Refused::WrongLeaver);
+    }
+    if known.has_freeze(leaver) {
+        return Ok(Verdict::Nothing);
+    }
+    Ok(Verdict::Keep(Record::Freeze { player: leaver }, Heard::Kept))
+}
+
+/// A player answers player one what it holds of a leaver.
+#[tactic(auto, unfolding(crate::specs::Hearing::hear_frozen))]
+fn judge_frozen<'a>(known: &Known, q: Player, frozen: &Frozen<'a>) -> Result<Verdict<'a>, Refused>
+    ensures { (m : Memory)
+        → Judges (hear_frozen known.now m q.number (frozen_of frozen.now)) m
+        (record m {
+          chair = with_report m.chair (frozen_of frozen.now).leaver q.number
+              (frozen_of frozen.now).length;
+        }) result }
+{
+    let leaver = frozen.leaver();
+    if known.me().number != 1 {
+        return Err(Refused::NotChair);
+    }
+    if leaver.number == q.number || leaver.number > known.players() {
+        return Err(Refused::WrongLeaver);
+    }
+    if !known.leaving(leaver) {
+        return Err(Refused::NotFrozen);
+    }
+    if known.cut_of(leaver).is_some() {
+        return Ok(Verdict::Nothing);
+    }
+    if frozen.held() > known.limit() {
+        return Err(Refused::Known(KnownError::Full));
+    }
+    let fresh = fresh_part(known, leaver, q, frozen.start(), frozen.run())?;
+    Ok(got(known, leaver, fresh))
+}
+
+/// Player one has cut a leaver's list.
+#[tactic(auto, unfolding(crate::specs::Hearing::hear_cut))]
+fn judge_cut<'a>(known: &Known, q: Player, cut: &Cut<'a>) -> Result<Verdict<'a>, Refused>
+    ensures { (m : Memory)
+        → Judges (hear_cut known.now m q.number (cut_of cut.now)) m m result }
+{
+    let leaver = cut.leaver();
+    if q.number != 1 {
+        return Err(Refused::NotChair);
+    }
+    if leaver.number == known.me().number {
+        return Ok(Verdict::Keep(Record::Leave { player: leaver }, Heard::Out));
+    }
+    if leaver.number > known.players() {
+        return Err(Refused::WrongLeaver);
+    }
+    if !known.has_freeze(leaver) {
+        return Err(Refused::NotFrozen);
+    }
+    judge_end(known, q, leaver, cut)
+}
+
+/// Where the list of a leaver ends.
+fn judge_end<'a>(
+    known: &Known,
+    q: Player,
+    leaver: Player,
+    cut: &Cut<'a>,
+) -> Result<Verdict<'a>, Refused>
+    requires plays { Plays known.now leaver.number }
+    requires leaver { leaver.number ≡ (cut_of cut.now).leaver }
+    requires one { q.number ≡ 1 }
+    ensures { (m : Memory) → Judges (hear_end known.now m (cut_of cut.now)
+        (player_in known.now leaver.number).cut) m m result }
+{
+    match known.cut_of(leaver) {
+        Some(length) if length == cut.length() => Ok(Verdict::Nothing),
+        Some(_) => Err(Refused::Known(KnownError::Differs)),
+        None => judge_first_end(known, q, leaver, cut),
+    }
+}
+
+/// The same of a list that is not cut here yet.
+fn judge_first_end<'a>(
+    known: &Known,
+    q: Player,
+    leaver: Player,
+    cut: &Cut<'a>,
+) -> Result<Verdict<'a>, Refused>
+    requires plays { Plays known.now leaver.number }
+    requires leaver { leaver.number ≡ (cut_of cut.now).leaver }
+    requires one { q.number ≡ 1 }
+    ensures { (m : Memory) → Judges (hear_end known.now m (cut_of cut.now) None) m m result }
+{
+    if cut.length() < known.count(leaver) {
+        return Err(Refused::Known(KnownError::Differs));
+    }
+    let fresh = fresh_part(known, leaver, q, cut.start(), cut.run())?;
+    Ok(cut_or_got(known, leaver, cut.length(), fresh))
+}
+
+/// The new inputs of a player, where its list may be whole with them: then it is cut.
+fn cut_or_got<'a>(known: &Known, player: Player, length: u32, run: Run<'a>) -> Verdict<'a>
+    requires { Plays known.now player.number }
+    ensures value { (m noted : Memory)
+        → cut_or_got known.now noted player.number length (words run.entry)
+        ≡ by_verdict result m noted }
+    ensures later { IsLater result }
+{
+    let start = known.count(player);
+    if start as usize + run.len() == length as usize {
+        let cut = Record::Cut {
+            player,
+            length,
+            start,
+            run,
+        };
+        return Verdict::Keep(cut, Heard::Kept);
+    }
+    got(known, player, run)
+}
+
+/// The new inputs of a player.
+fn got<'a>(known: &Known, player: Player, run: Run<'a>) -> Verdict<'a>
+    requires { Plays known.now player.number }
+    ensures value { (m noted : Memory)
+        → got known.now noted player.number (words run.entry) ≡ by_verdict result m noted }
+    ensures later { IsLater result }
+{
+    if run.is_empty() {
+        return Verdict::Nothing;
+    }
+    let start = known.count(player);
+    Verdict::Keep(Record::Got { player, start, run }, Heard::Kept)
+}
+
+/// The part of a player's inputs that is not held yet, where they fit what is held.
+fn fresh_part<'a>(
+    known: &Known,
+    player: Player,
+    teller: Player,
+    start: u32,
+    run: Run<'a>,
+) -> Result<Run<'a>, Refused>
+    requires plays { Plays known.now player.number }
+    requires taken { is_from_leaver known.now player.number teller.number ≡ false }
+    ensures fits { (m : Memory) (fitting : Outcome) → MatchResult result
+        (λ _. unless_misfit m (misfit known.now player.number start (words run.entry)) fitting
+        ≡ fitting)
+        (λ error. unless_misfit m (misfit known.now player.number start (words run.entry)) fitting
+        ≡ refused m error) }
+    ensures plain { IfErr result (λ error. luck_of_refusal error ≡ Works) }
+    ensures fresh { IfOk result (λ part.
+        words part ≡ fresh_words known.now player.number start (words run.entry)) }
+{
+    match known.fresh(player, teller, start, run) {
+        Ok(part) => Ok(part),
+        Err(error) => Err(Refused::Known(error)),
+    }
+}

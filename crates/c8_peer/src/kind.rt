@@ -1,0 +1,38 @@
+//! What a peer may be asked to say.
+ghost use Rattle.std.specs.Prelude.{◌≡◌};
+ghost use Rattle.c8_peer.specs.Asked.{wire_of};
+
+use c8_game::Player;
+
+/// What a peer may be asked to say, each with the leaver of whom it tells.
+#[derive(Clone, Copy, Debug, PartialEq, Eq)]
+pub enum Kind {
+    /// It asks for a link.
+    Hello,
+    /// It answers a HELLO.
+    Welcome,
+    /// Its own inputs that the other has not acknowledged.
+    Data,
+    /// Player one lets a player go.
+    Freeze(Player),
+    /// How many inputs of a leaver it holds, and those that player one lacks.
+    Frozen(Player),
+    /// Where a leaver's list ends, and the inputs before that the other lacks.
+    Cut(Player),
+}
+
+impl Kind {
+    /// The kind of the datagram that says it.
+    pub(crate) fn wire(self) -> c8_wire::Kind
+        ensures { result ≡ wire_of self }
+    {
+        match self {
+            Kind::Hello => c8_wire::Kind::Hello,
+            Kind::Welcome => c8_wire::Kind::Welcome,
+            Kind::Data => c8_wire::Kind::Data,
+            Kind::Freeze(_) => c8_wire::Kind::Freeze,
+            Kind::Frozen(_) => c8_wire::Kind::Frozen,
+            Kind::Cut(_) => c8_wire::Kind::Cut,
+        }
+    }
+}

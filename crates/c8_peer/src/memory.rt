@@ -1,0 +1,95 @@
+//! What a peer keeps in memory alone.
+ghost use Rattle.std.specs.Prelude.{◌≡◌, ◌≢◌, true, None};
+ghost use Rattle.c8_wire.specs.Lent.{packet_of};
+ghost use Rattle.c8_wire.specs.Saying.{head_value};
+ghost use Rattle.c8_hand.specs.Links.{refusal, head_to};
+ghost use Rattle.c8_peer.specs.Asked.{wire_of};
+ghost use Rattle.c8_peer.specs.State.{fresh_memory};
+ghost use Rattle.c8_peer.specs.Verdicts.{memory_after, AcksWithin};
+
+use crate::kind::Kind;
+use c8_game::{Game, Player};
+use c8_hand::Links;
+use c8_known::Known;
+use c8_round::{Chair, Stayer};
+use c8_window::Window;
+use c8_wire::{Datagram, Head};
+use std::marker::Model;
+
+/// What begins anew with each opening.
+#[derive(Debug, Drop)]
+pub(crate) struct Memory {
+    pub(crate) links: Links,
+    pub(crate) window: Window,
+    pub(crate) chair: Chair,
+    pub(crate) stayer: Stayer,
+    /// Another peer's machine was seen to differ.
+    pub(crate) alarm: bool,
+}
+
+impl Model for Memory {
+    ghost use Rattle.c8_peer.specs.State as states;
+
+    ghost Value = { states.Memory };
+
+    ghost view = { λ m. record {
+      links = m.links;
+      acks = m.window;
+      chair = m.chair;
+      stayer = m.stayer;
+      alarm = m.alarm;
+    } };
+}
+
+impl Memory {
+    pub(crate) fn new(game: &Game, room: u64, me: Player, epoch: u32) -> Memory
+        ensures { result ≡ fresh_memory game.now room me.number epoch }
+    {
+        Memory {
+            links: Links::new(me, game, room, epoch),
+            window: Window::new(game),
+            chair: Chair::new(),
+            stayer: Stayer::new(),
+            alarm: false,
+        }
+    }
+
+    /// The header of a datagram to another player.
+    pub(crate) fn head(&self, to: Player, kind: Kind) -> Head
+        requires { to.number ≢ self.now.links.me }
+        ensures { head_value result ≡ head_to self.now.links to.number (wire_of kind) }
+    {
+        self.links.head(to, kind.wire())
+    }
+
+    /// Keeps what a datagram says beside inputs, once nothing refuses it.
+    pub(crate) fn note(&mut self, known: &Known, datagram: &Datagram<'_>)
+        requires admitted { refusal self.old.links (packet_of datagram.now).head ≡ None }
+        requires acks { AcksWithin known.now (packet_of datagram.now).message }
+        ensures { self.new ≡ memory_after self.old (packet_of datagram.now) }
+    {
+        let Some(q) = datagram.header().from().player() else {
+            unreachable!();
+        };
+        match datagram {
+            Datagram::Hello(_) => self.links.hear(datagram),
+            Datagram::Welcome(welcome) => {
+                self.links.hear(datagram);
+                let _taken = self.window.ack(q, welcome.ack(), known);
+            }
+            Datagram::Data(data) => {
+                let _taken = self.window.ack(q, data.ack(), known);
+            }
+            Datagram::Freeze(freeze) => self.stayer.told(freeze.leaver(), freeze.have()),
+            Datagram::Frozen(frozen) => self.chair.report(q, frozen.leaver(), frozen.held()),
+            Datagram::Cut(_) => {}
+        }
+    }
+
+    /// Another peer's machine differs.
+    pub(crate) fn raise_alarm(&mut self)
+        ensures { self.new ≡ record self.old { alarm = true } }
+    {
+        self.alarm = true;
+    }
+}

@@ -1,0 +1,149 @@
+//! One peer, and how a record comes into its journal.
+ghost use Rattle.std.specs.Prelude.{◌≡◌, ◌≤◌, ◌<◌, ◌+◌, ◌*◌, [], ◌∷◌, ◌++◌, length, false, Some, OnOk, OnErr, IsErrOf};
+ghost use Rattle.c8_disk.specs.Runs.{LeavesOnly, IsSameDisk};
+ghost use Rattle.c8_log.specs.Slots.{slot_length};
+ghost use Rattle.c8_record.specs.Allowed.{IsAllowed};
+ghost use Rattle.c8_record.specs.Lent.{value_of};
+ghost use Rattle.c8_roll.specs.Roll.{roll_of};
+ghost use Rattle.c8_roll.specs.Seen.{value_of as seen};
+ghost use Rattle.c8_peer.specs.State.{Open, Down};
+ghost use Rattle.c8_peer.specs.Held.{is_opening, WasRoll};
+
+mod calls;
+mod hear;
+mod readers;
+mod say;
+
+use crate::memory::Memory;
+use c8_disk::{Arm, Disk, DiskError};
+use c8_game::Game;
+use c8_known::Known;
+use c8_log::Journal;
+use c8_record::{Record, body_of, make_known};
+use c8_roll::Roll;
+use std::marker::Model;
+
+/// One player's peer, over a disk that holds its journal.
+///
+/// A call is one step: it answers, adds at most one record to the journal, and says at most one
+/// datagram. What it adds is recorded before anything that rests on it is said or counted. Where
+/// the disk refuses a record the peer is down, its readers answer as before the call, and it is to
+/// be closed and opened again; the next opening decides whether the record stands. No call but the
+/// opening takes memory.
+#[derive(Drop)]
+pub struct Peer<'g, D: Disk> {
+    game: &'g Game,
+    room: u64,
+    journal: Journal<D>,
+    known: Known,
+    roll: Roll<'g>,
+    memory: Memory,
+}
+
+impl<'g, D: Disk> Model for Peer<'g, D> {
+    ghost use Rattle.std.specs.Prelude.{◌≡◌};
+    ghost use Rattle.c8_roll.specs.Roll.{roll_of};
+    ghost use Rattle.c8_roll.specs.Seen.{value_of};
+    ghost use Rattle.c8_peer.specs.Peer.{PeerValue, state_of};
+    ghost use Rattle.c8_peer.specs.Held.{IsPeer};
+
+    ghost Value = { PeerValue D };
+
+    ghost view = { λ p. record {
+      rules = p.game.now;
+      room = p.room;
+      me = p.known.me;
+      disk = p.journal.disk;
+      state = state_of p.journal.bodies p.journal.pending p.journal.is_down p.memory;
+    } };
+
+    ghost invariant = { λ p. IsPeer p.game.now p.room p.journal p.known p.memory
+        × (value_of p.roll ≡ roll_of p.game.now p.known) };
+}
+
+impl<'g, D: Disk> Peer<'g, D> {
+    ghost use Rattle.c8_peer.specs.Peer.{KeepsWithOrWithout, LeavesJournal, IsSound, mode_of};
+
+    /// Whether the disk refused a record. The peer is to be closed then, and its disk opened again.
+    pub fn is_down(&self) -> bool
+        ensures value { self.now.state.mode ≡ mode_of result }
+        ensures sound { IsSound D.Disk self.now }
+    {
+        self.game.in_range();
+        self.journal.is_down()
+    }
+
+    /// Says when the disk's calls fail from now on.
+    pub fn arm(&mut self, arm: Arm)
+        ensures value { self.new ≡ record self.old { disk = self.new.disk } }
+        ensures arms { D.arms self.new.disk ≡ D.arms self.old.disk ++ arm ∷ [] }
+        ensures failures { D.failures self.new.disk ≡ D.failures self.old.disk }
+        ensures changes { D.changes self.new.disk ≡ D.changes self.old.disk }
+        ensures capacity { D.capacity self.new.disk ≡ D.capacity self.old.disk }
+        ensures any_moment { LeavesOnly D.Disk self.old.disk self.new.disk
+            (KeepsWithOrWithout self.old.state.journal self.old.state.pending) }
+    {
+        self.journal.arm(arm);
+    }
+
+    /// Gives the disk back. Whether the pending record stands, the next opening decides.
+    pub fn close(self) -> D
+        ensures disk { result ≡ self.entry.disk }
+        ensures sound { IsSound D.Disk self.entry }
+    {
+        let _down = self.is_down();
+        self.journal.close()
+    }
+
+    /// Adds a record to the journal, and makes known what it says.
+    fn keep(&mut self, lent: &Record<'_>) -> Result<(), DiskError>
+        requires up { self.old.state.mode ≡ Open }
+        requires allowed { IsAllowed self.old.rules self.old.me self.old.room
+            self.old.state.journal (value_of lent.now) }
+        requires later { is_opening (value_of lent.now) ≡ false }
+        ensures ok { OnOk result (self.new ≡ record self.old {
+          disk = self.new.disk;
+          state = record self.old.state {
+            journal = self.old.state.journal ++ value_of lent.now ∷ [];
+          };
+        }) }
+        ensures err { OnErr result (self.new ≡ record self.old {
+          disk = self.new.disk;
+          state = record self.old.state { pending = Some (value_of lent.now); mode = Down };
+        }) }
+        ensures any_moment { LeavesOnly D.Disk self.old.disk self.new.disk
+            (KeepsWithOrWithout self.old.state.journal (Some (value_of lent.now))) }
+        ensures failed { IsErrOf result DiskError.Failed
+            → D.failures self.old.disk < D.failures self.new.disk }
+        ensures full { IsErrOf result DiskError.Full → D.capacity self.old.disk
+            < slot_length * (length self.old.state.journal + 1) + 1 }
+        ensures changes { D.changes self.new.disk ≤ D.changes self.old.disk + 4 }
+        ensures same { IsSameDisk D.Disk self.old.disk self.new.disk }
+        ensures journal { LeavesJournal D.Disk self.new }
+    {
+        match self.journal.append(&body_of(lent)) {
+            Ok(()) => {
+                make_known(&mut self.known, lent);
+                go_on(&mut self.roll, &self.known);
+                let _down = self.is_down();
+                Ok(())
+            }
+            Err(error) => {
+                let _down = self.is_down();
+                Err(error)
+            }
+        }
+    }
+}
+
+/// Takes what is known now.
+fn go_on(roll: &mut Roll<'_>, known: &Known)
+    requires { WasRoll (seen roll.old) known.now }
+    ensures { seen roll.new ≡ roll_of (seen roll.old).rules known.now }
+{
+    if known.ticks() > roll.ticks() {
+        roll.advance(known);
+    } else {
+        roll.settle(known);
+    }
+}

@@ -1,0 +1,89 @@
+//! A tick, and what player one does of a drop round by itself.
+ghost use Rattle.std.specs.Prelude.{◌≡◌, [], Ok, Err};
+ghost use Rattle.c8_known.specs.Journal.{Cut};
+ghost use Rattle.c8_record.specs.Lent.{value_of};
+ghost use Rattle.c8_peer.specs.State.{Tick, Leave, Decide, Ticked, Left, Decided};
+
+use super::Peer;
+use crate::error::{DecideError, LeaveError, TickError};
+use crate::judging::{judge_decide, judge_leave, judge_tick};
+use c8_disk::Disk;
+use c8_game::{Keys, Player};
+use c8_record::Record;
+use c8_wire::Run;
+
+impl<'g, D: Disk> Peer<'g, D> {
+    ghost use Rattle.c8_peer.specs.Peer.{IsAnswered};
+
+    /// Enters the own player's key set, for the frame of this tick and the game's delay.
+    pub fn tick(&mut self, keys: Keys) -> Result<(), TickError>
+        ensures { IsAnswered D.Disk self.old (Tick keys.0) (Ticked result) self.new }
+    {
+        if self.is_down() {
+            return Err(TickError::Down);
+        }
+        match judge_tick(self.game, &self.known) {
+            Ok(()) => {}
+            Err(error) => return Err(error),
+        }
+        let player = self.known.me();
+        let start = self.known.count(player);
+        let own = Record::Own {
+            player,
+            start,
+            keys,
+        };
+        match self.keep(&own) {
+            Ok(()) => Ok(()),
+            Err(error) => Err(TickError::Disk(error)),
+        }
+    }
+
+    /// Lets a player go, at player one: from here on its inputs are taken from those who stay.
+    pub fn leave(&mut self, leaver: Player) -> Result<(), LeaveError>
+        ensures { IsAnswered D.Disk self.old (Leave leaver.number) (Left result) self.new }
+    {
+        if self.is_down() {
+            return Err(LeaveError::Down);
+        }
+        match judge_leave(&self.known, leaver) {
+            Ok(()) => {}
+            Err(error) => return Err(error),
+        }
+        match self.keep(&Record::Leave { player: leaver }) {
+            Ok(()) => Ok(()),
+            Err(error) => Err(LeaveError::Disk(error)),
+        }
+    }
+
+    /// Ends a leaver's list, at player one, and answers the length at which it ends: as many inputs
+    /// as player one holds, once all who stay have answered that they hold no more.
+    pub fn decide(&mut self, leaver: Player) -> Result<u32, DecideError>
+        ensures { IsAnswered D.Disk self.old (Decide leaver.number) (Decided result) self.new }
+    {
+        if self.is_down() {
+            return Err(DecideError::Down);
+        }
+        let length = match judge_decide(&self.known, &self.memory, leaver) {
+            Ok(length) => length,
+            Err(error) => return Err(error),
+        };
+        match self.keep(&end_at(leaver, length)) {
+            Ok(()) => Ok(length),
+            Err(error) => Err(DecideError::Disk(error)),
+        }
+    }
+}
+
+/// The end of a player's list where it ends now.
+#[tactic(auto, unfolding(c8_wire::specs::Reading::words_of))]
+fn end_at(player: Player, length: u32) -> Record<'static>
+    ensures { value_of result ≡ Cut player.number length length [] }
+{
+    Record::Cut {
+        player,
+        length,
+        start: length,
+        run: Run::new(&[]),
+    }
+}

@@ -1,0 +1,119 @@
+//! A delivery.
+ghost use Rattle.std.specs.Prelude.{◌≡◌, true, false, None, Ok, OnOk};
+ghost use Rattle.c8_wire.specs.Packet.{IsPacket};
+ghost use Rattle.c8_wire.specs.Lent.{packet_of};
+ghost use Rattle.c8_wire.specs.Read.{read};
+ghost use Rattle.c8_hand.specs.Links.{refusal, IsForMe};
+ghost use Rattle.c8_known.specs.Known.{player_in};
+ghost use Rattle.c8_peer.specs.State.{Open, Deliver, Delivered};
+ghost use Rattle.c8_peer.specs.Hearing.{hear_message};
+ghost use Rattle.c8_peer.specs.Lawful.{IsMemory};
+ghost use Rattle.c8_peer.specs.Verdicts.{AcksWithin, Judges, memory_after};
+
+use super::Peer;
+use crate::error::Refused;
+use crate::heard::Heard;
+use crate::hearing::judge;
+use crate::verdict::Verdict;
+use c8_disk::Disk;
+use c8_wire::{Datagram, view};
+
+impl<'g, D: Disk> Peer<'g, D> {
+    ghost use Rattle.c8_peer.specs.Peer.{IsAnswered, known_by};
+
+    /// Takes what came over the network: any bytes, of any length. They are read where they are.
+    /// What they say is judged in this order: `Down`, `Dropped`, `Wire`, `Hand`, then by kind.
+    pub fn deliver(&mut self, bytes: &[u8]) -> Result<Heard, Refused>
+        ensures { IsAnswered D.Disk self.old (Deliver (read bytes.now)) (Delivered result)
+            self.new }
+    {
+        if self.is_down() {
+            return Err(Refused::Down);
+        }
+        if self.known.leaving(self.known.me()) {
+            return Err(Refused::Dropped);
+        }
+        let datagram = match view(bytes) {
+            Ok(datagram) => datagram,
+            Err(error) => return Err(Refused::Wire(error)),
+        };
+        match self.memory.links.admit(&datagram) {
+            Ok(()) => self.hear(&datagram),
+            Err(error) => Err(Refused::Hand(error)),
+        }
+    }
+
+    /// Takes a datagram that the links admit.
+    fn hear(&mut self, datagram: &Datagram<'_>) -> Result<Heard, Refused>
+        requires up { self.old.state.mode ≡ Open }
+        requires stays { (player_in (known_by self.old) self.old.me).leaving ≡ false }
+        requires packet { IsPacket (packet_of datagram.now) }
+        requires admitted { refusal self.old.state.memory.links (packet_of datagram.now).head
+            ≡ None }
+        requires mine { IsForMe self.old.state.memory.links (packet_of datagram.now).head }
+        ensures { IsAnswered D.Disk self.old (Deliver (Ok (packet_of datagram.now)))
+            (Delivered result) self.new }
+    {
+        // For the proof: what is so of every peer.
+        let _down = self.is_down();
+        match self.judge(datagram) {
+            Ok(Verdict::Nothing) => {
+                self.note(datagram);
+                Ok(Heard::Nothing)
+            }
+            Ok(Verdict::Alarm) => {
+                self.raise_alarm();
+                Err(Refused::Desync)
+            }
+            Ok(Verdict::Keep(record, heard)) => match self.keep(&record) {
+                Ok(()) => {
+                    self.note(datagram);
+                    Ok(heard)
+                }
+                Err(error) => Err(Refused::Disk(error)),
+            },
+            Err(error) => Err(error),
+        }
+    }
+
+    /// What a datagram that the links admit comes to.
+    fn judge<'a>(&self, datagram: &Datagram<'a>) -> Result<Verdict<'a>, Refused>
+        requires { IsForMe self.now.state.memory.links (packet_of datagram.now).head }
+        ensures judged { Judges (hear_message self.now.rules (known_by self.now)
+            self.now.state.memory (packet_of datagram.now).head (packet_of datagram.now).message)
+            self.now.state.memory
+            (memory_after self.now.state.memory (packet_of datagram.now)) result }
+        ensures acks { OnOk result (AcksWithin (known_by self.now) (packet_of datagram.now).message) }
+    {
+        let Some(sender) = datagram.header().from().player() else {
+            unreachable!();
+        };
+        judge(&self.known, self.roll.marks(), sender, datagram)
+    }
+
+    /// Keeps in memory what a datagram says that nothing refuses.
+    fn note(&mut self, datagram: &Datagram<'_>)
+        requires admitted { refusal self.old.state.memory.links (packet_of datagram.now).head
+            ≡ None }
+        requires acks { AcksWithin (known_by self.old) (packet_of datagram.now).message }
+        requires memory { IsMemory self.old.rules self.old.room self.old.me self.old.state.journal
+            (memory_after self.old.state.memory (packet_of datagram.now)) }
+        ensures { self.new ≡ record self.old {
+          state = record self.old.state {
+            memory = memory_after self.old.state.memory (packet_of datagram.now);
+          };
+        } }
+    {
+        self.memory.note(&self.known, datagram);
+    }
+
+    fn raise_alarm(&mut self)
+        ensures { self.new ≡ record self.old {
+          state = record self.old.state {
+            memory = record self.old.state.memory { alarm = true };
+          };
+        } }
+    {
+        self.memory.raise_alarm();
+    }
+}

@@ -1,0 +1,122 @@
+//! What a peer tells of itself.
+ghost use Rattle.std.specs.Prelude.{◌≡◌, ◌≤◌, ◌==◌};
+ghost use Rattle.c8_machine.specs.State.{state};
+ghost use Rattle.c8_machine.specs.Serial.{serial};
+ghost use Rattle.c8_known.specs.Known.{player_in, count_in, is_frozen_in};
+ghost use Rattle.c8_known.specs.Confirmed.{confirmed, confirmed_rows, best_rows};
+ghost use Rattle.c8_known.specs.Journal as journals;
+ghost use Rattle.c8_window.specs.Window.{acked_of};
+
+use super::Peer;
+use c8_disk::Disk;
+use c8_game::Player;
+use c8_machine::Machine;
+
+impl<'g, D: Disk> Peer<'g, D> {
+    ghost use Rattle.c8_peer.specs.Peer.{known_by};
+
+    /// Whose peer it is.
+    pub fn me(&self) -> Player
+        ensures { result.number ≡ self.now.me }
+    {
+        self.known.me()
+    }
+
+    /// How many players the game has.
+    pub fn players(&self) -> u8
+        ensures { result ≡ self.now.rules.players }
+    {
+        self.known.players()
+    }
+
+    /// How many ticks the own player has made.
+    pub fn now(&self) -> u32
+        ensures { result ≡ journals.ticks self.now.state.journal }
+    {
+        self.known.ticks()
+    }
+
+    /// How many frames are confirmed.
+    pub fn confirmed(&self) -> u32
+        ensures { result ≡ confirmed (known_by self.now) }
+    {
+        self.known.confirmed()
+    }
+
+    /// The epoch that began with the last opening.
+    pub fn epoch(&self) -> u32
+        ensures { result ≡ journals.epoch self.now.state.journal }
+    {
+        self.memory.links.epoch()
+    }
+
+    /// How many inputs are held of a player, those of the delay included.
+    pub fn count(&self, player: Player) -> u32
+        requires { player.number ≤ self.now.rules.players }
+        ensures { result ≡ count_in (known_by self.now) player.number }
+    {
+        self.known.count(player)
+    }
+
+    /// How many of the own inputs a player has acknowledged since the last opening.
+    pub fn acked(&self, player: Player) -> u32
+        ensures { result ≡ acked_of self.now.state.memory.acks player.number }
+    {
+        self.memory.window.acked(player)
+    }
+
+    /// Whether a player's inputs are no longer taken from itself.
+    pub fn frozen(&self, player: Player) -> bool
+        requires { player.number ≤ self.now.rules.players }
+        ensures { result ≡ is_frozen_in (known_by self.now) player.number }
+    {
+        self.known.frozen(player)
+    }
+
+    /// Whether a LEAVE of a player stands: at player one that it was let go, at the player itself
+    /// that it has been dropped.
+    pub fn leaving(&self, player: Player) -> bool
+        requires { player.number ≤ self.now.rules.players }
+        ensures { result ≡ (player_in (known_by self.now) player.number).leaving }
+    {
+        self.known.leaving(player)
+    }
+
+    /// The length at which a player's list is cut.
+    pub fn cut_of(&self, player: Player) -> Option<u32>
+        requires { player.number ≤ self.now.rules.players }
+        ensures { result ≡ (player_in (known_by self.now) player.number).cut }
+    {
+        self.known.cut_of(player)
+    }
+
+    /// Whether this peer's player has been dropped: only readers serve from then on.
+    pub fn dropped(&self) -> bool
+        ensures { result ≡ (player_in (known_by self.now) self.now.me).leaving }
+    {
+        self.known.leaving(self.known.me())
+    }
+
+    /// Whether a player's machine was seen to differ since the last opening.
+    pub fn alarm(&self) -> bool
+        ensures { result ≡ self.now.state.memory.alarm }
+    {
+        self.memory.alarm
+    }
+
+    /// The machine that the player sees: the run of the best guess at each frame's inputs.
+    pub fn shown(&self) -> &Machine
+        ensures { state result.now ≡ serial self.now.rules (best_rows (known_by self.now)) }
+    {
+        self.roll.shown()
+    }
+
+    /// How many frames are confirmed, and the machine after them.
+    pub fn base(&self) -> (u32, &Machine)
+        ensures confirmed { result.0 ≡ confirmed (known_by self.now) }
+        ensures machine { state result.1.now
+            ≡ serial self.now.rules (confirmed_rows (known_by self.now)) }
+    {
+        self.roll.base()
+    }
+}

@@ -1,0 +1,56 @@
+//! A saying.
+ghost use Rattle.std.specs.Prelude.{◌≡◌, ◌≤◌, take, drop, IfOk, IfErr, OnErr, Err};
+ghost use Rattle.c8_peer.specs.State as states;
+ghost use Rattle.c8_peer.specs.Asked.{saying_of};
+ghost use Rattle.c8_peer.specs.Saying.{newest_mark};
+
+use super::Peer;
+use crate::error::Unsayable;
+use crate::kind::Kind;
+use crate::saying::{judge_saying, message};
+use c8_digest::FrameMark;
+use c8_disk::Disk;
+use c8_game::Player;
+use c8_wire::{LONGEST_DATAGRAM, Said, write};
+
+impl<'g, D: Disk> Peer<'g, D> {
+    ghost use Rattle.c8_peer.specs.Peer.{IsStep, IsSaid, known_by};
+
+    /// Writes a datagram to another player to the front of `out`, and answers its length, 24 to
+    /// 174. Refusals are found in the order of `Unsayable`; after one `out` is as it was.
+    pub fn say(
+        &self,
+        to: Player,
+        kind: Kind,
+        out: &mut [u8; LONGEST_DATAGRAM],
+    ) -> Result<usize, Unsayable>
+        ensures said { IfOk result (λ size.
+            IsSaid self.now (states.Say to.number (saying_of kind)) (take size out.new)) }
+        ensures rest { IfOk result (λ size. drop size out.new ≡ drop size out.old) }
+        ensures fits { IfOk result (λ size. size ≤ LONGEST_DATAGRAM) }
+        ensures refused { IfErr result (λ error.
+            IsStep self.now (states.Say to.number (saying_of kind)) (states.Said (Err error)) self.now) }
+        ensures refused_leaves { OnErr result (out.new ≡ out.old) }
+    {
+        if self.is_down() {
+            return Err(Unsayable::Down);
+        }
+        match judge_saying(&self.known, &self.memory, to, kind) {
+            Ok(()) => {}
+            Err(error) => return Err(error),
+        }
+        let body = message(&self.known, &self.memory, self.newest_mark(), to, kind);
+        let head = self.memory.head(to, kind);
+        Ok(write(&Said { head, body }, out))
+    }
+
+    /// The mark of the greatest multiple of 32 confirmed frames.
+    fn newest_mark(&self) -> FrameMark
+        ensures { result ≡ newest_mark self.now.rules (known_by self.now) }
+    {
+        match self.roll.marks().newest() {
+            Some(newest) => newest,
+            None => unreachable!(),
+        }
+    }
+}

@@ -1,0 +1,165 @@
+//! What a peer says, or why it does not. Nothing here changes anything.
+ghost use Rattle.std.specs.Prelude.{◌≡◌, ◌≢◌, ℕ, ◌≤◌, false, MatchResult, OnOk, Ok, Err};
+ghost use Rattle.c8_game.specs.Rules.{Rules};
+ghost use Rattle.c8_wire.specs.Saying.{message_of};
+ghost use Rattle.c8_known.specs.Known.{KnownValue, Plays, count_in};
+ghost use Rattle.c8_peer.specs.Asked.{saying_of};
+ghost use Rattle.c8_peer.specs.State.{Said, Frozen, Cut, answered};
+ghost use Rattle.c8_peer.specs.Saying.{is_not_mine, lacks_record, lacks_link, run_from, newest_mark, message, packet, say};
+
+use crate::error::Unsayable;
+use crate::kind::Kind;
+use crate::memory::Memory;
+use c8_digest::FrameMark;
+use c8_game::Player;
+use c8_known::Known;
+use c8_wire::{Body, LONGEST_RUN};
+
+/// Whether this may be said.
+#[tactic(auto, unfolding(crate::specs::Saying::say))]
+pub(crate) fn judge_saying(
+    known: &Known,
+    memory: &Memory,
+    to: Player,
+    kind: Kind,
+) -> Result<(), Unsayable>
+    ensures judged { (rules : Rules) → MatchResult result
+        (λ _. say rules known.now memory.now to.number (saying_of kind)
+        ≡ answered memory.now (Said (Ok (packet rules known.now memory.now to.number
+        (saying_of kind)))))
+        (λ error. say rules known.now memory.now to.number (saying_of kind)
+        ≡ answered memory.now (Said (Err error))) }
+    ensures plays { OnOk result (Plays known.now to.number) }
+    ensures other { OnOk result (to.number ≢ known.now.me) }
+    ensures has { OnOk result (lacks_record known.now (saying_of kind) ≡ false) }
+{
+    if known.leaving(known.me()) {
+        return Err(Unsayable::Dropped);
+    }
+    if to.number == known.me().number || to.number > known.players() {
+        return Err(Unsayable::NotAPlayer);
+    }
+    if is_not_mine(known.me(), to, kind) {
+        return Err(Unsayable::NotMine);
+    }
+    if lacks_record(known, kind) {
+        return Err(Unsayable::NoRecord);
+    }
+    if lacks_link(memory, to, kind) {
+        return Err(Unsayable::NoLink);
+    }
+    Ok(())
+}
+
+fn is_not_mine(me: Player, to: Player, kind: Kind) -> bool
+    ensures { (k : KnownValue) → k.me ≡ me.number
+        → result ≡ is_not_mine k to.number (saying_of kind) }
+{
+    match kind {
+        Kind::Hello | Kind::Welcome | Kind::Data => false,
+        Kind::Freeze(leaver) => me.number != 1 || to.number == leaver.number,
+        Kind::Frozen(_) => me.number == 1 || to.number != 1,
+        Kind::Cut(_) => me.number != 1,
+    }
+}
+
+fn lacks_record(known: &Known, kind: Kind) -> bool
+    ensures { result ≡ lacks_record known.now (saying_of kind) }
+{
+    match kind {
+        Kind::Hello | Kind::Welcome | Kind::Data => false,
+        Kind::Freeze(leaver) => leaver.number > known.players() || !known.leaving(leaver),
+        Kind::Frozen(leaver) => leaver.number > known.players() || !known.has_freeze(leaver),
+        Kind::Cut(leaver) => leaver.number > known.players() || known.cut_of(leaver).is_none(),
+    }
+}
+
+fn lacks_link(memory: &Memory, to: Player, kind: Kind) -> bool
+    ensures { result ≡ lacks_link memory.now to.number (saying_of kind) }
+{
+    match kind {
+        Kind::Hello => false,
+        Kind::Welcome => memory.links.known(to) == 0,
+        Kind::Data | Kind::Freeze(_) | Kind::Frozen(_) | Kind::Cut(_) => {
+            memory.links.open(to).is_none()
+        }
+    }
+}
+
+/// What is said, where nothing speaks against it; its inputs are lent from what is known.
+pub(crate) fn message<'a>(
+    known: &'a Known,
+    memory: &Memory,
+    newest: FrameMark,
+    to: Player,
+    kind: Kind,
+) -> Body<'a>
+    requires plays { Plays known.now to.number }
+    requires has { lacks_record known.now (saying_of kind) ≡ false }
+    ensures { (rules : Rules) → newest ≡ newest_mark rules known.entry.now
+        → message_of result ≡ message rules known.entry.now memory.now to.number (saying_of kind) }
+{
+    let FrameMark {
+        frame: mark_frame,
+        mark,
+    } = newest;
+    match kind {
+        Kind::Hello => Body::Hello,
+        Kind::Welcome => Body::Welcome {
+            ack: known.count(to),
+        },
+        Kind::Data => Body::Data {
+            ack: known.count(to),
+            mark_frame,
+            mark,
+            start: memory.window.acked(to),
+            run: memory.window.pending(to, known),
+        },
+        Kind::Freeze(leaver) => Body::Freeze {
+            leaver,
+            have: known.count(leaver),
+        },
+        Kind::Frozen(leaver) => frozen(known, memory, leaver),
+        Kind::Cut(leaver) => cut(known, memory, to, leaver),
+    }
+}
+
+/// What is held of a leaver, for player one.
+fn frozen<'a>(known: &'a Known, memory: &Memory, leaver: Player) -> Body<'a>
+    requires { Plays known.now leaver.number }
+    ensures { (rules : Rules) (to : ℕ) → message_of result
+        ≡ message rules known.entry.now memory.now to (Frozen leaver.number) }
+{
+    let start = memory.stayer.from(leaver, known);
+    Body::Frozen {
+        leaver,
+        held: known.count(leaver),
+        start,
+        run: run_from(known, leaver, start),
+    }
+}
+
+/// Where a leaver's list ends, for a player who stays.
+fn cut<'a>(known: &'a Known, memory: &Memory, to: Player, leaver: Player) -> Body<'a>
+    requires { Plays known.now leaver.number }
+    ensures { (rules : Rules) → message_of result
+        ≡ message rules known.entry.now memory.now to.number (Cut leaver.number) }
+{
+    let start = memory.chair.owed(to, leaver, known);
+    Body::Cut {
+        leaver,
+        length: known.cut_of(leaver).unwrap_or(0),
+        start,
+        run: run_from(known, leaver, start),
+    }
+}
+
+/// A player's inputs from a start on, as many as one datagram carries.
+fn run_from(known: &Known, player: Player, start: u32) -> &[u16]
+    requires plays { Plays known.now player.number }
+    requires within { start ≤ count_in known.now player.number }
+    ensures { result.now ≡ run_from known.now player.number start }
+{
+    let left = known.count(player) - start;
+    known.inputs(player, start, start + left.min(LONGEST_RUN as u32))
+}
