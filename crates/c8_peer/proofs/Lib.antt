@@ -10,3 +10,4 @@ pub mod PeerLemmas
 pub mod AnswerLemmas
 pub mod ReaderLemmas
 pub mod DeliveryLemmas
+pub mod RunLemmas

@@ -12,3 +12,4 @@ pub mod Peer
 pub mod Verdicts
 pub mod Asked
 pub mod Held
+pub mod Runs

@@ -1,17 +1,23 @@
 //! What callers may rest on that is no single call's: laws of peers, each the contract of a
 //! function that does nothing.
-ghost use Rattle.std.specs.Prelude.{◌≡◌, ℕ, ◌^◌, ◌<◌, ◌≤◌, List, [], ◌∷◌, ◌++◌, Ok, Some};
+ghost use Rattle.std.specs.Prelude.{◌≡◌, ℕ, ◌^◌, ◌<◌, ◌≤◌, List, [], ◌∷◌, ◌++◌, Bool, Option, Ok, Some};
 ghost use Rattle.c8_game.specs.Rules.{Rules, AreInRange};
 ghost use Rattle.c8_wire.specs.Packet.{Packet, IsPacket};
 ghost use Rattle.c8_known.specs.Journal.{Record, epoch};
 ghost use Rattle.c8_known.specs.Known.{known_of};
 ghost use Rattle.c8_known.specs.Confirmed.{confirmed, rows_below};
+ghost use Rattle.c8_log.specs.Slots.{kept};
 ghost use Rattle.c8_record.specs.Allowed.{IsAllowed, IsJournal};
-ghost use Rattle.c8_peer.specs.State.{Memory, Call, Said, fresh_memory};
-ghost use Rattle.c8_peer.specs.Steps.{outcome};
-ghost use Rattle.c8_peer.specs.Opening.{last_epoch, opening_record};
+ghost use Rattle.c8_record.specs.Body.{records_of};
+ghost use Rattle.c8_peer.specs.State.{Memory, State, Call, Reply, Said, fresh_memory};
+ghost use Rattle.c8_peer.specs.Steps.{Luck, Works, outcome, step};
+ghost use Rattle.c8_peer.specs.Opening.{last_epoch, opening_record, found};
 ghost use Rattle.c8_peer.specs.Truth.{IsTrue};
 ghost use Rattle.c8_peer.specs.Lawful.{IsMemory, IsCall};
+ghost use Rattle.c8_peer.specs.Peer.{PeerValue, IsSound, IsAnswered, IsSaid, Keeps, MayLeave, luck_of};
+ghost use Rattle.c8_peer.specs.Runs.{Deed, Does, IsDone, IsRun, IsReached, IsAmong, never_opened, known_at};
+
+use c8_disk::Disk;
 
 /// What is true of a journal stays true of every journal that the rules allow and that it begins.
 pub fn what_is_true_stays()
@@ -75,4 +81,77 @@ pub fn steps_are_lawful()
         → IsMemory rules room me journal m → IsCall call
         → (outcome rules (known_of rules me journal) m call).reply ≡ Said (Ok p)
         → IsPacket p }
+{}
+
+/// Every run of a peer, from before it is first opened, over openings, closes, disks that refuse
+/// and crashes. What a reading of the disk finds, with the pending record or without, is a journal
+/// of the rules. The journal only grows. What was said at any moment is true of the journal from
+/// then on. Frames that are confirmed stay confirmed, with the same rows.
+pub fn a_peers_word_stands()
+    ensures journal { (rules : Rules) (room me : ℕ) (s : State) (finds : Bool)
+        → AreInRange rules → 1 ≤ me → me ≤ rules.players → room < 2 ^ 64
+        → IsReached rules room me s → IsJournal rules me room (found s finds) }
+    ensures grows { (rules : Rules) (room me : ℕ) (s t : State) (deeds : List Deed)
+        (answers : List (Option Reply))
+        → IsRun rules room me s deeds answers t
+        → (rest : List Record) × (t.journal ≡ s.journal ++ rest) }
+    ensures said { (rules : Rules) (room me : ℕ) (s : State) (deeds : List Deed)
+        (answers : List (Option Reply)) (packet : Packet)
+        → AreInRange rules → 1 ≤ me → me ≤ rules.players → room < 2 ^ 64
+        → IsRun rules room me never_opened deeds answers s → IsAmong answers packet
+        → IsTrue rules me s.journal packet }
+    ensures confirmed { (rules : Rules) (room me : ℕ) (s t : State) (deeds : List Deed)
+        (answers : List (Option Reply))
+        → AreInRange rules → 1 ≤ me → me ≤ rules.players → room < 2 ^ 64
+        → IsReached rules room me s → IsRun rules room me s deeds answers t
+        → confirmed (known_at rules me s) ≤ confirmed (known_at rules me t) }
+    ensures rows { (rules : Rules) (room me n : ℕ) (s t : State) (deeds : List Deed)
+        (answers : List (Option Reply))
+        → AreInRange rules → 1 ≤ me → me ≤ rules.players → room < 2 ^ 64
+        → IsReached rules room me s → IsRun rules room me s deeds answers t
+        → n ≤ confirmed (known_at rules me s)
+        → rows_below (known_at rules me t) n ≡ rows_below (known_at rules me s) n }
+{}
+
+/// One run after another is a run.
+pub fn runs_join()
+    ensures run { (rules : Rules) (room me : ℕ) (s t u : State) (deeds more : List Deed)
+        (answers others : List (Option Reply))
+        → IsRun rules room me s deeds answers t → IsRun rules room me t more others u
+        → IsRun rules room me s (deeds ++ more) (answers ++ others) u }
+    ensures reached { (rules : Rules) (room me : ℕ) (s t : State) (deed : Deed)
+        (answer : Option Reply)
+        → IsReached rules room me s → IsDone rules room me s deed answer t
+        → IsReached rules room me t }
+{}
+
+/// Each call of a peer is a deed of a run, by what its contract says of it.
+pub fn calls_are_deeds<D: Disk>()
+    ensures answered { (old new : PeerValue D) (call : Call) (reply : Reply)
+        → IsCall call → IsAnswered D.Disk old call reply new
+        → IsDone old.rules old.room old.me old.state (Does call (luck_of reply)) (Some reply)
+        new.state }
+    ensures said { (p : PeerValue D) (call : Call) (bytes : List ℕ)
+        → IsCall call → (is : IsSaid p call bytes)
+        → IsDone p.rules p.room p.me p.state (Does call Works) (Some (Said (Ok is.packet)))
+        p.state }
+{}
+
+/// What the disk of a peer tells a reading. `reading`: a read now gives the journal, with the
+/// pending record or without. `bodies`: each image that a crash now leaves keeps one of the two.
+/// `records`: so an opening finds one of the two, if a run led to this state. `inside`: each image
+/// that a crash inside a call leaves keeps one of those that a stop in a run finds.
+pub fn what_disks_tell<D: Disk>()
+    ensures reading { (p : PeerValue D) → IsSound D.Disk p
+        → (finds : Bool) × Keeps (found p.state finds) (D.seen p.disk) }
+    ensures bodies { (p : PeerValue D) (image : List ℕ)
+        → IsSound D.Disk p → D.may_leave p.disk image
+        → (finds : Bool) × Keeps (found p.state finds) image }
+    ensures records { (p : PeerValue D) (image : List ℕ)
+        → IsSound D.Disk p → p.room < 2 ^ 64 → IsReached p.rules p.room p.me p.state
+        → D.may_leave p.disk image
+        → (finds : Bool) × (records_of (kept image) ≡ found p.state finds) }
+    ensures inside { (p : PeerValue D) (call : Call) (image : List ℕ) → MayLeave p call image
+        → (luck : Luck) × (leaves : Bool)
+        × Keeps (found (step p.rules p.me p.state call luck).state leaves) image }
 {}

@@ -23,7 +23,7 @@ mod verdict;
 pub use error::{DecideError, LeaveError, OpenError, Refused, TickError, Unsayable};
 pub use heard::Heard;
 pub use kind::Kind;
-pub use peer::Peer;
+pub use peer::{Peer, Rows};
 
 #[cfg(test)]
 mod tests;

@@ -12,6 +12,7 @@ ghost use Rattle.c8_peer.specs.Held.{is_opening, WasRoll};
 mod calls;
 mod hear;
 mod readers;
+mod rows;
 mod say;
 
 use crate::memory::Memory;
@@ -21,6 +22,7 @@ use c8_known::Known;
 use c8_log::Journal;
 use c8_record::{Record, body_of, make_known};
 use c8_roll::Roll;
+pub use rows::Rows;
 use std::marker::Model;
 
 /// One player's peer, over a disk that holds its journal.

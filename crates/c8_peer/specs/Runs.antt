@@ -1,0 +1,99 @@
+-- A run of one peer: what is done to it, one deed after another, and what it answers.
+use Rattle.std.specs.Prelude.{◌≡◌, ◌≢◌, ℕ, List, [], ◌∷◌, Bool, false, Option, Some, None, Ok}
+use Rattle.std.specs.List.{slice_get}
+use Rattle.c8_game.specs.Rules.{Rules}
+use Rattle.c8_wire.specs.Packet.{Packet}
+use Rattle.c8_hand.specs.Links.{no_link}
+use Rattle.c8_known.specs.Known.{KnownValue, known_of}
+use Rattle.c8_window.specs.Window.{first_window}
+use Rattle.c8_round.specs.Round.{no_reports, no_haves}
+use Rattle.c8_peer.specs.State.{Away, State, Call, Reply, Said}
+use Rattle.c8_peer.specs.State as states
+use Rattle.c8_peer.specs.Steps.{Luck, Stepped, step}
+use Rattle.c8_peer.specs.Opening.{Opening, found, opened, away, MayBecome}
+use Rattle.c8_peer.specs.Lawful.{IsCall}
+
+-- a peer that was never opened: nothing is asked of its memory
+abbrev pub never_opened : State
+never_opened = record {
+  journal = [];
+  pending = None;
+  mode = Away;
+  memory = record {
+    links = record { me = 0; players = 0; session = 0; epoch = 0; one = no_link; two = no_link; three = no_link; four = no_link };
+    acks = first_window 0;
+    chair = no_reports;
+    stayer = no_haves;
+    alarm = false;
+  };
+}
+
+-- ---- deeds
+
+-- A call, and what the disk does with its record; an opening, by whether the reading finds the pending record and what
+-- becomes of it; a close; or a call or an opening inside which a crash stops the peer, by whether it leaves the pending record.
+pub data Deed : Type 0 where
+  Does : (call : Call) → (luck : Luck) → Deed
+  Opens : (finds : Bool) → (opening : Opening) → Deed
+  Closes : Deed
+  Stops : (call : Call) → (luck : Luck) → (leaves : Bool) → Deed
+  StopsOpening : (finds : Bool) → (opening : Opening) → (leaves : Bool) → Deed
+
+-- what is answered, if anything is, and the state after it
+pub record After : Type 0 where
+  pub answer : Option Reply
+  pub state : State
+
+abbrev pub as_answered : Stepped → After
+as_answered stepped = record { answer = Some stepped.reply; state = stepped.state }
+
+-- a crash makes a peer away, with its journal as a reading of the disk finds it; nothing is pending then
+abbrev pub crashed : State → Bool → State
+crashed s leaves = away s (found s leaves) None
+
+-- A stop is the call or the opening and then a crash, whatever it came to.
+abbrev pub after : Rules → ℕ → ℕ → State → Deed → After
+after rules room me s (Does call luck) = as_answered (step rules me s call luck)
+after rules room me s (Opens finds opening) = as_answered (opened rules room me s (found s finds) opening)
+after rules room me s Closes = record { answer = None; state = away s s.journal s.pending }
+after rules room me s (Stops call luck leaves) = record { answer = None; state = crashed (step rules me s call luck).state leaves }
+after rules room me s (StopsOpening finds opening leaves) = record { answer = None; state = crashed (opened rules room me s (found s finds) opening).state leaves }
+
+-- only a peer that is down or away is opened, and an opening comes to what it may
+abbrev pub MayOpen : Rules → ℕ → ℕ → State → Bool → Opening → Type 0
+MayOpen rules room me s finds opening = (s.mode ≢ states.Open) × MayBecome rules room me (found s finds) opening
+
+abbrev pub MayDo : Rules → ℕ → ℕ → State → Deed → Type 0
+MayDo rules room me s (Does call luck) = IsCall call
+MayDo rules room me s (Opens finds opening) = MayOpen rules room me s finds opening
+MayDo rules room me s Closes = Unit {0}
+MayDo rules room me s (Stops call luck leaves) = IsCall call
+MayDo rules room me s (StopsOpening finds opening leaves) = MayOpen rules room me s finds opening
+
+-- a deed may be answered so and leave this state
+pub record IsDone (rules : Rules) (room me : ℕ) (s : State) (deed : Deed) (answer : Option Reply) (t : State) : Type 0 where
+  pub may : MayDo rules room me s deed
+  pub is : after rules room me s deed ≡ record { answer = answer; state = t }
+
+-- ---- runs
+
+-- a list of deeds, one answer each, leads from a state to another
+abbrev pub IsRun : Rules → ℕ → ℕ → State → List Deed → List (Option Reply) → State → Type 0
+IsRun rules room me s [] [] t = t ≡ s
+IsRun rules room me s [] (answer ∷ answers) t = ⊥
+IsRun rules room me s (deed ∷ deeds) [] t = ⊥
+IsRun rules room me s (deed ∷ deeds) (answer ∷ answers) t = (u : State) × IsDone rules room me s deed answer u × IsRun rules room me u deeds answers t
+
+-- some run leads to this state, from before the peer is first opened
+pub record IsReached (rules : Rules) (room me : ℕ) (s : State) : Type 0 where
+  pub deeds : List Deed
+  pub answers : List (Option Reply)
+  pub run : IsRun rules room me never_opened deeds answers s
+
+-- the packet is said in one of these answers
+abbrev pub IsAmong : List (Option Reply) → Packet → Type 0
+IsAmong answers packet = (n : ℕ) × (slice_get answers n ≡ Some (Some (Said (Ok packet))))
+
+-- what the player knows by the journal of a state
+abbrev pub known_at : Rules → ℕ → State → KnownValue
+known_at rules me s = known_of rules me s.journal
