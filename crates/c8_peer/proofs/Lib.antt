@@ -11,3 +11,4 @@ pub mod AnswerLemmas
 pub mod ReaderLemmas
 pub mod DeliveryLemmas
 pub mod RunLemmas
+pub mod OpenLemmas

@@ -13,3 +13,5 @@ pub mod Verdicts
 pub mod Asked
 pub mod Held
 pub mod Runs
+pub mod Opened
+pub mod OpenedParts

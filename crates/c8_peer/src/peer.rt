@@ -11,6 +11,7 @@ ghost use Rattle.c8_peer.specs.Held.{is_opening, WasRoll};
 
 mod calls;
 mod hear;
+mod open;
 mod readers;
 mod rows;
 mod say;

@@ -1,5 +1,5 @@
 //! A roll over a game.
-ghost use Rattle.std.specs.Prelude.{◌≡◌, ◌+◌, ℕ, IfOk};
+ghost use Rattle.std.specs.Prelude.{◌≡◌, ◌+◌, ℕ, [], IfOk};
 ghost use Rattle.c8_machine.specs.State.{state};
 ghost use Rattle.c8_roll.specs.Roll.{roll_of, GrowsTo};
 
@@ -29,22 +29,32 @@ impl<'g> Roll<'g> {
         ensures roll { IfOk result (λ roll. value_of roll ≡ roll_of game.entry.now known.now) }
         ensures ticks { IfOk result (λ roll. (value_of roll).ticks ≡ known.now.ticks) }
     {
+        Ok(Roll::over(game, known, Marks::new(alloc)?))
+    }
+
+    /// The roll of what is known, with marks that were made before and noted nothing yet: their
+    /// room is all that a roll needs, and this takes none.
+    pub fn over(game: &'g Game, known: &Known, marks: Marks) -> Roll<'g>
+        requires { marks ≡ [] }
+        ensures roll { value_of result ≡ roll_of game.entry.now known.now }
+        ensures ticks { (value_of result).ticks ≡ known.now.ticks }
+    {
         let mut base = Machine::start(game);
-        let mut marks = Marks::new(alloc)?;
+        let mut marks = marks;
         marks.put(0, mark(&base));
         let confirmed = known.confirmed();
         run_confirmed(game, known, 0, confirmed, &mut base, &mut marks);
         let mut shown = base;
         let ticks = known.ticks();
         run_best(game, known, confirmed, ticks, &mut shown);
-        Ok(Roll {
+        Roll {
             game,
             ticks,
             shown,
             confirmed,
             base,
             marks,
-        })
+        }
     }
 
     /// Goes on by one tick of the own player.

@@ -1,5 +1,6 @@
 pub mod Errors
 pub mod KeyLines
+pub mod KeySets
 pub mod Run
 pub mod Shown
 pub mod Status

@@ -8,7 +8,7 @@ use Rattle.c8_game.specs.declared.error.GameError.TheVariants as games
 use Rattle.c8play.specs.KeyLines.{IsRunOf, IsFaultOf}
 use Rattle.c8play.specs.declared.keys.Played.{Played}
 use Rattle.c8play.specs.declared.refusal.Refusal.{Refusal}
-use Rattle.c8play.specs.declared.refusal.Refusal.TheVariants.{Game, Keys, Hex, Wire, Disk, Start}
+use Rattle.c8play.specs.declared.refusal.Refusal.TheVariants.{Game, Keys, Hex, Wire, Open, Disk, Socket}
 
 -- what is played of a game by the rows of a text, or the text's first fault: no other refusal
 abbrev pub IsPlayOf : Rules → List ℕ → Result Played Refusal → Type 0
@@ -17,8 +17,9 @@ IsPlayOf rules keys (Err (Keys error)) = IsFaultOf rules keys error
 IsPlayOf rules keys (Err (Game error)) = ⊥
 IsPlayOf rules keys (Err (Hex error)) = ⊥
 IsPlayOf rules keys (Err (Wire error)) = ⊥
-IsPlayOf rules keys (Err Disk) = ⊥
-IsPlayOf rules keys (Err Start) = ⊥
+IsPlayOf rules keys (Err (Open error)) = ⊥
+IsPlayOf rules keys (Err (Disk error)) = ⊥
+IsPlayOf rules keys (Err (Socket error)) = ⊥
 
 -- the same of a game that was read, or why there is none
 abbrev pub IsPlayOfRead : Result Rules GameError → List ℕ → Result Played Refusal → Type 0
@@ -36,8 +37,9 @@ IsRefusalOfRun game keys (Keys error) =
     (rules : Rules) × Spells game rules × IsFaultOf rules keys error
 IsRefusalOfRun game keys (Hex error) = ⊥
 IsRefusalOfRun game keys (Wire error) = ⊥
-IsRefusalOfRun game keys Disk = ⊥
-IsRefusalOfRun game keys Start = ⊥
+IsRefusalOfRun game keys (Open error) = ⊥
+IsRefusalOfRun game keys (Disk error) = ⊥
+IsRefusalOfRun game keys (Socket error) = ⊥
 
 abbrev pub IsOutcomeOfRun : List ℕ → List ℕ → Result Played Refusal → Type 0
 IsOutcomeOfRun game keys (Ok played) = IsPlayedFrom game keys played

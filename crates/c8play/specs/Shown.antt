@@ -20,8 +20,9 @@ IsRefusalOfBytes bytes (refusals.Wire error) = refusal bytes ≡ Some error
 IsRefusalOfBytes bytes (refusals.Hex error) = ⊥
 IsRefusalOfBytes bytes (refusals.Game error) = ⊥
 IsRefusalOfBytes bytes (refusals.Keys error) = ⊥
-IsRefusalOfBytes bytes refusals.Disk = ⊥
-IsRefusalOfBytes bytes refusals.Start = ⊥
+IsRefusalOfBytes bytes (refusals.Open error) = ⊥
+IsRefusalOfBytes bytes (refusals.Disk error) = ⊥
+IsRefusalOfBytes bytes (refusals.Socket error) = ⊥
 
 -- why the word, or the bytes that it spells, are refused
 abbrev pub IsRefusalOfShow : List ℕ → Refusal → Type 0
@@ -30,8 +31,9 @@ IsRefusalOfShow word (refusals.Wire error) =
     (bytes : List ℕ) × (decode_of word ≡ Ok bytes) × IsRefusalOfBytes bytes (refusals.Wire error)
 IsRefusalOfShow word (refusals.Game error) = ⊥
 IsRefusalOfShow word (refusals.Keys error) = ⊥
-IsRefusalOfShow word refusals.Disk = ⊥
-IsRefusalOfShow word refusals.Start = ⊥
+IsRefusalOfShow word (refusals.Open error) = ⊥
+IsRefusalOfShow word (refusals.Disk error) = ⊥
+IsRefusalOfShow word (refusals.Socket error) = ⊥
 
 abbrev pub IsOutcomeOfShow : List ℕ → Result Packet Refusal → Type 0
 IsOutcomeOfShow word (Ok packet) =

@@ -1,5 +1,6 @@
 -- Why the two texts of a run are not both read.
 use Rattle.std.specs.Prelude.{Option, None, Some}
+use Rattle.c8_disk.specs.declared.error.DiskError.TheVariants as disks
 use Rattle.c8_game.specs.declared.error.GameError.TheVariants as games
 use Rattle.c8play.specs.declared.error.KeysError.TheVariants as keys
 use Rattle.c8play.specs.declared.error.TextError.{TextError}
@@ -11,9 +12,9 @@ use Rattle.c8play.specs.declared.refusal.Refusal.TheVariants.{Game, Keys, Disk}
 -- game before the keys
 abbrev pub refusal_of_texts : Option TextError → Option TextError → Option Refusal
 refusal_of_texts None None = None
-refusal_of_texts None (Some Failed) = Some Disk
+refusal_of_texts None (Some Failed) = Some (Disk disks.Failed)
 refusal_of_texts None (Some Memory) = Some (Keys keys.Memory)
-refusal_of_texts (Some Failed) other = Some Disk
+refusal_of_texts (Some Failed) other = Some (Disk disks.Failed)
 refusal_of_texts (Some Memory) None = Some (Game games.Memory)
-refusal_of_texts (Some Memory) (Some Failed) = Some Disk
+refusal_of_texts (Some Memory) (Some Failed) = Some (Disk disks.Failed)
 refusal_of_texts (Some Memory) (Some Memory) = Some (Game games.Memory)

@@ -1,7 +1,7 @@
-//! Why the program refuses what it reads itself: a file, key lines, a hexadecimal word.
+//! Why the program refuses what it meets itself: a file, key lines, a hexadecimal word, a socket.
 
 ghost use Rattle.std.specs.Prelude.{◌≡◌};
-ghost use Rattle.c8play.specs.Errors.{keys_error_number, hex_error_number};
+ghost use Rattle.c8play.specs.Errors.{keys_error_number, hex_error_number, socket_error_number};
 
 use thiserror::Error;
 
@@ -63,6 +63,39 @@ impl HexError {
         match self {
             HexError::Bad => "Bad",
             HexError::Memory => "Memory",
+        }
+    }
+}
+
+/// Why the other players cannot be reached.
+#[derive(Clone, Copy, Debug, PartialEq, Eq, Error)]
+pub enum SocketError {
+    #[error("the socket cannot be used")]
+    Failed,
+    #[error("more or fewer addresses than there are other players")]
+    Remotes,
+    #[error("an address that is not written as 127.0.0.1:4001")]
+    Address,
+}
+
+impl SocketError {
+    /// The number of the refusal.
+    pub fn number(self) -> u8
+        ensures { result ≡ socket_error_number self }
+    {
+        match self {
+            SocketError::Failed => 1,
+            SocketError::Remotes => 2,
+            SocketError::Address => 3,
+        }
+    }
+
+    /// The name of the refusal.
+    pub fn name(self) -> &'static str {
+        match self {
+            SocketError::Failed => "Failed",
+            SocketError::Remotes => "Remotes",
+            SocketError::Address => "Address",
         }
     }
 }

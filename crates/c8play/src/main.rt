@@ -7,6 +7,7 @@
 mod cli;
 mod error;
 mod keys;
+mod peer;
 mod refusal;
 mod report;
 mod run;

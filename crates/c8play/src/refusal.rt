@@ -4,9 +4,11 @@ ghost use Rattle.std.specs.Prelude.{◌≡◌, IfOk};
 ghost use Rattle.c8play.specs.Errors.{refusal_number};
 ghost use Rattle.c8play.specs.Status.{status_of};
 
-use crate::error::{HexError, KeysError};
+use crate::error::{HexError, KeysError, SocketError};
 use crate::status::Status;
+use c8_disk::DiskError;
 use c8_game::GameError;
+use c8_peer::OpenError;
 use c8_wire::WireError;
 use std::io;
 use std::io::Write;
@@ -22,24 +24,32 @@ pub enum Refusal {
     Hex(HexError),
     /// The bytes of a datagram.
     Wire(WireError),
-    /// A file that cannot be read or written, or is too long for a text.
-    Disk,
-    /// There is no memory to start with.
-    Start,
+    /// The opening of a peer, and want of memory to start with. A disk that refused the opening is
+    /// told as the disk.
+    Open(OpenError),
+    /// A file that cannot be read or written or is too long for a text, or the disk of a journal.
+    Disk(DiskError),
+    /// The addresses of a peer, or its socket.
+    Socket(SocketError),
 }
 
 impl Refusal {
+    /// A file that cannot be read or written, or is too long for a text.
+    pub const DISK: Refusal = Refusal::Disk(DiskError::Failed);
+
     /// The status with which the program ends.
     pub fn status(self) -> Status
         ensures { result ≡ status_of self }
     {
         match self {
+            Refusal::Disk(_) | Refusal::Open(OpenError::Disk(_)) | Refusal::Socket(_) => {
+                Status::Failed
+            }
             Refusal::Game(_)
             | Refusal::Keys(_)
             | Refusal::Hex(_)
             | Refusal::Wire(_)
-            | Refusal::Start => Status::Refused,
-            Refusal::Disk => Status::Failed,
+            | Refusal::Open(_) => Status::Refused,
         }
     }
 
@@ -50,8 +60,9 @@ impl Refusal {
             Refusal::Keys(_) => "keys",
             Refusal::Hex(_) => "hex",
             Refusal::Wire(_) => "wire",
-            Refusal::Disk => "disk",
-            Refusal::Start => "open",
+            Refusal::Disk(_) | Refusal::Open(OpenError::Disk(_)) => "disk",
+            Refusal::Open(_) => "open",
+            Refusal::Socket(_) => "socket",
         }
     }
 
@@ -64,8 +75,9 @@ impl Refusal {
             Refusal::Keys(error) => error.number(),
             Refusal::Hex(error) => error.number(),
             Refusal::Wire(error) => error.number(),
-            Refusal::Disk => 1,
-            Refusal::Start => 5,
+            Refusal::Disk(error) | Refusal::Open(OpenError::Disk(error)) => error.number(),
+            Refusal::Open(error) => error.number(),
+            Refusal::Socket(error) => error.number(),
         }
     }
 
@@ -76,8 +88,9 @@ impl Refusal {
             Refusal::Keys(error) => error.name(),
             Refusal::Hex(error) => error.name(),
             Refusal::Wire(error) => error.name(),
-            Refusal::Disk => "Failed",
-            Refusal::Start => "Memory",
+            Refusal::Disk(error) | Refusal::Open(OpenError::Disk(error)) => error.name(),
+            Refusal::Open(error) => error.name(),
+            Refusal::Socket(error) => error.name(),
         }
     }
 

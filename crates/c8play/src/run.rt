@@ -42,7 +42,7 @@ fn played_from(game: Result<Game, GameError>, keys: &[u8]) -> Result<Played, Ref
 }
 
 /// Writes the report of what was played to `out`, or the line of the refusal to `refused`.
-fn tell<W: Write, E: Write>(
+pub fn tell<W: Write, E: Write>(
     outcome: Result<Played, Refusal>,
     out: &mut W,
     refused: &mut E,

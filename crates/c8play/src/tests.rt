@@ -1,9 +1,11 @@
 //! What the tests of several commands share, and the table of refusals.
 
-use crate::error::{HexError, KeysError, TextError};
+use crate::error::{HexError, KeysError, SocketError, TextError};
 use crate::refusal::Refusal;
 use crate::status::Status;
+use c8_disk::DiskError;
 use c8_game::GameError;
+use c8_peer::OpenError;
 use c8_wire::WireError;
 use std::alloc::{AllocError, Global};
 use std::io;
@@ -67,7 +69,7 @@ impl Write for FailsOnce {
 }
 
 /// Each refusal, its line and its exit status.
-fn refusals() -> [(Refusal, &'static str, u8); 22] {
+fn refusals() -> [(Refusal, &'static str, u8); 32] {
     [
         (Refusal::Game(GameError::Line), "game 1 Line", 1),
         (Refusal::Game(GameError::Range), "game 2 Range", 1),
@@ -89,8 +91,38 @@ fn refusals() -> [(Refusal, &'static str, u8); 22] {
         (Refusal::Wire(WireError::Reserved), "wire 7 Reserved", 1),
         (Refusal::Wire(WireError::Count), "wire 8 Count", 1),
         (Refusal::Wire(WireError::Beyond), "wire 9 Beyond", 1),
-        (Refusal::Disk, "disk 1 Failed", 3),
-        (Refusal::Start, "open 5 Memory", 1),
+        (Refusal::Open(OpenError::WrongGame), "open 1 WrongGame", 1),
+        (
+            Refusal::Open(OpenError::WrongPlayer),
+            "open 2 WrongPlayer",
+            1,
+        ),
+        (
+            Refusal::Open(OpenError::BadRecord(7)),
+            "open 3 BadRecord",
+            1,
+        ),
+        (
+            Refusal::Open(OpenError::EpochsSpent),
+            "open 4 EpochsSpent",
+            1,
+        ),
+        (Refusal::Open(OpenError::Memory), "open 5 Memory", 1),
+        (
+            Refusal::Open(OpenError::Disk(DiskError::Failed)),
+            "disk 1 Failed",
+            3,
+        ),
+        (
+            Refusal::Open(OpenError::Disk(DiskError::Full)),
+            "disk 2 Full",
+            3,
+        ),
+        (Refusal::Disk(DiskError::Failed), "disk 1 Failed", 3),
+        (Refusal::Disk(DiskError::Full), "disk 2 Full", 3),
+        (Refusal::Socket(SocketError::Failed), "socket 1 Failed", 3),
+        (Refusal::Socket(SocketError::Remotes), "socket 2 Remotes", 3),
+        (Refusal::Socket(SocketError::Address), "socket 3 Address", 3),
     ]
 }
 
@@ -137,6 +169,30 @@ fn each_error_has_its_number_name_and_sentence(rt: HostRuntime) -> Result<(), Fa
         (HexError::Memory, 2, "Memory", "out of memory"),
     ];
     for (error, number, name, sentence) in hex {
+        assert_eq!(rt; (error.number(), error.name()), (number, name));
+        assert_eq!(rt; error.to_string(rt.alloc())?.as_str(), sentence);
+    }
+    let socket = [
+        (
+            SocketError::Failed,
+            1,
+            "Failed",
+            "the socket cannot be used",
+        ),
+        (
+            SocketError::Remotes,
+            2,
+            "Remotes",
+            "more or fewer addresses than there are other players",
+        ),
+        (
+            SocketError::Address,
+            3,
+            "Address",
+            "an address that is not written as 127.0.0.1:4001",
+        ),
+    ];
+    for (error, number, name, sentence) in socket {
         assert_eq!(rt; (error.number(), error.name()), (number, name));
         assert_eq!(rt; error.to_string(rt.alloc())?.as_str(), sentence);
     }

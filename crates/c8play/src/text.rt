@@ -36,14 +36,14 @@ fn both<T: Drop>(game: Result<T, TextError>, keys: Result<T, TextError>) -> Resu
 {
     match (game, keys) {
         (Ok(game), Ok(keys)) => Ok((game, keys)),
-        (Err(TextError::Failed), _) | (_, Err(TextError::Failed)) => Err(Refusal::Disk),
+        (Err(TextError::Failed), _) | (_, Err(TextError::Failed)) => Err(Refusal::DISK),
         (Err(TextError::Memory), _) => Err(Refusal::Game(GameError::Memory)),
         (_, Err(TextError::Memory)) => Err(Refusal::Keys(KeysError::Memory)),
     }
 }
 
 /// The bytes of a file.
-fn read_file<R: Files + AllocGlobal>(rt: &R, path: &str) -> Result<Vec<u8>, TextError> {
+pub fn read_file<R: Files + AllocGlobal>(rt: &R, path: &str) -> Result<Vec<u8>, TextError> {
     let Ok(file) = fs::open(rt, path) else {
         return Err(TextError::Failed);
     };
@@ -51,7 +51,7 @@ fn read_file<R: Files + AllocGlobal>(rt: &R, path: &str) -> Result<Vec<u8>, Text
 }
 
 /// All that a reader has left. `Failed` where the reader fails or has more than `LONGEST` bytes.
-fn text_of<R: Read + Drop>(alloc: Global, reader: R) -> Result<Vec<u8>, TextError>
+pub fn text_of<R: Read + Drop>(alloc: Global, reader: R) -> Result<Vec<u8>, TextError>
     ensures whole { IfOk result
         (λ text. IfSome (R.remaining reader) (λ bytes. text.items ≡ bytes)) }
     ensures bounded { IfOk result (λ text. length text.items ≤ LONGEST) }

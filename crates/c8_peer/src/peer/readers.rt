@@ -1,8 +1,8 @@
 //! What a peer tells of itself.
-ghost use Rattle.std.specs.Prelude.{◌≡◌, ◌≤◌, ◌==◌};
+ghost use Rattle.std.specs.Prelude.{◌≡◌, ◌≤◌};
 ghost use Rattle.c8_machine.specs.State.{state};
 ghost use Rattle.c8_machine.specs.Serial.{serial};
-ghost use Rattle.c8_known.specs.Known.{player_in, count_in, is_frozen_in};
+ghost use Rattle.c8_known.specs.Known.{player_in, count_in, is_frozen_in, is_player};
 ghost use Rattle.c8_known.specs.Confirmed.{confirmed, confirmed_rows, best_rows};
 ghost use Rattle.c8_known.specs.Journal as journals;
 ghost use Rattle.c8_window.specs.Window.{acked_of};
@@ -24,9 +24,17 @@ impl<'g, D: Disk> Peer<'g, D> {
 
     /// How many players the game has.
     pub fn players(&self) -> u8
-        ensures { result ≡ self.now.rules.players }
+        ensures value { result ≡ self.now.rules.players }
+        ensures most { result ≤ 4 }
     {
         self.known.players()
+    }
+
+    /// Whether a player is one of the game.
+    fn plays(&self, player: Player) -> bool
+        ensures { result ≡ is_player (known_by self.now) player.number }
+    {
+        player.number <= self.known.players()
     }
 
     /// How many ticks the own player has made.
@@ -50,11 +58,14 @@ impl<'g, D: Disk> Peer<'g, D> {
         self.memory.links.epoch()
     }
 
-    /// How many inputs are held of a player, those of the delay included.
+    /// How many inputs are held of a player, those of the delay included; 0 of one who is not in the
+    /// game.
     pub fn count(&self, player: Player) -> u32
-        requires { player.number ≤ self.now.rules.players }
         ensures { result ≡ count_in (known_by self.now) player.number }
     {
+        if !self.plays(player) {
+            return 0;
+        }
         self.known.count(player)
     }
 
@@ -67,26 +78,26 @@ impl<'g, D: Disk> Peer<'g, D> {
 
     /// Whether a player's inputs are no longer taken from itself.
     pub fn frozen(&self, player: Player) -> bool
-        requires { player.number ≤ self.now.rules.players }
         ensures { result ≡ is_frozen_in (known_by self.now) player.number }
     {
-        self.known.frozen(player)
+        self.plays(player) && self.known.frozen(player)
     }
 
     /// Whether a LEAVE of a player stands: at player one that it was let go, at the player itself
     /// that it has been dropped.
     pub fn leaving(&self, player: Player) -> bool
-        requires { player.number ≤ self.now.rules.players }
         ensures { result ≡ (player_in (known_by self.now) player.number).leaving }
     {
-        self.known.leaving(player)
+        self.plays(player) && self.known.leaving(player)
     }
 
     /// The length at which a player's list is cut.
     pub fn cut_of(&self, player: Player) -> Option<u32>
-        requires { player.number ≤ self.now.rules.players }
         ensures { result ≡ (player_in (known_by self.now) player.number).cut }
     {
+        if !self.plays(player) {
+            return None;
+        }
         self.known.cut_of(player)
     }
 

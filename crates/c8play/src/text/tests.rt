@@ -41,19 +41,19 @@ fn a_file_that_fails_comes_before_want_of_memory(rt: HostRuntime) {
     let keys = Refusal::Keys(KeysError::Memory);
     let rows = [
         (Ok(1), Ok(2), Ok((1, 2))),
-        (Ok(1), Err(TextError::Failed), Err(Refusal::Disk)),
+        (Ok(1), Err(TextError::Failed), Err(Refusal::DISK)),
         (Ok(1), Err(TextError::Memory), Err(keys)),
-        (Err(TextError::Failed), Ok(2), Err(Refusal::Disk)),
+        (Err(TextError::Failed), Ok(2), Err(Refusal::DISK)),
         (Err(TextError::Memory), Ok(2), Err(game)),
         (
             Err(TextError::Memory),
             Err(TextError::Failed),
-            Err(Refusal::Disk),
+            Err(Refusal::DISK),
         ),
         (
             Err(TextError::Failed),
             Err(TextError::Memory),
-            Err(Refusal::Disk),
+            Err(Refusal::DISK),
         ),
         (Err(TextError::Memory), Err(TextError::Memory), Err(game)),
     ];

@@ -22,8 +22,9 @@ of_word word bytes (refusals.Wire error) decoded refused = (bytes, decoded, refu
 of_word word bytes (refusals.Hex error) decoded refused = absurd refused
 of_word word bytes (refusals.Game error) decoded refused = absurd refused
 of_word word bytes (refusals.Keys error) decoded refused = absurd refused
-of_word word bytes refusals.Disk decoded refused = absurd refused
-of_word word bytes refusals.Start decoded refused = absurd refused
+of_word word bytes (refusals.Open error) decoded refused = absurd refused
+of_word word bytes (refusals.Disk error) decoded refused = absurd refused
+of_word word bytes (refusals.Socket error) decoded refused = absurd refused
 
 -- the status that is told of what stands in the bytes is that of what the word spells
 told_of : {E : Type 0} → (word bytes : List ℕ) (found : Result Datagram Refusal) (answer : Result Status E) → decode_of word ≡ Ok bytes

@@ -1,0 +1,159 @@
+-- What the parts of an opening come to together.
+use Rattle.std.proofs.Common.{◌≡◌, ◌<◌, ◌≤◌, ◌+◌, ◌^◌, ℕ, List, [], ◌∷◌, ◌++◌, length, true, Some, Ok, Err, option_map, refl, sym, ap, subst, ◌∙◌, inl, inr, ⊎_elim, arith}
+use Rattle.std.specs.Prelude.{Result, IfErr}
+use Rattle.c8_game.specs.Rules.{Rules, AreInRange, id_of}
+use Rattle.c8_disk.specs.declared.disk.Disk.{Ghosts}
+use Rattle.c8_disk.specs.declared.error.DiskError.TheVariants.{Failed, Full}
+use Rattle.c8_disk.specs.Runs.{LeavesOnly, IsSameDisk, ReadsOnly}
+use Rattle.c8_disk.specs.RunLaws.{then_run, weaker}
+use Rattle.c8_log.specs.Log.{AllKeep, KeepsOneOf, LogValue}
+use Rattle.c8_log.specs.Journal.{JournalValue, KeepsBodies, AllKeepBodies}
+use Rattle.c8_known.specs.Journal.{Record, Head, Epoch, epoch, epochs}
+use Rattle.c8_known.specs.Known.{KnownValue, known_of, with_record}
+use Rattle.c8_record.specs.Body.{record_of, records_of}
+use Rattle.c8_record.specs.Replay.{AreJournalBodies, IsRefusal, IsReplayedFromDisk, is_failed}
+use Rattle.c8_record.specs.declared.error.ReplayError.{ReplayError}
+use Rattle.c8_record.specs.declared.error.ReplayError.TheVariants as replays
+use Rattle.c8_record.specs.JournalLaws.{epoch_more, known_more, of_game}
+use Rattle.c8_peer.specs.declared.error.OpenError.{OpenError}
+use Rattle.c8_peer.specs.declared.error.OpenError.TheVariants as opens
+use Rattle.c8_peer.specs.State.{Memory, Opened, fresh_memory}
+use Rattle.c8_peer.specs.Opening.{last_epoch, unfit, opening_record}
+use Rattle.c8_peer.specs.Peer.{PeerValue, mode_of, IsSound}
+use Rattle.c8_peer.specs.Held.{IsPeer}
+use Rattle.c8_peer.specs.Opened.{opening_body, found, IsOpened, IsSettled, IsUnread, IsUnfit, IsNotWritten, IsRefusedFor, IsRefusedOpening, OpeningLeaves}
+use Rattle.c8_peer.specs.OpenedParts.{IsRead, IsBegun, IsNotBegun}
+use Rattle.c8_peer.proofs.OpeningLemmas.{opening_allowed, opening_memory}
+use Rattle.c8_peer.proofs.PeerLemmas.{one_body_more, bodies_more, view}
+
+-- ---- the record that is added
+
+pub next_epoch : (rules : Rules) (room me : ℕ) (journal : List Record) (last : ℕ) → last ≡ epoch journal → last + 1 ≡ epoch (journal ++ opening_record rules room me journal ∷ [])
+unfolding epochs
+next_epoch rules room me [] last is = ap (λ (n : ℕ). n + 1) is ∙ sym (epoch_more [] (Head me (id_of rules) room))
+next_epoch rules room me (r ∷ rest) last is = ap (λ (n : ℕ). n + 1) is ∙ sym (epoch_more (r ∷ rest) (Epoch me (epoch (r ∷ rest) + 1)))
+
+-- an opening's record makes nothing known
+nothing_known : (rules : Rules) (room me : ℕ) (journal : List Record) (k : KnownValue) → with_record k (opening_record rules room me journal) ≡ k
+nothing_known rules room me [] k = refl
+nothing_known rules room me (r ∷ rest) k = refl
+
+-- ---- why a journal that was read is refused
+
+module _ {D : Type 0} (g : Ghosts D) (reads_now : (disk : D) → g.may_leave disk (g.seen disk)) where
+  -- where all is settled nothing is decided that was open
+  settled_unread : (disk left : D) → IsSettled g disk left → IsUnread g disk left
+  settled_unread disk left settled image leaves = (g.seen disk, reads_now disk, settled image leaves)
+
+  -- a log that is at rest, and then is only read, leaves what was found
+  settled_after : (disk mid left : D) → found g mid ≡ found g disk → AllKeep (found g mid) (g.may_leave mid) → ReadsOnly g mid left → IsSettled g disk left
+  settled_after disk mid left same rests reads image leaves = rests image (reads.crash image leaves) ∙ same
+
+  module _ (disk mid left : D) (rules : Rules) (room me : ℕ) (k : KnownValue) (same : found g mid ≡ found g disk) (rests : AllKeep (found g mid) (g.may_leave mid))
+      (first : IsSameDisk g disk mid) (reads : ReadsOnly g mid left) where
+    unfit_after : (error : ReplayError) → IsRefusal rules me room (found g mid) error → IsUnfit g disk rules room me error left
+    unfit_after error is = (subst (λ (bodies : List (List ℕ)). IsRefusal rules me room bodies error) same is, settled_after disk mid left same rests reads)
+
+    pub refused_reading : (error : ReplayError) → (is_failed (Err error) ≡ true → g.failures mid < g.failures left) → IsReplayedFromDisk rules me room (found g mid) (Err error) k
+        → IsRefusedFor g disk rules room me (unfit error) left
+    refused_reading replays.WrongGame fails is = unfit_after replays.WrongGame is.0
+    refused_reading replays.WrongPlayer fails is = unfit_after replays.WrongPlayer is.0
+    refused_reading (replays.BadRecord n) fails is = unfit_after (replays.BadRecord n) is.0
+    refused_reading (replays.Disk Failed) fails is = (omega (arith, fails refl, first.no_fewer), inl (settled_unread disk left (settled_after disk mid left same rests reads)))
+    refused_reading (replays.Disk Full) fails is = absurd (let why = is.0 in cc)
+
+-- ---- what the record comes to, on the disk as it was found
+
+module _ {D : Type 0} (g : Ghosts D) (disk mid : D) (rules : Rules) (room me : ℕ) (same : found g mid ≡ found g disk) where
+  not_written : (left : D) → IsNotWritten g mid rules room me left → IsNotWritten g disk rules room me left
+  not_written left is = record {
+    bodies = subst (AreJournalBodies rules me room) same is.bodies;
+    not_spent = subst (λ (bodies : List (List ℕ)). epoch (records_of bodies) < last_epoch) same is.not_spent;
+    leaves = subst (λ (bodies : List (List ℕ)). AllKeepBodies bodies (Some (opening_body rules room me bodies)) (g.may_leave left)) same is.leaves;
+  }
+
+  pub refused_beginning : (left : D) (error : OpenError) → IsSameDisk g disk mid → IsNotBegun g mid rules room me error left → IsRefusedFor g disk rules room me error left
+  refused_beginning left opens.WrongGame first none = absurd none
+  refused_beginning left opens.WrongPlayer first none = absurd none
+  refused_beginning left (opens.BadRecord n) first none = absurd none
+  refused_beginning left opens.Memory first none = absurd none
+  refused_beginning left opens.EpochsSpent first is = record {
+    bodies = subst (AreJournalBodies rules me room) same is.bodies;
+    spent = subst (λ (bodies : List (List ℕ)). last_epoch ≤ epoch (records_of bodies)) same is.spent;
+    settled = subst (λ (bodies : List (List ℕ)). AllKeep bodies (g.may_leave left)) same is.settled;
+  }
+  refused_beginning left (opens.Disk Failed) first is = (omega (arith, is.0, first.no_fewer), inr (not_written left is.1))
+  refused_beginning left (opens.Disk Full) first is = (omega (arith, is.0, first.capacity, ap length same), inr (not_written left is.1))
+
+  pub begun_there : (journal : JournalValue D) (number : ℕ) → IsBegun g mid rules room me journal number → IsBegun g disk rules room me journal number
+  begun_there journal number is = record {
+    bodies = is.bodies ∙ ap (λ (bodies : List (List ℕ)). bodies ++ opening_body rules room me bodies ∷ []) same;
+    none_pending = is.none_pending;
+    up = is.up;
+    number_is = is.number_is ∙ ap (λ (bodies : List (List ℕ)). epoch (records_of bodies ++ opening_record rules room me (records_of bodies) ∷ [])) same;
+    not_spent = subst (λ (bodies : List (List ℕ)). epoch (records_of bodies) < last_epoch) same is.not_spent;
+  }
+
+  pub leaves_opening : ((disk : D) → g.may_leave disk (g.seen disk)) → (left : D) → LeavesOnly g disk mid (KeepsOneOf (g.may_leave disk))
+      → LeavesOnly g mid left (KeepsBodies (found g mid) (Some (opening_body rules room me (found g mid)))) → LeavesOnly g disk left (OpeningLeaves g disk rules room me)
+  leaves_opening reads_now left first second =
+      let all : List ℕ → Type 0 = OpeningLeaves g disk rules room me in
+      then_run g disk mid left all (weaker g disk mid (KeepsOneOf (g.may_leave disk)) all first (λ image keeps. inl keeps))
+      (weaker g mid left (KeepsBodies (found g mid) (Some (opening_body rules room me (found g mid)))) all second
+      (λ image keeps. ⊎_elim
+      (λ without. inl (g.seen disk, reads_now disk, without ∙ same))
+      (λ with. inr (with ∙ ap (λ (bodies : List (List ℕ)). bodies ++ opening_body rules room me bodies ∷ []) same))
+      keeps))
+
+-- ---- the peer
+
+module _ {D : Type 0} (g : Ghosts D) (disk : D) (rules : Rules) (room me : ℕ) (range : AreInRange rules) (from_one : 1 ≤ me) (in_game : me ≤ rules.players) (low : room < 2 ^ 64)
+    (k : KnownValue) (log : LogValue D) (last : ℕ) (read : IsRead g disk rules room me k log last)
+    (journal : JournalValue D) (number : ℕ) (begun : IsBegun g disk rules room me journal number)
+    (m : Memory) (fresh : m ≡ fresh_memory rules room me number) where
+  longer : records_of journal.bodies ≡ records_of (found g disk) ++ opening_record rules room me (records_of (found g disk)) ∷ []
+  longer =
+      let may = opening_allowed rules me room (records_of (found g disk)) range from_one in_game low read.bodies.journal begun.not_spent in
+      ap records_of begun.bodies ∙ one_body_more (found g disk) (opening_record rules room me (records_of (found g disk))) may.spelled
+
+  in_epoch : m ≡ fresh_memory rules room me (epoch (records_of (found g disk) ++ opening_record rules room me (records_of (found g disk)) ∷ []))
+  in_epoch = fresh ∙ ap (fresh_memory rules room me) begun.number_is
+
+  pub peer_opened : IsPeer rules room journal k m
+  unfolding known_of
+  peer_opened =
+      let before : List Record = records_of (found g disk) in
+      let new : Record = opening_record rules room me before in
+      let may = opening_allowed rules me room before range from_one in_game low read.bodies.journal begun.not_spent in
+      subst (λ (known : KnownValue). IsPeer rules room journal known m) (sym read.known) (record {
+        range = range;
+        from_one = from_one;
+        in_game = in_game;
+        bodies = subst (AreJournalBodies rules me room) (sym begun.bodies) (bodies_more rules me room (found g disk) new read.bodies may);
+        pending = λ body e. absurd (let none = begun.none_pending in cc);
+        known = sym (nothing_known rules room me before (known_of rules me before)) ∙ sym (known_more rules me room before new may) ∙ ap (known_of rules me) (sym longer);
+        memory = rw (longer, in_epoch) (opening_memory rules me room before range from_one in_game read.bodies.journal begun.not_spent);
+        last = ap (λ (one : Memory). one.links.epoch) in_epoch ∙ ap epoch (sym longer);
+      })
+
+  pub opened_peer : IsSound g (view rules room k.me journal m) → IsSameDisk g disk journal.disk → IsOpened g disk rules room me (view rules room k.me journal m)
+  opened_peer sound same = record {
+    rules_are = refl;
+    room_is = refl;
+    me_is = ap (λ (known : KnownValue). known.me) read.known ∙ (of_game rules me (records_of (found g disk))).player;
+    opening = λ s i. record {
+      reply = Opened (Ok (epoch (longer i)));
+      state = record { journal = longer i; pending = option_map record_of (begun.none_pending i); mode = mode_of (begun.up i); memory = in_epoch i };
+    };
+    may = (read.bodies.journal, begun.not_spent, in_game);
+    bodies = read.bodies;
+    sound = sound;
+    same = same;
+  }
+
+-- ---- the refusal of a player of the game
+
+pub refused_player : {D : Type 0} (g : Ghosts D) (disk : D) (rules : Rules) (room me : ℕ) → me ≤ rules.players → (result : Result (PeerValue D) (OpenError × D))
+    → IfErr result (λ refusal. IsRefusedFor g disk rules room me refusal.0 refusal.1) → IfErr result (λ refusal. IsRefusedOpening g disk rules room me refusal.0 refusal.1)
+refused_player g disk rules room me in_game (Ok peer) is = tt
+refused_player g disk rules room me in_game (Err refusal) is = inr (in_game, is)

@@ -1,6 +1,0 @@
-use Rattle.c8_peer.proofs.ReaderLemmas.{plays_inside}
-use Rattle.c8_peer.proofs.peer.Peer.count.Goals as goal
-
-pub count-requires : goal.count-requires
-count-requires g c =
-    plays_inside c.args.self.now c.self.inside.game.now c.self.inside.room c.self.inside.journal c.self.inside.known c.self.inside.memory c.args.player.number c.self.view_is c.self.invariant.0 c.args.player.from_one c.requires

@@ -1,0 +1,62 @@
+use Rattle.std.proofs.Common.{ap, subst, ◌∙◌, ◌≤◌, ℕ, Some}
+use Rattle.std.proofs.lemmas.Result.{err_from_is_err_and}
+use Rattle.c8_disk.specs.Runs.{LeavesOnly}
+use Rattle.c8_disk.specs.RunLaws.{same_then}
+use Rattle.c8_log.specs.Journal.{KeepsBodies}
+use Rattle.c8_peer.specs.State.{fresh_memory}
+use Rattle.c8_peer.specs.Opened.{opening_body, found}
+use Rattle.c8_peer.specs.OpenedParts.{IsBegun, IsNotBegun}
+use Rattle.c8_peer.proofs.OpenLemmas.{refused_beginning, begun_there, leaves_opening, peer_opened, opened_peer}
+use Rattle.c8_peer.proofs.peer.open.open_in.Goals as goal
+
+pub returns-in_err-journal-clause-refused : goal.returns-in_err-journal-clause-refused
+returns-in_err-journal-clause-refused g c =
+    let error = err_from_is_err_and c.from_residual-in_err-journal.result c.from_residual-in_err-journal.ensures.1 in
+    let left = c.in_err-journal.field-0.0 in
+    rw (error.1, error.2)
+    (refused_beginning g.D.Disk c.args.disk c.in_ok-log.log.disk c.args.game.now c.args.room c.args.known.me c.in_ok-log.ensures.read.same left.1 left.0 c.in_ok-log.ensures.same
+    (subst (λ (me : ℕ). IsNotBegun g.D.Disk c.in_ok-log.log.disk c.args.game.now c.args.room me left.0 left.1) c.me-me.ensures.value c.in_err-journal.ensures.refused))
+
+pub returns-in_err-journal-clause-any_moment : goal.returns-in_err-journal-clause-any_moment
+returns-in_err-journal-clause-any_moment g c =
+    let error = err_from_is_err_and c.from_residual-in_err-journal.result c.from_residual-in_err-journal.ensures.1 in
+    let mid = c.in_ok-log.log.disk in
+    let left = c.in_err-journal.field-0.0.1 in
+    rw (error.1, error.2)
+    (leaves_opening g.D.Disk c.args.disk mid c.args.game.now c.args.room c.args.known.me c.in_ok-log.ensures.read.same g.met.D.Disk.reads_now left c.in_ok-log.ensures.any_moment
+    (subst (λ (me : ℕ). LeavesOnly g.D.Disk mid left (KeepsBodies (found g.D.Disk mid) (Some (opening_body c.args.game.now c.args.room me (found g.D.Disk mid))))) c.me-me.ensures.value c.in_err-journal.ensures.any_moment))
+
+pub invariant_of-peer : goal.invariant_of-peer
+invariant_of-peer g c =
+    let rules = c.args.game.now in
+    let me = c.args.known.me in
+    let read = c.in_ok-log.ensures.read in
+    let own = c.me-me.ensures.value in
+    let number = c.in_ok-journal.epoch in
+    let begun = begun_there g.D.Disk c.args.disk c.in_ok-log.log.disk rules c.args.room me read.same c.in_ok-journal.journal number
+    (subst (λ (me : ℕ). IsBegun g.D.Disk c.in_ok-log.log.disk rules c.args.room me c.in_ok-journal.journal number) own c.in_ok-journal.ensures.begun) in
+    let fresh = c.new-memory.ensures ∙ ap (λ (me : ℕ). fresh_memory rules c.args.room me number) own in
+    let from_one : 1 ≤ c.args.known.me = subst (λ (me : ℕ). 1 ≤ me) own c.me-me.result.from_one in
+    (peer_opened g.D.Disk c.args.disk rules c.args.room me c.in_range.ensures from_one c.requires.player c.ranges.room.fits c.read_journal.new.known c.in_ok-log.log c.in_ok-log.last read c.in_ok-journal.journal number begun c.new-memory.result fresh, c.over-roll.ensures.roll)
+
+pub returns-clause-opened : goal.returns-clause-opened
+returns-clause-opened g c =
+    let rules = c.args.game.now in
+    let me = c.args.known.me in
+    let read = c.in_ok-log.ensures.read in
+    let own = c.me-me.ensures.value in
+    let number = c.in_ok-journal.epoch in
+    let begun = begun_there g.D.Disk c.args.disk c.in_ok-log.log.disk rules c.args.room me read.same c.in_ok-journal.journal number
+    (subst (λ (me : ℕ). IsBegun g.D.Disk c.in_ok-log.log.disk rules c.args.room me c.in_ok-journal.journal number) own c.in_ok-journal.ensures.begun) in
+    let fresh = c.new-memory.ensures ∙ ap (λ (me : ℕ). fresh_memory rules c.args.room me number) own in
+    let from_one : 1 ≤ c.args.known.me = subst (λ (me : ℕ). 1 ≤ me) own c.me-me.result.from_one in
+    opened_peer g.D.Disk c.args.disk rules c.args.room me c.in_range.ensures from_one c.requires.player c.ranges.room.fits c.read_journal.new.known c.in_ok-log.log c.in_ok-log.last read c.in_ok-journal.journal number begun c.new-memory.result fresh
+    c.is_down-down.ensures.sound
+    (same_then g.D.Disk c.args.disk c.in_ok-log.log.disk c.in_ok-journal.journal.disk c.in_ok-log.ensures.same c.in_ok-journal.ensures.same)
+
+pub returns-clause-any_moment : goal.returns-clause-any_moment
+returns-clause-any_moment g c =
+    let mid = c.in_ok-log.log.disk in
+    let left = c.in_ok-journal.journal.disk in
+    leaves_opening g.D.Disk c.args.disk mid c.args.game.now c.args.room c.args.known.me c.in_ok-log.ensures.read.same g.met.D.Disk.reads_now left c.in_ok-log.ensures.any_moment
+    (subst (λ (me : ℕ). LeavesOnly g.D.Disk mid left (KeepsBodies (found g.D.Disk mid) (Some (opening_body c.args.game.now c.args.room me (found g.D.Disk mid))))) c.me-me.ensures.value c.in_ok-journal.ensures.any_moment)

@@ -1,0 +1,107 @@
+-- What an opening makes of a disk: the peer that it opens there, or why it is refused and what it leaves.
+use Rattle.std.specs.Prelude.{◌≡◌, ◌⊎◌, ℕ, ◌+◌, ◌*◌, ◌<◌, ◌≤◌, List, length, [], ◌∷◌, ◌++◌, Some, Result, Ok, Err}
+use Rattle.c8_game.specs.Rules.{Rules}
+use Rattle.c8_disk.specs.declared.disk.Disk.{Ghosts}
+use Rattle.c8_disk.specs.declared.error.DiskError.{DiskError}
+use Rattle.c8_disk.specs.declared.error.DiskError.TheVariants as errors
+use Rattle.c8_disk.specs.Runs.{IsSameDisk}
+use Rattle.c8_log.specs.Slots.{slot_length, kept}
+use Rattle.c8_log.specs.Log.{AllKeep, KeepsOneOf}
+use Rattle.c8_log.specs.Journal.{AllKeepBodies}
+use Rattle.c8_known.specs.Journal.{epoch}
+use Rattle.c8_record.specs.Body.{body_of, records_of}
+use Rattle.c8_record.specs.Replay.{AreJournalBodies, IsRefusal}
+use Rattle.c8_record.specs.declared.error.ReplayError.{ReplayError}
+use Rattle.c8_record.specs.declared.error.ReplayError.TheVariants as replays
+use Rattle.c8_peer.specs.declared.error.OpenError.{OpenError}
+use Rattle.c8_peer.specs.declared.error.OpenError.TheVariants as opens
+use Rattle.c8_peer.specs.State.{State, Opened}
+use Rattle.c8_peer.specs.Opening.{last_epoch, opening_record, Stands, opened, MayBecome}
+use Rattle.c8_peer.specs.Peer.{PeerValue, told, IsSound}
+
+-- the disk after an opening, which a refused one gives back
+abbrev pub disk_after : {D : Type 0} → Result (PeerValue D) (OpenError × D) → D
+disk_after (Ok peer) = peer.disk
+disk_after (Err refusal) = refusal.1
+
+-- what an opening adds to a journal of these bodies
+abbrev pub opening_body : Rules → ℕ → ℕ → List (List ℕ) → List ℕ
+opening_body rules room me bodies = body_of (opening_record rules room me (records_of bodies))
+
+-- ---- the disk, of which only what it keeps and how often it failed counts
+
+module _ {D : Type 0} (g : Ghosts D) (disk : D) where
+  -- the bodies that it keeps when the opening begins
+  abbrev pub found : List (List ℕ)
+  found = kept (g.seen disk)
+
+  -- settled: each image that a crash may leave keeps just what was found
+  abbrev pub IsSettled : D → Type 0
+  IsSettled left = AllKeep found (g.may_leave left)
+
+  -- nothing is decided: each image that a crash may leave keeps what some image kept before
+  abbrev pub IsUnread : D → Type 0
+  IsUnread left = (image : List ℕ) → g.may_leave left image → KeepsOneOf (g.may_leave disk) image
+
+  -- when the disk may be blamed: it failed in the call, or it has no room for the opening's record and the gate after it
+  abbrev pub HasCause : DiskError → D → Type 0
+  HasCause errors.Failed left = g.failures disk < g.failures left
+  HasCause errors.Full left = g.capacity disk < slot_length * (length found + 1) + 1
+
+-- ---- the opening of a player's peer, in a game and a room
+
+module _ {D : Type 0} (g : Ghosts D) (disk : D) (rules : Rules) (room me : ℕ) where
+  -- What is so of a peer that was opened there.
+  --
+  -- - `rules_are`, `room_is`, `me_is`: it is of this match and player.
+  -- - `opening`: its epoch as the answer, and its state, are those of an opening whose record stands, whatever the state was
+  --   before.
+  -- - `may`: what was found is a journal of this match and player, and its epochs are not spent.
+  -- - `bodies`: the bodies found are those of that journal.
+  -- - `sound`: what is so of every peer is so of this one.
+  -- - `same`: it stands on the same disk.
+  pub record IsOpened (p : PeerValue D) : Type 0 where
+    pub rules_are : p.rules ≡ rules
+    pub room_is : p.room ≡ room
+    pub me_is : p.me ≡ me
+    pub opening : (s : State) → told (Opened (Ok (epoch p.state.journal))) p ≡ opened rules room me s (records_of (found g disk)) Stands
+    pub may : MayBecome rules room me (records_of (found g disk)) Stands
+    pub bodies : AreJournalBodies rules me room (found g disk)
+    pub sound : IsSound g p
+    pub same : IsSameDisk g disk p.disk
+
+  -- what was found is no journal of this match and player
+  abbrev pub IsUnfit : ReplayError → D → Type 0
+  IsUnfit error left = IsRefusal rules me room (found g disk) error × IsSettled g disk left
+
+  -- What was found is such a journal, and its epochs are spent.
+  pub record IsSpent (left : D) : Type 0 where
+    pub bodies : AreJournalBodies rules me room (found g disk)
+    pub spent : last_epoch ≤ epoch (records_of (found g disk))
+    pub settled : IsSettled g disk left
+
+  -- What was found may be opened, and the opening's record is pending: each image keeps what was found, with it or without.
+  pub record IsNotWritten (left : D) : Type 0 where
+    pub bodies : AreJournalBodies rules me room (found g disk)
+    pub not_spent : epoch (records_of (found g disk)) < last_epoch
+    pub leaves : AllKeepBodies (found g disk) (Some (opening_body rules room me (found g disk))) (g.may_leave left)
+
+  -- Why a player of the game is refused, and what is left of the disk then. Memory is refused before the disk is touched, and
+  -- what is wrong with the journal is told before anything is added to it.
+  abbrev pub IsRefusedFor : OpenError → D → Type 0
+  IsRefusedFor opens.WrongGame left = IsUnfit replays.WrongGame left
+  IsRefusedFor opens.WrongPlayer left = IsUnfit replays.WrongPlayer left
+  IsRefusedFor (opens.BadRecord n) left = IsUnfit (replays.BadRecord n) left
+  IsRefusedFor opens.EpochsSpent left = IsSpent left
+  IsRefusedFor opens.Memory left = left ≡ disk
+  IsRefusedFor (opens.Disk why) left = HasCause g disk why left × (IsUnread g disk left ⊎ IsNotWritten left)
+
+  -- Why an opening is refused: there is no such player in the game, and the disk is as it was; or else for one of these.
+  abbrev pub IsRefusedOpening : OpenError → D → Type 0
+  IsRefusedOpening error left =
+      ((rules.players < me) × (error ≡ opens.WrongPlayer) × (left ≡ disk)) ⊎ ((me ≤ rules.players) × IsRefusedFor error left)
+
+  -- What a crash at any moment of it may leave: an image that keeps what some image kept before, or what was found and then
+  -- the opening's record.
+  abbrev pub OpeningLeaves : List ℕ → Type 0
+  OpeningLeaves image = KeepsOneOf (g.may_leave disk) image ⊎ (kept image ≡ found g disk ++ opening_body rules room me (found g disk) ∷ [])

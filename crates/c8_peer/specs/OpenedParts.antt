@@ -1,0 +1,51 @@
+-- Checked, not believed: what the parts of an opening come to.
+use Rattle.std.specs.Prelude.{◌≡◌, ℕ, ◌<◌, [], ◌∷◌, ◌++◌, false, None, Result, Ok, Err}
+use Rattle.c8_game.specs.Rules.{Rules}
+use Rattle.c8_disk.specs.declared.disk.Disk.{Ghosts}
+use Rattle.c8_log.specs.Slots.{kept}
+use Rattle.c8_log.specs.Log.{LogValue}
+use Rattle.c8_log.specs.Journal.{JournalValue}
+use Rattle.c8_known.specs.Journal.{epoch}
+use Rattle.c8_known.specs.Known.{KnownValue, known_of}
+use Rattle.c8_record.specs.Body.{records_of}
+use Rattle.c8_record.specs.Replay.{AreJournalBodies}
+use Rattle.c8_peer.specs.declared.error.OpenError.{OpenError}
+use Rattle.c8_peer.specs.declared.error.OpenError.TheVariants as opens
+use Rattle.c8_peer.specs.Opening.{last_epoch, opening_record}
+use Rattle.c8_peer.specs.Opened.{opening_body, found, HasCause, IsSpent, IsNotWritten}
+
+-- the disk after a journal was read, or was to be
+abbrev pub disk_read : {D : Type 0} → Result (LogValue D × ℕ) (OpenError × D) → D
+disk_read (Ok read) = read.0.disk
+disk_read (Err refusal) = refusal.1
+
+-- the disk after the opening's record was added, or was to be
+abbrev pub disk_begun : {D : Type 0} → Result (JournalValue D × ℕ) (OpenError × D) → D
+disk_begun (Ok begun) = begun.0.disk
+disk_begun (Err refusal) = refusal.1
+
+module _ {D : Type 0} (g : Ghosts D) (disk : D) (rules : Rules) (room me : ℕ) where
+  -- What was found is a journal of this match and player, and all of it is known.
+  pub record IsRead (k : KnownValue) (log : LogValue D) (last : ℕ) : Type 0 where
+    pub bodies : AreJournalBodies rules me room (found g disk)
+    pub known : k ≡ known_of rules me (records_of (found g disk))
+    pub last_is : last ≡ epoch (records_of (found g disk))
+    pub up : log.down ≡ false
+    pub same : kept (g.seen log.disk) ≡ found g disk
+
+  -- The opening's record stands, and this is its epoch.
+  pub record IsBegun (journal : JournalValue D) (number : ℕ) : Type 0 where
+    pub bodies : journal.bodies ≡ found g disk ++ opening_body rules room me (found g disk) ∷ []
+    pub none_pending : journal.pending ≡ None
+    pub up : journal.is_down ≡ false
+    pub number_is : number ≡ epoch (records_of (found g disk) ++ opening_record rules room me (records_of (found g disk)) ∷ [])
+    pub not_spent : epoch (records_of (found g disk)) < last_epoch
+
+  -- why it does not stand
+  abbrev pub IsNotBegun : OpenError → D → Type 0
+  IsNotBegun opens.WrongGame left = ⊥
+  IsNotBegun opens.WrongPlayer left = ⊥
+  IsNotBegun (opens.BadRecord n) left = ⊥
+  IsNotBegun opens.EpochsSpent left = IsSpent g disk rules room me left
+  IsNotBegun opens.Memory left = ⊥
+  IsNotBegun (opens.Disk why) left = HasCause g disk why left × IsNotWritten g disk rules room me left

@@ -1,0 +1,217 @@
+//! The opening of a peer on a disk: the room is reserved, the journal is read, and a new epoch
+//! begins in it.
+ghost use Rattle.std.specs.Prelude.{◌≡◌, ◌==◌, ◌≤◌, ◌<◌, ◌+◌, ℕ, List, [], length, false, Some, IfOk, IfErr};
+ghost use Rattle.c8_disk.specs.Runs.{LeavesOnly, IsSameDisk};
+ghost use Rattle.c8_log.specs.Journal.{KeepsBodies};
+ghost use Rattle.c8_log.specs.Log.{KeepsOneOf};
+ghost use Rattle.c8_log.specs.Slots.{kept};
+ghost use Rattle.c8_known.specs.Journal.{epoch};
+ghost use Rattle.c8_known.specs.Known.{known_of};
+ghost use Rattle.c8_record.specs.Body.{records_of};
+ghost use Rattle.c8_record.specs.Replay.{AreJournalBodies};
+ghost use Rattle.c8_peer.specs.Opening.{last_epoch};
+ghost use Rattle.c8_peer.specs.Opened.{disk_after, opening_body, IsOpened, IsRefusedFor, IsRefusedOpening, OpeningLeaves};
+ghost use Rattle.c8_peer.specs.OpenedParts.{disk_read, disk_begun, IsRead, IsBegun, IsNotBegun};
+
+use super::Peer;
+use crate::error::OpenError;
+use crate::memory::Memory;
+use c8_digest::Marks;
+use c8_disk::{Disk, DiskError};
+use c8_game::{Game, Player};
+use c8_known::Known;
+use c8_log::{BODY_LENGTH, Journal, Log, LogError};
+use c8_record::{Record, ReplayError, body_of, replay};
+use c8_roll::Roll;
+use std::alloc::{AllocError, Global};
+
+/// The last epoch that a record can have.
+const LAST_EPOCH: u32 = u32::MAX;
+
+impl<'g, D: Disk> Peer<'g, D> {
+    /// Opens the peer of player `me` in a game and a room, on the disk that holds its journal; on
+    /// one that keeps no record the journal begins. Each opening records a new epoch.
+    ///
+    /// Each refusal gives the disk back. `WrongPlayer` is told first of all where the game has no
+    /// such player. All memory is reserved then, before the disk is touched. What is wrong with the
+    /// journal is told before anything is added to it: it keeps what it had.
+    pub fn open(
+        alloc: Global,
+        disk: D,
+        game: &'g Game,
+        me: Player,
+        room: u64,
+    ) -> Result<Peer<'g, D>, (OpenError, D)>
+        ensures opened { IfOk result (λ peer.
+            IsOpened D.Disk disk game.entry.now room me.number peer) }
+        ensures refused { IfErr result (λ refusal.
+            IsRefusedOpening D.Disk disk game.entry.now room me.number refusal.0 refusal.1) }
+        ensures any_moment { LeavesOnly D.Disk disk (disk_after result)
+            (OpeningLeaves D.Disk disk game.entry.now room me.number) }
+        ensures changes { D.changes (disk_after result) ≤ D.changes disk + 7 }
+        ensures same { IsSameDisk D.Disk disk (disk_after result) }
+    {
+        if me.number > game.players() {
+            return Err((OpenError::WrongPlayer, disk));
+        }
+        match reserve(alloc, game, me) {
+            Ok((known, marks)) => open_in(disk, game, room, known, marks),
+            Err(_) => Err((OpenError::Memory, disk)),
+        }
+    }
+}
+
+/// All the memory that a peer has: for what it knows, and for its marks.
+fn reserve(alloc: Global, game: &Game, me: Player) -> Result<(Known, Marks), AllocError>
+    requires { me.number ≤ game.now.players }
+    ensures known { IfOk result (λ reserved. reserved.0 ≡ known_of game.now me.number []) }
+    ensures player { IfOk result (λ reserved. reserved.0.me ≡ me.number) }
+    ensures marks { IfOk result (λ reserved. reserved.1 ≡ []) }
+{
+    Ok((Known::new(alloc, game, me)?, Marks::new(alloc)?))
+}
+
+/// Opens the peer in memory that was reserved for it.
+fn open_in<'g, D: Disk>(
+    disk: D,
+    game: &'g Game,
+    room: u64,
+    known: Known,
+    marks: Marks,
+) -> Result<Peer<'g, D>, (OpenError, D)>
+    requires known { known ≡ known_of game.now known.me [] }
+    requires marks { marks ≡ [] }
+    requires player { known.me ≤ game.now.players }
+    ensures opened { IfOk result (λ peer.
+        IsOpened D.Disk disk game.entry.now room known.me peer) }
+    ensures refused { IfErr result (λ refusal.
+        IsRefusedFor D.Disk disk game.entry.now room known.me refusal.0 refusal.1) }
+    ensures any_moment { LeavesOnly D.Disk disk (disk_after result)
+        (OpeningLeaves D.Disk disk game.entry.now room known.me) }
+    ensures changes { D.changes (disk_after result) ≤ D.changes disk + 7 }
+    ensures same { IsSameDisk D.Disk disk (disk_after result) }
+{
+    let mut known = known;
+    let me = known.me();
+    game.in_range();
+    let (log, last) = read_journal(disk, game, room, &mut known)?;
+    let (journal, epoch) = begin_epoch(log, game, room, me, last)?;
+    let roll = Roll::over(game, &known, marks);
+    let memory = Memory::new(game, room, me, epoch);
+    let peer = Peer {
+        game,
+        room,
+        journal,
+        known,
+        roll,
+        memory,
+    };
+    // For the proof: it is sound.
+    let _down = peer.is_down();
+    Ok(peer)
+}
+
+/// Reads the journal that a disk keeps into `known`, which knows nothing yet, and answers the last
+/// epoch.
+fn read_journal<D: Disk>(
+    disk: D,
+    game: &Game,
+    room: u64,
+    known: &mut Known,
+) -> Result<(Log<D>, u32), (OpenError, D)>
+    requires { known.old ≡ known_of game.now known.old.me [] }
+    ensures read { IfOk result (λ read.
+        IsRead D.Disk disk game.now room known.old.me known.new read.0 read.1) }
+    ensures refused { IfErr result (λ refusal.
+        IsRefusedFor D.Disk disk game.now room known.old.me refusal.0 refusal.1) }
+    ensures any_moment { LeavesOnly D.Disk disk (disk_read result)
+        (KeepsOneOf (D.may_leave disk)) }
+    ensures changes { D.changes (disk_read result) ≤ D.changes disk + 3 }
+    ensures same { IsSameDisk D.Disk disk (disk_read result) }
+{
+    let mut log = match Log::open(disk) {
+        Ok(log) => log,
+        Err((LogError::Failed, disk)) => return Err((OpenError::Disk(DiskError::Failed), disk)),
+        Err((LogError::Full, disk)) => return Err((OpenError::Disk(DiskError::Full), disk)),
+        Err((LogError::Down, _)) => unreachable!(),
+    };
+    // For the proof: a log that is up is at rest.
+    let _count = log.len();
+    match replay(&mut log, game, room, known) {
+        Ok(last) => Ok((log, last)),
+        Err(error) => Err((OpenError::from(error), log.close())),
+    }
+}
+
+/// Adds the opening's record to the journal that a log keeps, and answers its epoch.
+fn begin_epoch<D: Disk>(
+    log: Log<D>,
+    game: &Game,
+    room: u64,
+    me: Player,
+    last: u32,
+) -> Result<(Journal<D>, u32), (OpenError, D)>
+    requires up { log.down ≡ false }
+    requires bodies { AreJournalBodies game.now me.number room (kept (D.seen log.disk)) }
+    requires last { last ≡ epoch (records_of (kept (D.seen log.disk))) }
+    ensures begun { IfOk result (λ begun.
+        IsBegun D.Disk log.disk game.now room me.number begun.0 begun.1) }
+    ensures refused { IfErr result (λ refusal.
+        IsNotBegun D.Disk log.disk game.now room me.number refusal.0 refusal.1) }
+    ensures any_moment { LeavesOnly D.Disk log.disk (disk_begun result)
+        (KeepsBodies (kept (D.seen log.disk))
+        (Some (opening_body game.now room me.number (kept (D.seen log.disk))))) }
+    ensures changes { D.changes (disk_begun result) ≤ D.changes log.disk + 4 }
+    ensures same { IsSameDisk D.Disk log.disk (disk_begun result) }
+{
+    // For the proof: a log that is up is at rest.
+    let _count = log.len();
+    if last == LAST_EPOCH {
+        return Err((OpenError::EpochsSpent, log.close()));
+    }
+    let mut journal = Journal::over(log);
+    let body = opening_body(game, room, me, last, journal.is_empty());
+    match journal.append(&body) {
+        Ok(()) => Ok((journal, last + 1)),
+        Err(error) => Err((OpenError::Disk(error), journal.close())),
+    }
+}
+
+/// The body of the record that an opening adds to a journal: a HEAD to the first, and to another one
+/// the epoch after the last.
+fn opening_body(game: &Game, room: u64, me: Player, last: u32, is_first: bool) -> [u8; BODY_LENGTH]
+    requires { last < last_epoch }
+    ensures { (bodies : List (List ℕ)) → is_first ≡ (length bodies == 0)
+        → last ≡ epoch (records_of bodies)
+        → result ≡ opening_body game.now room me.number bodies }
+{
+    let id = game.id();
+    let record = if is_first {
+        Record::Head {
+            player: me,
+            id: &id,
+            room,
+        }
+    } else {
+        Record::Epoch {
+            player: me,
+            number: last + 1,
+        }
+    };
+    body_of(&record)
+}
+
+impl From<ReplayError> for OpenError {
+    ghost use Rattle.c8_peer.specs.Opening.{unfit};
+
+    ghost from_gives = { λ error result. result ≡ unfit error };
+
+    fn from(error: ReplayError) -> OpenError {
+        match error {
+            ReplayError::WrongGame => OpenError::WrongGame,
+            ReplayError::WrongPlayer => OpenError::WrongPlayer,
+            ReplayError::BadRecord(n) => OpenError::BadRecord(n),
+            ReplayError::Disk(why) => OpenError::Disk(why),
+        }
+    }
+}

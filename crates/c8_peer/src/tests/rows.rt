@@ -1,0 +1,197 @@
+//! One and two peers.
+use super::table::{Table, disk, opened, player};
+use crate::{Heard, Kind, Refused, TickError};
+use c8_disk::{DiskError, MemDisk};
+use c8_game::{Game, Keys};
+use c8_hand::HandError;
+use c8_known::KnownError;
+use std::test::Fail;
+
+/// Two players, a window of 8 frames and no delay.
+const GAME: &[u8] =
+    b"players 2\nipf 10\nframes 100\ndelay 0\nwindow 8\nseed 0\nmask1 000f\nmask2 fff0\ncode 1200\n";
+
+/// The same of one frame.
+const SHORT: &[u8] =
+    b"players 2\nipf 10\nframes 1\ndelay 0\nwindow 8\nseed 0\nmask1 000f\nmask2 fff0\ncode 1200\n";
+
+#[test]
+fn a_tick_is_one_record(rt: HostRuntime) -> Result<(), Fail> {
+    let alloc = rt.alloc();
+    let game = Game::read(alloc, GAME)?;
+    let mut peer = opened(alloc, &game, 1, disk(alloc)?)?;
+    assert_eq!(rt; peer.tick(Keys(0x20)), Ok(()));
+    assert_eq!(rt; (peer.now(), peer.epoch(), peer.confirmed()), (1, 1, 0));
+    let disk = peer.close();
+    assert_eq!(rt; disk.bytes().len(), 289);
+    let Some(slot) = disk.bytes().get(144..288) else {
+        return Err(Fail::from("too short"));
+    };
+    let (front, rest) = slot.split_at(14);
+    assert!(rt; front == b"\xa5\x03\x01\0\0\0\0\0\0\0\0\0\x01\0".as_slice());
+    assert_eq!(rt; rest.first(), Some(&0x20));
+    assert!(rt; rest.iter().skip(1).all(|byte| *byte == 0));
+    Ok(())
+}
+
+#[test]
+fn a_full_disk_takes_a_peer_down(rt: HostRuntime) -> Result<(), Fail> {
+    let alloc = rt.alloc();
+    let game = Game::read(alloc, GAME)?;
+    let mut peer = opened(alloc, &game, 1, MemDisk::new(alloc, 145, 100)?)?;
+    assert!(rt; !peer.is_down());
+    assert_eq!(rt; peer.tick(Keys(5)), Err(TickError::Disk(DiskError::Full)));
+    assert!(rt; peer.is_down());
+    assert_eq!(rt; peer.tick(Keys(5)), Err(TickError::Down));
+    assert_eq!(rt; peer.deliver(&[]), Err(Refused::Down));
+    assert_eq!(rt; (peer.now(), peer.epoch()), (0, 1));
+    Ok(())
+}
+
+#[test]
+fn the_game_ends_after_its_frames(rt: HostRuntime) -> Result<(), Fail> {
+    let alloc = rt.alloc();
+    let game = Game::read(alloc, SHORT)?;
+    let mut peer = opened(alloc, &game, 1, disk(alloc)?)?;
+    assert_eq!(rt; peer.tick(Keys(1)), Ok(()));
+    assert_eq!(rt; peer.tick(Keys(2)), Err(TickError::End));
+    assert_eq!(rt; (peer.now(), peer.confirmed()), (1, 0));
+    Ok(())
+}
+
+#[test]
+fn nobody_runs_further_ahead_than_the_window(rt: HostRuntime) -> Result<(), Fail> {
+    let alloc = rt.alloc();
+    let game = Game::read(alloc, GAME)?;
+    let mut table = Table::new(alloc, &game)?;
+    table.enter(1, &[1, 2, 3, 4, 5, 6, 7, 8])?;
+    assert_eq!(rt; table.at(1)?.tick(Keys(9)), Err(TickError::Threshold));
+    table.enter(2, &[0x10])?;
+    assert_eq!(rt; table.tell(2, 1, Kind::Data)?, Ok(Heard::Kept));
+    assert_eq!(rt; table.at(1)?.confirmed(), 1);
+    assert_eq!(rt; table.at(1)?.tick(Keys(9)), Ok(()));
+    assert_eq!(rt; table.at(1)?.tick(Keys(10)), Err(TickError::Threshold));
+    Ok(())
+}
+
+#[test]
+fn data_is_taken_once_and_acknowledged(rt: HostRuntime) -> Result<(), Fail> {
+    let alloc = rt.alloc();
+    let game = Game::read(alloc, GAME)?;
+    let mut table = Table::new(alloc, &game)?;
+    table.enter(1, &[7, 8])?;
+    let said = table.said(1, 2, Kind::Data)?;
+    // DATA of 1 to 2, epochs 1 and 1, ack 0, the mark of frame 0, start 0, two key sets
+    let Some((_, tail)) = said.bytes.split_at_checked(12) else {
+        return Err(Fail::from("too short"));
+    };
+    assert!(rt; tail.starts_with(b"\x01\x02\0\x1a\0\0\0\x01\0\0\0\x01\0\0\0\0\0\0\0\0"));
+    assert!(rt; said.bytes.get(40..50) == Some(b"\0\0\0\0\0\x02\0\x07\0\x08".as_slice()));
+    assert_eq!(rt; said.size, 50);
+    assert_eq!(rt; table.give(2, &said)?, Ok(Heard::Kept));
+    assert_eq!(rt; table.count(2, 1)?, 2);
+    assert_eq!(rt; table.give(2, &said)?, Ok(Heard::Nothing));
+    assert_eq!(rt; table.count(2, 1)?, 2);
+    assert_eq!(rt; table.at(1)?.acked(player(2)?), 0);
+    assert_eq!(rt; table.tell(2, 1, Kind::Data)?, Ok(Heard::Nothing));
+    assert_eq!(rt; table.at(1)?.acked(player(2)?), 2);
+    // what is acknowledged is not said again
+    assert_eq!(rt; table.said(1, 2, Kind::Data)?.size, 46);
+    Ok(())
+}
+
+#[test]
+fn inputs_that_leave_a_gap_are_refused(rt: HostRuntime) -> Result<(), Fail> {
+    let alloc = rt.alloc();
+    let game = Game::read(alloc, GAME)?;
+    let mut table = Table::new(alloc, &game)?;
+    table.enter(1, &[1, 2, 3])?;
+    table.tell(1, 2, Kind::Data)??;
+    // player 2 forgets what it holds, and player 1 knows that it had it
+    table.tell(2, 1, Kind::Data)??;
+    table.enter(1, &[4])?;
+    let said = table.said(1, 2, Kind::Data)?;
+    let fresh = opened(alloc, &game, 2, disk(alloc)?)?;
+    let _forgets = table.replace(2, fresh)?;
+    table.link(2, 1)?;
+    assert_eq!(rt; table.give(2, &said)?, Err(Refused::Known(KnownError::Gap)));
+    assert_eq!(rt; table.count(2, 1)?, 0);
+    assert_eq!(rt; table.at(2)?.acked(player(1)?), 0);
+    Ok(())
+}
+
+#[test]
+fn datagrams_are_judged_in_order(rt: HostRuntime) -> Result<(), Fail> {
+    let alloc = rt.alloc();
+    let game = Game::read(alloc, GAME)?;
+    let mut table = Table::new(alloc, &game)?;
+    table.enter(1, &[1])?;
+    let said = table.said(1, 2, Kind::Data)?;
+    let mut peer = opened(alloc, &game, 2, disk(alloc)?)?;
+    let Some(bytes) = said.bytes.get(..said.size) else {
+        return Err(Fail::from("too long"));
+    };
+    assert_eq!(rt; peer.deliver(bytes), Err(Refused::Hand(HandError::Ahead)));
+    assert_eq!(rt;
+        peer.deliver(b"C8"),
+        Err(Refused::Wire(c8_wire::WireError::Short))
+    );
+    // more is acknowledged than there is: byte 27 is the last of the ack
+    let mut more = said;
+    more.bytes[27] = 1;
+    assert_eq!(rt; table.give(2, &more)?, Err(Refused::BadAck));
+    // another machine after no frame: byte 32 is the first of the mark
+    let mut other = said;
+    other.bytes[32] ^= 1;
+    assert!(rt; !table.at(2)?.alarm());
+    assert_eq!(rt; table.give(2, &other)?, Err(Refused::Desync));
+    assert!(rt; table.at(2)?.alarm());
+    assert_eq!(rt; table.count(2, 1)?, 0);
+    assert_eq!(rt; table.give(2, &said)?, Ok(Heard::Kept));
+    // an input that is held, and differs: byte 47 is the last of the first key set
+    let mut changed = said;
+    changed.bytes[47] ^= 1;
+    let differs = Err(Refused::Known(KnownError::Differs));
+    assert_eq!(rt; table.give(2, &changed)?, differs);
+    Ok(())
+}
+
+#[test]
+fn what_may_not_be_said_is_refused_in_order(rt: HostRuntime) -> Result<(), Fail> {
+    use crate::Unsayable;
+
+    let alloc = rt.alloc();
+    let game = Game::read(alloc, GAME)?;
+    let peer = opened(alloc, &game, 1, disk(alloc)?)?;
+    let (one, two) = (player(1)?, player(2)?);
+    let mut out = [9; 174];
+    assert_eq!(rt;
+        peer.say(one, Kind::Hello, &mut out),
+        Err(Unsayable::NotAPlayer)
+    );
+    assert_eq!(rt;
+        peer.say(player(3)?, Kind::Hello, &mut out),
+        Err(Unsayable::NotAPlayer)
+    );
+    assert_eq!(rt;
+        peer.say(two, Kind::Freeze(two), &mut out),
+        Err(Unsayable::NotMine)
+    );
+    assert_eq!(rt;
+        peer.say(two, Kind::Frozen(two), &mut out),
+        Err(Unsayable::NotMine)
+    );
+    assert_eq!(rt;
+        peer.say(two, Kind::Cut(two), &mut out),
+        Err(Unsayable::NoRecord)
+    );
+    assert_eq!(rt;
+        peer.say(two, Kind::Welcome, &mut out),
+        Err(Unsayable::NoLink)
+    );
+    assert_eq!(rt; peer.say(two, Kind::Data, &mut out), Err(Unsayable::NoLink));
+    assert!(rt; out == [9; 174]);
+    assert_eq!(rt; peer.say(two, Kind::Hello, &mut out), Ok(24));
+    assert_eq!(rt; out[24], 9);
+    Ok(())
+}

@@ -1,0 +1,40 @@
+//! For how long players have been silent.
+
+ghost use Rattle.std.specs.Prelude.{◌≡◌};
+
+use c8_game::Player;
+
+/// For each player the turns that began since a datagram of it was last admitted, or since the
+/// start.
+#[derive(Clone, Copy, Debug, PartialEq, Eq)]
+pub struct Silence {
+    turns: [u64; 4],
+}
+
+impl Silence {
+    /// No turn has begun.
+    pub fn new() -> Silence {
+        Silence { turns: [0; 4] }
+    }
+
+    /// A turn begins.
+    pub fn begin(&mut self) {
+        let [one, two, three, four] = self.turns;
+        self.turns = [
+            one.saturating_add(1),
+            two.saturating_add(1),
+            three.saturating_add(1),
+            four.saturating_add(1),
+        ];
+    }
+
+    /// A datagram of the player was admitted.
+    pub fn heard(&mut self, player: Player) {
+        self.turns[usize::from(player.number - 1)] = 0;
+    }
+
+    /// For how many turns the player has been silent, the one that runs included.
+    pub fn turns(&self, player: Player) -> u64 {
+        self.turns[usize::from(player.number - 1)]
+    }
+}

@@ -1,0 +1,85 @@
+//! How datagrams leave a peer and come to it.
+
+ghost use Rattle.std.specs.Prelude.{◌≤◌, IfOk, IfSome};
+
+use crate::error::SocketError;
+use crate::peer::addresses::Addresses;
+use c8_game::Player;
+use mio::net::UdpSocket;
+use std::io;
+use std::io::ErrorKind;
+use std::net::{Net, SocketAddr};
+
+/// The most bytes of a packet that are read: one more than the longest datagram has, so that a
+/// longer packet is refused as such.
+pub const LONGEST_PACKET: usize = 175;
+
+/// What the system answers where it has no room for a datagram (ENOBUFS).
+const NO_ROOM: i32 = 105;
+
+/// The way to the other players. A datagram may be lost on it, come twice or late, and no call
+/// waits for anything.
+pub trait Wire {
+    /// Sends a datagram to a player. `Ok` says nothing of whether it comes.
+    fn send(&mut self, to: Player, datagram: &[u8]) -> Result<(), SocketError>;
+
+    /// Takes the next packet that has come, whoever sent it, and answers its length; of a longer
+    /// one the first `LONGEST_PACKET` bytes. `None` if none has.
+    fn receive(&mut self, packet: &mut [u8; LONGEST_PACKET]) -> Result<Option<usize>, SocketError>
+        ensures within { IfOk result (λ next. IfSome next (λ size. size ≤ LONGEST_PACKET)) };
+}
+
+/// A UDP socket, and where the other players are.
+#[derive(Drop)]
+pub struct Udp {
+    socket: UdpSocket,
+    others: [Option<SocketAddr>; 4],
+}
+
+impl Udp {
+    /// A socket at the local address.
+    pub fn open<R: Net>(rt: &R, addresses: &Addresses) -> Result<Udp, SocketError> {
+        match UdpSocket::bind(rt, addresses.local) {
+            Ok(socket) => Ok(Udp {
+                socket,
+                others: addresses.others,
+            }),
+            Err(_) => Err(SocketError::Failed),
+        }
+    }
+}
+
+impl Wire for Udp {
+    fn send(&mut self, to: Player, datagram: &[u8]) -> Result<(), SocketError> {
+        let Some(address) = self.others[usize::from(to.number - 1)] else {
+            return Ok(());
+        };
+        match self.socket.send_to(datagram, address) {
+            Ok(_) => Ok(()),
+            Err(error) if is_loss(&error) => Ok(()),
+            Err(_) => Err(SocketError::Failed),
+        }
+    }
+
+    fn receive(&mut self, packet: &mut [u8; LONGEST_PACKET]) -> Result<Option<usize>, SocketError>
+        ensures within { IfOk result (λ next. IfSome next (λ size. size ≤ LONGEST_PACKET)) }
+    {
+        match self.socket.recv_from(packet) {
+            Ok((size, _)) => Ok(Some(size)),
+            Err(error) if is_loss(&error) => Ok(None),
+            Err(_) => Err(SocketError::Failed),
+        }
+    }
+}
+
+/// Whether an error of the socket is a datagram that is lost, or none that has come: there is no
+/// room now, or nobody listens at the other end yet.
+fn is_loss(error: &io::Error) -> bool {
+    let kind = error.kind();
+    kind == ErrorKind::WouldBlock
+        || kind == ErrorKind::ConnectionRefused
+        || error.raw_os_error() == Some(NO_ROOM)
+}
+
+#[cfg(test)]
+mod tests;
