@@ -1,10 +1,11 @@
 //! One and two peers.
 use super::table::{Table, disk, opened, player};
-use crate::{Heard, Kind, Refused, TickError};
+use crate::{Heard, Kind, Peer, Refused, TickError, Unsayable};
 use c8_disk::{DiskError, MemDisk};
 use c8_game::{Game, Keys};
 use c8_hand::HandError;
 use c8_known::KnownError;
+use c8_wire::WireError;
 use std::test::Fail;
 
 /// Two players, a window of 8 frames and no delay.
@@ -121,77 +122,63 @@ fn inputs_that_leave_a_gap_are_refused(rt: HostRuntime) -> Result<(), Fail> {
 }
 
 #[test]
-fn datagrams_are_judged_in_order(rt: HostRuntime) -> Result<(), Fail> {
+fn bytes_are_judged_before_links(rt: HostRuntime) -> Result<(), Fail> {
     let alloc = rt.alloc();
     let game = Game::read(alloc, GAME)?;
     let mut table = Table::new(alloc, &game)?;
     table.enter(1, &[1])?;
     let said = table.said(1, 2, Kind::Data)?;
-    let mut peer = opened(alloc, &game, 2, disk(alloc)?)?;
-    let Some(bytes) = said.bytes.get(..said.size) else {
-        return Err(Fail::from("too long"));
-    };
-    assert_eq!(rt; peer.deliver(bytes), Err(Refused::Hand(HandError::Ahead)));
-    assert_eq!(rt;
-        peer.deliver(b"C8"),
-        Err(Refused::Wire(c8_wire::WireError::Short))
-    );
-    // more is acknowledged than there is: byte 27 is the last of the ack
-    let mut more = said;
-    more.bytes[27] = 1;
-    assert_eq!(rt; table.give(2, &more)?, Err(Refused::BadAck));
-    // another machine after no frame: byte 32 is the first of the mark
-    let mut other = said;
-    other.bytes[32] ^= 1;
-    assert!(rt; !table.at(2)?.alarm());
-    assert_eq!(rt; table.give(2, &other)?, Err(Refused::Desync));
-    assert!(rt; table.at(2)?.alarm());
-    assert_eq!(rt; table.count(2, 1)?, 0);
-    assert_eq!(rt; table.give(2, &said)?, Ok(Heard::Kept));
-    // an input that is held, and differs: byte 47 is the last of the first key set
-    let mut changed = said;
-    changed.bytes[47] ^= 1;
-    let differs = Err(Refused::Known(KnownError::Differs));
-    assert_eq!(rt; table.give(2, &changed)?, differs);
+    let fresh = opened(alloc, &game, 2, disk(alloc)?)?;
+    let _linked = table.replace(2, fresh)?;
+    assert_eq!(rt; table.give(2, &said)?, Err(Refused::Hand(HandError::Ahead)));
+    assert_eq!(rt; table.at(2)?.deliver(b"C8"), Err(Refused::Wire(WireError::Short)));
     Ok(())
 }
 
 #[test]
-fn what_may_not_be_said_is_refused_in_order(rt: HostRuntime) -> Result<(), Fail> {
-    use crate::Unsayable;
+fn data_is_judged_in_order(rt: HostRuntime) -> Result<(), Fail> {
+    let alloc = rt.alloc();
+    let game = Game::read(alloc, GAME)?;
+    let mut table = Table::new(alloc, &game)?;
+    table.enter(1, &[1])?;
+    let said = table.said(1, 2, Kind::Data)?;
+    // byte 27 is the last of the acknowledgement, byte 32 the first of the mark, of no frame
+    assert_eq!(rt; table.give(2, &said.changed(27))?, Err(Refused::BadAck));
+    assert_eq!(rt; table.give(2, &said.changed(32))?, Err(Refused::Desync));
+    assert!(rt; table.at(2)?.alarm());
+    assert_eq!(rt; table.count(2, 1)?, 0);
+    assert_eq!(rt; table.give(2, &said)?, Ok(Heard::Kept));
+    // byte 47 is the last of the first key set, which is held now
+    let differs = Err(Refused::Known(KnownError::Differs));
+    assert_eq!(rt; table.give(2, &said.changed(47))?, differs);
+    Ok(())
+}
 
+/// What a peer answers when it is asked to say something, if then nothing was written.
+fn unsaid(
+    peer: &Peer<'_, MemDisk>,
+    to: u8,
+    kind: Kind,
+) -> Result<Option<Result<usize, Unsayable>>, Fail> {
+    let mut out = [9; 174];
+    let answer = peer.say(player(to)?, kind, &mut out);
+    let is_kept = out.iter().all(|byte| *byte == 9);
+    Ok(if is_kept { Some(answer) } else { None })
+}
+
+#[test]
+fn what_may_not_be_said_is_refused_in_order(rt: HostRuntime) -> Result<(), Fail> {
     let alloc = rt.alloc();
     let game = Game::read(alloc, GAME)?;
     let peer = opened(alloc, &game, 1, disk(alloc)?)?;
-    let (one, two) = (player(1)?, player(2)?);
-    let mut out = [9; 174];
-    assert_eq!(rt;
-        peer.say(one, Kind::Hello, &mut out),
-        Err(Unsayable::NotAPlayer)
-    );
-    assert_eq!(rt;
-        peer.say(player(3)?, Kind::Hello, &mut out),
-        Err(Unsayable::NotAPlayer)
-    );
-    assert_eq!(rt;
-        peer.say(two, Kind::Freeze(two), &mut out),
-        Err(Unsayable::NotMine)
-    );
-    assert_eq!(rt;
-        peer.say(two, Kind::Frozen(two), &mut out),
-        Err(Unsayable::NotMine)
-    );
-    assert_eq!(rt;
-        peer.say(two, Kind::Cut(two), &mut out),
-        Err(Unsayable::NoRecord)
-    );
-    assert_eq!(rt;
-        peer.say(two, Kind::Welcome, &mut out),
-        Err(Unsayable::NoLink)
-    );
-    assert_eq!(rt; peer.say(two, Kind::Data, &mut out), Err(Unsayable::NoLink));
-    assert!(rt; out == [9; 174]);
-    assert_eq!(rt; peer.say(two, Kind::Hello, &mut out), Ok(24));
-    assert_eq!(rt; out[24], 9);
+    let two = player(2)?;
+    assert_eq!(rt; unsaid(&peer, 1, Kind::Hello)?, Some(Err(Unsayable::NotAPlayer)));
+    assert_eq!(rt; unsaid(&peer, 3, Kind::Hello)?, Some(Err(Unsayable::NotAPlayer)));
+    assert_eq!(rt; unsaid(&peer, 2, Kind::Freeze(two))?, Some(Err(Unsayable::NotMine)));
+    assert_eq!(rt; unsaid(&peer, 2, Kind::Frozen(two))?, Some(Err(Unsayable::NotMine)));
+    assert_eq!(rt; unsaid(&peer, 2, Kind::Cut(two))?, Some(Err(Unsayable::NoRecord)));
+    assert_eq!(rt; unsaid(&peer, 2, Kind::Welcome)?, Some(Err(Unsayable::NoLink)));
+    assert_eq!(rt; unsaid(&peer, 2, Kind::Data)?, Some(Err(Unsayable::NoLink)));
+    assert!(rt; unsaid(&peer, 2, Kind::Hello)?.is_none());
     Ok(())
 }

@@ -140,3 +140,14 @@ pub(super) struct Said {
     pub(super) bytes: [u8; 174],
     pub(super) size: usize,
 }
+
+impl Said {
+    /// The same with one bit of a byte changed.
+    pub(super) fn changed(&self, place: usize) -> Said {
+        let mut changed = *self;
+        if let Some(byte) = changed.bytes.get_mut(place) {
+            *byte ^= 1;
+        }
+        changed
+    }
+}
