@@ -1,5 +1,5 @@
 //! Drop rounds.
-use super::table::{Table, opened, player};
+use super::table::{Table, player};
 use crate::{DecideError, Heard, Kind, LeaveError, Refused, TickError, Unsayable};
 use c8_game::{Game, Keys};
 use c8_hand::HandError;
@@ -84,12 +84,8 @@ fn who_stays_is_opened_again_in_a_drop_round(rt: HostRuntime) -> Result<(), Fail
     table.tell(1, 2, Kind::Freeze(three))??;
     let before = table.said(3, 2, Kind::Data)?;
     let frozen = table.said(2, 1, Kind::Frozen(three))?;
-    // player 2 stops; its journal is opened again
-    let spare = opened(alloc, &game, 2, super::table::disk(alloc)?)?;
-    let disk = table.replace(2, spare)?.close().crash(0);
-    let again = opened(alloc, &game, 2, disk)?;
-    assert_eq!(rt; again.epoch(), 2);
-    let _spare = table.replace(2, again)?;
+    table.restart(alloc, &game, 2)?;
+    assert_eq!(rt; table.at(2)?.epoch(), 2);
     assert_eq!(rt;
         table.give(2, &before)?,
         Err(Refused::Hand(HandError::Stale))

@@ -1,6 +1,6 @@
 //! One and two peers.
 use super::table::{Table, disk, opened, player};
-use crate::{Heard, Kind, Peer, Refused, TickError, Unsayable};
+use crate::{Heard, Kind, Refused, TickError};
 use c8_disk::{DiskError, MemDisk};
 use c8_game::{Game, Keys};
 use c8_hand::HandError;
@@ -131,7 +131,10 @@ fn bytes_are_judged_before_links(rt: HostRuntime) -> Result<(), Fail> {
     let fresh = opened(alloc, &game, 2, disk(alloc)?)?;
     let _linked = table.replace(2, fresh)?;
     assert_eq!(rt; table.give(2, &said)?, Err(Refused::Hand(HandError::Ahead)));
-    assert_eq!(rt; table.at(2)?.deliver(b"C8"), Err(Refused::Wire(WireError::Short)));
+    assert_eq!(rt;
+        table.at(2)?.deliver(b"C8"),
+        Err(Refused::Wire(WireError::Short))
+    );
     Ok(())
 }
 
@@ -154,31 +157,20 @@ fn data_is_judged_in_order(rt: HostRuntime) -> Result<(), Fail> {
     Ok(())
 }
 
-/// What a peer answers when it is asked to say something, if then nothing was written.
-fn unsaid(
-    peer: &Peer<'_, MemDisk>,
-    to: u8,
-    kind: Kind,
-) -> Result<Option<Result<usize, Unsayable>>, Fail> {
-    let mut out = [9; 174];
-    let answer = peer.say(player(to)?, kind, &mut out);
-    let is_kept = out.iter().all(|byte| *byte == 9);
-    Ok(if is_kept { Some(answer) } else { None })
-}
-
 #[test]
 fn what_may_not_be_said_is_refused_in_order(rt: HostRuntime) -> Result<(), Fail> {
     let alloc = rt.alloc();
     let game = Game::read(alloc, GAME)?;
-    let peer = opened(alloc, &game, 1, disk(alloc)?)?;
+    let mut table = Table::unlinked(alloc, &game)?;
     let two = player(2)?;
-    assert_eq!(rt; unsaid(&peer, 1, Kind::Hello)?, Some(Err(Unsayable::NotAPlayer)));
-    assert_eq!(rt; unsaid(&peer, 3, Kind::Hello)?, Some(Err(Unsayable::NotAPlayer)));
-    assert_eq!(rt; unsaid(&peer, 2, Kind::Freeze(two))?, Some(Err(Unsayable::NotMine)));
-    assert_eq!(rt; unsaid(&peer, 2, Kind::Frozen(two))?, Some(Err(Unsayable::NotMine)));
-    assert_eq!(rt; unsaid(&peer, 2, Kind::Cut(two))?, Some(Err(Unsayable::NoRecord)));
-    assert_eq!(rt; unsaid(&peer, 2, Kind::Welcome)?, Some(Err(Unsayable::NoLink)));
-    assert_eq!(rt; unsaid(&peer, 2, Kind::Data)?, Some(Err(Unsayable::NoLink)));
-    assert!(rt; unsaid(&peer, 2, Kind::Hello)?.is_none());
+    // 3 NotAPlayer, 4 NotMine, 5 NoRecord, 6 NoLink
+    assert_eq!(rt; table.unsaid(1, 1, Kind::Hello)?, 3);
+    assert_eq!(rt; table.unsaid(1, 3, Kind::Freeze(two))?, 3);
+    assert_eq!(rt; table.unsaid(1, 2, Kind::Freeze(two))?, 4);
+    assert_eq!(rt; table.unsaid(1, 2, Kind::Frozen(two))?, 4);
+    assert_eq!(rt; table.unsaid(1, 2, Kind::Cut(two))?, 5);
+    assert_eq!(rt; table.unsaid(1, 2, Kind::Welcome)?, 6);
+    assert_eq!(rt; table.unsaid(1, 2, Kind::Data)?, 6);
+    assert_eq!(rt; table.unsaid(1, 2, Kind::Hello)?, 0);
     Ok(())
 }

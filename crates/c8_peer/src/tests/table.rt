@@ -41,13 +41,18 @@ pub(super) struct Table<'g> {
 }
 
 impl<'g> Table<'g> {
-    /// All are opened, and each has a link to each other.
-    pub(super) fn new(alloc: Global, game: &'g Game) -> Result<Table<'g>, Fail> {
+    /// All are opened, and nobody has a link.
+    pub(super) fn unlinked(alloc: Global, game: &'g Game) -> Result<Table<'g>, Fail> {
         let mut peers = Vec::new(alloc);
         for number in 1..game.players() + 1 {
             peers.push(opened(alloc, game, number, disk(alloc)?)?)?;
         }
-        let mut table = Table { peers };
+        Ok(Table { peers })
+    }
+
+    /// All are opened, and each has a link to each other.
+    pub(super) fn new(alloc: Global, game: &'g Game) -> Result<Table<'g>, Fail> {
+        let mut table = Table::unlinked(alloc, game)?;
         for one in 1..game.players() + 1 {
             for other in 1..game.players() + 1 {
                 if one != other {
@@ -74,6 +79,20 @@ impl<'g> Table<'g> {
         Ok(std::mem::replace(self.at(number)?, peer))
     }
 
+    /// A player stops, and its peer is opened again with the journal that its disk keeps for sure.
+    pub(super) fn restart(
+        &mut self,
+        alloc: Global,
+        game: &'g Game,
+        number: u8,
+    ) -> Result<(), Fail> {
+        let spare = opened(alloc, game, number, disk(alloc)?)?;
+        let stopped = self.replace(number, spare)?.close();
+        let again = opened(alloc, game, number, stopped.crash(0))?;
+        let _spare = self.replace(number, again)?;
+        Ok(())
+    }
+
     /// One player says HELLO to another, which answers: then it has a link.
     pub(super) fn link(&mut self, one: u8, other: u8) -> Result<(), Fail> {
         self.tell(one, other, Kind::Hello)??;
@@ -86,6 +105,15 @@ impl<'g> Table<'g> {
         let mut bytes = [0; 174];
         let size = self.at(from)?.say(player(to)?, kind, &mut bytes)?;
         Ok(Said { bytes, size })
+    }
+
+    /// The number of the refusal of a saying; 0 if something is said.
+    pub(super) fn unsaid(&mut self, from: u8, to: u8, kind: Kind) -> Result<u8, Fail> {
+        let mut bytes = [0; 174];
+        Ok(match self.at(from)?.say(player(to)?, kind, &mut bytes) {
+            Ok(_) => 0,
+            Err(error) => error.number(),
+        })
     }
 
     /// What a player answers to these bytes.
