@@ -8,7 +8,7 @@ use Rattle.c8_log.specs.Journal.{JournalValue}
 use Rattle.c8_known.specs.Journal.{Record}
 use Rattle.c8_known.specs.Known.{KnownValue}
 use Rattle.c8_peer.specs.State.{Memory, Open, Down, Call, Reply, Outcome, answered, recorded}
-use Rattle.c8_peer.specs.Steps.{Works, Refuses, outcome, refused_by_disk, when_down}
+use Rattle.c8_peer.specs.Steps.{Works, Refuses, outcome, refused_by_disk}
 use Rattle.c8_peer.specs.Peer.{PeerValue, known_by, luck_of, IsStep, added, KeepsWithOrWithout, LeavesJournal, HasCause, IsAnswered, IsSound}
 use Rattle.c8_peer.specs.Held.{IsPeer}
 use Rattle.c8_peer.proofs.PeerLemmas.{view}
@@ -36,11 +36,6 @@ module _ {D : Type 0} (g : Ghosts D) where
     changes = omega arith;
     same = record { rules = refl; room = refl; me = refl; disk_is = same_disk v.disk };
   }
-
-  -- the peer is down
-  pub answers_down : (v : PeerValue D) (call : Call) (reply : Reply) → IsSound g v → v.state.mode ≡ Down → reply ≡ when_down call → luck_of reply ≡ Works → IsAnswered g v call reply v
-  answers_down v call reply sound mode is luck =
-      quiet v v.state.memory call reply sound (rw mode refl) luck (rw (mode, is) refl)
 
   -- nothing is recorded; the memory may change
   pub answers : (v : PeerValue D) (m : Memory) (call : Call) (reply : Reply) → IsSound g v → v.state.mode ≡ Open → outcome v.rules (known_by v) v.state.memory call ≡ answered m reply

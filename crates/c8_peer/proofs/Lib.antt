@@ -12,3 +12,4 @@ pub mod ReaderLemmas
 pub mod DeliveryLemmas
 pub mod RunLemmas
 pub mod OpenLemmas
+pub mod OpeningDeeds

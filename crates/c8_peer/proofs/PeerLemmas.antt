@@ -138,14 +138,6 @@ was_roll rules v k later r is more still = record {
   one_tick = rw more (one_tick k r);
 }
 
-pub roll_rules : (rules : Rules) (v : RollValue) (k : KnownValue) → v ≡ roll_of rules k → v.rules ≡ rules
-unfolding roll_of
-roll_rules rules v k is = ap (λ (x : RollValue). x.rules) is
-
-pub roll_ticks : (v : RollValue) (k : KnownValue) → v ≡ roll_of v.rules k → v.ticks ≡ k.ticks
-unfolding roll_of
-roll_ticks v k is = ap (λ (x : RollValue). x.ticks) is
-
 -- ---- the peer as it is seen
 
 module _ {D : Type 0} where

@@ -1,5 +1,5 @@
 -- A run of one peer: what is done to it, one deed after another, and what it answers.
-use Rattle.std.specs.Prelude.{◌≡◌, ◌≢◌, ℕ, List, [], ◌∷◌, Bool, false, Option, Some, None, Ok}
+use Rattle.std.specs.Prelude.{◌≡◌, ◌≢◌, ℕ, List, [], ◌∷◌, Bool, false, Option, Some, None, Ok, Err}
 use Rattle.std.specs.List.{slice_get}
 use Rattle.c8_game.specs.Rules.{Rules}
 use Rattle.c8_wire.specs.Packet.{Packet}
@@ -7,10 +7,13 @@ use Rattle.c8_hand.specs.Links.{no_link}
 use Rattle.c8_known.specs.Known.{KnownValue, known_of}
 use Rattle.c8_window.specs.Window.{first_window}
 use Rattle.c8_round.specs.Round.{no_reports, no_haves}
-use Rattle.c8_peer.specs.State.{Away, State, Call, Reply, Said}
+use Rattle.c8_peer.specs.State.{Away, State, Call, Reply, Opened, Said}
 use Rattle.c8_peer.specs.State as states
 use Rattle.c8_peer.specs.Steps.{Luck, Stepped, step}
 use Rattle.c8_peer.specs.Opening.{Opening, found, opened, away, MayBecome}
+use Rattle.c8_disk.specs.declared.disk.Disk.{Ghosts}
+use Rattle.c8_peer.specs.declared.error.OpenError.{OpenError}
+use Rattle.c8_peer.specs.Peer.{Keeps}
 use Rattle.c8_peer.specs.Lawful.{IsCall}
 
 -- a peer that was never opened: nothing is asked of its memory
@@ -97,3 +100,17 @@ IsAmong answers packet = (n : ℕ) × (slice_get answers n ≡ Some (Some (Said 
 -- what the player knows by the journal of a state
 abbrev pub known_at : Rules → ℕ → State → KnownValue
 known_at rules me s = known_of rules me s.journal
+
+-- ---- what disks tell
+
+module _ {D : Type 0} (disk : Ghosts D) where
+  -- each image that a crash now leaves of a disk keeps the journal of a state, with its pending record or without
+  abbrev pub Tells : State → D → Type 0
+  Tells s d = (image : List ℕ) → disk.may_leave d image → (finds : Bool) × Keeps (found s finds) image
+
+  -- An opening that a disk with this journal refused: the answer is one of the definitions', and what is left of the disk tells
+  -- the state then.
+  pub record IsRefusedDeed (rules : Rules) (room me : ℕ) (s : State) (finds : Bool) (error : OpenError) (left : D) : Type 0 where
+    pub opening : Opening
+    pub deed : IsDone rules room me s (Opens finds opening) (Some (Opened (Err error))) (opened rules room me s (found s finds) opening).state
+    pub tells : Tells (opened rules room me s (found s finds) opening).state left

@@ -9,14 +9,16 @@ ghost use Rattle.c8_known.specs.Confirmed.{confirmed, rows_below};
 ghost use Rattle.c8_log.specs.Slots.{kept};
 ghost use Rattle.c8_record.specs.Allowed.{IsAllowed, IsJournal};
 ghost use Rattle.c8_record.specs.Body.{records_of};
-ghost use Rattle.c8_peer.specs.State.{Memory, State, Call, Reply, Said, fresh_memory};
+ghost use Rattle.c8_peer.specs.State.{Memory, Open, State, Call, Reply, Opened, Said, fresh_memory};
 ghost use Rattle.c8_peer.specs.Steps.{Luck, Works, outcome, step};
-ghost use Rattle.c8_peer.specs.Opening.{last_epoch, opening_record, found};
+ghost use Rattle.c8_peer.specs.Opening.{Stands, last_epoch, opening_record, found};
 ghost use Rattle.c8_peer.specs.Truth.{IsTrue};
 ghost use Rattle.c8_peer.specs.Lawful.{IsMemory, IsCall};
 ghost use Rattle.c8_peer.specs.Peer.{PeerValue, IsSound, IsAnswered, IsSaid, Keeps, MayLeave, luck_of};
-ghost use Rattle.c8_peer.specs.Runs.{Deed, Does, IsDone, IsRun, IsReached, IsAmong, never_opened, known_at};
+ghost use Rattle.c8_peer.specs.Runs.{Deed, Does, Opens, IsDone, IsRun, IsReached, IsAmong, Tells, IsRefusedDeed, never_opened, known_at};
+ghost use Rattle.c8_peer.specs.Opened.{IsOpened, IsRefusedOpening};
 
+use crate::error::OpenError;
 use c8_disk::Disk;
 
 /// What is true of a journal stays true of every journal that the rules allow and that it begins.
@@ -154,4 +156,22 @@ pub fn what_disks_tell<D: Disk>()
     ensures inside { (p : PeerValue D) (call : Call) (image : List ℕ) → MayLeave p call image
         → (luck : Luck) × (leaves : Bool)
         × Keeps (found (step p.rules p.me p.state call luck).state leaves) image }
+{}
+
+/// Each opening of a peer is a deed of a run, by what its contract says of it: of a disk whose
+/// journal, as a read gives it, is that of a state with the pending record or without. What a
+/// refused opening leaves of the disk tells the state after it.
+pub fn openings_are_deeds<D: Disk>()
+    ensures opened { (disk : D) (rules : Rules) (room me : ℕ) (s : State) (finds : Bool)
+        (p : PeerValue D)
+        → IsOpened D.Disk disk rules room me p → (s.mode ≡ Open → ⊥)
+        → records_of (kept (D.seen disk)) ≡ found s finds
+        → IsDone rules room me s (Opens finds Stands)
+        (Some (Opened (Ok (epoch p.state.journal)))) p.state }
+    ensures refused { (disk left : D) (rules : Rules) (room me : ℕ) (s : State) (finds : Bool)
+        (error : OpenError)
+        → IsRefusedOpening D.Disk disk rules room me error left → (s.mode ≡ Open → ⊥)
+        → Keeps (found s finds) (D.seen disk) → records_of (kept (D.seen disk)) ≡ found s finds
+        → Tells D.Disk s disk
+        → IsRefusedDeed D.Disk rules room me s finds error left }
 {}

@@ -1,12 +1,13 @@
 use Rattle.std.proofs.Common.{◌∙◌, ◌++◌, ◌∷◌, [], ap, List, ℕ, Some}
 use Rattle.c8_game.specs.Rules.{Rules}
 use Rattle.c8_roll.specs.Roll.{roll_of}
+use Rattle.c8_roll.specs.RollLaws.{roll_rules}
 use Rattle.c8_roll.specs.Seen.{value_of as seen}
 use Rattle.c8_log.specs.Journal.{JournalValue}
 use Rattle.c8_record.specs.Body.{record_of, records_of}
 use Rattle.c8_record.specs.BodyLaws.{read_again}
 use Rattle.c8_record.specs.Lent.{value_of}
-use Rattle.c8_peer.proofs.PeerLemmas.{peer_refused, can_follow, peer_more, was_roll, roll_rules, allowed_inside, view_refused, view_more, leaves_records, one_body_more}
+use Rattle.c8_peer.proofs.PeerLemmas.{peer_refused, can_follow, peer_more, was_roll, allowed_inside, view_refused, view_more, leaves_records, one_body_more}
 use Rattle.c8_peer.proofs.peer.Peer.keep.Goals as goal
 
 pub invariant_of-self-in-Err : goal.invariant_of-self-in-Err
@@ -54,7 +55,7 @@ invariant_of-self g c =
           (ap (λ (j : JournalValue g.row.D.Denot). j.bodies) is ∙ ap (λ (body : List ℕ). c.self.inside.journal.bodies ++ body ∷ []) c.body_of.ensures.body)
           (ap (λ (j : JournalValue g.row.D.Denot). j.pending) is)
           c.make_known.ensures.value c.make_known.ensures.still.me,
-      c.go_on.ensures ∙ ap (λ (rules : Rules). roll_of rules c.make_known.new.known) (roll_rules c.self.inside.game.now (seen c.self.inside.roll) c.self.inside.known c.self.invariant.1),
+      c.go_on.ensures ∙ ap (λ (rules : Rules). roll_of rules c.make_known.new.known) (roll_rules c.self.inside.game.now c.self.inside.known (seen c.self.inside.roll) c.self.invariant.1),
     )
 
 pub returns-in-Ok-clause-ok : goal.returns-in-Ok-clause-ok

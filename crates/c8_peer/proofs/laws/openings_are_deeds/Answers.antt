@@ -1,0 +1,8 @@
+use Rattle.c8_peer.proofs.OpeningDeeds.{opened_deed, refused_deed}
+use Rattle.c8_peer.proofs.laws.openings_are_deeds.Goals as goal
+
+pub returns-clause-opened : goal.returns-clause-opened
+returns-clause-opened g c = opened_deed g.D.Disk
+
+pub returns-clause-refused : goal.returns-clause-refused
+returns-clause-refused g c = refused_deed g.D.Disk
