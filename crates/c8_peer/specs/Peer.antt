@@ -154,14 +154,15 @@ abbrev pub HasCause : {D : Type 0} → Ghosts D → PeerValue D → PeerValue D 
 HasCause disk old new errors.Failed = disk.failures old.disk < disk.failures new.disk
 HasCause disk old new errors.Full = disk.capacity old.disk < slot_length * (length old.state.journal + 1) + 1
 
--- What every call answers for, of a peer before it and after it. The record that it adds is that of `added`.
+-- What a tick, a delivery, a leave and a decision answer for, of a peer before the call and after it. The record that it adds is
+-- that of `added`.
 --
 -- - `step`: it is the one step of the definitions.
 -- - `cause`: the disk is blamed for a refusal only where it has one.
 -- - `any_moment`: what a crash inside the call may leave.
 -- - `journal`: what a crash after it may leave.
 -- - `untouched`: where it adds no record the disk is not called.
--- - `changes`: it writes and syncs twice at most.
+-- - `changes`: at most four writes and syncs in all.
 -- - `same`: match, player and disk stay.
 pub record IsAnswered {D : Type 0} (disk : Ghosts D) (old : PeerValue D) (call : Call) (reply : Reply) (new : PeerValue D) : Type 0 where
   pub step : IsStep old call reply new
@@ -172,8 +173,14 @@ pub record IsAnswered {D : Type 0} (disk : Ghosts D) (old : PeerValue D) (call :
   pub changes : disk.changes new.disk ≤ disk.changes old.disk + 4
   pub same : IsSamePeer disk old new
 
--- What is so of every peer between two calls: its journal is one of this match and player, the memory is in order, and a crash
--- leaves the journal, with the pending record or without.
+-- What is so of every peer between two calls.
+--
+-- - `range`, `plays`: its rules are those of a game, and it is the peer of a player of it.
+-- - `is_journal`, `memory`, `epoch_is`: its journal is one of this match and player, the memory is in order, and its epoch is the
+--   journal's last.
+-- - `held`, `none_pending`: it is open, and then no record is pending, or down.
+-- - `leaves`: what a crash now leaves.
+-- - `still`: the same as a run of no calls, so that it joins to the runs of calls.
 pub record IsSound {D : Type 0} (disk : Ghosts D) (p : PeerValue D) : Type 0 where
   pub range : AreInRange p.rules
   pub plays : (1 ≤ p.me) × (p.me ≤ p.rules.players)

@@ -35,6 +35,7 @@ never_opened = record {
 
 -- A call, and what the disk does with its record; an opening, by whether the reading finds the pending record and what
 -- becomes of it; a close; or a call or an opening inside which a crash stops the peer, by whether it leaves the pending record.
+-- A disk may refuse in any of them: that it has a cause is said of real calls.
 pub data Deed : Type 0 where
   Does : (call : Call) → (luck : Luck) → Deed
   Opens : (finds : Bool) → (opening : Opening) → Deed

@@ -1,6 +1,6 @@
 //! What callers may rest on that is no single call's: laws of peers, each the contract of a
 //! function that does nothing.
-ghost use Rattle.std.specs.Prelude.{◌≡◌, ℕ, ◌^◌, ◌<◌, ◌≤◌, List, [], ◌∷◌, ◌++◌, Bool, Option, Ok, Some};
+ghost use Rattle.std.specs.Prelude.{◌≡◌, ℕ, ◌^◌, ◌<◌, ◌≤◌, List, [], ◌∷◌, ◌++◌, Bool, Option, Ok, Err, Some};
 ghost use Rattle.c8_game.specs.Rules.{Rules, AreInRange};
 ghost use Rattle.c8_wire.specs.Packet.{Packet, IsPacket};
 ghost use Rattle.c8_known.specs.Journal.{Record, epoch};
@@ -14,11 +14,11 @@ ghost use Rattle.c8_peer.specs.Steps.{Luck, Works, outcome, step};
 ghost use Rattle.c8_peer.specs.Opening.{Stands, last_epoch, opening_record, found};
 ghost use Rattle.c8_peer.specs.Truth.{IsTrue};
 ghost use Rattle.c8_peer.specs.Lawful.{IsMemory, IsCall};
-ghost use Rattle.c8_peer.specs.Peer.{PeerValue, IsSound, IsAnswered, IsSaid, Keeps, MayLeave, luck_of};
+ghost use Rattle.c8_peer.specs.Peer.{PeerValue, IsSound, IsAnswered, IsSaid, IsStep, Keeps, MayLeave, luck_of};
 ghost use Rattle.c8_peer.specs.Runs.{Deed, Does, Opens, IsDone, IsRun, IsReached, IsAmong, Tells, IsRefusedDeed, never_opened, known_at};
 ghost use Rattle.c8_peer.specs.Opened.{IsOpened, IsRefusedOpening};
 
-use crate::error::OpenError;
+use crate::error::{OpenError, Unsayable};
 use c8_disk::Disk;
 
 /// What is true of a journal stays true of every journal that the rules allow and that it begins.
@@ -137,6 +137,9 @@ pub fn calls_are_deeds<D: Disk>()
         → IsCall call → (is : IsSaid p call bytes)
         → IsDone p.rules p.room p.me p.state (Does call Works) (Some (Said (Ok is.packet)))
         p.state }
+    ensures unsaid { (p : PeerValue D) (call : Call) (error : Unsayable)
+        → IsCall call → IsStep p call (Said (Err error)) p
+        → IsDone p.rules p.room p.me p.state (Does call Works) (Some (Said (Err error))) p.state }
 {}
 
 /// What the disk of a peer tells a reading. `reading`: a read now gives the journal, with the

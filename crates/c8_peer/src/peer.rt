@@ -1,5 +1,6 @@
 //! One peer, and how a record comes into its journal.
 ghost use Rattle.std.specs.Prelude.{◌≡◌, ◌≤◌, ◌<◌, ◌+◌, ◌*◌, [], ◌∷◌, ◌++◌, length, false, Some, OnOk, OnErr, IsErrOf};
+ghost use Rattle.c8_disk.specs.Disk.{AddsNone};
 ghost use Rattle.c8_disk.specs.Runs.{LeavesOnly, IsSameDisk};
 ghost use Rattle.c8_log.specs.Slots.{slot_length};
 ghost use Rattle.c8_record.specs.Allowed.{IsAllowed};
@@ -68,6 +69,7 @@ impl<'g, D: Disk> Peer<'g, D> {
     ghost use Rattle.c8_peer.specs.Peer.{KeepsWithOrWithout, LeavesJournal, IsSound, mode_of};
 
     /// Whether the disk refused a record. The peer is to be closed then, and its disk opened again.
+    /// With the answer comes what is so of every peer.
     pub fn is_down(&self) -> bool
         ensures value { self.now.state.mode ≡ mode_of result }
         ensures sound { IsSound D.Disk self.now }
@@ -83,6 +85,9 @@ impl<'g, D: Disk> Peer<'g, D> {
         ensures failures { D.failures self.new.disk ≡ D.failures self.old.disk }
         ensures changes { D.changes self.new.disk ≡ D.changes self.old.disk }
         ensures capacity { D.capacity self.new.disk ≡ D.capacity self.old.disk }
+        ensures seen { D.seen self.new.disk ≡ D.seen self.old.disk }
+        ensures crash { AddsNone (D.may_leave self.old.disk) (D.may_leave self.new.disk) }
+        ensures crash_keeps { AddsNone (D.may_leave self.new.disk) (D.may_leave self.old.disk) }
         ensures any_moment { LeavesOnly D.Disk self.old.disk self.new.disk
             (KeepsWithOrWithout self.old.state.journal self.old.state.pending) }
     {

@@ -1,7 +1,8 @@
 //! `c8play peer`: a game is played with others over UDP.
 //!
 //! `session` is the loop, `wire` the way to the other players; `addresses` and `key_sets` read what
-//! the command is given, and `progress` says where the peer stands.
+//! the command is given, `silence` counts who is not heard, and `progress` says where the peer
+//! stands.
 
 ghost use Rattle.std.specs.Prelude.{◌≡◌, IfOk, Result};
 ghost use Rattle.c8play.specs.Status.{status_of_outcome};
@@ -145,7 +146,7 @@ fn game_at<R: Files + AllocGlobal>(rt: &R, path: &str) -> Result<Game, Refusal> 
     }
 }
 
-/// The addresses that are asked for. Since a game has two players, there is one remote at least.
+/// The addresses that are asked for. Since a game has at least two players, there is one remote at least.
 fn addresses_of(game: &Game, asked: &Asked<'_, '_>) -> Result<Addresses, SocketError> {
     let Some(remotes) = asked.remotes else {
         return Err(SocketError::Remotes);

@@ -22,7 +22,8 @@ impl<'g, D: Disk> Peer<'g, D> {
     ghost use Rattle.c8_peer.specs.Peer.{IsAnswered, known_by};
 
     /// Takes what came over the network: any bytes, of any length. They are read where they are.
-    /// What they say is judged in this order: `Down`, `Dropped`, `Wire`, `Hand`, then by kind.
+    /// What they say is judged in this order: `Down`, `Dropped`, `Wire`, `Hand`, then by kind, in
+    /// the order of the lines in `specs/Hearing.antt`.
     pub fn deliver(&mut self, bytes: &[u8]) -> Result<Heard, Refused>
         ensures { IsAnswered D.Disk self.old (Deliver (read bytes.now)) (Delivered result)
             self.new }

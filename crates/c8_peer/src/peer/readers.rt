@@ -69,7 +69,8 @@ impl<'g, D: Disk> Peer<'g, D> {
         self.known.count(player)
     }
 
-    /// How many of the own inputs a player has acknowledged since the last opening.
+    /// How many of the own inputs a player has acknowledged since the last opening; at first those
+    /// of the delay.
     pub fn acked(&self, player: Player) -> u32
         ensures { result ≡ acked_of self.now.state.memory.acks player.number }
     {

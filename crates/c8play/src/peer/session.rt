@@ -125,15 +125,15 @@ impl<'g, D: Disk> Session<'g, D> {
         }
     }
 
-    /// Enters the next key set, or none that is held down after the last. One that is refused is
-    /// the next again.
+    /// Enters the next key set, after the last an empty one. One that is refused is entered again in
+    /// the next turn.
     fn tick(&mut self) -> Result<(), Refusal> {
-        let (next, is_last) = match self.keys.get(self.entered) {
+        let (next, is_past) = match self.keys.get(self.entered) {
             Some(keys) => (*keys, false),
             None => (Keys::default(), true),
         };
         match self.peer.tick(next) {
-            Ok(()) if is_last => Ok(()),
+            Ok(()) if is_past => Ok(()),
             Ok(()) => {
                 self.entered = self.entered.saturating_add(1);
                 Ok(())
@@ -183,7 +183,8 @@ impl<'g, D: Disk> Session<'g, D> {
         Ok(())
     }
 
-    /// HELLO where the link is not open, WELCOME where the player has greeted, else DATA.
+    /// HELLO where the link is not open, WELCOME where the player has greeted, and DATA where neither
+    /// was said.
     fn speak_to<W: Wire>(
         &self,
         wire: &mut W,
@@ -283,8 +284,7 @@ impl<'g, D: Disk> Session<'g, D> {
     }
 }
 
-/// Whether a packet was a datagram for this peer from a player whom it knows, whatever became of
-/// it then.
+/// Whether the links admitted a packet, whatever was answered then.
 fn is_admitted(answer: Result<Heard, Refused>) -> bool {
     !matches!(
         answer,
