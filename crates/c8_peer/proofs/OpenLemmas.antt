@@ -7,7 +7,7 @@ use Rattle.c8_disk.specs.declared.error.DiskError.TheVariants.{Failed, Full}
 use Rattle.c8_disk.specs.Runs.{LeavesOnly, IsSameDisk, ReadsOnly}
 use Rattle.c8_disk.specs.RunLaws.{then_run, weaker}
 use Rattle.c8_log.specs.Log.{AllKeep, KeepsOneOf, LogValue}
-use Rattle.c8_log.specs.Journal.{JournalValue, KeepsBodies, AllKeepBodies}
+use Rattle.c8_log.specs.Journal.{JournalValue, AllKeepBodies}
 use Rattle.c8_known.specs.Journal.{Record, Head, Epoch, epoch, epochs}
 use Rattle.c8_known.specs.Known.{KnownValue, known_of, with_record}
 use Rattle.c8_record.specs.Body.{record_of, records_of}
@@ -21,8 +21,8 @@ use Rattle.c8_peer.specs.State.{Memory, Opened, fresh_memory}
 use Rattle.c8_peer.specs.Opening.{last_epoch, unfit, opening_record}
 use Rattle.c8_peer.specs.Peer.{PeerValue, mode_of, IsSound}
 use Rattle.c8_peer.specs.Held.{IsPeer}
-use Rattle.c8_peer.specs.Opened.{opening_body, found, IsOpened, IsSettled, IsUnread, IsUnfit, IsNotWritten, IsRefusedFor, IsRefusedOpening, OpeningLeaves}
-use Rattle.c8_peer.specs.OpenedParts.{IsRead, IsBegun, IsNotBegun}
+use Rattle.c8_peer.specs.Opened.{opening_body, found, MayBegin, IsOpened, IsSettled, IsUnread, IsUnfit, IsNotWritten, IsRefusedFor, IsRefusedOpening, OpeningLeaves}
+use Rattle.c8_peer.specs.OpenedParts.{IsRead, IsBegun, IsNotBegun, BeginningLeaves}
 use Rattle.c8_peer.proofs.OpeningLemmas.{opening_allowed, opening_memory}
 use Rattle.c8_peer.proofs.PeerLemmas.{one_body_more, bodies_more, view}
 
@@ -95,14 +95,14 @@ module _ {D : Type 0} (g : Ghosts D) (disk mid : D) (rules : Rules) (room me : �
   }
 
   pub leaves_opening : ((disk : D) → g.may_leave disk (g.seen disk)) → (left : D) → LeavesOnly g disk mid (KeepsOneOf (g.may_leave disk))
-      → LeavesOnly g mid left (KeepsBodies (found g mid) (Some (opening_body rules room me (found g mid)))) → LeavesOnly g disk left (OpeningLeaves g disk rules room me)
+      → LeavesOnly g mid left (BeginningLeaves g mid rules room me) → LeavesOnly g disk left (OpeningLeaves g disk rules room me)
   leaves_opening reads_now left first second =
       let all : List ℕ → Type 0 = OpeningLeaves g disk rules room me in
       then_run g disk mid left all (weaker g disk mid (KeepsOneOf (g.may_leave disk)) all first (λ image keeps. inl keeps))
-      (weaker g mid left (KeepsBodies (found g mid) (Some (opening_body rules room me (found g mid)))) all second
+      (weaker g mid left (BeginningLeaves g mid rules room me) all second
       (λ image keeps. ⊎_elim
       (λ without. inl (g.seen disk, reads_now disk, without ∙ same))
-      (λ with. inr (with ∙ ap (λ (bodies : List (List ℕ)). bodies ++ opening_body rules room me bodies ∷ []) same))
+      (λ with. inr (subst (MayBegin rules room me) same with.0, with.1 ∙ ap (λ (bodies : List (List ℕ)). bodies ++ opening_body rules room me bodies ∷ []) same))
       keeps))
 
 -- ---- the peer

@@ -3,6 +3,7 @@ use Rattle.std.proofs.Common.{◌≡◌, ◌≤◌, ◌<◌, ◌++◌, ℕ, List
 use Rattle.std.proofs.lemmas.List.{map-append}
 use Rattle.c8_game.specs.Rules.{Rules}
 use Rattle.c8_disk.specs.declared.disk.Disk.{Ghosts}
+use Rattle.c8_disk.specs.declared.error.DiskError.TheVariants as errors
 use Rattle.c8_log.specs.Slots.{kept}
 use Rattle.c8_known.specs.Journal.{Record, epoch}
 use Rattle.c8_record.specs.Body.{body_of, records_of}
@@ -16,8 +17,8 @@ use Rattle.c8_peer.specs.State.{Open, State, Opened}
 use Rattle.c8_peer.specs.Opening.{NoPlayer, Stands, NotWritten, NoMemory, NotRead, Unfit, Spent, last_epoch, opening_record, found, opened, MayBecome}
 use Rattle.c8_peer.specs.Peer.{PeerValue, Keeps}
 use Rattle.c8_peer.specs.Opened as openings
-use Rattle.c8_peer.specs.Opened.{opening_body, IsUnfit, IsOpened, IsRefusedFor, IsRefusedOpening}
-use Rattle.c8_peer.specs.Runs.{Opens, as_answered, IsDone, Tells, IsRefusedDeed}
+use Rattle.c8_peer.specs.Opened.{opening_body, IsUnfit, IsOpened, IsRefusedFor, IsRefusedOpening, OpeningLeaves}
+use Rattle.c8_peer.specs.Runs.{Opens, as_answered, IsDone, Tells, IsRefusedDeed, IsStoppedOpening}
 
 module _ {D : Type 0} (g : Ghosts D) where
   pub opened_deed : (disk : D) (rules : Rules) (room me : ℕ) (s : State) (finds : Bool) (p : PeerValue D) → IsOpened g disk rules room me p → (s.mode ≡ Open → ⊥)
@@ -112,4 +113,24 @@ module _ {D : Type 0} (g : Ghosts D) where
             } in
             subst (λ (e : OpenError). IsRefusedDeed g rules room me s finds e left) (sym same) all
         | inr plays ↦ refused_for disk left rules room me s finds error plays.0 plays.1 shut keeps reads tells
+      ]
+
+  -- a crash inside an opening
+  pub stopped_deed : (disk : D) (rules : Rules) (room me : ℕ) (s : State) (finds : Bool) (image : List ℕ) → OpeningLeaves g disk rules room me image → me ≤ rules.players → (s.mode ≡ Open → ⊥)
+      → Keeps (found s finds) (g.seen disk) → records_of (kept (g.seen disk)) ≡ found s finds → Tells g s disk → IsStoppedOpening rules room me s image
+  stopped_deed disk rules room me s finds image left within shut keeps reads tells =
+      elim left [
+        | inl unread ↦
+            let old = tells unread.0 unread.1 in
+            record { finds = finds; opening = NoMemory; leaves = old.0; may = (shut, within); keeps = unread.2 ∙ old.1 }
+        | inr added ↦ record {
+          finds = finds;
+          opening = NotWritten errors.Failed;
+          leaves = true;
+          may = (shut, (subst (IsJournal rules me room) reads added.0.0.journal, subst (λ (f : List Record). epoch f < last_epoch) reads added.0.1, within));
+          keeps = added.1
+              ∙ ap (λ (bodies : List (List ℕ)). bodies ++ opening_body rules room me (kept (g.seen disk)) ∷ []) keeps
+              ∙ ap (λ (f : List Record). map body_of (found s finds) ++ body_of (opening_record rules room me f) ∷ []) reads
+              ∙ sym (map-append body_of (found s finds) (opening_record rules room me (found s finds) ∷ []));
+        }
       ]

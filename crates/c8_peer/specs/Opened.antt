@@ -28,6 +28,10 @@ disk_after (Err refusal) = refusal.1
 abbrev pub opening_body : Rules → ℕ → ℕ → List (List ℕ) → List ℕ
 opening_body rules room me bodies = body_of (opening_record rules room me (records_of bodies))
 
+-- these bodies are a journal of this match and player, whose epochs are not spent
+abbrev pub MayBegin : Rules → ℕ → ℕ → List (List ℕ) → Type 0
+MayBegin rules room me bodies = AreJournalBodies rules me room bodies × (epoch (records_of bodies) < last_epoch)
+
 -- ---- the disk, of which only what it keeps and how often it failed counts
 
 module _ {D : Type 0} (g : Ghosts D) (disk : D) where
@@ -101,7 +105,8 @@ module _ {D : Type 0} (g : Ghosts D) (disk : D) (rules : Rules) (room me : ℕ) 
   IsRefusedOpening error left =
       ((rules.players < me) × (error ≡ opens.WrongPlayer) × (left ≡ disk)) ⊎ ((me ≤ rules.players) × IsRefusedFor error left)
 
-  -- What a crash at any moment of it may leave: an image that keeps what some image kept before, or what was found and then
-  -- the opening's record.
+  -- What a crash at any moment of it may leave: an image that keeps what some image kept before; or, where a new epoch may
+  -- begin in what was found, that and then the opening's record.
   abbrev pub OpeningLeaves : List ℕ → Type 0
-  OpeningLeaves image = KeepsOneOf (g.may_leave disk) image ⊎ (kept image ≡ found g disk ++ opening_body rules room me (found g disk) ∷ [])
+  OpeningLeaves image =
+      KeepsOneOf (g.may_leave disk) image ⊎ (MayBegin rules room me (found g disk) × (kept image ≡ found g disk ++ opening_body rules room me (found g disk) ∷ []))

@@ -1,5 +1,5 @@
 -- Checked, not believed: what the parts of an opening come to.
-use Rattle.std.specs.Prelude.{◌≡◌, ℕ, ◌<◌, [], ◌∷◌, ◌++◌, false, None, Result, Ok, Err}
+use Rattle.std.specs.Prelude.{◌≡◌, ◌⊎◌, ℕ, ◌<◌, List, [], ◌∷◌, ◌++◌, false, None, Result, Ok, Err}
 use Rattle.c8_game.specs.Rules.{Rules}
 use Rattle.c8_disk.specs.declared.disk.Disk.{Ghosts}
 use Rattle.c8_log.specs.Slots.{kept}
@@ -12,7 +12,7 @@ use Rattle.c8_record.specs.Replay.{AreJournalBodies}
 use Rattle.c8_peer.specs.declared.error.OpenError.{OpenError}
 use Rattle.c8_peer.specs.declared.error.OpenError.TheVariants as opens
 use Rattle.c8_peer.specs.Opening.{last_epoch, opening_record}
-use Rattle.c8_peer.specs.Opened.{opening_body, found, HasCause, IsSpent, IsNotWritten}
+use Rattle.c8_peer.specs.Opened.{opening_body, found, MayBegin, HasCause, IsSpent, IsNotWritten}
 
 -- the disk after a journal was read, or was to be
 abbrev pub disk_read : {D : Type 0} → Result (LogValue D × ℕ) (OpenError × D) → D
@@ -49,3 +49,8 @@ module _ {D : Type 0} (g : Ghosts D) (disk : D) (rules : Rules) (room me : ℕ) 
   IsNotBegun opens.EpochsSpent left = IsSpent g disk rules room me left
   IsNotBegun opens.Memory left = ⊥
   IsNotBegun (opens.Disk why) left = HasCause g disk why left × IsNotWritten g disk rules room me left
+
+  -- What a crash leaves while the record is added: what was found, or that and the record, where an epoch may begin.
+  abbrev pub BeginningLeaves : List ℕ → Type 0
+  BeginningLeaves image =
+      (kept image ≡ found g disk) ⊎ (MayBegin rules room me (found g disk) × (kept image ≡ found g disk ++ opening_body rules room me (found g disk) ∷ []))

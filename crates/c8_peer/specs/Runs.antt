@@ -104,6 +104,14 @@ known_at rules me s = known_of rules me s.journal
 
 -- ---- what disks tell
 
+-- An image that a crash inside an opening left keeps what a stop in a run finds.
+pub record IsStoppedOpening (rules : Rules) (room me : ℕ) (s : State) (image : List ℕ) : Type 0 where
+  pub finds : Bool
+  pub opening : Opening
+  pub leaves : Bool
+  pub may : MayDo rules room me s (StopsOpening finds opening leaves)
+  pub keeps : Keeps (found (opened rules room me s (found s finds) opening).state leaves) image
+
 module _ {D : Type 0} (disk : Ghosts D) where
   -- each image that a crash now leaves of a disk keeps the journal of a state, with its pending record or without
   abbrev pub Tells : State → D → Type 0

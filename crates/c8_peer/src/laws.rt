@@ -15,8 +15,8 @@ ghost use Rattle.c8_peer.specs.Opening.{Stands, last_epoch, opening_record, foun
 ghost use Rattle.c8_peer.specs.Truth.{IsTrue};
 ghost use Rattle.c8_peer.specs.Lawful.{IsMemory, IsCall};
 ghost use Rattle.c8_peer.specs.Peer.{PeerValue, IsSound, IsAnswered, IsSaid, IsStep, Keeps, MayLeave, luck_of};
-ghost use Rattle.c8_peer.specs.Runs.{Deed, Does, Opens, IsDone, IsRun, IsReached, IsAmong, Tells, IsRefusedDeed, never_opened, known_at};
-ghost use Rattle.c8_peer.specs.Opened.{IsOpened, IsRefusedOpening};
+ghost use Rattle.c8_peer.specs.Runs.{Deed, Does, Opens, IsDone, IsRun, IsReached, IsAmong, Tells, IsRefusedDeed, IsStoppedOpening, never_opened, known_at};
+ghost use Rattle.c8_peer.specs.Opened.{IsOpened, IsRefusedOpening, OpeningLeaves};
 
 use crate::error::{OpenError, Unsayable};
 use c8_disk::Disk;
@@ -163,7 +163,8 @@ pub fn what_disks_tell<D: Disk>()
 
 /// Each opening of a peer is a deed of a run, by what its contract says of it: of a disk whose
 /// journal, as a read gives it, is that of a state with the pending record or without. What a
-/// refused opening leaves of the disk tells the state after it.
+/// refused opening leaves of the disk tells the state after it, and what a crash inside an opening
+/// leaves (`inside`) is what a stop in a run finds.
 pub fn openings_are_deeds<D: Disk>()
     ensures opened { (disk : D) (rules : Rules) (room me : ℕ) (s : State) (finds : Bool)
         (p : PeerValue D)
@@ -177,4 +178,11 @@ pub fn openings_are_deeds<D: Disk>()
         → Keeps (found s finds) (D.seen disk) → records_of (kept (D.seen disk)) ≡ found s finds
         → Tells D.Disk s disk
         → IsRefusedDeed D.Disk rules room me s finds error left }
+    ensures inside { (disk : D) (rules : Rules) (room me : ℕ) (s : State) (finds : Bool)
+        (image : List ℕ)
+        → OpeningLeaves D.Disk disk rules room me image → me ≤ rules.players
+        → (s.mode ≡ Open → ⊥)
+        → Keeps (found s finds) (D.seen disk) → records_of (kept (D.seen disk)) ≡ found s finds
+        → Tells D.Disk s disk
+        → IsStoppedOpening rules room me s image }
 {}

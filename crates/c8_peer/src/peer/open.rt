@@ -2,7 +2,6 @@
 //! begins in it.
 ghost use Rattle.std.specs.Prelude.{◌≡◌, ◌==◌, ◌≤◌, ◌<◌, ◌+◌, ℕ, List, [], length, false, Some, IfOk, IfErr};
 ghost use Rattle.c8_disk.specs.Runs.{LeavesOnly, IsSameDisk};
-ghost use Rattle.c8_log.specs.Journal.{KeepsBodies};
 ghost use Rattle.c8_log.specs.Log.{KeepsOneOf};
 ghost use Rattle.c8_log.specs.Slots.{kept};
 ghost use Rattle.c8_known.specs.Journal.{epoch};
@@ -11,7 +10,7 @@ ghost use Rattle.c8_record.specs.Body.{records_of};
 ghost use Rattle.c8_record.specs.Replay.{AreJournalBodies};
 ghost use Rattle.c8_peer.specs.Opening.{last_epoch};
 ghost use Rattle.c8_peer.specs.Opened.{disk_after, opening_body, IsOpened, IsRefusedFor, IsRefusedOpening, OpeningLeaves};
-ghost use Rattle.c8_peer.specs.OpenedParts.{disk_read, disk_begun, IsRead, IsBegun, IsNotBegun};
+ghost use Rattle.c8_peer.specs.OpenedParts.{disk_read, disk_begun, IsRead, IsBegun, IsNotBegun, BeginningLeaves};
 
 use super::Peer;
 use crate::error::OpenError;
@@ -159,8 +158,7 @@ fn begin_epoch<D: Disk>(
     ensures refused { IfErr result (λ refusal.
         IsNotBegun D.Disk log.disk game.now room me.number refusal.0 refusal.1) }
     ensures any_moment { LeavesOnly D.Disk log.disk (disk_begun result)
-        (KeepsBodies (kept (D.seen log.disk))
-        (Some (opening_body game.now room me.number (kept (D.seen log.disk))))) }
+        (BeginningLeaves D.Disk log.disk game.now room me.number) }
     ensures changes { D.changes (disk_begun result) ≤ D.changes log.disk + 4 }
     ensures same { IsSameDisk D.Disk log.disk (disk_begun result) }
 {

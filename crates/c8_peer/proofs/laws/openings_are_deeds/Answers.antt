@@ -1,4 +1,4 @@
-use Rattle.c8_peer.proofs.OpeningDeeds.{opened_deed, refused_deed}
+use Rattle.c8_peer.proofs.OpeningDeeds.{opened_deed, refused_deed, stopped_deed}
 use Rattle.c8_peer.proofs.laws.openings_are_deeds.Goals as goal
 
 pub returns-clause-opened : goal.returns-clause-opened
@@ -6,3 +6,6 @@ returns-clause-opened g c = opened_deed g.D.Disk
 
 pub returns-clause-refused : goal.returns-clause-refused
 returns-clause-refused g c = refused_deed g.D.Disk
+
+pub returns-clause-inside : goal.returns-clause-inside
+returns-clause-inside g c = stopped_deed g.D.Disk

@@ -1,11 +1,9 @@
-use Rattle.std.proofs.Common.{ap, subst, ◌∙◌, ◌≤◌, ℕ, Some}
+use Rattle.std.proofs.Common.{ap, subst, ◌∙◌, ◌≤◌, ℕ}
 use Rattle.std.proofs.lemmas.Result.{err_from_is_err_and}
 use Rattle.c8_disk.specs.Runs.{LeavesOnly}
 use Rattle.c8_disk.specs.RunLaws.{same_then}
-use Rattle.c8_log.specs.Journal.{KeepsBodies}
 use Rattle.c8_peer.specs.State.{fresh_memory}
-use Rattle.c8_peer.specs.Opened.{opening_body, found}
-use Rattle.c8_peer.specs.OpenedParts.{IsBegun, IsNotBegun}
+use Rattle.c8_peer.specs.OpenedParts.{IsBegun, IsNotBegun, BeginningLeaves}
 use Rattle.c8_peer.proofs.OpenLemmas.{refused_beginning, begun_there, leaves_opening, peer_opened, opened_peer}
 use Rattle.c8_peer.proofs.peer.open.open_in.Goals as goal
 
@@ -24,7 +22,7 @@ returns-in_err-journal-clause-any_moment g c =
     let left = c.in_err-journal.field-0.0.1 in
     rw (error.1, error.2)
     (leaves_opening g.D.Disk c.args.disk mid c.args.game.now c.args.room c.args.known.me c.in_ok-log.ensures.read.same g.met.D.Disk.reads_now left c.in_ok-log.ensures.any_moment
-    (subst (λ (me : ℕ). LeavesOnly g.D.Disk mid left (KeepsBodies (found g.D.Disk mid) (Some (opening_body c.args.game.now c.args.room me (found g.D.Disk mid))))) c.me-me.ensures.value c.in_err-journal.ensures.any_moment))
+    (subst (λ (me : ℕ). LeavesOnly g.D.Disk mid left (BeginningLeaves g.D.Disk mid c.args.game.now c.args.room me)) c.me-me.ensures.value c.in_err-journal.ensures.any_moment))
 
 pub invariant_of-peer : goal.invariant_of-peer
 invariant_of-peer g c =
@@ -59,4 +57,4 @@ returns-clause-any_moment g c =
     let mid = c.in_ok-log.log.disk in
     let left = c.in_ok-journal.journal.disk in
     leaves_opening g.D.Disk c.args.disk mid c.args.game.now c.args.room c.args.known.me c.in_ok-log.ensures.read.same g.met.D.Disk.reads_now left c.in_ok-log.ensures.any_moment
-    (subst (λ (me : ℕ). LeavesOnly g.D.Disk mid left (KeepsBodies (found g.D.Disk mid) (Some (opening_body c.args.game.now c.args.room me (found g.D.Disk mid))))) c.me-me.ensures.value c.in_ok-journal.ensures.any_moment)
+    (subst (λ (me : ℕ). LeavesOnly g.D.Disk mid left (BeginningLeaves g.D.Disk mid c.args.game.now c.args.room me)) c.me-me.ensures.value c.in_ok-journal.ensures.any_moment)
