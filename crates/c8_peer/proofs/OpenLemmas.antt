@@ -131,6 +131,7 @@ module _ {D : Type 0} (g : Ghosts D) (disk : D) (rules : Rules) (room me : ℕ) 
         in_game = in_game;
         bodies = subst (AreJournalBodies rules me room) (sym begun.bodies) (bodies_more rules me room (found g disk) new read.bodies may);
         pending = λ body e. absurd (let none = begun.none_pending in cc);
+        pending_may = λ body e. absurd (let none = begun.none_pending in cc);
         known = sym (nothing_known rules room me before (known_of rules me before)) ∙ sym (known_more rules me room before new may) ∙ ap (known_of rules me) (sym longer);
         memory = rw (longer, in_epoch) (opening_memory rules me room before range from_one in_game read.bodies.journal begun.not_spent);
         last = ap (λ (one : Memory). one.links.epoch) in_epoch ∙ ap epoch (sym longer);

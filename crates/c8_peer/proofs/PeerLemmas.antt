@@ -1,5 +1,5 @@
 -- What holds of a peer's parts goes on through its calls.
-use Rattle.std.proofs.Common.{◌≡◌, ◌≤◌, ◌+◌, ℕ, List, [], ◌∷◌, ◌++◌, map, option_map, Some, true, false, refl, sym, ap, subst, ◌∙◌, inl, inr, ⊎_elim, arith}
+use Rattle.std.proofs.Common.{◌≡◌, ◌≤◌, ◌+◌, ℕ, List, [], ◌∷◌, ◌++◌, map, option_map, Some, true, false, refl, sym, ap, subst, ◌∙◌, inl, inr, ⊎_elim, arith, None, Bool}
 use Rattle.std.proofs.lemmas.List.{map-append}
 use Rattle.c8_game.specs.Rules.{Rules}
 use Rattle.c8_disk.specs.declared.disk.Disk.{Ghosts}
@@ -17,7 +17,7 @@ use Rattle.c8_record.specs.Allowed.{IsAllowed, past_of, CanFollow}
 use Rattle.c8_record.specs.Replay.{AreJournalBodies}
 use Rattle.c8_record.specs.JournalLaws.{journal_more, known_more, epoch_more, of_game}
 use Rattle.c8_roll.specs.Roll.{RollValue, roll_of}
-use Rattle.c8_peer.specs.State.{Memory, Down, Call, Reply, Outcome, recorded}
+use Rattle.c8_peer.specs.State.{Memory, Open, Down, Call, Reply, Outcome, recorded}
 use Rattle.c8_peer.specs.Steps.{outcome}
 use Rattle.c8_peer.proofs.AllowedLemmas.{keeps_allowed}
 use Rattle.c8_peer.specs.Lawful.{IsMemory, IsCall}
@@ -73,16 +73,20 @@ keeps_records rules me room bodies r are image =
 -- ---- the parts of a peer
 
 module _ {D : Type 0} where
-  pub peer_refused : (rules : Rules) (room : ℕ) (old new : JournalValue D) (k : KnownValue) (m : Memory) (r : Record) → IsPeer rules room old k m → HasSpelling r
+  pub peer_refused : (rules : Rules) (room : ℕ) (old new : JournalValue D) (k : KnownValue) (m : Memory) (r : Record) → IsPeer rules room old k m → IsAllowed rules k.me room (records_of old.bodies) r
       → new.bodies ≡ old.bodies → new.pending ≡ Some (body_of r) → IsPeer rules room new k m
-  peer_refused rules room old new k m r is has same pending = record {
+  peer_refused rules room old new k m r is may same pending = record {
     range = is.range;
     from_one = is.from_one;
     in_game = is.in_game;
     bodies = subst (AreJournalBodies rules k.me room) (sym same) is.bodies;
     pending = λ body e.
         let this : body_of r ≡ body = cc in
-        subst (λ (one : List ℕ). Spells one (record_of one)) this (rw (read_again r has) (record { has = has; is = refl }));
+        subst (λ (one : List ℕ). Spells one (record_of one)) this (rw (read_again r may.spelled) (record { has = may.spelled; is = refl }));
+    pending_may = λ body e.
+        let this : body_of r ≡ body = cc in
+        let reads : r ≡ record_of body = sym (read_again r may.spelled) ∙ ap record_of this in
+        subst (λ (bodies : List (List ℕ)). IsAllowed rules k.me room (records_of bodies) (record_of body)) (sym same) (subst (IsAllowed rules k.me room (records_of old.bodies)) reads may);
     known = is.known ∙ ap (λ (bodies : List (List ℕ)). known_of rules k.me (records_of bodies)) (sym same);
     memory = subst (λ (bodies : List (List ℕ)). IsMemory rules room k.me (records_of bodies) m) (sym same) is.memory;
     last = is.last ∙ ap (λ (bodies : List (List ℕ)). epoch (records_of bodies)) (sym same);
@@ -102,7 +106,7 @@ module _ {D : Type 0} where
 
   pub peer_more : (rules : Rules) (room : ℕ) (old new : JournalValue D) (k later : KnownValue) (m : Memory) (r : Record) → IsPeer rules room old k m
       → IsAllowed rules k.me room (records_of old.bodies) r → is_opening r ≡ false
-      → new.bodies ≡ old.bodies ++ body_of r ∷ [] → new.pending ≡ old.pending → later ≡ with_record k r → later.me ≡ k.me → IsPeer rules room new later m
+      → new.bodies ≡ old.bodies ++ body_of r ∷ [] → new.pending ≡ None → later ≡ with_record k r → later.me ≡ k.me → IsPeer rules room new later m
   peer_more rules room old new k later m r is may other more pending known same =
       let journal : List Record = records_of old.bodies in
       let longer : records_of new.bodies ≡ journal ++ r ∷ [] = ap records_of more ∙ one_body_more old.bodies r may.spelled in
@@ -111,7 +115,8 @@ module _ {D : Type 0} where
         from_one = rw same is.from_one;
         in_game = rw same is.in_game;
         bodies = rw (same, more) (bodies_more rules k.me room old.bodies r is.bodies may);
-        pending = λ body e. is.pending body (sym pending ∙ e);
+        pending = λ body e. let never : None ≡ Some body = sym pending ∙ e in absurd cc;
+        pending_may = λ body e. let never : None ≡ Some body = sym pending ∙ e in absurd cc;
         known = known ∙ rw (same, longer) (ap (λ (before : KnownValue). with_record before r) is.known ∙ sym (known_more rules k.me room journal r may));
         memory = rw (same, longer) (memory_more rules room k.me journal (r ∷ []) m is.memory);
         last = is.last ∙ sym (same_epoch journal r other) ∙ ap epoch (sym longer);
@@ -197,3 +202,7 @@ module _ {D : Type 0} where
       let keeps : (outcome rules (known_of rules k.me (records_of j.bodies)) m call).keeps ≡ Some r =
       subst (λ (known : KnownValue). (outcome rules known m call).keeps ≡ Some r) is.known (ap (λ (o : Outcome). o.keeps) comes) in
       keeps_allowed rules k.me room (records_of j.bodies) m call r is.range is.from_one is.in_game is.bodies.journal is.memory may keeps
+
+pub is_up : (is_down : Bool) → mode_of is_down ≡ Open → is_down ≡ false
+is_up true is = absurd cc
+is_up false is = refl

@@ -1,5 +1,10 @@
 -- What is so of every peer between two calls, and what its readers rest on.
 use Rattle.std.proofs.Common.{◌≡◌, ◌⊎◌, ◌≤◌, ℕ, List, [], ◌∷◌, ◌++◌, map, option_map, Option, Some, None, Bool, true, false, refl, sym, ap, subst, ◌∙◌, inl, inr, ⊎_elim, length, arith}
+use Rattle.std.specs.Prelude.{option_to_list, if◌then◌else◌}
+use Rattle.std.proofs.lemmas.List.{append-nil}
+use Rattle.c8_record.specs.Allowed.{IsAllowed, IsJournal}
+use Rattle.c8_record.specs.JournalLaws.{journal_more}
+use Rattle.c8_known.specs.Journal.{Record}
 use Rattle.std.proofs.lemmas.List.{map-append}
 use Rattle.c8_game.specs.Rules.{Rules}
 use Rattle.c8_disk.specs.declared.disk.Disk.{Ghosts}
@@ -45,6 +50,13 @@ up_if_open : (is_down : Bool) → mode_of is_down ≡ Open → is_down ≡ false
 up_if_open true is = absurd cc
 up_if_open false is = refl
 
+-- what a reading finds is a journal
+found_journal : (rules : Rules) (me room : ℕ) (journal : List Record) (pending : Option (List ℕ)) → IsJournal rules me room journal
+    → ((body : List ℕ) → pending ≡ Some body → IsAllowed rules me room journal (record_of body)) → (finds : Bool) → IsJournal rules me room (if finds then journal ++ option_to_list (option_map record_of pending) else journal)
+found_journal rules me room journal pending is may false = is
+found_journal rules me room journal None is may true = rw (append-nil journal) is
+found_journal rules me room journal (Some body) is may true = journal_more rules me room journal (record_of body) is (may body refl)
+
 module _ {D : Type 0} where
   pub peer_sound : (g : Ghosts D) (v : PeerValue D) (rules : Rules) (room : ℕ) (j : JournalValue D) (k : KnownValue) (m : Memory) → view rules room k.me j m ≡ v → IsPeer rules room j k m
       → AllKeepBodies j.bodies j.pending (g.may_leave j.disk) → (j.is_down ≡ false → j.pending ≡ None) → LeavesOnly g j.disk j.disk (KeepsBodies j.bodies j.pending) → IsSound g v
@@ -55,6 +67,7 @@ module _ {D : Type 0} where
         range = is.range;
         plays = (is.from_one, is.in_game);
         is_journal = is.bodies.journal;
+        found_is = found_journal rules k.me room (records_of j.bodies) j.pending is.bodies.journal is.pending_may;
         memory = is.memory;
         epoch_is = is.last;
         held = open_or_down j.is_down;

@@ -372,9 +372,8 @@ module _ {D : Type 0} where
   pub left_bodies : (g : Ghosts D) (p : PeerValue D) (image : List ℕ) → IsSound g p → g.may_leave p.disk image → (finds : Bool) × Keeps (found p.state finds) image
   left_bodies g p image sound left = ⊎_elim (λ without. (false, without)) (λ with. (true, with)) (sound.leaves image left)
 
-  pub left_records : (g : Ghosts D) (p : PeerValue D) (image : List ℕ) → IsSound g p → p.room < 2 ^ 64 → IsReached p.rules p.room p.me p.state → g.may_leave p.disk image
+  pub left_records : (g : Ghosts D) (p : PeerValue D) (image : List ℕ) → IsSound g p → g.may_leave p.disk image
       → (finds : Bool) × (records_of (kept image) ≡ found p.state finds)
-  left_records g p image sound low reached left =
+  left_records g p image sound left =
       let (finds, keeps) = left_bodies g p image sound left in
-      let journal = reached_journal p.rules p.room p.me p.state finds sound.range sound.plays.0 sound.plays.1 low reached in
-      (finds, ap records_of keeps ∙ journal_back p.rules p.me p.room (found p.state finds) journal)
+      (finds, ap records_of keeps ∙ journal_back p.rules p.me p.room (found p.state finds) (sound.found_is finds))

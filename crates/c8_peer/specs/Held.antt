@@ -7,11 +7,12 @@ use Rattle.c8_known.specs.Known.{KnownValue, known_of}
 use Rattle.c8_known.specs.Growth.{IsStillKnown}
 use Rattle.c8_roll.specs.Roll.{RollValue, roll_of}
 use Rattle.c8_record.specs.Body.{record_of, records_of, Spells}
+use Rattle.c8_record.specs.Allowed.{IsAllowed}
 use Rattle.c8_record.specs.Replay.{AreJournalBodies}
 use Rattle.c8_peer.specs.State.{Memory}
 use Rattle.c8_peer.specs.Lawful.{IsMemory}
 
--- The journal keeps the bodies of a journal of this player; what is known is what it says; and the memory is in order, in the
+-- The journal keeps the bodies of a journal of this player, and the rules allow the pending record; what is known is what it says; and the memory is in order, in the
 -- last epoch.
 pub record IsPeer {D : Type 0} (rules : Rules) (room : ℕ) (journal : JournalValue D) (k : KnownValue) (m : Memory) : Type 0 where
   pub range : AreInRange rules
@@ -19,6 +20,7 @@ pub record IsPeer {D : Type 0} (rules : Rules) (room : ℕ) (journal : JournalVa
   pub in_game : k.me ≤ rules.players
   pub bodies : AreJournalBodies rules k.me room journal.bodies
   pub pending : (body : List ℕ) → journal.pending ≡ Some body → Spells body (record_of body)
+  pub pending_may : (body : List ℕ) → journal.pending ≡ Some body → IsAllowed rules k.me room (records_of journal.bodies) (record_of body)
   pub known : k ≡ known_of rules k.me (records_of journal.bodies)
   pub memory : IsMemory rules room k.me (records_of journal.bodies) m
   pub last : m.links.epoch ≡ epoch (records_of journal.bodies)

@@ -22,6 +22,7 @@ use Rattle.c8_peer.specs.State.{Memory, Mode, Open, Down, Away, State, Call, Rep
 use Rattle.c8_wire.specs.Packet.{Packet}
 use Rattle.c8_wire.specs.Spelling.{Spells}
 use Rattle.c8_peer.specs.Truth.{IsTrue}
+use Rattle.c8_peer.specs.Opening.{found}
 use Rattle.c8_peer.specs.Lawful.{IsMemory}
 use Rattle.c8_peer.specs.Steps.{Luck, Works, Refuses, Stepped, outcome, step}
 
@@ -176,8 +177,8 @@ pub record IsAnswered {D : Type 0} (disk : Ghosts D) (old : PeerValue D) (call :
 -- What is so of every peer between two calls.
 --
 -- - `range`, `plays`: its rules are those of a game, and it is the peer of a player of it.
--- - `is_journal`, `memory`, `epoch_is`: its journal is one of this match and player, the memory is in order, and its epoch is the
---   journal's last.
+-- - `is_journal`, `found_is`: its journal is one of this match and player, with the pending record too.
+-- - `memory`, `epoch_is`: the memory is in order, and its epoch is the journal's last.
 -- - `held`, `none_pending`: it is open, and then no record is pending, or down.
 -- - `leaves`: what a crash now leaves.
 -- - `still`: the same as a run of no calls, so that it joins to the runs of calls.
@@ -185,6 +186,7 @@ pub record IsSound {D : Type 0} (disk : Ghosts D) (p : PeerValue D) : Type 0 whe
   pub range : AreInRange p.rules
   pub plays : (1 ≤ p.me) × (p.me ≤ p.rules.players)
   pub is_journal : IsJournal p.rules p.me p.room p.state.journal
+  pub found_is : (finds : Bool) → IsJournal p.rules p.me p.room (found p.state finds)
   pub memory : IsMemory p.rules p.room p.me p.state.journal p.state.memory
   pub epoch_is : p.state.memory.links.epoch ≡ epoch p.state.journal
   pub held : (p.state.mode ≡ Open) ⊎ (p.state.mode ≡ Down)

@@ -144,7 +144,7 @@ pub fn calls_are_deeds<D: Disk>()
 
 /// What the disk of a peer tells a reading. `reading`: a read now gives the journal, with the
 /// pending record or without. `bodies`: each image that a crash now leaves keeps one of the two.
-/// `records`: so an opening finds one of the two, if a run led to this state. `inside`: each image
+/// `records`: so an opening finds one of the two. `inside`: each image
 /// that a crash inside a call leaves keeps one of those that a stop in a run finds.
 pub fn what_disks_tell<D: Disk>()
     ensures reading { (p : PeerValue D) → IsSound D.Disk p
@@ -153,8 +153,7 @@ pub fn what_disks_tell<D: Disk>()
         → IsSound D.Disk p → D.may_leave p.disk image
         → (finds : Bool) × Keeps (found p.state finds) image }
     ensures records { (p : PeerValue D) (image : List ℕ)
-        → IsSound D.Disk p → p.room < 2 ^ 64 → IsReached p.rules p.room p.me p.state
-        → D.may_leave p.disk image
+        → IsSound D.Disk p → D.may_leave p.disk image
         → (finds : Bool) × (records_of (kept image) ≡ found p.state finds) }
     ensures inside { (p : PeerValue D) (call : Call) (image : List ℕ) → MayLeave p call image
         → (luck : Luck) × (leaves : Bool)

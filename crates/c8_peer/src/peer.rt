@@ -129,6 +129,8 @@ impl<'g, D: Disk> Peer<'g, D> {
         ensures same { IsSameDisk D.Disk self.old.disk self.new.disk }
         ensures journal { LeavesJournal D.Disk self.new }
     {
+        // For the proof: none is pending at a journal that is up.
+        let _up = self.journal.is_down();
         match self.journal.append(&body_of(lent)) {
             Ok(()) => {
                 make_known(&mut self.known, lent);

@@ -1,4 +1,4 @@
-use Rattle.std.proofs.Common.{◌∙◌, ◌++◌, ◌∷◌, [], ap, List, ℕ, Some}
+use Rattle.std.proofs.Common.{◌∙◌, ◌++◌, ◌∷◌, [], ap, List, ℕ, Some, sym, subst, ◌≡◌}
 use Rattle.c8_game.specs.Rules.{Rules}
 use Rattle.c8_roll.specs.Roll.{roll_of}
 use Rattle.c8_roll.specs.RollLaws.{roll_rules}
@@ -7,7 +7,9 @@ use Rattle.c8_log.specs.Journal.{JournalValue}
 use Rattle.c8_record.specs.Body.{record_of, records_of}
 use Rattle.c8_record.specs.BodyLaws.{read_again}
 use Rattle.c8_record.specs.Lent.{value_of}
-use Rattle.c8_peer.proofs.PeerLemmas.{peer_refused, can_follow, peer_more, was_roll, allowed_inside, view_refused, view_more, leaves_records, one_body_more}
+use Rattle.c8_peer.specs.State.{Open}
+use Rattle.c8_peer.specs.Peer.{PeerValue}
+use Rattle.c8_peer.proofs.PeerLemmas.{is_up, peer_refused, can_follow, peer_more, was_roll, allowed_inside, view_refused, view_more, leaves_records, one_body_more}
 use Rattle.c8_peer.proofs.peer.Peer.keep.Goals as goal
 
 pub invariant_of-self-in-Err : goal.invariant_of-self-in-Err
@@ -15,7 +17,7 @@ invariant_of-self-in-Err g c =
     let r = value_of c.args.lent.now in
     let may = allowed_inside r c.self.view_is c.requires.allowed in
     let is = c.in-Err.ensures.err in (
-      peer_refused c.self.inside.game.now c.self.inside.room c.self.inside.journal c.append.new.self c.self.inside.known c.self.inside.memory r c.self.invariant.0 may.spelled
+      peer_refused c.self.inside.game.now c.self.inside.room c.self.inside.journal c.append.new.self c.self.inside.known c.self.inside.memory r c.self.invariant.0 may
           (ap (λ (j : JournalValue g.row.D.Denot). j.bodies) is)
           (ap (λ (j : JournalValue g.row.D.Denot). j.pending) is ∙ ap (λ (body : List ℕ). Some body) c.body_of.ensures.body),
       c.self.invariant.1,
@@ -53,7 +55,7 @@ invariant_of-self g c =
       peer_more c.self.inside.game.now c.self.inside.room c.self.inside.journal c.append.new.self c.self.inside.known c.make_known.new.known c.self.inside.memory r c.self.invariant.0
           (allowed_inside r c.self.view_is c.requires.allowed) c.requires.later
           (ap (λ (j : JournalValue g.row.D.Denot). j.bodies) is ∙ ap (λ (body : List ℕ). c.self.inside.journal.bodies ++ body ∷ []) c.body_of.ensures.body)
-          (ap (λ (j : JournalValue g.row.D.Denot). j.pending) is)
+          (ap (λ (j : JournalValue g.row.D.Denot). j.pending) is ∙ c.is_down-up.ensures.up (is_up c.self.inside.journal.is_down (subst (λ (x : PeerValue g.row.D.Denot). x.state.mode ≡ Open) (sym c.self.view_is) c.requires.up)))
           c.make_known.ensures.value c.make_known.ensures.still.me,
       c.go_on.ensures ∙ ap (λ (rules : Rules). roll_of rules c.make_known.new.known) (roll_rules c.self.inside.game.now c.self.inside.known (seen c.self.inside.roll) c.self.invariant.1),
     )
