@@ -10,6 +10,7 @@ pub mod PeerLemmas
 pub mod AnswerLemmas
 pub mod ReaderLemmas
 pub mod DeliveryLemmas
+pub mod RefusalLemmas
 pub mod RunLemmas
 pub mod OpenLemmas
 pub mod OpeningDeeds

@@ -127,7 +127,7 @@ with_heard rules room me journal m head is low = record {
 
 -- ---- what calls come to
 
-either : (M : Outcome → Type 0) (test : Bool) (x y : Outcome) → M x → M y → M (if test then x else y)
+pub either : (M : Outcome → Type 0) (test : Bool) (x y : Outcome) → M x → M y → M (if test then x else y)
 either M true x y is other = is
 either M false x y is other = other
 
@@ -243,7 +243,7 @@ deliver_is M rules k m p may =
 pub no_packet_is : (M : Outcome → Type 0) (rules : Rules) (k : KnownValue) (m : Memory) (error : WireError) → Delivers M m → M (deliver rules k m (Err error))
 no_packet_is M rules k m error is = either M (player_in k k.me).leaving _ _ (is _ _) (is _ _)
 
-say_is : (M : Outcome → Type 0) (rules : Rules) (k : KnownValue) (m : Memory) (to : ℕ) (what : Saying)
+pub say_is : (M : Outcome → Type 0) (rules : Rules) (k : KnownValue) (m : Memory) (to : ℕ) (what : Saying)
     → ((answer : Result Packet Unsayable) → M (record { reply = Said answer; keeps = None; memory = m })) → M (say rules k m to what)
 unfolding say
 say_is M rules k m to what is =

@@ -6,7 +6,7 @@ use Rattle.c8_disk.specs.declared.disk.Disk.{Ghosts}
 use Rattle.c8_disk.specs.declared.error.DiskError.TheVariants.{Failed, Full}
 use Rattle.c8_disk.specs.Runs.{LeavesOnly, IsSameDisk, ReadsOnly}
 use Rattle.c8_disk.specs.RunLaws.{then_run, weaker}
-use Rattle.c8_log.specs.Log.{AllKeep, KeepsOneOf, LogValue}
+use Rattle.c8_log.specs.Log.{AllKeep, KeepsOneOf, LogValue, repaired}
 use Rattle.c8_log.specs.Journal.{JournalValue, AllKeepBodies}
 use Rattle.c8_known.specs.Journal.{Record, Head, Epoch, epoch, epochs}
 use Rattle.c8_known.specs.Known.{KnownValue, known_of, with_record}
@@ -21,7 +21,7 @@ use Rattle.c8_peer.specs.State.{Memory, Opened, fresh_memory}
 use Rattle.c8_peer.specs.Opening.{last_epoch, unfit, opening_record}
 use Rattle.c8_peer.specs.Peer.{PeerValue, mode_of, IsSound}
 use Rattle.c8_peer.specs.Held.{IsPeer}
-use Rattle.c8_peer.specs.Opened.{opening_body, found, MayBegin, IsOpened, IsSettled, IsUnread, IsUnfit, IsNotWritten, IsRefusedFor, IsRefusedOpening, OpeningLeaves}
+use Rattle.c8_peer.specs.Opened.{opening_body, bodies_found, MayBegin, IsOpened, IsSettled, IsUnread, IsUnfit, IsNotWritten, IsRefusedFor, IsRefusedOpening, OpeningLeaves}
 use Rattle.c8_peer.specs.OpenedParts.{IsRead, IsBegun, IsNotBegun, BeginningLeaves}
 use Rattle.c8_peer.proofs.OpeningLemmas.{opening_allowed, opening_memory}
 use Rattle.c8_peer.proofs.PeerLemmas.{one_body_more, bodies_more, view}
@@ -43,28 +43,33 @@ nothing_known rules room me (r ∷ rest) k = refl
 module _ {D : Type 0} (g : Ghosts D) (reads_now : (disk : D) → g.may_leave disk (g.seen disk)) where
   -- where all is settled nothing is decided that was open
   settled_unread : (disk left : D) → IsSettled g disk left → IsUnread g disk left
-  settled_unread disk left settled image leaves = (g.seen disk, reads_now disk, settled image leaves)
+  settled_unread disk left settled image leaves = (g.seen disk, reads_now disk, settled.keeps image leaves)
 
   -- a log that is at rest, and then is only read, leaves what was found
-  settled_after : (disk mid left : D) → found g mid ≡ found g disk → AllKeep (found g mid) (g.may_leave mid) → ReadsOnly g mid left → IsSettled g disk left
-  settled_after disk mid left same rests reads image leaves = rests image (reads.crash image leaves) ∙ same
+  settled_after : (disk mid left : D) → bodies_found g mid ≡ bodies_found g disk → g.seen mid ≡ repaired (g.seen disk) → AllKeep (bodies_found g mid) (g.may_leave mid)
+      → ReadsOnly g mid left → IsSettled g disk left
+  settled_after disk mid left same mended rests reads = record {
+    keeps = λ image leaves. rests image (reads.crash image leaves) ∙ same;
+    seen = reads.seen ∙ mended;
+  }
 
-  module _ (disk mid left : D) (rules : Rules) (room me : ℕ) (k : KnownValue) (same : found g mid ≡ found g disk) (rests : AllKeep (found g mid) (g.may_leave mid))
+  module _ (disk mid left : D) (rules : Rules) (room me : ℕ) (k : KnownValue) (same : bodies_found g mid ≡ bodies_found g disk)
+      (mended : g.seen mid ≡ repaired (g.seen disk)) (rests : AllKeep (bodies_found g mid) (g.may_leave mid))
       (first : IsSameDisk g disk mid) (reads : ReadsOnly g mid left) where
-    unfit_after : (error : ReplayError) → IsRefusal rules me room (found g mid) error → IsUnfit g disk rules room me error left
-    unfit_after error is = (subst (λ (bodies : List (List ℕ)). IsRefusal rules me room bodies error) same is, settled_after disk mid left same rests reads)
+    unfit_after : (error : ReplayError) → IsRefusal rules me room (bodies_found g mid) error → IsUnfit g disk rules room me error left
+    unfit_after error is = (subst (λ (bodies : List (List ℕ)). IsRefusal rules me room bodies error) same is, settled_after disk mid left same mended rests reads)
 
-    pub refused_reading : (error : ReplayError) → (is_failed (Err error) ≡ true → g.failures mid < g.failures left) → IsReplayedFromDisk rules me room (found g mid) (Err error) k
+    pub refused_reading : (error : ReplayError) → (is_failed (Err error) ≡ true → g.failures mid < g.failures left) → IsReplayedFromDisk rules me room (bodies_found g mid) (Err error) k
         → IsRefusedFor g disk rules room me (unfit error) left
     refused_reading replays.WrongGame fails is = unfit_after replays.WrongGame is.0
     refused_reading replays.WrongPlayer fails is = unfit_after replays.WrongPlayer is.0
     refused_reading (replays.BadRecord n) fails is = unfit_after (replays.BadRecord n) is.0
-    refused_reading (replays.Disk Failed) fails is = (omega (arith, fails refl, first.no_fewer), inl (settled_unread disk left (settled_after disk mid left same rests reads)))
+    refused_reading (replays.Disk Failed) fails is = (omega (arith, fails refl, first.no_fewer), inl (settled_unread disk left (settled_after disk mid left same mended rests reads)))
     refused_reading (replays.Disk Full) fails is = absurd (let why = is.0 in cc)
 
 -- ---- what the record comes to, on the disk as it was found
 
-module _ {D : Type 0} (g : Ghosts D) (disk mid : D) (rules : Rules) (room me : ℕ) (same : found g mid ≡ found g disk) where
+module _ {D : Type 0} (g : Ghosts D) (disk mid : D) (rules : Rules) (room me : ℕ) (same : bodies_found g mid ≡ bodies_found g disk) where
   not_written : (left : D) → IsNotWritten g mid rules room me left → IsNotWritten g disk rules room me left
   not_written left is = record {
     bodies = subst (AreJournalBodies rules me room) same is.bodies;
@@ -72,18 +77,18 @@ module _ {D : Type 0} (g : Ghosts D) (disk mid : D) (rules : Rules) (room me : �
     leaves = subst (λ (bodies : List (List ℕ)). AllKeepBodies bodies (Some (opening_body rules room me bodies)) (g.may_leave left)) same is.leaves;
   }
 
-  pub refused_beginning : (left : D) (error : OpenError) → IsSameDisk g disk mid → IsNotBegun g mid rules room me error left → IsRefusedFor g disk rules room me error left
-  refused_beginning left opens.WrongGame first none = absurd none
-  refused_beginning left opens.WrongPlayer first none = absurd none
-  refused_beginning left (opens.BadRecord n) first none = absurd none
-  refused_beginning left opens.Memory first none = absurd none
-  refused_beginning left opens.EpochsSpent first is = record {
-    bodies = subst (AreJournalBodies rules me room) same is.bodies;
-    spent = subst (λ (bodies : List (List ℕ)). last_epoch ≤ epoch (records_of bodies)) same is.spent;
-    settled = subst (λ (bodies : List (List ℕ)). AllKeep bodies (g.may_leave left)) same is.settled;
+  pub refused_beginning : (left : D) (error : OpenError) → AreJournalBodies rules me room (bodies_found g disk) → IsSettled g disk mid → IsSameDisk g disk mid → IsNotBegun g mid rules room me error left → IsRefusedFor g disk rules room me error left
+  refused_beginning left opens.WrongGame are settled first none = absurd none
+  refused_beginning left opens.WrongPlayer are settled first none = absurd none
+  refused_beginning left (opens.BadRecord n) are settled first none = absurd none
+  refused_beginning left opens.Memory are settled first none = absurd none
+  refused_beginning left opens.EpochsSpent are settled first is = record {
+    bodies = are;
+    spent = subst (λ (bodies : List (List ℕ)). last_epoch ≤ epoch (records_of bodies)) same is.0;
+    settled = subst (IsSettled g disk) (sym is.1) settled;
   }
-  refused_beginning left (opens.Disk Failed) first is = (omega (arith, is.0, first.no_fewer), inr (not_written left is.1))
-  refused_beginning left (opens.Disk Full) first is = (omega (arith, is.0, first.capacity, ap length same), inr (not_written left is.1))
+  refused_beginning left (opens.Disk Failed) are settled first is = (omega (arith, is.0, first.no_fewer), inr (not_written left is.1))
+  refused_beginning left (opens.Disk Full) are settled first is = (omega (arith, is.0, first.capacity, ap length same), inr (not_written left is.1))
 
   pub begun_there : (journal : JournalValue D) (number : ℕ) → IsBegun g mid rules room me journal number → IsBegun g disk rules room me journal number
   begun_there journal number is = record {
@@ -111,25 +116,25 @@ module _ {D : Type 0} (g : Ghosts D) (disk : D) (rules : Rules) (room me : ℕ) 
     (k : KnownValue) (log : LogValue D) (last : ℕ) (read : IsRead g disk rules room me k log last)
     (journal : JournalValue D) (number : ℕ) (begun : IsBegun g disk rules room me journal number)
     (m : Memory) (fresh : m ≡ fresh_memory rules room me number) where
-  longer : records_of journal.bodies ≡ records_of (found g disk) ++ opening_record rules room me (records_of (found g disk)) ∷ []
+  longer : records_of journal.bodies ≡ records_of (bodies_found g disk) ++ opening_record rules room me (records_of (bodies_found g disk)) ∷ []
   longer =
-      let may = opening_allowed rules me room (records_of (found g disk)) range from_one in_game low read.bodies.journal begun.not_spent in
-      ap records_of begun.bodies ∙ one_body_more (found g disk) (opening_record rules room me (records_of (found g disk))) may.spelled
+      let may = opening_allowed rules me room (records_of (bodies_found g disk)) range from_one in_game low read.bodies.journal begun.not_spent in
+      ap records_of begun.bodies ∙ one_body_more (bodies_found g disk) (opening_record rules room me (records_of (bodies_found g disk))) may.spelled
 
-  in_epoch : m ≡ fresh_memory rules room me (epoch (records_of (found g disk) ++ opening_record rules room me (records_of (found g disk)) ∷ []))
+  in_epoch : m ≡ fresh_memory rules room me (epoch (records_of (bodies_found g disk) ++ opening_record rules room me (records_of (bodies_found g disk)) ∷ []))
   in_epoch = fresh ∙ ap (fresh_memory rules room me) begun.number_is
 
   pub peer_opened : IsPeer rules room journal k m
   unfolding known_of
   peer_opened =
-      let before : List Record = records_of (found g disk) in
+      let before : List Record = records_of (bodies_found g disk) in
       let new : Record = opening_record rules room me before in
       let may = opening_allowed rules me room before range from_one in_game low read.bodies.journal begun.not_spent in
       subst (λ (known : KnownValue). IsPeer rules room journal known m) (sym read.known) (record {
         range = range;
         from_one = from_one;
         in_game = in_game;
-        bodies = subst (AreJournalBodies rules me room) (sym begun.bodies) (bodies_more rules me room (found g disk) new read.bodies may);
+        bodies = subst (AreJournalBodies rules me room) (sym begun.bodies) (bodies_more rules me room (bodies_found g disk) new read.bodies may);
         pending = λ body e. absurd (let none = begun.none_pending in cc);
         pending_may = λ body e. absurd (let none = begun.none_pending in cc);
         known = sym (nothing_known rules room me before (known_of rules me before)) ∙ sym (known_more rules me room before new may) ∙ ap (known_of rules me) (sym longer);
@@ -141,7 +146,7 @@ module _ {D : Type 0} (g : Ghosts D) (disk : D) (rules : Rules) (room me : ℕ) 
   opened_peer sound same = record {
     rules_are = refl;
     room_is = refl;
-    me_is = ap (λ (known : KnownValue). known.me) read.known ∙ (of_game rules me (records_of (found g disk))).player;
+    me_is = ap (λ (known : KnownValue). known.me) read.known ∙ (of_game rules me (records_of (bodies_found g disk))).player;
     opening = λ s i. record {
       reply = Opened (Ok (epoch (longer i)));
       state = record { journal = longer i; pending = option_map record_of (begun.none_pending i); mode = mode_of (begun.up i); memory = in_epoch i };

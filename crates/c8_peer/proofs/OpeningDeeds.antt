@@ -16,8 +16,7 @@ use Rattle.c8_peer.specs.declared.error.OpenError.TheVariants as opens
 use Rattle.c8_peer.specs.State.{Open, State, Opened}
 use Rattle.c8_peer.specs.Opening.{NoPlayer, Stands, NotWritten, NoMemory, NotRead, Unfit, Spent, last_epoch, opening_record, found, opened, MayBecome}
 use Rattle.c8_peer.specs.Peer.{PeerValue, Keeps}
-use Rattle.c8_peer.specs.Opened as openings
-use Rattle.c8_peer.specs.Opened.{opening_body, IsUnfit, IsOpened, IsRefusedFor, IsRefusedOpening, OpeningLeaves}
+use Rattle.c8_peer.specs.Opened.{opening_body, IsSettled, IsUnfit, IsOpened, IsRefusedFor, IsRefusedOpening, OpeningLeaves}
 use Rattle.c8_peer.specs.Runs.{Opens, as_answered, IsDone, Tells, IsRefusedDeed, IsStoppedOpening}
 
 module _ {D : Type 0} (g : Ghosts D) where
@@ -36,9 +35,9 @@ module _ {D : Type 0} (g : Ghosts D) where
     is = refl;
   }
 
-  settled : (disk left : D) (s : State) (finds : Bool) (f : List Record) → f ≡ found s finds → openings.IsSettled g disk left → Keeps (found s finds) (g.seen disk)
+  settled : (disk left : D) (s : State) (finds : Bool) (f : List Record) → f ≡ found s finds → IsSettled g disk left → Keeps (found s finds) (g.seen disk)
       → (image : List ℕ) → g.may_leave left image → Keeps f image
-  settled disk left s finds f same is keeps image may = is image may ∙ keeps ∙ ap (map body_of) (sym same)
+  settled disk left s finds f same is keeps image may = is.keeps image may ∙ keeps ∙ ap (map body_of) (sym same)
 
   refused_for : (disk left : D) (rules : Rules) (room me : ℕ) (s : State) (finds : Bool) (error : OpenError) → me ≤ rules.players → IsRefusedFor g disk rules room me error left → (s.mode ≡ Open → ⊥)
       → Keeps (found s finds) (g.seen disk) → records_of (kept (g.seen disk)) ≡ found s finds → Tells g s disk → IsRefusedDeed g rules room me s finds error left

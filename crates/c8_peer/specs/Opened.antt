@@ -6,7 +6,7 @@ use Rattle.c8_disk.specs.declared.error.DiskError.{DiskError}
 use Rattle.c8_disk.specs.declared.error.DiskError.TheVariants as errors
 use Rattle.c8_disk.specs.Runs.{IsSameDisk}
 use Rattle.c8_log.specs.Slots.{slot_length, kept}
-use Rattle.c8_log.specs.Log.{AllKeep, KeepsOneOf}
+use Rattle.c8_log.specs.Log.{AllKeep, KeepsOneOf, repaired}
 use Rattle.c8_log.specs.Journal.{AllKeepBodies}
 use Rattle.c8_known.specs.Journal.{epoch}
 use Rattle.c8_record.specs.Body.{body_of, records_of}
@@ -36,21 +36,23 @@ MayBegin rules room me bodies = AreJournalBodies rules me room bodies × (epoch 
 
 module _ {D : Type 0} (g : Ghosts D) (disk : D) where
   -- the bodies that it keeps when the opening begins
-  abbrev pub found : List (List ℕ)
-  found = kept (g.seen disk)
+  abbrev pub bodies_found : List (List ℕ)
+  bodies_found = kept (g.seen disk)
 
-  -- settled: each image that a crash may leave keeps just what was found
-  abbrev pub IsSettled : D → Type 0
-  IsSettled left = AllKeep found (g.may_leave left)
+  -- Settled: each image that a crash may leave keeps just what was found, and a read gives the bytes that it gave before, with
+  -- a closed gate after the kept bodies.
+  pub record IsSettled (left : D) : Type 0 where
+    pub keeps : AllKeep bodies_found (g.may_leave left)
+    pub seen : g.seen left ≡ repaired (g.seen disk)
 
   -- nothing is decided: each image that a crash may leave keeps what some image kept before
   abbrev pub IsUnread : D → Type 0
   IsUnread left = (image : List ℕ) → g.may_leave left image → KeepsOneOf (g.may_leave disk) image
 
   -- when the disk may be blamed: it failed in the call, or it has no room for the opening's record and the gate after it
-  abbrev pub HasCause : DiskError → D → Type 0
-  HasCause errors.Failed left = g.failures disk < g.failures left
-  HasCause errors.Full left = g.capacity disk < slot_length * (length found + 1) + 1
+  abbrev pub HasOpeningCause : DiskError → D → Type 0
+  HasOpeningCause errors.Failed left = g.failures disk < g.failures left
+  HasOpeningCause errors.Full left = g.capacity disk < slot_length * (length bodies_found + 1) + 1
 
 -- ---- the opening of a player's peer, in a game and a room
 
@@ -68,27 +70,27 @@ module _ {D : Type 0} (g : Ghosts D) (disk : D) (rules : Rules) (room me : ℕ) 
     pub rules_are : p.rules ≡ rules
     pub room_is : p.room ≡ room
     pub me_is : p.me ≡ me
-    pub opening : (s : State) → told (Opened (Ok (epoch p.state.journal))) p ≡ opened rules room me s (records_of (found g disk)) Stands
-    pub may : MayBecome rules room me (records_of (found g disk)) Stands
-    pub bodies : AreJournalBodies rules me room (found g disk)
+    pub opening : (s : State) → told (Opened (Ok (epoch p.state.journal))) p ≡ opened rules room me s (records_of (bodies_found g disk)) Stands
+    pub may : MayBecome rules room me (records_of (bodies_found g disk)) Stands
+    pub bodies : AreJournalBodies rules me room (bodies_found g disk)
     pub sound : IsSound g p
     pub same : IsSameDisk g disk p.disk
 
   -- what was found is no journal of this match and player
   abbrev pub IsUnfit : ReplayError → D → Type 0
-  IsUnfit error left = IsRefusal rules me room (found g disk) error × IsSettled g disk left
+  IsUnfit error left = IsRefusal rules me room (bodies_found g disk) error × IsSettled g disk left
 
   -- What was found is such a journal, and its epochs are spent.
   pub record IsSpent (left : D) : Type 0 where
-    pub bodies : AreJournalBodies rules me room (found g disk)
-    pub spent : last_epoch ≤ epoch (records_of (found g disk))
+    pub bodies : AreJournalBodies rules me room (bodies_found g disk)
+    pub spent : last_epoch ≤ epoch (records_of (bodies_found g disk))
     pub settled : IsSettled g disk left
 
   -- What was found may be opened, and the opening's record is pending: each image keeps what was found, with it or without.
   pub record IsNotWritten (left : D) : Type 0 where
-    pub bodies : AreJournalBodies rules me room (found g disk)
-    pub not_spent : epoch (records_of (found g disk)) < last_epoch
-    pub leaves : AllKeepBodies (found g disk) (Some (opening_body rules room me (found g disk))) (g.may_leave left)
+    pub bodies : AreJournalBodies rules me room (bodies_found g disk)
+    pub not_spent : epoch (records_of (bodies_found g disk)) < last_epoch
+    pub leaves : AllKeepBodies (bodies_found g disk) (Some (opening_body rules room me (bodies_found g disk))) (g.may_leave left)
 
   -- Why a player of the game is refused, and what is left of the disk then. Memory is refused before the disk is touched, and
   -- what is wrong with the journal is told before anything is added to it.
@@ -98,7 +100,7 @@ module _ {D : Type 0} (g : Ghosts D) (disk : D) (rules : Rules) (room me : ℕ) 
   IsRefusedFor (opens.BadRecord n) left = IsUnfit (replays.BadRecord n) left
   IsRefusedFor opens.EpochsSpent left = IsSpent left
   IsRefusedFor opens.Memory left = left ≡ disk
-  IsRefusedFor (opens.Disk why) left = HasCause g disk why left × (IsUnread g disk left ⊎ IsNotWritten left)
+  IsRefusedFor (opens.Disk why) left = HasOpeningCause g disk why left × (IsUnread g disk left ⊎ IsNotWritten left)
 
   -- Why an opening is refused: there is no such player in the game, and the disk is as it was; or else for one of these.
   abbrev pub IsRefusedOpening : OpenError → D → Type 0
@@ -109,4 +111,4 @@ module _ {D : Type 0} (g : Ghosts D) (disk : D) (rules : Rules) (room me : ℕ) 
   -- begin in what was found, that and then the opening's record.
   abbrev pub OpeningLeaves : List ℕ → Type 0
   OpeningLeaves image =
-      KeepsOneOf (g.may_leave disk) image ⊎ (MayBegin rules room me (found g disk) × (kept image ≡ found g disk ++ opening_body rules room me (found g disk) ∷ []))
+      KeepsOneOf (g.may_leave disk) image ⊎ (MayBegin rules room me (bodies_found g disk) × (kept image ≡ bodies_found g disk ++ opening_body rules room me (bodies_found g disk) ∷ []))

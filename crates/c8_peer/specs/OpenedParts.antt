@@ -1,5 +1,5 @@
 -- Checked, not believed: what the parts of an opening come to.
-use Rattle.std.specs.Prelude.{◌≡◌, ◌⊎◌, ℕ, ◌<◌, List, [], ◌∷◌, ◌++◌, false, None, Result, Ok, Err}
+use Rattle.std.specs.Prelude.{◌≡◌, ◌⊎◌, ℕ, ◌<◌, ◌≤◌, List, [], ◌∷◌, ◌++◌, false, None, Result, Ok, Err}
 use Rattle.c8_game.specs.Rules.{Rules}
 use Rattle.c8_disk.specs.declared.disk.Disk.{Ghosts}
 use Rattle.c8_log.specs.Slots.{kept}
@@ -12,7 +12,7 @@ use Rattle.c8_record.specs.Replay.{AreJournalBodies}
 use Rattle.c8_peer.specs.declared.error.OpenError.{OpenError}
 use Rattle.c8_peer.specs.declared.error.OpenError.TheVariants as opens
 use Rattle.c8_peer.specs.Opening.{last_epoch, opening_record}
-use Rattle.c8_peer.specs.Opened.{opening_body, found, MayBegin, HasCause, IsSpent, IsNotWritten}
+use Rattle.c8_peer.specs.Opened.{opening_body, bodies_found, IsSettled, MayBegin, HasOpeningCause, IsNotWritten}
 
 -- the disk after a journal was read, or was to be
 abbrev pub disk_read : {D : Type 0} → Result (LogValue D × ℕ) (OpenError × D) → D
@@ -25,32 +25,33 @@ disk_begun (Ok begun) = begun.0.disk
 disk_begun (Err refusal) = refusal.1
 
 module _ {D : Type 0} (g : Ghosts D) (disk : D) (rules : Rules) (room me : ℕ) where
-  -- What was found is a journal of this match and player, and all of it is known.
+  -- What was found is a journal of this match and player, all of it is known, and the disk is settled.
   pub record IsRead (k : KnownValue) (log : LogValue D) (last : ℕ) : Type 0 where
-    pub bodies : AreJournalBodies rules me room (found g disk)
-    pub known : k ≡ known_of rules me (records_of (found g disk))
-    pub last_is : last ≡ epoch (records_of (found g disk))
+    pub bodies : AreJournalBodies rules me room (bodies_found g disk)
+    pub known : k ≡ known_of rules me (records_of (bodies_found g disk))
+    pub last_is : last ≡ epoch (records_of (bodies_found g disk))
     pub up : log.down ≡ false
-    pub same : kept (g.seen log.disk) ≡ found g disk
+    pub same : kept (g.seen log.disk) ≡ bodies_found g disk
+    pub settled : IsSettled g disk log.disk
 
   -- The opening's record stands, and this is its epoch.
   pub record IsBegun (journal : JournalValue D) (number : ℕ) : Type 0 where
-    pub bodies : journal.bodies ≡ found g disk ++ opening_body rules room me (found g disk) ∷ []
+    pub bodies : journal.bodies ≡ bodies_found g disk ++ opening_body rules room me (bodies_found g disk) ∷ []
     pub none_pending : journal.pending ≡ None
     pub up : journal.is_down ≡ false
-    pub number_is : number ≡ epoch (records_of (found g disk) ++ opening_record rules room me (records_of (found g disk)) ∷ [])
-    pub not_spent : epoch (records_of (found g disk)) < last_epoch
+    pub number_is : number ≡ epoch (records_of (bodies_found g disk) ++ opening_record rules room me (records_of (bodies_found g disk)) ∷ [])
+    pub not_spent : epoch (records_of (bodies_found g disk)) < last_epoch
 
   -- why it does not stand
   abbrev pub IsNotBegun : OpenError → D → Type 0
   IsNotBegun opens.WrongGame left = ⊥
   IsNotBegun opens.WrongPlayer left = ⊥
   IsNotBegun (opens.BadRecord n) left = ⊥
-  IsNotBegun opens.EpochsSpent left = IsSpent g disk rules room me left
+  IsNotBegun opens.EpochsSpent left = (last_epoch ≤ epoch (records_of (bodies_found g disk))) × (left ≡ disk)
   IsNotBegun opens.Memory left = ⊥
-  IsNotBegun (opens.Disk why) left = HasCause g disk why left × IsNotWritten g disk rules room me left
+  IsNotBegun (opens.Disk why) left = HasOpeningCause g disk why left × IsNotWritten g disk rules room me left
 
   -- What a crash leaves while the record is added: what was found, or that and the record, where an epoch may begin.
   abbrev pub BeginningLeaves : List ℕ → Type 0
   BeginningLeaves image =
-      (kept image ≡ found g disk) ⊎ (MayBegin rules room me (found g disk) × (kept image ≡ found g disk ++ opening_body rules room me (found g disk) ∷ []))
+      (kept image ≡ bodies_found g disk) ⊎ (MayBegin rules room me (bodies_found g disk) × (kept image ≡ bodies_found g disk ++ opening_body rules room me (bodies_found g disk) ∷ []))

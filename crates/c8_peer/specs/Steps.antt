@@ -1,5 +1,5 @@
 -- The step of a peer: what a call comes to, and what the disk makes of it.
-use Rattle.std.specs.Prelude.{ℕ, [], ◌∷◌, ◌++◌, Option, Some, None, Err}
+use Rattle.std.specs.Prelude.{◌≢◌, ℕ, [], ◌∷◌, ◌++◌, Option, Some, None, Err, IsErr, IsErrAnd}
 use Rattle.c8_game.specs.Rules.{Rules}
 use Rattle.c8_disk.specs.declared.error.DiskError.{DiskError}
 use Rattle.c8_known.specs.Journal.{Record}
@@ -9,7 +9,7 @@ use Rattle.c8_peer.specs.declared.error.Refused.TheVariants as refusals
 use Rattle.c8_peer.specs.declared.error.Unsayable.TheVariants as unsayables
 use Rattle.c8_peer.specs.declared.error.LeaveError.TheVariants as leaves
 use Rattle.c8_peer.specs.declared.error.DecideError.TheVariants as decides
-use Rattle.c8_peer.specs.State.{Memory, Mode, Open, Down, Away, State, Call, Tick, Deliver, Say, Leave, Decide, Reply, Ticked, Delivered, Said, Left, Decided, Outcome}
+use Rattle.c8_peer.specs.State.{Memory, Mode, Open, Down, Away, State, Call, Tick, Deliver, Say, Leave, Decide, Reply, Opened, Ticked, Delivered, Said, Left, Decided, Outcome}
 use Rattle.c8_peer.specs.Calls.{tick, leave, decide}
 use Rattle.c8_peer.specs.Hearing.{deliver}
 use Rattle.c8_peer.specs.Saying.{say}
@@ -63,3 +63,14 @@ at_mode s call o Away luck = record { reply = when_down call; state = s }
 
 abbrev pub step : Rules → ℕ → State → Call → Luck → Stepped
 step rules me s call luck = at_mode s call (outcome rules (known_of rules me s.journal) s.memory call) s.mode luck
+
+-- ---- refusals
+
+-- A call is refused, but not by the disk, and not by Desync. An opening is no call.
+abbrev pub IsPlainRefusal : Reply → Type 0
+IsPlainRefusal (Opened result) = ⊥
+IsPlainRefusal (Ticked result) = IsErrAnd result (λ error. (why : DiskError) → error ≢ ticks.Disk why)
+IsPlainRefusal (Delivered result) = IsErrAnd result (λ error. (error ≢ refusals.Desync) × ((why : DiskError) → error ≢ refusals.Disk why))
+IsPlainRefusal (Said result) = IsErr result
+IsPlainRefusal (Left result) = IsErrAnd result (λ error. (why : DiskError) → error ≢ leaves.Disk why)
+IsPlainRefusal (Decided result) = IsErrAnd result (λ error. (why : DiskError) → error ≢ decides.Disk why)

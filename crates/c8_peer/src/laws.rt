@@ -1,6 +1,6 @@
 //! What callers may rest on that is no single call's: laws of peers, each the contract of a
 //! function that does nothing.
-ghost use Rattle.std.specs.Prelude.{◌≡◌, ℕ, ◌^◌, ◌<◌, ◌≤◌, List, [], ◌∷◌, ◌++◌, Bool, Option, Ok, Err, Some};
+ghost use Rattle.std.specs.Prelude.{◌≡◌, ℕ, ◌^◌, ◌<◌, ◌≤◌, List, [], ◌∷◌, ◌++◌, Bool, true, Option, Ok, Err, Some};
 ghost use Rattle.c8_game.specs.Rules.{Rules, AreInRange};
 ghost use Rattle.c8_wire.specs.Packet.{Packet, IsPacket};
 ghost use Rattle.c8_known.specs.Journal.{Record, epoch};
@@ -9,8 +9,8 @@ ghost use Rattle.c8_known.specs.Confirmed.{confirmed, rows_below};
 ghost use Rattle.c8_log.specs.Slots.{kept};
 ghost use Rattle.c8_record.specs.Allowed.{IsAllowed, IsJournal};
 ghost use Rattle.c8_record.specs.Body.{records_of};
-ghost use Rattle.c8_peer.specs.State.{Memory, Open, State, Call, Reply, Opened, Said, fresh_memory};
-ghost use Rattle.c8_peer.specs.Steps.{Luck, Works, outcome, step};
+ghost use Rattle.c8_peer.specs.State.{Memory, Open, State, Call, Reply, Opened, Delivered, Said, fresh_memory};
+ghost use Rattle.c8_peer.specs.Steps.{Luck, Works, outcome, step, IsPlainRefusal};
 ghost use Rattle.c8_peer.specs.Opening.{Stands, last_epoch, opening_record, found};
 ghost use Rattle.c8_peer.specs.Truth.{IsTrue};
 ghost use Rattle.c8_peer.specs.Lawful.{IsMemory, IsCall};
@@ -18,7 +18,7 @@ ghost use Rattle.c8_peer.specs.Peer.{PeerValue, IsSound, IsAnswered, IsSaid, IsS
 ghost use Rattle.c8_peer.specs.Runs.{Deed, Does, Opens, IsDone, IsRun, IsReached, IsAmong, Tells, IsRefusedDeed, IsStoppedOpening, never_opened, known_at};
 ghost use Rattle.c8_peer.specs.Opened.{IsOpened, IsRefusedOpening, OpeningLeaves};
 
-use crate::error::{OpenError, Unsayable};
+use crate::error::{OpenError, Refused, Unsayable};
 use c8_disk::Disk;
 
 /// What is true of a journal stays true of every journal that the rules allow and that it begins.
@@ -83,6 +83,18 @@ pub fn steps_are_lawful()
         → IsMemory rules room me journal m → IsCall call
         → (outcome rules (known_of rules me journal) m call).reply ≡ Said (Ok p)
         → IsPacket p }
+{}
+
+/// What a refused call changes. `plain`: nothing, unless the disk refuses or the answer is `Desync`.
+/// `desync`: `Desync` raises the alarm, and changes nothing else.
+pub fn refusals_change_nothing()
+    ensures plain { (rules : Rules) (me : ℕ) (s : State) (call : Call) (luck : Luck)
+        → IsPlainRefusal (step rules me s call luck).reply
+        → (step rules me s call luck).state ≡ s }
+    ensures desync { (rules : Rules) (me : ℕ) (s : State) (call : Call) (luck : Luck)
+        → (step rules me s call luck).reply ≡ Delivered (Err Refused.Desync)
+        → (step rules me s call luck).state
+        ≡ record s { memory = record s.memory { alarm = true } } }
 {}
 
 /// Every run of a peer, from before it is first opened, over openings, closes, disks that refuse

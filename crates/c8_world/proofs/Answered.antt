@@ -14,12 +14,13 @@ use Rattle.c8_peer.specs.State.{Mode, Down, Away, State, Call, Outcome, Delivere
 use Rattle.c8_peer.specs.Steps.{outcome, Luck, Works, Refuses, refused_by_disk, Stepped, done, at_mode, step}
 use Rattle.c8_peer.specs.Opening.{Opening, NoPlayer, Stands, NotWritten, NoMemory, NotRead, Unfit, Spent, found, opened}
 use Rattle.c8_world.specs.Below.{ArePeersLawful}
-use Rattle.c8_world.specs.World.{World, is_player, peer_of, journal_of, Act, Open, Tick, Say, Give, Leave, Decide, Event, Do, Stop, Happening, Answer, Told, NoSuch, After, call_at_mode, call_at, open_at_mode, give_to, acted, after, CanHappen, IsReached}
+use Rattle.c8_world.specs.World.{World, is_player, peer_of, journal_of, Act, Open, Tick, Say, Give, Leave, Decide, Event, Do, Stop, Happening, Answer, Told, NoSuch, After, call_at_mode, call_at, open_at_mode, give_to, acted, after, CanHappen, Chain, IsReached}
 use Rattle.c8_world.specs.Agreement.{IsPlayer, IsUndropped, NobodyLeaves, refused_for}
 use Rattle.c8_world.proofs.Events.{IsWorldly}
 use Rattle.c8_world.proofs.Worlds.{IsSound, plays_if}
-use Rattle.c8_world.proofs.Reached.{reached_sound}
-use Rattle.c8_world.proofs.Openings.{after_if}
+use Rattle.c8_world.proofs.Reached.{reached_sound, reached_later, peers_agree, inputs_entered, begins_own, said_holds, said_spells, links_name, cut_bounds}
+use Rattle.c8_world.specs.Headline.{IsHeadline}
+use Rattle.c8_world.proofs.Openings.{after_if, openings_fit}
 use Rattle.c8_world.proofs.Replies.{IsCalm, AnswersCalmly, EndsCalmly, calm_other, unrefused, teller_of, calm_call}
 
 -- ---- a call
@@ -154,3 +155,23 @@ calm_desync laws rules room w v p number answer range few is nobody can =
     (λ none. none_given rules w p can.happening.luck (slice_get w.said number) answer v none can.is)
     (λ told. never_desync laws rules room w v p number told.0 answer range few is (nobody p) told.1 (nobody told.0.head.from) can)
     (said_or_not (slice_get w.said number))
+
+-- ---- two moments
+
+pub headline : (laws : ArePeersLawful) (rules : Rules) (room : ℕ) (w v : World) (events : List Event) (answers : List Answer) → AreInRange rules → room < 2 ^ 64 → IsReached rules room w
+    → Chain rules room w events answers v → IsHeadline rules room w v
+headline laws rules room w v events answers range few reached chain =
+    let later = reached_later rules room w v events answers reached chain in
+    record {
+      agree = λ p r. peers_agree laws rules room w v events answers p r range few reached chain;
+      entered = λ p. inputs_entered laws rules room w v events answers p range few reached chain;
+      held_begins = λ p q. begins_own laws rules room v p q range few later;
+      said = λ packet. said_holds laws rules room v packet range few later;
+      spelled = λ packet. said_spells laws rules room v packet range few later;
+      linked = λ p q. links_name laws rules room v p q range few later;
+      bounded = λ p. cut_bounds laws rules room v p range few later;
+      known = λ p number answer u. never_differs laws rules room v u p number answer range few later;
+      marks = λ p number packet answer u. never_desync laws rules room v u p number packet answer range few later;
+      acks = λ p number answer u. never_bad_ack laws rules room v u (Do (Give number p)) answer range few later;
+      fit = λ p answer u plays. openings_fit laws rules room v u p answer range few later plays;
+    }

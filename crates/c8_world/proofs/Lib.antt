@@ -10,3 +10,11 @@ pub mod Replies
 pub mod Answered
 pub mod Runs
 pub mod Matches
+mod SeatLemmas
+mod TableLemmas
+mod SpokenLemmas
+mod OpenedLemmas
+mod StopLemmas
+mod LifeLemmas
+mod DiskLemmas
+mod EndLemmas

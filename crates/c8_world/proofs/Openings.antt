@@ -44,7 +44,7 @@ mode_fit rules room w p h states.Open sound plays may = record { game = λ e. cc
 mode_fit rules room w p h Down sound plays may = opened_fit rules room p (peer_of w p) (found (peer_of w p) h.finds) h.opening plays (found_valid rules room w p h.finds sound plays) may
 mode_fit rules room w p h Away sound plays may = opened_fit rules room p (peer_of w p) (found (peer_of w p) h.finds) h.opening plays (found_valid rules room w p h.finds sound plays) may
 
-plays_so : (rules : Rules) (p : ℕ) → IsPlayer rules p → is_player rules p ≡ true
+pub plays_so : (rules : Rules) (p : ℕ) → IsPlayer rules p → is_player rules p ≡ true
 plays_so rules p plays = rw (le-leb 1 p plays.from_one, le-leb p rules.players plays.in_game) refl
 
 -- a test decides what comes of it
@@ -64,3 +64,7 @@ pub openings_fit : (laws : ArePeersLawful) (rules : Rules) (room : ℕ) (w v : W
 unfolding acted
 openings_fit laws rules room w v p answer range few reached plays can =
     subst (λ (a : After). IsFit a.answer) can.is (open_fit rules room w p can.happening (reached_sound laws rules room w range few reached) plays can.may)
+
+pub found_journal : (laws : ArePeersLawful) (rules : Rules) (room : ℕ) (w : World) (p : ℕ) (finds : Bool) → AreInRange rules → room < 2 ^ 64 → IsReached rules room w → IsPlayer rules p
+    → IsJournal rules p room (found (peer_of w p) finds)
+found_journal laws rules room w p finds range few reached plays = found_valid rules room w p finds (reached_sound laws rules room w range few reached) plays

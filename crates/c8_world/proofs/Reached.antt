@@ -1,5 +1,5 @@
 -- What holds of every world that some list of events leads to.
-use Rattle.std.proofs.Common.{◌≡◌, ◌≢◌, ℕ, zero, suc, ◌<◌, ◌≤◌, ◌^◌, inl, inr, List, [], length, true, false, None, refl, sym, ap, subst, ◌∙◌, arith}
+use Rattle.std.proofs.Common.{◌≡◌, ◌≢◌, ℕ, zero, suc, ◌<◌, ◌≤◌, ◌^◌, inl, inr, List, [], ◌∷◌, ◌++◌, length, true, false, None, refl, sym, ap, subst, ◌∙◌, arith}
 use Rattle.std.proofs.lemmas.Bool.{cases_eq}
 use Rattle.c8_game.specs.Rules.{Rules, AreInRange}
 use Rattle.c8_wire.specs.Packet.{Packet}
@@ -135,3 +135,19 @@ reads_agree laws rules room w reads p r range few is p_plays r_plays p_stays r_s
     let at : (q : ℕ) → IsPlayer rules q → journal_of v q ≡ read_by w reads q = λ q plays. adopt_is rules room w reads rules.players q range sound (omega arith) plays.in_game plays in
     agree_at rules room (journal_of v) p r n (read_by w reads 1) (read_by w reads p) (read_by w reads r) range (adopt_sound rules room w reads rules.players range sound (omega arith)).journals p_plays r_plays
     (at 1 one) (at p p_plays) (at r r_plays) p_stays r_stays p_counts r_counts
+
+-- ---- all of it
+
+chain_join : (rules : Rules) (room : ℕ) (w u v : World) (events more : List Event) (answers others : List Answer) → Chain rules room w events answers u → Chain rules room u more others v
+    → Chain rules room w (events ++ more) (answers ++ others) v
+chain_join rules room w u v [] more [] others chain rest = subst (λ (x : World). Chain rules room x more others v) chain rest
+chain_join rules room w u v [] more (answer ∷ answers) others chain rest = absurd chain
+chain_join rules room w u v (event ∷ events) more [] others chain rest = absurd chain
+chain_join rules room w u v (event ∷ events) more (answer ∷ answers) others chain rest = (chain.0, chain.1, chain_join rules room chain.0 u v events more answers others chain.2 rest)
+
+pub reached_later : (rules : Rules) (room : ℕ) (w v : World) (events : List Event) (answers : List Answer) → IsReached rules room w → Chain rules room w events answers v → IsReached rules room v
+reached_later rules room w v events answers reached chain = record {
+  events = reached.events ++ events;
+  answers = reached.answers ++ answers;
+  chain = chain_join rules room (start rules) w v reached.events events reached.answers answers reached.chain chain;
+}

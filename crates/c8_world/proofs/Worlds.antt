@@ -522,7 +522,7 @@ chain_sound laws rules room w v (event ∷ events) (answer ∷ answers) range fe
 
 -- ---- the start
 
-peer_at_start : (rules : Rules) (p : ℕ) → peer_of (start rules) p ≡ never_opened
+pub peer_at_start : (rules : Rules) (p : ℕ) → peer_of (start rules) p ≡ never_opened
 peer_at_start rules p =
     elim (cases_lt (p - 1) rules.players) [
       | inl within ↦ get_or-replicate rules.players (p - 1) never_opened never_opened within

@@ -2,3 +2,10 @@ pub mod World
 pub mod Agreement
 pub mod Below
 pub mod Matches
+pub mod Events
+pub mod Seats
+pub mod Table
+pub mod Run
+pub mod Headline
+pub mod Ends
+pub mod Disks

@@ -68,7 +68,8 @@ pub data Act : Type 0 where
   Leave : (leaver : ℕ) → Act
   Decide : (leaver : ℕ) → Act
 
--- An act; or an act inside which the player stops: the disk serves so many calls, and what a crash then leaves is picked.
+-- An act; or an act inside which the player stops: the disk serves so many calls, and what a crash then leaves is picked. By these
+-- definitions any crash may follow; the two numbers steer a real disk alone.
 pub data Event : Type 0 where
   Do : Act → Event
   Stop : Act → (calls : ℕ) → (pick : ℕ) → Event

@@ -1,7 +1,7 @@
 //! The theorem that peers agree, over every list of events of a world: each law is the contract of
 //! a function that only calls laws of the crates below. `IsReached` says that some list of events leads to a world, from
 //! the one in which no peer has been opened yet.
-ghost use Rattle.std.specs.Prelude.{◌≡◌, ◌≢◌, ◌⊎◌, ℕ, ◌^◌, ◌<◌, List, length, Some, false};
+ghost use Rattle.std.specs.Prelude.{◌≡◌, ◌≢◌, ◌⊎◌, ℕ, ◌^◌, ◌<◌, List, length, Bool, Some, false};
 ghost use Rattle.std.specs.List.{slice_get};
 ghost use Rattle.c8_game.specs.Rules.{Rules, AreInRange, id_of};
 ghost use Rattle.c8_wire.specs.Packet.{Packet, AreBytes};
@@ -10,9 +10,12 @@ ghost use Rattle.c8_known.specs.Journal.{held};
 ghost use Rattle.c8_known.specs.Growth.{Begins};
 ghost use Rattle.c8_known.specs.declared.error.KnownError.TheVariants.{Differs};
 ghost use Rattle.c8_peer.specs.declared.error.Refused.TheVariants.{BadAck, Desync, Known};
+ghost use Rattle.c8_record.specs.Allowed.{IsJournal};
+ghost use Rattle.c8_peer.specs.Opening.{found};
 ghost use Rattle.c8_peer.specs.Truth.{IsTrue};
-ghost use Rattle.c8_world.specs.World.{World, Open, Give, Event, Do, Answer, CanHappen, Chain, IsReached, journal_of};
+ghost use Rattle.c8_world.specs.World.{World, Open, Give, Event, Do, Answer, CanHappen, Chain, IsReached, peer_of, journal_of};
 ghost use Rattle.c8_world.specs.Agreement.{IsPlayer, IsUndropped, NobodyLeaves, AgreeUpTo, Agree, AreEntered, IsBounded, Reads, AgreeByReads, IsAmong, AreLinked, refused_for, IsFit};
+ghost use Rattle.c8_world.specs.Headline.{IsHeadline};
 ghost use Rattle.c8_world.specs.Matches.{two, three, four, GoesInTurn, StopsInTick, CutsWhereHeld, CutsAfterRestart, WaitsForSilent, DiffersWhenDropped, EndsAfterLastFrame, RefusesOther};
 
 use crate::below::peers_are_lawful;
@@ -53,9 +56,13 @@ pub fn open_links_name_both_epochs()
     peers_are_lawful();
 }
 
-/// No opening of a player's peer is answered WrongGame, WrongPlayer or BadRecord.
+/// Whatever a reading of a player's disk finds is a journal of this match and player; and no opening
+/// of its peer is answered WrongGame, WrongPlayer or BadRecord.
 pub fn openings_find_journals()
-    ensures { (rules : Rules) (room : ℕ) (w v : World) (p : ℕ) (answer : Answer)
+    ensures journals { (rules : Rules) (room : ℕ) (w : World) (p : ℕ) (finds : Bool)
+        → AreInRange rules → room < 2 ^ 64 → IsReached rules room w → IsPlayer rules p
+        → IsJournal rules p room (found (peer_of w p) finds) }
+    ensures fit { (rules : Rules) (room : ℕ) (w v : World) (p : ℕ) (answer : Answer)
         → AreInRange rules → room < 2 ^ 64 → IsReached rules room w → IsPlayer rules p
         → CanHappen rules room w (Do (Open p)) answer v → IsFit answer }
 {
@@ -139,6 +146,16 @@ pub fn all_agree_while_nobody_leaves()
         → AreInRange rules → room < 2 ^ 64 → IsReached rules room w → NobodyLeaves w
         → CanHappen rules room w (Do (Give number p)) answer v
         → answer ≢ refused_for Desync }
+{
+    peers_are_lawful();
+}
+
+/// All of this of any two moments, in one record.
+pub fn any_two_moments_agree()
+    ensures { (rules : Rules) (room : ℕ) (w v : World) (events : List Event)
+        (answers : List Answer)
+        → AreInRange rules → room < 2 ^ 64 → IsReached rules room w
+        → Chain rules room w events answers v → IsHeadline rules room w v }
 {
     peers_are_lawful();
 }

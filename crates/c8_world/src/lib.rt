@@ -1,11 +1,35 @@
-//! All peers of one match, and the theorem that they agree.
+//! All peers of one match in one program, and the theorem that they agree.
 //!
-//! A world is every player's peer and all that was ever said; an event is an act of one of them, or
-//! a stop inside one (`specs/World.antt`). What peers have in common is in `specs/Agreement.antt`:
-//! undropped ones hold the same inputs and the same machine as far as both count frames as
-//! confirmed. `laws` has the theorem, over every list of events, and matches worked out by the same
-//! definitions (`specs/Matches.antt`). The world that runs real peers is to come.
+//! A [`World`] has each player's peer over a disk in memory, and every datagram that was said. What
+//! happens to it is a list of [`Event`]s: acts of its players, and stops inside acts. `World::run`
+//! runs them, and its contract says that each is an event of the definitions (`specs/World.antt`)
+//! and that any two moments agree (`specs/Headline.antt`, by `specs/Agreement.antt`). What a world of
+//! the definitions is to real peers and disks stands in `specs/Seats.antt` and `specs/Table.antt`,
+//! what a run is in `specs/Run.antt`. `laws` has the theorem over every list of events, and matches
+//! worked out by the same definitions (`specs/Matches.antt`).
+//!
+//! Inside: a `Seat` is one player's peer or its disk, the `Table` all seats and all that was said, a
+//! `Standing` what is known of a player in the end. `Seat` and `Standing` are public only since
+//! contracts name them.
 #![tactic(auto)]
 
+mod answer;
 mod below;
+mod ends;
+mod error;
+mod event;
 pub mod laws;
+mod pool;
+mod seat;
+mod table;
+mod world;
+
+pub use answer::{Answer, Counts, Posted, Report};
+pub use ends::{Ends, Standing, Tally};
+pub use error::RunError;
+pub use event::{Act, Event};
+pub use seat::Seat;
+pub use world::World;
+
+#[cfg(test)]
+mod tests;

@@ -1,1 +1,4 @@
+pub mod DecimalLemmas
 pub mod KeyLineLemmas
+pub mod ScriptLemmas
+pub mod ScriptLines

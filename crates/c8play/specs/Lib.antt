@@ -2,7 +2,10 @@ pub mod Errors
 pub mod KeyLines
 pub mod KeySets
 pub mod Run
+pub mod Script
+pub mod ScriptWords
 pub mod Shown
+pub mod Sim
 pub mod Status
 pub mod Report
 pub mod Texts

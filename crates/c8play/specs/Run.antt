@@ -8,13 +8,14 @@ use Rattle.c8_game.specs.declared.error.GameError.TheVariants as games
 use Rattle.c8play.specs.KeyLines.{IsRunOf, IsFaultOf}
 use Rattle.c8play.specs.declared.keys.Played.{Played}
 use Rattle.c8play.specs.declared.refusal.Refusal.{Refusal}
-use Rattle.c8play.specs.declared.refusal.Refusal.TheVariants.{Game, Keys, Hex, Wire, Open, Disk, Socket}
+use Rattle.c8play.specs.declared.refusal.Refusal.TheVariants.{Game, Keys, Script, Hex, Wire, Open, Disk, Socket}
 
 -- what is played of a game by the rows of a text, or the text's first fault: no other refusal
 abbrev pub IsPlayOf : Rules → List ℕ → Result Played Refusal → Type 0
 IsPlayOf rules keys (Ok played) = IsRunOf rules keys played
 IsPlayOf rules keys (Err (Keys error)) = IsFaultOf rules keys error
 IsPlayOf rules keys (Err (Game error)) = ⊥
+IsPlayOf rules keys (Err (Script error)) = ⊥
 IsPlayOf rules keys (Err (Hex error)) = ⊥
 IsPlayOf rules keys (Err (Wire error)) = ⊥
 IsPlayOf rules keys (Err (Open error)) = ⊥
@@ -35,6 +36,7 @@ abbrev pub IsRefusalOfRun : List ℕ → List ℕ → Refusal → Type 0
 IsRefusalOfRun game keys (Game error) = (error ≡ games.Memory) ⊎ IsRefused game error
 IsRefusalOfRun game keys (Keys error) =
     (rules : Rules) × Spells game rules × IsFaultOf rules keys error
+IsRefusalOfRun game keys (Script error) = ⊥
 IsRefusalOfRun game keys (Hex error) = ⊥
 IsRefusalOfRun game keys (Wire error) = ⊥
 IsRefusalOfRun game keys (Open error) = ⊥

@@ -20,6 +20,7 @@ IsRefusalOfBytes bytes (refusals.Wire error) = refusal bytes ≡ Some error
 IsRefusalOfBytes bytes (refusals.Hex error) = ⊥
 IsRefusalOfBytes bytes (refusals.Game error) = ⊥
 IsRefusalOfBytes bytes (refusals.Keys error) = ⊥
+IsRefusalOfBytes bytes (refusals.Script error) = ⊥
 IsRefusalOfBytes bytes (refusals.Open error) = ⊥
 IsRefusalOfBytes bytes (refusals.Disk error) = ⊥
 IsRefusalOfBytes bytes (refusals.Socket error) = ⊥
@@ -31,6 +32,7 @@ IsRefusalOfShow word (refusals.Wire error) =
     (bytes : List ℕ) × (decode_of word ≡ Ok bytes) × IsRefusalOfBytes bytes (refusals.Wire error)
 IsRefusalOfShow word (refusals.Game error) = ⊥
 IsRefusalOfShow word (refusals.Keys error) = ⊥
+IsRefusalOfShow word (refusals.Script error) = ⊥
 IsRefusalOfShow word (refusals.Open error) = ⊥
 IsRefusalOfShow word (refusals.Disk error) = ⊥
 IsRefusalOfShow word (refusals.Socket error) = ⊥

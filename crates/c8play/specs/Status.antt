@@ -3,7 +3,7 @@ use Rattle.std.specs.Prelude.{ℕ, Result, Ok, Err}
 use Rattle.c8_peer.specs.declared.error.OpenError.{OpenError}
 use Rattle.c8_peer.specs.declared.error.OpenError.TheVariants as openings
 use Rattle.c8play.specs.declared.refusal.Refusal.{Refusal}
-use Rattle.c8play.specs.declared.refusal.Refusal.TheVariants.{Game, Keys, Hex, Wire, Open, Disk, Socket}
+use Rattle.c8play.specs.declared.refusal.Refusal.TheVariants.{Game, Keys, Script, Hex, Wire, Open, Disk, Socket}
 use Rattle.c8play.specs.declared.status.Status.{Status}
 use Rattle.c8play.specs.declared.status.Status.TheVariants.{Done, Refused, CommandLine, Failed}
 
@@ -27,6 +27,7 @@ status_of_opening (openings.Disk error) = Failed
 abbrev pub status_of : Refusal → Status
 status_of (Game error) = Refused
 status_of (Keys error) = Refused
+status_of (Script error) = Refused
 status_of (Hex error) = Refused
 status_of (Wire error) = Refused
 status_of (Open error) = status_of_opening error

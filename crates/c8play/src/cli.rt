@@ -6,10 +6,15 @@ ghost use Rattle.std.specs.declared.io.ErrorKind.TheVariants as kinds;
 ghost use Rattle.clap.specs.Values.{kind_of};
 ghost use Rattle.c8play.specs.declared.status.Status.TheVariants as statuses;
 
+mod help;
+
+use crate::cli::help::{ENDING, PEER_ENDING, RUN_ENDING, SHOW_ENDING, SIM_ENDING};
+use crate::error::{KeysError, ScriptError};
 use crate::peer::{Asked, peer};
 use crate::refusal::Refusal;
 use crate::run::run;
 use crate::show::show;
+use crate::sim::sim;
 use crate::status::Status;
 use crate::text::read_both;
 use c8_disk::DiskError;
@@ -25,76 +30,6 @@ use std::io::{Input, Write};
 use std::net::Net;
 use std::rt::Files;
 use std::time::Clock;
-
-/// The end of the help of the program.
-const ENDING: &str =
-    "Input that is refused is told by one line on standard error, as 'refused: game 5 Hex'.
-The help of each command lists its refusals.
-
-Exit status: 0 done, 1 refused, 2 a mistake in the command line, 3 a disk or a socket failed";
-
-/// The end of the help of `run`.
-const RUN_ENDING: &str = "Refusals, each one line on standard error, as 'refused: game 5 Hex':
-  game 1 Line     a line that is no known name, one space and a value
-  game 2 Range    a number out of range, a program too long, a mask of nobody
-  game 3 Missing  a line that every game has is not there
-  game 4 Twice    a name for the second time
-  game 5 Hex      a mask or code that is not hexadecimal
-  game 6 Memory   out of memory for the game
-  keys 1 Line     a line that is not four digits a player, one space between
-  keys 2 Long     more lines than the game has frames
-  keys 3 Memory   out of memory for the keys
-  open 5 Memory   out of memory at the start
-  disk 1 Failed   a file that cannot be read or is above 16777216 bytes;
-                  output that cannot be written
-
-Exit status: 0 done, 1 refused, 2 a mistake in the command line, 3 disk 1 Failed";
-
-/// The end of the help of `peer`.
-const PEER_ENDING: &str =
-    "What the own player holds down is read from standard input before the game starts: one key set
-a line, four hexadecimal digits, for one frame each; no key is held down after the last line.
-The game ends when all have all of it, and the machine is printed that all agree on. A player
-who was killed starts again with the same journal.
-
-Two players, each in a terminal of their own:
-  ./c8play peer games/duel.game 1 one.journal 127.0.0.1:4001 127.0.0.1:4002 < games/duel.1.keys
-  ./c8play peer games/duel.game 2 two.journal 127.0.0.1:4002 127.0.0.1:4001 < games/duel.2.keys
-
-Refusals, each one line on standard error, as 'refused: game 5 Hex':
-  game 1 Line to 6 Memory: those of the command run
-  keys 1 Line         a line that is not four hexadecimal digits
-  keys 3 Memory       out of memory for the keys
-  open 1 WrongGame    the journal is of another game or room
-  open 2 WrongPlayer  the journal is of another player, or the game has no such player
-  open 3 BadRecord    the journal holds what no peer writes
-  open 4 EpochsSpent  the journal was opened too often
-  open 5 Memory       out of memory at the start
-  disk 1 Failed       a file that cannot be read or written, or a text above 16777216 bytes
-  disk 2 Full         the journal is at its greatest length, 1073741824 bytes
-  socket 1 Failed     the socket cannot be opened or used
-  socket 2 Remotes    not one REMOTE for each other player
-  socket 3 Address    an address that is not written as 127.0.0.1:4001
-
-Exit status: 0 done, 1 refused, 2 a mistake in the command line, 3 a disk or a socket failed";
-
-/// The end of the help of `show`.
-const SHOW_ENDING: &str = "Refusals, each one line on standard error, as 'refused: wire 5 Length':
-  hex 1 Bad        a word that is not pairs of hexadecimal digits
-  hex 2 Memory     out of memory
-  wire 1 Short     fewer than 24 bytes
-  wire 2 Magic     the first two bytes are not 43 38
-  wire 3 Version   another version of the format
-  wire 4 Kind      no kind that is known
-  wire 5 Length    a body longer or shorter than it should be
-  wire 6 Player    players 1 to 4 who differ are not named
-  wire 7 Reserved  a byte that must be 0 is not
-  wire 8 Count     more than 64 inputs, or not as many as there is room for
-  wire 9 Beyond    a number of inputs that is too great
-  open 5 Memory    out of memory at the start
-  disk 1 Failed    output that cannot be written
-
-Exit status: 0 done, 1 refused, 2 a mistake in the command line, 3 disk 1 Failed";
 
 /// Does what the program's arguments ask for, and answers how it ended. What is printed goes to
 /// `out`, why something is refused to `refused`.
@@ -199,6 +134,7 @@ fn command<'a>(alloc: Global) -> Result<Command<'a>, AllocError> {
         .arg_required_else_help(true)
         .subcommand(run_command(alloc)?)?
         .subcommand(peer_command(alloc)?)?
+        .subcommand(sim_command(alloc)?)?
         .subcommand(show_command(alloc)?)
 }
 
@@ -275,6 +211,20 @@ fn with_options<'a>(alloc: Global, command: Command<'a>) -> Result<Command<'a>, 
     command.arg(room)?.arg(turns)?.arg(patience)?.arg(progress)
 }
 
+fn sim_command<'a>(alloc: Global) -> Result<Command<'a>, AllocError> {
+    let game = Arg::new(alloc, "GAME")
+        .help("The path of the game's text")
+        .required(true);
+    let script = Arg::new(alloc, "SCRIPT")
+        .help("The path of the script: one event a line")
+        .required(true);
+    Command::new(alloc, "sim")
+        .about("Plays all players of a game here, by a script of what happens, and prints the answers")
+        .after_help(SIM_ENDING)
+        .arg(game)?
+        .arg(script)
+}
+
 fn show_command<'a>(alloc: Global) -> Result<Command<'a>, AllocError> {
     let word = Arg::new(alloc, "HEX")
         .help("The datagram's bytes, two hexadecimal digits each")
@@ -296,14 +246,8 @@ where
     R: Files<File = File> + Input + Net + Clock + AllocGlobal,
 {
     match matches.subcommand() {
-        Some(("run", given)) => {
-            let game = given.get_str("GAME").unwrap_or("");
-            let keys = given.get_str("KEYS").unwrap_or("");
-            match read_both(rt, game, keys) {
-                Ok((game, keys)) => run(rt.alloc(), &game, &keys, out, refused),
-                Err(refusal) => refusal.tell(refused),
-            }
-        }
+        Some(("run", given)) => run_given(rt, given, out, refused),
+        Some(("sim", given)) => sim_given(rt, given, out, refused),
         Some(("show", given)) => {
             let word = given.get_str("HEX").unwrap_or("");
             show(rt.alloc(), word, out, refused)
@@ -313,6 +257,42 @@ where
             None => Ok(Status::CommandLine),
         },
         _ => Ok(Status::CommandLine),
+    }
+}
+
+/// Plays the files that `run` is given.
+fn run_given<R, W: Write, E: Write>(
+    rt: &R,
+    given: &ArgMatches,
+    out: &mut W,
+    refused: &mut E,
+) -> io::Result<Status>
+where
+    R: Files + AllocGlobal,
+{
+    let game = given.get_str("GAME").unwrap_or("");
+    let keys = given.get_str("KEYS").unwrap_or("");
+    match read_both(rt, game, keys, Refusal::Keys(KeysError::Memory)) {
+        Ok((game, keys)) => run(rt.alloc(), &game, &keys, out, refused),
+        Err(refusal) => refusal.tell(refused),
+    }
+}
+
+/// Plays the files that `sim` is given.
+fn sim_given<R, W: Write, E: Write>(
+    rt: &R,
+    given: &ArgMatches,
+    out: &mut W,
+    refused: &mut E,
+) -> io::Result<Status>
+where
+    R: Files + AllocGlobal,
+{
+    let game = given.get_str("GAME").unwrap_or("");
+    let script = given.get_str("SCRIPT").unwrap_or("");
+    match read_both(rt, game, script, Refusal::Script(ScriptError::Memory)) {
+        Ok((game, script)) => sim(rt.alloc(), &game, &script, out, refused),
+        Err(refusal) => refusal.tell(refused),
     }
 }
 

@@ -1,8 +1,11 @@
-//! Why the program refuses what it meets itself: a file, key lines, a hexadecimal word, a socket.
+//! Why the program refuses what it meets itself: a file, key lines, a script, a hexadecimal word, a
+//! socket.
 
 ghost use Rattle.std.specs.Prelude.{◌≡◌};
-ghost use Rattle.c8play.specs.Errors.{keys_error_number, hex_error_number, socket_error_number};
+ghost use Rattle.c8play.specs.Errors.{keys_error_number, script_error_number, hex_error_number, socket_error_number};
+ghost use Rattle.c8play.specs.declared.error.ScriptError.TheVariants.{Memory};
 
+use std::alloc::AllocError;
 use thiserror::Error;
 
 /// Why a text of key lines is refused.
@@ -35,6 +38,43 @@ impl KeysError {
             KeysError::Long => "Long",
             KeysError::Memory => "Memory",
         }
+    }
+}
+
+/// Why a script is refused.
+#[derive(Clone, Copy, Debug, PartialEq, Eq, Error)]
+pub enum ScriptError {
+    #[error("a line that is no event")]
+    Line,
+    #[error("out of memory")]
+    Memory,
+}
+
+impl ScriptError {
+    /// The number of the refusal.
+    pub fn number(self) -> u8
+        ensures { result ≡ script_error_number self }
+    {
+        match self {
+            ScriptError::Line => 1,
+            ScriptError::Memory => 2,
+        }
+    }
+
+    /// The name of the refusal.
+    pub fn name(self) -> &'static str {
+        match self {
+            ScriptError::Line => "Line",
+            ScriptError::Memory => "Memory",
+        }
+    }
+}
+
+impl From<AllocError> for ScriptError {
+    ghost from_gives = { λ _ error. error ≡ Memory };
+
+    fn from(_: AllocError) -> ScriptError {
+        ScriptError::Memory
     }
 }
 

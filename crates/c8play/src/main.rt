@@ -11,7 +11,9 @@ mod peer;
 mod refusal;
 mod report;
 mod run;
+mod script;
 mod show;
+mod sim;
 mod status;
 #[cfg(test)]
 mod tests;

@@ -4,7 +4,7 @@ ghost use Rattle.std.specs.Prelude.{◌≡◌, IfOk};
 ghost use Rattle.c8play.specs.Errors.{refusal_number};
 ghost use Rattle.c8play.specs.Status.{status_of};
 
-use crate::error::{HexError, KeysError, SocketError};
+use crate::error::{HexError, KeysError, ScriptError, SocketError};
 use crate::status::Status;
 use c8_disk::DiskError;
 use c8_game::GameError;
@@ -20,6 +20,8 @@ pub enum Refusal {
     Game(GameError),
     /// A text of key lines.
     Keys(KeysError),
+    /// A script of events, and want of memory for what happens by it.
+    Script(ScriptError),
     /// A hexadecimal word.
     Hex(HexError),
     /// The bytes of a datagram.
@@ -47,6 +49,7 @@ impl Refusal {
             }
             Refusal::Game(_)
             | Refusal::Keys(_)
+            | Refusal::Script(_)
             | Refusal::Hex(_)
             | Refusal::Wire(_)
             | Refusal::Open(_) => Status::Refused,
@@ -58,6 +61,7 @@ impl Refusal {
         match self {
             Refusal::Game(_) => "game",
             Refusal::Keys(_) => "keys",
+            Refusal::Script(_) => "script",
             Refusal::Hex(_) => "hex",
             Refusal::Wire(_) => "wire",
             Refusal::Disk(_) | Refusal::Open(OpenError::Disk(_)) => "disk",
@@ -73,6 +77,7 @@ impl Refusal {
         match self {
             Refusal::Game(error) => error.number(),
             Refusal::Keys(error) => error.number(),
+            Refusal::Script(error) => error.number(),
             Refusal::Hex(error) => error.number(),
             Refusal::Wire(error) => error.number(),
             Refusal::Disk(error) | Refusal::Open(OpenError::Disk(error)) => error.number(),
@@ -86,6 +91,7 @@ impl Refusal {
         match self {
             Refusal::Game(error) => error.name(),
             Refusal::Keys(error) => error.name(),
+            Refusal::Script(error) => error.name(),
             Refusal::Hex(error) => error.name(),
             Refusal::Wire(error) => error.name(),
             Refusal::Disk(error) | Refusal::Open(OpenError::Disk(error)) => error.name(),

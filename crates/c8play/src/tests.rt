@@ -1,6 +1,6 @@
 //! What the tests of several commands share, and the table of refusals.
 
-use crate::error::{HexError, KeysError, SocketError, TextError};
+use crate::error::{HexError, KeysError, ScriptError, SocketError, TextError};
 use crate::refusal::Refusal;
 use crate::status::Status;
 use c8_disk::DiskError;
@@ -69,7 +69,7 @@ impl Write for FailsOnce {
 }
 
 /// Each refusal, its line and its exit status.
-fn refusals() -> [(Refusal, &'static str, u8); 32] {
+fn refusals() -> [(Refusal, &'static str, u8); 34] {
     [
         (Refusal::Game(GameError::Line), "game 1 Line", 1),
         (Refusal::Game(GameError::Range), "game 2 Range", 1),
@@ -80,6 +80,8 @@ fn refusals() -> [(Refusal, &'static str, u8); 32] {
         (Refusal::Keys(KeysError::Line), "keys 1 Line", 1),
         (Refusal::Keys(KeysError::Long), "keys 2 Long", 1),
         (Refusal::Keys(KeysError::Memory), "keys 3 Memory", 1),
+        (Refusal::Script(ScriptError::Line), "script 1 Line", 1),
+        (Refusal::Script(ScriptError::Memory), "script 2 Memory", 1),
         (Refusal::Hex(HexError::Bad), "hex 1 Bad", 1),
         (Refusal::Hex(HexError::Memory), "hex 2 Memory", 1),
         (Refusal::Wire(WireError::Short), "wire 1 Short", 1),
@@ -156,6 +158,14 @@ fn each_error_has_its_number_name_and_sentence(rt: HostRuntime) -> Result<(), Fa
         (KeysError::Memory, 3, "Memory", "out of memory"),
     ];
     for (error, number, name, sentence) in keys {
+        assert_eq!(rt; (error.number(), error.name()), (number, name));
+        assert_eq!(rt; error.to_string(rt.alloc())?.as_str(), sentence);
+    }
+    let script = [
+        (ScriptError::Line, 1, "Line", "a line that is no event"),
+        (ScriptError::Memory, 2, "Memory", "out of memory"),
+    ];
+    for (error, number, name, sentence) in script {
         assert_eq!(rt; (error.number(), error.name()), (number, name));
         assert_eq!(rt; error.to_string(rt.alloc())?.as_str(), sentence);
     }

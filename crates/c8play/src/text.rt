@@ -4,7 +4,7 @@ ghost use Rattle.std.specs.Prelude.{◌≡◌, ◌≤◌, Some, IfOk, IfErr, IfS
 ghost use Rattle.std.specs.Result.{result_err};
 ghost use Rattle.c8play.specs.Texts.{refusal_of_texts};
 
-use crate::error::{KeysError, TextError};
+use crate::error::TextError;
 use crate::refusal::Refusal;
 use c8_game::GameError;
 use std::alloc::Global;
@@ -15,30 +15,35 @@ use std::rt::Files;
 /// The most bytes that a text may have.
 pub const LONGEST: u64 = 16_777_216;
 
-/// The bytes of the two files of a run, the game's and the keys'. Both are read, whatever the first
-/// one says.
+/// The bytes of the two files of a command, a game's and another. Both are read, whatever the first
+/// one says. `memory` tells that memory ran out for the other.
 pub fn read_both<R: Files + AllocGlobal>(
     rt: &R,
     game: &str,
-    keys: &str,
+    other: &str,
+    memory: Refusal,
 ) -> Result<(Vec<u8>, Vec<u8>), Refusal> {
     let game = read_file(rt, game);
-    let keys = read_file(rt, keys);
-    both(game, keys)
+    let other = read_file(rt, other);
+    both(game, other, memory)
 }
 
-/// Both texts of a run, or why they are refused: a file that cannot be read comes before want of
-/// memory, and the game before the keys.
-fn both<T: Drop>(game: Result<T, TextError>, keys: Result<T, TextError>) -> Result<(T, T), Refusal>
-    ensures texts { IfOk result (λ texts. (game ≡ Ok texts.0) × (keys ≡ Ok texts.1)) }
-    ensures refused { IfErr result
-        (λ refusal. refusal_of_texts (result_err game) (result_err keys) ≡ Some refusal) }
+/// Both texts of a command, or why they are refused: a file that cannot be read comes before want
+/// of memory, and the game before the other text.
+fn both<T: Drop>(
+    game: Result<T, TextError>,
+    other: Result<T, TextError>,
+    memory: Refusal,
+) -> Result<(T, T), Refusal>
+    ensures texts { IfOk result (λ texts. (game ≡ Ok texts.0) × (other ≡ Ok texts.1)) }
+    ensures refused { IfErr result (λ refusal.
+        refusal_of_texts memory (result_err game) (result_err other) ≡ Some refusal) }
 {
-    match (game, keys) {
-        (Ok(game), Ok(keys)) => Ok((game, keys)),
+    match (game, other) {
+        (Ok(game), Ok(other)) => Ok((game, other)),
         (Err(TextError::Failed), _) | (_, Err(TextError::Failed)) => Err(Refusal::DISK),
         (Err(TextError::Memory), _) => Err(Refusal::Game(GameError::Memory)),
-        (_, Err(TextError::Memory)) => Err(Refusal::Keys(KeysError::Memory)),
+        (_, Err(TextError::Memory)) => Err(memory),
     }
 }
 

@@ -33,7 +33,8 @@ impl<'g, D: Disk> Peer<'g, D> {
     ///
     /// Each refusal gives the disk back. `WrongPlayer` is told first of all where the game has no
     /// such player. All memory is reserved then, before the disk is touched. What is wrong with the
-    /// journal is told before anything is added to it: it keeps what it had.
+    /// journal is told before anything is added to it: it keeps what it had, and no byte of the disk
+    /// changes but the gate after its last body, which is closed if it was open or missing.
     pub fn open(
         alloc: Global,
         disk: D,

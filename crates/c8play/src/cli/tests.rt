@@ -1,6 +1,9 @@
 //! The command line, from the program's arguments to its exit status. Files lie where the test
 //! runs.
 
+mod texts;
+
+use crate::cli::tests::texts::{HELP, PEER_HELP, RUN_HELP, SHOW_HELP, SIM_HELP};
 use crate::cli::{answer, asked_of, command};
 use crate::tests::{Outcome, Short, text_of};
 use std::alloc::{AllocError, Global};
@@ -14,127 +17,6 @@ const GAME: &str =
 const WORD: &str = "433801010102030405060708020100000000000200000000";
 
 const FIELDS: &str = "kind HELLO\nsession 0102030405060708\nfrom 2 to 1\nepochs 2 0\n";
-
-const HELP: &str = "Plays CHIP-8 programs, alone or with others, and shows what a datagram says
-
-Usage: c8play <COMMAND>
-
-Commands:
-  run   Plays a game alone, from a file of keys, and prints the machine
-  peer  Plays a game with others over UDP, and prints the machine that all agree on
-  show  Prints the fields of a datagram
-  help  Print this message or the help of the given subcommand(s)
-
-Options:
-  -h, --help     Print help
-  -V, --version  Print version
-
-Input that is refused is told by one line on standard error, as 'refused: game 5 Hex'.
-The help of each command lists its refusals.
-
-Exit status: 0 done, 1 refused, 2 a mistake in the command line, 3 a disk or a socket failed
-";
-
-const RUN_HELP: &str = "Plays a game alone, from a file of keys, and prints the machine
-
-Usage: c8play run <GAME> <KEYS>
-
-Arguments:
-  <GAME>  The path of the game's text
-  <KEYS>  The path of the key lines: one a frame, four hexadecimal digits a player
-
-Options:
-  -h, --help  Print help
-
-Refusals, each one line on standard error, as 'refused: game 5 Hex':
-  game 1 Line     a line that is no known name, one space and a value
-  game 2 Range    a number out of range, a program too long, a mask of nobody
-  game 3 Missing  a line that every game has is not there
-  game 4 Twice    a name for the second time
-  game 5 Hex      a mask or code that is not hexadecimal
-  game 6 Memory   out of memory for the game
-  keys 1 Line     a line that is not four digits a player, one space between
-  keys 2 Long     more lines than the game has frames
-  keys 3 Memory   out of memory for the keys
-  open 5 Memory   out of memory at the start
-  disk 1 Failed   a file that cannot be read or is above 16777216 bytes;
-                  output that cannot be written
-
-Exit status: 0 done, 1 refused, 2 a mistake in the command line, 3 disk 1 Failed
-";
-
-const PEER_HELP: &str = "Plays a game with others over UDP, and prints the machine that all agree on
-
-Usage: c8play peer [OPTIONS] <GAME> <PLAYER> <JOURNAL> <LOCAL> [REMOTE]...
-
-Arguments:
-  <GAME>       The path of the game's text, the same for all players
-  <PLAYER>     The own player's number, 1 to 4
-  <JOURNAL>    The path of the own journal, made where there is none
-  <LOCAL>      The own address, as 127.0.0.1:4001
-  [REMOTE]...  The other players' addresses, in order of their numbers
-
-Options:
-      --room <N>      The match, the same for all its players [default: 0]
-      --turns <N>     The most turns, of a millisecond and more each [default: 100000]
-      --patience <N>  The turns of silence after which player 1 drops a player [default: never]
-      --progress      Says once a second, on standard error, how far the game is
-  -h, --help          Print help
-
-What the own player holds down is read from standard input before the game starts: one key set
-a line, four hexadecimal digits, for one frame each; no key is held down after the last line.
-The game ends when all have all of it, and the machine is printed that all agree on. A player
-who was killed starts again with the same journal.
-
-Two players, each in a terminal of their own:
-  ./c8play peer games/duel.game 1 one.journal 127.0.0.1:4001 127.0.0.1:4002 < games/duel.1.keys
-  ./c8play peer games/duel.game 2 two.journal 127.0.0.1:4002 127.0.0.1:4001 < games/duel.2.keys
-
-Refusals, each one line on standard error, as 'refused: game 5 Hex':
-  game 1 Line to 6 Memory: those of the command run
-  keys 1 Line         a line that is not four hexadecimal digits
-  keys 3 Memory       out of memory for the keys
-  open 1 WrongGame    the journal is of another game or room
-  open 2 WrongPlayer  the journal is of another player, or the game has no such player
-  open 3 BadRecord    the journal holds what no peer writes
-  open 4 EpochsSpent  the journal was opened too often
-  open 5 Memory       out of memory at the start
-  disk 1 Failed       a file that cannot be read or written, or a text above 16777216 bytes
-  disk 2 Full         the journal is at its greatest length, 1073741824 bytes
-  socket 1 Failed     the socket cannot be opened or used
-  socket 2 Remotes    not one REMOTE for each other player
-  socket 3 Address    an address that is not written as 127.0.0.1:4001
-
-Exit status: 0 done, 1 refused, 2 a mistake in the command line, 3 a disk or a socket failed
-";
-
-const SHOW_HELP: &str = "Prints the fields of a datagram
-
-Usage: c8play show <HEX>
-
-Arguments:
-  <HEX>  The datagram's bytes, two hexadecimal digits each
-
-Options:
-  -h, --help  Print help
-
-Refusals, each one line on standard error, as 'refused: wire 5 Length':
-  hex 1 Bad        a word that is not pairs of hexadecimal digits
-  hex 2 Memory     out of memory
-  wire 1 Short     fewer than 24 bytes
-  wire 2 Magic     the first two bytes are not 43 38
-  wire 3 Version   another version of the format
-  wire 4 Kind      no kind that is known
-  wire 5 Length    a body longer or shorter than it should be
-  wire 6 Player    players 1 to 4 who differ are not named
-  wire 7 Reserved  a byte that must be 0 is not
-  wire 8 Count     more than 64 inputs, or not as many as there is room for
-  wire 9 Beyond    a number of inputs that is too great
-  open 5 Memory    out of memory at the start
-  disk 1 Failed    output that cannot be written
-
-Exit status: 0 done, 1 refused, 2 a mistake in the command line, 3 disk 1 Failed
-";
 
 const LOCAL: &str = "127.0.0.1:0";
 
@@ -190,12 +72,14 @@ fn does_what_it_is_asked(rt: HostRuntime) -> Result<(), Fail> {
 /// The whole help: each command's ends with what it may refuse, and the exit statuses.
 #[test]
 fn helps(rt: HostRuntime) -> Result<(), Fail> {
-    let rows: [(&[&str], &str); 7] = [
+    let rows: [(&[&str], &str); 9] = [
         (&["--help"], HELP),
         (&["run", "--help"], RUN_HELP),
         (&["help", "run"], RUN_HELP),
         (&["peer", "--help"], PEER_HELP),
         (&["help", "peer"], PEER_HELP),
+        (&["sim", "--help"], SIM_HELP),
+        (&["help", "sim"], SIM_HELP),
         (&["show", "--help"], SHOW_HELP),
         (&["help", "show"], SHOW_HELP),
     ];
@@ -211,12 +95,15 @@ fn helps(rt: HostRuntime) -> Result<(), Fail> {
 /// its own for the others.
 #[test]
 fn a_mistake_in_the_words_ends_with_2(rt: HostRuntime) -> Result<(), Fail> {
-    let rows: [&[&str]; 16] = [
+    let rows: [&[&str]; 19] = [
         &[],
         &["play"],
         &["run"],
         &["run", "a.game"],
         &["run", "a.game", "a.keys", "b.keys"],
+        &["sim"],
+        &["sim", "a.game"],
+        &["sim", "a.game", "a.script", "b.script"],
         &["show"],
         &["show", "4338", "0101"],
         &["show", "--all", "4338"],
@@ -325,6 +212,47 @@ fn runs_from_files(rt: HostRuntime) -> Result<(), Fail> {
         );
     }
     for path in [game, keys, faulty] {
+        fs::remove_file(&rt, path)?;
+    }
+    Ok(())
+}
+
+#[test]
+fn lets_happen_what_a_file_says(rt: HostRuntime) -> Result<(), Fail> {
+    let (game, script, faulty) = ("cli_sim.game", "cli_sim.script", "cli_sim.faulty");
+    fs::write(&rt, game, GAME)?;
+    fs::write(&rt, script, "# one tick\nopen 2\ntick 2 0020\n")?;
+    fs::write(&rt, faulty, "open 2\nopen 5\n")?;
+    let told = answered(&rt, &["sim", game, script])?;
+    assert_eq!(rt;
+        (
+            told.status.code(),
+            told.printed.as_str(),
+            told.refused.as_str()
+        ),
+        (0, "1 epoch 1\n2 now 1 confirmed 0\nplayer 1 now 0 confirmed 0 held 0 0\nplayer 2 now 1 confirmed 0 held 0 1\nagree yes\n", "")
+    );
+    let rows = [
+        ([game, faulty], 1, "refused: script 1 Line\n"),
+        ([faulty, script], 1, "refused: game 1 Line\n"),
+        ([faulty, faulty], 1, "refused: game 1 Line\n"),
+        ([game, "no_such.script"], 3, "refused: disk 1 Failed\n"),
+        (["no_such.game", script], 3, "refused: disk 1 Failed\n"),
+        ([faulty, "no_such.script"], 3, "refused: disk 1 Failed\n"),
+        ([game, "."], 3, "refused: disk 1 Failed\n"),
+    ];
+    for ([game, script], code, line) in rows {
+        let refused = answered(&rt, &["sim", game, script])?;
+        assert_eq!(rt;
+            (
+                refused.status.code(),
+                refused.printed.as_str(),
+                refused.refused.as_str()
+            ),
+            (code, "", line)
+        );
+    }
+    for path in [game, script, faulty] {
         fs::remove_file(&rt, path)?;
     }
     Ok(())

@@ -294,3 +294,5 @@ fn is_admitted(answer: Result<Heard, Refused>) -> bool {
 
 #[cfg(test)]
 mod tests;
+#[cfg(test)]
+mod turns_tests;

@@ -17,6 +17,10 @@ pub const LONGEST_PACKET: usize = 175;
 /// What the system answers where it has no room for a datagram (ENOBUFS).
 const NO_ROOM: i32 = 105;
 
+/// How often a packet is asked for where the system answers that nobody heard a datagram. A turn
+/// sends fewer datagrams, so that these answers never pile up before the packets.
+const MOST_UNHEARD: u8 = 16;
+
 /// The way to the other players. A datagram may be lost on it, come twice or late, and no call
 /// waits for anything.
 pub trait Wire {
@@ -56,7 +60,7 @@ impl Wire for Udp {
         };
         match self.socket.send_to(datagram, address) {
             Ok(_) => Ok(()),
-            Err(error) if is_loss(&error) => Ok(()),
+            Err(error) if was_unheard(&error) || would_wait(&error) => Ok(()),
             Err(_) => Err(SocketError::Failed),
         }
     }
@@ -64,21 +68,28 @@ impl Wire for Udp {
     fn receive(&mut self, packet: &mut [u8; LONGEST_PACKET]) -> Result<Option<usize>, SocketError>
         ensures within { IfOk result (λ next. IfSome next (λ size. size ≤ LONGEST_PACKET)) }
     {
-        match self.socket.recv_from(packet) {
-            Ok((size, _)) => Ok(Some(size)),
-            Err(error) if is_loss(&error) => Ok(None),
-            Err(_) => Err(SocketError::Failed),
+        for _ in 0..MOST_UNHEARD {
+            match self.socket.recv_from(packet) {
+                Ok((size, _)) => return Ok(Some(size)),
+                // a datagram that is lost says nothing of the packets that wait
+                Err(error) if was_unheard(&error) => {}
+                Err(error) if would_wait(&error) => return Ok(None),
+                Err(_) => return Err(SocketError::Failed),
+            }
         }
+        Ok(None)
     }
 }
 
-/// Whether an error of the socket is a datagram that is lost, or none that has come: there is no
-/// room now, or nobody listens at the other end yet.
-fn is_loss(error: &io::Error) -> bool {
-    let kind = error.kind();
-    kind == ErrorKind::WouldBlock
-        || kind == ErrorKind::ConnectionRefused
-        || error.raw_os_error() == Some(NO_ROOM)
+/// Whether an error of the socket tells that a datagram is lost, since nobody listens at the other
+/// end yet. The system may tell it by a later call of any kind.
+fn was_unheard(error: &io::Error) -> bool {
+    error.kind() == ErrorKind::ConnectionRefused
+}
+
+/// Whether a call would have to wait: no packet has come, or there is no room for one.
+fn would_wait(error: &io::Error) -> bool {
+    error.kind() == ErrorKind::WouldBlock || error.raw_os_error() == Some(NO_ROOM)
 }
 
 #[cfg(test)]

@@ -1,4 +1,4 @@
-use crate::error::{KeysError, TextError};
+use crate::error::{KeysError, ScriptError, TextError};
 use crate::refusal::Refusal;
 use crate::text::{both, text_of};
 use c8_game::GameError;
@@ -37,27 +37,32 @@ fn a_text_has_16777216_bytes_at_most(rt: HostRuntime) -> Result<(), Fail> {
 
 #[test]
 fn a_file_that_fails_comes_before_want_of_memory(rt: HostRuntime) {
-    let game = Refusal::Game(GameError::Memory);
-    let keys = Refusal::Keys(KeysError::Memory);
-    let rows = [
-        (Ok(1), Ok(2), Ok((1, 2))),
-        (Ok(1), Err(TextError::Failed), Err(Refusal::DISK)),
-        (Ok(1), Err(TextError::Memory), Err(keys)),
-        (Err(TextError::Failed), Ok(2), Err(Refusal::DISK)),
-        (Err(TextError::Memory), Ok(2), Err(game)),
-        (
-            Err(TextError::Memory),
-            Err(TextError::Failed),
-            Err(Refusal::DISK),
-        ),
-        (
-            Err(TextError::Failed),
-            Err(TextError::Memory),
-            Err(Refusal::DISK),
-        ),
-        (Err(TextError::Memory), Err(TextError::Memory), Err(game)),
+    let memories = [
+        Refusal::Keys(KeysError::Memory),
+        Refusal::Script(ScriptError::Memory),
     ];
-    for (game, keys, wanted) in rows {
-        assert_eq!(rt; both(game, keys), wanted);
+    let game = Refusal::Game(GameError::Memory);
+    for memory in memories {
+        let rows = [
+            (Ok(1), Ok(2), Ok((1, 2))),
+            (Ok(1), Err(TextError::Failed), Err(Refusal::DISK)),
+            (Ok(1), Err(TextError::Memory), Err(memory)),
+            (Err(TextError::Failed), Ok(2), Err(Refusal::DISK)),
+            (Err(TextError::Memory), Ok(2), Err(game)),
+            (
+                Err(TextError::Memory),
+                Err(TextError::Failed),
+                Err(Refusal::DISK),
+            ),
+            (
+                Err(TextError::Failed),
+                Err(TextError::Memory),
+                Err(Refusal::DISK),
+            ),
+            (Err(TextError::Memory), Err(TextError::Memory), Err(game)),
+        ];
+        for (game, other, wanted) in rows {
+            assert_eq!(rt; both(game, other, memory), wanted);
+        }
     }
 }

@@ -22,6 +22,7 @@ of_word word bytes (refusals.Wire error) decoded refused = (bytes, decoded, refu
 of_word word bytes (refusals.Hex error) decoded refused = absurd refused
 of_word word bytes (refusals.Game error) decoded refused = absurd refused
 of_word word bytes (refusals.Keys error) decoded refused = absurd refused
+of_word word bytes (refusals.Script error) decoded refused = absurd refused
 of_word word bytes (refusals.Open error) decoded refused = absurd refused
 of_word word bytes (refusals.Disk error) decoded refused = absurd refused
 of_word word bytes (refusals.Socket error) decoded refused = absurd refused

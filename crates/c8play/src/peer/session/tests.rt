@@ -37,9 +37,25 @@ const PATIENCE: u64 = 60;
 
 /// A packet on its way.
 #[derive(Clone, Copy)]
-struct Letter {
-    size: usize,
-    bytes: [u8; LONGEST_PACKET],
+pub(super) struct Letter {
+    pub(super) size: usize,
+    pub(super) bytes: [u8; LONGEST_PACKET],
+}
+
+impl Letter {
+    /// Its bytes.
+    pub(super) fn packet(&self) -> &[u8] {
+        &self.bytes[..self.size.min(LONGEST_PACKET)]
+    }
+
+    /// The same with one bit of a byte changed.
+    pub(super) fn changed(&self, place: usize) -> Letter {
+        let mut changed = *self;
+        if let Some(byte) = changed.bytes.get_mut(place) {
+            *byte ^= 1;
+        }
+        changed
+    }
 }
 
 /// What has been said to each player and has not come yet, player 1's first. Of the packets from
@@ -97,7 +113,7 @@ impl Mail {
     }
 }
 
-fn letter_of(datagram: &[u8]) -> Letter {
+pub(super) fn letter_of(datagram: &[u8]) -> Letter {
     let size = datagram.len().min(LONGEST_PACKET);
     let mut bytes = [0; LONGEST_PACKET];
     bytes[..size].copy_from_slice(&datagram[..size]);
@@ -141,7 +157,7 @@ impl Wire for Broken {
     }
 }
 
-fn game_text(alloc: Global, players: u8) -> Result<String, AllocError> {
+pub(super) fn game_text(alloc: Global, players: u8) -> Result<String, AllocError> {
     let mut text = format!(in alloc; "players {players}\n{RULES}")?;
     for number in 1..players.min(4) + 1 {
         text.push_str(format!(in alloc; "mask{number} ffff\n")?.as_str())?;

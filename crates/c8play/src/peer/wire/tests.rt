@@ -51,6 +51,25 @@ fn a_player_who_is_not_there_is_a_loss(rt: HostRuntime) -> Result<(), Fail> {
     Ok(())
 }
 
+/// Where a socket is connected, the system tells by its next call that nobody heard a datagram: a
+/// packet that waits is received all the same, and the next datagram is sent.
+#[test]
+fn a_packet_comes_behind_a_loss(rt: HostRuntime) -> Result<(), Fail> {
+    let gone = UdpSocket::bind(&rt, SocketAddr::from((Ipv4Addr::LOCALHOST, 0)))?;
+    let mut wire = wire_to(&rt, gone.local_addr()?)?;
+    wire.socket.connect(gone.local_addr()?)?;
+    gone.send_to(b"packet", wire.socket.local_addr()?)?;
+    drop(gone);
+    let mut packet = [0; LONGEST_PACKET];
+    wire.send(Player { number: 2 }, b"datagram")?;
+    assert_eq!(rt; wire.receive(&mut packet), Ok(Some(6)));
+    for _ in 0..2 {
+        wire.send(Player { number: 2 }, b"datagram")?;
+    }
+    assert_eq!(rt; wire.receive(&mut packet), Ok(None));
+    Ok(())
+}
+
 #[test]
 fn an_address_that_is_taken_or_of_no_use_is_a_fault(rt: HostRuntime) -> Result<(), Fail> {
     let other = UdpSocket::bind(&rt, SocketAddr::from((Ipv4Addr::LOCALHOST, 0)))?;

@@ -1,13 +1,13 @@
 use Rattle.std.proofs.Common.{ap, ◌∙◌, ◌++◌, ◌∷◌, [], List, length, ◌==◌, ℕ, arith}
 use Rattle.c8_log.specs.Journal.{JournalValue}
 use Rattle.c8_record.specs.Body.{records_of}
-use Rattle.c8_peer.specs.Opened.{found}
+use Rattle.c8_peer.specs.Opened.{bodies_found}
 use Rattle.c8_peer.proofs.OpenLemmas.{next_epoch}
 use Rattle.c8_peer.proofs.peer.open.begin_epoch.Goals as goal
 
 pub returns-in-Ok-clause-begun : goal.returns-in-Ok-clause-begun
 returns-in-Ok-clause-begun g c =
-    let bodies = found g.D.Disk c.args.log.disk in
+    let bodies = bodies_found g.D.Disk c.args.log.disk in
     let is = c.in-Ok.ensures.ok in
     let over = c.over-journal.ensures in
     let empty = c.is_empty.ensures ∙ ap (λ (j : JournalValue g.row.D.Denot). length j.bodies == 0) over in

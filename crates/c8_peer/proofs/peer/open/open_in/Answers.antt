@@ -12,7 +12,7 @@ returns-in_err-journal-clause-refused g c =
     let error = err_from_is_err_and c.from_residual-in_err-journal.result c.from_residual-in_err-journal.ensures.1 in
     let left = c.in_err-journal.field-0.0 in
     rw (error.1, error.2)
-    (refused_beginning g.D.Disk c.args.disk c.in_ok-log.log.disk c.args.game.now c.args.room c.args.known.me c.in_ok-log.ensures.read.same left.1 left.0 c.in_ok-log.ensures.same
+    (refused_beginning g.D.Disk c.args.disk c.in_ok-log.log.disk c.args.game.now c.args.room c.args.known.me c.in_ok-log.ensures.read.same left.1 left.0 c.in_ok-log.ensures.read.bodies c.in_ok-log.ensures.read.settled c.in_ok-log.ensures.same
     (subst (λ (me : ℕ). IsNotBegun g.D.Disk c.in_ok-log.log.disk c.args.game.now c.args.room me left.0 left.1) c.me-me.ensures.value c.in_err-journal.ensures.refused))
 
 pub returns-in_err-journal-clause-any_moment : goal.returns-in_err-journal-clause-any_moment

@@ -5,4 +5,4 @@ pub returns-in-Err-clause-refused : goal.returns-in-Err-clause-refused
 returns-in-Err-clause-refused g c =
     rw (c.from.ensures, c.close.ensures)
     (refused_reading g.D.Disk g.met.D.Disk.reads_now c.args.disk c.in-Ok.log.disk c.replay.new.log.disk c.args.game.now c.args.room c.args.known.now.me c.replay.new.known
-    c.in-Ok.ensures.kept (c.in-Ok.ensures.at_rest).durable c.in-Ok.ensures.same c.replay.ensures.reads c.in-Err.error c.in-Err.ensures.failed c.in-Err.ensures.replayed)
+    c.in-Ok.ensures.kept c.in-Ok.ensures.repaired (c.in-Ok.ensures.at_rest).durable c.in-Ok.ensures.same c.replay.ensures.reads c.in-Err.error c.in-Err.ensures.failed c.in-Err.ensures.replayed)

@@ -1,0 +1,8 @@
+use Rattle.c8_peer.proofs.RefusalLemmas.{refused_stays, desync_alarms}
+use Rattle.c8_peer.proofs.laws.refusals_change_nothing.Goals as goal
+
+pub returns-clause-plain : goal.returns-clause-plain
+returns-clause-plain c = refused_stays
+
+pub returns-clause-desync : goal.returns-clause-desync
+returns-clause-desync c = desync_alarms

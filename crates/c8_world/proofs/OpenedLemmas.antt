@@ -1,0 +1,237 @@
+-- What an opening makes of a table.
+use Rattle.std.proofs.Common.{◌≡◌, ◌≢◌, inl, inr, ℕ, ◌+◌, ◌-◌, ◌<◌, ◌≤◌, List, [], length, map, Bool, false, cond, Option, Some, None, Result, Ok, Err, refl, sym, ap, subst, ◌∙◌, slice_set, slice_index_or}
+use Rattle.std.specs.Prelude.{IfOk, IfErr}
+use Rattle.std.proofs.lemmas.List.{append-nil, set-get_or}
+use Rattle.c8_game.specs.Rules.{Rules}
+use Rattle.c8_wire.specs.Packet.{Packet}
+use Rattle.c8_wire.specs.Spelling.{spelling}
+use Rattle.c8_known.specs.Journal.{Record}
+use Rattle.c8_record.specs.Allowed.{IsJournal}
+use Rattle.c8_disk.specs.declared.error.DiskError.TheVariants.{Failed}
+use Rattle.c8_record.specs.declared.error.ReplayError.TheVariants as replays
+use Rattle.c8_peer.specs.declared.error.OpenError.{OpenError}
+use Rattle.c8_peer.specs.declared.error.OpenError.TheVariants as opens
+use Rattle.c8_peer.specs.State as states
+use Rattle.c8_peer.specs.State.{Mode, Down, Away, State, Reply, Opened}
+use Rattle.c8_peer.specs.Steps.{Works, Stepped}
+use Rattle.c8_peer.specs.Opening.{Opening, NoPlayer, Stands, NotWritten, NoMemory, NotRead, Unfit, Spent, found, opened, away, MayBecome}
+use Rattle.c8_world.specs.declared.answer.Answer as codes
+use Rattle.c8_world.specs.declared.answer.Answer.TheVariants as answers
+use Rattle.c8_world.specs.declared.seat.Seat.{Seat}
+use Rattle.c8_world.specs.World.{World, never_opened, peer_of, with_peer, Open, Do, Happening, Told, IsUp, After, said_by, stepped, open_at_mode, acted, CanHappen}
+use Rattle.c8_world.specs.Agreement.{IsPlayer}
+use Rattle.c8_world.specs.Seats.{IsSeat, IsOpening, IsOpenedSeat}
+use Rattle.c8_world.specs.Table.{TableValue, IsTaken, IsOpenedAs, IsUnopened, Holds, HasHappened, HasNotHappened}
+use Rattle.c8_world.proofs.Openings.{plays_so}
+use Rattle.c8_world.proofs.TableLemmas.{CanDo, set_reseated, seated, placed, placed_holds, placed_happens, same_happens, taken_at, no_player, with_seat, reached_more}
+
+abbrev with_opening : Bool → Opening → Happening
+with_opening finds opening = record { finds = finds; opening = opening; luck = Works; leaves = false }
+
+unread_is_memory : NotRead Failed ≢ NoMemory
+unread_is_memory e = cc e
+
+-- ---- who is not in the game
+
+pub stranger_happens : (t self : TableValue) (p : ℕ) → t ≡ self → t.rules.players < p → (w : World) → Holds self w → HasHappened self w (Do (Open p)) (answers.Opened (Err opens.WrongPlayer)) self
+unfolding acted
+stranger_happens t self p view absent =
+    subst (λ (u : TableValue). (w : World) → Holds u w → HasHappened u w (Do (Open p)) (answers.Opened (Err opens.WrongPlayer)) u) view
+    (λ w holds.
+    let none = no_player t.rules p absent in
+    let can : CanDo t.rules t.room w (Do (Open p)) (Told (Opened (Err opens.WrongPlayer))) w = (
+      record {
+        happening = with_opening false (NotRead Failed);
+        may = λ is. absurd (cc (none, is));
+        is = ap (λ (b : Bool). cond b (open_at_mode t.rules t.room w p (with_opening false (NotRead Failed)) (peer_of w p).mode) (record { answer = Told (Opened (Err opens.WrongPlayer)); world = w })) none;
+      },
+      unread_is_memory,
+    ) in
+    same_happens t w (Open p) (Told (Opened (Err opens.WrongPlayer))) (answers.Opened (Err opens.WrongPlayer)) holds can refl)
+
+result_of : {x y : Result ℕ OpenError} → Opened x ≡ Opened y → x ≡ y
+result_of e = cc e
+
+-- ---- who is
+
+open_here : (rules : Rules) (room : ℕ) (w : World) (p : ℕ) (h : Happening) (mode : Mode) → mode ≡ states.Open → open_at_mode rules room w p h mode ≡ record { answer = IsUp; world = w }
+open_here rules room w p h mode is = rw is refl
+
+open_there : (rules : Rules) (room : ℕ) (w : World) (p : ℕ) (h : Happening) (mode : Mode) → mode ≢ states.Open
+    → open_at_mode rules room w p h mode ≡ stepped w p (opened rules room p (peer_of w p) (found (peer_of w p) h.finds) h.opening)
+open_there rules room w p h states.Open is = absurd (is refl)
+open_there rules room w p h Down is = refl
+open_there rules room w p h Away is = refl
+
+up_can : (rules : Rules) (room : ℕ) (w : World) (p : ℕ) → IsPlayer rules p → (peer_of w p).mode ≡ states.Open → CanDo rules room w (Do (Open p)) IsUp w
+unfolding acted
+up_can rules room w p plays up = (
+  record {
+    happening = with_opening false (NotRead Failed);
+    may = λ is. plays.in_game;
+    is = ap (λ (b : Bool). cond b (open_at_mode rules room w p (with_opening false (NotRead Failed)) (peer_of w p).mode) (record { answer = Told (Opened (Err opens.WrongPlayer)); world = w })) (plays_so rules p plays)
+        ∙ open_here rules room w p (with_opening false (NotRead Failed)) (peer_of w p).mode up;
+  },
+  unread_is_memory,
+)
+
+-- the world after a reply of an opening, which says nothing
+abbrev said_placed : World → ℕ → State → Reply → After
+said_placed w p s reply = record { answer = Told reply; world = placed w p s (said_by reply) }
+
+opened_can : (rules : Rules) (room : ℕ) (w : World) (p : ℕ) (finds : Bool) (opening : Opening) (result : Result ℕ OpenError) → IsPlayer rules p → (peer_of w p).mode ≢ states.Open
+    → MayBecome rules room p (found (peer_of w p) finds) opening → (opened rules room p (peer_of w p) (found (peer_of w p) finds) opening).reply ≡ Opened result
+    → (can : CanHappen rules room w (Do (Open p)) (Told (Opened result)) (placed w p (opened rules room p (peer_of w p) (found (peer_of w p) finds) opening).state [])) × (can.happening.opening ≡ opening)
+unfolding acted
+opened_can rules room w p finds opening result plays shut may replies =
+    let t : Stepped = opened rules room p (peer_of w p) (found (peer_of w p) finds) opening in
+    let h : Happening = with_opening finds opening in (
+      record {
+        happening = h;
+        may = λ is. may;
+        is = ap (λ (b : Bool). cond b (open_at_mode rules room w p h (peer_of w p).mode) (record { answer = Told (Opened (Err opens.WrongPlayer)); world = w })) (plays_so rules p plays)
+            ∙ open_there rules room w p h (peer_of w p).mode shut
+            ∙ ap (λ (r : Reply). said_placed w p t.state r) replies;
+      },
+      refl,
+    )
+
+same_open : (p q : ℕ) → Open p ≡ Open q → p ≡ q
+same_open p q e = cc e
+
+module _ (t : TableValue) (place p : ℕ) (seat : Seat) (at : place + 1 ≡ p) (within : place < length t.seats) (plays : IsPlayer t.rules p) (w : World) (holds : Holds t w) where
+  up_happens : IsOpenedSeat t.rules t.room p (peer_of w p) None seat → HasHappened t w (Do (Open p)) answers.Up (with_seat t place seat)
+  up_happens up = record {
+    told = IsUp;
+    world = w;
+    can = (up_can t.rules t.room w p plays up.0).0;
+    had_memory = (up_can t.rules t.room w p plays up.0).1;
+    reports = refl;
+    holds = record {
+      reached = holds.reached;
+      count = holds.count;
+      peers = seated t.rules t.room p t.seats (slice_set t.seats place (Some seat)) seat w w (set_reseated t.seats place p seat at within) holds.peers up.1 (λ q q_plays apart. refl);
+      said = holds.said;
+    };
+  }
+
+  -- an opening that was not refused for want of memory had it
+  had_memory : (s : State) (journal : List Record) (opening : Opening) (result : Result ℕ OpenError) → (opened t.rules t.room p s journal opening).reply ≡ Opened result → result ≢ Err opens.Memory → opening ≢ NoMemory
+  had_memory s journal opening result replies other e = other (result_of (sym replies ∙ ap (λ (o : Opening). (opened t.rules t.room p s journal o).reply) e))
+
+  opening_happens : (result : Result ℕ OpenError) → IsOpening t.rules t.room p (peer_of w p) result seat → result ≢ Err opens.Memory → HasHappened t w (Do (Open p)) (answers.Opened result) (with_seat t place seat)
+  opening_happens result is other =
+      let can = opened_can t.rules t.room w p is.finds is.opening result plays is.not_open is.may is.replies in
+      placed_happens t (with_seat t place seat) w p (opened t.rules t.room p (peer_of w p) (found (peer_of w p) is.finds) is.opening).state [] seat (Open p) (Told (Opened result)) (answers.Opened result)
+      refl refl plays refl holds (can.0, λ e. had_memory (peer_of w p) (found (peer_of w p) is.finds) is.opening result is.replies other (sym can.1 ∙ e))
+      (set_reseated t.seats place p seat at within) is.seat_is
+      (holds.said ∙ ap (λ (xs : List Packet). map spelling xs) (sym (append-nil w.said)))
+      (λ v here said. refl)
+
+  -- want of memory is told by one opening alone, which leaves what there was
+  unread_state : (s : State) (journal : List Record) (opening : Opening) → (opened t.rules t.room p s journal opening).reply ≡ Opened (Err opens.Memory)
+      → (opened t.rules t.room p s journal opening).state ≡ away s s.journal s.pending
+  unread_state s journal NoPlayer is = refl
+  unread_state s journal Stands is = absurd (cc is)
+  unread_state s journal (NotWritten why) is = absurd (cc is)
+  unread_state s journal NoMemory is = refl
+  unread_state s journal (NotRead why) is = refl
+  unread_state s journal (Unfit replays.WrongGame) is = absurd (cc is)
+  unread_state s journal (Unfit replays.WrongPlayer) is = absurd (cc is)
+  unread_state s journal (Unfit (replays.BadRecord n)) is = absurd (cc is)
+  unread_state s journal (Unfit (replays.Disk why)) is = absurd (cc is)
+  unread_state s journal Spent is = absurd (cc is)
+
+  -- a peer that was away is as it was, and one that was down is away
+  away_still : (s : State) → s.mode ≡ Away → away s s.journal s.pending ≡ s
+  away_still s is = ap (λ (mode : Mode). record s { mode = mode }) (sym is)
+
+  unopened_at : (mode : Mode) → (peer_of w p).mode ≡ mode → IsOpening t.rules t.room p (peer_of w p) (Err opens.Memory) seat → HasNotHappened t w (Open p) (with_seat t place seat)
+  unopened_at states.Open up is = absurd (is.not_open up)
+  unopened_at Away gone is =
+      let s : State = peer_of w p in
+      let t_is : Stepped = opened t.rules t.room p s (found s is.finds) is.opening in
+      let same : t_is.state ≡ s = unread_state s (found s is.finds) is.opening is.replies ∙ away_still s gone in
+      let still : placed w p t_is.state [] ≡ w =
+      ap (λ (xs : List Packet). record { peers = slice_set w.peers (p - 1) t_is.state; said = xs }) (append-nil w.said)
+      ∙ ap (λ (x : State). with_peer w p x) same ∙ ap (λ (xs : List State). record w { peers = xs }) (set-get_or w.peers (p - 1) never_opened) in
+      record {
+        world = w;
+        takes = tt;
+        left = inl refl;
+        opens = λ q e. rw (sym (same_open p q e)) (subst (λ (v : World). CanHappen t.rules t.room w (Do (Open p)) (Told (Opened (Err opens.Memory))) v) still
+            (opened_can t.rules t.room w p is.finds is.opening (Err opens.Memory) plays is.not_open is.may is.replies).0);
+        holds = record {
+          reached = holds.reached;
+          count = holds.count;
+          peers = seated t.rules t.room p t.seats (slice_set t.seats place (Some seat)) seat w w (set_reseated t.seats place p seat at within) holds.peers
+              (subst (λ (x : State). IsSeat t.rules t.room p seat x) same is.seat_is) (λ q q_plays apart. refl);
+          said = holds.said;
+        };
+      }
+  unopened_at Down down is =
+      let s : State = peer_of w p in
+      let t_is : Stepped = opened t.rules t.room p s (found s is.finds) is.opening in
+      let same = unread_state s (found s is.finds) is.opening is.replies in
+      let can = (opened_can t.rules t.room w p is.finds is.opening (Err opens.Memory) plays is.not_open is.may is.replies).0 in
+      let reached = reached_more t.rules t.room w (placed w p t_is.state []) (Do (Open p)) (Told (Opened (Err opens.Memory))) holds.reached can in
+      let now = placed_holds t (with_seat t place seat) w p t_is.state [] seat refl refl plays holds reached (set_reseated t.seats place p seat at within) is.seat_is
+      (holds.said ∙ ap (λ (xs : List Packet). map spelling xs) (sym (append-nil w.said))) in
+      let quiet : placed w p t_is.state [] ≡ with_peer w p (away s s.journal s.pending) =
+      ap (λ (xs : List Packet). record { peers = slice_set w.peers (p - 1) t_is.state; said = xs }) (append-nil w.said) ∙ ap (λ (x : State). with_peer w p x) same in
+      record {
+        world = with_peer w p (away s s.journal s.pending);
+        takes = tt;
+        left = inr (p, refl, down, refl);
+        opens = λ q e. rw (sym (same_open p q e)) (subst (λ (v : World). CanHappen t.rules t.room w (Do (Open p)) (Told (Opened (Err opens.Memory))) v) quiet can);
+        holds = subst (λ (v : World). Holds (with_seat t place seat) v) quiet now;
+      }
+
+-- ---- the call
+
+if_ok : {A E : Type 0} (P Q : A → Type 0) (r : Result A E) → ((a : A) → P a → Q a) → IfOk r P → IfOk r Q
+if_ok P Q (Ok a) each is = each a is
+if_ok P Q (Err e) each is = tt
+
+if_err : {A E : Type 0} (P Q : E → Type 0) (r : Result A E) → ((e : E) → P e → Q e) → IfErr r P → IfErr r Q
+if_err P Q (Ok a) each is = tt
+if_err P Q (Err e) each is = each e is
+
+abbrev pub with_taken : TableValue → ℕ → Option Seat → TableValue
+with_taken t place x = record t { seats = slice_set t.seats place x }
+
+opened_by : (t : TableValue) (place p : ℕ) (at : place + 1 ≡ p) (within : place < length t.seats) (plays : IsPlayer t.rules p) (w : World) (holds : Holds t w)
+    (answer : codes.Answer) (x : Option Seat) → IsOpenedAs t.rules t.room p (peer_of w p) answer x → HasHappened t w (Do (Open p)) answer (with_taken t place x)
+opened_by t place p at within plays w holds answer None is = absurd is
+opened_by t place p at within plays w holds answers.Up (Some seat) is = up_happens t place p seat at within plays w holds is
+opened_by t place p at within plays w holds (answers.Opened result) (Some seat) is = opening_happens t place p seat at within plays w holds result is.0 is.1
+opened_by t place p at within plays w holds (answers.Ticked result) (Some seat) is = absurd is
+opened_by t place p at within plays w holds (answers.Said result) (Some seat) is = absurd is
+opened_by t place p at within plays w holds (answers.Delivered result) (Some seat) is = absurd is
+opened_by t place p at within plays w holds answers.NoSuch (Some seat) is = absurd is
+opened_by t place p at within plays w holds (answers.Left result) (Some seat) is = absurd is
+opened_by t place p at within plays w holds (answers.Decided result) (Some seat) is = absurd is
+opened_by t place p at within plays w holds answers.Down (Some seat) is = absurd is
+opened_by t place p at within plays w holds answers.Stopped (Some seat) is = absurd is
+
+unopened_by : (t : TableValue) (place p : ℕ) (at : place + 1 ≡ p) (within : place < length t.seats) (plays : IsPlayer t.rules p) (w : World) (holds : Holds t w)
+    (x : Option Seat) → IsUnopened t.rules t.room p (peer_of w p) x → HasNotHappened t w (Open p) (with_taken t place x)
+unopened_by t place p at within plays w holds None is = absurd is
+unopened_by t place p at within plays w holds (Some seat) is = unopened_at t place p seat at within plays w holds (peer_of w p).mode refl is
+
+module _ {E : Type 0} (t self : TableValue) (place p : ℕ) (x y : Option Seat) (result : Result codes.Answer E) (view : t ≡ self) (at : place + 1 ≡ p) (within : place < length t.seats)
+    (plays : IsPlayer t.rules p) (here : x ≡ slice_index_or t.seats place x)
+    (journals : (w : World) → Holds t w → (finds : Bool) → IsJournal t.rules p t.room (found (peer_of w p) finds)) where
+  pub opened_happens :
+      IfOk result (λ answer. (s : State) → p ≤ t.rules.players → IsTaken t.rules t.room p x s → ((finds : Bool) → IsJournal t.rules p t.room (found s finds)) → IsOpenedAs t.rules t.room p s answer y)
+      → IfOk result (λ answer. (w : World) → Holds self w → HasHappened self w (Do (Open p)) answer (with_taken t place y))
+  opened_happens =
+      if_ok _ _ result (λ answer asked. subst (λ (u : TableValue). (w : World) → Holds u w → HasHappened u w (Do (Open p)) answer (with_taken t place y)) view
+      (λ w holds. opened_by t place p at within plays w holds answer y (asked (peer_of w p) plays.in_game (taken_at t place p w at within plays x here holds) (journals w holds))))
+
+  pub unopened_happens :
+      IfErr result (λ e. (s : State) → p ≤ t.rules.players → IsTaken t.rules t.room p x s → ((finds : Bool) → IsJournal t.rules p t.room (found s finds)) → IsUnopened t.rules t.room p s y)
+      → IfErr result (λ e. (w : World) → Holds self w → HasNotHappened self w (Open p) (with_taken t place y))
+  unopened_happens =
+      if_err _ _ result (λ e asked. subst (λ (u : TableValue). (w : World) → Holds u w → HasNotHappened u w (Open p) (with_taken t place y)) view
+      (λ w holds. unopened_by t place p at within plays w holds y (asked (peer_of w p) plays.in_game (taken_at t place p w at within plays x here holds) (journals w holds))))

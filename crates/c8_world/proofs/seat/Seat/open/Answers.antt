@@ -1,0 +1,58 @@
+use Rattle.std.proofs.Common.{◌≡◌, ◌≢◌, ℕ, List, Ok, sym, ap, subst, ◌∙◌}
+use Rattle.std.proofs.lemmas.Bool.{both_ways}
+use Rattle.c8_disk.specs.Memory.{bytes_of}
+use Rattle.c8_log.specs.Slots.{kept}
+use Rattle.c8_known.specs.Journal.{Record, epoch}
+use Rattle.c8_record.specs.Body.{records_of}
+use Rattle.c8_peer.specs.State.{Open, Opened}
+use Rattle.c8_peer.specs.Steps.{Stepped}
+use Rattle.c8_peer.specs.Opening.{Stands, found, opened}
+use Rattle.c8_peer.specs.Peer.{told}
+use Rattle.c8_peer.specs.Runs.{After}
+use Rattle.c8_world.proofs.SeatLemmas.{found_now, reply_in, refused_away}
+use Rattle.c8_world.proofs.seat.Seat.open.Goals as goal
+
+-- src/seat.rt:31:5
+pub returns-in-Ok-clause-opened : goal.returns-in-Ok-clause-opened
+returns-in-Ok-clause-opened c s plays is journals =
+    let rules = c.args.game.now in
+    let room : ℕ = c.args.room in
+    let p : ℕ = c.args.player.number in
+    let disk = c.into_disk-disk.result in
+    let peer = c.in-Ok.peer in
+    let now = found_now s disk (c.into_disk-disk.ensures.tells rules room p s is) in
+    let read : records_of (kept (bytes_of disk)) ≡ found s now.0 = ap records_of now.1 ∙ c.bodies_are_the_spellings.ensures.records rules p room (found s now.0) (journals now.0) in
+    let shut : s.mode ≢ Open = λ up. both_ways c.is_up.result c.if-is_up.false ((c.is_up.ensures rules room p s is).1 up) in
+    let is_opened = c.in-Ok.ensures.opened in
+    let deed = c.openings_are_deeds.ensures.opened disk rules room p s now.0 peer is_opened shut read in
+    let same = subst (λ (journal : List Record). told (Opened (Ok (epoch peer.state.journal))) peer ≡ opened rules room p s journal Stands) read (is_opened.opening s) in
+    record {
+      not_open = shut;
+      finds = now.0;
+      opening = Stands;
+      may = deed.may.1;
+      replies = sym (ap (λ (t : Stepped). t.reply) same) ∙ ap (λ (n : ℕ). Opened (Ok n)) (sym c.epoch-epoch.ensures);
+      seat_is = record { rules_are = is_opened.rules_are; room_is = is_opened.room_is; me_is = is_opened.me_is; state_is = ap (λ (t : Stepped). t.state) same };
+    }
+
+-- src/seat.rt:31:5
+pub returns-in-Err-clause-opened : goal.returns-in-Err-clause-opened
+returns-in-Err-clause-opened c s plays is journals =
+    let rules = c.args.game.now in
+    let room : ℕ = c.args.room in
+    let p : ℕ = c.args.player.number in
+    let disk = c.into_disk-disk.result in
+    let tells = c.into_disk-disk.ensures.tells rules room p s is in
+    let now = found_now s disk tells in
+    let read : records_of (kept (bytes_of disk)) ≡ found s now.0 = ap records_of now.1 ∙ c.bodies_are_the_spellings.ensures.records rules p room (found s now.0) (journals now.0) in
+    let shut : s.mode ≢ Open = λ up. both_ways c.is_up.result c.if-is_up.false ((c.is_up.ensures rules room p s is).1 up) in
+    let refused = c.openings_are_deeds.ensures.refused disk c.in-Err.disk rules room p s now.0 c.in-Err.error c.in-Err.ensures.refused shut now.1 read tells in
+    let replies = ap (λ (a : After). reply_in a.answer) refused.deed.is in
+    record {
+      not_open = shut;
+      finds = now.0;
+      opening = refused.opening;
+      may = refused.deed.may.1;
+      replies = replies;
+      seat_is = (refused_away rules room p s (found s now.0) refused.opening c.in-Err.error replies, refused.tells);
+    }

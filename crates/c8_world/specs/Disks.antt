@@ -1,0 +1,72 @@
+-- What the disks of a world have room for, and when they were told to fail.
+use Rattle.std.specs.Prelude.{◌≡◌, ◌≤◌, ◌⊎◌, ℕ, List, [], ◌∷◌, ◌++◌, nat_eq, if◌then◌else◌, Option, Some, None}
+use Rattle.c8_disk.specs.declared.disk.Arm.{Arm}
+use Rattle.c8_disk.specs.declared.disk.Arm.TheVariants as arms
+use Rattle.c8_disk.specs.declared.mem_disk.MemDisk.{MemDisk}
+use Rattle.c8_disk.specs.Memory.{room_of, arms_of, value_of, new_value}
+use Rattle.c8_world.specs.declared.event.Event as asked
+use Rattle.c8_world.specs.declared.event.Event.TheVariants as happenings
+use Rattle.c8_world.specs.declared.seat.Seat.{Seat}
+use Rattle.c8_world.specs.declared.seat.Seat.TheVariants as seats
+use Rattle.c8_world.specs.World.{player_of}
+use Rattle.c8_world.specs.Events.{act_of}
+use Rattle.c8_world.specs.Agreement.{IsPlayer}
+use Rattle.c8_world.specs.Table.{TableValue, seat_of}
+
+-- the bytes that a disk has room for, and all that it was told of when its calls fail, the oldest first
+pub record Setting : Type 0 where
+  pub room : ℕ
+  pub arms : List Arm
+
+abbrev pub setting_of_disk : MemDisk → Setting
+setting_of_disk disk = record { room = room_of disk; arms = arms_of disk }
+
+abbrev pub setting_of : Option Seat → Setting
+setting_of None = record { room = 0; arms = [] }
+setting_of (Some (seats.Held peer)) = setting_of_disk peer.disk
+setting_of (Some (seats.Away disk)) = setting_of_disk disk
+
+abbrev pub setting_at : TableValue → ℕ → Setting
+setting_at t p = setting_of (seat_of t p)
+
+-- The disks are the same, and were told nothing.
+abbrev pub KeepSettings : TableValue → TableValue → Type 0
+KeepSettings old new = (p : ℕ) → IsPlayer old.rules p → setting_at new p ≡ setting_at old p
+
+-- told more
+abbrev pub armed : List Arm → Setting → Setting
+armed more s = record s { arms = s.arms ++ more }
+
+-- The disks are the same, but that each player's was told so much more.
+abbrev pub AreArmed : (ℕ → List Arm) → TableValue → TableValue → Type 0
+AreArmed more old new = (p : ℕ) → IsPlayer old.rules p → setting_at new p ≡ armed (more p) (setting_at old p)
+
+-- of nothing that one player's disk is told, the others are
+abbrev pub for_player : ℕ → List Arm → ℕ → List Arm
+for_player player more p = if nat_eq p player then more else []
+
+-- What an event tells the disks: nothing; but inside a stop the player's own fails after so many calls.
+abbrev pub arms_by : asked.Event → ℕ → List Arm
+arms_by (happenings.Do act) = λ p. []
+arms_by (happenings.Stop act calls pick) = for_player (player_of (act_of act)) (arms.Stop calls ∷ [])
+
+abbrev pub arms_in : List asked.Event → ℕ → List Arm
+arms_in [] p = []
+arms_in (event ∷ events) p = arms_by event p ++ arms_in events p
+
+-- what an event tells them at which memory was refused: a stop is taken back
+abbrev pub arms_taken_back : asked.Event → ℕ → List Arm
+arms_taken_back (happenings.Do act) = λ p. []
+arms_taken_back (happenings.Stop act calls pick) = for_player (player_of (act_of act)) (arms.Stop calls ∷ arms.Off ∷ [])
+
+-- What the disks were told in a run that ran out of memory: what the events before tell them, and, where memory was refused at an
+-- event and not for the report, what that one does.
+pub record AreArmedOut (events : List asked.Event) (old new : TableValue) : Type 0 where
+  pub before : List asked.Event
+  pub after : List asked.Event
+  pub at : events ≡ before ++ after
+  pub armed : AreArmed (arms_in before) old new ⊎ ((event : asked.Event) × (rest : List asked.Event) × (after ≡ event ∷ rest) × AreArmed (λ p. arms_in before p ++ arms_taken_back event p) old new)
+
+-- the disk of a peer that was never opened: empty, with room for so many bytes and as many calls to serve
+abbrev pub IsNewDisk : ℕ → ℕ → Option Seat → Type 0
+IsNewDisk capacity calls seat = (disk : MemDisk) × (seat ≡ Some (seats.Away disk)) × (value_of disk ≡ new_value capacity calls)

@@ -1,0 +1,91 @@
+-- Where players stand.
+use Rattle.std.specs.Prelude.{◌≡◌, ◌↔◌, ℕ, ◌<◌, ◌+◌, ◌-◌, List, [], ◌∷◌, length, min, map, slice_index_or, Bool, true, false, Option, Some, None}
+use Rattle.std.specs.List.{slice_get, range_with_len}
+use Rattle.c8_game.specs.Rules.{Rules}
+use Rattle.c8_known.specs.Journal.{has_leave}
+use Rattle.c8_known.specs.Known.{KnownValue, player_in, known_of}
+use Rattle.c8_known.specs.Confirmed.{confirmed, rows_below}
+use Rattle.c8_peer.specs.State.{State}
+use Rattle.c8_peer.specs.Opening.{found}
+use Rattle.c8_disk.specs.Memory.{bytes_of}
+use Rattle.c8_peer.specs.Peer.{Keeps, known_by}
+use Rattle.c8_world.specs.declared.ends.Standing.{Standing}
+use Rattle.c8_world.specs.declared.ends.Standing.TheVariants as standings
+use Rattle.c8_world.specs.declared.ends.Tally.{Tally}
+use Rattle.c8_world.specs.declared.seat.Seat.{Seat}
+use Rattle.c8_world.specs.declared.seat.Seat.TheVariants as seats
+use Rattle.c8_world.specs.World.{World, peer_of}
+use Rattle.c8_world.specs.Agreement.{IsPlayer, Reads, read_by}
+use Rattle.c8_world.specs.Table.{TableValue, seat_of}
+
+-- what a player knows
+abbrev pub known_at : Standing → KnownValue
+known_at (standings.Held peer) = known_by peer.now
+known_at (standings.Read known) = known
+
+abbrev pub held_of : KnownValue → ℕ → ℕ
+held_of k q = length (player_in k q).held
+
+-- what it has
+abbrev pub tally_of : KnownValue → Tally
+tally_of k = record { now = k.ticks; confirmed = confirmed k; held = map (held_of k) (1 ∷ 2 ∷ 3 ∷ 4 ∷ []) }
+
+abbrev pub tally_at : Standing → Tally
+tally_at standing = tally_of (known_at standing)
+
+-- as many frames as both count as confirmed
+abbrev pub both : KnownValue → KnownValue → ℕ
+both a b = min (confirmed a) (confirmed b)
+
+abbrev pub AreSameRows : KnownValue → KnownValue → Type 0
+AreSameRows a b = rows_below a (both a b) ≡ rows_below b (both a b)
+
+-- ---- the ends of a world
+
+-- Whether the pending record counts: of a peer that is held it does not; of one that is away, where a read of its disk finds it.
+abbrev pub IsRead : State → Option Seat → Bool → Type 0
+IsRead s None finds = ⊥
+IsRead s (Some (seats.Held peer)) finds = finds ≡ false
+IsRead s (Some (seats.Away disk)) finds = Keeps (found s finds) (bytes_of disk)
+
+-- What is known of a player at its seat: what its journal says.
+abbrev pub IsStanding : Rules → ℕ → State → Option Seat → Standing → Type 0
+IsStanding rules p s seat standing = (finds : Bool) × (known_at standing ≡ known_of rules p (found s finds)) × IsRead s seat finds
+
+-- the first of them has not let go the player at a place
+abbrev pub HasStayedAt : List Standing → ℕ → Type 0
+HasStayedAt standings place = (first : Standing) → slice_get standings 0 ≡ Some first → (player_in (known_at first) (place + 1)).leaving ≡ false
+
+-- all of them, player 1's first
+pub record AreStandings (t : TableValue) (w : World) (standings : List Standing) : Type 0 where
+  pub size : length standings ≡ t.rules.players
+  pub each : (p : ℕ) (other : Standing) → IsPlayer t.rules p → IsStanding t.rules p (peer_of w p) (seat_of t p) (slice_index_or standings (p - 1) other)
+
+-- two of them have the same rows, unless the first has let one of them go
+abbrev pub AgreesWith : List Standing → ℕ → ℕ → Type 0
+AgreesWith standings i j =
+    HasStayedAt standings i → HasStayedAt standings j → (one other : Standing) → slice_get standings i ≡ Some one → slice_get standings j ≡ Some other → AreSameRows (known_at one) (known_at other)
+
+abbrev pub AgreesWithAll : List Standing → ℕ → Type 0
+AgreesWithAll standings i = (j : ℕ) → j < length standings → AgreesWith standings i j
+
+abbrev pub HaveAgreed : List Standing → Type 0
+HaveAgreed standings = (i : ℕ) → i < length standings → AgreesWithAll standings i
+
+-- Player one has not let the player go.
+abbrev pub HasStayed : Rules → World → Reads → ℕ → Type 0
+HasStayed rules w reads p = has_leave p (read_by w reads 1) ≡ false
+
+abbrev pub known_read : Rules → World → Reads → ℕ → KnownValue
+known_read rules w reads p = known_of rules p (read_by w reads p)
+
+-- Where the players of a world stand, by these reads of the disks.
+--
+-- - `read`: a peer that is held is asked; of one that is away the reads are what its disk gives.
+-- - `players`: what each player has.
+-- - `agree`: whether any two players who were not let go have the same rows, as far as both count frames as confirmed.
+pub record AreEnds (t : TableValue) (w : World) (reads : Reads) (players : List Tally) (agree : Bool) : Type 0 where
+  pub read : (p : ℕ) → IsPlayer t.rules p → IsRead (peer_of w p) (seat_of t p) (reads p)
+  pub players_are : players ≡ map (λ p. tally_of (known_read t.rules w reads p)) (range_with_len 1 t.rules.players)
+  pub agree_is : (agree ≡ true) ↔ ((p r : ℕ) → IsPlayer t.rules p → IsPlayer t.rules r → HasStayed t.rules w reads p → HasStayed t.rules w reads r
+      → AreSameRows (known_read t.rules w reads p) (known_read t.rules w reads r))

@@ -1,0 +1,23 @@
+-- What the code's events are.
+use Rattle.std.specs.Prelude.{List, map}
+use Rattle.c8_peer.specs.Asked.{saying_of}
+use Rattle.c8_world.specs.declared.event.Act as code
+use Rattle.c8_world.specs.declared.event.Act.TheVariants as acts
+use Rattle.c8_world.specs.declared.event.Event as codes
+use Rattle.c8_world.specs.declared.event.Event.TheVariants as events
+use Rattle.c8_world.specs.World.{Act, Open, Tick, Say, Give, Leave, Decide, Event, Do, Stop}
+
+abbrev pub act_of : code.Act → Act
+act_of (acts.Open player) = Open player.number
+act_of (acts.Tick player keys) = Tick player.number keys.0
+act_of (acts.Say player to what) = Say player.number to.number (saying_of what)
+act_of (acts.Give number player) = Give number player.number
+act_of (acts.Leave leaver) = Leave leaver.number
+act_of (acts.Decide leaver) = Decide leaver.number
+
+abbrev pub event_of : codes.Event → Event
+event_of (events.Do act) = Do (act_of act)
+event_of (events.Stop act calls pick) = Stop (act_of act) calls pick
+
+abbrev pub events_of : List codes.Event → List Event
+events_of events = map event_of events

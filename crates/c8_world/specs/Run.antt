@@ -1,0 +1,108 @@
+-- Runs of real peers, and their moments.
+use Rattle.std.specs.Prelude.{◌≡◌, ◌⊎◌, ℕ, List, [], ◌∷◌, ◌++◌, Err}
+use Rattle.c8_game.specs.Rules.{Rules}
+use Rattle.c8_game.specs.declared.row.Player.{Player}
+use Rattle.c8_peer.specs.declared.error.OpenError.TheVariants as opens
+use Rattle.c8_world.specs.declared.answer.Answer as codes
+use Rattle.c8_world.specs.declared.answer.Answer.TheVariants as answers
+use Rattle.c8_world.specs.declared.event.Act.TheVariants as acts
+use Rattle.c8_world.specs.declared.event.Event.TheVariants as happenings
+use Rattle.c8_world.specs.declared.error.RunError.{RunError}
+use Rattle.c8_world.specs.declared.error.RunError.TheVariants as errors
+use Rattle.c8_world.specs.declared.event.Event as asked
+use Rattle.c8_world.specs.World.{World, start, player_of, act_of, Happening, Answer, CanHappen}
+use Rattle.c8_world.specs.Events.{event_of}
+use Rattle.c8_world.specs.Table.{TableValue, Holds, reported, HadMemory, TakesMemory, act_in, IsLeftBy}
+
+-- Events that lead from one world to another, each of which can happen so that it has P, with what is reported of each.
+abbrev pub RunsBy : (Happening → Type 0) → Rules → ℕ → World → List asked.Event → List codes.Answer → World → Type 0
+RunsBy P rules room w [] [] v = v ≡ w
+RunsBy P rules room w [] (answer ∷ answers) v = ⊥
+RunsBy P rules room w (event ∷ events) [] v = ⊥
+RunsBy P rules room w (event ∷ events) (answer ∷ answers) v =
+    (told : Answer) × (u : World) × (can : CanHappen rules room w (event_of event) told u) × P can.happening × (answer ≡ reported rules (player_of (act_of (event_of event))) u told)
+    × RunsBy P rules room u events answers v
+
+-- whatever happens in them
+abbrev pub Runs : Rules → ℕ → World → List asked.Event → List codes.Answer → World → Type 0
+Runs = RunsBy (λ h. Unit {0})
+
+-- where memory is there for all of them
+abbrev pub RunsWithMemory : Rules → ℕ → World → List asked.Event → List codes.Answer → World → Type 0
+RunsWithMemory = RunsBy HadMemory
+
+-- ---- a world of real peers
+
+-- what its seats and its pool hold, and the events of its life, with what was answered; among them each opening that was refused
+-- for want of memory, which ended a run
+pub record WorldValue : Type 0 where
+  pub table : TableValue
+  pub events : List asked.Event
+  pub answers : List codes.Answer
+
+-- The table holds a world to which these events lead.
+pub record IsLived (w : WorldValue) : Type 0 where
+  pub now : World
+  pub runs : Runs w.table.rules w.table.room (start w.table.rules) w.events w.answers now
+  pub holds : Holds w.table now
+
+-- Events have been run, from the world that a table held to the one that it holds now.
+pub record HasRun (old : TableValue) (w : World) (events : List asked.Event) (answers : List codes.Answer) (new : TableValue) : Type 0 where
+  pub world : World
+  pub runs : RunsWithMemory old.rules old.room w events answers world
+  pub holds : Holds new world
+
+-- Memory ran out, for the report before all events, or at an event that takes some: those before it have been run, and it has not
+-- happened.
+pub record HasRunOut (old : TableValue) (w : World) (events : List asked.Event) (answers : List codes.Answer) (new : TableValue) : Type 0 where
+  pub before : List asked.Event
+  pub event : asked.Event
+  pub after : List asked.Event
+  pub at : events ≡ before ++ event ∷ after
+  pub takes : (before ≡ []) ⊎ TakesMemory (act_in event)
+  pub then : World
+  pub runs : RunsWithMemory old.rules old.room w before answers then
+  pub now : World
+  pub left : IsLeftBy (act_in event) then now
+  pub holds : Holds new now
+
+-- The events of a life are as they were, or an opening that was refused for want of memory is one more.
+abbrev pub IsOpeningRefused : WorldValue → WorldValue → Type 0
+IsOpeningRefused old new =
+    ((new.events ≡ old.events) × (new.answers ≡ old.answers))
+    ⊎ ((player : Player) × (new.events ≡ old.events ++ happenings.Do (acts.Open player) ∷ []) × (new.answers ≡ old.answers ++ answers.Opened (Err opens.Memory) ∷ []))
+
+-- What a run that ran out of memory has lived: the events before that one, and then, where that was to be an opening, an opening
+-- refused for want of memory.
+pub record HasLivedOn (old : WorldValue) (events : List asked.Event) (told : List codes.Answer) (new : WorldValue) : Type 0 where
+  pub before : List asked.Event
+  pub after : List asked.Event
+  pub at : events ≡ before ++ after
+  pub more : List asked.Event
+  pub told_more : List codes.Answer
+  pub refused : ((more ≡ []) × (told_more ≡ [])) ⊎ ((player : Player) × (more ≡ happenings.Do (acts.Open player) ∷ []) × (told_more ≡ answers.Opened (Err opens.Memory) ∷ []))
+  pub events_are : new.events ≡ old.events ++ before ++ more
+  pub answers_are : new.answers ≡ old.answers ++ told ++ told_more
+
+-- ---- two moments
+
+-- Two moments of a world's life: some of its events lead to the earlier one, some on from there to the later, and the rest to
+-- what is held now.
+pub record AreMoments (w : WorldValue) (earlier later : World) : Type 0 where
+  pub first : List asked.Event
+  pub between : List asked.Event
+  pub last : List asked.Event
+  pub told_first : List codes.Answer
+  pub told_between : List codes.Answer
+  pub told_last : List codes.Answer
+  pub events_are : w.events ≡ first ++ between ++ last
+  pub answers_are : w.answers ≡ told_first ++ told_between ++ told_last
+  pub to_earlier : Runs w.table.rules w.table.room (start w.table.rules) first told_first earlier
+  pub to_later : Runs w.table.rules w.table.room earlier between told_between later
+  pub now : World
+  pub to_now : Runs w.table.rules w.table.room later last told_last now
+  pub holds : Holds w.table now
+
+-- the answers that a run has given which ran out of memory
+abbrev pub answers_before : RunError → List codes.Answer
+answers_before (errors.Memory report) = report.answers.items

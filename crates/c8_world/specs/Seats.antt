@@ -1,0 +1,84 @@
+-- What one player's seat holds, and what becomes of it.
+use Rattle.std.specs.Prelude.{◌≡◌, ◌≢◌, ℕ, List, take, Bool, Option, Some, None, Result, Ok, Err}
+use Rattle.c8_game.specs.Rules.{Rules}
+use Rattle.c8_disk.specs.declared.mem_disk.MemDisk.{MemDisk}
+use Rattle.c8_disk.specs.Memory.{images_of}
+use Rattle.c8_wire.specs.Packet.{Packet}
+use Rattle.c8_wire.specs.Spelling.{Spells}
+use Rattle.c8_known.specs.Journal.{ticks}
+use Rattle.c8_known.specs.Known.{known_of}
+use Rattle.c8_known.specs.Confirmed.{confirmed}
+use Rattle.c8_peer.specs.declared.error.OpenError.{OpenError}
+use Rattle.c8_peer.specs.declared.error.Unsayable.{Unsayable}
+use Rattle.c8_peer.specs.State.{Open, Away, State, Call, Reply, Opened, Ticked, Delivered, Said, Left, Decided}
+use Rattle.c8_peer.specs.Steps.{Works, step}
+use Rattle.c8_peer.specs.Opening.{Opening, found, opened, MayBecome}
+use Rattle.c8_peer.specs.Peer.{PeerValue, Keeps, luck_of}
+use Rattle.c8_world.specs.declared.answer.Answer.{Answer}
+use Rattle.c8_world.specs.declared.answer.Answer.TheVariants as answers
+use Rattle.c8_world.specs.declared.answer.Counts.{Counts}
+use Rattle.c8_world.specs.declared.seat.Seat.{Seat}
+use Rattle.c8_world.specs.declared.seat.Seat.TheVariants as seats
+
+-- the peer of a player in a match, in that state
+pub record IsPeerOf (rules : Rules) (room p : ℕ) (peer : PeerValue MemDisk) (s : State) : Type 0 where
+  pub rules_are : peer.rules ≡ rules
+  pub room_is : peer.room ≡ room
+  pub me_is : peer.me ≡ p
+  pub state_is : peer.state ≡ s
+
+-- each image that a crash now leaves of a disk keeps the journal of a state, with its pending record or without
+abbrev pub Tells : State → MemDisk → Type 0
+Tells s disk = (image : List ℕ) → images_of disk image → (finds : Bool) × Keeps (found s finds) image
+
+-- A peer that is held is in that state; the disk of one that is away tells it.
+abbrev pub IsSeat : Rules → ℕ → ℕ → Seat → State → Type 0
+IsSeat rules room p (seats.Held peer) s = IsPeerOf rules room p peer s
+IsSeat rules room p (seats.Away disk) s = (s.mode ≡ Away) × Tells s disk
+
+-- A call at a seat: an open peer answers, and goes on, by its step; of another nothing is asked.
+abbrev pub IsCalled : Rules → ℕ → ℕ → State → Call → Option Reply → Seat → Type 0
+IsCalled rules room p s call None seat = (s.mode ≢ Open) × IsSeat rules room p seat s
+IsCalled rules room p s call (Some reply) seat =
+    (s.mode ≡ Open) × ((step rules p s call (luck_of reply)).reply ≡ reply) × IsSeat rules room p seat (step rules p s call (luck_of reply)).state
+
+abbrev pub counts_of : Rules → ℕ → State → Counts
+counts_of rules p s = record { now = ticks s.journal; confirmed = confirmed (known_of rules p s.journal) }
+
+-- The answer of a call at a seat; after a tick it tells what is counted then.
+abbrev pub IsAsked : Rules → ℕ → ℕ → State → Call → Answer → Seat → Type 0
+IsAsked rules room p s call (answers.Ticked (Ok counts)) seat =
+    IsCalled rules room p s call (Some (Ticked (Ok tt))) seat × (counts ≡ counts_of rules p (step rules p s call Works).state)
+IsAsked rules room p s call (answers.Ticked (Err error)) seat = IsCalled rules room p s call (Some (Ticked (Err error))) seat
+IsAsked rules room p s call (answers.Delivered result) seat = IsCalled rules room p s call (Some (Delivered result)) seat
+IsAsked rules room p s call (answers.Left result) seat = IsCalled rules room p s call (Some (Left result)) seat
+IsAsked rules room p s call (answers.Decided result) seat = IsCalled rules room p s call (Some (Decided result)) seat
+IsAsked rules room p s call answers.Down seat = IsCalled rules room p s call None seat
+IsAsked rules room p s call (answers.Opened result) seat = ⊥
+IsAsked rules room p s call answers.Up seat = ⊥
+IsAsked rules room p s call (answers.Said result) seat = ⊥
+IsAsked rules room p s call answers.NoSuch seat = ⊥
+IsAsked rules room p s call answers.Stopped seat = ⊥
+
+-- What is said at a seat changes nothing there, and the bytes in front spell it.
+abbrev pub IsSaying : Rules → ℕ → State → Call → Result ℕ Unsayable → List ℕ → Type 0
+IsSaying rules p s call (Ok size) bytes =
+    (packet : Packet) × Spells (take size bytes) packet × (step rules p s call Works ≡ record { reply = Said (Ok packet); state = s })
+IsSaying rules p s call (Err error) bytes = step rules p s call Works ≡ record { reply = Said (Err error); state = s }
+
+abbrev pub IsSaidAt : Rules → ℕ → ℕ → State → Call → Option (Result ℕ Unsayable) → List ℕ → Type 0
+IsSaidAt rules room p s call None bytes = s.mode ≢ Open
+IsSaidAt rules room p s call (Some result) bytes = (s.mode ≡ Open) × IsSaying rules p s call result bytes
+
+-- An opening at a seat: nothing is done where the peer is open; else it comes to something that it may.
+pub record IsOpening (rules : Rules) (room p : ℕ) (s : State) (result : Result ℕ OpenError) (seat : Seat) : Type 0 where
+  pub not_open : s.mode ≢ Open
+  pub finds : Bool
+  pub opening : Opening
+  pub may : MayBecome rules room p (found s finds) opening
+  pub replies : (opened rules room p s (found s finds) opening).reply ≡ Opened result
+  pub seat_is : IsSeat rules room p seat (opened rules room p s (found s finds) opening).state
+
+abbrev pub IsOpenedSeat : Rules → ℕ → ℕ → State → Option (Result ℕ OpenError) → Seat → Type 0
+IsOpenedSeat rules room p s None seat = (s.mode ≡ Open) × IsSeat rules room p seat s
+IsOpenedSeat rules room p s (Some result) seat = IsOpening rules room p s result seat

@@ -1,0 +1,150 @@
+-- What the seats and the pool of a world hold, and what an event makes of them.
+use Rattle.std.specs.Prelude.{◌≡◌, ◌≢◌, ◌⊎◌, ℕ, ◌-◌, ◌<◌, ◌^◌, List, length, Bool, map, All, slice_index_or, true, Option, Some, None, is_some, Ok, Err}
+use Rattle.c8_game.specs.Rules.{Rules}
+use Rattle.c8_wire.specs.Spelling.{spelling}
+use Rattle.c8_peer.specs.declared.error.OpenError.TheVariants as opens
+use Rattle.c8_peer.specs.State.{Down, State, Reply, Opened, Ticked, Delivered, Said, Left, Decided}
+use Rattle.c8_peer.specs.Opening.{NoMemory, away}
+use Rattle.c8_world.specs.declared.answer.Answer as codes
+use Rattle.c8_world.specs.declared.answer.Answer.TheVariants as answers
+use Rattle.c8_world.specs.declared.event.Event as codes_events
+use Rattle.c8_world.specs.declared.event.Event.TheVariants as events
+use Rattle.c8_world.specs.declared.seat.Seat.{Seat}
+use Rattle.c8_world.specs.declared.seat.Seat.TheVariants as seats
+use Rattle.c8_world.specs.World.{World, never_opened, peer_of, with_peer, Act, Open, Tick, Say, Give, Leave, Decide, player_of, Event, Do, Happening, Answer, Told, IsUp, IsDown, NoSuch, Stopped, crashed, CanHappen, IsReached}
+use Rattle.c8_world.specs.World.{act_of as act_inside}
+use Rattle.c8_world.specs.Events.{act_of}
+use Rattle.c8_world.specs.Agreement.{IsPlayer}
+use Rattle.c8_world.specs.Seats.{IsSeat, IsOpenedSeat, counts_of}
+
+-- ---- what is held
+
+abbrev pub IsTaken : Rules → ℕ → ℕ → Option Seat → State → Type 0
+IsTaken rules room p None s = ⊥
+IsTaken rules room p (Some seat) s = IsSeat rules room p seat s
+
+-- what an opening makes of a seat, by its answer, and by want of memory
+abbrev pub IsOpenedAs : Rules → ℕ → ℕ → State → codes.Answer → Option Seat → Type 0
+IsOpenedAs rules room p s answer None = ⊥
+IsOpenedAs rules room p s answers.Up (Some seat) = IsOpenedSeat rules room p s None seat
+IsOpenedAs rules room p s (answers.Opened result) (Some seat) = IsOpenedSeat rules room p s (Some result) seat × (result ≢ Err opens.Memory)
+IsOpenedAs rules room p s (answers.Ticked result) (Some seat) = ⊥
+IsOpenedAs rules room p s (answers.Said result) (Some seat) = ⊥
+IsOpenedAs rules room p s (answers.Delivered result) (Some seat) = ⊥
+IsOpenedAs rules room p s answers.NoSuch (Some seat) = ⊥
+IsOpenedAs rules room p s (answers.Left result) (Some seat) = ⊥
+IsOpenedAs rules room p s (answers.Decided result) (Some seat) = ⊥
+IsOpenedAs rules room p s answers.Down (Some seat) = ⊥
+IsOpenedAs rules room p s answers.Stopped (Some seat) = ⊥
+
+abbrev pub IsUnopened : Rules → ℕ → ℕ → State → Option Seat → Type 0
+IsUnopened rules room p s None = ⊥
+IsUnopened rules room p s (Some seat) = IsOpenedSeat rules room p s (Some (Err opens.Memory)) seat
+
+-- the match, the seats of its players, and the bytes of what was said, in order; a seat is empty only inside a call
+pub record TableValue : Type 0 where
+  pub rules : Rules
+  pub room : ℕ
+  pub seats : List (Option Seat)
+  pub pool : List (List ℕ)
+
+abbrev pub seat_of : TableValue → ℕ → Option Seat
+seat_of t p = slice_index_or t.seats (p - 1) None
+
+-- the disk of a peer that was never opened
+abbrev pub IsUntouched : Option Seat → Type 0
+IsUntouched seat = (rules : Rules) (room p : ℕ) → IsTaken rules room p seat never_opened
+
+-- the seat holds no peer
+abbrev pub IsNotHeld : Option Seat → Type 0
+IsNotHeld None = Unit {0}
+IsNotHeld (Some (seats.Held peer)) = ⊥
+IsNotHeld (Some (seats.Away disk)) = Unit {0}
+
+abbrev pub IsSeated : Option Seat → Type 0
+IsSeated seat = is_some seat ≡ true
+
+abbrev pub IsFull : Rules → ℕ → List (Option Seat) → Type 0
+IsFull rules room seats = (room < 2 ^ 64) × (length seats ≡ rules.players) × All IsSeated seats
+
+pub record IsSameMatch (old new : TableValue) : Type 0 where
+  pub rules : new.rules ≡ old.rules
+  pub room : new.room ≡ old.room
+
+-- The table holds a world that some list of events leads to: each seat its player's peer, and the pool what was said.
+pub record Holds (t : TableValue) (w : World) : Type 0 where
+  pub reached : IsReached t.rules t.room w
+  pub count : length w.peers ≡ t.rules.players
+  pub peers : (p : ℕ) → IsPlayer t.rules p → IsTaken t.rules t.room p (seat_of t p) (peer_of w p)
+  pub said : t.pool ≡ map spelling w.said
+
+-- ---- what is reported
+
+-- The reply of a player's peer as it is reported, by the state that it is in then: with a tick comes what is counted, and with
+-- a saying the datagram's number and length.
+abbrev pub reported_reply : Rules → ℕ → State → ℕ → Reply → codes.Answer
+reported_reply rules p s number (Opened result) = answers.Opened result
+reported_reply rules p s number (Ticked (Ok done)) = answers.Ticked (Ok (counts_of rules p s))
+reported_reply rules p s number (Ticked (Err error)) = answers.Ticked (Err error)
+reported_reply rules p s number (Delivered result) = answers.Delivered result
+reported_reply rules p s number (Said (Ok packet)) = answers.Said (Ok (record { number = number; length = length (spelling packet) }))
+reported_reply rules p s number (Said (Err error)) = answers.Said (Err error)
+reported_reply rules p s number (Left result) = answers.Left result
+reported_reply rules p s number (Decided result) = answers.Decided result
+
+-- the answer of an event at a player's peer, as it is reported; what was said last has the last number
+abbrev pub reported : Rules → ℕ → World → Answer → codes.Answer
+reported rules p after (Told reply) = reported_reply rules p (peer_of after p) (length after.said - 1) reply
+reported rules p after IsUp = answers.Up
+reported rules p after IsDown = answers.Down
+reported rules p after NoSuch = answers.NoSuch
+reported rules p after Stopped = answers.Stopped
+
+-- ---- what happens
+
+-- No opening was refused for want of memory in it.
+abbrev pub HadMemory : Happening → Type 0
+HadMemory h = h.opening ≢ NoMemory
+
+-- An event has happened, and memory was there: it is one that can be, its answer is reported, and what the table holds then is
+-- the world after it.
+pub record HasHappened (old : TableValue) (w : World) (event : Event) (answer : codes.Answer) (new : TableValue) : Type 0 where
+  pub told : Answer
+  pub world : World
+  pub can : CanHappen old.rules old.room w event told world
+  pub had_memory : HadMemory can.happening
+  pub reports : answer ≡ reported old.rules (player_of (act_inside event)) world told
+  pub holds : Holds new world
+
+-- Want of memory leaves the world as it was; but a peer that is down and was to be opened is away then.
+abbrev pub IsLeftBy : Act → World → World → Type 0
+IsLeftBy act w v =
+    (v ≡ w) ⊎ ((p : ℕ) × (act ≡ Open p) × ((peer_of w p).mode ≡ Down) × (v ≡ with_peer w p (away (peer_of w p) (peer_of w p).journal (peer_of w p).pending)))
+
+-- only an opening and a saying take memory
+abbrev pub TakesMemory : Act → Type 0
+TakesMemory (Open player) = Unit {0}
+TakesMemory (Tick player keys) = ⊥
+TakesMemory (Say player to what) = Unit {0}
+TakesMemory (Give number player) = ⊥
+TakesMemory (Leave leaver) = ⊥
+TakesMemory (Decide leaver) = ⊥
+
+-- An act that takes memory was refused it, and has not happened. By the definitions such an opening is an event too, which leaves
+-- its peer away.
+pub record HasNotHappened (old : TableValue) (w : World) (act : Act) (new : TableValue) : Type 0 where
+  pub world : World
+  pub takes : TakesMemory act
+  pub left : IsLeftBy act w world
+  pub opens : (p : ℕ) → act ≡ Open p → CanHappen old.rules old.room w (Do (Open p)) (Told (Opened (Err opens.Memory))) world
+  pub holds : Holds new world
+
+abbrev pub act_in : codes_events.Event → Act
+act_in (events.Do act) = act_of act
+act_in (events.Stop act calls pick) = act_of act
+
+-- A player has been stopped: what the table holds tells a crash, which left the pending record or did not.
+pub record HasCrashed (old : TableValue) (w : World) (p : ℕ) (new : TableValue) : Type 0 where
+  pub leaves : Bool
+  pub peers : (q : ℕ) → IsPlayer old.rules q → IsTaken old.rules old.room q (seat_of new q) (peer_of (crashed old.rules w p leaves) q)
+  pub pool : new.pool ≡ old.pool

@@ -1,0 +1,45 @@
+//! What is answered to an event.
+
+use c8_peer::{DecideError, Heard, LeaveError, OpenError, Refused, TickError, Unsayable};
+
+/// How many ticks a player has made, and how many frames are confirmed there.
+#[derive(Clone, Copy, Debug, PartialEq, Eq)]
+pub struct Counts {
+    pub now: u32,
+    pub confirmed: u32,
+}
+
+/// A datagram that was said: its number, the first one's 0, and how many bytes it has.
+#[derive(Clone, Copy, Debug, PartialEq, Eq)]
+pub struct Posted {
+    pub number: u64,
+    pub length: usize,
+}
+
+/// What is answered to an event: what the peer answers, or why it was not asked.
+#[derive(Clone, Copy, Debug, PartialEq, Eq)]
+pub enum Answer {
+    /// The epoch that began with the opening.
+    Opened(Result<u32, OpenError>),
+    /// The peer that was to be opened is open.
+    Up,
+    /// What is counted after the tick.
+    Ticked(Result<Counts, TickError>),
+    Said(Result<Posted, Unsayable>),
+    Delivered(Result<Heard, Refused>),
+    /// No datagram of this number has been said.
+    NoSuch,
+    Left(Result<(), LeaveError>),
+    /// The length at which the leaver's list is cut.
+    Decided(Result<u32, DecideError>),
+    /// The peer is down or away, or the game has no such player.
+    Down,
+    /// The player was stopped, whatever its act came to.
+    Stopped,
+}
+
+/// One answer for each event, in order.
+#[derive(Debug, Drop)]
+pub struct Report {
+    pub answers: Vec<Answer>,
+}

@@ -1,0 +1,65 @@
+//! What may happen to the peers of a world.
+ghost use Rattle.std.specs.Prelude.{◌≡◌};
+
+use c8_game::{Keys, Player};
+use c8_peer::Kind;
+
+/// Who lets others go and cuts their lists.
+pub(crate) const CHAIR: Player = Player { number: 1 };
+
+/// What one player does.
+#[derive(Clone, Copy, Debug, PartialEq, Eq)]
+pub enum Act {
+    /// Opens its peer on its disk. One that is down is closed first.
+    Open(Player),
+    /// Enters a key set.
+    Tick(Player, Keys),
+    /// Says something to another player: the first is who speaks.
+    Say(Player, Player, Kind),
+    /// Hears the datagram of this number. The first that was said has the number 0.
+    Give(u64, Player),
+    /// Player one lets a player go.
+    Leave(Player),
+    /// Player one cuts a leaver's list.
+    Decide(Player),
+}
+
+/// An act, or one inside which its player stops.
+#[derive(Clone, Copy, Debug, PartialEq, Eq)]
+pub enum Event {
+    Do(Act),
+    /// The disk serves so many calls more and fails then. After the act the player's peer is away,
+    /// and its disk holds an image that a crash may leave, picked by the last number: 0 for what was
+    /// last synced, 1 for what a read gives, any other for a seed.
+    Stop(Act, u64, u64),
+}
+
+impl Act {
+    ghost use Rattle.c8_world.specs.Events.{act_of};
+    ghost use Rattle.c8_world.specs.World.{player_of};
+
+    /// Whose peer acts.
+    pub fn player(self) -> Player
+        ensures { result.number ≡ player_of (act_of self) }
+    {
+        match self {
+            Act::Open(player) | Act::Tick(player, _) | Act::Say(player, _, _) => player,
+            Act::Give(_, player) => player,
+            Act::Leave(_) | Act::Decide(_) => CHAIR,
+        }
+    }
+}
+
+impl Event {
+    ghost use Rattle.c8_world.specs.Events.{act_of};
+    ghost use Rattle.c8_world.specs.Table.{act_in};
+
+    /// What the player does, whether or not it stops inside.
+    pub fn act(self) -> Act
+        ensures { act_of result ≡ act_in self }
+    {
+        match self {
+            Event::Do(act) | Event::Stop(act, _, _) => act,
+        }
+    }
+}

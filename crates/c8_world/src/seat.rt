@@ -1,0 +1,232 @@
+//! One player's place in a world: its peer, or the disk of a peer that is away.
+ghost use Rattle.std.specs.Prelude.{◌≡◌, ◌≤◌, ◌↔◌, ℕ, [], ◌∷◌, Bool, true, Some, IfSome, IfOk};
+ghost use Rattle.c8_game.specs.Rules.{Rules};
+ghost use Rattle.c8_record.specs.Allowed.{IsJournal};
+ghost use Rattle.c8_peer.specs.Opening.{found};
+ghost use Rattle.c8_peer.specs.State as states;
+ghost use Rattle.c8_peer.specs.State.{State};
+ghost use Rattle.c8_peer.specs.Asked.{saying_of};
+ghost use Rattle.c8_peer.specs.Runs.{crashed};
+ghost use Rattle.c8_wire.specs.Read.{read};
+ghost use Rattle.c8_world.specs.Seats.{IsSeat, IsAsked, IsOpenedSeat, IsSaidAt, Tells};
+ghost use Rattle.c8_world.specs.Ends.{IsStanding};
+ghost use Rattle.c8_world.specs.Disks.{setting_of, setting_of_disk, armed};
+
+use crate::answer::{Answer, Counts};
+use crate::ends::Standing;
+use c8_disk::{Arm, Disk, MemDisk};
+use c8_game::{Game, Keys, Player};
+use c8_known::Known;
+use c8_peer::laws::{openings_are_deeds, what_disks_tell};
+use c8_peer::{Kind, OpenError, Peer, Unsayable};
+use c8_record::laws::{bodies_are_the_spellings, journals_are_not_refused};
+use c8_record::replay_bytes;
+use c8_wire::LONGEST_DATAGRAM;
+use std::alloc::{AllocError, Global};
+
+/// A player's peer, open or down, or the disk of one that is away.
+#[derive(Drop)]
+pub enum Seat<'g> {
+    Held(Peer<'g, MemDisk>),
+    Away(MemDisk),
+}
+
+impl<'g> Seat<'g> {
+    /// Opens the peer. None is answered where it is open.
+    pub(crate) fn open(
+        self,
+        alloc: Global,
+        game: &'g Game,
+        player: Player,
+        room: u64,
+    ) -> (Seat<'g>, Option<Result<u32, OpenError>>)
+        ensures opened { (s : State) → player.number ≤ game.entry.now.players
+            → IsSeat game.entry.now room player.number self.entry s
+            → ((finds : Bool) → IsJournal game.entry.now player.number room (found s finds))
+            → IsOpenedSeat game.entry.now room player.number s result.1 result.0 }
+        ensures setting { setting_of (Some result.0) ≡ setting_of (Some self.entry) }
+    {
+        if self.is_up() {
+            return (self, None);
+        }
+        openings_are_deeds::<MemDisk>();
+        bodies_are_the_spellings();
+        let disk = self.into_disk();
+        match Peer::open(alloc, disk, game, player, room) {
+            Ok(peer) => {
+                let epoch = peer.epoch();
+                (Seat::Held(peer), Some(Ok(epoch)))
+            }
+            Err((error, disk)) => (Seat::Away(disk), Some(Err(error))),
+        }
+    }
+
+    /// Enters a key set. `Down` is answered where the peer is not open, as in the calls below.
+    pub(crate) fn tick(&mut self, keys: Keys) -> Answer
+        ensures asked { (rules : Rules) (room p : ℕ) (s : State) → IsSeat rules room p self.old s
+            → IsAsked rules room p s (states.Tick keys.0) result self.new }
+        ensures setting { setting_of (Some self.new) ≡ setting_of (Some self.old) }
+    {
+        match self {
+            Seat::Held(peer) => {
+                if peer.is_down() {
+                    return Answer::Down;
+                }
+                match peer.tick(keys) {
+                    Ok(()) => Answer::Ticked(Ok(Counts {
+                        now: peer.now(),
+                        confirmed: peer.confirmed(),
+                    })),
+                    Err(error) => Answer::Ticked(Err(error)),
+                }
+            }
+            Seat::Away(_) => Answer::Down,
+        }
+    }
+
+    /// Hears bytes.
+    pub(crate) fn deliver(&mut self, bytes: &[u8]) -> Answer
+        ensures asked { (rules : Rules) (room p : ℕ) (s : State) → IsSeat rules room p self.old s
+            → IsAsked rules room p s (states.Deliver (read bytes.now)) result self.new }
+        ensures setting { setting_of (Some self.new) ≡ setting_of (Some self.old) }
+    {
+        match self {
+            Seat::Held(peer) => {
+                if peer.is_down() {
+                    return Answer::Down;
+                }
+                Answer::Delivered(peer.deliver(bytes))
+            }
+            Seat::Away(_) => Answer::Down,
+        }
+    }
+
+    /// Lets a player go.
+    pub(crate) fn leave(&mut self, leaver: Player) -> Answer
+        ensures asked { (rules : Rules) (room p : ℕ) (s : State) → IsSeat rules room p self.old s
+            → IsAsked rules room p s (states.Leave leaver.number) result self.new }
+        ensures setting { setting_of (Some self.new) ≡ setting_of (Some self.old) }
+    {
+        match self {
+            Seat::Held(peer) => {
+                if peer.is_down() {
+                    return Answer::Down;
+                }
+                Answer::Left(peer.leave(leaver))
+            }
+            Seat::Away(_) => Answer::Down,
+        }
+    }
+
+    /// Cuts a leaver's list.
+    pub(crate) fn decide(&mut self, leaver: Player) -> Answer
+        ensures asked { (rules : Rules) (room p : ℕ) (s : State) → IsSeat rules room p self.old s
+            → IsAsked rules room p s (states.Decide leaver.number) result self.new }
+        ensures setting { setting_of (Some self.new) ≡ setting_of (Some self.old) }
+    {
+        match self {
+            Seat::Held(peer) => {
+                if peer.is_down() {
+                    return Answer::Down;
+                }
+                Answer::Decided(peer.decide(leaver))
+            }
+            Seat::Away(_) => Answer::Down,
+        }
+    }
+
+    /// Says something to another player, to the front of `out`.
+    pub(crate) fn say(
+        &self,
+        to: Player,
+        what: Kind,
+        out: &mut [u8; LONGEST_DATAGRAM],
+    ) -> Option<Result<usize, Unsayable>>
+        ensures said { (rules : Rules) (room p : ℕ) (s : State) → IsSeat rules room p self.now s
+            → IsSaidAt rules room p s (states.Say to.number (saying_of what)) result out.new }
+        ensures fits { IfSome result (λ said. IfOk said (λ size. size ≤ LONGEST_DATAGRAM)) }
+    {
+        match self {
+            Seat::Held(peer) => {
+                if peer.is_down() {
+                    return None;
+                }
+                Some(peer.say(to, what, out))
+            }
+            Seat::Away(_) => None,
+        }
+    }
+
+    /// Says when the disk's calls fail from now on.
+    pub(crate) fn arm(&mut self, arm: Arm)
+        ensures held { (rules : Rules) (room p : ℕ) (s : State) → IsSeat rules room p self.old s
+            → IsSeat rules room p self.new s }
+        ensures setting { setting_of (Some self.new)
+            ≡ armed (arm ∷ []) (setting_of (Some self.old)) }
+    {
+        match self {
+            Seat::Held(peer) => peer.arm(arm),
+            Seat::Away(disk) => disk.arm(arm),
+        }
+    }
+
+    /// Stops the player: its disk holds what a crash may leave, by the pick.
+    pub(crate) fn crash(self, pick: u64) -> Seat<'g>
+        ensures crashed { (rules : Rules) (room p : ℕ) (s : State) → IsSeat rules room p self.entry s
+            → (leaves : Bool) × IsSeat rules room p result (crashed s leaves) }
+        ensures setting { setting_of (Some result) ≡ setting_of (Some self.entry) }
+    {
+        Seat::Away(self.into_disk().crash(pick))
+    }
+
+    /// Whether the peer is held and open.
+    fn is_up(&self) -> bool
+        ensures { (rules : Rules) (room p : ℕ) (s : State) → IsSeat rules room p self.now s
+            → (result ≡ true) ↔ (s.mode ≡ states.Open) }
+    {
+        match self {
+            Seat::Held(peer) => !peer.is_down(),
+            Seat::Away(_) => false,
+        }
+    }
+
+    /// The disk, of which an opening finds the journal.
+    fn into_disk(self) -> MemDisk
+        ensures tells { (rules : Rules) (room p : ℕ) (s : State) → IsSeat rules room p self.entry s
+            → Tells s result }
+        ensures setting { setting_of_disk result ≡ setting_of (Some self.entry) }
+    {
+        what_disks_tell::<MemDisk>();
+        match self {
+            Seat::Held(peer) => peer.close(),
+            Seat::Away(disk) => disk,
+        }
+    }
+
+    /// What is known of the player: as its peer tells it, or by a read of its disk.
+    pub(crate) fn standing(
+        &self,
+        alloc: Global,
+        game: &Game,
+        player: Player,
+        room: u64,
+    ) -> Result<Standing<'_, 'g>, AllocError>
+        requires { player.number ≤ game.now.players }
+        ensures { IfOk result (λ standing. (s : State)
+            → IsSeat game.now room player.number self.entry.now s
+            → ((finds : Bool) → IsJournal game.now player.number room (found s finds))
+            → IsStanding game.now player.number s (Some self.entry.now) standing) }
+    {
+        bodies_are_the_spellings();
+        journals_are_not_refused();
+        match self {
+            Seat::Held(peer) => Ok(Standing::Held(peer)),
+            Seat::Away(disk) => {
+                let mut known = Known::new(alloc, game, player)?;
+                // A journal is refused for nothing.
+                let _ = replay_bytes(disk.bytes(), game, room, &mut known);
+                Ok(Standing::Read(known))
+            }
+        }
+    }
+}

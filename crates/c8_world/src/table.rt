@@ -1,0 +1,432 @@
+//! All seats of a match and all that was said, and what an event makes of them.
+ghost use Rattle.std.specs.Prelude.{◌≡◌, ◌≤◌, ◌<◌, ◌+◌, ◌^◌, ℕ, [], ◌∷◌, Bool, true, is_some, Some, IfOk, IfErr, vec_len, length, MatchOption};
+ghost use Rattle.std.specs.List.{slice_get};
+ghost use Rattle.c8_game.specs.Rules.{Rules, AreInRange};
+ghost use Rattle.c8_record.specs.Allowed.{IsJournal};
+ghost use Rattle.c8_peer.specs.State.{State};
+ghost use Rattle.c8_peer.specs.Opening.{found};
+ghost use Rattle.c8_peer.specs.Runs.{crashed};
+ghost use Rattle.c8_peer.specs.Asked.{saying_of};
+ghost use Rattle.c8_world.specs.World.{World, peer_of, player_of, start, Open, Tick, Say, Give, Leave, Decide, Do, Stop};
+ghost use Rattle.c8_world.specs.Events.{act_of, event_of};
+ghost use Rattle.c8_disk.specs.declared.disk.Arm.TheVariants as arms;
+ghost use Rattle.c8_world.specs.Agreement.{IsPlayer};
+ghost use Rattle.c8_world.specs.Disks.{setting_of, KeepSettings, AreArmed, for_player, arms_by, arms_taken_back, IsNewDisk};
+ghost use Rattle.c8_world.specs.Ends.{IsStanding, AreStandings};
+ghost use Rattle.c8_world.specs.declared.seat.Seat.TheVariants.{Held};
+ghost use Rattle.c8_world.specs.Table.{IsTaken, IsUntouched, IsNotHeld, seat_of, IsOpenedAs, IsUnopened, IsSameMatch, Holds, HasHappened, HasNotHappened, HasCrashed, act_in};
+
+use crate::answer::{Answer, Posted};
+use crate::ends::Standing;
+use crate::event::{Act, CHAIR, Event};
+use crate::laws::{openings_find_journals, what_was_said_is_true};
+use crate::pool::Pool;
+use crate::seat::Seat;
+use c8_disk::{Arm, MemDisk};
+use c8_game::{Game, Keys, Player};
+use c8_peer::{Kind, OpenError, Peer};
+use c8_wire::LONGEST_DATAGRAM;
+use c8_wire::laws::what_is_spelled_is_read;
+use std::alloc::{AllocError, Global};
+use std::marker::Model;
+
+/// The seats of all players of a match, player 1's first, and all that was said.
+#[derive(Drop)]
+pub(crate) struct Table<'g> {
+    game: &'g Game,
+    room: u64,
+    seats: Vec<Option<Seat<'g>>>,
+    pool: Pool,
+}
+
+impl<'g> Model for Table<'g> {
+    ghost use Rattle.c8_world.specs.Table.{TableValue, IsFull};
+
+    ghost Value = { TableValue };
+
+    ghost view = { λ t. record {
+      rules = t.game.now;
+      room = t.room;
+      seats = t.seats.items;
+      pool = t.pool;
+    } };
+
+    ghost invariant = { λ t. IsFull t.game.now t.room t.seats.items };
+}
+
+/// The place of a player's seat.
+fn place_of(player: Player) -> usize
+    ensures { result + 1 ≡ player.number }
+{
+    usize::from(player.number - 1)
+}
+
+/// The seat of a player whose peer was never opened.
+fn new_seat<'g>(alloc: Global, capacity: u32, calls: u32) -> Result<Option<Seat<'g>>, AllocError>
+    ensures full { IfOk result (λ seat. is_some seat ≡ true) }
+    ensures untouched { IfOk result IsUntouched }
+    ensures disk { IfOk result (IsNewDisk capacity calls) }
+{
+    let disk = MemDisk::new(alloc, capacity, calls)?;
+    Ok(Some(Seat::Away(disk)))
+}
+
+/// Opens the peer of a seat, which is empty meanwhile.
+fn open_seat<'g>(
+    place: &mut Option<Seat<'g>>,
+    alloc: Global,
+    game: &'g Game,
+    player: Player,
+    room: u64,
+) -> Result<Answer, AllocError>
+    requires { is_some place.old ≡ true }
+    ensures full { is_some place.new ≡ true }
+    ensures opened { IfOk result (λ answer. (s : State) → player.number ≤ game.entry.now.players
+        → IsTaken game.entry.now room player.number place.old s
+        → ((finds : Bool) → IsJournal game.entry.now player.number room (found s finds))
+        → IsOpenedAs game.entry.now room player.number s answer place.new) }
+    ensures memory { IfErr result (λ _. (s : State) → player.number ≤ game.entry.now.players
+        → IsTaken game.entry.now room player.number place.old s
+        → ((finds : Bool) → IsJournal game.entry.now player.number room (found s finds))
+        → IsUnopened game.entry.now room player.number s place.new) }
+    ensures setting { setting_of place.new ≡ setting_of place.old }
+{
+    let Some(seat) = place.take() else {
+        unreachable!();
+    };
+    let (seat, result) = seat.open(alloc, game, player, room);
+    *place = Some(seat);
+    match result {
+        None => Ok(Answer::Up),
+        Some(Err(OpenError::Memory)) => Err(AllocError),
+        Some(result) => Ok(Answer::Opened(result)),
+    }
+}
+
+/// Stops the player of a seat, which is empty meanwhile.
+fn crash_seat(place: &mut Option<Seat<'_>>, pick: u64)
+    requires { is_some place.old ≡ true }
+    ensures full { is_some place.new ≡ true }
+    ensures crashed { (rules : Rules) (room p : ℕ) (s : State) → IsTaken rules room p place.old s
+        → (leaves : Bool) × IsTaken rules room p place.new (crashed s leaves) }
+    ensures setting { setting_of place.new ≡ setting_of place.old }
+{
+    let Some(seat) = place.take() else {
+        unreachable!();
+    };
+    *place = Some(seat.crash(pick));
+}
+
+/// The player with a number.
+fn player_of(number: u8) -> Player
+    requires from_one { 1 ≤ number }
+    requires to_four { number ≤ 4 }
+    ensures { result.number ≡ number }
+{
+    match Player::new(number) {
+        Some(player) => player,
+        None => unreachable!(),
+    }
+}
+
+impl<'g> Table<'g> {
+    /// No peer has been opened, and nothing was said: each player's disk is empty, has room for
+    /// `capacity` bytes, and serves `calls` calls.
+    pub(crate) fn new(
+        alloc: Global,
+        game: &'g Game,
+        room: u64,
+        capacity: u32,
+        calls: u32,
+    ) -> Result<Table<'g>, AllocError>
+        ensures rules { IfOk result (λ table. table.rules ≡ game.entry.now) }
+        ensures room { IfOk result (λ table. table.room ≡ room) }
+        ensures holds { IfOk result (λ table. Holds table (start game.entry.now)) }
+        ensures disks { IfOk result (λ table. (p : ℕ) → IsPlayer table.rules p
+            → IsNewDisk capacity calls (seat_of table p)) }
+    {
+        let players = usize::from(game.players());
+        let mut seats = Vec::with_capacity(alloc, players)?;
+        for _ in 0..players {
+            let seat = new_seat(alloc, capacity, calls)?;
+            seats.push_reserved(seat);
+        }
+        Ok(Table {
+            game,
+            room,
+            seats,
+            pool: Pool::new(alloc),
+        })
+    }
+
+    /// An event. Where memory is refused it has not happened.
+    pub(crate) fn happen(&mut self, alloc: Global, event: Event) -> Result<Answer, AllocError>
+        ensures same { IsSameMatch self.old self.new }
+        ensures happened { IfOk result (λ answer. (w : World) → Holds self.old w
+            → HasHappened self.old w (event_of event) answer self.new) }
+        ensures memory { IfErr result (λ _. (w : World) → Holds self.old w
+            → HasNotHappened self.old w (act_in event) self.new) }
+        ensures disks { IfOk result (λ _. AreArmed (arms_by event) self.old self.new) }
+        ensures disks_out { IfErr result (λ _. AreArmed (arms_taken_back event) self.old self.new) }
+    {
+        match event {
+            Event::Do(act) => self.act(alloc, act),
+            Event::Stop(act, calls, pick) => self.stop(alloc, act, calls, pick),
+        }
+    }
+
+    /// An act inside which its player stops.
+    fn stop(&mut self, alloc: Global, act: Act, calls: u64, pick: u64) -> Result<Answer, AllocError>
+        ensures same { IsSameMatch self.old self.new }
+        ensures happened { IfOk result (λ answer. (w : World) → Holds self.old w
+            → HasHappened self.old w (Stop (act_of act) calls pick) answer self.new) }
+        ensures memory { IfErr result (λ _. (w : World) → Holds self.old w
+            → HasNotHappened self.old w (act_of act) self.new) }
+        ensures disks { IfOk result (λ _. AreArmed
+            (for_player (player_of (act_of act)) (arms.Stop calls ∷ [])) self.old self.new) }
+        ensures disks_out { IfErr result (λ _. AreArmed
+            (for_player (player_of (act_of act)) (arms.Stop calls ∷ arms.Off ∷ []))
+            self.old self.new) }
+    {
+        let player = act.player();
+        self.arm(player, Arm::Stop(calls));
+        match self.act(alloc, act) {
+            Ok(_) => {
+                self.crash(player, pick);
+                Ok(Answer::Stopped)
+            }
+            Err(error) => {
+                self.arm(player, Arm::Off);
+                Err(error)
+            }
+        }
+    }
+
+    /// An act of one player.
+    fn act(&mut self, alloc: Global, act: Act) -> Result<Answer, AllocError>
+        ensures same { IsSameMatch self.old self.new }
+        ensures happened { IfOk result (λ answer. (w : World) → Holds self.old w
+            → HasHappened self.old w (Do (act_of act)) answer self.new) }
+        ensures memory { IfErr result (λ _. (w : World) → Holds self.old w
+            → HasNotHappened self.old w (act_of act) self.new) }
+        ensures disks { KeepSettings self.old self.new }
+    {
+        match act {
+            Act::Open(player) => self.open(alloc, player),
+            Act::Tick(player, keys) => Ok(self.tick(player, keys)),
+            Act::Say(player, to, what) => self.say(player, to, what),
+            Act::Give(number, player) => Ok(self.give(number, player)),
+            Act::Leave(leaver) => Ok(self.leave(leaver)),
+            Act::Decide(leaver) => Ok(self.decide(leaver)),
+        }
+    }
+
+    /// Opens a player's peer.
+    fn open(&mut self, alloc: Global, player: Player) -> Result<Answer, AllocError>
+        ensures same { IsSameMatch self.old self.new }
+        ensures happened { IfOk result (λ answer. (w : World) → Holds self.old w
+            → HasHappened self.old w (Do (Open player.number)) answer self.new) }
+        ensures memory { IfErr result (λ _. (w : World) → Holds self.old w
+            → HasNotHappened self.old w (Open player.number) self.new) }
+        ensures disks { KeepSettings self.old self.new }
+    {
+        self.game.in_range();
+        openings_find_journals();
+        if player.number > self.game.players() {
+            return Ok(Answer::Opened(Err(OpenError::WrongPlayer)));
+        }
+        let seat = &mut self.seats[place_of(player)];
+        open_seat(seat, alloc, self.game, player, self.room)
+    }
+
+    /// Enters a player's key set.
+    fn tick(&mut self, player: Player, keys: Keys) -> Answer
+        ensures same { IsSameMatch self.old self.new }
+        ensures happened { (w : World) → Holds self.old w
+            → HasHappened self.old w (Do (Tick player.number keys.0)) result self.new }
+        ensures disks { KeepSettings self.old self.new }
+    {
+        if player.number > self.game.players() {
+            return Answer::Down;
+        }
+        let Some(seat) = &mut self.seats[place_of(player)] else {
+            unreachable!();
+        };
+        seat.tick(keys)
+    }
+
+    /// A player says something to another one.
+    fn say(&mut self, player: Player, to: Player, what: Kind) -> Result<Answer, AllocError>
+        ensures same { IsSameMatch self.old self.new }
+        ensures happened { IfOk result (λ answer. (w : World) → Holds self.old w
+            → HasHappened self.old w (Do (Say player.number to.number (saying_of what))) answer self.new) }
+        ensures memory { IfErr result (λ _. (w : World) → Holds self.old w
+            → HasNotHappened self.old w (Say player.number to.number (saying_of what)) self.new) }
+        ensures disks { KeepSettings self.old self.new }
+    {
+        if player.number > self.game.players() {
+            return Ok(Answer::Down);
+        }
+        let Some(seat) = &self.seats[place_of(player)] else {
+            unreachable!();
+        };
+        let mut bytes = [0; LONGEST_DATAGRAM];
+        match seat.say(to, what, &mut bytes) {
+            None => Ok(Answer::Down),
+            Some(Err(error)) => Ok(Answer::Said(Err(error))),
+            Some(Ok(length)) => {
+                let number = self.pool.len() as u64;
+                self.pool.push(&bytes, length)?;
+                Ok(Answer::Said(Ok(Posted { number, length })))
+            }
+        }
+    }
+
+    /// Delivers the datagram of a number to a player.
+    fn give(&mut self, number: u64, player: Player) -> Answer
+        ensures same { IsSameMatch self.old self.new }
+        ensures happened { (w : World) → Holds self.old w
+            → HasHappened self.old w (Do (Give number player.number)) result self.new }
+        ensures disks { KeepSettings self.old self.new }
+    {
+        self.game.in_range();
+        what_was_said_is_true();
+        what_is_spelled_is_read();
+        let Some(bytes) = self.pool.get(number) else {
+            return Answer::NoSuch;
+        };
+        if player.number > self.game.players() {
+            return Answer::Down;
+        }
+        let Some(seat) = &mut self.seats[place_of(player)] else {
+            unreachable!();
+        };
+        seat.deliver(bytes)
+    }
+
+    /// Player one lets a player go.
+    fn leave(&mut self, leaver: Player) -> Answer
+        ensures same { IsSameMatch self.old self.new }
+        ensures happened { (w : World) → Holds self.old w
+            → HasHappened self.old w (Do (Leave leaver.number)) result self.new }
+        ensures disks { KeepSettings self.old self.new }
+    {
+        self.game.in_range();
+        let Some(seat) = &mut self.seats[place_of(CHAIR)] else {
+            unreachable!();
+        };
+        seat.leave(leaver)
+    }
+
+    /// Player one cuts a leaver's list.
+    fn decide(&mut self, leaver: Player) -> Answer
+        ensures same { IsSameMatch self.old self.new }
+        ensures happened { (w : World) → Holds self.old w
+            → HasHappened self.old w (Do (Decide leaver.number)) result self.new }
+        ensures disks { KeepSettings self.old self.new }
+    {
+        self.game.in_range();
+        let Some(seat) = &mut self.seats[place_of(CHAIR)] else {
+            unreachable!();
+        };
+        seat.decide(leaver)
+    }
+
+    /// Says when the calls of a player's disk fail from now on.
+    fn arm(&mut self, player: Player, arm: Arm)
+        ensures same { IsSameMatch self.old self.new }
+        ensures holds { (w : World) → Holds self.old w → Holds self.new w }
+        ensures disks { AreArmed (for_player player.number (arm ∷ [])) self.old self.new }
+    {
+        if player.number > self.game.players() {
+            return;
+        }
+        let Some(seat) = &mut self.seats[place_of(player)] else {
+            unreachable!();
+        };
+        seat.arm(arm);
+    }
+
+    /// Stops a player.
+    fn crash(&mut self, player: Player, pick: u64)
+        ensures same { IsSameMatch self.old self.new }
+        ensures crashed { (w : World) → Holds self.old w
+            → HasCrashed self.old w player.number self.new }
+        ensures disks { KeepSettings self.old self.new }
+    {
+        if player.number > self.game.players() {
+            return;
+        }
+        crash_seat(&mut self.seats[place_of(player)], pick);
+    }
+
+    /// The match is one of a game, in a room of 64 bits.
+    pub(crate) fn in_range(&self)
+        ensures rules { AreInRange self.now.rules }
+        ensures room { self.now.room < 2 ^ 64 }
+    {
+        self.game.in_range();
+    }
+
+    /// How many datagrams were said.
+    pub(crate) fn said(&self) -> u64
+        ensures { result ≡ length self.now.pool }
+    {
+        self.pool.len() as u64
+    }
+
+    /// The bytes of one of them.
+    pub(crate) fn datagram(&self, number: u64) -> Option<&[u8]>
+        ensures { MatchOption result (length self.now.pool ≤ number)
+            (λ bytes. slice_get self.now.pool number ≡ Some bytes.now) }
+    {
+        self.pool.get(number)
+    }
+
+    /// A player's peer, if one is held.
+    pub(crate) fn peer(&self, player: Player) -> Option<&Peer<'g, MemDisk>>
+        ensures { MatchOption result (IsNotHeld (seat_of self.now player.number))
+            (λ peer. seat_of self.now player.number ≡ Some (Held peer.now)) }
+    {
+        if player.number > self.game.players() {
+            return None;
+        }
+        match &self.seats[place_of(player)] {
+            Some(Seat::Held(peer)) => Some(peer),
+            _ => None,
+        }
+    }
+
+    /// What is known of each player, player 1 first: as its peer tells it if it is held, else by a
+    /// read of its disk.
+    pub(crate) fn standings(&self, alloc: Global) -> Result<Vec<Standing<'_, 'g>>, AllocError>
+        ensures few { IfOk result (λ standings. vec_len standings ≤ 4) }
+        ensures known { IfOk result (λ standings. (w : World) → Holds self.entry.now w
+            → AreStandings self.entry.now w standings.items) }
+    {
+        self.game.in_range();
+        let players = self.game.players();
+        let mut standings = Vec::with_capacity(alloc, usize::from(players))?;
+        for number in 1..players + 1 {
+            let player = player_of(number);
+            let standing = self.standing(alloc, player)?;
+            standings.push_reserved(standing);
+        }
+        Ok(standings)
+    }
+
+    /// What is known of one of the players.
+    fn standing(&self, alloc: Global, player: Player) -> Result<Standing<'_, 'g>, AllocError>
+        requires { player.number ≤ self.now.rules.players }
+        ensures { IfOk result (λ standing. (w : World) → Holds self.entry.now w
+            → IsStanding self.entry.now.rules player.number (peer_of w player.number)
+            (seat_of self.entry.now player.number) standing) }
+    {
+        self.game.in_range();
+        openings_find_journals();
+        let Some(seat) = &self.seats[place_of(player)] else {
+            unreachable!();
+        };
+        seat.standing(alloc, self.game, player, self.room)
+    }
+}

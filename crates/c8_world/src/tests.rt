@@ -1,0 +1,4 @@
+//! Worlds of real peers, run by hand and by chance.
+
+mod chance;
+mod rows;

@@ -1,0 +1,230 @@
+//! All peers of one match, and what happens to them.
+ghost use Rattle.std.specs.Prelude.{◌≡◌, ◌≤◌, ◌<◌, ◌++◌, ◌∷◌, [], ℕ, length, vec_capacity, true, Some, IfOk, IfErr, OnOk, OnErr, MatchOption};
+ghost use Rattle.std.specs.List.{slice_get};
+ghost use Rattle.c8_world.specs.Events.{event_of};
+ghost use Rattle.c8_world.specs.World.{World as Moment, start};
+ghost use Rattle.c8_world.specs.Table.{seat_of, IsNotHeld, Holds, IsSameMatch, HasHappened, HasNotHappened, act_in};
+ghost use Rattle.c8_world.specs.Run.{IsLived, IsOpeningRefused, HasLivedOn, HasRun, HasRunOut, AreMoments, answers_before};
+ghost use Rattle.c8_world.specs.Headline.{IsHeadline};
+ghost use Rattle.c8_world.specs.Agreement.{Reads};
+ghost use Rattle.c8_world.specs.Ends.{AreEnds};
+ghost use Rattle.c8_world.specs.Agreement.{IsPlayer};
+ghost use Rattle.c8_world.specs.Disks.{AreArmed, AreArmedOut, IsNewDisk, arms_by, arms_in, arms_taken_back};
+ghost use Rattle.c8_world.specs.declared.seat.Seat.TheVariants.{Held};
+
+use crate::answer::{Answer, Report};
+use crate::ends::{Ends, all_agree, tallies};
+use crate::error::RunError;
+use crate::event::{Act, Event};
+use crate::laws::{any_two_moments_agree, what_disks_give_agrees};
+use crate::table::Table;
+use c8_disk::{GhostList, MemDisk};
+use c8_game::{Game, Player};
+use c8_peer::{OpenError, Peer};
+use std::alloc::{AllocError, Global};
+use std::marker::Model;
+
+/// All peers of one match over disks in memory, and every datagram that they said.
+///
+/// Events happen to it one after the other: openings, ticks, sayings, deliveries of anything that
+/// was said, as often and as late as one likes, players who are dropped, and stops inside any of these. Whatever the
+/// events are, peers that were not dropped agree on every frame that they count as confirmed.
+#[derive(Drop)]
+pub struct World<'g> {
+    table: Table<'g>,
+    events: GhostList<Event>,
+    answers: GhostList<Answer>,
+}
+
+impl<'g> Model for World<'g> {
+    ghost use Rattle.c8_world.specs.Run.{WorldValue, IsLived};
+
+    ghost Value = { WorldValue };
+
+    ghost view = { λ w. record {
+      table = w.table;
+      events = w.events.items;
+      answers = w.answers.items;
+    } };
+
+    ghost invariant = { λ w. IsLived (record {
+      table = w.table;
+      events = w.events.items;
+      answers = w.answers.items;
+    }) };
+}
+
+impl<'g> World<'g> {
+    /// A world in which no peer was opened yet. Each player's disk is empty, has room for `capacity`
+    /// bytes, and serves `calls` calls that read, write or sync, and fails then; after a stop it
+    /// serves as many anew.
+    pub fn new(
+        alloc: Global,
+        game: &'g Game,
+        room: u64,
+        capacity: u32,
+        calls: u32,
+    ) -> Result<World<'g>, AllocError>
+        ensures holds { IfOk result (λ world. Holds world.table (start game.entry.now)) }
+        ensures rules { IfOk result (λ world. world.table.rules ≡ game.entry.now) }
+        ensures room { IfOk result (λ world. world.table.room ≡ room) }
+        ensures disks { IfOk result (λ world. (p : ℕ) → IsPlayer world.table.rules p
+            → IsNewDisk capacity calls (seat_of world.table p)) }
+        ensures unlived { IfOk result (λ world. (world.events ≡ []) × (world.answers ≡ [])) }
+    {
+        Ok(World {
+            table: Table::new(alloc, game, room, capacity, calls)?,
+            events: GhostList::new(),
+            answers: GhostList::new(),
+        })
+    }
+
+    /// Runs the events, one after the other, and reports one answer each; all peers that were not
+    /// dropped agree then, at any two moments (`headline`). Where memory is refused the run ends:
+    /// see [`RunError`].
+    pub fn run(&mut self, alloc: Global, events: &[Event]) -> Result<Report, RunError>
+        ensures same { IsSameMatch self.old.table self.new.table }
+        ensures ran { IfOk result (λ report. (w : Moment) → Holds self.old.table w
+            → HasRun self.old.table w events.now report.answers.items self.new.table) }
+        ensures life { IfOk result (λ report.
+            (self.new.events ≡ self.old.events ++ events.now)
+            × (self.new.answers ≡ self.old.answers ++ report.answers.items)) }
+        ensures memory { IfErr result (λ error. (w : Moment) → Holds self.old.table w
+            → HasRunOut self.old.table w events.now (answers_before error) self.new.table) }
+        ensures life_out { IfErr result (λ error.
+            HasLivedOn self.old events.now (answers_before error) self.new) }
+        ensures disks { IfOk result (λ _.
+            AreArmed (arms_in events.now) self.old.table self.new.table) }
+        ensures disks_out { IfErr result (λ _.
+            AreArmedOut events.now self.old.table self.new.table) }
+        ensures lived { IsLived self.new }
+        ensures headline { (earlier later : Moment) → AreMoments self.new earlier later
+            → IsHeadline self.new.table.rules self.new.table.room earlier later }
+    {
+        any_two_moments_agree();
+        self.table.in_range();
+        let mut answers = match Vec::with_capacity(alloc, events.len()) {
+            Ok(answers) => answers,
+            Err(_) => {
+                self.has_lived();
+                let answers = Vec::new(alloc);
+                return Err(RunError::Memory(Report { answers }));
+            }
+        };
+        let ran = self.run_all(alloc, events, &mut answers);
+        self.has_lived();
+        match ran {
+            Ok(()) => Ok(Report { answers }),
+            Err(_) => Err(RunError::Memory(Report { answers })),
+        }
+    }
+
+    /// Runs the events, and adds the answers to `answers`, whose room is there.
+    fn run_all(
+        &mut self,
+        alloc: Global,
+        events: &[Event],
+        answers: &mut Vec<Answer>,
+    ) -> Result<(), AllocError>
+        requires empty { answers.old.items ≡ [] }
+        requires room { length events.now ≤ vec_capacity answers.old }
+        ensures same { IsSameMatch self.old.table self.new.table }
+        ensures ran { OnOk result ((w : Moment) → Holds self.old.table w
+            → HasRun self.old.table w events.now answers.new.items self.new.table) }
+        ensures life { OnOk result ((self.new.events ≡ self.old.events ++ events.now)
+            × (self.new.answers ≡ self.old.answers ++ answers.new.items)) }
+        ensures memory { OnErr result ((w : Moment) → Holds self.old.table w
+            → HasRunOut self.old.table w events.now answers.new.items self.new.table) }
+        ensures life_out { OnErr result
+            (HasLivedOn self.old events.now answers.new.items self.new) }
+        ensures disks { OnOk result
+            (AreArmed (arms_in events.now) self.old.table self.new.table) }
+        ensures disks_out { OnErr result
+            (AreArmedOut events.now self.old.table self.new.table) }
+    {
+        for event in events {
+            match self.happen(alloc, *event) {
+                Ok(answer) => answers.push_reserved(answer),
+                Err(error) => return Err(error),
+            }
+        }
+        Ok(())
+    }
+
+    /// The peer of a player, if it is held: open, or down. There is none of one that was never
+    /// opened, was stopped, or was last refused its opening.
+    pub fn peer(&self, player: Player) -> Option<&Peer<'g, MemDisk>>
+        ensures { MatchOption result (IsNotHeld (seat_of self.now.table player.number))
+            (λ peer. seat_of self.now.table player.number ≡ Some (Held peer.now)) }
+    {
+        self.table.peer(player)
+    }
+
+    /// It does nothing: with the call comes that the events of its life lead to what it holds.
+    pub fn has_lived(&self)
+        ensures { IsLived self.now }
+    {
+        let _ = &self.table;
+    }
+
+    /// How many datagrams have been said. Their numbers are those below.
+    pub fn said(&self) -> u64
+        ensures { result ≡ length self.now.table.pool }
+    {
+        self.table.said()
+    }
+
+    /// The bytes of a datagram that was said.
+    pub fn datagram(&self, number: u64) -> Option<&[u8]>
+        ensures { MatchOption result (length self.now.table.pool ≤ number)
+            (λ bytes. slice_get self.now.table.pool number ≡ Some bytes.now) }
+    {
+        self.table.datagram(number)
+    }
+
+    /// Where the players stand: those whose peer is held as it tells, the others by what a read of
+    /// their disks gives; and whether those whom player one has not let go agree, which they do.
+    pub fn ends(&self, alloc: Global) -> Result<Ends, AllocError>
+        ensures ends { IfOk result (λ ends. (w : Moment) → Holds self.now.table w
+            → (reads : Reads) × AreEnds self.now.table w reads ends.players.items ends.agree) }
+        ensures agree { IfOk result (λ ends. ends.agree ≡ true) }
+    {
+        what_disks_give_agrees();
+        self.table.in_range();
+        let standings = self.table.standings(alloc)?;
+        let players = tallies(alloc, &standings)?;
+        let agree = all_agree(&standings);
+        Ok(Ends { players, agree })
+    }
+
+    /// An event. Where memory is refused it has not happened.
+    fn happen(&mut self, alloc: Global, event: Event) -> Result<Answer, AllocError>
+        ensures same { IsSameMatch self.old.table self.new.table }
+        ensures happened { IfOk result (λ answer. (w : Moment) → Holds self.old.table w
+            → HasHappened self.old.table w (event_of event) answer self.new.table) }
+        ensures life { IfOk result (λ answer. (self.new.events ≡ self.old.events ++ event ∷ [])
+            × (self.new.answers ≡ self.old.answers ++ answer ∷ [])) }
+        ensures memory { IfErr result (λ _. (w : Moment) → Holds self.old.table w
+            → HasNotHappened self.old.table w (act_in event) self.new.table) }
+        ensures life_out { IfErr result (λ _. IsOpeningRefused self.old self.new) }
+        ensures disks { IfOk result (λ _. AreArmed (arms_by event) self.old.table self.new.table) }
+        ensures disks_out { IfErr result (λ _.
+            AreArmed (arms_taken_back event) self.old.table self.new.table) }
+    {
+        match self.table.happen(alloc, event) {
+            Ok(answer) => {
+                self.events = self.events.and(&event);
+                self.answers = self.answers.and(&answer);
+                Ok(answer)
+            }
+            Err(error) => {
+                // An opening that was refused leaves a peer away which was down.
+                if let Act::Open(player) = event.act() {
+                    self.events = self.events.and(&Event::Do(Act::Open(player)));
+                    self.answers = self.answers.and(&Answer::Opened(Err(OpenError::Memory)));
+                }
+                Err(error)
+            }
+        }
+    }
+}

@@ -1,0 +1,94 @@
+-- How the code reads the words of a script's line. Only contracts of private functions cite this file: no reader has to
+-- believe it.
+use Rattle.std.specs.Prelude.{ℕ, zero, suc, ◌-◌, ◌^◌, ◌==◌, ◌&&◌, nat_lt, List, [], ◌∷◌, codes, Option, Some, None, option_map, if◌then◌else◌}
+use Rattle.std.proofs.Common.{lit≤}
+use Rattle.std.specs.List.{slice_split}
+use Rattle.std.specs.Option.{option_and_then}
+use Rattle.std.specs.Str.{bytes_eq}
+use Rattle.c8_game.specs.Fields.{is_decimal, decimal_number}
+use Rattle.c8_game.specs.KeysText.{is_keys_text, keys_number}
+use Rattle.c8_game.specs.declared.row.Keys.{Keys}
+use Rattle.c8_game.specs.declared.row.Player.{Player}
+use Rattle.c8_peer.specs.declared.kind.Kind.{Kind}
+use Rattle.c8_peer.specs.declared.kind.Kind.TheVariants.{Hello, Welcome, Data, Freeze, Frozen, Cut}
+use Rattle.c8_world.specs.declared.event.Act.{Act}
+use Rattle.c8_world.specs.declared.event.Act.TheVariants.{Open, Tick, Say, Give, Leave, Decide}
+use Rattle.c8_world.specs.declared.event.Event.{Event}
+use Rattle.c8_world.specs.declared.event.Event.TheVariants.{Do, Stop}
+
+-- the player of a number
+abbrev pub player_of : ℕ → Option Player
+player_of zero = None
+player_of (suc zero) = Some (record { number = 1; from_one = lit≤ tt; to_four = lit≤ tt })
+player_of (suc (suc zero)) = Some (record { number = 2; from_one = lit≤ tt; to_four = lit≤ tt })
+player_of (suc (suc (suc zero))) = Some (record { number = 3; from_one = lit≤ tt; to_four = lit≤ tt })
+player_of (suc (suc (suc (suc zero)))) = Some (record { number = 4; from_one = lit≤ tt; to_four = lit≤ tt })
+player_of (suc (suc (suc (suc (suc n))))) = None
+
+abbrev pub player_in : List ℕ → Option Player
+player_in [] = None
+player_in (digit ∷ []) = player_of (digit - 48)
+player_in (digit ∷ next ∷ more) = None
+
+abbrev pub keys_in : List ℕ → Option Keys
+keys_in word = if is_keys_text word then Some (record { 0 = keys_number word }) else None
+
+abbrev pub number_in : List ℕ → Option ℕ
+number_in word = if is_decimal word && nat_lt (decimal_number word) (2 ^ 64) then Some (decimal_number word) else None
+
+abbrev pub kind_in : List ℕ → List (List ℕ) → Option Kind
+kind_in what [] =
+    if bytes_eq what (codes "hello") then Some Hello
+    else if bytes_eq what (codes "welcome") then Some Welcome
+    else if bytes_eq what (codes "data") then Some Data
+    else None
+kind_in what (leaver ∷ []) =
+    if bytes_eq what (codes "freeze") then option_map Freeze (player_in leaver)
+    else if bytes_eq what (codes "frozen") then option_map Frozen (player_in leaver)
+    else if bytes_eq what (codes "cut") then option_map Cut (player_in leaver)
+    else None
+kind_in what (leaver ∷ next ∷ more) = None
+
+-- an act of two, and of three parts
+abbrev pub act_of : {A B : Type 0} → (A → B → Act) → Option A → Option B → Option Act
+act_of make one other = option_and_then (λ a. option_map (make a) other) one
+
+abbrev pub said_of : Option Player → Option Player → Option Kind → Option Act
+said_of player to what = option_and_then (λ p. act_of (Say p) to what) player
+
+abbrev pub act_in : List (List ℕ) → Option Act
+act_in [] = None
+act_in (verb ∷ []) = None
+act_in (verb ∷ player ∷ []) =
+    if bytes_eq verb (codes "open") then option_map Open (player_in player)
+    else if bytes_eq verb (codes "leave") then option_map Leave (player_in player)
+    else if bytes_eq verb (codes "decide") then option_map Decide (player_in player)
+    else None
+act_in (verb ∷ one ∷ other ∷ []) =
+    if bytes_eq verb (codes "tick") then act_of Tick (player_in one) (keys_in other)
+    else if bytes_eq verb (codes "give") then act_of Give (number_in one) (player_in other)
+    else None
+act_in (verb ∷ one ∷ other ∷ what ∷ more) =
+    if bytes_eq verb (codes "say") then said_of (player_in one) (player_in other) (kind_in what more)
+    else None
+
+abbrev pub stop_of : Option Act → Option ℕ → Option ℕ → Option Event
+stop_of act calls pick = option_and_then (λ a. option_and_then (λ k. option_map (Stop a k) pick) calls) act
+
+abbrev pub stop_in : List (List ℕ) → Option Event
+stop_in [] = None
+stop_in (verb ∷ []) = None
+stop_in (verb ∷ calls ∷ []) = None
+stop_in (verb ∷ calls ∷ pick ∷ act) =
+    if bytes_eq verb (codes "stop") then stop_of (act_in act) (number_in calls) (number_in pick) else None
+
+abbrev pub act_or_stop : Option Act → Option Event → Option Event
+act_or_stop None stop = stop
+act_or_stop (Some act) stop = Some (Do act)
+
+abbrev pub event_in : List (List ℕ) → Option Event
+event_in words = act_or_stop (act_in words) (stop_in words)
+
+-- the event of the words between a line's spaces
+abbrev pub event_of : List ℕ → Option Event
+event_of line = event_in (slice_split (λ byte. byte == 32) line)

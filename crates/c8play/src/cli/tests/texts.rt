@@ -1,0 +1,165 @@
+//! What each help prints, whole.
+
+pub const HELP: &str = "Plays CHIP-8 programs, alone or with others, and shows what a datagram says
+
+Usage: c8play <COMMAND>
+
+Commands:
+  run   Plays a game alone, from a file of keys, and prints the machine
+  peer  Plays a game with others over UDP, and prints the machine that all agree on
+  sim   Plays all players of a game here, by a script of what happens, and prints the answers
+  show  Prints the fields of a datagram
+  help  Print this message or the help of the given subcommand(s)
+
+Options:
+  -h, --help     Print help
+  -V, --version  Print version
+
+Input that is refused is told by one line on standard error, as 'refused: game 5 Hex'.
+The help of each command lists its refusals.
+
+Exit status: 0 done, 1 refused, 2 a mistake in the command line, 3 a disk or a socket failed
+";
+
+pub const RUN_HELP: &str = "Plays a game alone, from a file of keys, and prints the machine
+
+Usage: c8play run <GAME> <KEYS>
+
+Arguments:
+  <GAME>  The path of the game's text
+  <KEYS>  The path of the key lines: one a frame, four hexadecimal digits a player
+
+Options:
+  -h, --help  Print help
+
+Refusals, each one line on standard error, as 'refused: game 5 Hex':
+  game 1 Line     a line that is no known name, one space and a value
+  game 2 Range    a number out of range, a program too long, a mask of nobody
+  game 3 Missing  a line that every game has is not there
+  game 4 Twice    a name for the second time
+  game 5 Hex      a mask or code that is not hexadecimal
+  game 6 Memory   out of memory for the game
+  keys 1 Line     a line that is not four digits a player, one space between
+  keys 2 Long     more lines than the game has frames
+  keys 3 Memory   out of memory for the keys
+  open 5 Memory   out of memory at the start
+  disk 1 Failed   a file that cannot be read or is above 16777216 bytes;
+                  output that cannot be written
+
+Exit status: 0 done, 1 refused, 2 a mistake in the command line, 3 disk 1 Failed
+";
+
+pub const PEER_HELP: &str = "Plays a game with others over UDP, and prints the machine that all agree on
+
+Usage: c8play peer [OPTIONS] <GAME> <PLAYER> <JOURNAL> <LOCAL> [REMOTE]...
+
+Arguments:
+  <GAME>       The path of the game's text, the same for all players
+  <PLAYER>     The own player's number, 1 to 4
+  <JOURNAL>    The path of the own journal, made where there is none
+  <LOCAL>      The own address, as 127.0.0.1:4001
+  [REMOTE]...  The other players' addresses, in order of their numbers
+
+Options:
+      --room <N>      The match, the same for all its players [default: 0]
+      --turns <N>     The most turns, of a millisecond and more each [default: 100000]
+      --patience <N>  The turns of silence after which player 1 drops a player [default: never]
+      --progress      Says once a second, on standard error, how far the game is
+  -h, --help          Print help
+
+What the own player holds down is read from standard input before the game starts: one key set
+a line, four hexadecimal digits, for one frame each; no key is held down after the last line.
+The game ends when all have all of it, and the machine is printed that all agree on. A player
+who was killed starts again with the same journal.
+
+Two players, each in a terminal of their own:
+  ./c8play peer games/duel.game 1 one.journal 127.0.0.1:4001 127.0.0.1:4002 < games/duel.1.keys
+  ./c8play peer games/duel.game 2 two.journal 127.0.0.1:4002 127.0.0.1:4001 < games/duel.2.keys
+
+Refusals, each one line on standard error, as 'refused: game 5 Hex':
+  game 1 Line to 6 Memory: those of the command run
+  keys 1 Line         a line that is not four hexadecimal digits
+  keys 3 Memory       out of memory for the keys
+  open 1 WrongGame    the journal is of another game or room
+  open 2 WrongPlayer  the journal is of another player, or the game has no such player
+  open 3 BadRecord    the journal holds what no peer writes
+  open 4 EpochsSpent  the journal was opened too often
+  open 5 Memory       out of memory at the start
+  disk 1 Failed       a file that cannot be read or written, or a text above 16777216 bytes
+  disk 2 Full         the journal is at its greatest length, 1073741824 bytes
+  socket 1 Failed     the socket cannot be opened or used
+  socket 2 Remotes    not one REMOTE for each other player
+  socket 3 Address    an address that is not written as 127.0.0.1:4001
+
+Exit status: 0 done, 1 refused, 2 a mistake in the command line, 3 a disk or a socket failed
+";
+
+pub const SIM_HELP: &str =
+    "Plays all players of a game here, by a script of what happens, and prints the answers
+
+Usage: c8play sim <GAME> <SCRIPT>
+
+Arguments:
+  <GAME>    The path of the game's text
+  <SCRIPT>  The path of the script: one event a line
+
+Options:
+  -h, --help  Print help
+
+The script has one event a line. Empty lines and lines that begin with # are skipped.
+  open P             player P's peer is opened: at first, after a stop, or after a disk fault
+  tick P HHHH        P enters a key set, four hexadecimal digits
+  say P TO WHAT      P says something to player TO, which nobody hears yet: hello, welcome, data,
+                     freeze L, frozen L or cut L
+  give I P           P hears datagram I; the first one said is 0, and all can be heard again
+  leave L            player 1 lets player L go
+  decide L           player 1 decides where L's inputs end
+  stop K PICK EVENT  the event's player stops inside the event: its disk fails after K more calls,
+                     and then keeps what a crash leaves: with PICK 0 what was synced, with 1 what
+                     was written, with any other a choice that the number makes
+P, TO and L are 1 to 4; I, K and PICK are decimals. Datagrams that no line gives are lost.
+
+Each event prints its number and what is answered: epoch N, now N confirmed N, datagram I length N,
+nothing, kept, out, leaving, cut N, stopped; up where P is open already, down where P is not open,
+none where there is no datagram I; or why it is refused, as '12 no tick 1 Threshold'. Then each
+player has a line: how far it is, how many frames it has confirmed, and how many inputs it holds of
+each player. The last line says whether all who were not let go agree.
+
+Refusals, each one line on standard error, as 'refused: script 1 Line':
+  game 1 Line to 6 Memory: those of the command run
+  script 1 Line    a line that is no event
+  script 2 Memory  out of memory for the script, or for what happens by it
+  open 5 Memory    out of memory at the start
+  disk 1 Failed    a file that cannot be read or is above 16777216 bytes;
+                   output that cannot be written
+
+Exit status: 0 done, 1 refused, 2 a mistake in the command line, 3 disk 1 Failed
+";
+
+pub const SHOW_HELP: &str = "Prints the fields of a datagram
+
+Usage: c8play show <HEX>
+
+Arguments:
+  <HEX>  The datagram's bytes, two hexadecimal digits each
+
+Options:
+  -h, --help  Print help
+
+Refusals, each one line on standard error, as 'refused: wire 5 Length':
+  hex 1 Bad        a word that is not pairs of hexadecimal digits
+  hex 2 Memory     out of memory
+  wire 1 Short     fewer than 24 bytes
+  wire 2 Magic     the first two bytes are not 43 38
+  wire 3 Version   another version of the format
+  wire 4 Kind      no kind that is known
+  wire 5 Length    a body longer or shorter than it should be
+  wire 6 Player    players 1 to 4 who differ are not named
+  wire 7 Reserved  a byte that must be 0 is not
+  wire 8 Count     more than 64 inputs, or not as many as there is room for
+  wire 9 Beyond    a number of inputs that is too great
+  open 5 Memory    out of memory at the start
+  disk 1 Failed    output that cannot be written
+
+Exit status: 0 done, 1 refused, 2 a mistake in the command line, 3 disk 1 Failed
+";
