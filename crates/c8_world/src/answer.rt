@@ -32,9 +32,10 @@ pub enum Answer {
     Left(Result<(), LeaveError>),
     /// The length at which the leaver's list is cut.
     Decided(Result<u32, DecideError>),
-    /// The peer is down or away, or the game has no such player.
+    /// The peer is down or away, or the game has no such player. The opening of such a player is
+    /// refused by name in its place.
     Down,
-    /// The player was stopped, whatever its act came to.
+    /// The player was stopped, whatever its act came to, also where the game has no such player.
     Stopped,
 }
 

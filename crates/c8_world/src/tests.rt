@@ -1,4 +1,6 @@
 //! Worlds of real peers, run by hand and by chance.
 
 mod chance;
+mod ends;
 mod rows;
+mod stops;

@@ -219,7 +219,9 @@ fn sim_command<'a>(alloc: Global) -> Result<Command<'a>, AllocError> {
         .help("The path of the script: one event a line")
         .required(true);
     Command::new(alloc, "sim")
-        .about("Plays all players of a game here, by a script of what happens, and prints the answers")
+        .about(
+            "Plays all players of a game here, by a script of what happens, and prints the answers",
+        )
         .after_help(SIM_ENDING)
         .arg(game)?
         .arg(script)

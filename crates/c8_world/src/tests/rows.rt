@@ -4,20 +4,21 @@ use c8_disk::DiskError;
 use c8_game::{Game, Keys, Player};
 use c8_peer::{Heard, Kind, LeaveError, OpenError, TickError, Unsayable};
 use std::alloc::Global;
+use std::process::Abort;
 use std::test::Fail;
 
 /// Two players, a window of one frame and no delay.
 const GAME: &[u8] =
     b"players 2\nipf 10\nframes 100\ndelay 0\nwindow 1\nseed 0\nmask1 000f\nmask2 fff0\ncode 1200\n";
 
-const ONE: Player = Player { number: 1 };
+pub(super) const ONE: Player = Player { number: 1 };
 
-const TWO: Player = Player { number: 2 };
+pub(super) const TWO: Player = Player { number: 2 };
 
-const THREE: Player = Player { number: 3 };
+pub(super) const THREE: Player = Player { number: 3 };
 
 /// What an event is answered.
-fn answered(alloc: Global, world: &mut World<'_>, event: Event) -> Result<Answer, Fail> {
+pub(super) fn answered(alloc: Global, world: &mut World<'_>, event: Event) -> Result<Answer, Fail> {
     let report = match world.run(alloc, &[event]) {
         Ok(report) => report,
         Err(RunError::Memory(_)) => return Err(Fail::from("out of memory")),
@@ -29,8 +30,14 @@ fn answered(alloc: Global, world: &mut World<'_>, event: Event) -> Result<Answer
 }
 
 /// What an act is answered.
-fn done(alloc: Global, world: &mut World<'_>, act: Act) -> Result<Answer, Fail> {
+pub(super) fn done(alloc: Global, world: &mut World<'_>, act: Act) -> Result<Answer, Fail> {
     answered(alloc, world, Event::Do(act))
+}
+
+/// Whether the players stand so, and agree.
+pub(super) fn has_ends(alloc: Global, world: &World<'_>, tallies: &[Tally]) -> Result<bool, Fail> {
+    let ends = world.ends(alloc)?;
+    Ok(ends.agree && ends.players.as_slice() == tallies)
 }
 
 /// A datagram is said and given; its number, and what the delivery is answered.
@@ -96,30 +103,24 @@ fn two_meet_and_tick(rt: HostRuntime) -> Result<(), Fail> {
     assert_eq!(rt; kept, Answer::Delivered(Ok(Heard::Kept)));
     let ticked = done(alloc, &mut world, Act::Tick(TWO, Keys(0)))?;
     assert_eq!(rt; ticked, counted(1, 1));
-    let ends = world.ends(alloc)?;
-    assert!(rt; ends.agree);
-    assert_eq!(rt;
-        ends.players.first(),
-        Some(&Tally {
+    let tallies = [
+        Tally {
             now: 1,
             confirmed: 0,
-            held: [1, 0, 0, 0]
-        })
-    );
-    assert_eq!(rt;
-        ends.players.get(1),
-        Some(&Tally {
+            held: [1, 0, 0, 0],
+        },
+        Tally {
             now: 1,
             confirmed: 1,
-            held: [1, 1, 0, 0]
-        })
-    );
-    assert_eq!(rt; ends.players.len(), 2);
+            held: [1, 1, 0, 0],
+        },
+    ];
+    assert!(rt; has_ends(alloc, &world, &tallies)?);
     Ok(())
 }
 
 /// What is answered to events that are run at once.
-fn all_answered(
+pub(super) fn all_answered(
     alloc: Global,
     world: &mut World<'_>,
     events: &[Event],
@@ -289,69 +290,6 @@ fn who_is_not_open_does_nothing(rt: HostRuntime) -> Result<(), Fail> {
     Ok(())
 }
 
-/// What is ticked in the end, where a tick is stopped after so many calls of the disk.
-fn ticks_after(
-    alloc: Global,
-    game: &Game,
-    player: Player,
-    calls: u64,
-    pick: u64,
-) -> Result<u32, Fail> {
-    let mut world = World::new(alloc, game, 0, 20000, 4000)?;
-    done(alloc, &mut world, Act::Open(player))?;
-    let stopped = Event::Stop(Act::Tick(player, Keys(0x20)), calls, pick);
-    if answered(alloc, &mut world, stopped)? != Answer::Stopped {
-        return Err(Fail::from("not stopped"));
-    }
-    if world.peer(player).is_some() {
-        return Err(Fail::from("still held"));
-    }
-    let read = world.ends(alloc)?;
-    if done(alloc, &mut world, Act::Open(player))? != Answer::Opened(Ok(2)) {
-        return Err(Fail::from("not epoch 2"));
-    }
-    match (read.players.get(usize::from(player.number - 1)), world.peer(player)) {
-        (Some(tally), Some(peer)) if tally.now == peer.now() => Ok(tally.now),
-        _ => Err(Fail::from("the read of the disk is not what the opening finds")),
-    }
-}
-
-#[test]
-fn a_stop_keeps_a_tick_or_not(rt: HostRuntime) -> Result<(), Fail> {
-    let alloc = rt.alloc();
-    let game = Game::read(alloc, GAME)?;
-    for calls in 0..3 {
-        for pick in 0..4 {
-            assert_eq!(rt; ticks_after(alloc, &game, ONE, calls, pick)?, 0);
-        }
-    }
-    assert_eq!(rt; ticks_after(alloc, &game, ONE, 3, 0)?, 0);
-    assert_eq!(rt; ticks_after(alloc, &game, ONE, 3, 1)?, 1);
-    assert_eq!(rt; ticks_after(alloc, &game, ONE, 4, 0)?, 1);
-    assert_eq!(rt; ticks_after(alloc, &game, TWO, 2, 1)?, 0);
-    assert_eq!(rt; ticks_after(alloc, &game, TWO, 4, 0)?, 1);
-    Ok(())
-}
-
-/// The epoch of the opening after one that was stopped.
-fn epoch_after(alloc: Global, game: &Game, calls: u64) -> Result<Answer, Fail> {
-    let mut world = World::new(alloc, game, 0, 20000, 4000)?;
-    let stopped = Event::Stop(Act::Open(ONE), calls, 0);
-    if answered(alloc, &mut world, stopped)? != Answer::Stopped {
-        return Err(Fail::from("not stopped"));
-    }
-    done(alloc, &mut world, Act::Open(ONE))
-}
-
-#[test]
-fn a_stop_keeps_an_opening_or_not(rt: HostRuntime) -> Result<(), Fail> {
-    let alloc = rt.alloc();
-    let game = Game::read(alloc, GAME)?;
-    assert_eq!(rt; epoch_after(alloc, &game, 3)?, Answer::Opened(Ok(1)));
-    assert_eq!(rt; epoch_after(alloc, &game, 7)?, Answer::Opened(Ok(2)));
-    Ok(())
-}
-
 #[test]
 fn a_full_disk_takes_a_peer_down(rt: HostRuntime) -> Result<(), Fail> {
     let alloc = rt.alloc();
@@ -371,11 +309,64 @@ fn a_full_disk_takes_a_peer_down(rt: HostRuntime) -> Result<(), Fail> {
     Ok(())
 }
 
+/// HELLO from one of the two to the other, in room 7 and epoch 1, where the other's is unknown.
+const HELLO_OF_ONE: &[u8] =
+    b"\x43\x38\x01\x01\x6d\x05\x0b\xae\xdf\x4a\xbc\x06\x01\x02\0\0\0\0\0\x01\0\0\0\0";
+
+const HELLO_OF_TWO: &[u8] =
+    b"\x43\x38\x01\x01\x6d\x05\x0b\xae\xdf\x4a\xbc\x06\x02\x01\0\0\0\0\0\x01\0\0\0\0";
+
+/// A player says HELLO so often, each time with the next number, the first of them `from`.
+fn say_hello(
+    rt: &impl Abort,
+    alloc: Global,
+    world: &mut World<'_>,
+    events: &[Event],
+    from: u64,
+) -> Result<(), Fail> {
+    let answers = all_answered(alloc, world, events)?;
+    assert_eq!(rt; answers.len(), events.len());
+    let mut number = from;
+    for answer in &answers {
+        let posted = Posted { number, length: 24 };
+        assert_eq!(rt; *answer, Answer::Said(Ok(posted)));
+        number = number.saturating_add(1);
+    }
+    Ok(())
+}
+
+#[test]
+fn all_that_is_said_is_kept(rt: HostRuntime) -> Result<(), Fail> {
+    let alloc = rt.alloc();
+    let game = Game::read(alloc, GAME)?;
+    let mut world = World::new(alloc, &game, 7, 20000, 4000)?;
+    done(alloc, &mut world, Act::Open(ONE))?;
+    done(alloc, &mut world, Act::Open(TWO))?;
+    let hello = Event::Do(Act::Say(ONE, TWO, Kind::Hello));
+    say_hello(&rt, alloc, &mut world, &[hello; 130], 0)?;
+    let hello = Event::Do(Act::Say(TWO, ONE, Kind::Hello));
+    say_hello(&rt, alloc, &mut world, &[hello; 170], 130)?;
+    assert_eq!(rt; world.said(), 300);
+    for number in 0..300 {
+        let hello = if number < 130 {
+            HELLO_OF_ONE
+        } else {
+            HELLO_OF_TWO
+        };
+        assert!(rt; world.datagram(number) == Some(hello));
+    }
+    assert!(rt; world.datagram(300).is_none());
+    assert!(rt; world.datagram(18446744073709551615).is_none());
+    Ok(())
+}
+
 #[test]
 fn want_of_memory_is_named(rt: HostRuntime) -> Result<(), Fail> {
     let error = RunError::Memory(crate::Report {
         answers: Vec::new(rt.alloc()),
     });
     assert_eq!(rt; (error.number(), error.name()), (1, "Memory"));
+    let told = format!(in rt.alloc(); "{error}")?;
+    assert_eq!(rt; told.as_str(), "out of memory");
     Ok(())
 }

@@ -53,7 +53,8 @@ Refusals, each one line on standard error, as 'refused: game 5 Hex':
 Exit status: 0 done, 1 refused, 2 a mistake in the command line, 3 a disk or a socket failed";
 
 /// The end of the help of `sim`.
-pub const SIM_ENDING: &str = "The script has one event a line. Empty lines and lines that begin with # are skipped.
+pub const SIM_ENDING: &str =
+    "The script has one event a line. Empty lines and lines that begin with # are skipped.
   open P             player P's peer is opened: at first, after a stop, or after a disk fault
   tick P HHHH        P enters a key set, four hexadecimal digits
   say P TO WHAT      P says something to player TO, which nobody hears yet: hello, welcome, data,
@@ -83,7 +84,8 @@ Refusals, each one line on standard error, as 'refused: script 1 Line':
 Exit status: 0 done, 1 refused, 2 a mistake in the command line, 3 disk 1 Failed";
 
 /// The end of the help of `show`.
-pub const SHOW_ENDING: &str = "Refusals, each one line on standard error, as 'refused: wire 5 Length':
+pub const SHOW_ENDING: &str =
+    "Refusals, each one line on standard error, as 'refused: wire 5 Length':
   hex 1 Bad        a word that is not pairs of hexadecimal digits
   hex 2 Memory     out of memory
   wire 1 Short     fewer than 24 bytes

@@ -230,7 +230,11 @@ fn lets_happen_what_a_file_says(rt: HostRuntime) -> Result<(), Fail> {
             told.printed.as_str(),
             told.refused.as_str()
         ),
-        (0, "1 epoch 1\n2 now 1 confirmed 0\nplayer 1 now 0 confirmed 0 held 0 0\nplayer 2 now 1 confirmed 0 held 0 1\nagree yes\n", "")
+        (
+            0,
+            "1 epoch 1\n2 now 1 confirmed 0\nplayer 1 now 0 confirmed 0 held 0 0\nplayer 2 now 1 confirmed 0 held 0 1\nagree yes\n",
+            ""
+        )
     );
     let rows = [
         ([game, faulty], 1, "refused: script 1 Line\n"),

@@ -52,10 +52,13 @@ fn prints(
 /// A script without events leaves nobody opened, and each with the delay's empty sets.
 #[test]
 fn nothing_happens(rt: HostRuntime) -> Result<(), Fail> {
-    let four = "players 4\nipf 10\nframes 100\ndelay 3\nwindow 8\nseed 0\nmask1 000f\nmask2 fff0\nmask3 ffff\nmask4 ffff\ncode 1200\n";
-    let wanted = "player 1 now 0 confirmed 0 held 3 3 3 3\nplayer 2 now 0 confirmed 0 held 3 3 3 3\nplayer 3 now 0 confirmed 0 held 3 3 3 3\nplayer 4 now 0 confirmed 0 held 3 3 3 3\nagree yes\n";
+    let four =
+        "players 4\nipf 10\nframes 100\ndelay 3\nwindow 8\nseed 0\nmask1 000f\nmask2 fff0\nmask3 ffff\nmask4 ffff\ncode 1200\n";
+    let wanted =
+        "player 1 now 0 confirmed 0 held 3 3 3 3\nplayer 2 now 0 confirmed 0 held 3 3 3 3\nplayer 3 now 0 confirmed 0 held 3 3 3 3\nplayer 4 now 0 confirmed 0 held 3 3 3 3\nagree yes\n";
     prints(&rt, rt.alloc(), four, "# no event\n\n", wanted)?;
-    let two = "player 1 now 0 confirmed 0 held 0 0\nplayer 2 now 0 confirmed 0 held 0 0\nagree yes\n";
+    let two =
+        "player 1 now 0 confirmed 0 held 0 0\nplayer 2 now 0 confirmed 0 held 0 0\nagree yes\n";
     prints(&rt, rt.alloc(), TWO, "", two)
 }
 
@@ -112,18 +115,26 @@ fn a_disk_is_full(rt: HostRuntime) -> Result<(), Fail> {
 /// Each journal has one record of the opening, and then 13 a round: 12 ticks and what comes from the
 /// other player. After 315 rounds it is full.
 fn full_match(alloc: Global) -> Result<(String, String), Fail> {
-    let mut script = "open 1\nopen 2\nsay 1 2 hello\ngive 0 2\nsay 2 1 welcome\ngive 1 1\nsay 1 2 welcome\ngive 2 2\n"
-        .to_string(alloc)?;
-    let mut wanted = "1 epoch 1\n2 epoch 1\n3 datagram 0 length 24\n4 nothing\n5 datagram 1 length 28\n6 nothing\n7 datagram 2 length 28\n8 nothing\n"
-        .to_string(alloc)?;
+    let mut script =
+        "open 1\nopen 2\nsay 1 2 hello\ngive 0 2\nsay 2 1 welcome\ngive 1 1\nsay 1 2 welcome\ngive 2 2\n".to_string(
+            alloc,
+        )?;
+    let mut wanted =
+        "1 epoch 1\n2 epoch 1\n3 datagram 0 length 24\n4 nothing\n5 datagram 1 length 28\n6 nothing\n7 datagram 2 length 28\n8 nothing\n".to_string(
+            alloc,
+        )?;
     let mut event = 8;
     for round in 0..315 {
         add_round(alloc, &mut script, &mut wanted, event, round)?;
         event += 28;
     }
     script.push_str("tick 1 0001\ntick 1 0001\nopen 1\ntick 1 0001\nopen 1\ntick 2 0001\n")?;
-    wanted.push_str("8829 no tick 4 Disk\n8830 down\n8831 no open 6 Disk\n8832 down\n8833 no open 6 Disk\n8834 no tick 4 Disk\n")?;
-    wanted.push_str("player 1 now 3780 confirmed 3780 held 3780 3780\nplayer 2 now 3780 confirmed 3780 held 3780 3780\nagree yes\n")?;
+    wanted.push_str(
+        "8829 no tick 4 Disk\n8830 down\n8831 no open 6 Disk\n8832 down\n8833 no open 6 Disk\n8834 no tick 4 Disk\n",
+    )?;
+    wanted.push_str(
+        "player 1 now 3780 confirmed 3780 held 3780 3780\nplayer 2 now 3780 confirmed 3780 held 3780 3780\nagree yes\n",
+    )?;
     Ok((script, wanted))
 }
 
@@ -148,12 +159,15 @@ fn add_round(
         }
     }
     let (first, second) = (3 + 2 * round, 4 + 2 * round);
-    let lines =
-        format!(in alloc; "say 1 2 data\ngive {first} 2\nsay 2 1 data\ngive {second} 1\n")?;
+    let lines = format!(in alloc; "say 1 2 data\ngive {first} 2\nsay 2 1 data\ngive {second} 1\n")?;
     script.push_str(lines.as_str())?;
     let lines = format!(in alloc;
         "{} datagram {first} length 70\n{} kept\n{} datagram {second} length 70\n{} kept\n",
-        event + 1, event + 2, event + 3, event + 4)?;
+        event + 1,
+        event + 2,
+        event + 3,
+        event + 4
+    )?;
     wanted.push_str(lines.as_str())?;
     Ok(())
 }

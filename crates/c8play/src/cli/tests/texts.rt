@@ -49,7 +49,8 @@ Refusals, each one line on standard error, as 'refused: game 5 Hex':
 Exit status: 0 done, 1 refused, 2 a mistake in the command line, 3 disk 1 Failed
 ";
 
-pub const PEER_HELP: &str = "Plays a game with others over UDP, and prints the machine that all agree on
+pub const PEER_HELP: &str =
+    "Plays a game with others over UDP, and prints the machine that all agree on
 
 Usage: c8play peer [OPTIONS] <GAME> <PLAYER> <JOURNAL> <LOCAL> [REMOTE]...
 

@@ -293,7 +293,8 @@ mask4 ffff
 code 1200
 ";
 
-const SILENT: &str = "# Player 1 lets player 4 go. Player 2 answers and player 3 is silent, so nothing is decided before player 3 is
+const SILENT: &str =
+    "# Player 1 lets player 4 go. Player 2 answers and player 3 is silent, so nothing is decided before player 3 is
 # let go too.
 open 1
 open 2

@@ -14,7 +14,8 @@ mask2 fff0
 code 1200
 ";
 
-const TURNS: &str = "# Two players who may be one frame ahead. Player 1 has to wait for what player 2 enters; what comes twice
+const TURNS: &str =
+    "# Two players who may be one frame ahead. Player 1 has to wait for what player 2 enters; what comes twice
 # changes nothing.
 open 1
 open 2
@@ -72,7 +73,8 @@ mask2 fff0
 code 1200
 ";
 
-const NETWORK: &str = "# A network that loses a datagram, brings another one twice, and brings three in another order. What a player
+const NETWORK: &str =
+    "# A network that loses a datagram, brings another one twice, and brings three in another order. What a player
 # enters counts one frame later.
 open 1
 open 2
@@ -155,7 +157,8 @@ mask2 fff0
 code 6004e09e120272011202
 ";
 
-const ROLLBACK: &str = "# Player 1 runs eight frames ahead on the guess that player 2 holds no key down, which is wrong in the first.
+const ROLLBACK: &str =
+    "# Player 1 runs eight frames ahead on the guess that player 2 holds no key down, which is wrong in the first.
 open 1
 open 2
 # the link of players 1 and 2
@@ -233,7 +236,8 @@ mask2 fff0
 code 1200
 ";
 
-const END: &str = "# A game of one frame: the second tick is past the end, whether or not the first frame is confirmed.
+const END: &str =
+    "# A game of one frame: the second tick is past the end, whether or not the first frame is confirmed.
 open 1
 open 2
 tick 1 0001

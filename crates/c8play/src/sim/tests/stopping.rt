@@ -14,7 +14,8 @@ mask2 fff0
 code 1200
 ";
 
-const CRASH: &str = "# Player 1 stops inside a tick, twice. Three calls of its disk are served: the record and its gate are written,
+const CRASH: &str =
+    "# Player 1 stops inside a tick, twice. Three calls of its disk are served: the record and its gate are written,
 # but the gate is not synced.
 open 1
 open 2
@@ -100,7 +101,8 @@ mask2 fff0
 code 1200
 ";
 
-const STOPS: &str = "# Player 1 stops inside a tick at each of its four disk calls. A stop before the gate is written loses the set,
+const STOPS: &str =
+    "# Player 1 stops inside a tick at each of its four disk calls. A stop before the gate is written loses the set,
 # whatever the crash leaves; after it and before the last sync the crash decides; then the set is there.
 open 1
 # nothing is written, the record is, the record is synced
