@@ -7,6 +7,8 @@ mod playing;
 mod refusing;
 mod stopping;
 
+ghost use Rattle.std.specs.Prelude.{◌<◌};
+
 use crate::sim::sim;
 use crate::status::Status;
 use crate::tests::{FailsOnce, Outcome, text_of};
@@ -123,10 +125,8 @@ fn full_match(alloc: Global) -> Result<(String, String), Fail> {
         "1 epoch 1\n2 epoch 1\n3 datagram 0 length 24\n4 nothing\n5 datagram 1 length 28\n6 nothing\n7 datagram 2 length 28\n8 nothing\n".to_string(
             alloc,
         )?;
-    let mut event = 8;
     for round in 0..315 {
-        add_round(alloc, &mut script, &mut wanted, event, round)?;
-        event += 28;
+        add_round(alloc, &mut script, &mut wanted, round)?;
     }
     script.push_str("tick 1 0001\ntick 1 0001\nopen 1\ntick 1 0001\nopen 1\ntick 2 0001\n")?;
     wanted.push_str(
@@ -138,26 +138,28 @@ fn full_match(alloc: Global) -> Result<(String, String), Fail> {
     Ok((script, wanted))
 }
 
-/// Twelve ticks of each player, and what they tell each other, after so many events.
+/// Twelve ticks of each player, and what they tell each other. A round is 28 events, after the first
+/// eight.
 fn add_round(
     alloc: Global,
     script: &mut String,
     wanted: &mut String,
-    before: u32,
     round: u32,
-) -> Result<(), Fail> {
-    let mut event = before;
-    for player in 1..3 {
+) -> Result<(), Fail>
+    requires { round < 315 }
+{
+    let confirmed = 12 * round;
+    for player in 0..2 {
         for tick in 1..13 {
-            event += 1;
-            let now = 12 * round + tick;
-            let confirmed = 12 * round;
-            let line = format!(in alloc; "tick {player} 0a0b\n")?;
+            let line = format!(in alloc; "tick {} 0a0b\n", player + 1)?;
             script.push_str(line.as_str())?;
+            let event = 8 + 28 * round + 12 * player + tick;
+            let now = confirmed + tick;
             let line = format!(in alloc; "{event} now {now} confirmed {confirmed}\n")?;
             wanted.push_str(line.as_str())?;
         }
     }
+    let event = 32 + 28 * round;
     let (first, second) = (3 + 2 * round, 4 + 2 * round);
     let lines = format!(in alloc; "say 1 2 data\ngive {first} 2\nsay 2 1 data\ngive {second} 1\n")?;
     script.push_str(lines.as_str())?;
