@@ -98,19 +98,23 @@ fn reopened(alloc: Global, world: &mut World<'_>, act: Act) -> Result<Found, Fai
     };
     let ends = world.ends(alloc)?;
     let place = usize::from(player.number - 1);
-    match (
-        read.players.get(place),
-        ends.players.get(place),
-        world.peer(player),
-    ) {
-        (Some(before), Some(tally), Some(peer)) if before == tally => Ok(Found {
-            epoch,
-            tally: *tally,
-            leaving: peer.leaving(TWO),
-            cut: peer.cut_of(TWO),
-        }),
-        _ => Err(Fail::from("the read of the disk is not what the opening finds")),
+    let before = read.players.get(place).copied();
+    let after = ends.players.get(place).copied();
+    let (Some(before), Some(tally)) = (before, after) else {
+        return Err(Fail::from("no such player"));
+    };
+    let Some(peer) = world.peer(player) else {
+        return Err(Fail::from("not up"));
+    };
+    if before != tally {
+        return Err(Fail::from("a read finds something else"));
     }
+    Ok(Found {
+        epoch,
+        tally,
+        leaving: peer.leaving(TWO),
+        cut: peer.cut_of(TWO),
+    })
 }
 
 /// What is found after the event at a place was stopped.
