@@ -1,5 +1,5 @@
 //! Key sets, players, and a row of one key set a player.
-ghost use Rattle.std.specs.Prelude.{◌≡◌, ◌≤◌, ◌<◌, ◌⊎◌, true, false, MatchOption, IfOk, IfErr, IfNone, IfSome};
+ghost use Rattle.std.specs.Prelude.{◌≡◌, ◌≤◌, ◌<◌, ◌⊎◌, ◌↔◌, true, false, MatchOption, IfOk, IfErr, IfNone, IfSome};
 
 use std::fmt;
 use thiserror::Error;
@@ -84,4 +84,13 @@ impl fmt::Display for Player {
 #[derive(Clone, Copy, Debug, Default, PartialEq, Eq)]
 pub struct Row {
     pub sets: [Keys; 4],
+}
+
+impl Row {
+    /// Whether both rows hold the same sets, as `==` says it, with a contract.
+    pub fn is_same(&self, other: &Row) -> bool
+        ensures { (result ≡ true) ↔ (self.now ≡ other.now) }
+    {
+        self == other
+    }
 }

@@ -111,18 +111,12 @@ impl<'w, 'g> Standing<'w, 'g> {
     {
         let frames = self.confirmed().min(other.confirmed());
         for frame in 0..frames {
-            if !is_same_row(&self.row(frame), &other.row(frame)) {
+            if !self.row(frame).is_same(&other.row(frame)) {
                 return false;
             }
         }
         true
     }
-}
-
-fn is_same_row(one: &Row, other: &Row) -> bool
-    ensures { (result ≡ true) ↔ (one.now ≡ other.now) }
-{
-    one == other
 }
 
 /// Whether any two of the players whom player one has not let go have the same rows.

@@ -3,13 +3,13 @@ use Rattle.c8_world.specs.Ends.{known_at, both}
 use Rattle.c8_world.proofs.EndLemmas.{same_rows, same_row_of}
 use Rattle.c8_world.proofs.ends.Standing.agrees.Goals as goal
 
-pub returns-then-not-is_same_row : goal.returns-then-not-is_same_row
-returns-then-not-is_same_row c = (
+pub returns-then-not-is_same : goal.returns-then-not-is_same
+returns-then-not-is_same c = (
   λ no. absurd (cc no),
   λ same.
       let frames = c.loop-frame.invariant.frames in
       let within : c.loop-frame.frame < both (known_at c.args.self.now) (known_at c.args.other.now) = omega (arith, frames) in
-      sym c.if-not-is_same_row.true ∙ c.is_same_row.ensures.1 (c.row.ensures ∙ same_row_of (known_at c.args.self.now) (known_at c.args.other.now) c.loop-frame.frame same within ∙ sym c.row-in-loop-frame.ensures),
+      sym c.if-not-is_same.true ∙ c.is_same.ensures.1 (c.row.ensures ∙ same_row_of (known_at c.args.self.now) (known_at c.args.other.now) c.loop-frame.frame same within ∙ sym c.row-in-loop-frame.ensures),
 )
 
 pub returns : goal.returns
