@@ -6,7 +6,8 @@ ghost use Rattle.c8_log.specs.Slots.{slot_length};
 ghost use Rattle.c8_record.specs.Allowed.{IsAllowed};
 ghost use Rattle.c8_record.specs.Lent.{value_of};
 ghost use Rattle.c8_roll.specs.Roll.{roll_of};
-ghost use Rattle.c8_roll.specs.Seen.{value_of as seen};
+ghost use Rattle.c8_roll.specs.Seen.{value_of as seen, last_run_of};
+ghost use Rattle.c8_roll.specs.Rollback.{IsWithinWindow};
 ghost use Rattle.c8_peer.specs.State.{Open, Down};
 ghost use Rattle.c8_peer.specs.Held.{is_opening, WasRoll};
 
@@ -22,6 +23,7 @@ use c8_disk::{Arm, Disk, DiskError};
 use c8_game::Game;
 use c8_known::Known;
 use c8_log::Journal;
+use c8_record::laws::journals_stay_within_the_window;
 use c8_record::{Record, body_of, make_known};
 use c8_roll::Roll;
 pub use rows::Rows;
@@ -45,9 +47,9 @@ pub struct Peer<'g, D: Disk> {
 }
 
 impl<'g, D: Disk> Model for Peer<'g, D> {
-    ghost use Rattle.std.specs.Prelude.{◌≡◌};
+    ghost use Rattle.std.specs.Prelude.{◌≡◌, ◌≤◌, ◌+◌, ◌⊎◌};
     ghost use Rattle.c8_roll.specs.Roll.{roll_of};
-    ghost use Rattle.c8_roll.specs.Seen.{value_of};
+    ghost use Rattle.c8_roll.specs.Seen.{value_of, last_run_of};
     ghost use Rattle.c8_peer.specs.Peer.{PeerValue, state_of};
     ghost use Rattle.c8_peer.specs.Held.{IsPeer};
 
@@ -62,7 +64,8 @@ impl<'g, D: Disk> Model for Peer<'g, D> {
     } };
 
     ghost invariant = { λ p. IsPeer p.game.now p.room p.journal p.known p.memory
-        × (value_of p.roll ≡ roll_of p.game.now p.known) };
+        × (value_of p.roll ≡ roll_of p.game.now p.known)
+        × ((last_run_of p.roll ≤ p.game.now.window + 1) ⊎ (last_run_of p.roll ≡ p.known.ticks)) };
 }
 
 impl<'g, D: Disk> Peer<'g, D> {
@@ -129,8 +132,9 @@ impl<'g, D: Disk> Peer<'g, D> {
         ensures same { IsSameDisk D.Disk self.old.disk self.new.disk }
         ensures journal { LeavesJournal D.Disk self.new }
     {
-        // For the proof: none is pending at a journal that is up.
+        // For the proof: none is pending at a journal that is up, and no peer is too far ahead.
         let _up = self.journal.is_down();
+        journals_stay_within_the_window();
         match self.journal.append(&body_of(lent)) {
             Ok(()) => {
                 make_known(&mut self.known, lent);
@@ -149,7 +153,9 @@ impl<'g, D: Disk> Peer<'g, D> {
 /// Takes what is known now.
 fn go_on(roll: &mut Roll<'_>, known: &Known)
     requires { WasRoll (seen roll.old) known.now }
-    ensures { seen roll.new ≡ roll_of (seen roll.old).rules known.now }
+    ensures grown { seen roll.new ≡ roll_of (seen roll.old).rules known.now }
+    ensures bound { IsWithinWindow (seen roll.old)
+        → last_run_of roll.new ≤ (seen roll.old).rules.window + 1 }
 {
     if known.ticks() > roll.ticks() {
         roll.advance(known);

@@ -1,2 +1,3 @@
 pub mod TakenLemmas
 pub mod ReplayLemmas
+mod WindowLemmas

@@ -4,7 +4,7 @@ ghost use Rattle.std.specs.Prelude.{◌≡◌, ◌≢◌, ℕ, ◌+◌, ◌<◌,
 ghost use Rattle.c8_game.specs.Rules.{Rules, AreInRange};
 ghost use Rattle.c8_known.specs.Journal.{Record, epoch};
 ghost use Rattle.c8_known.specs.Known.{known_of, with_record, IsKnown};
-ghost use Rattle.c8_known.specs.Confirmed.{confirmed_rows};
+ghost use Rattle.c8_known.specs.Confirmed.{confirmed, confirmed_rows};
 ghost use Rattle.c8_known.specs.Growth.{Begins, IsStillKnown};
 ghost use Rattle.c8_record.specs.Body.{body_of, record_of, records_of, HasSpelling, Spells};
 ghost use Rattle.c8_record.specs.declared.error.ReplayError.{ReplayError};
@@ -72,4 +72,12 @@ pub fn journals_are_not_refused()
 pub fn leavers_are_orderly()
     ensures { (rules : Rules) (me room : ℕ) (journal : List Record)
         → IsJournal rules me room journal → IsOrderly (known_of rules me journal) }
+{}
+
+/// No player runs further ahead of the frames that its journal confirms than the game's window.
+pub fn journals_stay_within_the_window()
+    ensures { (rules : Rules) (me room : ℕ) (journal : List Record) → AreInRange rules
+        → 1 ≤ me → me ≤ rules.players → IsJournal rules me room journal
+        → (known_of rules me journal).ticks
+        ≤ confirmed (known_of rules me journal) + rules.window }
 {}

@@ -4,15 +4,14 @@ use Rattle.std.specs.List.{range_with_len}
 use Rattle.std.proofs.lemmas.List.FromFn.{map-range_with_len_more}
 use Rattle.c8_game.specs.Rules.{Rules}
 use Rattle.c8_game.specs.declared.row.Row.{Row}
-use Rattle.c8_machine.specs.State.{State}
 use Rattle.c8_machine.specs.Serial.{serial}
 use Rattle.c8_digest.specs.declared.marks.FrameMark.{FrameMark}
 use Rattle.c8_digest.specs.StateBytes.{mark_of}
 use Rattle.c8_digest.specs.Marks.{kept}
 use Rattle.c8_known.specs.Known.{KnownValue}
-use Rattle.c8_known.specs.Confirmed.{confirmed, row, rows_below, confirmed_rows, best_row, best_rows_below}
+use Rattle.c8_known.specs.Confirmed.{confirmed, row, rows_below, best_row, best_rows_below}
 use Rattle.c8_known.specs.Growth.{IsStillKnown}
-use Rattle.c8_known.specs.ConfirmedLaws.{map_same, confirmed_is, confirmed_rises, row_stays, best_of_confirmed}
+use Rattle.c8_known.specs.ConfirmedLaws.{map_same, confirmed_rises, row_stays, best_of_confirmed}
 use Rattle.c8_roll.specs.Roll.{mark_after, marks_up_to, RollValue, roll_of}
 
 pub rows_next : (k : KnownValue) (n : ℕ) → rows_below k (n + 1) ≡ rows_below k n ++ row k n ∷ []
@@ -50,21 +49,10 @@ marks_same rules old new still n within =
     (λ i to. ap (λ (rows : List Row). record { frame = 32 * i; mark = mark_of (serial rules rows) }) (rows_same old new still (32 * i) (omega (arith, to, within)))))
 
 -- the best guesses at confirmed frames are their rows
-pub best_confirmed : (k : KnownValue) → best_rows_below k (confirmed k) ≡ confirmed_rows k
-best_confirmed k = map_same (best_row k) (row k) 0 (confirmed k) (λ i to. best_of_confirmed k i (omega (arith, to)))
+pub best_sure : (k : KnownValue) (n : ℕ) → n ≤ confirmed k → best_rows_below k n ≡ rows_below k n
+best_sure k n sure = map_same (best_row k) (row k) 0 n (λ i to. best_of_confirmed k i (omega (arith, to, sure)))
 
 -- ---- rolls
-
-pub rolled : (rules : Rules) (k : KnownValue) (n ticks : ℕ) (base shown : State) (marks : List FrameMark) → n ≡ confirmed k → ticks ≡ k.ticks
-    → base ≡ serial rules (rows_below k n) → marks ≡ marks_up_to rules k n → (n ≤ ticks → base ≡ serial rules (best_rows_below k n) → shown ≡ serial rules (best_rows_below k ticks))
-    → ◌≡◌ {A = RollValue} (record { rules = rules; ticks = ticks; shown = shown; confirmed = n; base = base; marks = marks }) (roll_of rules k)
-unfolding roll_of
-rolled rules k n ticks base shown marks all made run noted guessed =
-    let known : base ≡ serial rules (confirmed_rows k) = run ∙ ap (λ (m : ℕ). serial rules (rows_below k m)) all in
-    let guess : base ≡ serial rules (best_rows_below k n) = known ∙ ap (serial rules) (sym (best_confirmed k)) ∙ ap (λ (m : ℕ). serial rules (best_rows_below k m)) (sym all) in
-    let seen : shown ≡ serial rules (best_rows_below k k.ticks) = guessed (omega (arith, all, made, (confirmed_is k).ticked)) guess ∙ ap (λ (m : ℕ). serial rules (best_rows_below k m)) made in
-    let marked : marks ≡ marks_up_to rules k (confirmed k) = noted ∙ ap (λ (m : ℕ). marks_up_to rules k m) all in
-    λ i. record { rules = rules; ticks = made i; shown = seen i; confirmed = all i; base = known i; marks = marked i }
 
 -- what was rolled before is so still
 pub record IsStill (rules : Rules) (now : KnownValue) (old : RollValue) : Type 0 where

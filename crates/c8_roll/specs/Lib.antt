@@ -1,3 +1,5 @@
 pub mod Roll
+pub mod Timeline
 pub mod Seen
+pub mod Rollback
 pub mod RollLaws

@@ -1,14 +1,26 @@
 -- What a caller sees of a roll.
+use Rattle.std.specs.Prelude.{ℕ, List, map}
+use Rattle.c8_game.specs.declared.row.Row.{Row}
 use Rattle.c8_machine.specs.State.{state}
+use Rattle.c8_roll.specs.declared.timeline.Snapshot.{Snapshot}
 use Rattle.c8_roll.specs.declared.roll.Roll.{Roll}
 use Rattle.c8_roll.specs.Roll.{RollValue}
+use Rattle.c8_roll.specs.Timeline.{state_at}
 
 abbrev pub value_of : Roll → RollValue
 value_of roll = record {
-  rules = roll.game.now;
-  ticks = roll.ticks;
-  shown = state roll.shown;
-  confirmed = roll.confirmed;
-  base = state roll.base;
+  rules = roll.timeline.rules;
+  ticks = roll.timeline.ticks;
+  shown = state roll.timeline.shown;
+  confirmed = roll.timeline.first;
+  base = state_at roll.timeline 0;
   marks = roll.marks;
 }
+
+-- the rows that the frames from the confirmed ones on were run with, as far as they are kept
+abbrev pub rows_run : Roll → List Row
+rows_run roll = map (λ (s : Snapshot). s.row) roll.timeline.snapshots
+
+-- how many frames the last call has run
+abbrev pub last_run_of : Roll → ℕ
+last_run_of roll = roll.timeline.last_run

@@ -1,10 +1,12 @@
 //! What callers may rest on that is no single call's, each the contract of a function that does
 //! nothing.
-ghost use Rattle.std.specs.Prelude.{◌≡◌, ◌*◌, ◌/◌, ℕ, Some};
+ghost use Rattle.std.specs.Prelude.{◌≡◌, ℕ, ◌+◌, ◌*◌, ◌/◌, ◌≤◌, List, Option, Some};
 ghost use Rattle.c8_game.specs.Rules.{Rules};
 ghost use Rattle.c8_digest.specs.Marks.{newest_of};
 ghost use Rattle.c8_known.specs.Known.{KnownValue};
 ghost use Rattle.c8_known.specs.Confirmed.{confirmed};
+ghost use Rattle.c8_game.specs.declared.row.Row.{Row};
+ghost use Rattle.c8_roll.specs.Rollback.{KeepsRows, IsOldestChange, IsOldestWrong};
 ghost use Rattle.c8_roll.specs.Roll.{mark_step, mark_after, marks_up_to, RollValue, roll_of};
 
 /// The newest mark is that of the machine after the last multiple of 32 confirmed frames.
@@ -15,4 +17,12 @@ pub fn the_newest_mark_is_at_the_last_step()
     ensures roll { (rules : Rules) (k : KnownValue) (v : RollValue) → v ≡ roll_of rules k
         → newest_of v.marks
         ≡ Some (mark_after rules k (mark_step * (confirmed k / mark_step))) }
+{}
+
+/// Of a player who is at most a window and one frame ahead: where the rows that were run are kept
+/// (`KeepsRows`), the answer of `settle` is the oldest frame whose best guess has changed.
+pub fn the_answer_is_the_oldest_wrong_guess()
+    ensures { (window : ℕ) (before now : KnownValue) (rows : List Row) (answer : Option ℕ)
+        → KeepsRows window before rows → before.ticks ≤ confirmed before + window + 1
+        → IsOldestChange rows (confirmed before) now answer → IsOldestWrong before now answer }
 {}

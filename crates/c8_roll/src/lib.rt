@@ -1,15 +1,20 @@
-//! Prediction by running again: what a player sees, and what is certain.
+//! Prediction and rollback: what a player sees, and what is certain.
 //!
-//! A roll shows the machine that is run on the best guess at every input, and keeps the one that is
-//! run on the confirmed rows alone, with its marks. Both are serial runs from the first machine on,
-//! in whatever order the inputs came. The definitions are in `specs/Roll.antt`, and `laws` has what
-//! follows from them. Only `Roll::open` takes memory; `Roll::over` runs in what was reserved before.
+//! A roll shows the machine that is run on the best guess at every input, and the one that is run on
+//! the confirmed rows alone, with its marks. Both are serial runs from the first machine on, in
+//! whatever order the inputs came (`specs/Roll.antt`; `laws` has what follows). It keeps a snapshot
+//! of each frame that is not confirmed, up to a window and one, with the row that was run: a call
+//! goes back to the oldest frame whose best guess is not that row any more, and runs on from there
+//! (`specs/Rollback.antt`). So a call runs no confirmed frame again; only `open` and `over` run all.
+//! `Buffers::new` and `Roll::open` take memory, and no other call.
 #![tactic(auto)]
 
+mod buffers;
 pub mod laws;
 mod roll;
-mod runs;
+mod timeline;
 
+pub use buffers::Buffers;
 pub use roll::Roll;
 
 #[cfg(test)]

@@ -1,9 +1,11 @@
 //! A roll over a game.
-ghost use Rattle.std.specs.Prelude.{◌≡◌, ◌+◌, ℕ, [], IfOk};
+ghost use Rattle.std.specs.Prelude.{◌≡◌, ◌+◌, ◌<◌, ◌≤◌, ℕ, Option, IfOk};
 ghost use Rattle.c8_machine.specs.State.{state};
 ghost use Rattle.c8_roll.specs.Roll.{roll_of, GrowsTo};
+ghost use Rattle.c8_roll.specs.Rollback.{WasKnown, IsWithinWindow, HasAllRows, LacksRows, KeepsRows, IsOldestChange, IsOldestOrLast, run_from};
 
-use crate::runs::{run_best, run_confirmed};
+use crate::buffers::Buffers;
+use crate::timeline::Timeline;
 use c8_digest::{Marks, mark};
 use c8_game::Game;
 use c8_known::Known;
@@ -13,102 +15,123 @@ use std::alloc::{AllocError, Global};
 /// What a player sees and what is certain, of one game.
 #[derive(Drop)]
 pub struct Roll<'g> {
-    game: &'g Game,
-    ticks: u32,
-    shown: Machine,
-    confirmed: u32,
-    base: Machine,
+    timeline: Timeline<'g>,
     marks: Marks,
 }
 
 impl<'g> Roll<'g> {
-    ghost use Rattle.c8_roll.specs.Seen.{value_of};
+    ghost use Rattle.c8_roll.specs.Seen.{value_of, rows_run, last_run_of};
 
     /// The roll of what is known. All its room is reserved here.
     pub fn open(alloc: Global, game: &'g Game, known: &Known) -> Result<Roll<'g>, AllocError>
         ensures roll { IfOk result (λ roll. value_of roll ≡ roll_of game.entry.now known.now) }
         ensures ticks { IfOk result (λ roll. (value_of roll).ticks ≡ known.now.ticks) }
+        ensures kept { IfOk result (λ roll.
+            KeepsRows game.entry.now.window known.now (rows_run roll)) }
+        ensures ran { IfOk result (λ roll. last_run_of roll ≡ known.now.ticks) }
     {
-        Ok(Roll::over(game, known, Marks::new(alloc)?))
+        Ok(Roll::over(game, known, Buffers::new(alloc, game)?))
     }
 
-    /// The roll of what is known, with marks that were made before and noted nothing yet: their
-    /// room is all that a roll needs, and this takes none.
-    pub fn over(game: &'g Game, known: &Known, marks: Marks) -> Roll<'g>
-        requires { marks ≡ [] }
+    /// The roll of what is known, in room that was reserved before; this takes none.
+    pub fn over(game: &'g Game, known: &Known, buffers: Buffers) -> Roll<'g>
+        requires { buffers ≡ game.now.window + 1 }
         ensures roll { value_of result ≡ roll_of game.entry.now known.now }
         ensures ticks { (value_of result).ticks ≡ known.now.ticks }
+        ensures kept { KeepsRows game.entry.now.window known.now (rows_run result) }
+        ensures ran { last_run_of result ≡ known.now.ticks }
     {
-        let mut base = Machine::start(game);
+        let Buffers { marks, snapshots } = buffers;
         let mut marks = marks;
-        marks.put(0, mark(&base));
-        let confirmed = known.confirmed();
-        run_confirmed(game, known, 0, confirmed, &mut base, &mut marks);
-        let mut shown = base;
-        let ticks = known.ticks();
-        run_best(game, known, confirmed, ticks, &mut shown);
-        Roll {
-            game,
-            ticks,
-            shown,
-            confirmed,
-            base,
-            marks,
-        }
+        let mut timeline = Timeline::new(game, snapshots);
+        marks.put(0, mark(timeline.shown()));
+        timeline.confirm_all(known, &mut marks);
+        timeline.run_on(known);
+        Roll { timeline, marks }
     }
 
-    /// Goes on by one tick of the own player.
+    /// Goes on by one tick of the own player. Of the frames that were run before, those from the
+    /// oldest one whose best guess has changed are run again.
     pub fn advance(&mut self, known: &Known)
         requires { known.now.ticks ≡ (value_of self.old).ticks + 1 }
         ensures grows { GrowsTo (value_of self.old) (value_of self.new) known.now }
         ensures ticks { (value_of self.new).ticks ≡ known.now.ticks }
         ensures game { (value_of self.new).rules ≡ (value_of self.old).rules }
+        ensures kept { WasKnown (value_of self.old) known.now
+            → KeepsRows (value_of self.old).rules.window known.now (rows_run self.new) }
+        ensures ran { HasAllRows (value_of self.old) → (oldest : Option ℕ)
+            → IsOldestChange (rows_run self.old) (value_of self.old).confirmed known.now oldest
+            → last_run_of self.new + run_from (value_of self.old).ticks oldest ≡ known.now.ticks }
+        ensures ahead { (value_of self.old).confirmed + last_run_of self.new ≤ known.now.ticks }
+        ensures bound { IsWithinWindow (value_of self.old)
+            → last_run_of self.new ≤ (value_of self.old).rules.window + 1 }
     {
-        self.run(known);
+        let _ = self.run(known);
     }
 
-    /// Takes what else is known now, where the own player made no tick.
-    pub fn settle(&mut self, known: &Known)
+    /// Takes what else is known now, where the own player made no tick. Answers the oldest frame
+    /// whose best guess is not the row that it was run with; from there on frames are run again.
+    /// Of a player who is further ahead than a window and one frame, the rows of the newest frames
+    /// are not kept: where no kept row differs, the answer is the last frame whose row is kept.
+    pub fn settle(&mut self, known: &Known) -> Option<u32>
         requires { known.now.ticks ≡ (value_of self.old).ticks }
         ensures grows { GrowsTo (value_of self.old) (value_of self.new) known.now }
         ensures ticks { (value_of self.new).ticks ≡ known.now.ticks }
         ensures game { (value_of self.new).rules ≡ (value_of self.old).rules }
+        ensures kept { WasKnown (value_of self.old) known.now
+            → KeepsRows (value_of self.old).rules.window known.now (rows_run self.new) }
+        ensures oldest { HasAllRows (value_of self.old) → IsOldestChange (rows_run self.old)
+            (value_of self.old).confirmed known.now result }
+        ensures oldest_or_last { LacksRows (value_of self.old) → IsOldestOrLast (rows_run self.old)
+            (value_of self.old).confirmed known.now result }
+        ensures ran { last_run_of self.new + run_from known.now.ticks result ≡ known.now.ticks }
+        ensures ahead { (value_of self.old).confirmed + last_run_of self.new ≤ known.now.ticks }
+        ensures bound { IsWithinWindow (value_of self.old)
+            → last_run_of self.new ≤ (value_of self.old).rules.window }
     {
-        self.run(known);
+        self.run(known)
     }
 
-    fn run(&mut self, known: &Known)
+    fn run(&mut self, known: &Known) -> Option<u32>
+        requires { (value_of self.old).ticks ≤ known.now.ticks }
         ensures grows { GrowsTo (value_of self.old) (value_of self.new) known.now }
         ensures ticks { (value_of self.new).ticks ≡ known.now.ticks }
         ensures game { (value_of self.new).rules ≡ (value_of self.old).rules }
+        ensures kept { WasKnown (value_of self.old) known.now
+            → KeepsRows (value_of self.old).rules.window known.now (rows_run self.new) }
+        ensures oldest { HasAllRows (value_of self.old) → IsOldestChange (rows_run self.old)
+            (value_of self.old).confirmed known.now result }
+        ensures oldest_or_last { LacksRows (value_of self.old) → IsOldestOrLast (rows_run self.old)
+            (value_of self.old).confirmed known.now result }
+        ensures ran { last_run_of self.new + run_from (value_of self.old).ticks result
+            ≡ known.now.ticks }
+        ensures ahead { (value_of self.old).confirmed + last_run_of self.new ≤ known.now.ticks }
     {
-        let confirmed = known.confirmed();
-        run_confirmed(
-            self.game,
-            known,
-            self.confirmed,
-            confirmed,
-            &mut self.base,
-            &mut self.marks,
-        );
-        self.confirmed = confirmed;
-        self.ticks = known.ticks();
-        self.shown = self.base;
-        run_best(self.game, known, confirmed, self.ticks, &mut self.shown);
+        let oldest = self.timeline.go_back(known);
+        self.timeline.confirm_all(known, &mut self.marks);
+        self.timeline.run_on(known);
+        oldest
     }
 
     /// How many ticks the own player has made.
     pub fn ticks(&self) -> u32
         ensures { result ≡ (value_of self.now).ticks }
     {
-        self.ticks
+        self.timeline.ticks()
+    }
+
+    /// How many frames the last call has run: `open` or `over`, `advance` or `settle`.
+    pub fn last_run(&self) -> u32
+        ensures { result ≡ last_run_of self.now }
+    {
+        self.timeline.last_run()
     }
 
     /// The machine that the player sees.
     pub fn shown(&self) -> &Machine
         ensures { state result.now ≡ (value_of self.now).shown }
     {
-        &self.shown
+        self.timeline.shown()
     }
 
     /// How many frames are confirmed, and the machine after them.
@@ -116,7 +139,7 @@ impl<'g> Roll<'g> {
         ensures confirmed { result.0 ≡ (value_of self.now).confirmed }
         ensures machine { state result.1.now ≡ (value_of self.now).base }
     {
-        (self.confirmed, &self.base)
+        (self.timeline.first(), self.timeline.base())
     }
 
     /// The marks of the confirmed machine, at the last sixteen multiples of 32 frames.

@@ -1,4 +1,8 @@
 //! A roll against machines that are run from the first frame on.
+mod chance;
+mod counts;
+mod slow;
+
 use crate::Roll;
 use c8_digest::{MARK_LENGTH, mark};
 use c8_game::{Game, Keys, Player, Row};
@@ -40,7 +44,7 @@ fn tick(known: &mut Known, roll: &mut Roll<'_>, keys: u16) -> bool {
 }
 
 /// Inputs of player 2 come. Whether they were taken.
-fn hear(known: &mut Known, roll: &mut Roll<'_>, bytes: &[u8]) -> bool {
+fn come(known: &mut Known, bytes: &[u8]) -> bool {
     let two = Player { number: 2 };
     if bytes.len() > 128 || bytes.len() % 2 != 0 || two.number > known.players() {
         return false;
@@ -52,11 +56,23 @@ fn hear(known: &mut Known, roll: &mut Roll<'_>, bytes: &[u8]) -> bool {
         return false;
     }
     known.take(two, part);
-    if known.ticks() != roll.ticks() {
-        return false;
-    }
-    roll.settle(known);
     true
+}
+
+/// What the roll answers to all that is known now.
+fn settle(known: &Known, roll: &mut Roll<'_>) -> Result<Option<u32>, Fail> {
+    if known.ticks() != roll.ticks() {
+        return Err(Fail::from("a tick that the roll has not seen"));
+    }
+    Ok(roll.settle(known))
+}
+
+/// Inputs of player 2 come. What the roll answers to them.
+fn hear(known: &mut Known, roll: &mut Roll<'_>, bytes: &[u8]) -> Result<Option<u32>, Fail> {
+    if !come(known, bytes) {
+        return Err(Fail::from("inputs that are not taken"));
+    }
+    settle(known, roll)
 }
 
 #[test]
@@ -74,7 +90,8 @@ fn takes_back_a_wrong_guess(rt: HostRuntime) -> Result<(), Fail> {
     );
     assert_eq!(rt; roll.base().0, 0);
     let bytes = b"\0\x10\0\0\0\0\0\0\0\0\0\0\0\0\0\0";
-    assert!(rt; hear(&mut known, &mut roll, bytes));
+    assert_eq!(rt; hear(&mut known, &mut roll, bytes)?, Some(0));
+    assert_eq!(rt; roll.last_run(), 8);
     assert_eq!(rt; roll.base().0, 8);
     assert_eq!(rt;
         (roll.shown().registers()[2], roll.shown().counter()),
@@ -177,9 +194,8 @@ fn plays(alloc: Global, game: &Game, frames: u32, ahead: u32, lags: &[u32]) -> R
             .min(frames);
         for next in held..due {
             let (_, two) = entered(next);
-            if !hear(&mut known, &mut roll, &two.to_be_bytes())
-                || !agrees(game, &roll, &machines, &marks, frame + 1, next + 1)
-            {
+            hear(&mut known, &mut roll, &two.to_be_bytes())?;
+            if !agrees(game, &roll, &machines, &marks, frame + 1, next + 1) {
                 return Ok(false);
             }
         }

@@ -15,13 +15,12 @@ ghost use Rattle.c8_peer.specs.OpenedParts.{disk_read, disk_begun, IsRead, IsBeg
 use super::Peer;
 use crate::error::OpenError;
 use crate::memory::Memory;
-use c8_digest::Marks;
 use c8_disk::{Disk, DiskError};
 use c8_game::{Game, Player};
 use c8_known::Known;
 use c8_log::{BODY_LENGTH, Journal, Log, LogError};
 use c8_record::{Record, ReplayError, body_of, replay};
-use c8_roll::Roll;
+use c8_roll::{Buffers, Roll};
 use std::alloc::{AllocError, Global};
 
 /// The last epoch that a record can have.
@@ -55,20 +54,20 @@ impl<'g, D: Disk> Peer<'g, D> {
             return Err((OpenError::WrongPlayer, disk));
         }
         match reserve(alloc, game, me) {
-            Ok((known, marks)) => open_in(disk, game, room, known, marks),
+            Ok((known, buffers)) => open_in(disk, game, room, known, buffers),
             Err(_) => Err((OpenError::Memory, disk)),
         }
     }
 }
 
-/// All the memory that a peer has: for what it knows, and for its marks.
-fn reserve(alloc: Global, game: &Game, me: Player) -> Result<(Known, Marks), AllocError>
+/// All the memory that a peer has: for what it knows, and for its roll.
+fn reserve(alloc: Global, game: &Game, me: Player) -> Result<(Known, Buffers), AllocError>
     requires { me.number ≤ game.now.players }
     ensures known { IfOk result (λ reserved. reserved.0 ≡ known_of game.now me.number []) }
     ensures player { IfOk result (λ reserved. reserved.0.me ≡ me.number) }
-    ensures marks { IfOk result (λ reserved. reserved.1 ≡ []) }
+    ensures buffers { IfOk result (λ reserved. reserved.1 ≡ game.now.window + 1) }
 {
-    Ok((Known::new(alloc, game, me)?, Marks::new(alloc)?))
+    Ok((Known::new(alloc, game, me)?, Buffers::new(alloc, game)?))
 }
 
 /// Opens the peer in memory that was reserved for it.
@@ -77,10 +76,10 @@ fn open_in<'g, D: Disk>(
     game: &'g Game,
     room: u64,
     known: Known,
-    marks: Marks,
+    buffers: Buffers,
 ) -> Result<Peer<'g, D>, (OpenError, D)>
     requires known { known ≡ known_of game.now known.me [] }
-    requires marks { marks ≡ [] }
+    requires buffers { buffers ≡ game.now.window + 1 }
     requires player { known.me ≤ game.now.players }
     ensures opened { IfOk result (λ peer.
         IsOpened D.Disk disk game.entry.now room known.me peer) }
@@ -96,7 +95,7 @@ fn open_in<'g, D: Disk>(
     game.in_range();
     let (log, last) = read_journal(disk, game, room, &mut known)?;
     let (journal, epoch) = begin_epoch(log, game, room, me, last)?;
-    let roll = Roll::over(game, &known, marks);
+    let roll = Roll::over(game, &known, buffers);
     let memory = Memory::new(game, room, me, epoch);
     let peer = Peer {
         game,

@@ -1,5 +1,5 @@
 //! What a peer tells of itself.
-ghost use Rattle.std.specs.Prelude.{◌≡◌, ◌≤◌};
+ghost use Rattle.std.specs.Prelude.{◌≡◌, ◌≤◌, ◌+◌, ◌⊎◌};
 ghost use Rattle.c8_machine.specs.State.{state};
 ghost use Rattle.c8_machine.specs.Serial.{serial};
 ghost use Rattle.c8_known.specs.Known.{player_in, count_in, is_frozen_in, is_player};
@@ -11,6 +11,7 @@ use super::Peer;
 use c8_disk::Disk;
 use c8_game::Player;
 use c8_machine::Machine;
+use c8_record::laws::journals_stay_within_the_window;
 
 impl<'g, D: Disk> Peer<'g, D> {
     ghost use Rattle.c8_peer.specs.Peer.{known_by};
@@ -121,6 +122,19 @@ impl<'g, D: Disk> Peer<'g, D> {
         ensures { state result.now ≡ serial self.now.rules (best_rows (known_by self.now)) }
     {
         self.roll.shown()
+    }
+
+    /// How many frames were run in the last call that recorded something. The opening runs as many
+    /// as the journal has ticks; a call after it at most the window's and its tick, since no peer is
+    /// further ahead than the window.
+    pub fn last_run(&self) -> u32
+        ensures ahead { (known_by self.now).ticks
+            ≤ confirmed (known_by self.now) + self.now.rules.window }
+        ensures bound { (result ≤ self.now.rules.window + 1)
+            ⊎ (result ≡ (known_by self.now).ticks) }
+    {
+        journals_stay_within_the_window();
+        self.roll.last_run()
     }
 
     /// How many frames are confirmed, and the machine after them.

@@ -16,6 +16,10 @@ const GAME: &[u8] =
 const SHORT: &[u8] =
     b"players 2\nipf 10\nframes 1\ndelay 0\nwindow 8\nseed 0\nmask1 000f\nmask2 fff0\ncode 1200\n";
 
+/// A game that counts the frames with player 2's key 4 down.
+const COUNTS: &[u8] =
+    b"players 2\nipf 3\nframes 100\ndelay 0\nwindow 8\nseed 0\nmask1 000f\nmask2 fff0\ncode 6004e09e120272011202\n";
+
 #[test]
 fn a_tick_is_one_record(rt: HostRuntime) -> Result<(), Fail> {
     let alloc = rt.alloc();
@@ -72,6 +76,29 @@ fn nobody_runs_further_ahead_than_the_window(rt: HostRuntime) -> Result<(), Fail
     assert_eq!(rt; table.at(1)?.confirmed(), 1);
     assert_eq!(rt; table.at(1)?.tick(Keys(9)), Ok(()));
     assert_eq!(rt; table.at(1)?.tick(Keys(10)), Err(TickError::Threshold));
+    Ok(())
+}
+
+/// Player 1 has run eight frames on the guess that player 2 holds no key down, which is wrong in the
+/// fourth: five frames are run again.
+#[test]
+fn a_late_key_is_run_again(rt: HostRuntime) -> Result<(), Fail> {
+    let alloc = rt.alloc();
+    let game = Game::read(alloc, COUNTS)?;
+    let mut table = Table::new(alloc, &game)?;
+    table.enter(1, &[0, 0, 0, 0, 0, 0, 0, 0])?;
+    assert_eq!(rt; table.at(1)?.last_run(), 1);
+    assert_eq!(rt; table.at(1)?.shown().registers()[2], 0);
+    table.enter(2, &[0, 0, 0, 0x10, 0, 0, 0, 0])?;
+    assert_eq!(rt; table.tell(2, 1, Kind::Data)?, Ok(Heard::Kept));
+    let peer = table.at(1)?;
+    assert_eq!(rt; (peer.last_run(), peer.confirmed()), (5, 8));
+    assert_eq!(rt;
+        (peer.shown().registers()[2], peer.shown().counter()),
+        (1, 0x202)
+    );
+    assert!(rt; peer.deliver(&[]).is_err());
+    assert_eq!(rt; peer.last_run(), 5);
     Ok(())
 }
 

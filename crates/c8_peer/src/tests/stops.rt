@@ -98,11 +98,12 @@ fn a_peer_whose_disk_failed_is_closed_and_opened(rt: HostRuntime) -> Result<(), 
     peer.arm(Arm::Stop(1));
     assert_eq!(rt; peer.tick(Keys(2)), Err(TickError::Disk(DiskError::Failed)));
     assert!(rt; peer.is_down());
-    assert_eq!(rt; peer.now(), 1);
+    assert_eq!(rt; (peer.now(), peer.last_run()), (1, 1));
     let again = opened(alloc, &game, 2, peer.close().crash(0))?;
     assert_eq!(rt;
         (again.now(), again.epoch(), again.is_down()),
         (1, 2, false)
     );
+    assert_eq!(rt; again.last_run(), 1);
     Ok(())
 }

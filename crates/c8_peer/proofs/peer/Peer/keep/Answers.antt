@@ -1,8 +1,8 @@
-use Rattle.std.proofs.Common.{◌∙◌, ◌++◌, ◌∷◌, [], ap, List, ℕ, Some, sym, subst, ◌≡◌}
+use Rattle.std.proofs.Common.{inl, ◌+◌, ◌≤◌, ◌∙◌, ◌++◌, ◌∷◌, [], ap, List, ℕ, Some, sym, subst, ◌≡◌}
 use Rattle.c8_game.specs.Rules.{Rules}
 use Rattle.c8_roll.specs.Roll.{roll_of}
 use Rattle.c8_roll.specs.RollLaws.{roll_rules}
-use Rattle.c8_roll.specs.Seen.{value_of as seen}
+use Rattle.c8_roll.specs.Seen.{value_of as seen, last_run_of}
 use Rattle.c8_log.specs.Journal.{JournalValue}
 use Rattle.c8_record.specs.Body.{record_of, records_of}
 use Rattle.c8_record.specs.BodyLaws.{read_again}
@@ -10,6 +10,7 @@ use Rattle.c8_record.specs.Lent.{value_of}
 use Rattle.c8_peer.specs.State.{Open}
 use Rattle.c8_peer.specs.Peer.{PeerValue}
 use Rattle.c8_peer.proofs.PeerLemmas.{is_up, peer_refused, can_follow, peer_more, was_roll, allowed_inside, view_refused, view_more, leaves_records, one_body_more}
+use Rattle.c8_peer.proofs.WindowLemmas.{is_within, roll_within}
 use Rattle.c8_peer.proofs.peer.Peer.keep.Goals as goal
 
 pub invariant_of-self-in-Err : goal.invariant_of-self-in-Err
@@ -21,6 +22,7 @@ invariant_of-self-in-Err g c =
           (ap (λ (j : JournalValue g.row.D.Denot). j.bodies) is)
           (ap (λ (j : JournalValue g.row.D.Denot). j.pending) is ∙ ap (λ (body : List ℕ). Some body) c.body_of.ensures.body),
       c.self.invariant.1,
+      c.self.invariant.2,
     )
 
 pub returns-in-Err-clause-err : goal.returns-in-Err-clause-err
@@ -57,7 +59,10 @@ invariant_of-self g c =
           (ap (λ (j : JournalValue g.row.D.Denot). j.bodies) is ∙ ap (λ (body : List ℕ). c.self.inside.journal.bodies ++ body ∷ []) c.body_of.ensures.body)
           (ap (λ (j : JournalValue g.row.D.Denot). j.pending) is ∙ c.is_down-up.ensures.up (is_up c.self.inside.journal.is_down (subst (λ (x : PeerValue g.row.D.Denot). x.state.mode ≡ Open) (sym c.self.view_is) c.requires.up)))
           c.make_known.ensures.value c.make_known.ensures.still.me,
-      c.go_on.ensures ∙ ap (λ (rules : Rules). roll_of rules c.make_known.new.known) (roll_rules c.self.inside.game.now c.self.inside.known (seen c.self.inside.roll) c.self.invariant.1),
+      c.go_on.ensures.grown ∙ ap (λ (rules : Rules). roll_of rules c.make_known.new.known) (roll_rules c.self.inside.game.now c.self.inside.known (seen c.self.inside.roll) c.self.invariant.1),
+      inl (subst (λ (rules : Rules). last_run_of c.go_on.new.roll ≤ rules.window + 1) (roll_rules c.self.inside.game.now c.self.inside.known (seen c.self.inside.roll) c.self.invariant.1)
+          (c.go_on.ensures.bound (roll_within c.self.inside.game.now c.self.inside.known (seen c.self.inside.roll) c.self.invariant.1
+          (is_within c.journals_stay_within_the_window.ensures c.self.inside.game.now c.self.inside.room c.self.inside.journal c.self.inside.known c.self.inside.memory c.self.invariant.0)))),
     )
 
 pub returns-in-Ok-clause-ok : goal.returns-in-Ok-clause-ok

@@ -1,0 +1,24 @@
+use Rattle.std.proofs.Common.{◌≡◌, inl, inr, ⊎_elim, ◌+◌, ◌≤◌, ap, subst, ◌∙◌}
+use Rattle.c8_game.specs.Rules.{Rules}
+use Rattle.c8_known.specs.Known.{KnownValue}
+use Rattle.c8_known.specs.Confirmed.{confirmed}
+use Rattle.c8_roll.specs.Seen.{last_run_of}
+use Rattle.c8_peer.specs.Peer.{PeerValue, known_by}
+use Rattle.c8_peer.proofs.ReaderLemmas.{known_is}
+use Rattle.c8_peer.proofs.WindowLemmas.{is_within}
+use Rattle.c8_peer.proofs.peer.Peer.last_run.Goals as goal
+
+pub returns-clause-ahead : goal.returns-clause-ahead
+returns-clause-ahead g c =
+    let known = known_is c.args.self.now c.self.inside.game.now c.self.inside.room c.self.inside.journal c.self.inside.known c.self.inside.memory c.self.view_is c.self.invariant.0 in
+    let few = is_within c.journals_stay_within_the_window.ensures c.self.inside.game.now c.self.inside.room c.self.inside.journal c.self.inside.known c.self.inside.memory c.self.invariant.0 in
+    subst (λ (rules : Rules). (known_by c.args.self.now).ticks ≤ confirmed (known_by c.args.self.now) + rules.window) (ap (λ (x : PeerValue g.row.D.Denot). x.rules) c.self.view_is)
+    (subst (λ (k : KnownValue). k.ticks ≤ confirmed k + c.self.inside.game.now.window) known few)
+
+pub returns-clause-bound : goal.returns-clause-bound
+returns-clause-bound g c =
+    let known = known_is c.args.self.now c.self.inside.game.now c.self.inside.room c.self.inside.journal c.self.inside.known c.self.inside.memory c.self.view_is c.self.invariant.0 in
+    let rules = ap (λ (x : PeerValue g.row.D.Denot). x.rules) c.self.view_is in
+    ⊎_elim (λ (few : last_run_of c.self.inside.roll ≤ c.self.inside.game.now.window + 1). inl (subst (λ (r : Rules). c.last_run.result ≤ r.window + 1) rules (rw c.last_run.ensures few)))
+    (λ (all : last_run_of c.self.inside.roll ≡ c.self.inside.known.ticks). inr (c.last_run.ensures ∙ all ∙ ap (λ (k : KnownValue). k.ticks) known))
+    c.self.invariant.2

@@ -1,0 +1,5 @@
+use Rattle.c8_record.proofs.WindowLemmas.{within_window}
+use Rattle.c8_record.proofs.laws.journals_stay_within_the_window.Goals as goal
+
+pub returns : goal.returns
+returns c = within_window

@@ -1,0 +1,5 @@
+use Rattle.c8_roll.specs.Timeline.{AreBest}
+use Rattle.c8_roll.proofs.timeline.Timeline.change.Given as goal
+
+abbrev pub invariant-loop-place : goal.invariant-loop-place
+invariant-loop-place l = AreBest l.self l.known l.place

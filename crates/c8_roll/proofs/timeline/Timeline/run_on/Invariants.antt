@@ -1,0 +1,17 @@
+use Rattle.std.proofs.Common.{◌≡◌, ◌+◌}
+use Rattle.c8_machine.specs.State.{state}
+use Rattle.c8_machine.specs.Serial.{serial}
+use Rattle.c8_known.specs.Confirmed.{best_rows_below}
+use Rattle.c8_roll.specs.Timeline.{IsTimeline, IsRunOf}
+use Rattle.c8_roll.proofs.timeline.Timeline.run_on.Given as goal
+
+abbrev pub invariant-loop-frame : goal.invariant-loop-frame
+invariant-loop-frame l = record {
+  is : IsTimeline l.self;
+  rules : l.self.rules ≡ l.initial.self.rules;
+  first : l.self.first ≡ l.initial.self.first;
+  ticks : l.self.ticks ≡ l.frame;
+  counted : l.self.last_run + l.initial.self.ticks ≡ l.initial.self.last_run + l.self.ticks;
+  run : IsRunOf l.known l.initial.self → IsRunOf l.known l.self;
+  shown : IsRunOf l.known l.initial.self → state l.self.shown ≡ serial l.initial.self.rules (best_rows_below l.known l.frame);
+}
