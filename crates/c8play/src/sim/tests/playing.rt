@@ -225,6 +225,70 @@ player 2 now 8 confirmed 0 held 0 8
 agree yes
 ";
 
+const LATE: &str =
+    "# Player 1 runs eight frames ahead on the guess that player 2 holds no key down, which is wrong in the fourth alone.
+open 1
+open 2
+# the link of players 1 and 2
+say 1 2 hello
+give 0 2
+say 2 1 welcome
+give 1 1
+say 1 2 welcome
+give 2 2
+# eight frames with nothing of player 2
+tick 1 0000
+tick 1 0000
+tick 1 0000
+tick 1 0000
+tick 1 0000
+tick 1 0000
+tick 1 0000
+tick 1 0000
+# key 4 in the fourth frame: player 1 goes back to it, and runs five frames again
+tick 2 0000
+tick 2 0000
+tick 2 0000
+tick 2 0010
+tick 2 0000
+tick 2 0000
+tick 2 0000
+tick 2 0000
+say 2 1 data
+give 3 1
+";
+
+const LATE_OUT: &str = "1 epoch 1
+2 epoch 1
+3 datagram 0 length 24
+4 nothing
+5 datagram 1 length 28
+6 nothing
+7 datagram 2 length 28
+8 nothing
+9 now 1 confirmed 0
+10 now 2 confirmed 0
+11 now 3 confirmed 0
+12 now 4 confirmed 0
+13 now 5 confirmed 0
+14 now 6 confirmed 0
+15 now 7 confirmed 0
+16 now 8 confirmed 0
+17 now 1 confirmed 0
+18 now 2 confirmed 0
+19 now 3 confirmed 0
+20 now 4 confirmed 0
+21 now 5 confirmed 0
+22 now 6 confirmed 0
+23 now 7 confirmed 0
+24 now 8 confirmed 0
+25 datagram 3 length 62
+26 kept
+player 1 now 8 confirmed 8 held 8 8
+player 2 now 8 confirmed 0 held 0 8
+agree yes
+";
+
 const END_GAME: &str = "players 2
 ipf 10
 frames 1
@@ -287,6 +351,11 @@ fn loses_repeats_and_reorders(rt: HostRuntime) -> Result<(), Fail> {
 #[test]
 fn runs_ahead(rt: HostRuntime) -> Result<(), Fail> {
     prints(&rt, rt.alloc(), ROLLBACK_GAME, ROLLBACK, ROLLBACK_OUT)
+}
+
+#[test]
+fn goes_back_to_a_late_key(rt: HostRuntime) -> Result<(), Fail> {
+    prints(&rt, rt.alloc(), ROLLBACK_GAME, LATE, LATE_OUT)
 }
 
 #[test]
