@@ -15,7 +15,7 @@ IsWithinWindow v = v.ticks ≤ v.confirmed + v.rules.window
 abbrev pub HasAllRows : RollValue → Type 0
 HasAllRows v = v.ticks ≤ v.confirmed + v.rules.window + 1
 
--- or it has, and the rows of the newest frames are not kept
+-- The player has run further ahead than that, and the rows of the newest frames are not kept.
 abbrev pub LacksRows : RollValue → Type 0
 LacksRows v = v.confirmed + v.rules.window + 1 < v.ticks
 
