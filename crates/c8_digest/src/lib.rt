@@ -11,6 +11,3 @@ mod marks;
 
 pub use digest::{MARK_LENGTH, STATE_LENGTH, mark, state_bytes};
 pub use marks::{FrameMark, Marks};
-
-#[cfg(test)]
-mod tests;

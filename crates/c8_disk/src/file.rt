@@ -4,13 +4,9 @@ ghost use Rattle.c8_disk.specs.Disk.{Only, AddsNone, Writes, WritesImages, Elaps
 ghost use Rattle.c8_disk.specs.Past.{IsImage, LeftSince, AddsWrite};
 ghost use Rattle.c8_disk.specs.PastLaws.{reads_image, counts, only};
 
-#[cfg(test)]
-mod fake;
 mod health;
 mod held;
 mod system;
-#[cfg(test)]
-mod tests;
 
 use crate::call::Call;
 use crate::{Arm, Disk, DiskError, FileError, GhostList};
@@ -20,7 +16,7 @@ use std::alloc::Global;
 use std::fmt;
 use std::fs::File;
 use std::rt::Files;
-pub(crate) use system::{OpenedFile, SystemFile};
+pub use system::{OpenedFile, SystemFile};
 
 /// A disk in a file. What the file holds is kept in memory too, and each read is compared with it:
 /// what a read gives is what the file held when it was opened, with what was written since. After a
@@ -115,15 +111,20 @@ impl FileDisk {
         ensures down { IfOk result (λ disk. file_is_down disk ≡ false) }
     {
         let bytes = reserve(rt.alloc(), capacity)?;
-        FileDisk::settle(OpenedFile::open(rt, path)?, bytes, capacity)
+        FileDisk::over(OpenedFile::open(rt, path)?, bytes, capacity)
     }
 }
 
 impl<S: SystemFile> FileDisk<S> {
     ghost use Rattle.c8_disk.specs.File.{file_bytes, file_first, file_calls, file_images, file_room, file_is_down};
 
-    /// The disk in an open file, with room in `bytes` for all that it may hold.
-    fn settle(file: S, bytes: Vec<u8>, capacity: u32) -> Result<FileDisk<S>, FileError>
+    /// The disk in a file that is open, for one who has a file layer of its own: with room in
+    /// `bytes` for all that it may hold, whatever they are. Locks the file, makes what it holds
+    /// durable with its name, and reads it once; takes no memory.
+    ///
+    /// `Failed`: a call of the file failed. `Full`: it is longer than `capacity`. None of its bytes
+    /// is changed by either.
+    pub fn over(file: S, bytes: Vec<u8>, capacity: u32) -> Result<FileDisk<S>, FileError>
         requires { capacity ≤ vec_capacity bytes }
         ensures room { IfOk result (λ disk. file_room disk ≡ capacity) }
         ensures within { IfOk result (λ disk. length (file_bytes disk) ≤ capacity) }

@@ -2,8 +2,9 @@
 //!
 //! [`Disk`] is a trait whose contract is the model of a disk: what a read gives, and what a crash
 //! may leave. Its words stand in `specs/Disk.antt`. [`MemDisk`] is such a disk in memory, which can
-//! be stopped and crashed, and [`FileDisk`] one in a file. Both tell their images from what they
-//! held at first and each call since, by `specs/Past.antt`.
+//! be stopped and crashed, and [`FileDisk`] one in a file: the operating system's, or any that makes
+//! the calls of [`SystemFile`]. Both tell their images from what they held at first and each call
+//! since, by `specs/Past.antt`.
 #![tactic(auto)]
 
 mod budget;
@@ -18,9 +19,6 @@ mod mem_disk;
 
 pub use disk::{Arm, Disk, LONGEST_WRITE};
 pub use error::{DiskError, FileError};
-pub use file::FileDisk;
+pub use file::{FileDisk, OpenedFile, SystemFile};
 pub use ghost_list::GhostList;
 pub use mem_disk::MemDisk;
-
-#[cfg(test)]
-mod tests;

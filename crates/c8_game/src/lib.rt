@@ -19,6 +19,3 @@ pub use game::Game;
 pub use row::{Keys, NoPlayer, Player, Row};
 pub use text::field::Field;
 pub use text::lines::Lines;
-
-#[cfg(test)]
-mod tests;

@@ -12,6 +12,3 @@ mod links;
 
 pub use error::HandError;
 pub use links::Links;
-
-#[cfg(test)]
-mod tests;

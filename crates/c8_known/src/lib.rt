@@ -15,6 +15,3 @@ mod table;
 
 pub use error::KnownError;
 pub use known::Known;
-
-#[cfg(test)]
-mod tests;

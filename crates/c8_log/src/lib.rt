@@ -24,6 +24,3 @@ pub use image::{kept_body, kept_len};
 pub use journal::Journal;
 pub use log::Log;
 pub use slot::{BODY_LENGTH, Block, CLOSED_GATE, OPEN_GATE, SLOT_LENGTH, Slot};
-
-#[cfg(test)]
-mod tests;

@@ -11,7 +11,5 @@ pub mod laws;
 mod machine;
 mod operation;
 mod start;
-#[cfg(test)]
-mod tests;
 
 pub use machine::{MEMORY_SIZE, Machine, Step, Stop};

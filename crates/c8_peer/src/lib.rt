@@ -24,6 +24,3 @@ pub use error::{DecideError, LeaveError, OpenError, Refused, TickError, Unsayabl
 pub use heard::Heard;
 pub use kind::Kind;
 pub use peer::{Peer, Rows};
-
-#[cfg(test)]
-mod tests;

@@ -23,6 +23,3 @@ pub use reading::view;
 pub use record::Record;
 pub use replaying::{replay, replay_bytes};
 pub use writing::body_of;
-
-#[cfg(test)]
-mod tests;

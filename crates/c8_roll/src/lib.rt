@@ -16,6 +16,3 @@ mod timeline;
 
 pub use buffers::Buffers;
 pub use roll::Roll;
-
-#[cfg(test)]
-mod tests;

@@ -13,6 +13,3 @@ mod stayer;
 
 pub use chair::Chair;
 pub use stayer::Stayer;
-
-#[cfg(test)]
-mod tests;

@@ -7,9 +7,6 @@
 ghost use Rattle.std.specs.Prelude.{◌≡◌, ℕ, ◌%◌, ◌<◌, ◌==◌, not, bit_and, bit_xor, length, slice_index};
 ghost use Rattle.c8_screen.specs.Strip.{strip};
 
-#[cfg(test)]
-mod tests;
-
 /// How many points a row has.
 pub const WIDTH: u8 = 64;
 

@@ -10,6 +10,3 @@ mod window;
 
 pub use error::BadAck;
 pub use window::Window;
-
-#[cfg(test)]
-mod tests;

@@ -36,6 +36,3 @@ pub use run::{Run, Words};
 pub use said::{Body, Said};
 pub use sizes::{HEADER_LENGTH, LONGEST_DATAGRAM, LONGEST_RUN};
 pub use writing::write;
-
-#[cfg(test)]
-mod tests;

@@ -30,6 +30,3 @@ pub use error::RunError;
 pub use event::{Act, Event};
 pub use seat::Seat;
 pub use world::World;
-
-#[cfg(test)]
-mod tests;

@@ -5,8 +5,9 @@ use std::os::fd::AsRawFd;
 use std::os::unix::fs::FileExt;
 use std::rt::Files;
 
-/// An open file, by the calls that a disk in it makes. Tests stand in for the system, and let each
-/// of these fail. Bytes are read and written by [`FileExt`].
+/// An open file, by the calls that a disk in it makes. [`crate::FileDisk::over`] makes a disk of
+/// any: of another file layer than the operating system's, and in tests of one that lets each of
+/// these fail. Bytes are read and written by [`FileExt`].
 pub trait SystemFile: FileExt + Drop {
     /// How many bytes it has. What is no regular file has no length.
     fn len(&self) -> io::Result<u64>;
@@ -31,16 +32,13 @@ pub trait SystemFile: FileExt + Drop {
 /// A file of the operating system, and the folder that has its name.
 #[derive(Drop)]
 pub struct OpenedFile {
-    pub(super) file: File,
-    pub(super) folder: File,
+    pub file: File,
+    pub folder: File,
 }
 
 impl OpenedFile {
     /// Opens the file at this path to read and to write, and makes it if there is none.
-    pub(crate) fn open<R: Files<File = File> + AllocGlobal>(
-        rt: &R,
-        path: &str,
-    ) -> io::Result<OpenedFile> {
+    pub fn open<R: Files<File = File> + AllocGlobal>(rt: &R, path: &str) -> io::Result<OpenedFile> {
         let file = File::options()
             .read(true)
             .write(true)

@@ -76,6 +76,3 @@ impl<'g, D: Disk> Peer<'g, D> {
         Rows { known: &self.known }
     }
 }
-
-#[cfg(test)]
-mod tests;

@@ -1,0 +1,50 @@
+-- The numbers of refusals, as they are printed, and what each is of.
+use Rattle.std.specs.Prelude.{ℕ}
+use Rattle.c8_command.specs.declared.refusal.Part.{Part}
+use Rattle.c8_command.specs.declared.refusal.Part.TheVariants as parts
+use Rattle.c8_disk.specs.Errors as disks
+use Rattle.c8_game.specs.Errors as games
+use Rattle.c8_keys.specs.Errors.{keys_error_number}
+use Rattle.c8_peer.specs.declared.error.OpenError.{OpenError}
+use Rattle.c8_peer.specs.declared.error.OpenError.TheVariants as openings
+use Rattle.c8_cli.specs.declared.error.PeerError.{PeerError}
+use Rattle.c8_cli.specs.declared.error.PeerError.TheVariants.{Game, Keys, Open, Disk, Socket}
+use Rattle.c8_cli.specs.declared.error.SocketError.{SocketError}
+use Rattle.c8_cli.specs.declared.error.SocketError.TheVariants as sockets
+
+abbrev pub socket_error_number : SocketError → ℕ
+socket_error_number sockets.Failed = 1
+socket_error_number sockets.Remotes = 2
+socket_error_number sockets.Address = 3
+
+-- an opening that the disk refused is told as the disk
+abbrev pub opening_part : OpenError → Part
+opening_part openings.WrongGame = parts.Open
+opening_part openings.WrongPlayer = parts.Open
+opening_part (openings.BadRecord n) = parts.Open
+opening_part openings.EpochsSpent = parts.Open
+opening_part openings.Memory = parts.Open
+opening_part (openings.Disk error) = parts.Disk
+
+abbrev pub opening_number : OpenError → ℕ
+opening_number openings.WrongGame = 1
+opening_number openings.WrongPlayer = 2
+opening_number (openings.BadRecord n) = 3
+opening_number openings.EpochsSpent = 4
+opening_number openings.Memory = 5
+opening_number (openings.Disk error) = disks.disk_number_of error
+
+-- what the command refuses, and the number of the refusal: that of the error
+abbrev pub peer_part : PeerError → Part
+peer_part (Game error) = parts.Game
+peer_part (Keys error) = parts.Keys
+peer_part (Open error) = opening_part error
+peer_part (Disk error) = parts.Disk
+peer_part (Socket error) = parts.Socket
+
+abbrev pub peer_error_number : PeerError → ℕ
+peer_error_number (Game error) = games.number_of error
+peer_error_number (Keys error) = keys_error_number error
+peer_error_number (Open error) = opening_number error
+peer_error_number (Disk error) = disks.disk_number_of error
+peer_error_number (Socket error) = socket_error_number error

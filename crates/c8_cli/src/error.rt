@@ -1,0 +1,82 @@
+//! Why a peer cannot play.
+
+ghost use Rattle.std.specs.Prelude.{◌≡◌};
+ghost use Rattle.c8_cli.specs.Errors.{socket_error_number, peer_part, peer_error_number};
+
+use c8_command::{Part, Refusal};
+use c8_disk::DiskError;
+use c8_game::GameError;
+use c8_keys::KeysError;
+use c8_peer::OpenError;
+use thiserror::Error;
+
+/// Why the other players cannot be reached.
+#[derive(Clone, Copy, Debug, PartialEq, Eq, Error)]
+pub enum SocketError {
+    #[error("the socket cannot be used")]
+    Failed,
+    #[error("more or fewer addresses than there are other players")]
+    Remotes,
+    #[error("an address that is not written as 127.0.0.1:4001")]
+    Address,
+}
+
+impl SocketError {
+    /// The number of the refusal.
+    pub fn number(self) -> u8
+        ensures { result ≡ socket_error_number self }
+    {
+        match self {
+            SocketError::Failed => 1,
+            SocketError::Remotes => 2,
+            SocketError::Address => 3,
+        }
+    }
+
+    /// The name of the refusal.
+    pub fn name(self) -> &'static str {
+        match self {
+            SocketError::Failed => "Failed",
+            SocketError::Remotes => "Remotes",
+            SocketError::Address => "Address",
+        }
+    }
+}
+
+/// Why the command `peer` refuses what it was given, or ends before its game does.
+#[derive(Clone, Copy, Debug, PartialEq, Eq, Error)]
+pub enum PeerError {
+    /// The text of the game.
+    #[error("{0}")]
+    Game(GameError),
+    /// The key sets of standard input.
+    #[error("{0}")]
+    Keys(KeysError),
+    /// The opening of the peer, and want of memory to start with. A disk that refused the opening is
+    /// told as the disk.
+    #[error("{0}")]
+    Open(OpenError),
+    /// A file that cannot be read or is too long for a text, or the disk of the journal.
+    #[error("{0}")]
+    Disk(DiskError),
+    /// The addresses, or the socket.
+    #[error("{0}")]
+    Socket(SocketError),
+}
+
+impl From<PeerError> for Refusal {
+    ghost from_gives = { λ error refusal. (refusal.part ≡ peer_part error) × (refusal.number ≡ peer_error_number error) };
+
+    fn from(error: PeerError) -> Refusal {
+        let (part, number, name) = match error {
+            PeerError::Game(error) => (Part::Game, error.number(), error.name()),
+            PeerError::Keys(error) => (Part::Keys, error.number(), error.name()),
+            PeerError::Disk(error) | PeerError::Open(OpenError::Disk(error)) => {
+                (Part::Disk, error.number(), error.name())
+            }
+            PeerError::Open(error) => (Part::Open, error.number(), error.name()),
+            PeerError::Socket(error) => (Part::Socket, error.number(), error.name()),
+        };
+        Refusal { part, number, name }
+    }
+}

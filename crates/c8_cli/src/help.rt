@@ -1,0 +1,67 @@
+//! What the help of each command ends with: what it takes, what it refuses, and the exit statuses.
+
+/// The end of the help of the program.
+pub const ENDING: &str =
+    "Input that is refused is told by one line on standard error, as 'refused: game 5 Hex'.
+The help of each command lists its refusals.
+
+Exit status: 0 done, 1 refused, 2 a mistake in the command line, 3 a disk or a socket failed";
+
+/// The end of the help of `peer`.
+pub const PEER_ENDING: &str =
+    "What the own player holds down is read from standard input before the game starts: one key set
+a line, four hexadecimal digits, for one frame each; no key is held down after the last line.
+The game ends when all have all of it, and the machine is printed that all agree on. A player
+who was killed starts again with the same journal.
+
+Two players, each in a terminal of their own:
+  ./c8play peer games/duel.game 1 one.journal 127.0.0.1:4001 127.0.0.1:4002 < games/duel.1.keys
+  ./c8play peer games/duel.game 2 two.journal 127.0.0.1:4002 127.0.0.1:4001 < games/duel.2.keys
+
+Refusals, each one line on standard error, as 'refused: game 5 Hex':
+  game 1 Line to 6 Memory: those of the command run
+  keys 1 Line         a line that is not four hexadecimal digits
+  keys 3 Memory       out of memory for the keys
+  open 1 WrongGame    the journal is of another game or room
+  open 2 WrongPlayer  the journal is of another player, or the game has no such player
+  open 3 BadRecord    the journal holds what no peer writes
+  open 4 EpochsSpent  the journal was opened too often
+  open 5 Memory       out of memory at the start
+  disk 1 Failed       a file that cannot be read or written, or a text above 16777216 bytes
+  disk 2 Full         the journal is at its greatest length, 1073741824 bytes
+  socket 1 Failed     the socket cannot be opened or used
+  socket 2 Remotes    not one REMOTE for each other player
+  socket 3 Address    an address that is not written as 127.0.0.1:4001
+
+Exit status: 0 done, 1 refused, 2 a mistake in the command line, 3 a disk or a socket failed";
+
+/// The end of the help of `sim`.
+pub const SIM_ENDING: &str =
+    "The script has one event a line. Empty lines and lines that begin with # are skipped.
+  open P             player P's peer is opened: at first, after a stop, or after a disk fault
+  tick P HHHH        P enters a key set, four hexadecimal digits
+  say P TO WHAT      P says something to player TO, which nobody hears yet: hello, welcome, data,
+                     freeze L, frozen L or cut L
+  give I P           P hears datagram I; the first one said is 0, and all can be heard again
+  leave L            player 1 lets player L go
+  decide L           player 1 decides where L's inputs end
+  stop K PICK EVENT  the event's player stops inside the event: its disk fails after K more calls,
+                     and then keeps what a crash leaves: with PICK 0 what was synced, with 1 what
+                     was written, with any other a choice that the number makes
+P, TO and L are 1 to 4; I, K and PICK are decimals. Datagrams that no line gives are lost.
+
+Each event prints its number and what is answered: epoch N, now N confirmed N, datagram I length N,
+nothing, kept, out, leaving, cut N, stopped; up where P is open already, down where P is not open,
+none where there is no datagram I; or why it is refused, as '12 no tick 1 Threshold'. Then each
+player has a line: how far it is, how many frames it has confirmed, and how many inputs it holds of
+each player. The last line says whether all who were not let go agree.
+
+Refusals, each one line on standard error, as 'refused: script 1 Line':
+  game 1 Line to 6 Memory: those of the command run
+  script 1 Line    a line that is no event
+  script 2 Memory  out of memory for the script, or for what happens by it
+  open 5 Memory    out of memory at the start
+  disk 1 Failed    a file that cannot be read or is above 16777216 bytes;
+                   output that cannot be written
+
+Exit status: 0 done, 1 refused, 2 a mistake in the command line, 3 disk 1 Failed";

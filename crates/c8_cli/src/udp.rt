@@ -1,0 +1,81 @@
+//! The way to the other players over one UDP socket.
+
+ghost use Rattle.std.specs.Prelude.{◌≤◌, IfOk, IfSome};
+
+use crate::addresses::Addresses;
+use crate::error::SocketError;
+use c8_game::Player;
+use c8_live::{LONGEST_PACKET, Wire, WireFailed};
+use mio::net::UdpSocket;
+use std::io;
+use std::io::ErrorKind;
+use std::net::{Net, SocketAddr};
+
+/// What the system answers where it has no room for a datagram (ENOBUFS).
+const NO_ROOM: i32 = 105;
+
+/// How often a packet is asked for where the system answers that nobody heard a datagram. A turn
+/// sends fewer datagrams, so that these answers never pile up before the packets.
+const MOST_UNHEARD: u8 = 16;
+
+/// A UDP socket, and where the other players are.
+#[derive(Drop)]
+pub struct Udp {
+    socket: UdpSocket,
+    others: [Option<SocketAddr>; 4],
+}
+
+impl Udp {
+    /// A socket at the local address.
+    pub fn open<R: Net>(rt: &R, addresses: &Addresses) -> Result<Udp, SocketError> {
+        match UdpSocket::bind(rt, addresses.local) {
+            Ok(socket) => Ok(Udp::over(socket, addresses.others)),
+            Err(_) => Err(SocketError::Failed),
+        }
+    }
+
+    /// The way over a socket that is open already, to where the other players are, player 1's place
+    /// first.
+    pub fn over(socket: UdpSocket, others: [Option<SocketAddr>; 4]) -> Udp {
+        Udp { socket, others }
+    }
+}
+
+impl Wire for Udp {
+    fn send(&mut self, to: Player, datagram: &[u8]) -> Result<(), WireFailed> {
+        let Some(address) = self.others[usize::from(to.number - 1)] else {
+            return Ok(());
+        };
+        match self.socket.send_to(datagram, address) {
+            Ok(_) => Ok(()),
+            Err(error) if was_unheard(&error) || would_wait(&error) => Ok(()),
+            Err(_) => Err(WireFailed),
+        }
+    }
+
+    fn receive(&mut self, packet: &mut [u8; LONGEST_PACKET]) -> Result<Option<usize>, WireFailed>
+        ensures within { IfOk result (λ next. IfSome next (λ size. size ≤ LONGEST_PACKET)) }
+    {
+        for _ in 0..MOST_UNHEARD {
+            match self.socket.recv_from(packet) {
+                Ok((size, _)) => return Ok(Some(size)),
+                // a datagram that is lost says nothing of the packets that wait
+                Err(error) if was_unheard(&error) => {}
+                Err(error) if would_wait(&error) => return Ok(None),
+                Err(_) => return Err(WireFailed),
+            }
+        }
+        Ok(None)
+    }
+}
+
+/// Whether an error of the socket tells that a datagram is lost, since nobody listens at the other
+/// end yet. The system may tell it by a later call of any kind.
+fn was_unheard(error: &io::Error) -> bool {
+    error.kind() == ErrorKind::ConnectionRefused
+}
+
+/// Whether a call would have to wait: no packet has come, or there is no room for one.
+fn would_wait(error: &io::Error) -> bool {
+    error.kind() == ErrorKind::WouldBlock || error.raw_os_error() == Some(NO_ROOM)
+}

@@ -1,0 +1,38 @@
+//! A datagram that is lost, where the system tells of it.
+use c8_cli::Udp;
+use c8_game::Player;
+use c8_live::{LONGEST_PACKET, Wire};
+use mio::net::UdpSocket as OwnSocket;
+use std::net::{Ipv4Addr, SocketAddr, UdpSocket};
+use std::test::Fail;
+
+const TWO: Player = Player { number: 2 };
+
+fn any() -> SocketAddr {
+    SocketAddr::from((Ipv4Addr::LOCALHOST, 0))
+}
+
+/// A wire whose socket is connected to player 2, who has sent it a packet and is gone.
+fn connected(rt: &HostRuntime) -> Result<Udp, Fail> {
+    let gone = UdpSocket::bind(rt, any())?;
+    let address = gone.local_addr()?;
+    let socket = OwnSocket::bind(rt, any())?;
+    socket.connect(address)?;
+    gone.send_to(b"packet", socket.local_addr()?)?;
+    drop(gone);
+    Ok(Udp::over(socket, [None, Some(address), None, None]))
+}
+
+/// Where a socket is connected, the system tells by its next call that nobody heard a datagram: a
+/// packet that waits is received all the same, and the next datagram is sent.
+#[test]
+fn a_packet_comes_behind_a_loss(rt: HostRuntime) -> Result<(), Fail> {
+    let mut wire = connected(&rt)?;
+    let mut packet = [0; LONGEST_PACKET];
+    wire.send(TWO, b"datagram")?;
+    assert!(rt; wire.receive(&mut packet) == Ok(Some(6)));
+    wire.send(TWO, b"datagram")?;
+    wire.send(TWO, b"datagram")?;
+    assert!(rt; wire.receive(&mut packet) == Ok(None));
+    Ok(())
+}

@@ -1,0 +1,29 @@
+-- How the program ends.
+use Rattle.std.specs.Prelude.{ℕ, Result, Ok, Err}
+use Rattle.c8_command.specs.declared.refusal.Part.{Part}
+use Rattle.c8_command.specs.declared.refusal.Part.TheVariants.{Game, Keys, Script, Hex, Wire, Open, Disk, Socket}
+use Rattle.c8_command.specs.declared.status.Status.{Status}
+use Rattle.c8_command.specs.declared.status.Status.TheVariants.{Done, Refused, CommandLine, Failed}
+
+-- the exit status
+abbrev pub exit_code_of : Status → ℕ
+exit_code_of Done = 0
+exit_code_of Refused = 1
+exit_code_of CommandLine = 2
+exit_code_of Failed = 3
+
+-- where a disk or a socket failed, the program ends as failed, and else as refused
+abbrev pub status_of : Part → Status
+status_of Game = Refused
+status_of Keys = Refused
+status_of Script = Refused
+status_of Hex = Refused
+status_of Wire = Refused
+status_of Open = Refused
+status_of Disk = Failed
+status_of Socket = Failed
+
+-- a command is done where it has something to print; else it ends by the part that its error is of
+abbrev pub status_of_outcome : {T E : Type 0} → (E → Part) → Result T E → Status
+status_of_outcome part (Ok printed) = Done
+status_of_outcome part (Err error) = status_of (part error)

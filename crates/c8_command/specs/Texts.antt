@@ -1,0 +1,17 @@
+-- Why the two texts of a command are not both read.
+use Rattle.std.specs.Prelude.{Option, None, Some}
+use Rattle.c8_command.specs.declared.error.TextError.{TextError}
+use Rattle.c8_command.specs.declared.error.TextError.TheVariants.{Failed, Memory}
+use Rattle.c8_command.specs.declared.error.TextsError.{TextsError}
+use Rattle.c8_command.specs.declared.error.TextsError.TheVariants as texts
+
+-- by the errors of the first text and of the second: a file that cannot be read comes before want of memory, and the
+-- first before the second
+abbrev pub error_of_texts : Option TextError → Option TextError → Option TextsError
+error_of_texts None None = None
+error_of_texts None (Some Failed) = Some texts.Failed
+error_of_texts None (Some Memory) = Some texts.SecondMemory
+error_of_texts (Some Failed) second = Some texts.Failed
+error_of_texts (Some Memory) None = Some texts.FirstMemory
+error_of_texts (Some Memory) (Some Failed) = Some texts.Failed
+error_of_texts (Some Memory) (Some Memory) = Some texts.FirstMemory

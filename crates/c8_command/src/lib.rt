@@ -1,0 +1,13 @@
+//! What all commands of the program have in common: how a command ends ([`Status`]), how it tells
+//! why it refuses what it was given ([`Refusal`]), and how the texts of files are read.
+#![tactic(auto)]
+
+mod error;
+mod refusal;
+mod status;
+mod text;
+
+pub use error::{TextError, TextsError};
+pub use refusal::{Part, Refusal};
+pub use status::Status;
+pub use text::{LONGEST_TEXT, both, read_both, read_file, text_of};

@@ -1,0 +1,91 @@
+//! Why a command refuses what it was given, as it is told.
+
+ghost use Rattle.std.specs.Prelude.{◌≡◌, IfOk};
+ghost use Rattle.c8_command.specs.Status.{status_of};
+
+use crate::status::Status;
+use std::io;
+use std::io::Write;
+
+/// What is refused.
+#[derive(Clone, Copy, Debug, PartialEq, Eq)]
+pub enum Part {
+    /// The text of a game.
+    Game,
+    /// A text of key lines.
+    Keys,
+    /// A script of events, and want of memory for what happens by it.
+    Script,
+    /// A hexadecimal word.
+    Hex,
+    /// The bytes of a datagram.
+    Wire,
+    /// The opening of a peer, and want of memory to start with.
+    Open,
+    /// A file that cannot be read or written or is too long for a text, or the disk of a journal.
+    Disk,
+    /// The addresses of a peer, or its socket.
+    Socket,
+}
+
+impl Part {
+    /// The word for it.
+    pub fn name(self) -> &'static str {
+        match self {
+            Part::Game => "game",
+            Part::Keys => "keys",
+            Part::Script => "script",
+            Part::Hex => "hex",
+            Part::Wire => "wire",
+            Part::Open => "open",
+            Part::Disk => "disk",
+            Part::Socket => "socket",
+        }
+    }
+}
+
+/// Why a command refuses what it was given: what is refused, and the number and the name that the
+/// error has there. Each command has an error of its own, which becomes a refusal to be told.
+#[derive(Clone, Copy, Debug, PartialEq, Eq)]
+pub struct Refusal {
+    pub part: Part,
+    pub number: u8,
+    pub name: &'static str,
+}
+
+impl Refusal {
+    /// A file that cannot be read or written, or is too long for a text.
+    pub const DISK: Refusal = Refusal {
+        part: Part::Disk,
+        number: 1,
+        name: "Failed",
+    };
+
+    /// Want of memory before there is anything else to name.
+    pub const MEMORY: Refusal = Refusal {
+        part: Part::Open,
+        number: 5,
+        name: "Memory",
+    };
+
+    /// The status with which the program ends: `Failed` for a disk and a socket, else `Refused`.
+    pub fn status(self) -> Status
+        ensures { result ≡ status_of self.part }
+    {
+        match self.part {
+            Part::Disk | Part::Socket => Status::Failed,
+            Part::Game | Part::Keys | Part::Script | Part::Hex | Part::Wire | Part::Open => {
+                Status::Refused
+            }
+        }
+    }
+
+    /// Writes the one line that a refusal is, as `refused: hex 1 Bad`, and answers the status.
+    pub fn tell<W: Write>(self, out: &mut W) -> io::Result<Status>
+        ensures { IfOk result (λ status. status ≡ status_of self.part) }
+    {
+        let (part, number, name) = (self.part.name(), self.number, self.name);
+        writeln!(out, "refused: {part} {number} {name}")?;
+        Ok(self.status())
+    }
+}

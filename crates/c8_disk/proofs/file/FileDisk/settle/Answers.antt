@@ -1,5 +1,0 @@
-use Rattle.std.proofs.Common.{rules}
-use Rattle.c8_disk.proofs.file.FileDisk.settle.Goals as goal
-
-pub returns-clause-down : goal.returns-clause-down
-returns-clause-down g c = search rules

@@ -1,0 +1,11 @@
+use Rattle.std.proofs.Common.{◌≡◌, ◌-◌, ◌++◌, map, replicate, true}
+use Rattle.std.specs.List.{list_all, range_with_len}
+use Rattle.c8_keys.specs.KeyLines.{are_keys_at, keys_at}
+use Rattle.c8_keys.proofs.lines.row_in.Given as goal
+
+-- the places so far have a set each, and these are they
+abbrev pub invariant-loop-place : goal.invariant-loop-place
+invariant-loop-place l = record {
+  found : list_all (are_keys_at l.line) (range_with_len 0 l.place) ≡ true;
+  sets : l.sets ≡ map (keys_at l.line) (range_with_len 0 l.place) ++ replicate (4 - l.place) (record { 0 = 0 });
+}

@@ -1,0 +1,5 @@
+pub mod Errors
+pub mod KeyLines
+pub mod KeySets
+pub mod Report
+pub mod Run

@@ -1,0 +1,60 @@
+//! `c8play run`: a game is played alone, from a file of keys.
+
+ghost use Rattle.std.specs.Prelude.{◌≡◌, IfOk, Result};
+ghost use Rattle.c8_command.specs.Status.{status_of_outcome};
+ghost use Rattle.c8_keys.specs.Errors.{run_part};
+ghost use Rattle.c8_keys.specs.Run.{IsPlayOfRead, IsOutcomeOfRun};
+ghost use Rattle.c8_keys.specs.declared.error.RunError.{RunError};
+ghost use Rattle.c8_keys.specs.declared.lines.Played.{Played};
+
+use crate::error::RunError;
+use crate::lines::{Played, play};
+use crate::report::write_report;
+use c8_command::{Refusal, Status};
+use c8_game::{Game, GameError};
+use std::alloc::Global;
+use std::io;
+use std::io::Write;
+
+/// Plays the game that `game` spells by the key lines of `keys`, and writes the report of its
+/// machine to `out`; or writes the line of a refusal to `refused`, and nothing to `out`. The error
+/// is that of a writer.
+pub fn run<W: Write, E: Write>(
+    alloc: Global,
+    game: &[u8],
+    keys: &[u8],
+    out: &mut W,
+    refused: &mut E,
+) -> io::Result<Status>
+    ensures { IfOk result (λ status. (outcome : Result Played RunError)
+        × IsOutcomeOfRun game.now keys.now outcome × (status ≡ status_of_outcome run_part outcome)) }
+{
+    tell(played_from(Game::read(alloc, game), keys), out, refused)
+}
+
+/// What is played of a game by the key lines of `keys`, where the game was read; else why it was
+/// not. This takes no memory.
+fn played_from(game: Result<Game, GameError>, keys: &[u8]) -> Result<Played, RunError>
+    ensures { IsPlayOfRead game keys.now result }
+{
+    let game = game.map_err(RunError::Game)?;
+    let played = play(&game, keys).map_err(RunError::Keys)?;
+    Ok(played)
+}
+
+/// Writes the report of what was played to `out`, or the line of the refusal to `refused`.
+fn tell<W: Write, E: Write>(
+    outcome: Result<Played, RunError>,
+    out: &mut W,
+    refused: &mut E,
+) -> io::Result<Status>
+    ensures { IfOk result (λ status. status ≡ status_of_outcome run_part outcome) }
+{
+    match outcome {
+        Ok(Played { frames, machine }) => {
+            write_report(out, frames, &machine)?;
+            Ok(Status::Done)
+        }
+        Err(error) => Refusal::from(error).tell(refused),
+    }
+}

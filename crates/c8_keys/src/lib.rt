@@ -1,0 +1,19 @@
+//! What people hold down, written as text, and a game that is played alone from it.
+//!
+//! [`play`] plays a game by key lines, which have a key set for each player and stand for one frame
+//! each; [`key_sets`] reads what one player holds down, a key set a line. [`run`] is the command
+//! `run`: it plays the game of a text alone, and writes the report of its machine
+//! ([`write_report`]).
+#![tactic(auto)]
+
+mod command;
+mod error;
+mod lines;
+mod report;
+mod sets;
+
+pub use command::run;
+pub use error::{KeysError, RunError};
+pub use lines::{Played, play};
+pub use report::write_report;
+pub use sets::key_sets;

@@ -1,0 +1,74 @@
+//! The machine report: what a person, or another program, reads of a machine.
+
+ghost use Rattle.std.specs.Prelude.{◌≡◌, ℕ, ◌<◌, slice_index};
+ghost use Rattle.c8_screen.specs.Points.{points_of};
+ghost use Rattle.c8_keys.specs.Report.{mark_of};
+
+use c8_machine::Machine;
+use c8_screen::{HEIGHT, Screen, WIDTH};
+use std::io;
+use std::io::Write;
+
+/// Writes the report of a machine after n frames, with lower-case digits: the number of frames; the
+/// counter and I; the registers; the timers and the draws; the stack, oldest first; whether the
+/// machine runs, waits or has stopped; and the 32 rows of the screen.
+pub fn write_report<W: Write>(out: &mut W, frames: u32, machine: &Machine) -> io::Result<()> {
+    writeln!(out, "frames {frames}")?;
+    let (counter, address) = (machine.counter(), machine.address());
+    writeln!(out, "pc {counter:04x} i {address:04x}")?;
+    write_registers(out, machine.registers())?;
+    let (timer, tone, draws) = (machine.timer(), machine.tone(), machine.draws());
+    writeln!(out, "timer {timer:02x} tone {tone:02x} draws {draws}")?;
+    write_stack(out, machine.stack())?;
+    write_condition(out, machine)?;
+    write_screen(out, machine.screen())
+}
+
+fn write_registers<W: Write>(out: &mut W, registers: &[u8; 16]) -> io::Result<()> {
+    write!(out, "v")?;
+    for value in registers {
+        write!(out, " {value:02x}")?;
+    }
+    writeln!(out)
+}
+
+fn write_stack<W: Write>(out: &mut W, places: &[u16]) -> io::Result<()> {
+    let depth = places.len();
+    write!(out, "stack {depth}")?;
+    for place in places {
+        write!(out, " {place:04x}")?;
+    }
+    writeln!(out)
+}
+
+fn write_condition<W: Write>(out: &mut W, machine: &Machine) -> io::Result<()> {
+    match (machine.stopped(), machine.waits()) {
+        (Some(stop), _) => {
+            let number = stop.number();
+            writeln!(out, "state stop {number}")
+        }
+        (None, Some(register)) => writeln!(out, "state waits {register:x}"),
+        (None, None) => writeln!(out, "state runs"),
+    }
+}
+
+fn write_screen<W: Write>(out: &mut W, screen: &Screen) -> io::Result<()> {
+    for y in 0..HEIGHT {
+        out.write_all(&row_text(screen, y))?;
+    }
+    Ok(())
+}
+
+/// The 64 points of row `y`, column 0 first, and a line feed.
+fn row_text(screen: &Screen, y: u8) -> [u8; 65]
+    requires { y < 32 }
+    ensures points { (x : ℕ) → x < 64
+        → slice_index result x ≡ mark_of (points_of screen.now x y) }
+    ensures end { slice_index result 64 ≡ 10 }
+{
+    let mut text = [b'\n'; 65];
+    for x in 0..WIDTH {
+        text[usize::from(x)] = if screen.lit(x, y) { b'#' } else { b'.' };
+    }
+    text
+}

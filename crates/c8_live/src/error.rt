@@ -1,0 +1,31 @@
+//! What ends a session before its game does.
+use c8_disk::DiskError;
+use thiserror::Error;
+
+/// The way to the other players cannot be used any more.
+#[derive(Clone, Copy, Debug, PartialEq, Eq, Error)]
+#[error("the other players cannot be reached any more")]
+pub struct WireFailed;
+
+/// Why a session cannot go on.
+#[derive(Clone, Copy, Debug, PartialEq, Eq, Error)]
+pub enum SessionError {
+    /// The disk of the peer's journal.
+    #[error("{0}")]
+    Disk(DiskError),
+    /// The way to the other players.
+    #[error("{0}")]
+    Wire(WireFailed),
+}
+
+impl From<DiskError> for SessionError {
+    fn from(error: DiskError) -> SessionError {
+        SessionError::Disk(error)
+    }
+}
+
+impl From<WireFailed> for SessionError {
+    fn from(error: WireFailed) -> SessionError {
+        SessionError::Wire(error)
+    }
+}

@@ -1,0 +1,293 @@
+//! The loop of one peer, turn by turn: it hears, ticks, lets go, cuts and speaks.
+
+ghost use Rattle.std.specs.Prelude.{◌≡◌, ◌≤◌, IfSome};
+
+use crate::error::SessionError;
+use crate::silence::Silence;
+use crate::wire::{LONGEST_PACKET, Wire};
+use c8_disk::Disk;
+use c8_game::{Game, Keys, Player};
+use c8_peer::{DecideError, Heard, Kind, LeaveError, Peer, Refused, TickError, Unsayable};
+use c8_wire::{LONGEST_DATAGRAM, view};
+
+/// The most packets that are delivered in one turn.
+const MOST_PACKETS: u16 = 256;
+
+/// How many turns a peer goes on after all is confirmed and acknowledged, so that the others hear
+/// of it too.
+const REST: u32 = 120;
+
+/// A peer that plays, and what it enters.
+#[derive(Drop)]
+pub struct Session<'g, D: Disk> {
+    peer: Peer<'g, D>,
+    /// How many frames the game has.
+    frames: u32,
+    /// What is entered, one key set a tick, and how many of them have been.
+    keys: Vec<Keys>,
+    entered: usize,
+    /// After how many turns of silence player one lets a player go.
+    patience: Option<u64>,
+    silence: Silence,
+    /// The turns since all was confirmed and acknowledged, that one included.
+    rested: u32,
+}
+
+impl<'g, D: Disk> Session<'g, D> {
+    /// A peer that has made no turn yet.
+    pub fn new(
+        peer: Peer<'g, D>,
+        game: &Game,
+        keys: Vec<Keys>,
+        patience: Option<u64>,
+    ) -> Session<'g, D> {
+        Session {
+            peer,
+            frames: game.frames(),
+            keys,
+            entered: 0,
+            patience,
+            silence: Silence::new(),
+            rested: 0,
+        }
+    }
+
+    /// The peer that plays.
+    pub fn peer(&self) -> &Peer<'g, D>
+        ensures { result.now ≡ self.now.peer }
+    {
+        &self.peer
+    }
+
+    /// For how many turns a player has been silent.
+    pub fn silent(&self, player: Player) -> u64 {
+        self.silence.turns(player)
+    }
+
+    /// Whether there is no more to do: this peer's player has been dropped, or it has rested.
+    pub fn is_over(&self) -> bool {
+        self.peer.dropped() || self.rested > REST
+    }
+
+    /// One turn. The error is that of the disk or of the wire, which ends the session.
+    pub fn turn<W: Wire>(&mut self, wire: &mut W) -> Result<(), SessionError> {
+        self.silence.begin();
+        let greeters = self.hear(wire)?;
+        self.tick()?;
+        self.let_go()?;
+        self.cut()?;
+        self.speak(wire, greeters)?;
+        if self.is_finished() {
+            self.rested = self.rested.saturating_add(1);
+        }
+        Ok(())
+    }
+
+    /// Delivers the packets that wait, and tells of which players a HELLO was taken, player 1's
+    /// place first.
+    fn hear<W: Wire>(&mut self, wire: &mut W) -> Result<[bool; 4], SessionError> {
+        let mut greeters = [false; 4];
+        let mut packet = [0; LONGEST_PACKET];
+        for _ in 0..MOST_PACKETS {
+            match wire.receive(&mut packet)? {
+                Some(size) => {
+                    if let Some(greeter) = self.deliver(&packet[..size])? {
+                        greeters[usize::from(greeter.number - 1)] = true;
+                    }
+                }
+                None => break,
+            }
+        }
+        Ok(greeters)
+    }
+
+    /// Delivers a packet, and answers whose HELLO it was, if it was one and was taken.
+    fn deliver(&mut self, packet: &[u8]) -> Result<Option<Player>, SessionError> {
+        let answer = self.peer.deliver(packet);
+        if let Err(Refused::Disk(error)) = answer {
+            return Err(SessionError::Disk(error));
+        }
+        if !is_admitted(answer) {
+            return Ok(None);
+        }
+        let Ok(datagram) = view(packet) else {
+            return Ok(None);
+        };
+        let header = datagram.header();
+        let Some(sender) = header.from().player() else {
+            return Ok(None);
+        };
+        self.silence.heard(sender);
+        if answer.is_ok() && header.kind() == c8_wire::Kind::Hello {
+            Ok(Some(sender))
+        } else {
+            Ok(None)
+        }
+    }
+
+    /// Enters the next key set, after the last an empty one. One that is refused is entered again in
+    /// the next turn.
+    fn tick(&mut self) -> Result<(), SessionError> {
+        let (next, is_past) = match self.keys.get(self.entered) {
+            Some(keys) => (*keys, false),
+            None => (Keys::default(), true),
+        };
+        match self.peer.tick(next) {
+            Ok(()) if is_past => Ok(()),
+            Ok(()) => {
+                self.entered = self.entered.saturating_add(1);
+                Ok(())
+            }
+            Err(TickError::Disk(error)) => Err(SessionError::Disk(error)),
+            Err(_) => Ok(()),
+        }
+    }
+
+    /// Player one lets go of those who have been silent for too long.
+    fn let_go(&mut self) -> Result<(), SessionError> {
+        let Some(patience) = self.patience else {
+            return Ok(());
+        };
+        for number in 1..self.peer.players() + 1 {
+            if let Some(player) = self.other(number)
+                && self.silence.turns(player) >= patience
+                && let Err(LeaveError::Disk(error)) = self.peer.leave(player)
+            {
+                return Err(SessionError::Disk(error));
+            }
+        }
+        Ok(())
+    }
+
+    /// Player one cuts the leavers whose drop round is ready.
+    fn cut(&mut self) -> Result<(), SessionError> {
+        for number in 1..self.peer.players() + 1 {
+            if let Some(player) = self.other(number)
+                && let Err(DecideError::Disk(error)) = self.peer.decide(player)
+            {
+                return Err(SessionError::Disk(error));
+            }
+        }
+        Ok(())
+    }
+
+    /// Says to each other player what there is to say.
+    fn speak<W: Wire>(&self, wire: &mut W, greeters: [bool; 4]) -> Result<(), SessionError> {
+        for number in 1..self.peer.players() + 1 {
+            if let Some(to) = self.other(number) {
+                let has_greeted = greeters[usize::from(to.number - 1)];
+                self.speak_to(wire, to, has_greeted)?;
+                self.speak_of_leavers(wire, to)?;
+            }
+        }
+        Ok(())
+    }
+
+    /// HELLO where the link is not open, WELCOME where the player has greeted, and DATA where neither
+    /// was said.
+    fn speak_to<W: Wire>(
+        &self,
+        wire: &mut W,
+        to: Player,
+        has_greeted: bool,
+    ) -> Result<(), SessionError> {
+        let is_linked = self.is_linked(to);
+        if !is_linked {
+            self.say(wire, to, Kind::Hello)?;
+        }
+        if has_greeted {
+            self.say(wire, to, Kind::Welcome)?;
+        }
+        if is_linked && !has_greeted {
+            self.say(wire, to, Kind::Data)?;
+        }
+        Ok(())
+    }
+
+    /// What the drop rounds want said to a player.
+    fn speak_of_leavers<W: Wire>(&self, wire: &mut W, to: Player) -> Result<(), SessionError> {
+        for number in 1..self.peer.players() + 1 {
+            if let Some(leaver) = Player::new(number)
+                && let Some(kind) = self.round(to, leaver)
+            {
+                self.say(wire, to, kind)?;
+            }
+        }
+        Ok(())
+    }
+
+    /// What the drop round of a leaver wants said to a player. Player one says FREEZE to those who
+    /// stay until the cut, and CUT to all from then on; the others say FROZEN to player one until
+    /// they have the cut.
+    fn round(&self, to: Player, leaver: Player) -> Option<Kind> {
+        if leaver.number > self.peer.players() {
+            return None;
+        }
+        let is_cut = self.peer.cut_of(leaver).is_some();
+        if self.peer.me().number == 1 {
+            if is_cut {
+                Some(Kind::Cut(leaver))
+            } else if self.peer.leaving(leaver) && !self.peer.leaving(to) {
+                Some(Kind::Freeze(leaver))
+            } else {
+                None
+            }
+        } else if to.number == 1 && self.peer.frozen(leaver) && !is_cut {
+            Some(Kind::Frozen(leaver))
+        } else {
+            None
+        }
+    }
+
+    /// Says one datagram, if it can be said.
+    fn say<W: Wire>(&self, wire: &mut W, to: Player, kind: Kind) -> Result<(), SessionError> {
+        let mut datagram = [0; LONGEST_DATAGRAM];
+        match self.peer.say(to, kind, &mut datagram) {
+            Ok(size) => Ok(wire.send(to, &datagram[..size])?),
+            Err(_) => Ok(()),
+        }
+    }
+
+    /// Whether the link to a player is open.
+    fn is_linked(&self, to: Player) -> bool {
+        let mut unsent = [0; LONGEST_DATAGRAM];
+        let said = self.peer.say(to, Kind::Data, &mut unsent);
+        !matches!(said, Err(Unsayable::NoLink))
+    }
+
+    /// Whether all frames are confirmed here, and every player who is not cut has acknowledged all
+    /// of the own inputs that count.
+    fn is_finished(&self) -> bool {
+        if self.peer.confirmed() < self.frames {
+            return false;
+        }
+        for number in 1..self.peer.players() + 1 {
+            if let Some(player) = self.other(number)
+                && self.peer.cut_of(player).is_none()
+                && self.peer.acked(player) < self.frames
+            {
+                return false;
+            }
+        }
+        true
+    }
+
+    /// The player with a number, if it is another than this peer's.
+    fn other(&self, number: u8) -> Option<Player>
+        ensures { IfSome result (λ player. player.number ≡ number) }
+    {
+        if number == self.peer.me().number {
+            None
+        } else {
+            Player::new(number)
+        }
+    }
+}
+
+/// Whether the links admitted a packet, whatever was answered then.
+fn is_admitted(answer: Result<Heard, Refused>) -> bool {
+    !matches!(
+        answer,
+        Err(Refused::Down | Refused::Dropped | Refused::Wire(_) | Refused::Hand(_))
+    )
+}

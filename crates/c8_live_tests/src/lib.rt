@@ -1,0 +1,22 @@
+//! The tests of c8_live.
+//!
+//! `games` plays whole games in one thread, `turns` compares all that each turn says. Tables are
+//! lent by functions that say nothing of them: a proof is then of any rows.
+#![tactic(auto)]
+
+#[cfg(test)]
+mod faults;
+#[cfg(test)]
+mod games;
+#[cfg(test)]
+mod letter;
+#[cfg(test)]
+mod mail;
+#[cfg(test)]
+mod play;
+#[cfg(test)]
+mod rows;
+#[cfg(test)]
+mod table;
+#[cfg(test)]
+mod turns;

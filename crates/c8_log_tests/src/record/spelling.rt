@@ -1,0 +1,167 @@
+//! How each record is spelled, and which bytes spell none.
+use crate::calls::prints;
+use crate::record::parts::{Rec, spelled};
+use crate::record::replays::{game, short_game};
+use c8_disk::DiskError;
+use c8_game::{Keys, Player};
+use c8_log::BODY_LENGTH;
+use c8_record::{Record, ReplayError, body_of, view};
+use c8_wire::Run;
+use std::alloc::Global;
+use std::test::Fail;
+
+/// Whether the record is spelled by these bytes and zeros behind them.
+fn is_spelled_by(record: &Record<'_>, bytes: &[u8]) -> bool {
+    let body = body_of(record);
+    body.starts_with(bytes) && body.iter().skip(bytes.len()).all(|byte| *byte == 0)
+}
+
+#[test]
+fn spells_an_input_as_the_table_has_it(rt: HostRuntime) {
+    let player = Player { number: 1 };
+    let keys = Keys(0x0020);
+    let own = Record::Own {
+        player,
+        start: 0,
+        keys,
+    };
+    assert!(rt; is_spelled_by(&own, b"\x03\x01\0\0\0\0\0\0\0\0\0\x01\0\x20"));
+}
+
+#[test]
+fn spells_a_match(rt: HostRuntime) {
+    let head = Record::Head {
+        player: Player { number: 3 },
+        id: b"abcdefghijklmnopqrstuvwxyz012345",
+        room: 0xa1a2a3a4a5a6a7a8,
+    };
+    let bytes =
+        b"\x01\x03\0\0\0\x01\0\0\0\0\0\x14abcdefghijklmnopqrstuvwxyz012345\xa1\xa2\xa3\xa4\xa5\xa6\xa7\xa8";
+    assert!(rt; is_spelled_by(&head, bytes));
+}
+
+#[test]
+fn spells_a_cut(rt: HostRuntime) {
+    let cut = Record::Cut {
+        player: Player { number: 4 },
+        length: 0x01020304,
+        start: 0x05060708,
+        run: Run::new(b"\x11\x12\x13\x14"),
+    };
+    let bytes = b"\x07\x04\x01\x02\x03\x04\x05\x06\x07\x08\0\x02\x11\x12\x13\x14";
+    assert!(rt; is_spelled_by(&cut, bytes));
+}
+
+/// Whether the body spells a record, which is spelled by the same body.
+fn is_spelled(body: &[u8; BODY_LENGTH]) -> bool {
+    match view(body) {
+        Some(lent) => body_of(&lent) == *body,
+        None => false,
+    }
+}
+
+/// Records of each kind.
+const KINDS: [Rec; 7] = [
+    Rec::Head(4),
+    Rec::Epoch(1, 0xf1f2f3f4),
+    Rec::Own(2, 0x01020304, 0xabcd),
+    Rec::Got(3, 7, 0x1234, 64),
+    Rec::Freeze(4),
+    Rec::Leave(1),
+    Rec::Cut(2, 9, 9, 0, 0),
+];
+
+#[test]
+fn reads_each_kind(rt: HostRuntime) -> Result<(), Fail> {
+    let (game, other) = (game(rt.alloc())?, short_game(rt.alloc())?);
+    for (n, rec) in KINDS.iter().enumerate() {
+        assert!(rt; is_spelled(&spelled(&game, &other, *rec)), "record {n}");
+    }
+    Ok(())
+}
+
+/// Whether the body is read as these inputs of player 3.
+fn is_got(body: &[u8; BODY_LENGTH], start: u32, run: Run<'_>) -> bool {
+    let player = Player { number: 3 };
+    view(body) == Some(Record::Got { player, start, run })
+}
+
+#[test]
+fn reads_inputs(rt: HostRuntime) -> Result<(), Fail> {
+    let (game, other) = (game(rt.alloc())?, short_game(rt.alloc())?);
+    let body = spelled(&game, &other, Rec::Got(3, 0x01020304, 0xa1ff, 2));
+    assert!(rt; is_got(&body, 0x01020304, Run::new(b"\xa1\xff\xa2\x00")));
+    Ok(())
+}
+
+/// Bodies that spell a record, and a byte at a place with which they spell none.
+const CHANGES: [(Rec, usize, u8); 31] = [
+    (Rec::Got(2, 5, 0x1111, 2), 0, 0),
+    (Rec::Got(2, 5, 0x1111, 2), 0, 8),
+    (Rec::Got(2, 5, 0x1111, 2), 1, 0),
+    (Rec::Got(2, 5, 0x1111, 2), 1, 5),
+    (Rec::Got(2, 5, 0x1111, 2), 5, 1),
+    (Rec::Got(2, 5, 0x1111, 2), 10, 1),
+    (Rec::Got(2, 5, 0x1111, 2), 11, 0),
+    (Rec::Got(2, 5, 0x1111, 2), 11, 1),
+    (Rec::Got(2, 5, 0x1111, 2), 16, 1),
+    (Rec::Got(2, 5, 0x1111, 2), 17, 1),
+    (Rec::Got(2, 5, 0x1111, 2), 139, 1),
+    (Rec::Got(2, 5, 0x1111, 2), 140, 1),
+    (Rec::Got(2, 5, 0x1111, 2), 142, 1),
+    (Rec::Got(2, 5, 1, 64), 11, 65),
+    (Rec::Got(2, 5, 1, 64), 140, 1),
+    (Rec::Head(1), 5, 2),
+    (Rec::Head(1), 9, 1),
+    (Rec::Head(1), 11, 19),
+    (Rec::Head(1), 52, 1),
+    (Rec::Epoch(1, 2), 9, 1),
+    (Rec::Epoch(1, 2), 11, 1),
+    (Rec::Own(1, 0, 3), 5, 1),
+    (Rec::Own(1, 0, 3), 11, 2),
+    (Rec::Own(1, 0, 0), 11, 0),
+    (Rec::Freeze(2), 2, 1),
+    (Rec::Freeze(2), 6, 1),
+    (Rec::Freeze(2), 11, 1),
+    (Rec::Leave(2), 5, 1),
+    (Rec::Leave(2), 9, 1),
+    (Rec::Leave(2), 11, 1),
+    (Rec::Cut(2, 9, 9, 0, 0), 12, 1),
+];
+
+/// Whether the body, with one byte of it changed, spells no record.
+fn is_none_with(body: [u8; BODY_LENGTH], place: usize, byte: u8) -> bool {
+    let mut changed = body;
+    if let Some(at) = changed.get_mut(place) {
+        *at = byte;
+    }
+    is_spelled(&body) && view(&changed).is_none()
+}
+
+#[test]
+fn bytes_that_spell_nothing(rt: HostRuntime) -> Result<(), Fail> {
+    let (game, other) = (game(rt.alloc())?, short_game(rt.alloc())?);
+    for (n, (rec, place, byte)) in CHANGES.iter().enumerate() {
+        let body = spelled(&game, &other, *rec);
+        assert!(rt; is_none_with(body, *place, *byte), "change {n}");
+    }
+    Ok(())
+}
+
+/// Whether a refusal has this number, this name and this text.
+fn tells(alloc: Global, error: ReplayError, number: u8, name: &str, text: &str) -> bool {
+    error.number() == number && error.name() == name && prints(alloc, error, text)
+}
+
+#[test]
+fn errors_say_what_is_wrong(rt: HostRuntime) {
+    let alloc = rt.alloc();
+    let text = "a journal of another game or room";
+    assert!(rt; tells(alloc, ReplayError::WrongGame, 1, "WrongGame", text));
+    let text = "a journal of another player";
+    assert!(rt; tells(alloc, ReplayError::WrongPlayer, 2, "WrongPlayer", text));
+    let text = "body 12 is no record that may stand there";
+    assert!(rt; tells(alloc, ReplayError::BadRecord(12), 3, "BadRecord", text));
+    let disk = ReplayError::Disk(DiskError::Failed);
+    assert!(rt; tells(alloc, disk, 6, "Disk", "the disk failed"));
+}

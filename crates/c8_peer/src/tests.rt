@@ -1,6 +1,0 @@
-mod drops;
-mod opening;
-mod rows;
-mod stops;
-mod table;
-mod texts;

@@ -1,0 +1,19 @@
+//! The tests of c8_peer: tables of what its peers are asked, each with what it answers.
+#![tactic(auto)]
+
+#[cfg(test)]
+mod deed;
+#[cfg(test)]
+mod drops;
+#[cfg(test)]
+mod opening;
+#[cfg(test)]
+mod playing;
+#[cfg(test)]
+mod seat;
+#[cfg(test)]
+mod stops;
+#[cfg(test)]
+mod table;
+#[cfg(test)]
+mod texts;

@@ -1,0 +1,292 @@
+//! One and two peers.
+use crate::deed::Look::{
+    Alarm, Base, Confirmed, Counter, Down, Epoch, LastRun, Me, Now, Players, Register,
+};
+use crate::deed::What::{Cut, Data, Freeze, Frozen, Hello, Welcome};
+use crate::deed::{About, Answer, Deed, Row};
+use crate::table::plays;
+use c8_disk::DiskError;
+use c8_hand::HandError;
+use c8_known::KnownError;
+use c8_peer::{Heard, Refused, TickError, Unsayable};
+use c8_wire::WireError;
+use std::test::Fail;
+
+/// Two players, a window of 8 frames and no delay.
+const GAME: &str =
+    "players 2\nipf 10\nframes 100\ndelay 0\nwindow 8\nseed 0\nmask1 000f\nmask2 fff0\ncode 1200\n";
+
+/// The same of one frame.
+const SHORT: &str =
+    "players 2\nipf 10\nframes 1\ndelay 0\nwindow 8\nseed 0\nmask1 000f\nmask2 fff0\ncode 1200\n";
+
+/// A game that counts the frames with player 2's key 4 down.
+const COUNTS: &str =
+    "players 2\nipf 3\nframes 100\ndelay 0\nwindow 8\nseed 0\nmask1 000f\nmask2 fff0\ncode 6004e09e120272011202\n";
+
+const NOBODY: [Row; 0] = [];
+
+const MET: [Row; 1] = [(0, Deed::Meet, Answer::Done)];
+
+const TICKED: Answer = Answer::Ticked(Ok(()));
+
+const KEPT: Answer = Answer::Delivered(Ok(Heard::Kept));
+
+const NOTHING: Answer = Answer::Delivered(Ok(Heard::Nothing));
+
+/// The first slot is the HEAD; the second has the set.
+const ONE_RECORD: [Row; 8] = [
+    (1, Deed::Disk(20000, 4000), Answer::Done),
+    (1, Deed::Open, Answer::Opened(Ok(1))),
+    (1, Deed::Tick(0x20), TICKED),
+    (1, Deed::Look(Now), Answer::Is(1)),
+    (1, Deed::Look(Epoch), Answer::Is(1)),
+    (1, Deed::Look(Confirmed), Answer::Is(0)),
+    (1, Deed::Length, Answer::Is(289)),
+    (
+        1,
+        Deed::Slot(1, b"\xa5\x03\x01\0\0\0\0\0\0\0\0\0\x01\0\x20"),
+        Answer::Tells(true),
+    ),
+];
+
+#[test]
+fn a_tick_is_one_record(rt: HostRuntime) -> Result<(), Fail> {
+    plays(rt.alloc(), GAME, &NOBODY, &ONE_RECORD)
+}
+
+/// There is room for the HEAD alone.
+const FULL: [Row; 12] = [
+    (1, Deed::Disk(145, 100), Answer::Done),
+    (1, Deed::Open, Answer::Opened(Ok(1))),
+    (1, Deed::Look(Down), Answer::Tells(false)),
+    (
+        1,
+        Deed::Tick(5),
+        Answer::Ticked(Err(TickError::Disk(DiskError::Full))),
+    ),
+    (1, Deed::Look(Down), Answer::Tells(true)),
+    (1, Deed::Tick(5), Answer::Ticked(Err(TickError::Down))),
+    (
+        1,
+        Deed::HearBytes(b""),
+        Answer::Delivered(Err(Refused::Down)),
+    ),
+    (1, Deed::Say(2, Hello), Answer::Said(Err(Unsayable::Down))),
+    (1, Deed::Look(Now), Answer::Is(0)),
+    (1, Deed::Look(Epoch), Answer::Is(1)),
+    (1, Deed::Look(Me), Answer::Is(1)),
+    (1, Deed::Look(Players), Answer::Is(2)),
+];
+
+#[test]
+fn a_full_disk_takes_a_peer_down(rt: HostRuntime) -> Result<(), Fail> {
+    plays(rt.alloc(), GAME, &NOBODY, &FULL)
+}
+
+const ENDS: [Row; 6] = [
+    (1, Deed::Disk(20000, 4000), Answer::Done),
+    (1, Deed::Open, Answer::Opened(Ok(1))),
+    (1, Deed::Tick(1), TICKED),
+    (1, Deed::Tick(2), Answer::Ticked(Err(TickError::End))),
+    (1, Deed::Look(Now), Answer::Is(1)),
+    (1, Deed::Look(Confirmed), Answer::Is(0)),
+];
+
+#[test]
+fn the_game_ends_after_its_frames(rt: HostRuntime) -> Result<(), Fail> {
+    plays(rt.alloc(), SHORT, &NOBODY, &ENDS)
+}
+
+const AHEAD: Answer = Answer::Ticked(Err(TickError::Threshold));
+
+const WINDOW: [Row; 14] = [
+    (1, Deed::Tick(1), TICKED),
+    (1, Deed::Tick(2), TICKED),
+    (1, Deed::Tick(3), TICKED),
+    (1, Deed::Tick(4), TICKED),
+    (1, Deed::Tick(5), TICKED),
+    (1, Deed::Tick(6), TICKED),
+    (1, Deed::Tick(7), TICKED),
+    (1, Deed::Tick(8), TICKED),
+    (1, Deed::Tick(9), AHEAD),
+    (2, Deed::Tick(0x10), TICKED),
+    (2, Deed::Tell(1, Data), KEPT),
+    (1, Deed::Look(Confirmed), Answer::Is(1)),
+    (1, Deed::Tick(9), TICKED),
+    (1, Deed::Tick(10), AHEAD),
+];
+
+#[test]
+fn nobody_runs_further_ahead_than_the_window(rt: HostRuntime) -> Result<(), Fail> {
+    plays(rt.alloc(), GAME, &MET, &WINDOW)
+}
+
+/// Player 1 has run eight frames on the guess that player 2 holds no key down, which is wrong in the
+/// fourth: five frames are run again. A delivery that is refused runs none.
+const LATE: [Row; 14] = [
+    (1, Deed::Ticks(0, 8), TICKED),
+    (1, Deed::Look(LastRun), Answer::Is(1)),
+    (1, Deed::Look(Register(2)), Answer::Is(0)),
+    (2, Deed::Ticks(0, 3), TICKED),
+    (2, Deed::Tick(0x10), TICKED),
+    (2, Deed::Ticks(0, 4), TICKED),
+    (2, Deed::Tell(1, Data), KEPT),
+    (1, Deed::Look(LastRun), Answer::Is(5)),
+    (1, Deed::Look(Confirmed), Answer::Is(8)),
+    (1, Deed::Look(Register(2)), Answer::Is(1)),
+    (1, Deed::Look(Counter), Answer::Is(0x202)),
+    (
+        1,
+        Deed::HearBytes(b""),
+        Answer::Delivered(Err(Refused::Wire(WireError::Short))),
+    ),
+    (1, Deed::Look(LastRun), Answer::Is(5)),
+    (1, Deed::Look(Base), Answer::Is(8)),
+];
+
+#[test]
+fn a_late_key_is_run_again(rt: HostRuntime) -> Result<(), Fail> {
+    plays(rt.alloc(), COUNTS, &MET, &LATE)
+}
+
+/// Datagram 0 is DATA of 1 to 2, with epochs 1 and 1, ack 0, the mark of frame 0, start 0 and two key
+/// sets. What is acknowledged is not said again.
+const ONCE: [Row; 17] = [
+    (1, Deed::Tick(7), TICKED),
+    (1, Deed::Tick(8), TICKED),
+    (1, Deed::Say(2, Data), Answer::Said(Ok(50))),
+    (1, Deed::Spells(0, 0, b"C8\x01\x03"), Answer::Tells(true)),
+    (
+        1,
+        Deed::Spells(0, 12, b"\x01\x02\0\x1a\0\0\0\x01\0\0\0\x01\0\0\0\0\0\0\0\0"),
+        Answer::Tells(true),
+    ),
+    (
+        1,
+        Deed::Spells(0, 40, b"\0\0\0\0\0\x02\0\x07\0\x08"),
+        Answer::Tells(true),
+    ),
+    (2, Deed::Hear(0), KEPT),
+    (2, Deed::Of(1, About::Count), Answer::Is(2)),
+    (2, Deed::Hear(0), NOTHING),
+    (2, Deed::Of(1, About::Count), Answer::Is(2)),
+    (1, Deed::Of(2, About::Acked), Answer::Is(0)),
+    (2, Deed::Tell(1, Data), NOTHING),
+    (1, Deed::Of(2, About::Acked), Answer::Is(2)),
+    (1, Deed::Say(2, Data), Answer::Said(Ok(46))),
+    (1, Deed::Of(3, About::Count), Answer::Is(0)),
+    (1, Deed::Of(2, About::Frozen), Answer::Tells(false)),
+    (1, Deed::Of(2, About::Cut), Answer::Nothing),
+];
+
+#[test]
+fn data_is_taken_once_and_acknowledged(rt: HostRuntime) -> Result<(), Fail> {
+    plays(rt.alloc(), GAME, &MET, &ONCE)
+}
+
+/// Player 2 forgets what it holds, and player 1 knows that it had it.
+const GAP: [Row; 13] = [
+    (1, Deed::Tick(1), TICKED),
+    (1, Deed::Tick(2), TICKED),
+    (1, Deed::Tick(3), TICKED),
+    (1, Deed::Tell(2, Data), KEPT),
+    (2, Deed::Tell(1, Data), NOTHING),
+    (1, Deed::Tick(4), TICKED),
+    (1, Deed::Say(2, Data), Answer::Said(Ok(48))),
+    (2, Deed::Disk(20000, 4000), Answer::Done),
+    (2, Deed::Open, Answer::Opened(Ok(1))),
+    (2, Deed::Link(1), NOTHING),
+    (
+        2,
+        Deed::Hear(0),
+        Answer::Delivered(Err(Refused::Known(KnownError::Gap))),
+    ),
+    (2, Deed::Of(1, About::Count), Answer::Is(0)),
+    (2, Deed::Of(1, About::Acked), Answer::Is(0)),
+];
+
+#[test]
+fn inputs_that_leave_a_gap_are_refused(rt: HostRuntime) -> Result<(), Fail> {
+    plays(rt.alloc(), GAME, &MET, &GAP)
+}
+
+const UNLINKED: [Row; 6] = [
+    (1, Deed::Tick(1), TICKED),
+    (1, Deed::Say(2, Data), Answer::Said(Ok(48))),
+    (2, Deed::Disk(20000, 4000), Answer::Done),
+    (2, Deed::Open, Answer::Opened(Ok(1))),
+    (
+        2,
+        Deed::Hear(0),
+        Answer::Delivered(Err(Refused::Hand(HandError::Ahead))),
+    ),
+    (
+        2,
+        Deed::HearBytes(b"C8"),
+        Answer::Delivered(Err(Refused::Wire(WireError::Short))),
+    ),
+];
+
+#[test]
+fn bytes_are_judged_before_links(rt: HostRuntime) -> Result<(), Fail> {
+    plays(rt.alloc(), GAME, &MET, &UNLINKED)
+}
+
+/// Byte 27 is the last of the acknowledgement, byte 32 the first of the mark, of no frame, and byte 47
+/// the last of the first key set.
+const ORDER: [Row; 9] = [
+    (1, Deed::Tick(1), TICKED),
+    (1, Deed::Say(2, Data), Answer::Said(Ok(48))),
+    (
+        2,
+        Deed::HearChanged(0, 27),
+        Answer::Delivered(Err(Refused::BadAck)),
+    ),
+    (2, Deed::Look(Alarm), Answer::Tells(false)),
+    (
+        2,
+        Deed::HearChanged(0, 32),
+        Answer::Delivered(Err(Refused::Desync)),
+    ),
+    (2, Deed::Look(Alarm), Answer::Tells(true)),
+    (2, Deed::Of(1, About::Count), Answer::Is(0)),
+    (2, Deed::Hear(0), KEPT),
+    (
+        2,
+        Deed::HearChanged(0, 47),
+        Answer::Delivered(Err(Refused::Known(KnownError::Differs))),
+    ),
+];
+
+#[test]
+fn data_is_judged_in_order(rt: HostRuntime) -> Result<(), Fail> {
+    plays(rt.alloc(), GAME, &MET, &ORDER)
+}
+
+const NOT_A_PLAYER: Answer = Answer::Said(Err(Unsayable::NotAPlayer));
+
+const NOT_MINE: Answer = Answer::Said(Err(Unsayable::NotMine));
+
+const NO_LINK: Answer = Answer::Said(Err(Unsayable::NoLink));
+
+const UNSAYABLE: [Row; 9] = [
+    (0, Deed::Gather, Answer::Done),
+    (1, Deed::Say(1, Hello), NOT_A_PLAYER),
+    (1, Deed::Say(3, Freeze(2)), NOT_A_PLAYER),
+    (1, Deed::Say(2, Freeze(2)), NOT_MINE),
+    (1, Deed::Say(2, Frozen(2)), NOT_MINE),
+    (
+        1,
+        Deed::Say(2, Cut(2)),
+        Answer::Said(Err(Unsayable::NoRecord)),
+    ),
+    (1, Deed::Say(2, Welcome), NO_LINK),
+    (1, Deed::Say(2, Data), NO_LINK),
+    (1, Deed::Say(2, Hello), Answer::Said(Ok(24))),
+];
+
+#[test]
+fn what_may_not_be_said_is_refused_in_order(rt: HostRuntime) -> Result<(), Fail> {
+    plays(rt.alloc(), GAME, &NOBODY, &UNSAYABLE)
+}

@@ -1,0 +1,281 @@
+//! One player's peer, or its disk.
+use crate::deed::{About, Answer, Deed, Look};
+use c8_disk::{Arm, Disk, MemDisk};
+use c8_game::{Game, Keys, Player};
+use c8_peer::{Kind, Peer};
+use std::alloc::Global;
+
+/// Bytes that were said.
+#[derive(Clone, Copy)]
+pub(crate) struct Letter {
+    bytes: [u8; 174],
+    size: usize,
+}
+
+impl Letter {
+    pub(crate) fn bytes(&self) -> &[u8] {
+        match self.bytes.get(..self.size) {
+            Some(bytes) => bytes,
+            None => &[],
+        }
+    }
+
+    /// The same with the lowest bit of a byte changed.
+    pub(crate) fn changed(&self, place: usize) -> Letter {
+        let mut changed = *self;
+        if let Some(byte) = changed.bytes.get_mut(place) {
+            *byte ^= 1;
+        }
+        changed
+    }
+}
+
+/// A player's peer if it is held, else its disk.
+#[derive(Drop)]
+pub(crate) struct Seat<'g> {
+    peer: Option<Peer<'g, MemDisk>>,
+    disk: Option<MemDisk>,
+}
+
+impl<'g> Seat<'g> {
+    /// Nothing is there yet.
+    pub(crate) fn empty() -> Seat<'g> {
+        Seat {
+            peer: None,
+            disk: None,
+        }
+    }
+
+    /// Opens the peer, on the disk of the one that is held.
+    pub(crate) fn open(&mut self, alloc: Global, game: &'g Game, me: Player, room: u64) -> Answer {
+        self.close();
+        let Some(disk) = self.disk.take() else {
+            return Answer::Impossible;
+        };
+        match Peer::open(alloc, disk, game, me, room) {
+            Ok(peer) => {
+                let epoch = peer.epoch();
+                self.peer = Some(peer);
+                Answer::Opened(Ok(epoch))
+            }
+            Err((error, disk)) => {
+                self.disk = Some(disk);
+                Answer::Opened(Err(error))
+            }
+        }
+    }
+
+    pub(crate) fn close(&mut self) {
+        if let Some(peer) = self.peer.take() {
+            self.disk = Some(peer.close());
+        }
+    }
+
+    pub(crate) fn crash(&mut self, pick: u64) {
+        self.close();
+        if let Some(disk) = self.disk.take() {
+            self.disk = Some(disk.crash(pick));
+        }
+    }
+
+    /// Puts a disk in the place of all that is there.
+    pub(crate) fn put(&mut self, disk: MemDisk) {
+        self.peer = None;
+        self.disk = Some(disk);
+    }
+
+    pub(crate) fn stop(&mut self, calls: u64) {
+        if let Some(peer) = &mut self.peer {
+            peer.arm(Arm::Stop(calls));
+        } else if let Some(disk) = &mut self.disk {
+            disk.stop_after(calls);
+        }
+    }
+
+    pub(crate) fn sync(&mut self) -> Answer {
+        match &mut self.disk {
+            Some(disk) => Answer::Served(disk.sync()),
+            None => Answer::Impossible,
+        }
+    }
+
+    /// What the disk holds, once the peer is closed.
+    pub(crate) fn image(&mut self) -> &[u8] {
+        self.close();
+        match &self.disk {
+            Some(disk) => disk.bytes(),
+            None => &[],
+        }
+    }
+
+    pub(crate) fn say(&self, to: Player, kind: Kind) -> Result<Letter, Answer> {
+        let Some(peer) = &self.peer else {
+            return Err(Answer::Impossible);
+        };
+        let mut bytes = [0; 174];
+        match peer.say(to, kind, &mut bytes) {
+            Ok(size) => Ok(Letter { bytes, size }),
+            Err(error) => Err(Answer::Said(Err(error))),
+        }
+    }
+
+    pub(crate) fn hear(&mut self, bytes: &[u8]) -> Answer {
+        match &mut self.peer {
+            Some(peer) => Answer::Delivered(peer.deliver(bytes)),
+            None => Answer::Impossible,
+        }
+    }
+
+    /// Enters a key set so often, until it is refused.
+    pub(crate) fn tick(&mut self, keys: u16, times: u32) -> Answer {
+        let Some(peer) = &mut self.peer else {
+            return Answer::Impossible;
+        };
+        for _ in 0..times {
+            if let Err(error) = peer.tick(Keys(keys)) {
+                return Answer::Ticked(Err(error));
+            }
+        }
+        Answer::Ticked(Ok(()))
+    }
+
+    pub(crate) fn leave(&mut self, leaver: Player) -> Answer {
+        match &mut self.peer {
+            Some(peer) => Answer::Left(peer.leave(leaver)),
+            None => Answer::Impossible,
+        }
+    }
+
+    pub(crate) fn decide(&mut self, leaver: Player) -> Answer {
+        match &mut self.peer {
+            Some(peer) => Answer::Decided(peer.decide(leaver)),
+            None => Answer::Impossible,
+        }
+    }
+
+    pub(crate) fn look(&self, look: Look) -> Answer {
+        let Some(peer) = &self.peer else {
+            return Answer::Impossible;
+        };
+        match look {
+            Look::Me => Answer::Is(u32::from(peer.me().number)),
+            Look::Players => Answer::Is(u32::from(peer.players())),
+            Look::Now => Answer::Is(peer.now()),
+            Look::Epoch => Answer::Is(peer.epoch()),
+            Look::Confirmed => Answer::Is(peer.confirmed()),
+            Look::Down => Answer::Tells(peer.is_down()),
+            Look::Dropped => Answer::Tells(peer.dropped()),
+            Look::Alarm => Answer::Tells(peer.alarm()),
+            Look::LastRun => Answer::Is(peer.last_run()),
+            Look::Register(place) => match peer.shown().registers().get(place) {
+                Some(value) => Answer::Is(u32::from(*value)),
+                None => Answer::Impossible,
+            },
+            Look::Counter => Answer::Is(u32::from(peer.shown().counter())),
+            Look::Base => Answer::Is(peer.base().0),
+            Look::Rows => Answer::Is(peer.rows().len()),
+            Look::NoRows => Answer::Tells(peer.rows().is_empty()),
+            Look::RowsOf => Answer::Is(u32::from(peer.rows().players())),
+        }
+    }
+
+    pub(crate) fn about(&self, player: Player, about: About) -> Answer {
+        let Some(peer) = &self.peer else {
+            return Answer::Impossible;
+        };
+        match about {
+            About::Count => Answer::Is(peer.count(player)),
+            About::Acked => Answer::Is(peer.acked(player)),
+            About::Frozen => Answer::Tells(peer.frozen(player)),
+            About::Leaving => Answer::Tells(peer.leaving(player)),
+            About::Cut => match peer.cut_of(player) {
+                Some(length) => Answer::Is(length),
+                None => Answer::Nothing,
+            },
+        }
+    }
+
+    pub(crate) fn row(&self, frame: u32) -> Answer {
+        let Some(peer) = &self.peer else {
+            return Answer::Impossible;
+        };
+        let rows = peer.rows();
+        if frame >= rows.len() {
+            return Answer::Nothing;
+        }
+        let [one, two, three, four] = rows.row(frame).sets;
+        Answer::Sets([one.0, two.0, three.0, four.0])
+    }
+
+    pub(crate) fn has_inputs(&self, player: Player, inputs: &[u16]) -> Answer {
+        let Some(peer) = &self.peer else {
+            return Answer::Impossible;
+        };
+        let rows = peer.rows();
+        if player.number > rows.players() {
+            return Answer::Nothing;
+        }
+        Answer::Tells(rows.inputs(player) == inputs)
+    }
+}
+
+impl<'g> Seat<'g> {
+    /// What a deed is answered that is of no other player.
+    pub(crate) fn does(&mut self, deed: Deed) -> Answer {
+        match deed {
+            Deed::Close => {
+                self.close();
+                Answer::Done
+            }
+            Deed::Crash(pick) => {
+                self.crash(pick);
+                Answer::Done
+            }
+            Deed::Stop(calls) => {
+                self.stop(calls);
+                Answer::Done
+            }
+            Deed::Sync => self.sync(),
+            Deed::Length => Answer::Is(u32::try_from(self.image().len()).unwrap_or(u32::MAX)),
+            Deed::Slot(number, bytes) => Answer::Tells(is_slot(self.image(), number, bytes)),
+            Deed::Tick(keys) => self.tick(keys, 1),
+            Deed::Ticks(keys, times) => self.tick(keys, times),
+            Deed::HearBytes(bytes) => self.hear(bytes),
+            Deed::Look(look) => self.look(look),
+            Deed::Row(frame) => self.row(frame),
+            _ => self.does_to(deed),
+        }
+    }
+
+    /// The same of a deed that names a player.
+    fn does_to(&mut self, deed: Deed) -> Answer {
+        let number = match deed {
+            Deed::Leave(number)
+            | Deed::Decide(number)
+            | Deed::Of(number, _)
+            | Deed::Inputs(number, _) => number,
+            _ => 0,
+        };
+        let Some(player) = Player::new(number) else {
+            return Answer::Impossible;
+        };
+        match deed {
+            Deed::Leave(_) => self.leave(player),
+            Deed::Decide(_) => self.decide(player),
+            Deed::Of(_, about) => self.about(player, about),
+            Deed::Inputs(_, inputs) => self.has_inputs(player, inputs),
+            _ => Answer::Impossible,
+        }
+    }
+}
+
+/// Whether a slot of an image begins so, and has zeros after that.
+fn is_slot(image: &[u8], number: usize, beginning: &[u8]) -> bool {
+    let Some(slot) = image.chunks(144).nth(number) else {
+        return false;
+    };
+    match slot.split_at_checked(beginning.len()) {
+        Some((front, rest)) => front == beginning && rest.iter().all(|byte| *byte == 0),
+        None => false,
+    }
+}

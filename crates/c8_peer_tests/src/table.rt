@@ -1,0 +1,275 @@
+//! All players' peers, and one deed after the other.
+use crate::deed::{Answer, Deed, ROOM, Row, What};
+use crate::seat::{Letter, Seat};
+use c8_disk::{Disk, LONGEST_WRITE, MemDisk};
+use c8_game::{Game, Player};
+use c8_peer::Kind;
+use std::alloc::Global;
+use std::test::Fail;
+
+/// The seats of all players, player 1 first, and what was said to be heard later.
+#[derive(Drop)]
+pub(crate) struct Table<'g> {
+    alloc: Global,
+    game: &'g Game,
+    other: &'g Game,
+    seats: Vec<Seat<'g>>,
+    letters: Vec<Letter>,
+}
+
+/// A row that is answered otherwise.
+#[derive(Debug, Drop)]
+struct Wrong {
+    row: usize,
+    answer: Answer,
+}
+
+/// All rows are answered as they say, at a table where the first rows were walked before.
+pub(crate) fn plays(alloc: Global, text: &str, first: &[Row], rows: &[Row]) -> Result<(), Fail> {
+    plays_beside(alloc, text, text, first, rows)
+}
+
+/// The same beside another game.
+pub(crate) fn plays_beside(
+    alloc: Global,
+    text: &str,
+    other: &str,
+    first: &[Row],
+    rows: &[Row],
+) -> Result<(), Fail> {
+    let game = Game::read(alloc, text.as_bytes())?;
+    let other = Game::read(alloc, other.as_bytes())?;
+    let mut table = Table::new(alloc, &game, &other)?;
+    table.walk(first)?;
+    table.walk(rows)
+}
+
+impl<'g> Table<'g> {
+    /// A table at which nobody has a peer yet, each an empty disk.
+    pub(crate) fn new(alloc: Global, game: &'g Game, other: &'g Game) -> Result<Table<'g>, Fail> {
+        let mut seats = Vec::new(alloc);
+        for _ in 0..4 {
+            seats.push(Seat::empty())?;
+        }
+        let letters = Vec::new(alloc);
+        Ok(Table {
+            alloc,
+            game,
+            other,
+            seats,
+            letters,
+        })
+    }
+
+    /// Each row is answered as it says.
+    pub(crate) fn walk(&mut self, rows: &[Row]) -> Result<(), Fail> {
+        for (row, (at, deed, wanted)) in rows.iter().enumerate() {
+            let answer = self.does(*at, *deed);
+            if answer != *wanted {
+                return Err(Fail::from(Wrong { row, answer }));
+            }
+        }
+        Ok(())
+    }
+}
+
+impl<'g> Table<'g> {
+    /// What a deed is answered.
+    pub(crate) fn does(&mut self, at: u8, deed: Deed) -> Answer {
+        match deed {
+            Deed::Meet => self.meet(),
+            Deed::Gather => self.gather(),
+            Deed::Open => self.open(at, false, at, ROOM),
+            Deed::OpenAs { other, me, room } => self.open(at, other, me, room),
+            Deed::Disk(capacity, calls) => self.put(at, capacity, calls, &[]),
+            Deed::Hold(slots) => self.hold(at, slots),
+            Deed::Holds(slots) => self.holds(at, slots),
+            Deed::Say(to, what) => self.say(at, to, what),
+            Deed::Tell(to, what) => self.tell(at, to, what),
+            Deed::Link(to) => self.link(at, to),
+            Deed::Hear(number) => self.hear(at, number, 174),
+            Deed::HearChanged(number, place) => self.hear(at, number, place),
+            Deed::Spells(number, place, bytes) => self.spells(number, place, bytes),
+            _ => match self.seat(at) {
+                Some(seat) => seat.does(deed),
+                None => Answer::Impossible,
+            },
+        }
+    }
+
+    fn seat(&mut self, at: u8) -> Option<&mut Seat<'g>> {
+        self.seats.get_mut(usize::from(at).wrapping_sub(1))
+    }
+
+    fn gather(&mut self) -> Answer {
+        for at in 1..self.game.players().saturating_add(1) {
+            self.put(at, 20000, 4000, &[]);
+            let opened = self.open(at, false, at, ROOM);
+            if opened != Answer::Opened(Ok(1)) {
+                return opened;
+            }
+        }
+        Answer::Done
+    }
+
+    fn meet(&mut self) -> Answer {
+        let players = self.game.players();
+        let gathered = self.gather();
+        // Each pair of players is met twice, once from each side.
+        for pair in 0..16 {
+            let (one, other) = (pair / 4 + 1, pair % 4 + 1);
+            if one != other && one <= players && other <= players {
+                self.link(one, other);
+            }
+        }
+        gathered
+    }
+
+    fn open(&mut self, at: u8, other: bool, me: u8, room: u64) -> Answer {
+        let (alloc, game) = (self.alloc, if other { self.other } else { self.game });
+        match (self.seat(at), Player::new(me)) {
+            (Some(seat), Some(me)) => seat.open(alloc, game, me, room),
+            _ => Answer::Impossible,
+        }
+    }
+
+    /// Puts a disk in the place of a player's, that holds these bytes, all of them synced.
+    fn put(&mut self, at: u8, capacity: u32, calls: u32, bytes: &[u8]) -> Answer {
+        let Some(disk) = holding(self.alloc, capacity, calls, bytes) else {
+            return Answer::Impossible;
+        };
+        match self.seat(at) {
+            Some(seat) => {
+                seat.put(disk);
+                Answer::Done
+            }
+            None => Answer::Impossible,
+        }
+    }
+
+    fn hold(&mut self, at: u8, slots: &[&[u8]]) -> Answer {
+        match image(self.alloc, slots) {
+            Some(image) => self.put(at, 1000, 100, &image),
+            None => Answer::Impossible,
+        }
+    }
+
+    fn holds(&mut self, at: u8, slots: &[&[u8]]) -> Answer {
+        let Some(image) = image(self.alloc, slots) else {
+            return Answer::Impossible;
+        };
+        match self.seat(at) {
+            Some(seat) => { Answer::Tells(seat.image() == image.as_slice()) }
+            None => Answer::Impossible,
+        }
+    }
+
+    /// What a player says to another.
+    fn letter(&mut self, from: u8, to: u8, what: What) -> Result<Letter, Answer> {
+        let (Some(seat), Some(to), Some(kind)) = (self.seat(from), Player::new(to), kind_of(what))
+        else {
+            return Err(Answer::Impossible);
+        };
+        seat.say(to, kind)
+    }
+
+    fn say(&mut self, from: u8, to: u8, what: What) -> Answer {
+        match self.letter(from, to, what) {
+            Ok(letter) => {
+                let size = letter.bytes().len();
+                match self.letters.push(letter) {
+                    Ok(()) => Answer::Said(Ok(size)),
+                    Err(_) => Answer::Impossible,
+                }
+            }
+            Err(answer) => answer,
+        }
+    }
+
+    fn tell(&mut self, from: u8, to: u8, what: What) -> Answer {
+        match self.letter(from, to, what) {
+            Ok(letter) => self.give(to, &letter),
+            Err(answer) => answer,
+        }
+    }
+
+    fn link(&mut self, one: u8, other: u8) -> Answer {
+        self.tell(one, other, What::Hello);
+        self.tell(other, one, What::Welcome)
+    }
+
+    fn give(&mut self, to: u8, letter: &Letter) -> Answer {
+        match self.seat(to) {
+            Some(seat) => seat.hear(letter.bytes()),
+            None => Answer::Impossible,
+        }
+    }
+
+    /// Hears what was said, with a byte changed if there is one at the place.
+    fn hear(&mut self, to: u8, number: usize, place: usize) -> Answer {
+        match self.letters.get(number).copied() {
+            Some(letter) => self.give(to, &letter.changed(place)),
+            None => Answer::Impossible,
+        }
+    }
+
+    fn spells(&self, number: usize, place: usize, bytes: &[u8]) -> Answer {
+        match self.letters.get(number) {
+            Some(letter) => match letter.bytes().get(place..) {
+                Some(rest) => Answer::Tells(rest.starts_with(bytes)),
+                None => Answer::Impossible,
+            },
+            None => Answer::Impossible,
+        }
+    }
+}
+
+fn kind_of(what: What) -> Option<Kind> {
+    match what {
+        What::Hello => Some(Kind::Hello),
+        What::Welcome => Some(Kind::Welcome),
+        What::Data => Some(Kind::Data),
+        What::Freeze(leaver) => Player::new(leaver).map(Kind::Freeze),
+        What::Frozen(leaver) => Player::new(leaver).map(Kind::Frozen),
+        What::Cut(leaver) => Player::new(leaver).map(Kind::Cut),
+    }
+}
+
+/// A disk that holds these bytes, all of them synced.
+fn holding(alloc: Global, capacity: u32, calls: u32, bytes: &[u8]) -> Option<MemDisk> {
+    let mut disk = MemDisk::new(alloc, capacity, calls).ok()?;
+    if bytes.is_empty() {
+        return Some(disk);
+    }
+    for piece in bytes.chunks(144) {
+        if !adds(&mut disk, piece) {
+            return None;
+        }
+    }
+    settled(disk)
+}
+
+/// Adds bytes to a disk.
+fn adds(disk: &mut MemDisk, piece: &[u8]) -> bool {
+    let end = disk.len();
+    piece.len() <= LONGEST_WRITE && disk.write_at(end, piece).is_ok()
+}
+
+/// The disk once all that it holds is synced.
+fn settled(mut disk: MemDisk) -> Option<MemDisk> {
+    if disk.sync().is_err() {
+        return None;
+    }
+    Some(disk.crash(0))
+}
+
+/// The bytes of slots that begin so, with zeros after that, and of the closed gate after them.
+fn image(alloc: Global, slots: &[&[u8]]) -> Option<Vec<u8>> {
+    let mut image = Vec::new(alloc);
+    for slot in slots {
+        image.extend_from_slice(slot).ok()?;
+        image.resize(image.len().next_multiple_of(144), 0).ok()?;
+    }
+    image.push(0).ok()?;
+    Some(image)
+}

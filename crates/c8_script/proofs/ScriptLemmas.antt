@@ -1,0 +1,261 @@
+-- What the words of a line are read as is what they spell, and nothing else is.
+use Rattle.std.proofs.Common.{◌≡◌, ℕ, suc, zero, ◌+◌, ◌-◌, ◌<◌, ◌≤◌, ◌⊎◌, Bool, true, false, ◌&&◌, cond, nat_lt, Option, Some, None, option_map, List, [], ◌∷◌, length, get_or, codes, refl, sym, ap, subst, ◌∙◌, arith, lit≤, inl, inr}
+use Rattle.std.proofs.Math.Bridge.{le_prop}
+use Rattle.std.proofs.lemmas.Bool.{and_parts, cond-true, le-leb, leb-true}
+use Rattle.std.proofs.lemmas.Option.{same_Some}
+use Rattle.std.proofs.lemmas.Slice.Eq.{bytes_eq-Decides}
+use Rattle.std.specs.Option.{option_and_then}
+use Rattle.std.specs.Str.{bytes_eq}
+use Rattle.c8_game.specs.Fields.{is_decimal, decimal_number}
+use Rattle.c8_game.specs.KeysText.{is_keys_text, keys_number}
+use Rattle.c8_game.specs.declared.row.Keys.{Keys}
+use Rattle.c8_game.specs.declared.row.Player.{Player}
+use Rattle.c8_peer.specs.declared.kind.Kind.{Kind}
+use Rattle.c8_peer.specs.declared.kind.Kind.TheVariants.{Hello, Welcome, Data, Freeze, Frozen, Cut}
+use Rattle.c8_world.specs.declared.event.Act.{Act}
+use Rattle.c8_world.specs.declared.event.Act.TheVariants.{Open, Tick, Say, Give, Leave, Decide}
+use Rattle.c8_world.specs.declared.event.Event.{Event}
+use Rattle.c8_world.specs.declared.event.Event.TheVariants.{Do, Stop}
+use Rattle.c8_script.specs.Script.{player_word, SpellsKeys, SpellsNumber, kind_words, SpellsAct, WordsSpell}
+use Rattle.c8_script.specs.ScriptWords.{player_in, player_of, keys_in, number_in, kind_in, act_of, said_of, act_in, stop_of, stop_in, act_or_stop, event_in}
+
+-- ---- choices
+
+chosen : {A : Type 0} (b : Bool) (x y : Option A) (v : A) → cond b x y ≡ Some v → ((b ≡ true) × (x ≡ Some v)) ⊎ (y ≡ Some v)
+chosen true x y v is = inl (refl, is)
+chosen false x y v is = inr is
+
+mapped : {A B : Type 0} (f : A → B) (o : Option A) (v : B) → option_map f o ≡ Some v → (a : A) × (o ≡ Some a) × (f a ≡ v)
+mapped f None v is = absurd (cc)
+mapped f (Some a) v is = (a, refl, cc)
+
+chained : {A B : Type 0} (f : A → Option B) (o : Option A) (v : B) → option_and_then f o ≡ Some v → (a : A) × (o ≡ Some a) × (f a ≡ Some v)
+chained f None v is = absurd (cc)
+chained f (Some a) v is = (a, refl, is)
+
+keyword : (word text : List ℕ) → bytes_eq word text ≡ true → word ≡ text
+keyword word text same = (bytes_eq-Decides word text).0 same
+
+-- ---- players, key sets and numbers
+
+-- a player is found by the number, whatever proves that it is one
+player_of_own : (n : ℕ) (from : 1 ≤ n) (to : n ≤ 4) → player_of n ≡ Some (record { number = n; from_one = from; to_four = to })
+player_of_own zero from to = absurd (omega arith)
+player_of_own (suc zero) from to = λ i. Some (record { number = 1; from_one = le_prop (lit≤ tt) from i; to_four = le_prop (lit≤ tt) to i })
+player_of_own (suc (suc zero)) from to = λ i. Some (record { number = 2; from_one = le_prop (lit≤ tt) from i; to_four = le_prop (lit≤ tt) to i })
+player_of_own (suc (suc (suc zero))) from to = λ i. Some (record { number = 3; from_one = le_prop (lit≤ tt) from i; to_four = le_prop (lit≤ tt) to i })
+player_of_own (suc (suc (suc (suc zero)))) from to = λ i. Some (record { number = 4; from_one = le_prop (lit≤ tt) from i; to_four = le_prop (lit≤ tt) to i })
+player_of_own (suc (suc (suc (suc (suc n))))) from to = absurd (omega arith)
+
+player_numbered : (n : ℕ) (player : Player) → n ≡ player.number → player_of n ≡ Some player
+player_numbered n player same = ap player_of same ∙ player_of_own player.number player.from_one player.to_four
+
+pub player_of_digit : (word : List ℕ) (player : Player) → 1 ≤ length word → length word < 2 → get_or word 0 0 - 48 ≡ player.number → player_in word ≡ Some player
+player_of_digit [] player some one same = absurd (omega arith)
+player_of_digit (digit ∷ []) player some one same = player_numbered (digit - 48) player same
+player_of_digit (digit ∷ next ∷ more) player some one same = absurd (omega arith)
+
+player_read : (player : Player) → player_in (player_word player) ≡ Some player
+player_read player = player_numbered (48 + player.number - 48) player (omega arith)
+
+its_number : (n : ℕ) (player : Player) → player_of n ≡ Some player → player.number ≡ n
+its_number zero player is = absurd (cc)
+its_number (suc zero) player is = ap (λ (p : Player). p.number) (sym (same_Some _ player is))
+its_number (suc (suc zero)) player is = ap (λ (p : Player). p.number) (sym (same_Some _ player is))
+its_number (suc (suc (suc zero))) player is = ap (λ (p : Player). p.number) (sym (same_Some _ player is))
+its_number (suc (suc (suc (suc zero)))) player is = ap (λ (p : Player). p.number) (sym (same_Some _ player is))
+its_number (suc (suc (suc (suc (suc n))))) player is = absurd (cc)
+
+player_spelt : (word : List ℕ) (player : Player) → player_in word ≡ Some player → word ≡ player_word player
+player_spelt [] player is = absurd (cc)
+player_spelt (digit ∷ []) player is = let number = its_number (digit - 48) player is in let from = player.from_one in let same : digit ≡ 48 + player.number = omega arith in ap (λ d. d ∷ []) same
+player_spelt (digit ∷ next ∷ more) player is = absurd (cc)
+
+keys_read : (word : List ℕ) (keys : Keys) → SpellsKeys word keys → keys_in word ≡ Some keys
+keys_read word keys spelt = rw (spelt.0, spelt.1) refl
+
+keys_spelt : (word : List ℕ) (keys : Keys) → keys_in word ≡ Some keys → SpellsKeys word keys
+keys_spelt word keys is = elim (chosen (is_keys_text word) (Some (record { 0 = keys_number word })) None keys is) [
+  | inl here ↦ (here.0, ap (λ (k : Keys). k.0) (same_Some (record { 0 = keys_number word }) keys here.1))
+  | inr none ↦ absurd (cc)
+]
+
+number_read : (word : List ℕ) (number : ℕ) → SpellsNumber word number → number_in word ≡ Some number
+number_read word number spelt =
+    let value : decimal_number word ≡ number = spelt.1 in
+    let small : number < 18446744073709551616 = spelt.2 in
+    let fits : nat_lt (decimal_number word) 18446744073709551616 ≡ true = le-leb (suc (decimal_number word)) 18446744073709551616 (omega arith) in
+    cond-true (is_decimal word && nat_lt (decimal_number word) 18446744073709551616) (Some (decimal_number word)) None (ap (λ b. b && nat_lt (decimal_number word) 18446744073709551616) spelt.0 ∙ fits)
+    ∙ ap Some value
+
+number_spelt : (word : List ℕ) (number : ℕ) → number_in word ≡ Some number → SpellsNumber word number
+number_spelt word number is = elim (chosen (is_decimal word && nat_lt (decimal_number word) 18446744073709551616) (Some (decimal_number word)) None number is) [
+  | inl here ↦ let both = and_parts (is_decimal word) (nat_lt (decimal_number word) 18446744073709551616) here.0 in
+      let same = same_Some (decimal_number word) number here.1 in
+      (both.0, same, omega (arith, same, leb-true (suc (decimal_number word)) 18446744073709551616 both.1))
+  | inr none ↦ absurd (cc)
+]
+
+-- ---- what is said
+
+-- a kind of one player
+player_kind : (make : Player → Kind) (text what word : List ℕ) (kind : Kind) → ((p : Player) → kind_words (make p) ≡ text ∷ player_word p ∷ [])
+    → bytes_eq what text ≡ true → option_map make (player_in word) ≡ Some kind → kind_words kind ≡ what ∷ word ∷ []
+player_kind make text what word kind says same is =
+    let player = mapped make (player_in word) kind is in
+    subst (λ k. kind_words k ≡ what ∷ word ∷ []) player.2 (says player.0 ∙ ap (λ w. w ∷ player_word player.0 ∷ []) (sym (keyword what text same)) ∙ ap (λ w. what ∷ w ∷ []) (sym (player_spelt word player.0 player.1)))
+
+word_kind : (made : Kind) (text what : List ℕ) (kind : Kind) → kind_words made ≡ text ∷ [] → bytes_eq what text ≡ true → ◌≡◌ {A = Option Kind} (Some made) (Some kind) → kind_words kind ≡ what ∷ []
+word_kind made text what kind says same is =
+    subst (λ k. kind_words k ≡ what ∷ []) (same_Some made kind is) (says ∙ ap (λ w. w ∷ []) (sym (keyword what text same)))
+
+kind_spelt : (kind : Kind) (what : List ℕ) (leaver : List (List ℕ)) → kind_in what leaver ≡ Some kind → kind_words kind ≡ what ∷ leaver
+kind_spelt kind what [] is =
+    elim (chosen (bytes_eq what (codes "hello")) _ _ kind is) [
+      | inl here ↦ word_kind Hello (codes "hello") what kind refl here.0 here.1
+      | inr more ↦ elim (chosen (bytes_eq what (codes "welcome")) _ _ kind more) [
+        | inl here ↦ word_kind Welcome (codes "welcome") what kind refl here.0 here.1
+        | inr last ↦ elim (chosen (bytes_eq what (codes "data")) _ _ kind last) [
+          | inl here ↦ word_kind Data (codes "data") what kind refl here.0 here.1
+          | inr none ↦ absurd (cc)
+        ]
+      ]
+    ]
+kind_spelt kind what (word ∷ []) is =
+    elim (chosen (bytes_eq what (codes "freeze")) _ _ kind is) [
+      | inl here ↦ player_kind Freeze (codes "freeze") what word kind (λ p. refl) here.0 here.1
+      | inr more ↦ elim (chosen (bytes_eq what (codes "frozen")) _ _ kind more) [
+        | inl here ↦ player_kind Frozen (codes "frozen") what word kind (λ p. refl) here.0 here.1
+        | inr last ↦ elim (chosen (bytes_eq what (codes "cut")) _ _ kind last) [
+          | inl here ↦ player_kind Cut (codes "cut") what word kind (λ p. refl) here.0 here.1
+          | inr none ↦ absurd (cc)
+        ]
+      ]
+    ]
+kind_spelt kind what (word ∷ next ∷ more) is = absurd (cc)
+
+-- ---- acts
+
+-- an act of one player
+player_act : (make : Player → Act) (text verb word : List ℕ) (act : Act) → ((p : Player) → verb ∷ word ∷ [] ≡ text ∷ player_word p ∷ [] → SpellsAct (verb ∷ word ∷ []) (make p))
+    → bytes_eq verb text ≡ true → option_map make (player_in word) ≡ Some act → SpellsAct (verb ∷ word ∷ []) act
+player_act make text verb word act says same is =
+    let player = mapped make (player_in word) act is in
+    let verb_is : verb ≡ text = keyword verb text same in
+    let word_is : word ≡ player_word player.0 = player_spelt word player.0 player.1 in
+    subst (SpellsAct (verb ∷ word ∷ [])) player.2 (says player.0 (cc))
+
+tick_spelt : (verb one other : List ℕ) (act : Act) → bytes_eq verb (codes "tick") ≡ true → act_of Tick (player_in one) (keys_in other) ≡ Some act → SpellsAct (verb ∷ one ∷ other ∷ []) act
+tick_spelt verb one other act same is =
+    let player = chained (λ p. option_map (Tick p) (keys_in other)) (player_in one) act is in
+    let keys = mapped (Tick player.0) (keys_in other) act player.2 in
+    let verb_is : verb ≡ codes "tick" = keyword verb (codes "tick") same in
+    let one_is : one ≡ player_word player.0 = player_spelt one player.0 player.1 in
+    subst (SpellsAct (verb ∷ one ∷ other ∷ [])) keys.2 (other, cc, keys_spelt other keys.0 keys.1)
+
+give_spelt : (verb one other : List ℕ) (act : Act) → bytes_eq verb (codes "give") ≡ true → act_of Give (number_in one) (player_in other) ≡ Some act → SpellsAct (verb ∷ one ∷ other ∷ []) act
+give_spelt verb one other act same is =
+    let number = chained (λ n. option_map (Give n) (player_in other)) (number_in one) act is in
+    let player = mapped (Give number.0) (player_in other) act number.2 in
+    let verb_is : verb ≡ codes "give" = keyword verb (codes "give") same in
+    let other_is : other ≡ player_word player.0 = player_spelt other player.0 player.1 in
+    subst (SpellsAct (verb ∷ one ∷ other ∷ [])) player.2 (one, cc, number_spelt one number.0 number.1)
+
+say_spelt : (verb one other what : List ℕ) (leaver : List (List ℕ)) (act : Act) → bytes_eq verb (codes "say") ≡ true → said_of (player_in one) (player_in other) (kind_in what leaver) ≡ Some act
+    → SpellsAct (verb ∷ one ∷ other ∷ what ∷ leaver) act
+say_spelt verb one other what leaver act same is =
+    let player = chained (λ p. act_of (Say p) (player_in other) (kind_in what leaver)) (player_in one) act is in
+    let to = chained (λ q. option_map (Say player.0 q) (kind_in what leaver)) (player_in other) act player.2 in
+    let kind = mapped (Say player.0 to.0) (kind_in what leaver) act to.2 in
+    let verb_is : verb ≡ codes "say" = keyword verb (codes "say") same in
+    let one_is : one ≡ player_word player.0 = player_spelt one player.0 player.1 in
+    let other_is : other ≡ player_word to.0 = player_spelt other to.0 to.1 in
+    let kind_is : kind_words kind.0 ≡ what ∷ leaver = kind_spelt kind.0 what leaver kind.1 in
+    subst (SpellsAct (verb ∷ one ∷ other ∷ what ∷ leaver)) kind.2 (cc)
+
+act_spelt : (words : List (List ℕ)) (act : Act) → act_in words ≡ Some act → SpellsAct words act
+act_spelt [] act is = absurd (cc)
+act_spelt (verb ∷ []) act is = absurd (cc)
+act_spelt (verb ∷ word ∷ []) act is =
+    elim (chosen (bytes_eq verb (codes "open")) _ _ act is) [
+      | inl here ↦ player_act Open (codes "open") verb word act (λ p same. same) here.0 here.1
+      | inr more ↦ elim (chosen (bytes_eq verb (codes "leave")) _ _ act more) [
+        | inl here ↦ player_act Leave (codes "leave") verb word act (λ p same. same) here.0 here.1
+        | inr last ↦ elim (chosen (bytes_eq verb (codes "decide")) _ _ act last) [
+          | inl here ↦ player_act Decide (codes "decide") verb word act (λ p same. same) here.0 here.1
+          | inr none ↦ absurd (cc)
+        ]
+      ]
+    ]
+act_spelt (verb ∷ one ∷ other ∷ []) act is =
+    elim (chosen (bytes_eq verb (codes "tick")) _ _ act is) [
+      | inl here ↦ tick_spelt verb one other act here.0 here.1
+      | inr last ↦ elim (chosen (bytes_eq verb (codes "give")) _ _ act last) [
+        | inl here ↦ give_spelt verb one other act here.0 here.1
+        | inr none ↦ absurd (cc)
+      ]
+    ]
+act_spelt (verb ∷ one ∷ other ∷ what ∷ leaver) act is =
+    elim (chosen (bytes_eq verb (codes "say")) _ _ act is) [
+      | inl here ↦ say_spelt verb one other what leaver act here.0 here.1
+      | inr none ↦ absurd (cc)
+    ]
+
+said_read : (player to : Player) (what : Option Kind) (kind : Kind) → what ≡ Some kind → said_of (player_in (player_word player)) (player_in (player_word to)) what ≡ Some (Say player to kind)
+said_read player to what kind is =
+    ap (λ o. said_of o (player_in (player_word to)) what) (player_read player) ∙ ap (λ o. act_of (Say player) o what) (player_read to) ∙ ap (option_map (Say player to)) is
+
+say_read : (player to : Player) (kind : Kind) → act_in (codes "say" ∷ player_word player ∷ player_word to ∷ kind_words kind) ≡ Some (Say player to kind)
+say_read player to Hello = said_read player to (Some Hello) Hello refl
+say_read player to Welcome = said_read player to (Some Welcome) Welcome refl
+say_read player to Data = said_read player to (Some Data) Data refl
+say_read player to (Freeze leaver) = said_read player to (option_map Freeze (player_in (player_word leaver))) (Freeze leaver) (ap (option_map Freeze) (player_read leaver))
+say_read player to (Frozen leaver) = said_read player to (option_map Frozen (player_in (player_word leaver))) (Frozen leaver) (ap (option_map Frozen) (player_read leaver))
+say_read player to (Cut leaver) = said_read player to (option_map Cut (player_in (player_word leaver))) (Cut leaver) (ap (option_map Cut) (player_read leaver))
+
+act_read : (words : List (List ℕ)) (act : Act) → SpellsAct words act → act_in words ≡ Some act
+act_read words (Open player) spelt = ap act_in spelt ∙ ap (option_map Open) (player_read player)
+act_read words (Leave player) spelt = ap act_in spelt ∙ ap (option_map Leave) (player_read player)
+act_read words (Decide player) spelt = ap act_in spelt ∙ ap (option_map Decide) (player_read player)
+act_read words (Tick player keys) spelt =
+    ap act_in spelt.1 ∙ ap (λ o. act_of Tick o (keys_in spelt.0)) (player_read player) ∙ ap (option_map (Tick player)) (keys_read spelt.0 keys spelt.2)
+act_read words (Give number player) spelt =
+    ap act_in spelt.1 ∙ ap (λ o. act_of Give o (player_in (player_word player))) (number_read spelt.0 number spelt.2) ∙ ap (option_map (Give number)) (player_read player)
+act_read words (Say player to kind) spelt = ap act_in spelt ∙ say_read player to kind
+
+-- ---- events
+
+-- a stop is no act
+no_act : (calls pick : List ℕ) (act : List (List ℕ)) → act_in (codes "stop" ∷ calls ∷ pick ∷ act) ≡ None
+no_act calls pick [] = refl
+no_act calls pick (word ∷ more) = refl
+
+stop_spelt : (words : List (List ℕ)) (event : Event) → stop_in words ≡ Some event → WordsSpell words event
+stop_spelt [] event is = absurd (cc)
+stop_spelt (verb ∷ []) event is = absurd (cc)
+stop_spelt (verb ∷ calls ∷ []) event is = absurd (cc)
+stop_spelt (verb ∷ calls ∷ pick ∷ act) event is =
+    elim (chosen (bytes_eq verb (codes "stop")) _ _ event is) [
+      | inl here ↦ let inside = chained (λ a. option_and_then (λ k. option_map (Stop a k) (number_in pick)) (number_in calls)) (act_in act) event here.1 in
+          let k = chained (λ k. option_map (Stop inside.0 k) (number_in pick)) (number_in calls) event inside.2 in
+          let n = mapped (Stop inside.0 k.0) (number_in pick) event k.2 in
+          let verb_is : verb ≡ codes "stop" = keyword verb (codes "stop") here.0 in
+          subst (WordsSpell (verb ∷ calls ∷ pick ∷ act)) n.2
+          (calls, pick, act, ap (λ v. v ∷ calls ∷ pick ∷ act) verb_is, number_spelt calls k.0 k.1, number_spelt pick n.0 n.1, act_spelt act inside.0 inside.1)
+      | inr none ↦ absurd (cc)
+    ]
+
+either_spelt : (words : List (List ℕ)) (act : Option Act) (event : Event) → act_in words ≡ act → act_or_stop act (stop_in words) ≡ Some event → WordsSpell words event
+either_spelt words None event act_is is = stop_spelt words event is
+either_spelt words (Some act) event act_is is = subst (WordsSpell words) (same_Some (Do act) event is) (act_spelt words act act_is)
+
+pub words_spelt : (words : List (List ℕ)) (event : Event) → event_in words ≡ Some event → WordsSpell words event
+words_spelt words event is = either_spelt words (act_in words) event refl is
+
+pub words_read : (words : List (List ℕ)) (event : Event) → WordsSpell words event → event_in words ≡ Some event
+words_read words (Do act) spelt = ap (λ a. act_or_stop a (stop_in words)) (act_read words act spelt)
+words_read words (Stop act calls pick) (of_calls, of_pick, of_act, words_are, calls_are, pick_is, act_is) =
+    ap event_in words_are ∙ ap (λ a. act_or_stop a (stop_of (act_in of_act) (number_in of_calls) (number_in of_pick))) (no_act of_calls of_pick of_act)
+    ∙ ap (λ a. stop_of a (number_in of_calls) (number_in of_pick)) (act_read of_act act act_is)
+    ∙ ap (λ k. option_and_then (λ k. option_map (Stop act k) (number_in of_pick)) k) (number_read of_calls calls calls_are)
+    ∙ ap (option_map (Stop act calls)) (number_read of_pick pick pick_is)

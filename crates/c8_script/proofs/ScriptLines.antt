@@ -1,0 +1,172 @@
+-- The words of a line are those between its spaces, and the events of a script are those of its lines.
+use Rattle.std.proofs.Common.{◌≡◌, ℕ, ◌+◌, ◌⊎◌, inl, inr, Bool, true, false, not, ◌&&◌, ◌==◌, nat_lt, Some, None, List, [], ◌∷◌, ◌++◌, length, get_or, map, refl, sym, ap, subst, ◌∙◌, arith}
+use Rattle.hex.specs.Hex.{is_hex_digit}
+use Rattle.std.specs.Char.{is_ascii_digit}
+use Rattle.hex.proofs.HexLemmas.{IsOk-decode_sized}
+use Rattle.std.specs.List.{AllPass, AllZip, Any, list_all, slice_split, onto_first, join_with_byte}
+use Rattle.std.specs.Prelude.{nat_le}
+use Rattle.std.specs.Str.Lines.{lines}
+use Rattle.std.proofs.lemmas.Bool.{and_parts, cond-true, cond-false, false≢true, ne_eqb}
+use Rattle.std.proofs.lemmas.List.{append-nil, map-append}
+use Rattle.std.proofs.lemmas.List.Elements.{filter-append, Contains-append_right}
+use Rattle.std.proofs.lemmas.List.Sums.{AllPass-from_list_all, list_all-from_AllPass}
+use Rattle.std.proofs.lemmas.List.Splits.{join_with_byte-slice_split}
+use Rattle.c8_game.specs.GameText.{is_skipped}
+use Rattle.c8_game.specs.KeysText.{is_keys_text}
+use Rattle.c8_game.specs.declared.row.Player.{Player}
+use Rattle.c8_peer.specs.declared.kind.Kind.{Kind}
+use Rattle.c8_peer.specs.declared.kind.Kind.TheVariants.{Hello, Welcome, Data, Freeze, Frozen, Cut}
+use Rattle.c8_world.specs.declared.event.Act.{Act}
+use Rattle.c8_world.specs.declared.event.Act.TheVariants.{Open, Tick, Say, Give, Leave, Decide}
+use Rattle.c8_world.specs.declared.event.Event.{Event}
+use Rattle.c8_world.specs.declared.event.Event.TheVariants.{Do, Stop}
+use Rattle.c8_script.specs.Script.{player_word, SpellsNumber, kind_words, SpellsAct, WordsSpell, SpellsEvent, not_skipped, event_lines, IsFaultOfScript}
+use Rattle.c8_script.specs.ScriptWords.{event_in, event_of}
+use Rattle.c8_script.specs.declared.error.ScriptError.{ScriptError}
+use Rattle.c8_script.specs.declared.error.ScriptError.TheVariants.{Line, Memory}
+use Rattle.c8_script.proofs.ScriptLemmas.{words_spelt, words_read}
+
+-- ---- words have no space
+
+abbrev HasNoSpace : List ℕ → Type 0
+HasNoSpace word = list_all (λ byte. not (byte == 32)) word ≡ true
+
+abbrev HaveNoSpace : List (List ℕ) → Type 0
+HaveNoSpace [] = Unit {0}
+HaveNoSpace (word ∷ words) = HasNoSpace word × HaveNoSpace words
+
+-- bytes that pass a test which a space fails are none
+no_space : (p : ℕ → Bool) (word : List ℕ) → p 32 ≡ false → AllPass p word → HasNoSpace word
+no_space p word fails pass =
+    list_all-from_AllPass (λ byte. not (byte == 32)) word
+    (λ k d within. ap not (ne_eqb (get_or word k d) 32 (λ same. let here = rw same at (pass k d within) in false≢true (sym fails ∙ here))))
+
+player_no_space : (player : Player) → HasNoSpace (player_word player)
+player_no_space player = ap (λ b. not b && true) (ne_eqb (48 + player.number) 32 (λ same. omega arith))
+
+number_no_space : (word : List ℕ) (number : ℕ) → SpellsNumber word number → HasNoSpace word
+number_no_space word number spelt =
+    no_space is_ascii_digit word refl (AllPass-from_list_all is_ascii_digit word (and_parts (nat_lt 0 (length word) && nat_le (length word) 20) (list_all is_ascii_digit word) spelt.0).1)
+
+keys_no_space : (word : List ℕ) → is_keys_text word ≡ true → HasNoSpace word
+keys_no_space word keys = no_space is_hex_digit word refl ((IsOk-decode_sized word 2).0 keys).1
+
+kind_no_space : (kind : Kind) → HaveNoSpace (kind_words kind)
+kind_no_space Hello = (refl, tt)
+kind_no_space Welcome = (refl, tt)
+kind_no_space Data = (refl, tt)
+kind_no_space (Freeze player) = (refl, (player_no_space player, tt))
+kind_no_space (Frozen player) = (refl, (player_no_space player, tt))
+kind_no_space (Cut player) = (refl, (player_no_space player, tt))
+
+-- ---- a line is cut into its words
+
+not_true : (b : Bool) → not b ≡ true → b ≡ false
+not_true true is = absurd (cc)
+not_true false is = refl
+
+split_word : (word rest : List ℕ) → HasNoSpace word → slice_split (λ byte. byte == 32) (word ++ 32 ∷ rest) ≡ word ∷ slice_split (λ byte. byte == 32) rest
+split_word [] rest none = refl
+split_word (byte ∷ more) rest none =
+    let both = and_parts (not (byte == 32)) (list_all (λ b. not (b == 32)) more) none in
+    let other = not_true (byte == 32) both.0 in
+    cond-false (byte == 32) _ _ other ∙ ap (onto_first byte) (split_word more rest both.1)
+
+split_last : (word : List ℕ) → HasNoSpace word → slice_split (λ byte. byte == 32) word ≡ word ∷ []
+split_last [] none = refl
+split_last (byte ∷ more) none =
+    let both = and_parts (not (byte == 32)) (list_all (λ b. not (b == 32)) more) none in
+    let other = not_true (byte == 32) both.0 in
+    cond-false (byte == 32) _ _ other ∙ ap (onto_first byte) (split_last more both.1)
+
+split_joined : (word : List ℕ) (words : List (List ℕ)) → HasNoSpace word → HaveNoSpace words → slice_split (λ byte. byte == 32) (join_with_byte 32 (word ∷ words)) ≡ word ∷ words
+split_joined word [] none others = split_last word none
+split_joined word (next ∷ words) none others = split_word word (join_with_byte 32 (next ∷ words)) none ∙ ap (λ ws. word ∷ ws) (split_joined next words others.0 others.1)
+
+-- ---- lines
+
+act_no_space : (words : List (List ℕ)) (act : Act) → SpellsAct words act → HaveNoSpace words
+act_no_space words (Open player) spelt = rw spelt (refl, (player_no_space player, tt))
+act_no_space words (Leave player) spelt = rw spelt (refl, (player_no_space player, tt))
+act_no_space words (Decide player) spelt = rw spelt (refl, (player_no_space player, tt))
+act_no_space words (Tick player keys) spelt = rw spelt.1 (refl, (player_no_space player, (keys_no_space spelt.0 spelt.2.0, tt)))
+act_no_space words (Give number player) spelt = rw spelt.1 (refl, (number_no_space spelt.0 number spelt.2, (player_no_space player, tt)))
+act_no_space words (Say player to kind) spelt = rw spelt (refl, (player_no_space player, (player_no_space to, kind_no_space kind)))
+
+words_no_space : (words : List (List ℕ)) (event : Event) → WordsSpell words event → HaveNoSpace words
+words_no_space words (Do act) spelt = act_no_space words act spelt
+words_no_space words (Stop act calls pick) (of_calls, of_pick, of_act, words_are, calls_are, pick_is, act_is) =
+    rw words_are (refl, (number_no_space of_calls calls calls_are, (number_no_space of_pick pick pick_is, act_no_space of_act act act_is)))
+
+-- no event is spelt by no word
+spelt_by_some : (event : Event) → WordsSpell [] event → ⊥
+spelt_by_some (Do (Open player)) spelt = cc
+spelt_by_some (Do (Leave player)) spelt = cc
+spelt_by_some (Do (Decide player)) spelt = cc
+spelt_by_some (Do (Tick player keys)) spelt = let none = spelt.1 in cc
+spelt_by_some (Do (Give number player)) spelt = let none = spelt.1 in cc
+spelt_by_some (Do (Say player to kind)) spelt = cc
+spelt_by_some (Stop act calls pick) (of_calls, of_pick, of_act, words_are, calls_are, pick_is, act_is) = cc
+
+cut_again : (words : List (List ℕ)) (event : Event) → WordsSpell words event → slice_split (λ byte. byte == 32) (join_with_byte 32 words) ≡ words
+cut_again [] event spelt = absurd (spelt_by_some event spelt)
+cut_again (word ∷ words) event spelt = let none = words_no_space (word ∷ words) event spelt in split_joined word words none.0 none.1
+
+line_read : (line : List ℕ) (event : Event) → SpellsEvent line event → event_of line ≡ Some event
+line_read line event (words, is, spelt) = ap event_of is ∙ ap event_in (cut_again words event spelt) ∙ words_read words event spelt
+
+line_spelt : (line : List ℕ) (event : Event) → event_of line ≡ Some event → SpellsEvent line event
+line_spelt line event is = (slice_split (λ byte. byte == 32) line, sym (join_with_byte-slice_split 32 line), words_spelt (slice_split (λ byte. byte == 32) line) event is)
+
+-- ---- scripts
+
+pub lines_spelt : (text_lines : List (List ℕ)) (events : List Event) → map event_of text_lines ≡ map Some events → AllZip SpellsEvent text_lines events
+lines_spelt [] [] read = tt
+lines_spelt [] (event ∷ events) read = absurd (cc)
+lines_spelt (line ∷ more) [] read = absurd (cc)
+lines_spelt (line ∷ more) (event ∷ events) read =
+    let here : event_of line ≡ Some event = cc in
+    let rest : map event_of more ≡ map Some events = cc in
+    (line_spelt line event here, lines_spelt more events rest)
+
+pub no_other : (text_lines : List (List ℕ)) (events other : List Event) → map event_of text_lines ≡ map Some events → AllZip SpellsEvent text_lines other → other ≡ events
+no_other [] [] [] read spelt = refl
+no_other [] (event ∷ events) other read spelt = absurd (cc)
+no_other [] [] (event ∷ events) read spelt = absurd spelt
+no_other (line ∷ more) [] other read spelt = absurd (cc)
+no_other (line ∷ more) (event ∷ events) [] read spelt = absurd spelt
+no_other (line ∷ more) (event ∷ events) (another ∷ others) read (here, rest) =
+    let this : event_of line ≡ Some event = cc in
+    let that : event_of line ≡ Some another = line_read line another here in
+    let same : another ≡ event = cc in
+    let read_on : map event_of more ≡ map Some events = cc in
+    let tail = no_other more events others read_on rest in
+    cc
+
+-- a line after those that were read is skipped, or read too
+pub one_skipped : (seen : List (List ℕ)) (line : List ℕ) → is_skipped line ≡ true → not_skipped (seen ++ line ∷ []) ≡ not_skipped seen
+one_skipped seen line skipped =
+    filter-append (λ l. not (is_skipped l)) seen (line ∷ []) ∙ ap (λ ls. not_skipped seen ++ ls) (cond-false (not (is_skipped line)) _ _ (ap not skipped)) ∙ append-nil (not_skipped seen)
+
+one_kept : (seen more : List (List ℕ)) (line : List ℕ) → is_skipped line ≡ false → not_skipped (seen ++ line ∷ more) ≡ not_skipped seen ++ line ∷ not_skipped more
+one_kept seen more line kept =
+    filter-append (λ l. not (is_skipped l)) seen (line ∷ more) ∙ ap (λ ls. not_skipped seen ++ ls) (cond-true (not (is_skipped line)) _ _ (ap not kept))
+
+pub one_read : (seen : List (List ℕ)) (line : List ℕ) (events : List Event) (event : Event) → is_skipped line ≡ false → event_of line ≡ Some event → map event_of (not_skipped seen) ≡ map Some events
+    → map event_of (not_skipped (seen ++ line ∷ [])) ≡ map Some (events ++ event ∷ [])
+one_read seen line events event kept is read =
+    ap (map event_of) (one_kept seen [] line kept) ∙ map-append event_of (not_skipped seen) (line ∷ []) ∙ ap (λ before. before ++ event_of line ∷ []) read ∙ ap (λ e. map Some events ++ e ∷ []) is
+    ∙ sym (map-append Some events (event ∷ []))
+
+-- a line that is kept and spells no event is a fault
+line_fault : (text : List ℕ) (seen more : List (List ℕ)) (line : List ℕ) → lines text ≡ seen ++ line ∷ more → is_skipped line ≡ false → event_of line ≡ None → IsFaultOfScript text Line
+line_fault text seen more line cut kept none =
+    let there = Contains-append_right (not_skipped seen) (line ∷ not_skipped more) line (0, omega arith, refl) in
+    let lines_are : event_lines text ≡ not_skipped seen ++ line ∷ not_skipped more = ap not_skipped cut ∙ one_kept seen more line kept in
+    subst (Any (λ l. (event : Event) → SpellsEvent l event → ⊥)) (sym lines_are)
+    (there.0, line, there.1, there.2, λ event spelt. let some : event_of line ≡ Some event = line_read line event spelt in cc)
+
+pub fault_told : (text : List ℕ) (seen more : List (List ℕ)) (line : List ℕ) (error : ScriptError) → lines text ≡ seen ++ line ∷ more → is_skipped line ≡ false
+    → (error ≡ Memory) ⊎ ((error ≡ Line) × (event_of line ≡ None)) → IsFaultOfScript text error
+fault_told text seen more line error cut kept (inl memory) = rw memory tt
+fault_told text seen more line error cut kept (inr (is, none)) = rw is (line_fault text seen more line cut kept none)

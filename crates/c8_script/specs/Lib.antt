@@ -1,0 +1,4 @@
+pub mod Errors
+pub mod Script
+pub mod ScriptWords
+pub mod Sim

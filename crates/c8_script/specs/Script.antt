@@ -1,0 +1,76 @@
+-- Scripts: the events that a text of them spells, one a line, or the fault that refuses it.
+use Rattle.std.specs.Prelude.{◌≡◌, ℕ, ◌+◌, ◌<◌, ◌^◌, not, true, List, [], ◌∷◌, codes, filter}
+use Rattle.std.specs.List.{AllZip, Any, join_with_byte}
+use Rattle.std.specs.Str.Lines.{lines}
+use Rattle.c8_game.specs.Fields.{is_decimal, decimal_number}
+use Rattle.c8_game.specs.GameText.{is_skipped}
+use Rattle.c8_game.specs.KeysText.{is_keys_text, keys_number}
+use Rattle.c8_game.specs.declared.row.Keys.{Keys}
+use Rattle.c8_game.specs.declared.row.Player.{Player}
+use Rattle.c8_peer.specs.declared.kind.Kind.{Kind}
+use Rattle.c8_peer.specs.declared.kind.Kind.TheVariants.{Hello, Welcome, Data, Freeze, Frozen, Cut}
+use Rattle.c8_world.specs.declared.event.Act.{Act}
+use Rattle.c8_world.specs.declared.event.Act.TheVariants.{Open, Tick, Say, Give, Leave, Decide}
+use Rattle.c8_world.specs.declared.event.Event.{Event}
+use Rattle.c8_world.specs.declared.event.Event.TheVariants.{Do, Stop}
+use Rattle.c8_script.specs.declared.error.ScriptError.{ScriptError}
+use Rattle.c8_script.specs.declared.error.ScriptError.TheVariants.{Line, Memory}
+
+-- a player's word is one digit, 48 being that of 0
+abbrev pub player_word : Player → List ℕ
+player_word player = (48 + player.number) ∷ []
+
+-- four hexadecimal digits spell a key set
+abbrev pub SpellsKeys : List ℕ → Keys → Type 0
+SpellsKeys word keys = (is_keys_text word ≡ true) × (keys_number word ≡ keys.0)
+
+-- a decimal of 1 to 20 digits spells its number, if 64 bits hold it
+abbrev pub SpellsNumber : List ℕ → ℕ → Type 0
+SpellsNumber word number = (is_decimal word ≡ true) × (decimal_number word ≡ number) × (number < 2 ^ 64)
+
+-- the words for what is said
+abbrev pub kind_words : Kind → List (List ℕ)
+kind_words Hello = codes "hello" ∷ []
+kind_words Welcome = codes "welcome" ∷ []
+kind_words Data = codes "data" ∷ []
+kind_words (Freeze leaver) = codes "freeze" ∷ player_word leaver ∷ []
+kind_words (Frozen leaver) = codes "frozen" ∷ player_word leaver ∷ []
+kind_words (Cut leaver) = codes "cut" ∷ player_word leaver ∷ []
+
+-- the words spell the act
+abbrev pub SpellsAct : List (List ℕ) → Act → Type 0
+SpellsAct words (Open player) = words ≡ codes "open" ∷ player_word player ∷ []
+SpellsAct words (Tick player keys) =
+    (digits : List ℕ) × (words ≡ codes "tick" ∷ player_word player ∷ digits ∷ []) × SpellsKeys digits keys
+SpellsAct words (Say player to what) = words ≡ codes "say" ∷ player_word player ∷ player_word to ∷ kind_words what
+SpellsAct words (Give number player) =
+    (digits : List ℕ) × (words ≡ codes "give" ∷ digits ∷ player_word player ∷ []) × SpellsNumber digits number
+SpellsAct words (Leave leaver) = words ≡ codes "leave" ∷ player_word leaver ∷ []
+SpellsAct words (Decide leaver) = words ≡ codes "decide" ∷ player_word leaver ∷ []
+
+-- the words spell the event: an act, or a stop with its two numbers and the words of the act inside it
+abbrev pub WordsSpell : List (List ℕ) → Event → Type 0
+WordsSpell words (Do act) = SpellsAct words act
+WordsSpell words (Stop act calls pick) =
+    (of_calls of_pick : List ℕ) × (of_act : List (List ℕ)) × (words ≡ codes "stop" ∷ of_calls ∷ of_pick ∷ of_act)
+    × SpellsNumber of_calls calls × SpellsNumber of_pick pick × SpellsAct of_act act
+
+-- a line is the words of an event, with one space between two and nothing else
+abbrev pub SpellsEvent : List ℕ → Event → Type 0
+SpellsEvent line event = (words : List (List ℕ)) × (line ≡ join_with_byte 32 words) × WordsSpell words event
+
+-- all lines but the empty ones and the comments
+abbrev pub not_skipped : List (List ℕ) → List (List ℕ)
+not_skipped text_lines = filter (λ line. not (is_skipped line)) text_lines
+
+abbrev pub event_lines : List ℕ → List (List ℕ)
+event_lines text = not_skipped (lines text)
+
+-- each of these lines spells one of the events, in order
+abbrev pub SpellsScript : List ℕ → List Event → Type 0
+SpellsScript text events = AllZip SpellsEvent (event_lines text) events
+
+-- one of these lines spells no event; or memory ran out
+abbrev pub IsFaultOfScript : List ℕ → ScriptError → Type 0
+IsFaultOfScript text Line = Any (λ line. (event : Event) → SpellsEvent line event → ⊥) (event_lines text)
+IsFaultOfScript text Memory = Unit {0}

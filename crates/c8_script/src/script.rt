@@ -1,0 +1,56 @@
+//! Scripts: what happens to the peers of a world, one event a line.
+
+ghost use Rattle.std.specs.Prelude.{◌≡◌, ◌⊎◌, List, IfOk, MatchResult, Some, None};
+ghost use Rattle.c8_game.specs.GameText.{is_skipped};
+ghost use Rattle.c8_world.specs.declared.event.Event.{Event};
+ghost use Rattle.c8_script.specs.Script.{SpellsScript, IsFaultOfScript};
+ghost use Rattle.c8_script.specs.ScriptWords.{event_of};
+ghost use Rattle.c8_script.specs.declared.error.ScriptError.TheVariants.{Line, Memory};
+
+mod words;
+
+use crate::error::ScriptError;
+use crate::script::words::event_in;
+use c8_game::Lines;
+use c8_world::Event;
+use std::alloc::Global;
+
+/// The events that a script spells, one a line. Empty lines and lines that begin with `#` are
+/// skipped. A line that spells no event is `Line`; `Memory` comes only where memory was refused.
+pub fn read_script(alloc: Global, text: &[u8]) -> Result<Vec<Event>, ScriptError>
+    ensures spelled { MatchResult result
+        (λ events. SpellsScript text.now events.items) (IsFaultOfScript text.now) }
+    ensures no_other { IfOk result (λ events.
+        (other : List Event) → SpellsScript text.now other → other ≡ events.items) }
+{
+    let mut events = Vec::new(alloc);
+    for line in Lines::new(text) {
+        if is_skipped(line) {
+            continue;
+        }
+        let event = event_of(alloc, line)?;
+        let Ok(()) = events.push(event) else {
+            return Err(ScriptError::Memory);
+        };
+    }
+    Ok(events)
+}
+
+/// Whether a line is empty or a comment.
+fn is_skipped(line: &[u8]) -> bool
+    ensures { result ≡ is_skipped line.now }
+{
+    match line {
+        [] => true,
+        [first, ..] => *first == b'#',
+    }
+}
+
+/// The event that a line spells, by the words between its spaces.
+fn event_of(alloc: Global, line: &[u8]) -> Result<Event, ScriptError>
+    ensures { MatchResult result (λ event. event_of line.now ≡ Some event)
+        (λ error. (error ≡ Memory) ⊎ ((error ≡ Line) × (event_of line.now ≡ None))) }
+{
+    let words: Vec<&[u8]> = line.split(|byte| *byte == b' ').collect(alloc)?;
+    event_in(&words).ok_or(ScriptError::Line)
+}

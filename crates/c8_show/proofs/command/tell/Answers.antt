@@ -1,0 +1,6 @@
+use Rattle.std.proofs.Common.{rules}
+use Rattle.c8_show.proofs.command.tell.Goals as goal
+
+-- what is wrong here is refused at once
+pub returns-in-Err : goal.returns-in-Err
+returns-in-Err g c = search rules

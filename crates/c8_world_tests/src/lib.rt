@@ -1,0 +1,16 @@
+//! The tests of c8_world that no script of `c8play sim` says: those that do are cases in
+//! crates/c8play_cases/data, whose names begin with `world-`.
+#![tactic(auto)]
+
+#[cfg(test)]
+mod chance;
+#[cfg(test)]
+mod disks;
+#[cfg(test)]
+mod said;
+#[cfg(test)]
+mod step;
+#[cfg(test)]
+mod stops;
+#[cfg(test)]
+mod walk;

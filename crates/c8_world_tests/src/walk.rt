@@ -1,0 +1,92 @@
+//! One world, and one step after the other.
+use crate::step::{Outcome, Row, Step};
+use c8_game::{Game, Player};
+use c8_world::{Answer, Event, RunError, Tally, World};
+use std::alloc::Global;
+use std::test::Fail;
+
+/// A row of which something else comes.
+#[derive(Debug, Drop)]
+pub(crate) struct Wrong {
+    row: usize,
+    outcome: Outcome,
+}
+
+/// The first row whose step comes to something else than it says.
+pub(crate) fn first_wrong(alloc: Global, world: &mut World<'_>, rows: &[Row]) -> Option<Wrong> {
+    for (row, (step, wanted)) in rows.iter().enumerate() {
+        let outcome = step_on(alloc, world, *step);
+        if outcome != *wanted {
+            return Some(Wrong { row, outcome });
+        }
+    }
+    None
+}
+
+/// Each row's step comes to what it says, in a new world whose disks have room for so many bytes and
+/// serve so many calls.
+pub(crate) fn plays(
+    alloc: Global,
+    text: &[u8],
+    capacity: u32,
+    calls: u32,
+    rows: &[Row],
+) -> Result<(), Fail> {
+    let game = Game::read(alloc, text)?;
+    let mut world = World::new(alloc, &game, 0, capacity, calls)?;
+    match first_wrong(alloc, &mut world, rows) {
+        Some(wrong) => Err(Fail::from(wrong)),
+        None => Ok(()),
+    }
+}
+
+/// What comes of a step.
+pub(crate) fn step_on(alloc: Global, world: &mut World<'_>, step: Step) -> Outcome {
+    match step {
+        Step::Held(number) => match Player::new(number) {
+            Some(player) => Outcome::Held(world.peer(player).is_some()),
+            None => Outcome::Impossible,
+        },
+        Step::Ends => ends(alloc, world),
+        Step::Said => Outcome::Said(world.said()),
+        Step::Do(_) | Step::Stop(_, _, _) => match step.event() {
+            Some(event) => happens(alloc, world, event),
+            None => Outcome::Impossible,
+        },
+    }
+}
+
+/// What an event is answered in a run of its own.
+pub(crate) fn happens(alloc: Global, world: &mut World<'_>, event: Event) -> Outcome {
+    match answers(alloc, world, &[event]) {
+        Some(answers) => match answers.as_slice() {
+            [answer] => Outcome::Is(*answer),
+            _ => Outcome::Impossible,
+        },
+        None => Outcome::Impossible,
+    }
+}
+
+/// What the events of a run are answered; none where memory is refused.
+pub(crate) fn answers(
+    alloc: Global,
+    world: &mut World<'_>,
+    events: &[Event],
+) -> Option<Vec<Answer>> {
+    match world.run(alloc, events) {
+        Ok(report) => Some(report.answers),
+        Err(RunError::Memory(_)) => None,
+    }
+}
+
+/// Where the players stand, if they agree.
+fn ends(alloc: Global, world: &World<'_>) -> Outcome {
+    let Ok(ends) = world.ends(alloc) else {
+        return Outcome::Impossible;
+    };
+    if !ends.agree || ends.players.len() > 4 {
+        return Outcome::Impossible;
+    }
+    let tally = |place: usize| -> Option<Tally> { ends.players.get(place).copied() };
+    Outcome::Stand([tally(0), tally(1), tally(2), tally(3)])
+}

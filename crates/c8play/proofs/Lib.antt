@@ -1,4 +1,0 @@
-pub mod DecimalLemmas
-pub mod KeyLineLemmas
-pub mod ScriptLemmas
-pub mod ScriptLines

@@ -1,6 +1,0 @@
-use Rattle.std.proofs.Common.{rules}
-use Rattle.c8play.proofs.show.bytes_of.Goals as goal
-
--- what is wrong here is refused at once
-pub returns-in-Ok : goal.returns-in-Ok
-returns-in-Ok c = search rules
