@@ -49,7 +49,10 @@ fn stand_in_order_of_number(rt: HostRuntime) -> Result<(), Fail> {
         let addresses = read(*players, *number)?;
         let [one, two, three, four] = *ports;
         let others = [at(one), at(two), at(three), at(four)];
-        assert!(rt; Some(addresses.local) == at(4001), "player {number} of {players}");
+        assert!(rt;
+            Some(addresses.local) == at(4001),
+            "player {number} of {players}"
+        );
         assert!(rt; addresses.others == others, "player {number} of {players}");
     }
     Ok(())

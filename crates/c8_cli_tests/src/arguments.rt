@@ -53,7 +53,10 @@ fn arguments_that_cannot_be_read(rt: HostRuntime) {
     for (number, code, line) in unread() {
         let mut refused = Vec::new(rt.alloc());
         let ended = ends_unread(&rt, *number, &mut refused);
-        assert!(rt; ended == (*code, true) && refused.as_slice() == line.as_bytes(), "row {number}");
+        assert!(rt;
+            ended == (*code, true) && refused.as_slice() == line.as_bytes(),
+            "row {number}"
+        );
     }
 }
 
@@ -95,7 +98,10 @@ fn output_that_cannot_be_written(rt: HostRuntime) -> Result<(), Fail> {
             ends_untold(&rt, args)
         };
         let told = if *is_printed { DISK } else { "" };
-        assert!(rt; code == 3 && refused.as_slice() == told.as_bytes(), "{first}");
+        assert!(rt;
+            code == 3 && refused.as_slice() == told.as_bytes(),
+            "{first}"
+        );
     }
     Ok(())
 }

@@ -113,8 +113,14 @@ fn reads_each_shape(rt: HostRuntime) -> Result<(), Fail> {
         let act = act_of(*deed);
         let stopped = act.map(|act| Event::Stop(act, 3, 18_446_744_073_709_551_615));
         assert!(rt; act.is_some(), "{line}");
-        assert!(rt; read_one(rt.alloc(), line)? == act.map(|act| Event::Do(act)), "{line}");
-        assert!(rt; read_stopped(rt.alloc(), line)? == stopped, "{line} in a stop");
+        assert!(rt;
+            read_one(rt.alloc(), line)? == act.map(|act| Event::Do(act)),
+            "{line}"
+        );
+        assert!(rt;
+            read_stopped(rt.alloc(), line)? == stopped,
+            "{line} in a stop"
+        );
     }
     Ok(())
 }

@@ -42,7 +42,8 @@ fn tell_numbered(out: &mut Vec<u8>) -> io::Result<()> {
     tell_socket(out, SocketError::Address)
 }
 
-const NUMBERED: &str = "1 Line: a line that is not four hexadecimal digits for each player, one space between two
+const NUMBERED: &str =
+    "1 Line: a line that is not four hexadecimal digits for each player, one space between two
 2 Long: more lines than the game has frames
 3 Memory: out of memory
 1 Line: a line that is no event

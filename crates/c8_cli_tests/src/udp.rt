@@ -98,34 +98,39 @@ fn an_address_that_is_taken_or_of_no_use_is_a_fault(rt: HostRuntime) -> Result<(
 const GAME: &str =
     "players 2\nipf 10\nframes 1\ndelay 0\nwindow 8\nseed 0\nmask1 000f\nmask2 fff0\ncode 600570031204\n";
 
-/// What the command `peer` tells, and its status, where all it is given is right, and `local` is the
-/// own address.
-fn told_at(rt: &HostRuntime, local: &str, refused: &mut Vec<u8>) -> Result<u8, Fail> {
+/// Whether the command `peer` tells of a socket that failed, where all else that it is given is
+/// right.
+fn is_socket_fault(rt: &HostRuntime, local: &str, remote: &str) -> Result<bool, Fail> {
     let asked = Asked {
-        game: "cli_taken.game",
+        game: "cli_socket.game",
         player: Player { number: 1 },
-        journal: "cli_taken.journal",
+        journal: "cli_socket.journal",
         local,
-        remotes: Some(&["127.0.0.1:4999"]),
+        remotes: Some(&[remote]),
         room: 3,
-        turns: 0,
+        turns: 3,
         patience: None,
         progress: false,
     };
-    let mut printed = Vec::new(rt.alloc());
-    let status = peer(rt, &asked, b"0000".as_slice(), &mut printed, refused)?;
-    Ok(status.code())
+    let (mut printed, mut refused) = (Vec::new(rt.alloc()), Vec::new(rt.alloc()));
+    let status = peer(rt, &asked, b"0000".as_slice(), &mut printed, &mut refused)?;
+    Ok(
+        status.code() == 3
+            && printed.is_empty()
+            && refused.as_slice() == b"refused: socket 1 Failed\n".as_slice(),
+    )
 }
 
+/// The own address is taken; and nothing can be sent to the other's.
 #[test]
-fn a_peer_wants_an_address_that_is_free(rt: HostRuntime) -> Result<(), Fail> {
-    fs::write(&rt, "cli_taken.game", GAME)?;
+fn a_socket_that_fails_ends_a_game(rt: HostRuntime) -> Result<(), Fail> {
+    fs::write(&rt, "cli_socket.game", GAME)?;
     let other = other_socket(&rt)?;
     let taken = format!(in rt.alloc(); "{}", other.local_addr()?)?;
-    let mut refused = Vec::new(rt.alloc());
-    assert!(rt; told_at(&rt, taken.as_str(), &mut refused)? == 3);
-    assert!(rt; refused.as_slice() == b"refused: socket 1 Failed\n".as_slice());
-    fs::remove_file(&rt, "cli_taken.game")?;
-    fs::remove_file(&rt, "cli_taken.journal")?;
+    assert!(rt; is_socket_fault(&rt, taken.as_str(), "127.0.0.1:4999")?);
+    assert!(rt; is_socket_fault(&rt, "127.0.0.1:0", "127.0.0.1:0")?);
+    assert!(rt; !is_socket_fault(&rt, "127.0.0.1:0", "127.0.0.1:4999")?);
+    fs::remove_file(&rt, "cli_socket.game")?;
+    fs::remove_file(&rt, "cli_socket.journal")?;
     Ok(())
 }

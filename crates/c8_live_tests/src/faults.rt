@@ -34,11 +34,7 @@ fn faults() -> &'static [Fault] {
 }
 
 /// What the first turn of player one answers.
-fn first_turn(
-    alloc: Global,
-    game: &Game,
-    fault: &Fault,
-) -> Result<Result<(), SessionError>, Fail> {
+fn first_turn(alloc: Global, game: &Game, fault: &Fault) -> Result<Result<(), SessionError>, Fail> {
     let me = Player { number: 1 };
     let mut session = session_on(alloc, game, me, fault.capacity, fault.arm)?;
     Ok(session.turn(&mut Lossy {

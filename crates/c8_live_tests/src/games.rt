@@ -48,7 +48,10 @@ fn ends_well(alloc: Global, game: &Game, lost: u32) -> Result<bool, Fail> {
 fn all_end_with_the_machine_of_all_rows(rt: HostRuntime) -> Result<(), Fail> {
     for (players, lost) in games() {
         let game = game_of(rt.alloc(), *players)?;
-        assert!(rt; ends_well(rt.alloc(), &game, *lost)?, "{players} players, lost {lost}");
+        assert!(rt;
+            ends_well(rt.alloc(), &game, *lost)?,
+            "{players} players, lost {lost}"
+        );
     }
     Ok(())
 }
@@ -58,10 +61,12 @@ fn two_agree(alloc: Global, sessions: &Vec<Session<'_, MemDisk>>) -> Result<bool
     let (one, two) = (nth(sessions, 0)?, nth(sessions, 1)?);
     let told = report(alloc, one)?;
     let cut = cut_of(one, 3);
-    Ok(told.starts_with(b"frames 20\n")
-        && told.as_slice() == report(alloc, two)?.as_slice()
-        && cut.is_some()
-        && cut_of(two, 3) == cut)
+    Ok(
+        told.starts_with(b"frames 20\n")
+            && told.as_slice() == report(alloc, two)?.as_slice()
+            && cut.is_some()
+            && cut_of(two, 3) == cut,
+    )
 }
 
 /// Which of three players are over.
@@ -75,12 +80,7 @@ fn over(sessions: &Vec<Session<'_, MemDisk>>) -> Result<(bool, bool, bool), Fail
 
 /// Player 3 falls silent; the others cut it at one length and end with one machine. When it speaks
 /// again it learns that it has been dropped, and that is its end.
-fn drops_the_silent(
-    rt: &impl Abort,
-    alloc: Global,
-    game: &Game,
-    lost: u32,
-) -> Result<(), Fail> {
+fn drops_the_silent(rt: &impl Abort, alloc: Global, game: &Game, lost: u32) -> Result<(), Fail> {
     let mut sessions = sessions(alloc, game)?;
     let mut mail = Mail::new(alloc, lost);
     many_turns(&mut sessions, &mut mail, 12, &[])?;
@@ -163,7 +163,10 @@ fn rests_before_it_ends(rt: HostRuntime) -> Result<(), Fail> {
     let mut sessions = sessions(rt.alloc(), &game)?;
     let mut mail = Mail::new(rt.alloc(), 0);
     let (finished, ended) = last_turns(&mut sessions, &mut mail)?;
-    assert!(rt; finished > 0 && ended == finished.saturating_add(120), "{finished} {ended}");
+    assert!(rt;
+        finished > 0 && ended == finished.saturating_add(120),
+        "{finished} {ended}"
+    );
     Ok(())
 }
 

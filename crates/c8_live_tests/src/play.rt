@@ -60,7 +60,11 @@ pub(crate) fn session_on<'g>(
     peer.arm(arm);
     let text = ENTERED[usize::from(me.number) - 1];
     let keys = key_sets(alloc, text.as_bytes())?;
-    let patience = if me.number == 1 { Some(u64::from(PATIENCE)) } else { None };
+    let patience = if me.number == 1 {
+        Some(u64::from(PATIENCE))
+    } else {
+        None
+    };
     Ok(Session::new(peer, game, keys, patience))
 }
 

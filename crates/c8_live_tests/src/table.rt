@@ -87,7 +87,12 @@ fn kind_of(what: u8, leaver: u8) -> Kind {
 
 /// A player's peer over an empty disk with ample room.
 fn new_peer<'g>(alloc: Global, game: &'g Game, number: u8) -> Result<Peer<'g, MemDisk>, Fail> {
-    opened(alloc, MemDisk::new(alloc, 100_000, 4000)?, game, player(number))
+    opened(
+        alloc,
+        MemDisk::new(alloc, 100_000, 4000)?,
+        game,
+        player(number),
+    )
 }
 
 /// A peer of each player of a game but one.

@@ -35,7 +35,10 @@ fn turn_after(table: &mut Table<'_>, comes: &[Comes]) -> Result<String, Fail> {
 fn play(rt: &impl Abort, table: &mut Table<'_>, turns: &[Turn]) -> Result<(), Fail> {
     for (place, turn) in turns.iter().enumerate() {
         let told = turn_after(table, &turn.comes)?;
-        assert!(rt; told.as_str() == turn.told, "turn {place} of the list: {told}");
+        assert!(rt;
+            told.as_str() == turn.told,
+            "turn {place} of the list: {told}"
+        );
     }
     Ok(())
 }
@@ -107,7 +110,10 @@ fn answers_no_hello_that_is_refused(rt: HostRuntime) -> Result<(), Fail> {
         let told = turn_of(&mut table, hello, &old)?;
         let refusal = table.refusal();
         assert!(rt; told.as_str() == hello.told, "turn {place}: {told}");
-        assert!(rt; hello.given == NOTHING || refusal == hello.refusal, "turn {place}");
+        assert!(rt;
+            hello.given == NOTHING || refusal == hello.refusal,
+            "turn {place}"
+        );
     }
     Ok(())
 }
@@ -133,7 +139,10 @@ fn what_is_admitted_ends_a_silence(rt: HostRuntime) -> Result<(), Fail> {
         let told = turn_after_data(&mut table, row, &data)?;
         let (refusal, silent) = (table.refusal(), table.session.silent(Player { number: 3 }));
         assert!(rt; told.as_str() == row.told, "turn {place}: {told}");
-        assert!(rt; refusal == row.refusal && silent == row.silent, "turn {place}: {silent}");
+        assert!(rt;
+            refusal == row.refusal && silent == row.silent,
+            "turn {place}: {silent}"
+        );
     }
     Ok(())
 }
