@@ -1,13 +1,13 @@
 -- The mark that was put last for a frame, with one mark more.
-use Rattle.std.proofs.Common.{◌≡◌, ◌⊎◌, inl, inr, ⊎_elim, ℕ, suc, ◌+◌, ◌-◌, ◌≤◌, List, [], ◌∷◌, ◌++◌, length, take, drop, Bool, true, false, Option, Some, None, refl, sym, ap, ◌∙◌, arith}
+use Rattle.std.proofs.Common.{◌≡◌, ◌≢◌, ◌<◌, ◌⊎◌, inl, inr, ⊎_elim, ℕ, zero, suc, ◌+◌, ◌-◌, ◌≤◌, List, [], ◌∷◌, ◌++◌, length, take, drop, Bool, true, false, Option, Some, None, refl, sym, ap, ◌∙◌, arith}
 use Rattle.std.specs.List.{slice_get}
 use Rattle.std.proofs.lemmas.List.{take_more, length-append, length-drop, drop-append-le}
 use Rattle.std.proofs.lemmas.Option.{slice_get_within, get_or_from_slice_get}
 use Rattle.std.specs.Prelude.{◌==◌, if◌then◌else◌, fold}
-use Rattle.std.proofs.lemmas.Bool.{eqb-true}
+use Rattle.std.proofs.lemmas.Bool.{eqb-true, eq-eqb, ne_eqb}
 use Rattle.std.proofs.lemmas.List.Sums.{fold-append}
 use Rattle.c8_digest.specs.declared.marks.FrameMark.{FrameMark}
-use Rattle.c8_digest.specs.Marks.{kept, mark_at, newest_of}
+use Rattle.c8_digest.specs.Marks.{kept, mark_at, newest_of, IsLastFor}
 
 pub mark_none : (frame : ℕ) → mark_at frame [] ≡ None
 unfolding mark_at
@@ -66,3 +66,27 @@ found_in frame mark before (m ∷ marks) is =
 pub found : (marks : List FrameMark) (frame : ℕ) (mark : List ℕ) → mark_at frame marks ≡ Some mark → (place : ℕ) × slice_get marks place ≡ Some (record { frame = frame; mark = mark })
 unfolding mark_at
 found marks frame mark is = ⊎_elim (λ none. absurd cc) (λ place. place) (found_in frame mark None marks is)
+
+-- in a list without a mark of the frame none is found anew
+found_before : (frame : ℕ) (before : Option (List ℕ)) (marks : List FrameMark) → ((place : ℕ) (m : FrameMark) → slice_get marks place ≡ Some m → m.frame ≢ frame)
+    → fold (λ (found : Option (List ℕ)) (m : FrameMark). if m.frame == frame then Some m.mark else found) before marks ≡ before
+found_before frame before [] none = refl
+found_before frame before (m ∷ marks) none =
+    let other : (m.frame == frame) ≡ false = ne_eqb m.frame frame (none 0 m refl) in
+    let step : (if m.frame == frame then Some m.mark else before) ≡ before = rw other refl in
+    found_before frame (if m.frame == frame then Some m.mark else before) marks (λ place x is. none (suc place) x is) ∙ step
+
+found_last : (m : FrameMark) (before : Option (List ℕ)) (marks : List FrameMark) (place : ℕ) → slice_get marks place ≡ Some m → IsLastFor marks place m.frame
+    → fold (λ (found : Option (List ℕ)) (x : FrameMark). if x.frame == m.frame then Some x.mark else found) before marks ≡ Some m.mark
+found_last m before [] place is last = absurd cc
+found_last m before (x ∷ marks) zero is last =
+    let same : x ≡ m = cc in
+    let own : (m.frame == m.frame) ≡ true = eq-eqb m.frame m.frame refl in
+    let first : (if x.frame == m.frame then Some x.mark else before) ≡ Some m.mark = rw (same, own) refl in
+    found_before m.frame (if x.frame == m.frame then Some x.mark else before) marks (λ place n here. last (suc place) n (omega arith) here) ∙ first
+found_last m before (x ∷ marks) (suc place) is last =
+    found_last m (if x.frame == m.frame then Some x.mark else before) marks place is (λ later n after here. last (suc later) n (omega (arith, after)) here)
+
+pub kept_found : (marks : List FrameMark) (place : ℕ) (m : FrameMark) → slice_get marks place ≡ Some m → IsLastFor marks place m.frame → mark_at m.frame marks ≡ Some m.mark
+unfolding mark_at
+kept_found marks place m is last = found_last m None marks place is last

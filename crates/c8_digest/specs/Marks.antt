@@ -1,5 +1,5 @@
 -- The marks that are kept, each with the number of frames after which the machine had it.
-use Rattle.std.specs.Prelude.{ℕ, ◌-◌, ◌==◌, List, length, drop, fold, Option, Some, None, if◌then◌else◌}
+use Rattle.std.specs.Prelude.{◌≡◌, ◌≢◌, ◌<◌, ℕ, ◌-◌, ◌==◌, List, length, drop, fold, Option, Some, None, if◌then◌else◌}
 use Rattle.std.specs.List.{slice_get}
 use Rattle.c8_digest.specs.declared.marks.FrameMark.{FrameMark}
 
@@ -18,3 +18,7 @@ mark_at frame marks = fold (λ found m. if m.frame == frame then Some m.mark els
 -- the one that was put last
 abbrev pub newest_of : List FrameMark → Option FrameMark
 newest_of marks = slice_get marks (length marks - 1)
+
+-- no mark that was put after a place is of this frame
+abbrev pub IsLastFor : List FrameMark → ℕ → ℕ → Type 0
+IsLastFor marks place frame = (later : ℕ) (m : FrameMark) → place < later → slice_get marks later ≡ Some m → m.frame ≢ frame

@@ -4,7 +4,7 @@ ghost use Rattle.std.specs.Prelude.{◌≡◌, ◌≤◌, ℕ, List, [], ◌∷�
 ghost use Rattle.c8_machine.specs.State.{State, IsState};
 ghost use Rattle.c8_digest.specs.declared.marks.FrameMark.{FrameMark};
 ghost use Rattle.c8_digest.specs.StateBytes.{state_length, state_bytes};
-ghost use Rattle.c8_digest.specs.Marks.{most_marks, kept, mark_at, newest_of};
+ghost use Rattle.c8_digest.specs.Marks.{most_marks, kept, mark_at, newest_of, IsLastFor};
 
 /// The bytes of a state that a machine can have are 4419.
 pub fn state_bytes_are_4419()
@@ -32,4 +32,11 @@ pub fn found_marks_are_kept()
     ensures { (marks : List FrameMark) (frame : ℕ) (mark : List ℕ)
         → mark_at frame marks ≡ Some mark
         → (place : ℕ) × slice_get marks place ≡ Some (record { frame = frame; mark = mark }) }
+{}
+
+/// A mark that is kept is found for its frame, if none of the same frame was put after it.
+pub fn kept_marks_are_found()
+    ensures { (marks : List FrameMark) (place : ℕ) (m : FrameMark)
+        → slice_get marks place ≡ Some m → IsLastFor marks place m.frame
+        → mark_at m.frame marks ≡ Some m.mark }
 {}

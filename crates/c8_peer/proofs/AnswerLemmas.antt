@@ -9,14 +9,14 @@ use Rattle.c8_known.specs.Journal.{Record}
 use Rattle.c8_known.specs.Known.{KnownValue}
 use Rattle.c8_peer.specs.State.{Memory, Open, Down, Call, Reply, Outcome, answered, recorded}
 use Rattle.c8_peer.specs.Steps.{Works, Refuses, outcome, refused_by_disk}
-use Rattle.c8_peer.specs.Peer.{PeerValue, known_by, luck_of, IsStep, added, KeepsWithOrWithout, LeavesJournal, HasCause, IsAnswered, IsSound}
+use Rattle.c8_peer.specs.Peer.{PeerValue, known_by, luck_of, IsStep, added, most_run, KeepsWithOrWithout, LeavesJournal, HasCause, IsAnswered, IsSound}
 use Rattle.c8_peer.specs.Held.{IsPeer}
 use Rattle.c8_peer.proofs.PeerLemmas.{view}
 
 -- what a call comes to, by what the peer knows inside and as it is seen
-pub outcome_seen : {D : Type 0} (v : PeerValue D) (rules : Rules) (room : ℕ) (j : JournalValue D) (k : KnownValue) (m : Memory) → IsPeer rules room j k m → view rules room k.me j m ≡ v
+pub outcome_seen : {D : Type 0} {ran : ℕ} (v : PeerValue D) (rules : Rules) (room : ℕ) (j : JournalValue D) (k : KnownValue) (m : Memory) → IsPeer rules room j k m → view rules room k.me j m ran ≡ v
     → (call : Call) (o : Memory → Outcome) → outcome rules k m call ≡ o m → outcome v.rules (known_by v) v.state.memory call ≡ o v.state.memory
-outcome_seen {D} v rules room j k m is seen call o comes =
+outcome_seen {D} {ran} v rules room j k m is seen call o comes =
     subst (λ (x : PeerValue D). outcome x.rules (known_by x) x.state.memory call ≡ o x.state.memory) seen
     (subst (λ (known : KnownValue). outcome rules known m call ≡ o m) is.known comes)
 
@@ -34,6 +34,7 @@ module _ {D : Type 0} (g : Ghosts D) where
     journal = sound.leaves;
     untouched = λ e. refl;
     changes = omega arith;
+    ran = rw none refl;
     same = record { rules = refl; room = refl; me = refl; disk_is = same_disk v.disk };
   }
 
@@ -48,23 +49,24 @@ module _ {D : Type 0} (g : Ghosts D) where
     pub changes : g.changes new ≤ g.changes v.disk + 4
     pub same : IsSameDisk g v.disk new
 
-  abbrev pub with_record : PeerValue D → D → Record → Memory → PeerValue D
-  with_record v disk r m = record v { disk = disk; state = record v.state { journal = v.state.journal ++ r ∷ []; memory = m } }
+  abbrev pub with_record : PeerValue D → D → Record → Memory → ℕ → PeerValue D
+  with_record v disk r m ran = record v { disk = disk; state = record v.state { journal = v.state.journal ++ r ∷ []; memory = m }; last_run = ran }
 
   abbrev pub without_record : PeerValue D → D → Record → PeerValue D
   without_record v disk r = record v { disk = disk; state = record v.state { pending = Some r; mode = Down } }
 
   -- the disk takes the record
-  pub records : (v : PeerValue D) (disk : D) (m : Memory) (call : Call) (reply : Reply) (r : Record) → v.state.mode ≡ Open
-      → outcome v.rules (known_by v) v.state.memory call ≡ recorded m reply r → luck_of reply ≡ Works → Kept v r disk
-      → LeavesJournal g (with_record v disk r m) → IsAnswered g v call reply (with_record v disk r m)
-  records v disk m call reply r mode comes luck kept leaves = record {
+  pub records : (v : PeerValue D) (disk : D) (m : Memory) (ran : ℕ) (call : Call) (reply : Reply) (r : Record) → v.state.mode ≡ Open
+      → outcome v.rules (known_by v) v.state.memory call ≡ recorded m reply r → luck_of reply ≡ Works → Kept v r disk → ran ≤ most_run v.rules call
+      → LeavesJournal g (with_record v disk r m ran) → IsAnswered g v call reply (with_record v disk r m ran)
+  records v disk m ran call reply r mode comes luck kept few leaves = record {
     step = rw (mode, comes, luck) refl;
     cause = λ why e. let never : Works ≡ Refuses why = sym luck ∙ e in absurd cc;
     any_moment = rw (mode, comes) kept.any_moment;
     journal = leaves;
     untouched = λ e. let never : Some r ≡ None = sym (rw (mode, comes) refl) ∙ e in absurd cc;
     changes = kept.changes;
+    ran = rw (mode, comes, luck) few;
     same = record { rules = refl; room = refl; me = refl; disk_is = kept.same };
   }
 
@@ -80,5 +82,6 @@ module _ {D : Type 0} (g : Ghosts D) where
     journal = leaves;
     untouched = λ e. let never : Some r ≡ None = sym (rw (mode, comes) refl) ∙ e in absurd cc;
     changes = kept.changes;
+    ran = rw (mode, comes, luck) refl;
     same = record { rules = refl; room = refl; me = refl; disk_is = kept.same };
   }

@@ -19,7 +19,7 @@ use Rattle.c8_peer.specs.Steps.{outcome}
 use Rattle.c8_peer.specs.Lawful.{IsMemory}
 use Rattle.c8_peer.specs.Peer.{PeerValue, known_by, IsSound, HasCause}
 use Rattle.c8_peer.specs.declared.verdict.Verdict.{Verdict}
-use Rattle.c8_peer.specs.Verdicts.{AcksWithin, by_verdict, memory_after}
+use Rattle.c8_peer.specs.Verdicts.{AcksWithin, IsLater, by_verdict, memory_after}
 use Rattle.c8_peer.proofs.AllowedLemmas.{keeps_allowed}
 use Rattle.c8_peer.proofs.MemoryLemmas.{memory_kept}
 use Rattle.c8_peer.proofs.SayingLemmas.{own_player}
@@ -38,6 +38,9 @@ acks_more early late still (Data d) within =
 acks_more early late still (Freeze f) within = within
 acks_more early late still (Frozen f) within = within
 acks_more early late still (Cut c) within = within
+
+pub heard_later : (verdict found : Verdict) → IsLater found → found ≡ verdict → IsLater verdict
+heard_later verdict found later same = subst IsLater same later
 
 module _ {D : Type 0} where
   -- what it comes to is what its message does

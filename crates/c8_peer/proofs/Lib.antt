@@ -15,3 +15,5 @@ pub mod RefusalLemmas
 pub mod RunLemmas
 pub mod OpenLemmas
 pub mod OpeningDeeds
+pub mod OneOpening
+pub mod PlainLemmas

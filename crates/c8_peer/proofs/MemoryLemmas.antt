@@ -266,7 +266,8 @@ changes rules room me journal m head own is low all =
       both = λ n few answer keeps. with_acks rules room me journal (record m { links = heard m.links head }) head.from n heard_is (omega (arith, few, all));
     }
 
-own_count : (rules : Rules) (me : ℕ) (journal : List Record) → 1 ≤ me → me ≤ rules.players → count_in (known_of rules me journal) (known_of rules me journal).me ≡ count rules me journal
+-- what is known of the own player has as many inputs as its journal says
+pub own_count : (rules : Rules) (me : ℕ) (journal : List Record) → 1 ≤ me → me ≤ rules.players → count_in (known_of rules me journal) (known_of rules me journal).me ≡ count rules me journal
 unfolding known_of
 own_count rules me journal from to = ap (λ (p : PlayerValue). length p.held) (player_known rules me me journal from to)
 

@@ -25,6 +25,7 @@ use Rattle.c8_peer.specs.Opened.{opening_body, bodies_found, MayBegin, IsOpened,
 use Rattle.c8_peer.specs.OpenedParts.{IsRead, IsBegun, IsNotBegun, BeginningLeaves}
 use Rattle.c8_peer.proofs.OpeningLemmas.{opening_allowed, opening_memory}
 use Rattle.c8_peer.proofs.PeerLemmas.{one_body_more, bodies_more, view}
+use Rattle.c8_peer.proofs.ReaderLemmas.{ticks_are}
 
 -- ---- the record that is added
 
@@ -132,6 +133,7 @@ module _ {D : Type 0} (g : Ghosts D) (disk : D) (rules : Rules) (room me : ℕ) 
       let may = opening_allowed rules me room before range from_one in_game low read.bodies.journal begun.not_spent in
       subst (λ (known : KnownValue). IsPeer rules room journal known m) (sym read.known) (record {
         range = range;
+        low = low;
         from_one = from_one;
         in_game = in_game;
         bodies = subst (AreJournalBodies rules me room) (sym begun.bodies) (bodies_more rules me room (bodies_found g disk) new read.bodies may);
@@ -142,8 +144,8 @@ module _ {D : Type 0} (g : Ghosts D) (disk : D) (rules : Rules) (room me : ℕ) 
         last = ap (λ (one : Memory). one.links.epoch) in_epoch ∙ ap epoch (sym longer);
       })
 
-  pub opened_peer : IsSound g (view rules room k.me journal m) → IsSameDisk g disk journal.disk → IsOpened g disk rules room me (view rules room k.me journal m)
-  opened_peer sound same = record {
+  pub opened_peer : (ran : ℕ) → ran ≡ k.ticks → IsSound g (view rules room k.me journal m ran) → IsSameDisk g disk journal.disk → IsOpened g disk rules room me (view rules room k.me journal m ran)
+  opened_peer ran runs sound same = record {
     rules_are = refl;
     room_is = refl;
     me_is = ap (λ (known : KnownValue). known.me) read.known ∙ (of_game rules me (records_of (bodies_found g disk))).player;
@@ -154,6 +156,7 @@ module _ {D : Type 0} (g : Ghosts D) (disk : D) (rules : Rules) (room me : ℕ) 
     may = (read.bodies.journal, begun.not_spent, in_game);
     bodies = read.bodies;
     sound = sound;
+    ran = runs ∙ ticks_are (view rules room k.me journal m ran) rules room journal k m refl peer_opened;
     same = same;
   }
 

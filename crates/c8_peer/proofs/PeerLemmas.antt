@@ -1,5 +1,6 @@
 -- What holds of a peer's parts goes on through its calls.
 use Rattle.std.proofs.Common.{◌≡◌, ◌≤◌, ◌+◌, ℕ, List, [], ◌∷◌, ◌++◌, map, option_map, Some, true, false, refl, sym, ap, subst, ◌∙◌, inl, inr, ⊎_elim, arith, None, Bool}
+use Rattle.std.proofs.lemmas.Bool.{cases_Bool}
 use Rattle.std.proofs.lemmas.List.{map-append}
 use Rattle.c8_game.specs.Rules.{Rules}
 use Rattle.c8_disk.specs.declared.disk.Disk.{Ghosts}
@@ -23,7 +24,7 @@ use Rattle.c8_peer.proofs.AllowedLemmas.{keeps_allowed}
 use Rattle.c8_peer.specs.Lawful.{IsMemory, IsCall}
 use Rattle.c8_peer.specs.TruthLaws.{count_rises}
 use Rattle.c8_peer.specs.Peer.{PeerValue, mode_of, state_of, KeepsWithOrWithout}
-use Rattle.c8_peer.specs.Held.{IsPeer, is_opening, WasRoll}
+use Rattle.c8_peer.specs.Held.{IsPeer, is_opening, is_entry, most_run_with, WasRoll}
 
 -- the memory stays in order with each record more
 pub memory_more : (rules : Rules) (room me : ℕ) (journal more : List Record) (m : Memory) → IsMemory rules room me journal m → IsMemory rules room me (journal ++ more) m
@@ -77,6 +78,7 @@ module _ {D : Type 0} where
       → new.bodies ≡ old.bodies → new.pending ≡ Some (body_of r) → IsPeer rules room new k m
   peer_refused rules room old new k m r is may same pending = record {
     range = is.range;
+    low = is.low;
     from_one = is.from_one;
     in_game = is.in_game;
     bodies = subst (AreJournalBodies rules k.me room) (sym same) is.bodies;
@@ -112,6 +114,7 @@ module _ {D : Type 0} where
       let longer : records_of new.bodies ≡ journal ++ r ∷ [] = ap records_of more ∙ one_body_more old.bodies r may.spelled in
       let all : IsPeer rules room new later m = record {
         range = is.range;
+        low = is.low;
         from_one = rw same is.from_one;
         in_game = rw same is.in_game;
         bodies = rw (same, more) (bodies_more rules k.me room old.bodies r is.bodies may);
@@ -134,6 +137,25 @@ one_tick k (Freeze player) = omega arith
 one_tick k (Leave player) = omega arith
 one_tick k (Cut player length start words) = omega arith
 
+no_tick : (k : KnownValue) (r : Record) → is_entry r ≡ false → (with_record k r).ticks ≡ k.ticks
+no_tick k (Head player id room) other = refl
+no_tick k (Epoch player number) other = refl
+no_tick k (Own player start word) other = absurd cc
+no_tick k (Got player start words) other = refl
+no_tick k (Freeze player) other = refl
+no_tick k (Leave player) other = refl
+no_tick k (Cut player length start words) other = refl
+
+-- a roll within the window runs no more than the record is worth
+pub runs_few : (rules : Rules) (k later : KnownValue) (r : Record) (ran : ℕ) → later ≡ with_record k r → ran ≤ rules.window + 1 → (later.ticks ≤ k.ticks → ran ≤ rules.window)
+    → ran ≤ most_run_with rules r
+runs_few rules k later r ran more most settled = elim (cases_Bool (is_entry r)) [
+  | inl own ↦ rw own most
+  | inr other ↦
+      let same = ap (λ (x : KnownValue). x.ticks) more ∙ no_tick k r other in
+      rw other (settled (omega (arith, same)))
+]
+
 pub was_roll : (rules : Rules) (v : RollValue) (k later : KnownValue) (r : Record) → v ≡ roll_of rules k → later ≡ with_record k r → IsStillKnown k later → WasRoll v later
 unfolding roll_of
 was_roll rules v k later r is more still = record {
@@ -146,17 +168,17 @@ was_roll rules v k later r is more still = record {
 -- ---- the peer as it is seen
 
 module _ {D : Type 0} where
-  abbrev pub view : Rules → ℕ → ℕ → JournalValue D → Memory → PeerValue D
-  view rules room me j m = record { rules = rules; room = room; me = me; disk = j.disk; state = state_of j.bodies j.pending j.is_down m }
+  abbrev pub view : Rules → ℕ → ℕ → JournalValue D → Memory → ℕ → PeerValue D
+  view rules room me j m ran = record { rules = rules; room = room; me = me; disk = j.disk; state = state_of j.bodies j.pending j.is_down m; last_run = ran }
 
   pub allowed_inside : {v w : PeerValue D} (r : Record) → v ≡ w → IsAllowed w.rules w.me w.room w.state.journal r → IsAllowed v.rules v.me v.room v.state.journal r
   allowed_inside r is may = subst (λ (x : PeerValue D). IsAllowed x.rules x.me x.room x.state.journal r) (sym is) may
 
-  pub view_refused : (v : PeerValue D) (rules : Rules) (room me : ℕ) (old new : JournalValue D) (m : Memory) (r : Record) (body : List ℕ) → view rules room me old m ≡ v
+  pub view_refused : (v : PeerValue D) (rules : Rules) (room me ran : ℕ) (old new : JournalValue D) (m : Memory) (r : Record) (body : List ℕ) → view rules room me old m ran ≡ v
       → new.bodies ≡ old.bodies → new.pending ≡ Some body → new.is_down ≡ true → record_of body ≡ r
-      → view rules room me new m ≡ record v { disk = new.disk; state = record v.state { pending = Some r; mode = Down } }
-  view_refused v rules room me old new m r body is bodies pending down reads =
-      subst (λ (x : PeerValue D). view rules room me new m ≡ record x { disk = new.disk; state = record x.state { pending = Some r; mode = Down } }) is
+      → view rules room me new m ran ≡ record v { disk = new.disk; state = record v.state { pending = Some r; mode = Down } }
+  view_refused v rules room me ran old new m r body is bodies pending down reads =
+      subst (λ (x : PeerValue D). view rules room me new m ran ≡ record x { disk = new.disk; state = record x.state { pending = Some r; mode = Down } }) is
       (λ i. record {
         rules = rules;
         room = room;
@@ -168,24 +190,26 @@ module _ {D : Type 0} where
           mode = mode_of (down i);
           memory = m;
         };
+        last_run = ran;
       })
 
-  pub view_more : (v : PeerValue D) (rules : Rules) (room me later : ℕ) (old new : JournalValue D) (m : Memory) (r : Record) → view rules room me old m ≡ v
+  pub view_more : (v : PeerValue D) (rules : Rules) (room me later before ran : ℕ) (old new : JournalValue D) (m : Memory) (r : Record) → view rules room me old m before ≡ v
       → records_of new.bodies ≡ records_of old.bodies ++ r ∷ [] → new.pending ≡ old.pending → new.is_down ≡ old.is_down → later ≡ me
-      → view rules room later new m ≡ record v { disk = new.disk; state = record v.state { journal = v.state.journal ++ r ∷ [] } }
-  view_more v rules room me later old new m r is records pending down same =
-      subst (λ (x : PeerValue D). view rules room later new m ≡ record x { disk = new.disk; state = record x.state { journal = x.state.journal ++ r ∷ [] } }) is
+      → view rules room later new m ran ≡ record v { disk = new.disk; state = record v.state { journal = v.state.journal ++ r ∷ [] }; last_run = ran }
+  view_more v rules room me later before ran old new m r is records pending down same =
+      subst (λ (x : PeerValue D). view rules room later new m ran ≡ record x { disk = new.disk; state = record x.state { journal = x.state.journal ++ r ∷ [] }; last_run = ran }) is
       (λ i. record {
         rules = rules;
         room = room;
         me = same i;
         disk = new.disk;
         state = record { journal = records i; pending = option_map record_of (pending i); mode = mode_of (down i); memory = m };
+        last_run = ran;
       })
 
   -- a crash inside the call that adds a record
-  pub leaves_records : (g : Ghosts D) (v : PeerValue D) (rules : Rules) (room me : ℕ) (old : JournalValue D) (new : D) (m : Memory) (r : Record) (body : List ℕ)
-      → view rules room me old m ≡ v → AreJournalBodies rules me room old.bodies → body ≡ body_of r
+  pub leaves_records : {ran : ℕ} (g : Ghosts D) (v : PeerValue D) (rules : Rules) (room me : ℕ) (old : JournalValue D) (new : D) (m : Memory) (r : Record) (body : List ℕ)
+      → view rules room me old m ran ≡ v → AreJournalBodies rules me room old.bodies → body ≡ body_of r
       → LeavesOnly g old.disk new (KeepsBodies old.bodies (Some body)) → LeavesOnly g v.disk new (KeepsWithOrWithout v.state.journal (Some r))
   leaves_records g v rules room me old new m r body is are spelled run =
       subst (λ (x : PeerValue D). LeavesOnly g x.disk new (KeepsWithOrWithout x.state.journal (Some r))) is

@@ -3,16 +3,19 @@ use Rattle.std.proofs.Common.{◌≡◌, ◌⊎◌, ◌≤◌, ℕ, List, [], �
 use Rattle.std.specs.Prelude.{option_to_list, if◌then◌else◌}
 use Rattle.std.proofs.lemmas.List.{append-nil}
 use Rattle.c8_record.specs.Allowed.{IsAllowed, IsJournal}
-use Rattle.c8_record.specs.JournalLaws.{journal_more}
+use Rattle.c8_record.specs.JournalLaws.{journal_more, journal_known, of_game}
 use Rattle.c8_known.specs.Journal.{Record}
 use Rattle.std.proofs.lemmas.List.{map-append}
-use Rattle.c8_game.specs.Rules.{Rules}
+use Rattle.c8_game.specs.Rules.{Rules, limit_of}
 use Rattle.c8_disk.specs.declared.disk.Disk.{Ghosts}
 use Rattle.c8_disk.specs.Runs.{LeavesOnly}
 use Rattle.c8_disk.specs.RunLaws.{weaker}
 use Rattle.c8_log.specs.Journal.{JournalValue, KeepsBodies, AllKeepBodies}
 use Rattle.c8_known.specs.Journal.{ticks}
-use Rattle.c8_known.specs.Known.{KnownValue, known_of, Plays}
+use Rattle.c8_known.specs.Known.{KnownValue, known_of, count_in, Plays}
+use Rattle.c8_known.specs.Confirmed.{confirmed}
+use Rattle.c8_known.specs.ConfirmedLaws.{confirmed_is}
+use Rattle.c8_window.specs.Window.{acked_of}
 use Rattle.c8_known.specs.StartLaws.{players_known}
 use Rattle.c8_record.specs.Body.{body_of, record_of, records_of, Spells}
 use Rattle.c8_record.specs.BodyLaws.{bodies_back}
@@ -22,6 +25,7 @@ use Rattle.c8_peer.specs.State.{Memory, Open, Down}
 use Rattle.c8_peer.specs.Peer.{PeerValue, known_by, mode_of, KeepsWithOrWithout, IsSound}
 use Rattle.c8_peer.specs.Held.{IsPeer}
 use Rattle.c8_peer.proofs.PeerLemmas.{view}
+use Rattle.c8_peer.proofs.MemoryLemmas.{own_count}
 
 -- ---- what a crash leaves, in the words of the records
 
@@ -58,13 +62,14 @@ found_journal rules me room journal None is may true = rw (append-nil journal) i
 found_journal rules me room journal (Some body) is may true = journal_more rules me room journal (record_of body) is (may body refl)
 
 module _ {D : Type 0} where
-  pub peer_sound : (g : Ghosts D) (v : PeerValue D) (rules : Rules) (room : ℕ) (j : JournalValue D) (k : KnownValue) (m : Memory) → view rules room k.me j m ≡ v → IsPeer rules room j k m
+  pub peer_sound : {ran : ℕ} (g : Ghosts D) (v : PeerValue D) (rules : Rules) (room : ℕ) (j : JournalValue D) (k : KnownValue) (m : Memory) → view rules room k.me j m ran ≡ v → IsPeer rules room j k m
       → AllKeepBodies j.bodies j.pending (g.may_leave j.disk) → (j.is_down ≡ false → j.pending ≡ None) → LeavesOnly g j.disk j.disk (KeepsBodies j.bodies j.pending) → IsSound g v
   peer_sound g v rules room j k m seen is keeps up still =
       let words : (image : List ℕ) → KeepsBodies j.bodies j.pending image → KeepsWithOrWithout (records_of j.bodies) (option_map record_of j.pending) image =
       keeps_pending rules k.me room j.bodies j.pending is.bodies is.pending in
       subst (IsSound g) seen (record {
         range = is.range;
+        low = is.low;
         plays = (is.from_one, is.in_game);
         is_journal = is.bodies.journal;
         found_is = found_journal rules k.me room (records_of j.bodies) j.pending is.bodies.journal is.pending_may;
@@ -77,7 +82,7 @@ module _ {D : Type 0} where
       })
 
   -- a crash inside a call that adds no record
-  pub leaves_kept : (g : Ghosts D) (v : PeerValue D) (rules : Rules) (room : ℕ) (j : JournalValue D) (new : D) (k : KnownValue) (m : Memory) → view rules room k.me j m ≡ v → IsPeer rules room j k m
+  pub leaves_kept : {ran : ℕ} (g : Ghosts D) (v : PeerValue D) (rules : Rules) (room : ℕ) (j : JournalValue D) (new : D) (k : KnownValue) (m : Memory) → view rules room k.me j m ran ≡ v → IsPeer rules room j k m
       → LeavesOnly g j.disk new (KeepsBodies j.bodies j.pending) → LeavesOnly g v.disk new (KeepsWithOrWithout v.state.journal v.state.pending)
   leaves_kept g v rules room j new k m seen is run =
       subst (λ (x : PeerValue D). LeavesOnly g x.disk new (KeepsWithOrWithout x.state.journal x.state.pending)) seen
@@ -87,23 +92,62 @@ module _ {D : Type 0} where
   -- ---- readers
 
   -- what a reader finds of the parts, in the words of the peer
-  pub known_is : (v : PeerValue D) (rules : Rules) (room : ℕ) (j : JournalValue D) (k : KnownValue) (m : Memory) → view rules room k.me j m ≡ v → IsPeer rules room j k m → k ≡ known_by v
+  pub known_is : {ran : ℕ} (v : PeerValue D) (rules : Rules) (room : ℕ) (j : JournalValue D) (k : KnownValue) (m : Memory) → view rules room k.me j m ran ≡ v → IsPeer rules room j k m → k ≡ known_by v
   known_is v rules room j k m seen is = is.known ∙ ap known_by seen
 
-  pub players_are : (v : PeerValue D) (rules : Rules) (room : ℕ) (j : JournalValue D) (k : KnownValue) (m : Memory) → view rules room k.me j m ≡ v → IsPeer rules room j k m → length k.players ≡ v.rules.players
+  pub players_are : {ran : ℕ} (v : PeerValue D) (rules : Rules) (room : ℕ) (j : JournalValue D) (k : KnownValue) (m : Memory) → view rules room k.me j m ran ≡ v → IsPeer rules room j k m → length k.players ≡ v.rules.players
   players_are v rules room j k m seen is = ap (λ (known : KnownValue). length known.players) (known_is v rules room j k m seen is) ∙ players_known v.rules v.me v.state.journal
 
-  pub plays_inside : (v : PeerValue D) (rules : Rules) (room : ℕ) (j : JournalValue D) (k : KnownValue) (m : Memory) (q : ℕ) → view rules room k.me j m ≡ v → IsPeer rules room j k m
+  pub plays_inside : {ran : ℕ} (v : PeerValue D) (rules : Rules) (room : ℕ) (j : JournalValue D) (k : KnownValue) (m : Memory) (q : ℕ) → view rules room k.me j m ran ≡ v → IsPeer rules room j k m
       → 1 ≤ q → q ≤ v.rules.players → Plays k q
   plays_inside v rules room j k m q seen is from to = record { from_one = from; in_game = omega (arith, to, players_are v rules room j k m seen is) }
 
-  pub ticks_are : (v : PeerValue D) (rules : Rules) (room : ℕ) (j : JournalValue D) (k : KnownValue) (m : Memory) → view rules room k.me j m ≡ v → IsPeer rules room j k m → k.ticks ≡ ticks v.state.journal
+  pub ticks_are : {ran : ℕ} (v : PeerValue D) (rules : Rules) (room : ℕ) (j : JournalValue D) (k : KnownValue) (m : Memory) → view rules room k.me j m ran ≡ v → IsPeer rules room j k m → k.ticks ≡ ticks v.state.journal
   unfolding known_of
   ticks_are v rules room j k m seen is = ap (λ (known : KnownValue). known.ticks) (known_is v rules room j k m seen is)
 
-  pub roll_is : (v : PeerValue D) (rules : Rules) (room : ℕ) (j : JournalValue D) (k : KnownValue) (m : Memory) (roll : RollValue) → view rules room k.me j m ≡ v → IsPeer rules room j k m
+  pub roll_is : {ran : ℕ} (v : PeerValue D) (rules : Rules) (room : ℕ) (j : JournalValue D) (k : KnownValue) (m : Memory) (roll : RollValue) → view rules room k.me j m ran ≡ v → IsPeer rules room j k m
       → roll ≡ roll_of rules k → roll ≡ roll_of v.rules (known_by v)
   roll_is v rules room j k m roll seen is rolled =
       let same : rules ≡ v.rules = ap (λ (x : PeerValue D). x.rules) seen in
       let known : k ≡ known_by v = known_is v rules room j k m seen is in
       rolled ∙ (λ i. roll_of (same i) (known i))
+
+  -- ---- how much there can be
+
+  pub ticks_few : {ran : ℕ} (v : PeerValue D) (rules : Rules) (room : ℕ) (j : JournalValue D) (k : KnownValue) (m : Memory) → view rules room k.me j m ran ≡ v → IsPeer rules room j k m → k.ticks ≤ v.rules.frames
+  ticks_few v rules room j k m seen is =
+      let journal : List Record = records_of j.bodies in
+      let known = journal_known rules k.me room journal is.range is.from_one is.in_game is.bodies.journal in
+      let game = of_game rules k.me journal in
+      let own = known.own in
+      let within = known.within (known_of rules k.me journal).me in
+      let delay = game.delay in
+      let limit = game.limit in
+      let few : (known_of rules k.me journal).ticks ≤ rules.frames = omega (arith, own, within, delay, limit) in
+      subst (λ (x : Rules). k.ticks ≤ x.frames) (ap (λ (x : PeerValue D). x.rules) seen) (subst (λ (x : KnownValue). x.ticks ≤ rules.frames) (sym is.known) few)
+
+  pub confirmed_few : {ran : ℕ} (v : PeerValue D) (rules : Rules) (room : ℕ) (j : JournalValue D) (k : KnownValue) (m : Memory) → view rules room k.me j m ran ≡ v → IsPeer rules room j k m → confirmed k ≤ v.rules.frames
+  confirmed_few v rules room j k m seen is =
+      let few = ticks_few v rules room j k m seen is in
+      let ticked = (confirmed_is k).ticked in
+      omega (arith, few, ticked)
+
+  pub counts_few : {ran : ℕ} (v : PeerValue D) (rules : Rules) (room : ℕ) (j : JournalValue D) (k : KnownValue) (m : Memory) (q : ℕ) → view rules room k.me j m ran ≡ v → IsPeer rules room j k m
+      → count_in k q ≤ limit_of v.rules
+  counts_few v rules room j k m q seen is =
+      let journal : List Record = records_of j.bodies in
+      let within = (journal_known rules k.me room journal is.range is.from_one is.in_game is.bodies.journal).within q in
+      let limit = (of_game rules k.me journal).limit in
+      let few : count_in (known_of rules k.me journal) q ≤ limit_of rules = omega (arith, within, limit) in
+      subst (λ (x : Rules). count_in k q ≤ limit_of x) (ap (λ (x : PeerValue D). x.rules) seen) (subst (λ (x : KnownValue). count_in x q ≤ limit_of rules) (sym is.known) few)
+
+  pub acks_few : {ran : ℕ} (v : PeerValue D) (rules : Rules) (room : ℕ) (j : JournalValue D) (k : KnownValue) (m : Memory) (q : ℕ) → view rules room k.me j m ran ≡ v → IsPeer rules room j k m
+      → acked_of m.acks q ≤ count_in (known_by v) v.me
+  acks_few v rules room j k m q seen is =
+      let own = own_count rules k.me (records_of j.bodies) is.from_one is.in_game in
+      let player = (of_game rules k.me (records_of j.bodies)).player in
+      let acked = is.memory.acked q in
+      let few : acked_of m.acks q ≤ count_in (known_of rules k.me (records_of j.bodies)) k.me =
+      subst (λ (me : ℕ). acked_of m.acks q ≤ count_in (known_of rules k.me (records_of j.bodies)) me) player (omega (arith, own, acked)) in
+      subst (λ (x : PeerValue D). acked_of m.acks q ≤ count_in (known_by x) x.me) seen few

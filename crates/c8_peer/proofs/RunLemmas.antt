@@ -25,7 +25,7 @@ use Rattle.c8_peer.specs.Truth.{IsTrue}
 use Rattle.c8_peer.specs.TruthLaws.{truth_stays, confirmed_counts, confirmed_stays}
 use Rattle.c8_peer.specs.Lawful.{IsMemory, IsCall}
 use Rattle.c8_peer.specs.Peer.{PeerValue, luck_of, Keeps, KeepsWithOrWithout, or_pending, added_at, MayLeave, IsAnswered, IsSaid, IsSound}
-use Rattle.c8_peer.specs.Runs.{never_opened, Deed, Does, Opens, Closes, Stops, StopsOpening, After, as_answered, crashed, after, MayDo, IsDone, IsRun, IsReached, IsAmong, known_at}
+use Rattle.c8_peer.specs.Runs.{never_opened, Deed, Does, Opens, Closes, Stops, StopsOpening, After, as_answered, crashed, after, MayDo, IsDone, IsRun, IsLawful, IsReached, IsAmong, known_at}
 use Rattle.c8_peer.proofs.AllowedLemmas.{keeps_allowed}
 use Rattle.c8_peer.proofs.MemoryLemmas.{memory_kept}
 use Rattle.c8_peer.proofs.OpeningLemmas.{opening_allowed, opening_memory}
@@ -248,6 +248,23 @@ pub reached_journal : (rules : Rules) (room me : ℕ) (s : State) (finds : Bool)
     → IsReached rules room me s → IsJournal rules me room (found s finds)
 reached_journal rules room me s finds range from to low reached = found_journal rules room me s finds (reached_held rules room me s (match_of rules room me range from to low) reached)
 
+held_of : (rules : Rules) (room me : ℕ) (s : State) → IsLawful rules room me s → IsHeld rules room me s
+held_of rules room me s is = record { journal = is.journal false; longer = is.journal true; memory = is.memory; settled = is.settled }
+
+lawful_of : (rules : Rules) (room me : ℕ) (s : State) → IsHeld rules room me s → IsLawful rules room me s
+lawful_of rules room me s held = record { journal = λ finds. found_journal rules room me s finds held; memory = held.memory; settled = held.settled }
+
+pub never_lawful : (rules : Rules) (room me : ℕ) → IsLawful rules room me never_opened
+never_lawful rules room me = lawful_of rules room me never_opened (never_held rules room me)
+
+pub run_lawful : (rules : Rules) (room me : ℕ) (s t : State) (deeds : List Deed) (answers : List (Option Reply)) → AreInRange rules → 1 ≤ me → me ≤ rules.players → room < 2 ^ 64
+    → IsLawful rules room me s → IsRun rules room me s deeds answers t → IsLawful rules room me t
+run_lawful rules room me s t deeds answers range from to low lawful run =
+    lawful_of rules room me t (run_held rules room me s t deeds answers (match_of rules room me range from to low) (held_of rules room me s lawful) run)
+
+pub reached_lawful : (rules : Rules) (room me : ℕ) (s : State) → AreInRange rules → 1 ≤ me → me ≤ rules.players → room < 2 ^ 64 → IsReached rules room me s → IsLawful rules room me s
+reached_lawful rules room me s range from to low reached = run_lawful rules room me never_opened s reached.deeds reached.answers range from to low (never_lawful rules room me) reached.run
+
 -- ---- what was said stays true
 
 disk_says_nothing : (call : Call) (why : DiskError) (packet : Packet) → refused_by_disk call why ≢ Said (Ok packet)
@@ -313,33 +330,33 @@ run_says rules room me s t (deed ∷ deeds) (answer ∷ answers) packet zero gam
 run_says rules room me s t (deed ∷ deeds) (answer ∷ answers) packet (suc n) game held (u, is, run) there =
     run_says rules room me u t deeds answers packet n game (done_deed_held rules room me s u deed answer game held is) run there
 
-pub said_stands : (rules : Rules) (room me : ℕ) (s : State) (deeds : List Deed) (answers : List (Option Reply)) (packet : Packet) → AreInRange rules → 1 ≤ me → me ≤ rules.players → room < 2 ^ 64
-    → IsRun rules room me never_opened deeds answers s → IsAmong answers packet → IsTrue rules me s.journal packet
-said_stands rules room me s deeds answers packet range from to low run (n, there) =
-    run_says rules room me never_opened s deeds answers packet n (match_of rules room me range from to low) (never_held rules room me) run there
+pub said_stands : (rules : Rules) (room me : ℕ) (s t : State) (deeds : List Deed) (answers : List (Option Reply)) (packet : Packet) → AreInRange rules → 1 ≤ me → me ≤ rules.players → room < 2 ^ 64
+    → IsLawful rules room me s → IsRun rules room me s deeds answers t → IsAmong answers packet → IsTrue rules me t.journal packet
+said_stands rules room me s t deeds answers packet range from to low lawful run (n, there) =
+    run_says rules room me s t deeds answers packet n (match_of rules room me range from to low) (held_of rules room me s lawful) run there
 
 -- ---- what is confirmed stays
 
 -- the later journal is one of the rules, and the earlier one begins it
-later_journal : (rules : Rules) (room me : ℕ) (s t : State) (deeds : List Deed) (answers : List (Option Reply)) → IsMatch rules room me → IsReached rules room me s → (run : IsRun rules room me s deeds answers t)
+later_journal : (rules : Rules) (room me : ℕ) (s t : State) (deeds : List Deed) (answers : List (Option Reply)) → IsMatch rules room me → IsLawful rules room me s → (run : IsRun rules room me s deeds answers t)
     → IsJournal rules me room (s.journal ++ (run_grows rules room me s t deeds answers run).0)
-later_journal rules room me s t deeds answers game reached run =
+later_journal rules room me s t deeds answers game lawful run =
     subst (IsJournal rules me room) (run_grows rules room me s t deeds answers run).1
-    (run_held rules room me s t deeds answers game (reached_held rules room me s game reached) run).journal
+    (run_held rules room me s t deeds answers game (held_of rules room me s lawful) run).journal
 
 pub run_confirms : (rules : Rules) (room me : ℕ) (s t : State) (deeds : List Deed) (answers : List (Option Reply)) → AreInRange rules → 1 ≤ me → me ≤ rules.players → room < 2 ^ 64
-    → IsReached rules room me s → IsRun rules room me s deeds answers t → confirmed (known_at rules me s) ≤ confirmed (known_at rules me t)
-run_confirms rules room me s t deeds answers range from to low reached run =
+    → IsLawful rules room me s → IsRun rules room me s deeds answers t → confirmed (known_at rules me s) ≤ confirmed (known_at rules me t)
+run_confirms rules room me s t deeds answers range from to low lawful run =
     let more = run_grows rules room me s t deeds answers run in
     subst (λ (journal : List Record). confirmed (known_of rules me s.journal) ≤ confirmed (known_of rules me journal)) (sym more.1)
-    (confirmed_counts rules me room s.journal more.0 range from to (later_journal rules room me s t deeds answers (match_of rules room me range from to low) reached run))
+    (confirmed_counts rules me room s.journal more.0 range from to (later_journal rules room me s t deeds answers (match_of rules room me range from to low) lawful run))
 
 pub run_keeps_rows : (rules : Rules) (room me n : ℕ) (s t : State) (deeds : List Deed) (answers : List (Option Reply)) → AreInRange rules → 1 ≤ me → me ≤ rules.players → room < 2 ^ 64
-    → IsReached rules room me s → IsRun rules room me s deeds answers t → n ≤ confirmed (known_at rules me s) → rows_below (known_at rules me t) n ≡ rows_below (known_at rules me s) n
-run_keeps_rows rules room me n s t deeds answers range from to low reached run within =
+    → IsLawful rules room me s → IsRun rules room me s deeds answers t → n ≤ confirmed (known_at rules me s) → rows_below (known_at rules me t) n ≡ rows_below (known_at rules me s) n
+run_keeps_rows rules room me n s t deeds answers range from to low lawful run within =
     let more = run_grows rules room me s t deeds answers run in
     subst (λ (journal : List Record). rows_below (known_of rules me journal) n ≡ rows_below (known_of rules me s.journal) n) (sym more.1)
-    (confirmed_stays rules me room n s.journal more.0 range from to (later_journal rules room me s t deeds answers (match_of rules room me range from to low) reached run) within)
+    (confirmed_stays rules me room n s.journal more.0 range from to (later_journal rules room me s t deeds answers (match_of rules room me range from to low) lawful run) within)
 
 -- ---- what disks tell
 
@@ -364,6 +381,9 @@ module _ {D : Type 0} where
   pub said_done : (p : PeerValue D) (call : Call) (bytes : List ℕ) → IsCall call → (is : IsSaid p call bytes)
       → IsDone p.rules p.room p.me p.state (Does call Works) (Some (Said (Ok is.packet))) p.state
   said_done p call bytes fits is = record { may = fits; is = ap as_answered (sym is.step) }
+
+  pub sound_lawful : (g : Ghosts D) (p : PeerValue D) → IsSound g p → IsLawful p.rules p.room p.me p.state
+  sound_lawful g p sound = record { journal = sound.found_is; memory = λ opened. sound.memory; settled = sound.none_pending }
 
   pub inside_call : (p : PeerValue D) (call : Call) (image : List ℕ) → MayLeave p call image
       → (luck : Luck) × (leaves : Bool) × Keeps (found (step p.rules p.me p.state call luck).state leaves) image

@@ -64,8 +64,8 @@ module _ {D : Type 0} where
         message_is = rw says spelled.message;
       }
 
-  pub is_said : (v : PeerValue D) (rules : Rules) (room : ℕ) (j : JournalValue D) (k : KnownValue) (m : Memory) (to : ℕ) (what : Saying) (bytes : List ℕ) (p : Packet)
-      → view rules room k.me j m ≡ v → IsPeer rules room j k m → v.state.mode ≡ Open
+  pub is_said : {ran : ℕ} (v : PeerValue D) (rules : Rules) (room : ℕ) (j : JournalValue D) (k : KnownValue) (m : Memory) (to : ℕ) (what : Saying) (bytes : List ℕ) (p : Packet)
+      → view rules room k.me j m ran ≡ v → IsPeer rules room j k m → v.state.mode ≡ Open
       → say rules k m to what ≡ answered m (Said (Ok p)) → Spells bytes p → IsSaid v (Say to what) bytes
   is_said v rules room j k m to what bytes p seen is mode comes spells =
       let here : outcome v.rules (known_by v) v.state.memory (Say to what) ≡ answered v.state.memory (Said (Ok p)) = outcome_seen v rules room j k m is seen (Say to what) (λ noted. answered noted (Said (Ok p))) comes in

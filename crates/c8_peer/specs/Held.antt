@@ -1,5 +1,5 @@
 -- Checked, not believed: what holds of the parts of every peer.
-use Rattle.std.specs.Prelude.{◌≡◌, ℕ, ◌+◌, ◌≤◌, Some, List, Bool, true, false}
+use Rattle.std.specs.Prelude.{◌≡◌, ℕ, ◌+◌, ◌^◌, ◌<◌, ◌≤◌, Some, List, Bool, true, false, if◌then◌else◌}
 use Rattle.c8_game.specs.Rules.{Rules, AreInRange}
 use Rattle.c8_log.specs.Journal.{JournalValue}
 use Rattle.c8_known.specs.Journal.{Record, Head, Epoch, Own, Got, Freeze, Leave, Cut, epoch}
@@ -16,6 +16,7 @@ use Rattle.c8_peer.specs.Lawful.{IsMemory}
 -- last epoch.
 pub record IsPeer {D : Type 0} (rules : Rules) (room : ℕ) (journal : JournalValue D) (k : KnownValue) (m : Memory) : Type 0 where
   pub range : AreInRange rules
+  pub low : room < 2 ^ 64
   pub from_one : 1 ≤ k.me
   pub in_game : k.me ≤ rules.players
   pub bodies : AreJournalBodies rules k.me room journal.bodies
@@ -34,6 +35,20 @@ is_opening (Got player start words) = false
 is_opening (Freeze player) = false
 is_opening (Leave player) = false
 is_opening (Cut player length start words) = false
+
+-- what the own player entered, as a test
+abbrev pub is_entry : Record → Bool
+is_entry (Head player id room) = false
+is_entry (Epoch player number) = false
+is_entry (Own player start word) = true
+is_entry (Got player start words) = false
+is_entry (Freeze player) = false
+is_entry (Leave player) = false
+is_entry (Cut player length start words) = false
+
+-- the most frames that are run with a record: the window's, and what the own player entered is one frame more
+abbrev pub most_run_with : Rules → Record → ℕ
+most_run_with rules r = if is_entry r then rules.window + 1 else rules.window
 
 -- The roll was that of what was known before, and is still known, with one tick less at most.
 pub record WasRoll (v : RollValue) (k : KnownValue) : Type 0 where

@@ -10,6 +10,7 @@ pub mod TruthLaws
 pub mod Lawful
 pub mod Peer
 pub mod Verdicts
+pub mod Replies
 pub mod Asked
 pub mod Held
 pub mod Runs

@@ -8,7 +8,7 @@ use Rattle.c8_disk.specs.Runs.{IsSameDisk}
 use Rattle.c8_log.specs.Slots.{slot_length, kept}
 use Rattle.c8_log.specs.Log.{AllKeep, KeepsOneOf, repaired}
 use Rattle.c8_log.specs.Journal.{AllKeepBodies}
-use Rattle.c8_known.specs.Journal.{epoch}
+use Rattle.c8_known.specs.Journal.{epoch, ticks}
 use Rattle.c8_record.specs.Body.{body_of, records_of}
 use Rattle.c8_record.specs.Replay.{AreJournalBodies, IsRefusal}
 use Rattle.c8_record.specs.declared.error.ReplayError.{ReplayError}
@@ -65,6 +65,7 @@ module _ {D : Type 0} (g : Ghosts D) (disk : D) (rules : Rules) (room me : ℕ) 
   -- - `may`: what was found is a journal of this match and player, and its epochs are not spent.
   -- - `bodies`: the bodies found are those of that journal.
   -- - `sound`: what is so of every peer is so of this one.
+  -- - `ran`: as many frames were run as the journal has ticks.
   -- - `same`: it stands on the same disk.
   pub record IsOpened (p : PeerValue D) : Type 0 where
     pub rules_are : p.rules ≡ rules
@@ -74,6 +75,7 @@ module _ {D : Type 0} (g : Ghosts D) (disk : D) (rules : Rules) (room me : ℕ) 
     pub may : MayBecome rules room me (records_of (bodies_found g disk)) Stands
     pub bodies : AreJournalBodies rules me room (bodies_found g disk)
     pub sound : IsSound g p
+    pub ran : p.last_run ≡ ticks p.state.journal
     pub same : IsSameDisk g disk p.disk
 
   -- what was found is no journal of this match and player

@@ -76,3 +76,13 @@ MayBecome rules room me found NoMemory = me ≤ rules.players
 MayBecome rules room me found (NotRead why) = me ≤ rules.players
 MayBecome rules room me found (Unfit error) = IsRefusal rules me room (map body_of found) error × (me ≤ rules.players)
 MayBecome rules room me found Spent = IsJournal rules me room found × (last_epoch ≤ epoch found) × (me ≤ rules.players)
+
+-- the disk and the memory served the opening to its end
+abbrev pub IsServed : Opening → Type 0
+IsServed NoPlayer = Unit {0}
+IsServed Stands = Unit {0}
+IsServed (NotWritten why) = ⊥
+IsServed NoMemory = ⊥
+IsServed (NotRead why) = ⊥
+IsServed (Unfit error) = Unit {0}
+IsServed Spent = Unit {0}

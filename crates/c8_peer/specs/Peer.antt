@@ -1,5 +1,5 @@
 -- A peer as its calls are seen, what the disk did by what a call answered, and what a crash may leave.
-use Rattle.std.specs.Prelude.{◌≡◌, ◌⊎◌, ℕ, ◌+◌, ◌*◌, ◌<◌, ◌≤◌, List, length, ◌++◌, map, Bool, Option, Some, None, Result, Ok, Err, option_map, option_to_list, if◌then◌else◌}
+use Rattle.std.specs.Prelude.{◌≡◌, ◌⊎◌, ℕ, ◌+◌, ◌*◌, ◌^◌, ◌<◌, ◌≤◌, List, length, ◌++◌, map, Bool, Option, Some, None, Result, Ok, Err, option_map, option_to_list, if◌then◌else◌}
 use Rattle.c8_game.specs.Rules.{Rules, AreInRange}
 use Rattle.c8_disk.specs.declared.disk.Disk.{Ghosts}
 use Rattle.c8_disk.specs.declared.error.DiskError.{DiskError}
@@ -18,7 +18,7 @@ use Rattle.c8_peer.specs.declared.error.LeaveError.{LeaveError}
 use Rattle.c8_peer.specs.declared.error.LeaveError.TheVariants as leaves
 use Rattle.c8_peer.specs.declared.error.DecideError.{DecideError}
 use Rattle.c8_peer.specs.declared.error.DecideError.TheVariants as decides
-use Rattle.c8_peer.specs.State.{Memory, Mode, Open, Down, Away, State, Call, Reply, Opened, Ticked, Delivered, Said, Left, Decided}
+use Rattle.c8_peer.specs.State.{Memory, Mode, Open, Down, Away, State, Call, Tick, Deliver, Say, Leave, Decide, Reply, Opened, Ticked, Delivered, Said, Left, Decided}
 use Rattle.c8_wire.specs.Packet.{Packet}
 use Rattle.c8_wire.specs.Spelling.{Spells}
 use Rattle.c8_peer.specs.Truth.{IsTrue}
@@ -28,13 +28,15 @@ use Rattle.c8_peer.specs.Steps.{Luck, Works, Refuses, Stepped, outcome, step}
 
 -- ---- the peer
 
--- the match and the player, the disk that holds the journal, and the peer's state
+-- the match and the player, the disk that holds the journal, the peer's state, and how many frames were run when it last
+-- recorded something
 pub record PeerValue (D : Type 0) : Type 0 where
   pub rules : Rules
   pub room : ℕ
   pub me : ℕ
   pub disk : D
   pub state : State
+  pub last_run : ℕ
 
 abbrev pub mode_of : Bool → Mode
 mode_of is_down = if is_down then Down else Open
@@ -117,7 +119,7 @@ told reply p = record { reply = reply; state = p.state }
 abbrev pub IsStep : {D : Type 0} → PeerValue D → Call → Reply → PeerValue D → Type 0
 IsStep old call reply new = told reply new ≡ step old.rules old.me old.state call (luck_of reply)
 
--- ---- the disk
+-- ---- the disk, and the frames that are run
 
 -- the record that a call adds, where the disk takes it
 abbrev pub added_at : Mode → Option Record → Option Record
@@ -127,6 +129,24 @@ added_at Away keeps = None
 
 abbrev pub added : {D : Type 0} → PeerValue D → Call → Option Record
 added p call = added_at p.state.mode (outcome p.rules (known_by p) p.state.memory call).keeps
+
+-- the most frames that a call runs: the window's, and for a tick its own one more
+abbrev pub most_run : Rules → Call → ℕ
+most_run rules (Tick keys) = rules.window + 1
+most_run rules (Deliver told) = rules.window
+most_run rules (Say to what) = rules.window
+most_run rules (Leave leaver) = rules.window
+most_run rules (Decide leaver) = rules.window
+
+-- How many frames are told as run, before a call and after it: where its record stands, no more than that; else none is run, and
+-- the number stays.
+abbrev pub IsRunOf : Option Record → Luck → ℕ → ℕ → ℕ → Type 0
+IsRunOf (Some r) Works most before now = now ≤ most
+IsRunOf (Some r) (Refuses why) most before now = now ≡ before
+IsRunOf None luck most before now = now ≡ before
+
+abbrev pub HasRun : {D : Type 0} → PeerValue D → Call → Reply → PeerValue D → Type 0
+HasRun old call reply new = IsRunOf (added old call) (luck_of reply) (most_run old.rules call) old.last_run new.last_run
 
 -- the image keeps just these records
 abbrev pub Keeps : List Record → List ℕ → Type 0
@@ -164,6 +184,7 @@ HasCause disk old new errors.Full = disk.capacity old.disk < slot_length * (leng
 -- - `journal`: what a crash after it may leave.
 -- - `untouched`: where it adds no record the disk is not called.
 -- - `changes`: at most four writes and syncs in all.
+-- - `ran`: how many frames it runs.
 -- - `same`: match, player and disk stay.
 pub record IsAnswered {D : Type 0} (disk : Ghosts D) (old : PeerValue D) (call : Call) (reply : Reply) (new : PeerValue D) : Type 0 where
   pub step : IsStep old call reply new
@@ -172,11 +193,12 @@ pub record IsAnswered {D : Type 0} (disk : Ghosts D) (old : PeerValue D) (call :
   pub journal : LeavesJournal disk new
   pub untouched : added old call ≡ None → new.disk ≡ old.disk
   pub changes : disk.changes new.disk ≤ disk.changes old.disk + 4
+  pub ran : HasRun old call reply new
   pub same : IsSamePeer disk old new
 
 -- What is so of every peer between two calls.
 --
--- - `range`, `plays`: its rules are those of a game, and it is the peer of a player of it.
+-- - `range`, `low`, `plays`: its rules are those of a game, its room is one of 64 bits, and it is the peer of a player.
 -- - `is_journal`, `found_is`: its journal is one of this match and player, with the pending record too.
 -- - `memory`, `epoch_is`: the memory is in order, and its epoch is the journal's last.
 -- - `held`, `none_pending`: it is open, and then no record is pending, or down.
@@ -184,6 +206,7 @@ pub record IsAnswered {D : Type 0} (disk : Ghosts D) (old : PeerValue D) (call :
 -- - `still`: the same as a run of no calls, so that it joins to the runs of calls.
 pub record IsSound {D : Type 0} (disk : Ghosts D) (p : PeerValue D) : Type 0 where
   pub range : AreInRange p.rules
+  pub low : p.room < 2 ^ 64
   pub plays : (1 ≤ p.me) × (p.me ≤ p.rules.players)
   pub is_journal : IsJournal p.rules p.me p.room p.state.journal
   pub found_is : (finds : Bool) → IsJournal p.rules p.me p.room (found p.state finds)

@@ -14,7 +14,8 @@ use Rattle.c8_peer.specs.Opening.{Opening, found, opened, away, MayBecome}
 use Rattle.c8_disk.specs.declared.disk.Disk.{Ghosts}
 use Rattle.c8_peer.specs.declared.error.OpenError.{OpenError}
 use Rattle.c8_peer.specs.Peer.{Keeps}
-use Rattle.c8_peer.specs.Lawful.{IsCall}
+use Rattle.c8_record.specs.Allowed.{IsJournal}
+use Rattle.c8_peer.specs.Lawful.{IsMemory, IsCall}
 
 -- a peer that was never opened: nothing is asked of its memory
 abbrev pub never_opened : State
@@ -93,6 +94,13 @@ pub record IsReached (rules : Rules) (room me : ℕ) (s : State) : Type 0 where
   pub deeds : List Deed
   pub answers : List (Option Reply)
   pub run : IsRun rules room me never_opened deeds answers s
+
+-- A state from which a run may begin: what a reading of the disk finds is a journal of the rules; and while the peer is open its
+-- memory is in order, and nothing is pending.
+pub record IsLawful (rules : Rules) (room me : ℕ) (s : State) : Type 0 where
+  pub journal : (finds : Bool) → IsJournal rules me room (found s finds)
+  pub memory : s.mode ≡ states.Open → IsMemory rules room me s.journal s.memory
+  pub settled : s.mode ≡ states.Open → s.pending ≡ None
 
 -- the packet is said in one of these answers
 abbrev pub IsAmong : List (Option Reply) → Packet → Type 0

@@ -2,24 +2,29 @@
 //! function that does nothing.
 ghost use Rattle.std.specs.Prelude.{◌≡◌, ℕ, ◌^◌, ◌<◌, ◌≤◌, List, [], ◌∷◌, ◌++◌, Bool, true, Option, Ok, Err, Some};
 ghost use Rattle.c8_game.specs.Rules.{Rules, AreInRange};
-ghost use Rattle.c8_wire.specs.Packet.{Packet, IsPacket};
+ghost use Rattle.c8_wire.specs.Packet.{AreBytes, Packet, IsPacket};
+ghost use Rattle.c8_wire.specs.Read.{read};
+ghost use Rattle.c8_disk.specs.Disk.{Only};
 ghost use Rattle.c8_known.specs.Journal.{Record, epoch};
 ghost use Rattle.c8_known.specs.Known.{known_of};
 ghost use Rattle.c8_known.specs.Confirmed.{confirmed, rows_below};
 ghost use Rattle.c8_log.specs.Slots.{kept};
 ghost use Rattle.c8_record.specs.Allowed.{IsAllowed, IsJournal};
 ghost use Rattle.c8_record.specs.Body.{records_of};
-ghost use Rattle.c8_peer.specs.State.{Memory, Open, State, Call, Reply, Opened, Delivered, Said, fresh_memory};
+ghost use Rattle.c8_peer.specs.State.{Memory, Open, State, Call, Deliver, Reply, Opened, Delivered, Said, fresh_memory};
 ghost use Rattle.c8_peer.specs.Steps.{Luck, Works, outcome, step, IsPlainRefusal};
-ghost use Rattle.c8_peer.specs.Opening.{Stands, last_epoch, opening_record, found};
+ghost use Rattle.c8_disk.specs.declared.error.DiskError.{DiskError};
+ghost use Rattle.c8_peer.specs.Opening.{Opening, NotWritten, Stands, opened, MayBecome, IsServed, last_epoch, opening_record, found};
+ghost use Rattle.c8_peer.specs.Replies.{mode_told};
 ghost use Rattle.c8_peer.specs.Truth.{IsTrue};
 ghost use Rattle.c8_peer.specs.Lawful.{IsMemory, IsCall};
 ghost use Rattle.c8_peer.specs.Peer.{PeerValue, IsSound, IsAnswered, IsSaid, IsStep, Keeps, MayLeave, luck_of};
-ghost use Rattle.c8_peer.specs.Runs.{Deed, Does, Opens, IsDone, IsRun, IsReached, IsAmong, Tells, IsRefusedDeed, IsStoppedOpening, never_opened, known_at};
+ghost use Rattle.c8_peer.specs.Runs.{Deed, Does, Opens, IsDone, IsRun, IsLawful, IsReached, IsAmong, Tells, IsRefusedDeed, IsStoppedOpening, never_opened, known_at};
 ghost use Rattle.c8_peer.specs.Opened.{IsOpened, IsRefusedOpening, OpeningLeaves};
 
 use crate::error::{OpenError, Refused, Unsayable};
 use c8_disk::Disk;
+use c8_wire::laws::what_is_read_is_spelled;
 
 /// What is true of a journal stays true of every journal that the rules allow and that it begins.
 pub fn what_is_true_stays()
@@ -127,6 +132,76 @@ pub fn a_peers_word_stands()
         → rows_below (known_at rules me t) n ≡ rows_below (known_at rules me s) n }
 {}
 
+/// An answer tells how the peer stands after it: open, unless it tells that the disk refused the
+/// record, which takes the peer down; and open or away after an opening.
+pub fn answers_tell_modes()
+    ensures calls { (rules : Rules) (me : ℕ) (s : State) (call : Call) (luck : Luck)
+        → s.mode ≡ Open → (step rules me s call luck).state.mode
+        ≡ mode_told (step rules me s call luck).reply }
+    ensures openings { (rules : Rules) (room me : ℕ) (s : State) (found : List Record)
+        (opening : Opening) → (opened rules room me s found opening).state.mode
+        ≡ mode_told (opened rules room me s found opening).reply }
+{}
+
+/// An opening has one answer: what a reading finds, and what the disk and the memory do, decide it
+/// and the state after it. `served`: of what is found all openings that the disk and the memory
+/// serve to their end are one. `answer`: so they answer the same and leave the same state.
+/// `refused`: one whose record the disk refused would have stood.
+pub fn an_opening_has_one_answer()
+    ensures served { (rules : Rules) (room me : ℕ) (found : List Record) (one other : Opening)
+        → MayBecome rules room me found one → MayBecome rules room me found other
+        → IsServed one → IsServed other → one ≡ other }
+    ensures answer { (rules : Rules) (room me : ℕ) (s t u : State) (finds : Bool)
+        (one other : Opening) (answer second : Option Reply)
+        → IsDone rules room me s (Opens finds one) answer t
+        → IsDone rules room me s (Opens finds other) second u
+        → IsServed one → IsServed other → (answer ≡ second) × (t ≡ u) }
+    ensures refused { (rules : Rules) (room me : ℕ) (found : List Record) (why : DiskError)
+        (other : Opening)
+        → MayBecome rules room me found (NotWritten why) → MayBecome rules room me found other
+        → IsServed other → other ≡ Stands }
+{}
+
+/// The same from any lawful state, such as that of a peer on a journal that was brought from
+/// elsewhere: in which what a reading of the disk finds is a journal of the rules (`IsLawful`).
+/// `sound`: each peer is in such a state; `reached`: so is one that a run from the start leads to;
+/// `stays`: so it is after every run.
+pub fn a_word_stands_from_any_journal<D: Disk>()
+    ensures sound { (p : PeerValue D) → IsSound D.Disk p
+        → IsLawful p.rules p.room p.me p.state }
+    ensures reached { (rules : Rules) (room me : ℕ) (s : State)
+        → AreInRange rules → 1 ≤ me → me ≤ rules.players → room < 2 ^ 64
+        → IsReached rules room me s → IsLawful rules room me s }
+    ensures stays { (rules : Rules) (room me : ℕ) (s t : State) (deeds : List Deed)
+        (answers : List (Option Reply))
+        → AreInRange rules → 1 ≤ me → me ≤ rules.players → room < 2 ^ 64
+        → IsLawful rules room me s → IsRun rules room me s deeds answers t
+        → IsLawful rules room me t }
+    ensures said { (rules : Rules) (room me : ℕ) (s t : State) (deeds : List Deed)
+        (answers : List (Option Reply)) (packet : Packet)
+        → AreInRange rules → 1 ≤ me → me ≤ rules.players → room < 2 ^ 64
+        → IsLawful rules room me s → IsRun rules room me s deeds answers t
+        → IsAmong answers packet → IsTrue rules me t.journal packet }
+    ensures confirmed { (rules : Rules) (room me : ℕ) (s t : State) (deeds : List Deed)
+        (answers : List (Option Reply))
+        → AreInRange rules → 1 ≤ me → me ≤ rules.players → room < 2 ^ 64
+        → IsLawful rules room me s → IsRun rules room me s deeds answers t
+        → confirmed (known_at rules me s) ≤ confirmed (known_at rules me t) }
+    ensures rows { (rules : Rules) (room me n : ℕ) (s t : State) (deeds : List Deed)
+        (answers : List (Option Reply))
+        → AreInRange rules → 1 ≤ me → me ≤ rules.players → room < 2 ^ 64
+        → IsLawful rules room me s → IsRun rules room me s deeds answers t
+        → n ≤ confirmed (known_at rules me s)
+        → rows_below (known_at rules me t) n ≡ rows_below (known_at rules me s) n }
+{}
+
+/// A delivery of any bytes is a call of the definitions.
+pub fn deliveries_are_calls()
+    ensures { (bytes : List ℕ) → AreBytes bytes → IsCall (Deliver (read bytes)) }
+{
+    what_is_read_is_spelled();
+}
+
 /// One run after another is a run.
 pub fn runs_join()
     ensures run { (rules : Rules) (room me : ℕ) (s t u : State) (deeds more : List Deed)
@@ -175,8 +250,12 @@ pub fn what_disks_tell<D: Disk>()
 /// Each opening of a peer is a deed of a run, by what its contract says of it: of a disk whose
 /// journal, as a read gives it, is that of a state with the pending record or without. What a
 /// refused opening leaves of the disk tells the state after it, and what a crash inside an opening
-/// leaves (`inside`) is what a stop in a run finds.
+/// leaves (`inside`) is what a stop in a run finds. A disk of which a crash leaves only what a read
+/// gives tells each state of which a read gives the journal (`settled`).
 pub fn openings_are_deeds<D: Disk>()
+    ensures settled { (disk : D) (s : State) (finds : Bool)
+        → Only (D.seen disk) (D.may_leave disk) → Keeps (found s finds) (D.seen disk)
+        → Tells D.Disk s disk }
     ensures opened { (disk : D) (rules : Rules) (room me : ℕ) (s : State) (finds : Bool)
         (p : PeerValue D)
         → IsOpened D.Disk disk rules room me p → (s.mode ≡ Open → ⊥)

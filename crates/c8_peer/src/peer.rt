@@ -9,7 +9,7 @@ ghost use Rattle.c8_roll.specs.Roll.{roll_of};
 ghost use Rattle.c8_roll.specs.Seen.{value_of as seen, last_run_of};
 ghost use Rattle.c8_roll.specs.Rollback.{IsWithinWindow};
 ghost use Rattle.c8_peer.specs.State.{Open, Down};
-ghost use Rattle.c8_peer.specs.Held.{is_opening, WasRoll};
+ghost use Rattle.c8_peer.specs.Held.{is_opening, most_run_with, WasRoll};
 
 mod calls;
 mod hear;
@@ -61,6 +61,7 @@ impl<'g, D: Disk> Model for Peer<'g, D> {
       me = p.known.me;
       disk = p.journal.disk;
       state = state_of p.journal.bodies p.journal.pending p.journal.is_down p.memory;
+      last_run = last_run_of p.roll;
     } };
 
     ghost invariant = { λ p. IsPeer p.game.now p.room p.journal p.known p.memory
@@ -117,7 +118,10 @@ impl<'g, D: Disk> Peer<'g, D> {
           state = record self.old.state {
             journal = self.old.state.journal ++ value_of lent.now ∷ [];
           };
+          last_run = self.new.last_run;
         }) }
+        ensures ran { OnOk result
+            (self.new.last_run ≤ most_run_with self.old.rules (value_of lent.now)) }
         ensures err { OnErr result (self.new ≡ record self.old {
           disk = self.new.disk;
           state = record self.old.state { pending = Some (value_of lent.now); mode = Down };
@@ -156,6 +160,8 @@ fn go_on(roll: &mut Roll<'_>, known: &Known)
     ensures grown { seen roll.new ≡ roll_of (seen roll.old).rules known.now }
     ensures bound { IsWithinWindow (seen roll.old)
         → last_run_of roll.new ≤ (seen roll.old).rules.window + 1 }
+    ensures settled { IsWithinWindow (seen roll.old) → known.now.ticks ≤ (seen roll.old).ticks
+        → last_run_of roll.new ≤ (seen roll.old).rules.window }
 {
     if known.ticks() > roll.ticks() {
         roll.advance(known);

@@ -1,9 +1,10 @@
 -- Checked, not believed: a journal's records and the bodies that spell them, and that these are refused for nothing.
-use Rattle.std.proofs.Common.{◌≡◌, ⊎_elim, ℕ, List, [], map, take, slice_index_or, Some, sym, ap, subst, ◌∙◌}
+use Rattle.std.proofs.Common.{◌≡◌, ◌<◌, inl, inr, ⊎_elim, ℕ, zero, suc, List, [], ◌∷◌, map, take, slice_index_or, Some, refl, sym, ap, subst, ◌∙◌, arith}
+use Rattle.std.proofs.lemmas.Bool.{cases_lt}
 use Rattle.std.specs.List.{slice_get, All}
 use Rattle.std.specs.Option.{option_map}
-use Rattle.std.proofs.lemmas.List.{take-map}
-use Rattle.std.proofs.lemmas.Option.{slice_get-map, slice_get-get_or}
+use Rattle.std.proofs.lemmas.List.{take-map, take-take}
+use Rattle.std.proofs.lemmas.Option.{slice_get-map, slice_get-get_or, slice_get_within, get_or_from_slice_get}
 use Rattle.c8_game.specs.Rules.{Rules, id_of}
 use Rattle.c8_known.specs.Journal.{Record, Head}
 use Rattle.c8_known.specs.Known.{known_of}
@@ -11,8 +12,8 @@ use Rattle.c8_record.specs.declared.error.ReplayError.{ReplayError}
 use Rattle.c8_record.specs.declared.error.ReplayError.TheVariants.{WrongGame, WrongPlayer, BadRecord, Disk}
 use Rattle.c8_record.specs.Body.{body_of, Spells, record_of, records_of, HasSpelling}
 use Rattle.c8_record.specs.Allowed.{IsAllowed, IsJournal}
-use Rattle.c8_record.specs.Replay.{AreJournalBodies, IsRefusal}
-use Rattle.c8_record.specs.BodyLaws.{reads_back, records_back, bodies_spell}
+use Rattle.c8_record.specs.Replay.{AreJournalBodies, BeginsWithHead, IsFirstBad, IsRefusal}
+use Rattle.c8_record.specs.BodyLaws.{reads_back, one_record, records_back, bodies_spell}
 
 -- ---- a journal's bodies
 
@@ -57,3 +58,77 @@ not_refused rules me room bodies (Disk why) are none = none
 
 pub journal_not_refused : (rules : Rules) (me room : ℕ) (journal : List Record) (error : ReplayError) → IsJournal rules me room journal → IsRefusal rules me room (map body_of journal) error → ⊥
 journal_not_refused rules me room journal error is = not_refused rules me room (map body_of journal) error (journal_bodies rules me room journal is)
+
+-- ---- bodies are refused for one reason
+
+in_front : (bodies : List (List ℕ)) (m n : ℕ) (body : List ℕ) → n < m → slice_get bodies n ≡ Some body → slice_get (take m bodies) n ≡ Some body
+in_front [] m n body before is = absurd cc
+in_front (first ∷ rest) zero n body before is = absurd (omega (arith, before))
+in_front (first ∷ rest) (suc m) zero body before is = is
+in_front (first ∷ rest) (suc m) (suc n) body before is = in_front rest m n body (omega (arith, before)) is
+
+-- of two first bad bodies neither is the earlier
+no_earlier : (rules : Rules) (me room : ℕ) (bodies : List (List ℕ)) (n m : ℕ) → n < m → IsFirstBad rules me room bodies n → IsFirstBad rules me room bodies m → ⊥
+no_earlier rules me room bodies n m before one other =
+    let body = slice_index_or bodies n [] in
+    let here : slice_get bodies n ≡ Some body = slice_get-get_or bodies n [] one.within in
+    let there = in_front bodies m n body before here in
+    let spelled : Spells body (record_of body) =
+    subst (λ (b : List ℕ). Spells b (record_of b)) (get_or_from_slice_get (take m bodies) n body [] there) (other.before.spelled n [] (slice_get_within (take m bodies) n body there)) in
+    let may : IsAllowed rules me room (records_of (take n bodies)) (record_of body) =
+    subst (λ (early : List (List ℕ)). IsAllowed rules me room (records_of early) (record_of body)) (take-take n m bodies (omega (arith, before))) (body_allowed rules me room (take m bodies) n body other.before there) in
+    one.bad body (record_of body) here spelled may
+
+one_first_bad : (rules : Rules) (me room : ℕ) (bodies : List (List ℕ)) (n m : ℕ) → IsFirstBad rules me room bodies n → IsFirstBad rules me room bodies m → n ≡ m
+one_first_bad rules me room bodies n m one other = elim (cases_lt n m) [
+  | inl before ↦ absurd (no_earlier rules me room bodies n m before one other)
+  | inr from ↦ elim (cases_lt m n) [
+    | inl before ↦ absurd (no_earlier rules me room bodies m n before other one)
+    | inr to ↦ omega (arith, from, to)
+  ]
+]
+
+-- one body that begins is one HEAD
+one_head : (bodies : List (List ℕ)) (p q : ℕ) (id other : List ℕ) (room named : ℕ) → BeginsWithHead bodies p id room → BeginsWithHead bodies q other named → Head p id room ≡ Head q other named
+one_head bodies p q id other room named (body, first, spells) (again, second, spelled) =
+    let same : again ≡ body = cc in
+    one_record body (Head p id room) (Head q other named) spells (subst (λ (b : List ℕ). Spells b (Head q other named)) same spelled)
+
+-- a HEAD that begins all begins the first n, unless n is 0
+begins_front : (bodies : List (List ℕ)) (n player : ℕ) (id : List ℕ) (room : ℕ) → 0 < n → BeginsWithHead bodies player id room → BeginsWithHead (take n bodies) player id room
+begins_front bodies n player id room some (body, first, spells) = (body, in_front bodies n 0 body some first, spells)
+
+-- a HEAD that is wrong is no body after which another one is the first bad
+no_bad_after_game : (rules : Rules) (me room : ℕ) (bodies : List (List ℕ)) (n : ℕ) → IsRefusal rules me room bodies WrongGame → IsRefusal rules me room bodies (BadRecord n) → ⊥
+no_bad_after_game rules me room bodies n (player, id, named, head, other) (bad, no_head) =
+    let nonzero = no_head player id named head in
+    let some : 0 < n = elim (cases_lt 0 n) [ | inl more ↦ more | inr none ↦ absurd (nonzero (omega (arith, none))) ] in
+    not_refused rules me room (take n bodies) WrongGame bad.before (player, id, named, begins_front bodies n player id named some head, other)
+
+no_bad_after_player : (rules : Rules) (me room : ℕ) (bodies : List (List ℕ)) (n : ℕ) → IsRefusal rules me room bodies WrongPlayer → IsRefusal rules me room bodies (BadRecord n) → ⊥
+no_bad_after_player rules me room bodies n (player, head, other) (bad, no_head) =
+    let nonzero = no_head player (id_of rules) room head in
+    let some : 0 < n = elim (cases_lt 0 n) [ | inl more ↦ more | inr none ↦ absurd (nonzero (omega (arith, none))) ] in
+    not_refused rules me room (take n bodies) WrongPlayer bad.before (player, begins_front bodies n player (id_of rules) room some head, other)
+
+no_game_and_player : (rules : Rules) (me room : ℕ) (bodies : List (List ℕ)) → IsRefusal rules me room bodies WrongGame → IsRefusal rules me room bodies WrongPlayer → ⊥
+no_game_and_player rules me room bodies (player, id, named, head, other) (again, second, mine) =
+    let same = one_head bodies player again id (id_of rules) named room head second in
+    let game : id ≡ id_of rules = cc in
+    let match : named ≡ room = cc in
+    ⊎_elim (λ differs. differs game) (λ differs. differs match) other
+
+pub one_refusal : (rules : Rules) (me room : ℕ) (bodies : List (List ℕ)) (one other : ReplayError) → IsRefusal rules me room bodies one → IsRefusal rules me room bodies other → one ≡ other
+one_refusal rules me room bodies WrongGame WrongGame one other = refl
+one_refusal rules me room bodies WrongGame WrongPlayer one other = absurd (no_game_and_player rules me room bodies one other)
+one_refusal rules me room bodies WrongGame (BadRecord n) one other = absurd (no_bad_after_game rules me room bodies n one other)
+one_refusal rules me room bodies WrongGame (Disk why) one other = absurd other
+one_refusal rules me room bodies WrongPlayer WrongGame one other = absurd (no_game_and_player rules me room bodies other one)
+one_refusal rules me room bodies WrongPlayer WrongPlayer one other = refl
+one_refusal rules me room bodies WrongPlayer (BadRecord n) one other = absurd (no_bad_after_player rules me room bodies n one other)
+one_refusal rules me room bodies WrongPlayer (Disk why) one other = absurd other
+one_refusal rules me room bodies (BadRecord n) WrongGame one other = absurd (no_bad_after_game rules me room bodies n other one)
+one_refusal rules me room bodies (BadRecord n) WrongPlayer one other = absurd (no_bad_after_player rules me room bodies n other one)
+one_refusal rules me room bodies (BadRecord n) (BadRecord m) one other = ap BadRecord (one_first_bad rules me room bodies n m one.0 other.0)
+one_refusal rules me room bodies (BadRecord n) (Disk why) one other = absurd other
+one_refusal rules me room bodies (Disk why) other one second = absurd one

@@ -68,6 +68,13 @@ pub fn journals_are_not_refused()
         → AreJournalBodies rules me room bodies → IsRefusal rules me room bodies error → ⊥ }
 {}
 
+/// Bodies that are refused are refused for one reason alone.
+pub fn a_refusal_has_one_reason()
+    ensures { (rules : Rules) (me room : ℕ) (bodies : List (List ℕ)) (one other : ReplayError)
+        → IsRefusal rules me room bodies one → IsRefusal rules me room bodies other
+        → one ≡ other }
+{}
+
 /// Who may leave in whose journal, and who is cut leaves.
 pub fn leavers_are_orderly()
     ensures { (rules : Rules) (me room : ℕ) (journal : List Record)

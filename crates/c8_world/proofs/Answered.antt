@@ -18,7 +18,7 @@ use Rattle.c8_world.specs.World.{World, is_player, peer_of, journal_of, Act, Ope
 use Rattle.c8_world.specs.Agreement.{IsPlayer, IsUndropped, NobodyLeaves, refused_for}
 use Rattle.c8_world.proofs.Events.{IsWorldly}
 use Rattle.c8_world.proofs.Worlds.{IsSound, plays_if}
-use Rattle.c8_world.proofs.Reached.{reached_sound, reached_later, peers_agree, inputs_entered, begins_own, said_holds, said_spells, links_name, cut_bounds}
+use Rattle.c8_world.proofs.Reached.{reached_sound, reached_later, peers_agree, inputs_entered, begins_own, said_holds, said_spells, links_name, cut_bounds, reports_bound, stayers_froze}
 use Rattle.c8_world.specs.Headline.{IsHeadline}
 use Rattle.c8_world.proofs.Openings.{after_if, openings_fit}
 use Rattle.c8_world.proofs.Replies.{IsCalm, AnswersCalmly, EndsCalmly, calm_other, unrefused, teller_of, calm_call}
@@ -170,6 +170,8 @@ headline laws rules room w v events answers range few reached chain =
       spelled = λ packet. said_spells laws rules room v packet range few later;
       linked = λ p q. links_name laws rules room v p q range few later;
       bounded = λ p. cut_bounds laws rules room v p range few later;
+      reports = λ p. reports_bound laws rules room v p range few later;
+      frozen = λ p. stayers_froze laws rules room v p range few later;
       known = λ p number answer u. never_differs laws rules room v u p number answer range few later;
       marks = λ p number packet answer u. never_desync laws rules room v u p number packet answer range few later;
       acks = λ p number answer u. never_bad_ack laws rules room v u (Do (Give number p)) answer range few later;

@@ -93,7 +93,7 @@ or_true : (a b : Bool) → (a || (true || b)) ≡ true
 or_true true b = refl
 or_true false b = refl
 
-has_freeze_at : (L : ℕ) (before rest : List Record) → has_freeze L (before ++ Freeze L ∷ rest) ≡ true
+pub has_freeze_at : (L : ℕ) (before rest : List Record) → has_freeze L (before ++ Freeze L ∷ rest) ≡ true
 unfolding has_freeze
 has_freeze_at L before rest = freeze_more L before (Freeze L ∷ rest) ∙ rw (eq-eqb L L refl) (or_true (has_freeze L before) (list_any (freezes L) rest))
 

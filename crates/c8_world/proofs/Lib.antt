@@ -17,4 +17,6 @@ mod OpenedLemmas
 mod StopLemmas
 mod LifeLemmas
 mod DiskLemmas
+mod TurnLemmas
+mod ModeLemmas
 mod EndLemmas

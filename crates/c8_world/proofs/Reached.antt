@@ -1,11 +1,11 @@
 -- What holds of every world that some list of events leads to.
-use Rattle.std.proofs.Common.{◌≡◌, ◌≢◌, ℕ, zero, suc, ◌<◌, ◌≤◌, ◌^◌, inl, inr, List, [], ◌∷◌, ◌++◌, length, true, false, None, refl, sym, ap, subst, ◌∙◌, arith}
+use Rattle.std.proofs.Common.{◌≡◌, ◌≢◌, ℕ, zero, suc, ◌<◌, ◌≤◌, ◌^◌, inl, inr, ⊎_elim, List, [], ◌∷◌, ◌++◌, length, true, false, None, refl, sym, ap, subst, ◌∙◌, arith}
 use Rattle.std.proofs.lemmas.Bool.{cases_eq}
 use Rattle.c8_game.specs.Rules.{Rules, AreInRange}
 use Rattle.c8_wire.specs.Packet.{Packet}
 use Rattle.c8_wire.specs.Spelling.{spelling, Spells}
 use Rattle.c8_hand.specs.Links.{link_to}
-use Rattle.c8_known.specs.Journal.{Record, held, had_epoch, has_leave}
+use Rattle.c8_known.specs.Journal.{Record, held, had_epoch, has_freeze, has_leave}
 use Rattle.c8_known.specs.Known.{known_of}
 use Rattle.c8_known.specs.Confirmed.{confirmed, rows_below}
 use Rattle.c8_known.specs.Growth.{Begins}
@@ -14,8 +14,8 @@ use Rattle.c8_peer.specs.Opening.{found, away}
 use Rattle.c8_peer.specs.Truth.{IsTrue}
 use Rattle.c8_world.specs.Below.{ArePeersLawful}
 use Rattle.c8_world.specs.World.{World, start, peer_of, journal_of, with_peer, Event, Answer, Chain, IsReached}
-use Rattle.c8_world.specs.Agreement.{IsPlayer, NobodyLeaves, AreSameUpTo, AgreeUpTo, Agree, AreEntered, IsBounded, Reads, read_by, AgreeByReads, IsAmong, AreLinked}
-use Rattle.c8_world.proofs.Journals.{AreSound, player_one}
+use Rattle.c8_world.specs.Agreement.{IsPlayer, NobodyLeaves, AreSameUpTo, AgreeUpTo, Agree, AreEntered, IsBounded, AreReports, HasFrozen, Reads, read_by, AgreeByReads, IsAmong, AreLinked}
+use Rattle.c8_world.proofs.Journals.{AreSound, has_freeze_at, player_one}
 use Rattle.c8_world.proofs.Moments.{bounded_at, rows_agree, same_up_to, moments_agree, confirmed_entered}
 use Rattle.c8_world.proofs.Worlds.{IsSound, peer_here, peer_there, crash_sound, chain_sound, start_sound}
 
@@ -47,6 +47,22 @@ links_name laws rules room w p q range few is plays here opens =
 pub cut_bounds : (laws : ArePeersLawful) (rules : Rules) (room : ℕ) (w : World) (p : ℕ) → AreInRange rules → room < 2 ^ 64 → IsReached rules room w → IsPlayer rules p → IsBounded rules w p
 cut_bounds laws rules room w p range few is plays stays leaver K leaver_plays cut =
     bounded_at rules room (journal_of w) p leaver K range (reached_sound laws rules room w range few is).journals plays leaver_plays stays cut
+
+pub reports_bound : (laws : ArePeersLawful) (rules : Rules) (room : ℕ) (w : World) (p : ℕ) → AreInRange rules → room < 2 ^ 64 → IsReached rules room w → IsPlayer rules p → AreReports rules w p
+reports_bound laws rules room w p range few is plays here leaver n told uncut =
+    let sound = reached_sound laws rules room w range few is in
+    let one = player_one rules range in
+    let at = ((sound.peers 1 one).awake here).chair refl leaver p n plays told in
+    let less = at.few in
+    ⊎_elim
+    (λ no_more. omega (arith, no_more, less))
+    (λ later. absurd (let never = sym uncut ∙ later.1 in cc))
+    (sound.journals.frozen p leaver at.before at.rest plays at.is)
+
+pub stayers_froze : (laws : ArePeersLawful) (rules : Rules) (room : ℕ) (w : World) (p : ℕ) → AreInRange rules → room < 2 ^ 64 → IsReached rules room w → IsPlayer rules p → HasFrozen w p
+stayers_froze laws rules room w p range few is plays stays other leaver K cut =
+    let at = (reached_sound laws rules room w range few is).journals.decided leaver K p cut plays other stays in
+    ap (has_freeze leaver) at.is ∙ has_freeze_at leaver at.before at.rest
 
 -- ---- two moments
 

@@ -1,13 +1,14 @@
 -- What all peers of a world have in common.
-use Rattle.std.specs.Prelude.{◌≡◌, ◌≢◌, ℕ, ◌<◌, ◌≤◌, ◌⊎◌, List, true, false, Bool, Option, Some, Err}
+use Rattle.std.specs.Prelude.{◌≡◌, ◌≢◌, ℕ, ◌<◌, ◌≤◌, ◌⊎◌, List, true, false, Bool, Option, Some, None, Err}
 use Rattle.std.specs.List.{slice_get}
 use Rattle.c8_game.specs.Rules.{Rules}
 use Rattle.c8_machine.specs.Serial.{serial}
 use Rattle.c8_wire.specs.Packet.{Packet}
 use Rattle.c8_hand.specs.Links.{link_to}
-use Rattle.c8_known.specs.Journal.{Record, held, count, had_epoch, has_leave, cut_of}
+use Rattle.c8_known.specs.Journal.{Record, held, count, had_epoch, has_freeze, has_leave, cut_of}
 use Rattle.c8_known.specs.Known.{KnownValue, player_in, known_of}
 use Rattle.c8_known.specs.Confirmed.{input_of, confirmed, rows_below}
+use Rattle.c8_round.specs.Round.{report_of}
 use Rattle.c8_peer.specs.declared.error.OpenError.{OpenError}
 use Rattle.c8_peer.specs.declared.error.OpenError.TheVariants as opens
 use Rattle.c8_peer.specs.declared.error.Refused.{Refused}
@@ -60,6 +61,15 @@ AreEntered rules earlier later p = (frame q : ℕ) → IsPlayer rules q → fram
 -- who is undropped holds no more of a leaver's inputs than player one's cut
 abbrev pub IsBounded : Rules → World → ℕ → Type 0
 IsBounded rules w p = IsUndropped w p → (leaver K : ℕ) → IsPlayer rules leaver → cut_of leaver (journal_of w 1) ≡ Some K → count rules leaver (journal_of w p) ≤ K
+
+-- Before player one has cut a leaver's list, what a player answered it is at least what that player holds of the leaver.
+abbrev pub AreReports : Rules → World → ℕ → Type 0
+AreReports rules w p = ((peer_of w 1).mode ≡ Away → ⊥) → (leaver n : ℕ) → report_of (peer_of w 1).memory.chair leaver p ≡ Some n → cut_of leaver (journal_of w 1) ≡ None
+    → count rules leaver (journal_of w p) ≤ n
+
+-- where player one has cut a leaver's list, each other player who is undropped has frozen the leaver
+abbrev pub HasFrozen : World → ℕ → Type 0
+HasFrozen w p = IsUndropped w p → p ≢ 1 → (leaver K : ℕ) → cut_of leaver (journal_of w 1) ≡ Some K → has_freeze leaver (journal_of w p) ≡ true
 
 -- ---- the same by what reads of the disks give
 

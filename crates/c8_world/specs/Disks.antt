@@ -1,9 +1,19 @@
--- What the disks of a world have room for, and when they were told to fail.
-use Rattle.std.specs.Prelude.{◌≡◌, ◌≤◌, ◌⊎◌, ℕ, List, [], ◌∷◌, ◌++◌, nat_eq, if◌then◌else◌, Option, Some, None}
+-- What the disks of a world have room for, when they were told to fail, and why they are blamed.
+use Rattle.std.specs.Prelude.{◌≡◌, ◌≢◌, ◌≤◌, ◌<◌, ◌⊎◌, ℕ, ◌+◌, ◌*◌, List, [], ◌∷◌, ◌++◌, length, nat_eq, if◌then◌else◌, Option, Some, None, Err}
 use Rattle.c8_disk.specs.declared.disk.Arm.{Arm}
 use Rattle.c8_disk.specs.declared.disk.Arm.TheVariants as arms
 use Rattle.c8_disk.specs.declared.mem_disk.MemDisk.{MemDisk}
-use Rattle.c8_disk.specs.Memory.{room_of, arms_of, value_of, new_value}
+use Rattle.c8_disk.specs.declared.error.DiskError.{DiskError}
+use Rattle.c8_disk.specs.declared.error.DiskError.TheVariants as errors
+use Rattle.c8_disk.specs.Memory.{bytes_of, room_of, arms_of, failures_of, value_of, new_value}
+use Rattle.c8_log.specs.Slots.{slot_length, kept}
+use Rattle.c8_peer.specs.declared.error.OpenError.TheVariants as opens
+use Rattle.c8_peer.specs.declared.error.TickError.TheVariants as ticks
+use Rattle.c8_peer.specs.declared.error.Refused.TheVariants as refusals
+use Rattle.c8_peer.specs.declared.error.LeaveError.TheVariants as leaves
+use Rattle.c8_peer.specs.declared.error.DecideError.TheVariants as decides
+use Rattle.c8_world.specs.declared.answer.Answer as codes
+use Rattle.c8_world.specs.declared.answer.Answer.TheVariants as answers
 use Rattle.c8_world.specs.declared.event.Event as asked
 use Rattle.c8_world.specs.declared.event.Event.TheVariants as happenings
 use Rattle.c8_world.specs.declared.seat.Seat.{Seat}
@@ -11,7 +21,7 @@ use Rattle.c8_world.specs.declared.seat.Seat.TheVariants as seats
 use Rattle.c8_world.specs.World.{player_of}
 use Rattle.c8_world.specs.Events.{act_of}
 use Rattle.c8_world.specs.Agreement.{IsPlayer}
-use Rattle.c8_world.specs.Table.{TableValue, seat_of}
+use Rattle.c8_world.specs.Table.{TableValue, seat_of, act_in}
 
 -- the bytes that a disk has room for, and all that it was told of when its calls fail, the oldest first
 pub record Setting : Type 0 where
@@ -70,3 +80,61 @@ pub record AreArmedOut (events : List asked.Event) (old new : TableValue) : Type
 -- the disk of a peer that was never opened: empty, with room for so many bytes and as many calls to serve
 abbrev pub IsNewDisk : ℕ → ℕ → Option Seat → Type 0
 IsNewDisk capacity calls seat = (disk : MemDisk) × (seat ≡ Some (seats.Away disk)) × (value_of disk ≡ new_value capacity calls)
+
+-- ---- why a disk is blamed
+
+-- the answer says that the disk refused, and why
+abbrev pub Blames : codes.Answer → DiskError → Type 0
+Blames (answers.Opened result) why = result ≡ Err (opens.Disk why)
+Blames answers.Up why = ⊥
+Blames (answers.Ticked result) why = result ≡ Err (ticks.Disk why)
+Blames (answers.Said result) why = ⊥
+Blames (answers.Delivered result) why = result ≡ Err (refusals.Disk why)
+Blames answers.NoSuch why = ⊥
+Blames (answers.Left result) why = result ≡ Err (leaves.Disk why)
+Blames (answers.Decided result) why = result ≡ Err (decides.Disk why)
+Blames answers.Down why = ⊥
+Blames answers.Stopped why = ⊥
+
+-- Why a disk may be blamed: it failed meanwhile; or it had no room for one record more than it kept, and the gate after that.
+abbrev pub IsToBlame : DiskError → MemDisk → MemDisk → Type 0
+IsToBlame errors.Failed old new = failures_of old < failures_of new
+IsToBlame errors.Full old new = room_of old < slot_length * (length (kept (bytes_of old)) + 1) + 1
+
+abbrev pub disk_in : Seat → MemDisk
+disk_in (seats.Held peer) = peer.disk
+disk_in (seats.Away disk) = disk
+
+-- where an answer blames the disk of a seat, it is to blame
+abbrev pub IsCaused : codes.Answer → Seat → Seat → Type 0
+IsCaused answer old new = (why : DiskError) → Blames answer why → IsToBlame why (disk_in old) (disk_in new)
+
+abbrev pub AreToBlame : DiskError → Option Seat → Option Seat → Type 0
+AreToBlame why None new = ⊥
+AreToBlame why (Some old) None = ⊥
+AreToBlame why (Some old) (Some new) = IsToBlame why (disk_in old) (disk_in new)
+
+-- the seats of all players but one are as they were
+abbrev pub OthersStay : ℕ → TableValue → TableValue → Type 0
+OthersStay player old new = (p : ℕ) → IsPlayer old.rules p → p ≢ player → seat_of new p ≡ seat_of old p
+
+-- What an act that is answered so makes of the seats: those of other players stay, and the disk of its own player is blamed only
+-- where it is to blame.
+pub record IsTurn (player : ℕ) (answer : codes.Answer) (old new : TableValue) : Type 0 where
+  pub others : OthersStay player old new
+  pub caused : (why : DiskError) → Blames answer why → AreToBlame why (seat_of old player) (seat_of new player)
+
+-- events one after another, each a turn of its player
+abbrev pub AreTurns : List asked.Event → List codes.Answer → TableValue → TableValue → Type 0
+AreTurns [] [] old new = new ≡ old
+AreTurns [] (answer ∷ answers) old new = ⊥
+AreTurns (event ∷ events) [] old new = ⊥
+AreTurns (event ∷ events) (answer ∷ answers) old new = (mid : TableValue) × IsTurn (player_of (act_in event)) answer old mid × AreTurns events answers mid new
+
+-- those before some event, with these answers
+pub record AreFirstTurns (events : List asked.Event) (answers : List codes.Answer) (old : TableValue) : Type 0 where
+  pub before : List asked.Event
+  pub after : List asked.Event
+  pub at : events ≡ before ++ after
+  pub mid : TableValue
+  pub turns : AreTurns before answers old mid

@@ -10,7 +10,7 @@ use Rattle.c8_known.specs.declared.error.KnownError.TheVariants.{Differs}
 use Rattle.c8_peer.specs.declared.error.Refused.TheVariants.{BadAck, Desync, Known}
 use Rattle.c8_peer.specs.Truth.{IsTrue}
 use Rattle.c8_world.specs.World.{World, journal_of, Open, Give, Do, Answer, CanHappen}
-use Rattle.c8_world.specs.Agreement.{IsPlayer, IsUndropped, Agree, AreEntered, IsBounded, IsAmong, AreLinked, refused_for, IsFit}
+use Rattle.c8_world.specs.Agreement.{IsPlayer, IsUndropped, Agree, AreEntered, IsBounded, AreReports, HasFrozen, IsAmong, AreLinked, refused_for, IsFit}
 
 -- What is so of two moments.
 --
@@ -21,6 +21,8 @@ use Rattle.c8_world.specs.Agreement.{IsPlayer, IsUndropped, Agree, AreEntered, I
 -- - `said`, `spelled`: each datagram that was said is true of its sender's journal, and has a spelling.
 -- - `linked`: an open link names both epochs.
 -- - `bounded`: who is undropped holds no more of a leaver's inputs than the cut.
+-- - `reports`, `frozen`: before the cut an answer is at least what its stayer holds; after it each who is undropped has frozen
+--   the leaver.
 -- - `known`, `marks`, `acks`: a delivery at an undropped peer is never answered Differs, nor Desync where the sender is
 --   undropped too; none is answered BadAck.
 -- - `fit`: no opening of a player's peer is answered WrongGame, WrongPlayer or BadRecord.
@@ -32,6 +34,8 @@ pub record IsHeadline (rules : Rules) (room : ℕ) (earlier later : World) : Typ
   pub spelled : (packet : Packet) → IsAmong later.said packet → Spells (spelling packet) packet
   pub linked : (p q : ℕ) → IsPlayer rules p → AreLinked later p q
   pub bounded : (p : ℕ) → IsPlayer rules p → IsBounded rules later p
+  pub reports : (p : ℕ) → IsPlayer rules p → AreReports rules later p
+  pub frozen : (p : ℕ) → IsPlayer rules p → HasFrozen later p
   pub known : (p number : ℕ) (answer : Answer) (v : World) → IsUndropped later p → CanHappen rules room later (Do (Give number p)) answer v → answer ≢ refused_for (Known Differs)
   pub marks : (p number : ℕ) (packet : Packet) (answer : Answer) (v : World) → IsUndropped later p → slice_get later.said number ≡ Some packet → IsUndropped later packet.head.from
       → CanHappen rules room later (Do (Give number p)) answer v → answer ≢ refused_for Desync

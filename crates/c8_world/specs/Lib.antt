@@ -9,3 +9,4 @@ pub mod Run
 pub mod Headline
 pub mod Ends
 pub mod Disks
+pub mod Modes

@@ -9,4 +9,5 @@ pub(crate) fn peers_are_lawful()
     c8_round::laws::a_report_changes_one_place();
     c8_peer::laws::openings_are_lawful();
     c8_peer::laws::steps_are_lawful();
+    c8_peer::laws::answers_tell_modes();
 }

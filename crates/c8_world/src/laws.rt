@@ -13,8 +13,10 @@ ghost use Rattle.c8_peer.specs.declared.error.Refused.TheVariants.{BadAck, Desyn
 ghost use Rattle.c8_record.specs.Allowed.{IsJournal};
 ghost use Rattle.c8_peer.specs.Opening.{found};
 ghost use Rattle.c8_peer.specs.Truth.{IsTrue};
-ghost use Rattle.c8_world.specs.World.{World, Open, Give, Event, Do, Answer, CanHappen, Chain, IsReached, peer_of, journal_of};
-ghost use Rattle.c8_world.specs.Agreement.{IsPlayer, IsUndropped, NobodyLeaves, AgreeUpTo, Agree, AreEntered, IsBounded, Reads, AgreeByReads, IsAmong, AreLinked, refused_for, IsFit};
+ghost use Rattle.c8_peer.specs.State.{Open as Up, Away};
+ghost use Rattle.c8_world.specs.Modes.{mode_by};
+ghost use Rattle.c8_world.specs.World.{World, start, Act, Open, Give, player_of, Event, Do, Answer, IsDown, CanHappen, Chain, IsReached, peer_of, journal_of};
+ghost use Rattle.c8_world.specs.Agreement.{IsPlayer, IsUndropped, NobodyLeaves, AgreeUpTo, Agree, AreEntered, IsBounded, AreReports, HasFrozen, Reads, AgreeByReads, IsAmong, AreLinked, refused_for, IsFit};
 ghost use Rattle.c8_world.specs.Headline.{IsHeadline};
 ghost use Rattle.c8_world.specs.Matches.{two, three, four, GoesInTurn, StopsInTick, CutsWhereHeld, CutsAfterRestart, WaitsForSilent, DiffersWhenDropped, EndsAfterLastFrame, RefusesOther};
 
@@ -69,6 +71,23 @@ pub fn openings_find_journals()
     peers_are_lawful();
 }
 
+/// What was answered tells how each player's peer stands (`modes`): it is open after an opening that
+/// was answered Ok, until an answer tells that the disk refused a record, or a stop. So `Down` is
+/// answered only where no such opening was, or one of these came after it (`down`).
+pub fn answers_tell_modes()
+    ensures modes { (rules : Rules) (room : ℕ) (v : World) (events : List Event)
+        (answers : List Answer) (p : ℕ)
+        → AreInRange rules → room < 2 ^ 64 → Chain rules room (start rules) events answers v
+        → IsPlayer rules p → (peer_of v p).mode ≡ mode_by p Away events answers }
+    ensures down { (rules : Rules) (room : ℕ) (v u : World) (events : List Event)
+        (answers : List Answer) (act : Act)
+        → AreInRange rules → room < 2 ^ 64 → Chain rules room (start rules) events answers v
+        → IsPlayer rules (player_of act) → CanHappen rules room v (Do act) IsDown u
+        → mode_by (player_of act) Away events answers ≢ Up }
+{
+    peers_are_lawful();
+}
+
 /// Whatever happens between two moments: a peer at the earlier and a peer at the later one, both
 /// undropped at the later, have the same inputs and the same machine as far as both count frames
 /// as confirmed.
@@ -99,6 +118,20 @@ pub fn a_cut_bounds_who_stays()
     ensures { (rules : Rules) (room : ℕ) (w : World) (p : ℕ)
         → AreInRange rules → room < 2 ^ 64 → IsReached rules room w
         → IsPlayer rules p → IsBounded rules w p }
+{
+    peers_are_lawful();
+}
+
+/// What a drop round rests on. `reports`: before player one has cut a leaver's list, what a stayer
+/// answered it is at least what that stayer holds. `frozen`: where the list is cut, each other
+/// player who is undropped has frozen the leaver.
+pub fn answers_bound_who_stays()
+    ensures reports { (rules : Rules) (room : ℕ) (w : World) (p : ℕ)
+        → AreInRange rules → room < 2 ^ 64 → IsReached rules room w
+        → IsPlayer rules p → AreReports rules w p }
+    ensures frozen { (rules : Rules) (room : ℕ) (w : World) (p : ℕ)
+        → AreInRange rules → room < 2 ^ 64 → IsReached rules room w
+        → IsPlayer rules p → HasFrozen w p }
 {
     peers_are_lawful();
 }

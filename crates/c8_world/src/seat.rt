@@ -10,7 +10,8 @@ ghost use Rattle.c8_peer.specs.Runs.{crashed};
 ghost use Rattle.c8_wire.specs.Read.{read};
 ghost use Rattle.c8_world.specs.Seats.{IsSeat, IsAsked, IsOpenedSeat, IsSaidAt, Tells};
 ghost use Rattle.c8_world.specs.Ends.{IsStanding};
-ghost use Rattle.c8_world.specs.Disks.{setting_of, setting_of_disk, armed};
+ghost use Rattle.c8_world.specs.declared.answer.Answer.TheVariants.{Opened};
+ghost use Rattle.c8_world.specs.Disks.{setting_of, setting_of_disk, armed, disk_in, IsCaused};
 
 use crate::answer::{Answer, Counts};
 use crate::ends::Standing;
@@ -44,6 +45,8 @@ impl<'g> Seat<'g> {
             → IsSeat game.entry.now room player.number self.entry s
             → ((finds : Bool) → IsJournal game.entry.now player.number room (found s finds))
             → IsOpenedSeat game.entry.now room player.number s result.1 result.0 }
+        ensures caused { IfSome result.1 (λ opened.
+            IsCaused (Opened opened) self.entry result.0) }
         ensures setting { setting_of (Some result.0) ≡ setting_of (Some self.entry) }
     {
         if self.is_up() {
@@ -65,6 +68,7 @@ impl<'g> Seat<'g> {
     pub(crate) fn tick(&mut self, keys: Keys) -> Answer
         ensures asked { (rules : Rules) (room p : ℕ) (s : State) → IsSeat rules room p self.old s
             → IsAsked rules room p s (states.Tick keys.0) result self.new }
+        ensures caused { IsCaused result self.old self.new }
         ensures setting { setting_of (Some self.new) ≡ setting_of (Some self.old) }
     {
         match self {
@@ -88,6 +92,7 @@ impl<'g> Seat<'g> {
     pub(crate) fn deliver(&mut self, bytes: &[u8]) -> Answer
         ensures asked { (rules : Rules) (room p : ℕ) (s : State) → IsSeat rules room p self.old s
             → IsAsked rules room p s (states.Deliver (read bytes.now)) result self.new }
+        ensures caused { IsCaused result self.old self.new }
         ensures setting { setting_of (Some self.new) ≡ setting_of (Some self.old) }
     {
         match self {
@@ -105,6 +110,7 @@ impl<'g> Seat<'g> {
     pub(crate) fn leave(&mut self, leaver: Player) -> Answer
         ensures asked { (rules : Rules) (room p : ℕ) (s : State) → IsSeat rules room p self.old s
             → IsAsked rules room p s (states.Leave leaver.number) result self.new }
+        ensures caused { IsCaused result self.old self.new }
         ensures setting { setting_of (Some self.new) ≡ setting_of (Some self.old) }
     {
         match self {
@@ -122,6 +128,7 @@ impl<'g> Seat<'g> {
     pub(crate) fn decide(&mut self, leaver: Player) -> Answer
         ensures asked { (rules : Rules) (room p : ℕ) (s : State) → IsSeat rules room p self.old s
             → IsAsked rules room p s (states.Decide leaver.number) result self.new }
+        ensures caused { IsCaused result self.old self.new }
         ensures setting { setting_of (Some self.new) ≡ setting_of (Some self.old) }
     {
         match self {
@@ -194,6 +201,7 @@ impl<'g> Seat<'g> {
     fn into_disk(self) -> MemDisk
         ensures tells { (rules : Rules) (room p : ℕ) (s : State) → IsSeat rules room p self.entry s
             → Tells s result }
+        ensures disk { result ≡ disk_in self.entry }
         ensures setting { setting_of_disk result ≡ setting_of (Some self.entry) }
     {
         what_disks_tell::<MemDisk>();

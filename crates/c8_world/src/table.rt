@@ -11,7 +11,8 @@ ghost use Rattle.c8_world.specs.World.{World, peer_of, player_of, start, Open, T
 ghost use Rattle.c8_world.specs.Events.{act_of, event_of};
 ghost use Rattle.c8_disk.specs.declared.disk.Arm.TheVariants as arms;
 ghost use Rattle.c8_world.specs.Agreement.{IsPlayer};
-ghost use Rattle.c8_world.specs.Disks.{setting_of, KeepSettings, AreArmed, for_player, arms_by, arms_taken_back, IsNewDisk};
+ghost use Rattle.c8_disk.specs.declared.error.DiskError.{DiskError};
+ghost use Rattle.c8_world.specs.Disks.{setting_of, KeepSettings, AreArmed, for_player, arms_by, arms_taken_back, IsNewDisk, Blames, AreToBlame, OthersStay, IsTurn};
 ghost use Rattle.c8_world.specs.Ends.{IsStanding, AreStandings};
 ghost use Rattle.c8_world.specs.declared.seat.Seat.TheVariants.{Held};
 ghost use Rattle.c8_world.specs.Table.{IsTaken, IsUntouched, IsNotHeld, seat_of, IsOpenedAs, IsUnopened, IsSameMatch, Holds, HasHappened, HasNotHappened, HasCrashed, act_in};
@@ -89,6 +90,8 @@ fn open_seat<'g>(
         → IsTaken game.entry.now room player.number place.old s
         → ((finds : Bool) → IsJournal game.entry.now player.number room (found s finds))
         → IsUnopened game.entry.now room player.number s place.new) }
+    ensures caused { IfOk result (λ answer. (why : DiskError) → Blames answer why
+        → AreToBlame why place.old place.new) }
     ensures setting { setting_of place.new ≡ setting_of place.old }
 {
     let Some(seat) = place.take() else {
@@ -166,6 +169,8 @@ impl<'g> Table<'g> {
             → HasHappened self.old w (event_of event) answer self.new) }
         ensures memory { IfErr result (λ _. (w : World) → Holds self.old w
             → HasNotHappened self.old w (act_in event) self.new) }
+        ensures turn { IfOk result (λ answer.
+            IsTurn (player_of (act_in event)) answer self.old self.new) }
         ensures disks { IfOk result (λ _. AreArmed (arms_by event) self.old self.new) }
         ensures disks_out { IfErr result (λ _. AreArmed (arms_taken_back event) self.old self.new) }
     {
@@ -182,6 +187,8 @@ impl<'g> Table<'g> {
             → HasHappened self.old w (Stop (act_of act) calls pick) answer self.new) }
         ensures memory { IfErr result (λ _. (w : World) → Holds self.old w
             → HasNotHappened self.old w (act_of act) self.new) }
+        ensures turn { IfOk result (λ answer.
+            IsTurn (player_of (act_of act)) answer self.old self.new) }
         ensures disks { IfOk result (λ _. AreArmed
             (for_player (player_of (act_of act)) (arms.Stop calls ∷ [])) self.old self.new) }
         ensures disks_out { IfErr result (λ _. AreArmed
@@ -209,6 +216,8 @@ impl<'g> Table<'g> {
             → HasHappened self.old w (Do (act_of act)) answer self.new) }
         ensures memory { IfErr result (λ _. (w : World) → Holds self.old w
             → HasNotHappened self.old w (act_of act) self.new) }
+        ensures turn { IfOk result (λ answer.
+            IsTurn (player_of (act_of act)) answer self.old self.new) }
         ensures disks { KeepSettings self.old self.new }
     {
         match act {
@@ -228,6 +237,7 @@ impl<'g> Table<'g> {
             → HasHappened self.old w (Do (Open player.number)) answer self.new) }
         ensures memory { IfErr result (λ _. (w : World) → Holds self.old w
             → HasNotHappened self.old w (Open player.number) self.new) }
+        ensures turn { IfOk result (λ answer. IsTurn player.number answer self.old self.new) }
         ensures disks { KeepSettings self.old self.new }
     {
         self.game.in_range();
@@ -244,6 +254,7 @@ impl<'g> Table<'g> {
         ensures same { IsSameMatch self.old self.new }
         ensures happened { (w : World) → Holds self.old w
             → HasHappened self.old w (Do (Tick player.number keys.0)) result self.new }
+        ensures turn { IsTurn player.number result self.old self.new }
         ensures disks { KeepSettings self.old self.new }
     {
         if player.number > self.game.players() {
@@ -262,6 +273,7 @@ impl<'g> Table<'g> {
             → HasHappened self.old w (Do (Say player.number to.number (saying_of what))) answer self.new) }
         ensures memory { IfErr result (λ _. (w : World) → Holds self.old w
             → HasNotHappened self.old w (Say player.number to.number (saying_of what)) self.new) }
+        ensures turn { IfOk result (λ answer. IsTurn player.number answer self.old self.new) }
         ensures disks { KeepSettings self.old self.new }
     {
         if player.number > self.game.players() {
@@ -287,6 +299,7 @@ impl<'g> Table<'g> {
         ensures same { IsSameMatch self.old self.new }
         ensures happened { (w : World) → Holds self.old w
             → HasHappened self.old w (Do (Give number player.number)) result self.new }
+        ensures turn { IsTurn player.number result self.old self.new }
         ensures disks { KeepSettings self.old self.new }
     {
         self.game.in_range();
@@ -309,6 +322,7 @@ impl<'g> Table<'g> {
         ensures same { IsSameMatch self.old self.new }
         ensures happened { (w : World) → Holds self.old w
             → HasHappened self.old w (Do (Leave leaver.number)) result self.new }
+        ensures turn { IsTurn 1 result self.old self.new }
         ensures disks { KeepSettings self.old self.new }
     {
         self.game.in_range();
@@ -323,6 +337,7 @@ impl<'g> Table<'g> {
         ensures same { IsSameMatch self.old self.new }
         ensures happened { (w : World) → Holds self.old w
             → HasHappened self.old w (Do (Decide leaver.number)) result self.new }
+        ensures turn { IsTurn 1 result self.old self.new }
         ensures disks { KeepSettings self.old self.new }
     {
         self.game.in_range();
@@ -336,6 +351,7 @@ impl<'g> Table<'g> {
     fn arm(&mut self, player: Player, arm: Arm)
         ensures same { IsSameMatch self.old self.new }
         ensures holds { (w : World) → Holds self.old w → Holds self.new w }
+        ensures others { OthersStay player.number self.old self.new }
         ensures disks { AreArmed (for_player player.number (arm ∷ [])) self.old self.new }
     {
         if player.number > self.game.players() {
@@ -352,6 +368,7 @@ impl<'g> Table<'g> {
         ensures same { IsSameMatch self.old self.new }
         ensures crashed { (w : World) → Holds self.old w
             → HasCrashed self.old w player.number self.new }
+        ensures others { OthersStay player.number self.old self.new }
         ensures disks { KeepSettings self.old self.new }
     {
         if player.number > self.game.players() {

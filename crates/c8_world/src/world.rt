@@ -2,14 +2,14 @@
 ghost use Rattle.std.specs.Prelude.{◌≡◌, ◌≤◌, ◌<◌, ◌++◌, ◌∷◌, [], ℕ, length, vec_capacity, true, Some, IfOk, IfErr, OnOk, OnErr, MatchOption};
 ghost use Rattle.std.specs.List.{slice_get};
 ghost use Rattle.c8_world.specs.Events.{event_of};
-ghost use Rattle.c8_world.specs.World.{World as Moment, start};
+ghost use Rattle.c8_world.specs.World.{World as Moment, start, player_of};
 ghost use Rattle.c8_world.specs.Table.{seat_of, IsNotHeld, Holds, IsSameMatch, HasHappened, HasNotHappened, act_in};
 ghost use Rattle.c8_world.specs.Run.{IsLived, IsOpeningRefused, HasLivedOn, HasRun, HasRunOut, AreMoments, answers_before};
 ghost use Rattle.c8_world.specs.Headline.{IsHeadline};
 ghost use Rattle.c8_world.specs.Agreement.{Reads};
 ghost use Rattle.c8_world.specs.Ends.{AreEnds};
 ghost use Rattle.c8_world.specs.Agreement.{IsPlayer};
-ghost use Rattle.c8_world.specs.Disks.{AreArmed, AreArmedOut, IsNewDisk, arms_by, arms_in, arms_taken_back};
+ghost use Rattle.c8_world.specs.Disks.{AreArmed, AreArmedOut, IsNewDisk, arms_by, arms_in, arms_taken_back, IsTurn, AreTurns, AreFirstTurns};
 ghost use Rattle.c8_world.specs.declared.seat.Seat.TheVariants.{Held};
 
 use crate::answer::{Answer, Report};
@@ -93,6 +93,10 @@ impl<'g> World<'g> {
             → HasRunOut self.old.table w events.now (answers_before error) self.new.table) }
         ensures life_out { IfErr result (λ error.
             HasLivedOn self.old events.now (answers_before error) self.new) }
+        ensures turns { IfOk result (λ report.
+            AreTurns events.now report.answers.items self.old.table self.new.table) }
+        ensures turns_out { IfErr result (λ error.
+            AreFirstTurns events.now (answers_before error) self.old.table) }
         ensures disks { IfOk result (λ _.
             AreArmed (arms_in events.now) self.old.table self.new.table) }
         ensures disks_out { IfErr result (λ _.
@@ -137,6 +141,10 @@ impl<'g> World<'g> {
             → HasRunOut self.old.table w events.now answers.new.items self.new.table) }
         ensures life_out { OnErr result
             (HasLivedOn self.old events.now answers.new.items self.new) }
+        ensures turns { OnOk result
+            (AreTurns events.now answers.new.items self.old.table self.new.table) }
+        ensures turns_out { OnErr result
+            (AreFirstTurns events.now answers.new.items self.old.table) }
         ensures disks { OnOk result
             (AreArmed (arms_in events.now) self.old.table self.new.table) }
         ensures disks_out { OnErr result
@@ -207,6 +215,8 @@ impl<'g> World<'g> {
         ensures memory { IfErr result (λ _. (w : Moment) → Holds self.old.table w
             → HasNotHappened self.old.table w (act_in event) self.new.table) }
         ensures life_out { IfErr result (λ _. IsOpeningRefused self.old self.new) }
+        ensures turn { IfOk result (λ answer.
+            IsTurn (player_of (act_in event)) answer self.old.table self.new.table) }
         ensures disks { IfOk result (λ _. AreArmed (arms_by event) self.old.table self.new.table) }
         ensures disks_out { IfErr result (λ _.
             AreArmed (arms_taken_back event) self.old.table self.new.table) }

@@ -1,7 +1,9 @@
 //! What a peer tells of itself.
 ghost use Rattle.std.specs.Prelude.{◌≡◌, ◌≤◌, ◌+◌, ◌⊎◌};
+ghost use Rattle.c8_game.specs.Rules.{limit_of};
 ghost use Rattle.c8_machine.specs.State.{state};
 ghost use Rattle.c8_machine.specs.Serial.{serial};
+ghost use Rattle.c8_hand.specs.Links.{link_to};
 ghost use Rattle.c8_known.specs.Known.{player_in, count_in, is_frozen_in, is_player};
 ghost use Rattle.c8_known.specs.Confirmed.{confirmed, confirmed_rows, best_rows};
 ghost use Rattle.c8_known.specs.Journal as journals;
@@ -47,7 +49,8 @@ impl<'g, D: Disk> Peer<'g, D> {
 
     /// How many frames are confirmed.
     pub fn confirmed(&self) -> u32
-        ensures { result ≡ confirmed (known_by self.now) }
+        ensures value { result ≡ confirmed (known_by self.now) }
+        ensures within { result ≤ self.now.rules.frames }
     {
         self.known.confirmed()
     }
@@ -62,7 +65,8 @@ impl<'g, D: Disk> Peer<'g, D> {
     /// How many inputs are held of a player, those of the delay included; 0 of one who is not in the
     /// game.
     pub fn count(&self, player: Player) -> u32
-        ensures { result ≡ count_in (known_by self.now) player.number }
+        ensures value { result ≡ count_in (known_by self.now) player.number }
+        ensures within { result ≤ limit_of self.now.rules }
     {
         if !self.plays(player) {
             return 0;
@@ -73,9 +77,17 @@ impl<'g, D: Disk> Peer<'g, D> {
     /// How many of the own inputs a player has acknowledged since the last opening; at first those
     /// of the delay.
     pub fn acked(&self, player: Player) -> u32
-        ensures { result ≡ acked_of self.now.state.memory.acks player.number }
+        ensures value { result ≡ acked_of self.now.state.memory.acks player.number }
+        ensures within { result ≤ count_in (known_by self.now) self.now.me }
     {
         self.memory.window.acked(player)
+    }
+
+    /// Whether the link to a player is open, so that DATA may be said to it.
+    pub fn is_linked(&self, player: Player) -> bool
+        ensures { result ≡ (link_to self.now.state.memory.links player.number).is_open }
+    {
+        self.memory.links.open(player).is_some()
     }
 
     /// Whether a player's inputs are no longer taken from itself.
@@ -124,10 +136,11 @@ impl<'g, D: Disk> Peer<'g, D> {
         self.roll.shown()
     }
 
-    /// How many frames were run in the last call that recorded something. The opening runs as many
-    /// as the journal has ticks; a call after it at most the window's and its tick, since no peer is
-    /// further ahead than the window.
+    /// How many frames were run when the peer last recorded something: at the opening as many as the
+    /// journal has ticks, and in a call at most the window's, since no peer is further ahead than
+    /// that; in a tick one more. A call that records nothing runs none.
     pub fn last_run(&self) -> u32
+        ensures value { result ≡ self.now.last_run }
         ensures ahead { (known_by self.now).ticks
             ≤ confirmed (known_by self.now) + self.now.rules.window }
         ensures bound { (result ≤ self.now.rules.window + 1)

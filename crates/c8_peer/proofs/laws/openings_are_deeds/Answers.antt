@@ -1,3 +1,6 @@
+use Rattle.std.proofs.Common.{sym, subst}
+use Rattle.c8_peer.specs.Opening.{found}
+use Rattle.c8_peer.specs.Peer.{Keeps}
 use Rattle.c8_peer.proofs.OpeningDeeds.{opened_deed, refused_deed, stopped_deed}
 use Rattle.c8_peer.proofs.laws.openings_are_deeds.Goals as goal
 
@@ -9,3 +12,6 @@ returns-clause-refused g c = refused_deed g.D.Disk
 
 pub returns-clause-inside : goal.returns-clause-inside
 returns-clause-inside g c = stopped_deed g.D.Disk
+
+pub returns-clause-settled : goal.returns-clause-settled
+returns-clause-settled g c disk s finds only keeps image left = (finds, subst (Keeps (found s finds)) (sym (only image left)) keeps)

@@ -10,4 +10,6 @@ returns c = record {
   memory_kept = c.steps_are_lawful.ensures.memory;
   said_true = c.steps_are_lawful.ensures.says;
   said_spelled = c.steps_are_lawful.ensures.spelled;
+  calls_tell = c.answers_tell_modes.ensures.calls;
+  openings_tell = c.answers_tell_modes.ensures.openings;
 }

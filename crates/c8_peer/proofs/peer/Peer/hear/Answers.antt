@@ -1,4 +1,5 @@
-use Rattle.std.proofs.Common.{◌∙◌, ◌∷◌, [], Ok, Err, sym, refl, subst}
+use Rattle.std.proofs.Common.{◌∙◌, ◌≤◌, ◌+◌, ◌∷◌, [], Bool, Ok, Err, sym, refl, subst}
+use Rattle.std.specs.Prelude.{if◌then◌else◌}
 use Rattle.c8_wire.specs.Lent.{packet_of}
 use Rattle.c8_record.specs.Lent.{value_of}
 use Rattle.c8_peer.specs.declared.error.Refused.TheVariants as refusals
@@ -10,7 +11,7 @@ use Rattle.c8_peer.specs.Peer.{PeerValue, known_by, IsAnswered, LeavesJournal}
 use Rattle.c8_peer.specs.declared.verdict.Verdict.TheVariants as verdicts
 use Rattle.c8_peer.specs.Verdicts.{AcksWithin, memory_after}
 use Rattle.c8_peer.proofs.PeerLemmas.{memory_more}
-use Rattle.c8_peer.proofs.DeliveryLemmas.{heard_is, comes_to, memory_noted, record_allowed, acks_kept, cause_of}
+use Rattle.c8_peer.proofs.DeliveryLemmas.{heard_is, comes_to, heard_later, memory_noted, record_allowed, acks_kept, cause_of}
 use Rattle.c8_peer.proofs.AnswerLemmas.{answers, records, is_refused, with_record, without_record, Kept}
 use Rattle.c8_peer.proofs.peer.Peer.hear.Goals as goal
 
@@ -73,8 +74,11 @@ returns-in-Ok g c =
     let comes = comes_to v p (verdicts.Keep c.in-Ok-Keep.record c.in-Ok-Keep.heard) c.in-Ok-Keep.field-0 c.requires.stays c.requires.admitted c.in-Ok-Keep.ensures.judged.0 c.in-Ok-Keep.field-0-is in
     let leaves = subst (LeavesJournal g.D.Disk) c.in-Ok.ensures.ok c.in-Ok.ensures.journal in
     let kept : Kept g.D.Disk v r c.keep.new.self.disk = record { any_moment = c.in-Ok.ensures.any_moment; changes = c.in-Ok.ensures.changes; same = c.in-Ok.ensures.same } in
-    let done : IsAnswered g.D.Disk v (Deliver (Ok p)) (Delivered (Ok c.in-Ok-Keep.heard)) (with_record g.D.Disk v c.keep.new.self.disk r noted) =
-    records g.D.Disk v c.keep.new.self.disk noted (Deliver (Ok p)) (Delivered (Ok c.in-Ok-Keep.heard)) r c.requires.up comes refl kept leaves in
+    let ran = c.keep.new.self.last_run in
+    let later = heard_later (verdicts.Keep c.in-Ok-Keep.record c.in-Ok-Keep.heard) c.in-Ok-Keep.field-0 c.in-Ok-Keep.ensures.judged.1 c.in-Ok-Keep.field-0-is in
+    let few = subst (λ (entry : Bool). ran ≤ (if entry then v.rules.window + 1 else v.rules.window)) later.1 c.in-Ok.ensures.ran in
+    let done : IsAnswered g.D.Disk v (Deliver (Ok p)) (Delivered (Ok c.in-Ok-Keep.heard)) (with_record g.D.Disk v c.keep.new.self.disk r noted ran) =
+    records g.D.Disk v c.keep.new.self.disk noted ran (Deliver (Ok p)) (Delivered (Ok c.in-Ok-Keep.heard)) r c.requires.up comes refl kept few leaves in
     subst (λ (x : PeerValue g.row.D.Denot). IsAnswered g.D.Disk v (Deliver (Ok p)) (Delivered (Ok c.in-Ok-Keep.heard)) x) (sym (c.note-in-Ok.ensures ∙ rw c.in-Ok.ensures.ok refl)) done
 
 pub returns-in-Err-keep : goal.returns-in-Err-keep

@@ -1,7 +1,7 @@
-use Rattle.std.proofs.Common.{inl, ◌+◌, ◌≤◌, ◌∙◌, ◌++◌, ◌∷◌, [], ap, List, ℕ, Some, sym, subst, ◌≡◌}
+use Rattle.std.proofs.Common.{inl, arith, ◌+◌, ◌≤◌, ◌∙◌, ◌++◌, ◌∷◌, [], ap, List, ℕ, Some, sym, subst, ◌≡◌}
 use Rattle.c8_game.specs.Rules.{Rules}
 use Rattle.c8_roll.specs.Roll.{roll_of}
-use Rattle.c8_roll.specs.RollLaws.{roll_rules}
+use Rattle.c8_roll.specs.RollLaws.{roll_rules, roll_ticks}
 use Rattle.c8_roll.specs.Seen.{value_of as seen, last_run_of}
 use Rattle.c8_log.specs.Journal.{JournalValue}
 use Rattle.c8_record.specs.Body.{record_of, records_of}
@@ -9,7 +9,8 @@ use Rattle.c8_record.specs.BodyLaws.{read_again}
 use Rattle.c8_record.specs.Lent.{value_of}
 use Rattle.c8_peer.specs.State.{Open}
 use Rattle.c8_peer.specs.Peer.{PeerValue}
-use Rattle.c8_peer.proofs.PeerLemmas.{is_up, peer_refused, can_follow, peer_more, was_roll, allowed_inside, view_refused, view_more, leaves_records, one_body_more}
+use Rattle.c8_peer.specs.Held.{most_run_with}
+use Rattle.c8_peer.proofs.PeerLemmas.{is_up, peer_refused, can_follow, peer_more, was_roll, runs_few, allowed_inside, view_refused, view_more, leaves_records, one_body_more}
 use Rattle.c8_peer.proofs.WindowLemmas.{is_within, roll_within}
 use Rattle.c8_peer.proofs.peer.Peer.keep.Goals as goal
 
@@ -30,7 +31,7 @@ returns-in-Err-clause-err g c =
     let r = value_of c.args.lent.now in
     let may = allowed_inside r c.self.view_is c.requires.allowed in
     let is = c.in-Err.ensures.err in
-    view_refused c.args.self.now c.self.inside.game.now c.self.inside.room c.self.inside.known.me c.self.inside.journal c.append.new.self c.self.inside.memory r c.body_of.result c.self.view_is
+    view_refused c.args.self.now c.self.inside.game.now c.self.inside.room c.self.inside.known.me (last_run_of c.self.inside.roll) c.self.inside.journal c.append.new.self c.self.inside.memory r c.body_of.result c.self.view_is
     (ap (λ (j : JournalValue g.row.D.Denot). j.bodies) is)
     (ap (λ (j : JournalValue g.row.D.Denot). j.pending) is)
     (ap (λ (j : JournalValue g.row.D.Denot). j.is_down) is)
@@ -70,7 +71,7 @@ returns-in-Ok-clause-ok g c =
     let r = value_of c.args.lent.now in
     let may = allowed_inside r c.self.view_is c.requires.allowed in
     let is = c.in-Ok.ensures.ok in
-    view_more c.args.self.now c.self.inside.game.now c.self.inside.room c.self.inside.known.me c.make_known.new.known.me c.self.inside.journal c.append.new.self c.self.inside.memory r c.self.view_is
+    view_more c.args.self.now c.self.inside.game.now c.self.inside.room c.self.inside.known.me c.make_known.new.known.me (last_run_of c.self.inside.roll) (last_run_of c.go_on.new.roll) c.self.inside.journal c.append.new.self c.self.inside.memory r c.self.view_is
     (ap (λ (j : JournalValue g.row.D.Denot). records_of j.bodies) is ∙ ap (λ (body : List ℕ). records_of (c.self.inside.journal.bodies ++ body ∷ [])) c.body_of.ensures.body ∙ one_body_more c.self.inside.journal.bodies r may.spelled)
     (ap (λ (j : JournalValue g.row.D.Denot). j.pending) is)
     (ap (λ (j : JournalValue g.row.D.Denot). j.is_down) is)
@@ -80,3 +81,18 @@ pub returns-in-Ok-clause-any_moment : goal.returns-in-Ok-clause-any_moment
 returns-in-Ok-clause-any_moment g c =
     leaves_records g.D.Disk c.args.self.now c.self.inside.game.now c.self.inside.room c.self.inside.known.me c.self.inside.journal c.append.new.self.disk c.self.inside.memory (value_of c.args.lent.now) c.body_of.result
     c.self.view_is c.self.invariant.0.bodies c.body_of.ensures.body c.append.ensures.any_moment
+
+pub returns-in-Ok-clause-ran : goal.returns-in-Ok-clause-ran
+returns-in-Ok-clause-ran g c =
+    let rules = c.self.inside.game.now in
+    let v = seen c.self.inside.roll in
+    let r = value_of c.args.lent.now in
+    let within = roll_within rules c.self.inside.known v c.self.invariant.1
+    (is_within c.journals_stay_within_the_window.ensures rules c.self.inside.room c.self.inside.journal c.self.inside.known c.self.inside.memory c.self.invariant.0) in
+    let game : v.rules ≡ rules = roll_rules rules c.self.inside.known v c.self.invariant.1 in
+    let ticks = roll_ticks rules c.self.inside.known v c.self.invariant.1 in
+    let most : last_run_of c.go_on.new.roll ≤ rules.window + 1 = subst (λ (x : Rules). last_run_of c.go_on.new.roll ≤ x.window + 1) game (c.go_on.ensures.bound within) in
+    let settled : c.make_known.new.known.ticks ≤ c.self.inside.known.ticks → last_run_of c.go_on.new.roll ≤ rules.window = λ same.
+    subst (λ (x : Rules). last_run_of c.go_on.new.roll ≤ x.window) game (c.go_on.ensures.settled within (omega (arith, same, ticks))) in
+    subst (λ (x : PeerValue g.row.D.Denot). last_run_of c.go_on.new.roll ≤ most_run_with x.rules r) c.self.view_is
+    (runs_few rules c.self.inside.known c.make_known.new.known r (last_run_of c.go_on.new.roll) c.make_known.ensures.value most settled)

@@ -2,6 +2,7 @@ use Rattle.std.proofs.Common.{inr, ap, subst, ◌∙◌, ◌≤◌, ℕ}
 use Rattle.std.proofs.lemmas.Result.{err_from_is_err_and}
 use Rattle.c8_disk.specs.Runs.{LeavesOnly}
 use Rattle.c8_disk.specs.RunLaws.{same_then}
+use Rattle.c8_roll.specs.Seen.{last_run_of}
 use Rattle.c8_peer.specs.State.{fresh_memory}
 use Rattle.c8_peer.specs.OpenedParts.{IsBegun, IsNotBegun, BeginningLeaves}
 use Rattle.c8_peer.proofs.OpenLemmas.{refused_beginning, begun_there, leaves_opening, peer_opened, opened_peer}
@@ -49,6 +50,7 @@ returns-clause-opened g c =
     let fresh = c.new-memory.ensures ∙ ap (λ (me : ℕ). fresh_memory rules c.args.room me number) own in
     let from_one : 1 ≤ c.args.known.me = subst (λ (me : ℕ). 1 ≤ me) own c.me-me.result.from_one in
     opened_peer g.D.Disk c.args.disk rules c.args.room me c.in_range.ensures from_one c.requires.player c.ranges.room.fits c.read_journal.new.known c.in_ok-log.log c.in_ok-log.last read c.in_ok-journal.journal number begun c.new-memory.result fresh
+    (last_run_of c.over-roll.result) c.over-roll.ensures.ran
     c.is_down-down.ensures.sound
     (same_then g.D.Disk c.args.disk c.in_ok-log.log.disk c.in_ok-journal.journal.disk c.in_ok-log.ensures.same c.in_ok-journal.ensures.same)
 

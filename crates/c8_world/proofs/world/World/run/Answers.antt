@@ -2,6 +2,7 @@ use Rattle.std.proofs.Common.{◌<◌, ◌^◌, refl, subst}
 use Rattle.c8_game.specs.Rules.{AreInRange}
 use Rattle.c8_world.specs.Run.{WorldValue}
 use Rattle.c8_world.proofs.LifeLemmas.{lived_none, run_out_first, headline_of}
+use Rattle.c8_world.proofs.TurnLemmas.{no_turns}
 use Rattle.c8_world.proofs.world.World.run.Goals as goal
 
 -- src/world.rt:92:17
@@ -31,3 +32,6 @@ returns-in-Err-ran-clause-headline c =
 
 pub returns-in-Err-clause-life_out : goal.returns-in-Err-clause-life_out
 returns-in-Err-clause-life_out c = lived_none c.args.self.now c.args.events.now c.new-answers.result.items c.new-answers.ensures.items
+
+pub returns-in-Err-clause-turns_out : goal.returns-in-Err-clause-turns_out
+returns-in-Err-clause-turns_out c = no_turns c.args.self.now.table c.args.events.now c.new-answers.result.items c.new-answers.ensures.items

@@ -1,6 +1,7 @@
 use Rattle.std.proofs.Common.{◌+◌, take, ◌∙◌, arith}
 use Rattle.c8_world.proofs.LifeLemmas.{one_more, lived_on, run_next, run_out_here, lists_more, same_match}
 use Rattle.c8_world.proofs.DiskLemmas.{are_armed_next, are_armed_out}
+use Rattle.c8_world.proofs.TurnLemmas.{turns_next, first_turns}
 use Rattle.c8_world.proofs.world.World.run_all.Goals as goal
 
 pub returns-in-Err-clause-memory : goal.returns-in-Err-clause-memory
@@ -14,6 +15,9 @@ loop-event-preserved c = record {
   disks =
       are_armed_next c.args.self.now.table c.loop-event.self.table c.happen.new.self.table c.args.events.now c.loop-event.event-index c.event-item.result (omega arith) c.event-item.is
       c.loop-event.invariant.same c.loop-event.invariant.disks c.in-Ok.ensures.disks;
+  turns =
+      turns_next c.args.self.now.table c.loop-event.self.table c.happen.new.self.table c.args.events.now c.loop-event.event-index c.loop-event.answers.items c.push_reserved.new.self.items
+      c.event-item.result c.in-Ok.answer (omega arith) c.event-item.is c.loop-event.invariant.turns c.in-Ok.ensures.turn c.push_reserved.ensures.items;
   ran = λ w holds.
       run_next c.args.self.now.table c.loop-event.self.table c.happen.new.self.table w c.args.events.now c.loop-event.event-index c.loop-event.answers.items c.push_reserved.new.self.items
       c.event-item.result c.in-Ok.answer (omega arith) c.event-item.is c.loop-event.invariant.same (c.loop-event.invariant.ran w holds) c.in-Ok.ensures.happened c.push_reserved.ensures.items;
@@ -35,3 +39,7 @@ pub returns-in-Err-clause-disks_out : goal.returns-in-Err-clause-disks_out
 returns-in-Err-clause-disks_out c =
     are_armed_out c.args.self.now.table c.loop-event.self.table c.happen.new.self.table c.args.events.now c.loop-event.event-index c.event-item.result (omega arith) c.event-item.is
     c.loop-event.invariant.same c.loop-event.invariant.disks c.in-Err.ensures.disks_out
+
+pub returns-in-Err-clause-turns_out : goal.returns-in-Err-clause-turns_out
+returns-in-Err-clause-turns_out c =
+    first_turns c.args.self.now.table c.loop-event.self.table c.args.events.now c.loop-event.event-index c.event-item.result c.loop-event.answers.items (omega arith) c.event-item.is c.loop-event.invariant.turns

@@ -1,0 +1,8 @@
+use Rattle.c8_peer.proofs.PlainLemmas.{step_tells, opened_tells}
+use Rattle.c8_peer.proofs.laws.answers_tell_modes.Goals as goal
+
+pub returns-clause-calls : goal.returns-clause-calls
+returns-clause-calls c = step_tells
+
+pub returns-clause-openings : goal.returns-clause-openings
+returns-clause-openings c = opened_tells

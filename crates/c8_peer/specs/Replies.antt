@@ -1,0 +1,20 @@
+-- What an answer tells of the peer that gave it.
+use Rattle.std.specs.Prelude.{Ok, Err}
+use Rattle.c8_peer.specs.State.{Mode, Open, Down, Away, Reply, Opened, Ticked, Delivered, Said, Left, Decided}
+use Rattle.c8_peer.specs.Steps.{Luck, Works, Refuses}
+use Rattle.c8_peer.specs.Peer.{luck_of}
+
+abbrev pub mode_by : Luck → Mode
+mode_by Works = Open
+mode_by (Refuses why) = Down
+
+-- How a peer stands that has answered so: open or away after an opening; and open after a call, unless it tells that the disk
+-- refused the record.
+abbrev pub mode_told : Reply → Mode
+mode_told (Opened (Ok epoch)) = Open
+mode_told (Opened (Err error)) = Away
+mode_told (Ticked result) = mode_by (luck_of (Ticked result))
+mode_told (Delivered result) = mode_by (luck_of (Delivered result))
+mode_told (Said result) = Open
+mode_told (Left result) = mode_by (luck_of (Left result))
+mode_told (Decided result) = mode_by (luck_of (Decided result))

@@ -1,0 +1,5 @@
+use Rattle.c8_record.specs.RefusalLaws.{one_refusal}
+use Rattle.c8_record.proofs.laws.a_refusal_has_one_reason.Goals as goal
+
+pub returns : goal.returns
+returns c = one_refusal

@@ -1,0 +1,165 @@
+-- What was answered tells how each peer stands.
+use Rattle.std.proofs.Common.{◌≡◌, ◌≢◌, ℕ, ◌<◌, ◌^◌, inl, inr, List, [], ◌∷◌, length, Bool, true, false, Option, Some, None, Ok, Err, refl, sym, ap, subst, ◌∙◌}
+use Rattle.std.specs.Prelude.{◌==◌, if◌then◌else◌}
+use Rattle.std.specs.List.{slice_get}
+use Rattle.std.proofs.lemmas.Bool.{cases_eq, cases_Bool, eq-eqb, ne_eqb, eqb-true}
+use Rattle.c8_game.specs.Rules.{Rules, AreInRange}
+use Rattle.c8_wire.specs.Packet.{Packet}
+use Rattle.c8_peer.specs.State as states
+use Rattle.c8_peer.specs.State.{Mode, Down, Away, State, Call, Reply, Opened}
+use Rattle.c8_peer.specs.Steps.{Luck, Stepped, step}
+use Rattle.c8_peer.specs.Opening.{found, away, opened}
+use Rattle.c8_peer.specs.Replies.{mode_told}
+use Rattle.c8_world.specs.Below.{ArePeersLawful}
+use Rattle.c8_world.specs.World.{World, start, is_player, peer_of, with_peer, Act, Open, Tick, Say, Give, Leave, Decide, player_of, Event, Do, Stop, Happening, Answer, Told, IsUp, IsDown, NoSuch, Stopped, After, said_by, stepped, call_at_mode, call_at, open_at_mode, open_at, give_to, acted, crashed, after, MayAct, act_of, CanHappen, Chain}
+use Rattle.c8_world.specs.Agreement.{IsPlayer}
+use Rattle.c8_world.specs.Modes.{mode_answered, mode_after, mode_by}
+use Rattle.c8_world.proofs.Openings.{plays_so}
+use Rattle.c8_world.proofs.Worlds.{IsSound, peer_here, peer_there, plays_if, acted_sound, event_sound, peer_at_start, start_sound}
+
+if_same : (b : Bool) (x : Mode) → (if b then x else x) ≡ x
+if_same true x = refl
+if_same false x = refl
+
+module _ (laws : ArePeersLawful) (rules : Rules) (room p : ℕ) (plays : IsPlayer rules p) where
+  -- what comes of an act of player q tells how p's peer stands then
+  Tells : World → ℕ → After → Type 0
+  Tells w q a = (peer_of a.world p).mode ≡ (if q == p then mode_answered (peer_of w p).mode a.answer else (peer_of w p).mode)
+
+  stays : (w : World) (q : ℕ) (answer : Answer) → ((mode : Mode) → mode_answered mode answer ≡ mode) → Tells w q (record { answer = answer; world = w })
+  unfolding Tells
+  stays w q answer same =
+      let mode : Mode = (peer_of w p).mode in
+      sym (ap (λ (x : Mode). if q == p then x else mode) (same mode) ∙ if_same (q == p) mode)
+
+  goes_on : (w : World) (q : ℕ) (t : Stepped) → length w.peers ≡ rules.players → IsPlayer rules q → t.state.mode ≡ mode_told t.reply → Tells w q (stepped w q t)
+  unfolding Tells
+  goes_on w q t seats q_plays tells = elim (cases_eq q p) [
+    | inl same ↦
+        let test : (q == p) ≡ true = eq-eqb q p same in
+        let here : peer_of (stepped w q t).world p ≡ t.state = subst (λ (x : ℕ). peer_of (stepped w q t).world x ≡ t.state) same (peer_here rules w q t.state (said_by t.reply) seats q_plays) in
+        rw test (ap (λ (s : State). s.mode) here ∙ tells)
+    | inr apart ↦
+        let test : (q == p) ≡ false = ne_eqb q p apart in
+        let there : peer_of (stepped w q t).world p ≡ peer_of w p = peer_there rules w q t.state (said_by t.reply) p q_plays plays (λ e. apart (sym e)) in
+        rw test (ap (λ (s : State). s.mode) there)
+  ]
+
+  mode_tells : (w : World) (q : ℕ) (call : Call) (luck : Luck) (mode : Mode) → length w.peers ≡ rules.players → IsPlayer rules q → (peer_of w q).mode ≡ mode → Tells w q (call_at_mode rules w q call luck mode)
+  mode_tells w q call luck states.Open seats q_plays up = goes_on w q (step rules q (peer_of w q) call luck) seats q_plays (laws.calls_tell rules q (peer_of w q) call luck up)
+  mode_tells w q call luck Down seats q_plays down = stays w q IsDown (λ mode. refl)
+  mode_tells w q call luck Away seats q_plays gone = stays w q IsDown (λ mode. refl)
+
+  call_tells : (w : World) (q : ℕ) (call : Call) (luck : Luck) → length w.peers ≡ rules.players → Tells w q (call_at rules w q call luck)
+  call_tells w q call luck seats = elim (cases_Bool (is_player rules q)) [
+    | inl yes ↦ rw yes (mode_tells w q call luck (peer_of w q).mode seats (plays_if rules q yes) refl)
+    | inr no ↦ rw no (stays w q IsDown (λ mode. refl))
+  ]
+
+  open_mode_tells : (w : World) (q : ℕ) (h : Happening) (mode : Mode) → length w.peers ≡ rules.players → IsPlayer rules q → Tells w q (open_at_mode rules room w q h mode)
+  open_mode_tells w q h states.Open seats q_plays = stays w q IsUp (λ mode. refl)
+  open_mode_tells w q h Down seats q_plays =
+      goes_on w q (opened rules room q (peer_of w q) (found (peer_of w q) h.finds) h.opening) seats q_plays (laws.openings_tell rules room q (peer_of w q) (found (peer_of w q) h.finds) h.opening)
+  open_mode_tells w q h Away seats q_plays =
+      goes_on w q (opened rules room q (peer_of w q) (found (peer_of w q) h.finds) h.opening) seats q_plays (laws.openings_tell rules room q (peer_of w q) (found (peer_of w q) h.finds) h.opening)
+
+  -- a stranger is another player
+  stranger : (q : ℕ) → is_player rules q ≡ false → (q == p) ≡ false
+  stranger q no = ne_eqb q p (λ same. let yes : is_player rules q ≡ true = rw same (plays_so rules p plays) in let never : true ≡ false = sym yes ∙ no in absurd cc)
+
+  open_tells : (w : World) (q : ℕ) (h : Happening) → length w.peers ≡ rules.players → Tells w q (open_at rules room w q h)
+  unfolding Tells
+  open_tells w q h seats = elim (cases_Bool (is_player rules q)) [
+    | inl yes ↦ rw yes (open_mode_tells w q h (peer_of w q).mode seats (plays_if rules q yes))
+    | inr no ↦ rw (no, stranger q no) refl
+  ]
+
+  give_tells : (w : World) (q : ℕ) (luck : Luck) (o : Option Packet) → length w.peers ≡ rules.players → Tells w q (give_to rules w q luck o)
+  give_tells w q luck None seats = stays w q NoSuch (λ mode. refl)
+  give_tells w q luck (Some packet) seats = call_tells w q (states.Deliver (Ok packet)) luck seats
+
+  acted_tells : (w : World) (act : Act) (h : Happening) → length w.peers ≡ rules.players → Tells w (player_of act) (acted rules room w act h)
+  unfolding acted
+  acted_tells w (Open q) h seats = open_tells w q h seats
+  acted_tells w (Tick q keys) h seats = call_tells w q (states.Tick keys) h.luck seats
+  acted_tells w (Say q to what) h seats = call_tells w q (states.Say to what) h.luck seats
+  acted_tells w (Give number q) h seats = give_tells w q h.luck (slice_get w.said number) seats
+  acted_tells w (Leave leaver) h seats = call_tells w 1 (states.Leave leaver) h.luck seats
+  acted_tells w (Decide leaver) h seats = call_tells w 1 (states.Decide leaver) h.luck seats
+
+  -- a stop takes its player away, and no other
+  crash_tells : (w u : World) (q : ℕ) (leaves : Bool) (answer : Answer) → length u.peers ≡ rules.players → Tells w q (record { answer = answer; world = u })
+      → Tells w q (record { answer = Stopped; world = crashed rules u q leaves })
+  unfolding Tells
+  crash_tells w u q leaves answer seats acts = elim (cases_Bool (is_player rules q)) [
+    | inl yes ↦
+        let q_plays = plays_if rules q yes in
+        let s : State = away (peer_of u q) (found (peer_of u q) leaves) None in
+        elim (cases_eq q p) [
+          | inl same ↦
+              let here : peer_of (with_peer u q s) p ≡ s = subst (λ (x : ℕ). peer_of (with_peer u q s) x ≡ s) same (peer_here rules u q s [] seats q_plays) in
+              rw (yes, eq-eqb q p same) (ap (λ (t : State). t.mode) here)
+          | inr apart ↦
+              let there : peer_of (with_peer u q s) p ≡ peer_of u p = peer_there rules u q s [] p q_plays plays (λ e. apart (sym e)) in
+              let before : (peer_of u p).mode ≡ (peer_of w p).mode = acts ∙ rw (ne_eqb q p apart) refl in
+              rw (yes, ne_eqb q p apart) (ap (λ (t : State). t.mode) there ∙ before)
+        ]
+    | inr no ↦
+        let before : (peer_of u p).mode ≡ (peer_of w p).mode = acts ∙ rw (stranger q no) refl in
+        rw (no, stranger q no) before
+  ]
+
+  module _ (range : AreInRange rules) (few : room < 2 ^ 64) where
+    after_tells : (w : World) (event : Event) (h : Happening) → IsSound rules room w → MayAct rules room w (act_of event) h → Tells w (player_of (act_of event)) (after rules room w event h)
+    after_tells w (Do act) h sound may = acted_tells w act h sound.seats
+    after_tells w (Stop act calls pick) h sound may =
+        let a = acted rules room w act h in
+        crash_tells w a.world (player_of act) h.leaves a.answer (acted_sound laws rules room w act h range few sound may).sound.seats (acted_tells w act h sound.seats)
+
+    event_tells : (w v : World) (event : Event) (answer : Answer) → IsSound rules room w → CanHappen rules room w event answer v → (peer_of v p).mode ≡ mode_after p (peer_of w p).mode event answer
+    unfolding Tells
+    event_tells w v event answer sound can = subst (Tells w (player_of (act_of event))) can.is (after_tells w event can.happening sound can.may)
+
+    chain_tells : (w v : World) (events : List Event) (answers : List Answer) → IsSound rules room w → Chain rules room w events answers v → (peer_of v p).mode ≡ mode_by p (peer_of w p).mode events answers
+    chain_tells w v [] [] sound chain = ap (λ (x : World). (peer_of x p).mode) chain
+    chain_tells w v [] (answer ∷ answers) sound chain = absurd chain
+    chain_tells w v (event ∷ events) [] sound chain = absurd chain
+    chain_tells w v (event ∷ events) (answer ∷ answers) sound chain =
+        chain_tells chain.0 v events answers (event_sound laws rules room w chain.0 event answer range few sound chain.1).sound chain.2
+        ∙ ap (λ (mode : Mode). mode_by p mode events answers) (event_tells w chain.0 event answer sound chain.1)
+
+pub modes_told : (laws : ArePeersLawful) (rules : Rules) (room : ℕ) (v : World) (events : List Event) (answers : List Answer) (p : ℕ) → AreInRange rules → room < 2 ^ 64 → Chain rules room (start rules) events answers v
+    → IsPlayer rules p → (peer_of v p).mode ≡ mode_by p Away events answers
+modes_told laws rules room v events answers p range few chain plays =
+    chain_tells laws rules room p plays range few (start rules) v events answers (start_sound rules room range) chain
+    ∙ ap (λ (s : State). mode_by p s.mode events answers) (peer_at_start rules p)
+
+-- ---- who is not open is told so, and no other
+
+told_not_down : (answer : Answer) (reply : Reply) → answer ≡ Told reply → answer ≡ IsDown → ⊥
+told_not_down answer reply told down = let never : Told reply ≡ IsDown = sym told ∙ down in absurd cc
+
+give_not_down : (rules : Rules) (w : World) (q : ℕ) (luck : Luck) (o : Option Packet) → is_player rules q ≡ true → (peer_of w q).mode ≡ states.Open → (give_to rules w q luck o).answer ≡ IsDown → ⊥
+give_not_down rules w q luck None yes up down = absurd cc
+give_not_down rules w q luck (Some packet) yes up down =
+    told_not_down (call_at rules w q (states.Deliver (Ok packet)) luck).answer (step rules q (peer_of w q) (states.Deliver (Ok packet)) luck).reply (rw (yes, up) refl) down
+
+call_not_down : (rules : Rules) (w : World) (q : ℕ) (call : Call) (luck : Luck) → is_player rules q ≡ true → (peer_of w q).mode ≡ states.Open → (call_at rules w q call luck).answer ≡ IsDown → ⊥
+call_not_down rules w q call luck yes up down = told_not_down (call_at rules w q call luck).answer (step rules q (peer_of w q) call luck).reply (rw (yes, up) refl) down
+
+open_not_down : (rules : Rules) (room : ℕ) (w : World) (q : ℕ) (h : Happening) → is_player rules q ≡ true → (peer_of w q).mode ≡ states.Open → (open_at rules room w q h).answer ≡ IsDown → ⊥
+open_not_down rules room w q h yes up down = let is : (open_at rules room w q h).answer ≡ IsUp = rw (yes, up) refl in let never : IsUp ≡ IsDown = sym is ∙ down in absurd cc
+
+acted_not_down : (rules : Rules) (room : ℕ) (w : World) (act : Act) (h : Happening) → is_player rules (player_of act) ≡ true → (peer_of w (player_of act)).mode ≡ states.Open → (acted rules room w act h).answer ≡ IsDown → ⊥
+unfolding acted
+acted_not_down rules room w (Open q) h yes up down = open_not_down rules room w q h yes up down
+acted_not_down rules room w (Tick q keys) h yes up down = call_not_down rules w q (states.Tick keys) h.luck yes up down
+acted_not_down rules room w (Say q to what) h yes up down = call_not_down rules w q (states.Say to what) h.luck yes up down
+acted_not_down rules room w (Give number q) h yes up down = give_not_down rules w q h.luck (slice_get w.said number) yes up down
+acted_not_down rules room w (Leave leaver) h yes up down = call_not_down rules w 1 (states.Leave leaver) h.luck yes up down
+acted_not_down rules room w (Decide leaver) h yes up down = call_not_down rules w 1 (states.Decide leaver) h.luck yes up down
+
+pub down_told : (laws : ArePeersLawful) (rules : Rules) (room : ℕ) (v u : World) (events : List Event) (answers : List Answer) (act : Act) → AreInRange rules → room < 2 ^ 64 → Chain rules room (start rules) events answers v
+    → IsPlayer rules (player_of act) → CanHappen rules room v (Do act) IsDown u → mode_by (player_of act) Away events answers ≢ states.Open
+down_told laws rules room v u events answers act range few chain plays can open =
+    acted_not_down rules room v act can.happening (plays_so rules (player_of act) plays) (modes_told laws rules room v events answers (player_of act) range few chain plays ∙ open) (ap (λ (a : After). a.answer) can.is)
