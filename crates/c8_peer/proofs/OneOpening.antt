@@ -1,8 +1,8 @@
 -- An opening has one answer.
-use Rattle.std.proofs.Common.{◌≡◌, ◌<◌, ◌≤◌, ℕ, List, map, Bool, Option, refl, sym, ap, ◌∙◌, arith}
+use Rattle.std.proofs.Common.{◌≡◌, ℕ, List, map, Bool, Option, refl, sym, ap, ◌∙◌, arith}
 use Rattle.c8_game.specs.Rules.{Rules}
 use Rattle.c8_disk.specs.declared.error.DiskError.{DiskError}
-use Rattle.c8_known.specs.Journal.{Record, epoch}
+use Rattle.c8_known.specs.Journal.{Record}
 use Rattle.c8_record.specs.Body.{body_of}
 use Rattle.c8_record.specs.RefusalLaws.{journal_not_refused, one_refusal}
 use Rattle.c8_peer.specs.State.{State, Reply}

@@ -1,5 +1,5 @@
 -- What a call comes to blames no disk; so the answer tells whether the peer is down after it.
-use Rattle.std.proofs.Common.{◌≡◌, ◌+◌, ℕ, List, [], ◌∷◌, length, Bool, true, false, Option, Some, None, Ok, Err, refl, sym, ◌∙◌}
+use Rattle.std.proofs.Common.{◌≡◌, ◌+◌, ℕ, List, [], ◌∷◌, length, Option, Some, None, Ok, Err, refl, sym, ◌∙◌}
 use Rattle.std.specs.Prelude.{Result, ◌==◌, ◌||◌, not, nat_le, nat_lt, is_some}
 use Rattle.c8_game.specs.Rules.{Rules}
 use Rattle.c8_disk.specs.declared.error.DiskError.{DiskError}

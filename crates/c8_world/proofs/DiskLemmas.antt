@@ -1,6 +1,6 @@
 -- What the disks were told in many events, one event more at a time.
-use Rattle.std.proofs.Common.{◌≡◌, inl, inr, ℕ, ◌<◌, List, [], ◌∷◌, ◌++◌, length, take, drop, ◌+◌, slice_index_or, refl, sym, ap, subst, ◌∙◌}
-use Rattle.std.proofs.lemmas.List.{append_assoc, append-nil, take-append-drop}
+use Rattle.std.proofs.Common.{◌≡◌, inl, inr, ℕ, ◌<◌, List, [], ◌∷◌, ◌++◌, length, take, drop, ◌+◌, slice_index_or, refl, sym, ap, ◌∙◌}
+use Rattle.std.proofs.lemmas.List.{append_assoc, append-nil}
 use Rattle.c8_disk.specs.declared.disk.Arm.{Arm}
 use Rattle.c8_world.specs.declared.event.Event as asked
 use Rattle.c8_world.specs.Agreement.{IsPlayer}

@@ -1,8 +1,8 @@
 -- What was answered tells how each peer stands.
-use Rattle.std.proofs.Common.{◌≡◌, ◌≢◌, ℕ, ◌<◌, ◌^◌, inl, inr, List, [], ◌∷◌, length, Bool, true, false, Option, Some, None, Ok, Err, refl, sym, ap, subst, ◌∙◌}
+use Rattle.std.proofs.Common.{◌≡◌, ◌≢◌, ℕ, ◌<◌, ◌^◌, inl, inr, List, [], ◌∷◌, length, Bool, true, false, Option, Some, None, Ok, refl, sym, ap, subst, ◌∙◌}
 use Rattle.std.specs.Prelude.{◌==◌, if◌then◌else◌}
 use Rattle.std.specs.List.{slice_get}
-use Rattle.std.proofs.lemmas.Bool.{cases_eq, cases_Bool, eq-eqb, ne_eqb, eqb-true}
+use Rattle.std.proofs.lemmas.Bool.{cases_eq, cases_Bool, eq-eqb, ne_eqb}
 use Rattle.c8_game.specs.Rules.{Rules, AreInRange}
 use Rattle.c8_wire.specs.Packet.{Packet}
 use Rattle.c8_peer.specs.State as states
@@ -52,8 +52,8 @@ module _ (laws : ArePeersLawful) (rules : Rules) (room p : ℕ) (plays : IsPlaye
 
   call_tells : (w : World) (q : ℕ) (call : Call) (luck : Luck) → length w.peers ≡ rules.players → Tells w q (call_at rules w q call luck)
   call_tells w q call luck seats = elim (cases_Bool (is_player rules q)) [
-    | inl yes ↦ rw yes (mode_tells w q call luck (peer_of w q).mode seats (plays_if rules q yes) refl)
-    | inr no ↦ rw no (stays w q IsDown (λ mode. refl))
+    | inl in_game ↦ rw in_game (mode_tells w q call luck (peer_of w q).mode seats (plays_if rules q in_game) refl)
+    | inr absent ↦ rw absent (stays w q IsDown (λ mode. refl))
   ]
 
   open_mode_tells : (w : World) (q : ℕ) (h : Happening) (mode : Mode) → length w.peers ≡ rules.players → IsPlayer rules q → Tells w q (open_at_mode rules room w q h mode)
@@ -65,13 +65,13 @@ module _ (laws : ArePeersLawful) (rules : Rules) (room p : ℕ) (plays : IsPlaye
 
   -- a stranger is another player
   stranger : (q : ℕ) → is_player rules q ≡ false → (q == p) ≡ false
-  stranger q no = ne_eqb q p (λ same. let yes : is_player rules q ≡ true = rw same (plays_so rules p plays) in let never : true ≡ false = sym yes ∙ no in absurd cc)
+  stranger q absent = ne_eqb q p (λ same. let in_game : is_player rules q ≡ true = rw same (plays_so rules p plays) in let never : true ≡ false = sym in_game ∙ absent in absurd cc)
 
   open_tells : (w : World) (q : ℕ) (h : Happening) → length w.peers ≡ rules.players → Tells w q (open_at rules room w q h)
   unfolding Tells
   open_tells w q h seats = elim (cases_Bool (is_player rules q)) [
-    | inl yes ↦ rw yes (open_mode_tells w q h (peer_of w q).mode seats (plays_if rules q yes))
-    | inr no ↦ rw (no, stranger q no) refl
+    | inl in_game ↦ rw in_game (open_mode_tells w q h (peer_of w q).mode seats (plays_if rules q in_game))
+    | inr absent ↦ rw (absent, stranger q absent) refl
   ]
 
   give_tells : (w : World) (q : ℕ) (luck : Luck) (o : Option Packet) → length w.peers ≡ rules.players → Tells w q (give_to rules w q luck o)
@@ -92,21 +92,21 @@ module _ (laws : ArePeersLawful) (rules : Rules) (room p : ℕ) (plays : IsPlaye
       → Tells w q (record { answer = Stopped; world = crashed rules u q leaves })
   unfolding Tells
   crash_tells w u q leaves answer seats acts = elim (cases_Bool (is_player rules q)) [
-    | inl yes ↦
-        let q_plays = plays_if rules q yes in
+    | inl in_game ↦
+        let q_plays = plays_if rules q in_game in
         let s : State = away (peer_of u q) (found (peer_of u q) leaves) None in
         elim (cases_eq q p) [
           | inl same ↦
               let here : peer_of (with_peer u q s) p ≡ s = subst (λ (x : ℕ). peer_of (with_peer u q s) x ≡ s) same (peer_here rules u q s [] seats q_plays) in
-              rw (yes, eq-eqb q p same) (ap (λ (t : State). t.mode) here)
+              rw (in_game, eq-eqb q p same) (ap (λ (t : State). t.mode) here)
           | inr apart ↦
               let there : peer_of (with_peer u q s) p ≡ peer_of u p = peer_there rules u q s [] p q_plays plays (λ e. apart (sym e)) in
               let before : (peer_of u p).mode ≡ (peer_of w p).mode = acts ∙ rw (ne_eqb q p apart) refl in
-              rw (yes, ne_eqb q p apart) (ap (λ (t : State). t.mode) there ∙ before)
+              rw (in_game, ne_eqb q p apart) (ap (λ (t : State). t.mode) there ∙ before)
         ]
-    | inr no ↦
-        let before : (peer_of u p).mode ≡ (peer_of w p).mode = acts ∙ rw (stranger q no) refl in
-        rw (no, stranger q no) before
+    | inr absent ↦
+        let before : (peer_of u p).mode ≡ (peer_of w p).mode = acts ∙ rw (stranger q absent) refl in
+        rw (absent, stranger q absent) before
   ]
 
   module _ (range : AreInRange rules) (few : room < 2 ^ 64) where
@@ -139,27 +139,31 @@ modes_told laws rules room v events answers p range few chain plays =
 told_not_down : (answer : Answer) (reply : Reply) → answer ≡ Told reply → answer ≡ IsDown → ⊥
 told_not_down answer reply told down = let never : Told reply ≡ IsDown = sym told ∙ down in absurd cc
 
-give_not_down : (rules : Rules) (w : World) (q : ℕ) (luck : Luck) (o : Option Packet) → is_player rules q ≡ true → (peer_of w q).mode ≡ states.Open → (give_to rules w q luck o).answer ≡ IsDown → ⊥
-give_not_down rules w q luck None yes up down = absurd cc
-give_not_down rules w q luck (Some packet) yes up down =
-    told_not_down (call_at rules w q (states.Deliver (Ok packet)) luck).answer (step rules q (peer_of w q) (states.Deliver (Ok packet)) luck).reply (rw (yes, up) refl) down
+call_comes : (rules : Rules) (w : World) (q : ℕ) (call : Call) (luck : Luck) → is_player rules q ≡ true → (peer_of w q).mode ≡ states.Open → call_at rules w q call luck ≡ stepped w q (step rules q (peer_of w q) call luck)
+call_comes rules w q call luck in_game up =
+    ap (λ (b : Bool). if b then call_at_mode rules w q call luck (peer_of w q).mode else record { answer = IsDown; world = w }) in_game ∙ ap (λ (mode : Mode). call_at_mode rules w q call luck mode) up
 
 call_not_down : (rules : Rules) (w : World) (q : ℕ) (call : Call) (luck : Luck) → is_player rules q ≡ true → (peer_of w q).mode ≡ states.Open → (call_at rules w q call luck).answer ≡ IsDown → ⊥
-call_not_down rules w q call luck yes up down = told_not_down (call_at rules w q call luck).answer (step rules q (peer_of w q) call luck).reply (rw (yes, up) refl) down
+call_not_down rules w q call luck in_game up down =
+    told_not_down (call_at rules w q call luck).answer (step rules q (peer_of w q) call luck).reply (ap (λ (a : After). a.answer) (call_comes rules w q call luck in_game up)) down
+
+give_not_down : (rules : Rules) (w : World) (q : ℕ) (luck : Luck) (o : Option Packet) → is_player rules q ≡ true → (peer_of w q).mode ≡ states.Open → (give_to rules w q luck o).answer ≡ IsDown → ⊥
+give_not_down rules w q luck None in_game up down = absurd cc
+give_not_down rules w q luck (Some packet) in_game up down = call_not_down rules w q (states.Deliver (Ok packet)) luck in_game up down
 
 open_not_down : (rules : Rules) (room : ℕ) (w : World) (q : ℕ) (h : Happening) → is_player rules q ≡ true → (peer_of w q).mode ≡ states.Open → (open_at rules room w q h).answer ≡ IsDown → ⊥
-open_not_down rules room w q h yes up down = let is : (open_at rules room w q h).answer ≡ IsUp = rw (yes, up) refl in let never : IsUp ≡ IsDown = sym is ∙ down in absurd cc
+open_not_down rules room w q h in_game up down = let is : (open_at rules room w q h).answer ≡ IsUp = rw (in_game, up) refl in let never : IsUp ≡ IsDown = sym is ∙ down in absurd cc
 
 acted_not_down : (rules : Rules) (room : ℕ) (w : World) (act : Act) (h : Happening) → is_player rules (player_of act) ≡ true → (peer_of w (player_of act)).mode ≡ states.Open → (acted rules room w act h).answer ≡ IsDown → ⊥
 unfolding acted
-acted_not_down rules room w (Open q) h yes up down = open_not_down rules room w q h yes up down
-acted_not_down rules room w (Tick q keys) h yes up down = call_not_down rules w q (states.Tick keys) h.luck yes up down
-acted_not_down rules room w (Say q to what) h yes up down = call_not_down rules w q (states.Say to what) h.luck yes up down
-acted_not_down rules room w (Give number q) h yes up down = give_not_down rules w q h.luck (slice_get w.said number) yes up down
-acted_not_down rules room w (Leave leaver) h yes up down = call_not_down rules w 1 (states.Leave leaver) h.luck yes up down
-acted_not_down rules room w (Decide leaver) h yes up down = call_not_down rules w 1 (states.Decide leaver) h.luck yes up down
+acted_not_down rules room w (Open q) h in_game up down = open_not_down rules room w q h in_game up down
+acted_not_down rules room w (Tick q keys) h in_game up down = call_not_down rules w q (states.Tick keys) h.luck in_game up down
+acted_not_down rules room w (Say q to what) h in_game up down = call_not_down rules w q (states.Say to what) h.luck in_game up down
+acted_not_down rules room w (Give number q) h in_game up down = give_not_down rules w q h.luck (slice_get w.said number) in_game up down
+acted_not_down rules room w (Leave leaver) h in_game up down = call_not_down rules w 1 (states.Leave leaver) h.luck in_game up down
+acted_not_down rules room w (Decide leaver) h in_game up down = call_not_down rules w 1 (states.Decide leaver) h.luck in_game up down
 
 pub down_told : (laws : ArePeersLawful) (rules : Rules) (room : ℕ) (v u : World) (events : List Event) (answers : List Answer) (act : Act) → AreInRange rules → room < 2 ^ 64 → Chain rules room (start rules) events answers v
     → IsPlayer rules (player_of act) → CanHappen rules room v (Do act) IsDown u → mode_by (player_of act) Away events answers ≢ states.Open
-down_told laws rules room v u events answers act range few chain plays can open =
-    acted_not_down rules room v act can.happening (plays_so rules (player_of act) plays) (modes_told laws rules room v events answers (player_of act) range few chain plays ∙ open) (ap (λ (a : After). a.answer) can.is)
+down_told laws rules room v u events answers act range few chain plays can up =
+    acted_not_down rules room v act can.happening (plays_so rules (player_of act) plays) (modes_told laws rules room v events answers (player_of act) range few chain plays ∙ up) (ap (λ (a : After). a.answer) can.is)

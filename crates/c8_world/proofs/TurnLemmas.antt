@@ -1,6 +1,5 @@
 -- Each event is a turn of its player.
-use Rattle.std.proofs.Common.{◌≡◌, ◌≢◌, ◌<◌, ◌≤◌, inl, inr, ⊎_elim, ℕ, ◌+◌, ◌*◌, ◌-◌, List, [], ◌∷◌, ◌++◌, length, map, take, drop, slice_set, slice_index_or, Option, Some, None, Ok, Err, refl, sym, ap, subst, ◌∙◌, arith}
-use Rattle.std.specs.Prelude.{Result}
+use Rattle.std.proofs.Common.{◌≡◌, ◌<◌, ⊎_elim, ℕ, ◌+◌, ◌*◌, ◌-◌, List, [], ◌∷◌, ◌++◌, length, map, take, drop, slice_set, slice_index_or, Option, None, refl, sym, ap, subst, ◌∙◌, arith}
 use Rattle.std.proofs.lemmas.List.{append-nil, length-map, get_or-set_same, get_or-set_other, get_or_default}
 use Rattle.c8_disk.specs.declared.disk.Disk.{Ghosts}
 use Rattle.c8_disk.specs.declared.error.DiskError.{DiskError}
@@ -39,7 +38,7 @@ module _ {D : Type 0} (g : Ghosts D) (reads_now : (disk : D) → g.may_leave dis
       → (g.capacity old.disk < slot_length * (length (kept (g.seen old.disk)) + 1) + 1 → P errors.Full) → (why : DiskError) → HasCause g old new why → P why
   blamed old new sound up P failed full errors.Failed cause = failed cause
   blamed old new sound up P failed full errors.Full cause =
-      let long : length (kept (g.seen old.disk)) ≡ length old.state.journal = ap length (kept_now old sound up) ∙ length-map body_of old.state.journal in
+      let long : length (kept (g.seen old.disk)) ≡ length old.state.journal = ap length (kept_now old sound up) ∙ length-map old.state.journal body_of in
       full (omega (arith, cause, long))
 
   -- and from each that an opening has
@@ -86,9 +85,9 @@ pooled_turn t self new p answer view same none =
     })
 
 -- a stop: armed, the act, crashed
-pub stop_turn : (old armed acted new : TableValue) (p : ℕ) (answer stopped : codes.Answer) → armed.rules ≡ old.rules → acted.rules ≡ armed.rules → OthersStay p old armed → IsTurn p answer armed acted → OthersStay p acted new
-    → ((why : DiskError) → Blames stopped why → ⊥) → IsTurn p stopped old new
-stop_turn old armed acted new p answer stopped first second arms turn crashes none = record {
+pub stop_turn : (old armed acted new : TableValue) (p : ℕ) (answer told : codes.Answer) → armed.rules ≡ old.rules → acted.rules ≡ armed.rules → OthersStay p old armed → IsTurn p answer armed acted → OthersStay p acted new
+    → ((why : DiskError) → Blames told why → ⊥) → IsTurn p told old new
+stop_turn old armed acted new p answer told first second arms turn crashes none = record {
   others = λ q plays apart.
       let mid : IsPlayer armed.rules q = rw first plays in
       let last : IsPlayer acted.rules q = rw second mid in

@@ -1,5 +1,5 @@
 -- What the disks of a world have room for, when they were told to fail, and why they are blamed.
-use Rattle.std.specs.Prelude.{◌≡◌, ◌≢◌, ◌≤◌, ◌<◌, ◌⊎◌, ℕ, ◌+◌, ◌*◌, List, [], ◌∷◌, ◌++◌, length, nat_eq, if◌then◌else◌, Option, Some, None, Err}
+use Rattle.std.specs.Prelude.{◌≡◌, ◌≢◌, ◌<◌, ◌⊎◌, ℕ, ◌+◌, ◌*◌, List, [], ◌∷◌, ◌++◌, length, nat_eq, if◌then◌else◌, Option, Some, None, Err}
 use Rattle.c8_disk.specs.declared.disk.Arm.{Arm}
 use Rattle.c8_disk.specs.declared.disk.Arm.TheVariants as arms
 use Rattle.c8_disk.specs.declared.mem_disk.MemDisk.{MemDisk}

@@ -1,4 +1,4 @@
-use Rattle.std.proofs.Common.{◌≤◌, arith}
+use Rattle.std.proofs.Common.{arith}
 use Rattle.c8_peer.proofs.ReaderLemmas.{confirmed_few}
 use Rattle.c8_peer.proofs.peer.Peer.confirmed.Goals as goal
 

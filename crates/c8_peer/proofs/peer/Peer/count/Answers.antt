@@ -1,4 +1,4 @@
-use Rattle.std.proofs.Common.{◌≤◌, arith}
+use Rattle.std.proofs.Common.{arith}
 use Rattle.c8_peer.proofs.ReaderLemmas.{counts_few}
 use Rattle.c8_peer.proofs.peer.Peer.count.Goals as goal
 
