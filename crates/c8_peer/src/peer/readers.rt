@@ -124,9 +124,9 @@ impl<'g, D: Disk> Peer<'g, D> {
         self.roll.shown()
     }
 
-    /// How many frames were run in the last call that recorded something. The opening runs as many
-    /// as the journal has ticks; a call after it at most the window's and its tick, since no peer is
-    /// further ahead than the window.
+    /// How many frames were run in the last call that recorded something. An opening runs those of
+    /// all ticks. The clause leaves open which call it was: it is at most the window's and one, or
+    /// all ticks.
     pub fn last_run(&self) -> u32
         ensures ahead { (known_by self.now).ticks
             ≤ confirmed (known_by self.now) + self.now.rules.window }
