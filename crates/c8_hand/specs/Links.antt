@@ -83,8 +83,7 @@ refusal_by_kind kinds.Freeze = refusal_of_others
 refusal_by_kind kinds.Frozen = refusal_of_others
 refusal_by_kind kinds.Cut = refusal_of_others
 
--- Whether a datagram is from another player of the game, to this one. A kind between other seats will
--- be judged by its kind here.
+-- Whether a datagram is from another player of the game, to this one.
 abbrev pub is_mine : LinksValue → HeadValue → Bool
 is_mine l head = (head.to == l.me && not (head.from == l.me)) && (nat_le 1 head.from && nat_le head.from l.players)
 

@@ -1,4 +1,4 @@
--- The numbers of the refusals, as a program prints them. A refusal of wire version 2 alone would be number 10.
+-- The numbers of the refusals, as a program prints them.
 use Rattle.std.specs.Prelude.{ℕ}
 use Rattle.c8_wire.specs.declared.error.WireError.{WireError}
 use Rattle.c8_wire.specs.declared.error.WireError.TheVariants as errors

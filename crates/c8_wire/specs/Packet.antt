@@ -108,8 +108,7 @@ Fits (Freeze m) = Unit {0}
 Fits (Frozen m) = AreWords m.words
 Fits (Cut m) = AreWords m.words
 
--- A header between two players, its numbers fitting their places. A kind between other seats will
--- have its own line here: the seats are then a condition by kind.
+-- A header between two players, its numbers fitting their places.
 pub record IsHead (head : HeadValue) : Type 0 where
   pub session : head.session < 2 ^ 64
   pub from_one : 1 ≤ head.from

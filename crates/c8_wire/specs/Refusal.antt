@@ -21,8 +21,7 @@ abbrev pub is_misfit : Kind → List ℕ → Bool
 is_misfit kind bytes = not (length bytes == header_length + size_at bytes)
     || (if has_run kind then nat_lt (size_at bytes) (fixed_size kind) else not (size_at bytes == fixed_size kind))
 
--- The header does not name two players, or the leaver is none who may leave. A kind between other
--- seats will be judged by its kind here.
+-- The header does not name two players, or the leaver is none who may leave.
 abbrev pub misnames_players : Kind → List ℕ → Bool
 misnames_players kind bytes = not (is_player (slice_index bytes 12)) || not (is_player (slice_index bytes 13))
     || slice_index bytes 12 == slice_index bytes 13 || (names_leaver kind && not (is_within 2 4 (slice_index bytes 24)))
@@ -61,8 +60,7 @@ abbrev pub is_kind_and : Option Kind → (Kind → Bool) → Bool
 is_kind_and None test = false
 is_kind_and (Some kind) test = test kind
 
--- Whether a refusal's condition holds of the bytes; the later ones want the kind. Wire version 2 will
--- change `Version` and `Count`, and add a refusal between `Count` and `Beyond`.
+-- Whether a refusal's condition holds of the bytes; the later ones want the kind.
 unfoldable pub applies : WireError → Option Kind → List ℕ → Bool
 applies errors.Short kind bytes = nat_lt (length bytes) header_length
 applies errors.Magic kind bytes = not (number_at 0 2 bytes == 0x4338)

@@ -29,7 +29,7 @@ abbrev pub packet_said : Said → Packet
 packet_said said = record { head = head_value said.head; message = message_of said.body }
 
 -- This may be said: the header names the kind of the body, whose numbers keep to their bounds. What
--- else makes it a packet its types give. Seats that a kind asks for will be one condition more.
+-- else makes it a packet its types give.
 pub record MaySay (said : Said) : Type 0 where
   pub kind : said.head.kind ≡ kind_of (message_of said.body)
   pub message : IsMessage (message_of said.body)

@@ -5,8 +5,7 @@ use Rattle.byteorder.specs.Endian.{big_bytes}
 use Rattle.c8_wire.specs.Kinds.{code_of}
 use Rattle.c8_wire.specs.Packet.{HeadValue, LeaverMessage, Message, Hello, Welcome, Data, Freeze, Frozen, Cut, Packet, IsPacket}
 
--- The header of a datagram whose body has so many bytes. Byte 2 is the wire version: a second version
--- will be a field of the head, of which byte 2 and the bytes of a run's key sets then speak by cases.
+-- The header of a datagram whose body has so many bytes. Byte 2 is the version of the format.
 abbrev pub header_bytes : HeadValue → ℕ → List ℕ
 header_bytes head size =
     0x43 ∷ 0x38 ∷ 1 ∷ code_of head.kind ∷ [] ++ big_bytes 8 head.session ++ head.from ∷ head.to ∷ []

@@ -7,7 +7,7 @@ use crate::kinds::Kind;
 use crate::numbers::{u32_at, u64_at};
 use c8_game::Player;
 
-/// Who says a datagram, or is addressed. So far players alone have seats, 1 to 4.
+/// Who says a datagram, or is addressed: a player's place in the header, 1 to 4.
 #[derive(Clone, Copy, Debug, PartialEq, Eq)]
 pub struct Seat {
     pub number: u8,
@@ -18,7 +18,7 @@ pub struct Seat {
 impl Seat {
     ghost use Rattle.c8_wire.specs.Refusal.{is_player};
 
-    /// The player whose seat it is, if it is a player's.
+    /// The player whose seat it is; every seat is a player's.
     pub fn player(self) -> Option<Player>
         ensures { MatchOption result (is_player self.number ≡ false)
             (λ player. player.number ≡ self.number) }
