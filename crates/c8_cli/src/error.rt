@@ -7,6 +7,7 @@ use c8_command::{Part, Refusal};
 use c8_disk::DiskError;
 use c8_game::GameError;
 use c8_keys::KeysError;
+use c8_live::SessionError;
 use c8_peer::OpenError;
 use thiserror::Error;
 
@@ -62,6 +63,16 @@ pub enum PeerError {
     /// The addresses, or the socket.
     #[error("{0}")]
     Socket(SocketError),
+}
+
+/// Why a session that cannot go on ends the command.
+impl From<SessionError> for PeerError {
+    fn from(error: SessionError) -> PeerError {
+        match error {
+            SessionError::Disk(error) => PeerError::Disk(error),
+            SessionError::Wire(_) => PeerError::Socket(SocketError::Failed),
+        }
+    }
 }
 
 impl From<PeerError> for Refusal {

@@ -16,7 +16,7 @@ use c8_command::{Refusal, Status, TextError, read_file, text_of};
 use c8_disk::{Disk, DiskError, FileDisk, FileError};
 use c8_game::{Game, GameError, Keys, Player};
 use c8_keys::{KeysError, Played, key_sets, write_report};
-use c8_live::{Session, SessionError, Wire, tell_progress};
+use c8_live::{Session, Wire, tell_progress};
 use c8_peer::{OpenError, Peer};
 use std::alloc::Global;
 use std::fs::File;
@@ -121,7 +121,7 @@ fn play<R: Clock, D: Disk, W: Wire, E: Write>(
         if session.is_over() {
             break;
         }
-        session.turn(wire).map_err(ended_by)?;
+        session.turn(wire)?;
         if asked.progress {
             // a game goes on where nobody can read of it
             let _ = tell_progress(progress, turn + 1, session);
@@ -129,14 +129,6 @@ fn play<R: Clock, D: Disk, W: Wire, E: Write>(
         thread::sleep(rt, Duration::from_millis(PAUSE));
     }
     Ok(())
-}
-
-/// Why a session that cannot go on ends the command.
-fn ended_by(error: SessionError) -> PeerError {
-    match error {
-        SessionError::Disk(error) => PeerError::Disk(error),
-        SessionError::Wire(_) => PeerError::Socket(SocketError::Failed),
-    }
 }
 
 /// The game of a file.

@@ -4,6 +4,7 @@ use c8_command::{Refusal, Status};
 use c8_disk::DiskError;
 use c8_game::GameError;
 use c8_keys::{KeysError, RunError};
+use c8_live::{SessionError, WireFailed};
 use c8_peer::OpenError;
 use c8_script::{ScriptError, SimError};
 use c8_show::{HexError, ShowError};
@@ -218,6 +219,33 @@ fn each_refusal_has_its_line_and_status(rt: HostRuntime) -> Result<(), Fail> {
     let told = str::from_utf8(&told).unwrap_or("no text");
     assert!(rt; told == LINES, "{told}");
     Ok(())
+}
+
+/// What ends a session, and what the command `peer` then tells.
+const ENDS: [(SessionError, PeerError); 3] = [
+    (
+        SessionError::Disk(DiskError::Failed),
+        PeerError::Disk(DiskError::Failed),
+    ),
+    (
+        SessionError::Disk(DiskError::Full),
+        PeerError::Disk(DiskError::Full),
+    ),
+    (
+        SessionError::Wire(WireFailed),
+        PeerError::Socket(SocketError::Failed),
+    ),
+];
+
+fn ends() -> &'static [(SessionError, PeerError)] {
+    &ENDS
+}
+
+#[test]
+fn what_ends_a_session_is_told_by_the_command(rt: HostRuntime) {
+    for (session, peer) in ends() {
+        assert!(rt; PeerError::from(*session) == *peer);
+    }
 }
 
 const STATUSES: [(Status, u8); 4] = [

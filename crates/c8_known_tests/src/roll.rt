@@ -6,8 +6,11 @@ mod slow;
 use crate::calls::{at_first, come, enter, game_of};
 use c8_game::{Game, Player};
 use c8_known::Known;
+use c8_machine::Machine;
 use c8_roll::Roll;
+use late::gone_on;
 use std::alloc::Global;
+use std::process::Abort;
 use std::test::Fail;
 
 /// What is called, and what is answered.
@@ -26,11 +29,16 @@ enum Step {
     Counts(u32, u32, u32),
     /// The register V2 and the program counter that are shown.
     Shows(u8, u16),
+    /// How many random bytes were drawn of what is shown, and the register V1.
+    Draws(u64, u8),
     /// What is shown is certain.
     IsCertain,
+    /// What is shown is what a machine becomes that runs these frames of player 2, and no key of
+    /// player 1, from the first on.
+    Runs(&'static str),
 }
 
-const STEPS: [Step; 26] = [
+const STEPS: [Step; 27] = [
     Step::Case("takes back a wrong guess"),
     Step::Tick(8),
     Step::Shows(0, 0x204),
@@ -39,6 +47,7 @@ const STEPS: [Step; 26] = [
     Step::Counts(8, 8, 8),
     Step::Shows(1, 0x202),
     Step::IsCertain,
+    Step::Runs("#......."),
     Step::Case("runs from the wrong guess on"),
     Step::Counts(0, 0, 0),
     Step::Tick(8),
@@ -61,6 +70,27 @@ const STEPS: [Step; 26] = [
     // it was let go a frame before the last that is shown
     Step::Hear("##.", Some(7)),
     Step::Counts(8, 2, 9),
+];
+
+/// Counts in V2 the frames with player 2's key down.
+const COUNTS: &str = "6004e09e120272011202";
+
+/// The same, and draws a random byte into V1 in every frame.
+const DRAWS: &str = "6004c1ffe09e120272011202";
+
+/// The eighth byte that is drawn is 6b, whether the key was down or not.
+const DRAWING: [Step; 11] = [
+    Step::Case("draws again what it takes back"),
+    Step::Tick(8),
+    Step::Counts(0, 1, 8),
+    Step::Shows(0, 0x206),
+    Step::Draws(8, 0x6b),
+    Step::Hear("#.......", Some(0)),
+    Step::Counts(8, 8, 8),
+    Step::Shows(1, 0x204),
+    Step::Draws(8, 0x6b),
+    Step::IsCertain,
+    Step::Runs("#......."),
 ];
 
 /// A game of two players without delay, at a window of 8 frames.
@@ -165,24 +195,49 @@ impl<'g> Play<'g> {
                 let shown = roll.shown();
                 shown.registers()[2] == register && shown.counter() == counter
             }
+            Step::Draws(draws, register) => {
+                let shown = roll.shown();
+                shown.draws() == draws && shown.registers()[1] == register
+            }
             Step::IsCertain => roll.base().1 == roll.shown(),
+            Step::Runs(text) => *roll.shown() == run_of(self.game, text),
         }
     }
 }
 
-#[test]
-fn each_step_is_answered_as_it_says(rt: HostRuntime) -> Result<(), Fail> {
-    let game = read(rt.alloc(), 3, 100, "6004e09e120272011202")?;
-    let mut play = Play::new(rt.alloc(), &game)?;
+/// The machine after the frames of player 2 that a text draws, of which player 1 enters no key.
+fn run_of(game: &Game, text: &str) -> Machine {
+    let mut machine = Machine::start(game);
+    for letter in text.bytes() {
+        let two = if letter == b'#' { 0x0010 } else { 0 };
+        machine = gone_on(game, &machine, 0, two);
+    }
+    machine
+}
+
+/// Each step is answered as it says, in a game of this code, of three instructions a frame.
+fn walk(rt: &impl Abort, alloc: Global, code: &str, steps: &[Step]) -> Result<(), Fail> {
+    let game = read(alloc, 3, 100, code)?;
+    let mut play = Play::new(alloc, &game)?;
     let mut case = "";
-    for (n, step) in STEPS.iter().enumerate() {
+    for (n, step) in steps.iter().enumerate() {
         if let Step::Case(name) = step {
-            play.begin(rt.alloc())?;
+            play.begin(alloc)?;
             case = name;
         }
         assert!(rt; play.holds(*step), "{case}: step {n}");
     }
     Ok(())
+}
+
+#[test]
+fn each_step_is_answered_as_it_says(rt: HostRuntime) -> Result<(), Fail> {
+    walk(&rt, rt.alloc(), COUNTS, &STEPS)
+}
+
+#[test]
+fn a_random_byte_is_drawn_again_in_every_frame(rt: HostRuntime) -> Result<(), Fail> {
+    walk(&rt, rt.alloc(), DRAWS, &DRAWING)
 }
 
 /// Whether a tick and the input of player 2 that was guessed run one frame and none.

@@ -18,6 +18,8 @@ pub(crate) enum Deed {
     Open,
     /// Opens as this player in this room, the table's game or the other one.
     OpenAs { other: bool, me: u8, room: u64 },
+    /// Closes the peer, opens it again, and compares what it tells of its journal with what it told.
+    Again,
     /// Closes the peer.
     Close,
     /// Closes the peer; its disk holds what a crash may leave then, by the pick.
@@ -26,12 +28,16 @@ pub(crate) enum Deed {
     Disk(u32, u32),
     /// A disk takes its place that holds slots which begin with these bytes, and a closed gate.
     Hold(&'static [&'static [u8]]),
+    /// The same of a disk of this capacity, with these bytes in place of the gate.
+    HoldTorn(u32, &'static [&'static [u8]], &'static [u8]),
     /// The disk serves so many calls more.
     Stop(u64),
     /// One call of the disk.
     Sync,
     /// Whether the disk holds just what `Hold` puts there.
     Holds(&'static [&'static [u8]]),
+    /// Whether it holds just what `HoldTorn` puts there.
+    HoldsTorn(&'static [&'static [u8]], &'static [u8]),
     /// Whether the slot of this number begins with these bytes, and has zeros after them.
     Slot(usize, &'static [u8]),
     /// How many bytes the disk holds.
@@ -42,6 +48,8 @@ pub(crate) enum Deed {
     Ticks(u16, u32),
     /// Says something to a player. What is said by this deed has numbers from 0 on.
     Say(u8, What),
+    /// Whether what is said to a player is just these bytes.
+    Says(u8, What, &'static [u8]),
     /// Says something to a player, who hears it at once. The answer is the other's.
     Tell(u8, What),
     /// Says HELLO to a player, whose WELCOME is heard. The answer is to the WELCOME.

@@ -12,7 +12,11 @@ use std::test::Fail;
 const THREE: &str =
     "players 3\nipf 10\nframes 100\ndelay 0\nwindow 12\nseed 0\nmask1 000f\nmask2 fff0\nmask3 ffff\ncode 1200\n";
 
-/// The same of four.
+/// The same with a program that counts the frames with key 5 down, which is player 2's.
+const COUNTS: &str =
+    "players 3\nipf 3\nframes 100\ndelay 0\nwindow 12\nseed 0\nmask1 000f\nmask2 fff0\nmask3 ffff\ncode 6005e09e120272011202\n";
+
+/// Four players, a window of 12 frames and no delay.
 const FOUR: &str =
     "players 4\nipf 10\nframes 100\ndelay 0\nwindow 12\nseed 0\nmask1 000f\nmask2 fff0\nmask3 ffff\nmask4 ffff\ncode 1200\n";
 
@@ -25,6 +29,8 @@ const TICKED: Answer = Answer::Ticked(Ok(()));
 const KEPT: Answer = Answer::Delivered(Ok(Heard::Kept));
 
 const NOTHING: Answer = Answer::Delivered(Ok(Heard::Nothing));
+
+const YES: Answer = Answer::Tells(true);
 
 const MET: [Row; 1] = [(0, Deed::Meet, Answer::Done)];
 
@@ -143,6 +149,45 @@ const OPENED_AGAIN: [Row; 17] = [
 #[test]
 fn who_stays_is_opened_again_in_a_drop_round(rt: HostRuntime) -> Result<(), Fail> {
     plays(rt.alloc(), THREE, &TEN_TICKS, &OPENED_AGAIN)
+}
+
+/// After a record of each kind the journal is read again.
+const AGAIN: [Row; 30] = [
+    (1, Deed::Again, YES),
+    (2, Deed::Again, YES),
+    (1, Deed::Leave(3), Answer::Left(Ok(()))),
+    (1, Deed::Of(3, About::Leaving), YES),
+    (1, Deed::Again, YES),
+    (1, Deed::Link(2), NOTHING),
+    (2, Deed::Link(1), NOTHING),
+    (1, Deed::Tell(2, Freeze(3)), KEPT),
+    (2, Deed::Of(3, About::Frozen), YES),
+    (2, Deed::Again, YES),
+    (1, Deed::Link(2), NOTHING),
+    (2, Deed::Link(1), NOTHING),
+    (2, Deed::Tell(1, Frozen(3)), KEPT),
+    (1, Deed::Of(3, About::Count), Answer::Is(10)),
+    (1, Deed::Again, YES),
+    (1, Deed::Link(2), NOTHING),
+    (2, Deed::Link(1), NOTHING),
+    (2, Deed::Tell(1, Frozen(3)), NOTHING),
+    (1, Deed::Decide(3), Answer::Decided(Ok(10))),
+    (1, Deed::Again, YES),
+    (1, Deed::Link(2), NOTHING),
+    (2, Deed::Link(1), NOTHING),
+    (1, Deed::Tell(2, Cut(3)), KEPT),
+    (2, Deed::Again, YES),
+    (2, Deed::Of(3, About::Cut), Answer::Is(10)),
+    (1, Deed::Link(3), NOTHING),
+    (3, Deed::Link(1), NOTHING),
+    (1, Deed::Tell(3, Cut(3)), Answer::Delivered(Ok(Heard::Out))),
+    (3, Deed::Again, YES),
+    (3, Deed::Look(Dropped), YES),
+];
+
+#[test]
+fn a_journal_read_again_says_what_each_call_made_known(rt: HostRuntime) -> Result<(), Fail> {
+    plays(rt.alloc(), COUNTS, &TEN_TICKS, &AGAIN)
 }
 
 const SILENT: [Row; 6] = [

@@ -10,6 +10,8 @@ mod opening;
 #[cfg(test)]
 mod playing;
 #[cfg(test)]
+mod refused;
+#[cfg(test)]
 mod seat;
 #[cfg(test)]
 mod stops;

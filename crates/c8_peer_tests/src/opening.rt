@@ -73,18 +73,17 @@ fn each_opening_begins_an_epoch(rt: HostRuntime) -> Result<(), Fail> {
     plays_beside(rt.alloc(), GAME, OTHER_GAME, &NOBODY, &EPOCHS)
 }
 
+/// The player opens in the other game.
+const OTHERS_GAME: Deed = Deed::OpenAs {
+    other: true,
+    me: 2,
+    room: ROOM,
+};
+
 /// Another game is told before another player, and no player of the game before all.
 const OTHERS: [Row; 25] = [
     (2, Deed::Hold(&[HEAD]), Answer::Done),
-    (
-        2,
-        Deed::OpenAs {
-            other: true,
-            me: 2,
-            room: ROOM,
-        },
-        Answer::Opened(Err(OpenError::WrongGame)),
-    ),
+    (2, OTHERS_GAME, Answer::Opened(Err(OpenError::WrongGame))),
     (2, Deed::Holds(&[HEAD]), YES),
     (2, Deed::Crash(0), Answer::Done),
     (2, Deed::Holds(&[HEAD]), YES),
@@ -193,6 +192,57 @@ const LAST_EPOCHS: [Row; 9] = [
 #[test]
 fn the_last_epoch_is_the_last(rt: HostRuntime) -> Result<(), Fail> {
     plays_beside(rt.alloc(), GAME, OTHER_GAME, &NOBODY, &LAST_EPOCHS)
+}
+
+/// A gate after one slot, closed and open, and a hundred bytes that make no whole slot with it.
+const CLOSED: &[u8] =
+    b"\x000001020304050607080910111213141516171819202122232425262728293031323334353637383940414243444546474849";
+
+/// The same with the gate open.
+const OPEN: &[u8] =
+    b"\xa50001020304050607080910111213141516171819202122232425262728293031323334353637383940414243444546474849";
+
+const CLOSED_THERE: Deed = Deed::HoldsTorn(&[HEAD], CLOSED);
+
+/// One record is found, and the epoch after it takes the place of the other bytes. Where the
+/// opening is refused, because the journal is another game's or the disk is full, nothing but the
+/// gate is written.
+const TORN: [Row; 30] = [
+    (2, Deed::HoldTorn(1000, &[HEAD], CLOSED), Answer::Done),
+    (2, Deed::Length, Answer::Is(245)),
+    (2, Deed::Open, Answer::Opened(Ok(2))),
+    (2, Deed::Holds(&[HEAD, SECOND]), YES),
+    (2, Deed::Crash(0), Answer::Done),
+    (2, Deed::Holds(&[HEAD, SECOND]), YES),
+    (2, Deed::HoldTorn(1000, &[HEAD], OPEN), Answer::Done),
+    (2, Deed::Length, Answer::Is(245)),
+    (2, Deed::Open, Answer::Opened(Ok(2))),
+    (2, Deed::Holds(&[HEAD, SECOND]), YES),
+    (2, Deed::Crash(0), Answer::Done),
+    (2, Deed::Holds(&[HEAD, SECOND]), YES),
+    (2, Deed::HoldTorn(1000, &[HEAD], CLOSED), Answer::Done),
+    (2, OTHERS_GAME, Answer::Opened(Err(OpenError::WrongGame))),
+    (2, CLOSED_THERE, YES),
+    (2, Deed::Crash(0), Answer::Done),
+    (2, CLOSED_THERE, YES),
+    (2, Deed::HoldTorn(1000, &[HEAD], OPEN), Answer::Done),
+    (2, Deed::HoldsTorn(&[HEAD], OPEN), YES),
+    (2, OTHERS_GAME, Answer::Opened(Err(OpenError::WrongGame))),
+    (2, CLOSED_THERE, YES),
+    (2, Deed::Crash(0), Answer::Done),
+    (2, CLOSED_THERE, YES),
+    (2, Deed::HoldTorn(245, &[HEAD], CLOSED), Answer::Done),
+    (2, Deed::Open, FULL),
+    (2, CLOSED_THERE, YES),
+    (2, Deed::HoldTorn(245, &[HEAD], OPEN), Answer::Done),
+    (2, Deed::Open, FULL),
+    (2, Deed::Crash(0), Answer::Done),
+    (2, CLOSED_THERE, YES),
+];
+
+#[test]
+fn what_a_crash_left_of_a_slot_is_no_record(rt: HostRuntime) -> Result<(), Fail> {
+    plays_beside(rt.alloc(), GAME, OTHER_GAME, &NOBODY, &TORN)
 }
 
 /// Two disks on which there is room for the gate after no body, or not even for that, and one that

@@ -2,6 +2,7 @@
 use crate::deed::{About, Answer, Deed, Look};
 use c8_disk::{Arm, Disk, MemDisk};
 use c8_game::{Game, Keys, Player};
+use c8_machine::Machine;
 use c8_peer::{Kind, Peer};
 use std::alloc::Global;
 
@@ -27,6 +28,33 @@ impl Letter {
             *byte ^= 1;
         }
         changed
+    }
+}
+
+/// What a peer tells of its journal.
+#[derive(Clone, Copy, PartialEq, Eq)]
+pub(crate) struct Told {
+    now: u32,
+    confirmed: u32,
+    is_dropped: bool,
+    certain: Machine,
+    shown: Machine,
+    players: [OfPlayer; 4],
+}
+
+/// What it tells of a player: how many inputs it holds, whether the player is frozen, whether it
+/// leaves, and where its list is cut.
+type OfPlayer = (u32, bool, bool, Option<u32>);
+
+fn told_of(peer: &Peer<'_, MemDisk>, number: u8) -> OfPlayer {
+    match Player::new(number) {
+        Some(player) => (
+            peer.count(player),
+            peer.frozen(player),
+            peer.leaving(player),
+            peer.cut_of(player),
+        ),
+        None => (0, false, false, None),
     }
 }
 
@@ -177,6 +205,24 @@ impl<'g> Seat<'g> {
             Look::NoRows => Answer::Tells(peer.rows().is_empty()),
             Look::RowsOf => Answer::Is(u32::from(peer.rows().players())),
         }
+    }
+
+    pub(crate) fn told(&self) -> Option<Told> {
+        let peer = self.peer.as_ref()?;
+        let (confirmed, certain) = peer.base();
+        Some(Told {
+            now: peer.now(),
+            confirmed,
+            is_dropped: peer.dropped(),
+            certain: *certain,
+            shown: *peer.shown(),
+            players: [
+                told_of(peer, 1),
+                told_of(peer, 2),
+                told_of(peer, 3),
+                told_of(peer, 4),
+            ],
+        })
     }
 
     pub(crate) fn about(&self, player: Player, about: About) -> Answer {

@@ -1,11 +1,14 @@
 //! All players' peers, and one deed after the other.
 use crate::deed::{Answer, Deed, ROOM, Row, What};
-use crate::seat::{Letter, Seat};
+use crate::seat::{Letter, Seat, Told};
 use c8_disk::{Disk, LONGEST_WRITE, MemDisk};
 use c8_game::{Game, Player};
 use c8_peer::Kind;
 use std::alloc::Global;
 use std::test::Fail;
+
+/// The gate after the last slot of a journal at rest.
+const CLOSED: &[u8] = b"\0";
 
 /// The seats of all players, player 1 first, and what was said to be heard later.
 #[derive(Drop)]
@@ -81,10 +84,14 @@ impl<'g> Table<'g> {
             Deed::Gather => self.gather(),
             Deed::Open => self.open(at, false, at, ROOM),
             Deed::OpenAs { other, me, room } => self.open(at, other, me, room),
+            Deed::Again => self.again(at),
             Deed::Disk(capacity, calls) => self.put(at, capacity, calls, &[]),
-            Deed::Hold(slots) => self.hold(at, slots),
-            Deed::Holds(slots) => self.holds(at, slots),
+            Deed::Hold(slots) => self.hold(at, 1000, slots, CLOSED),
+            Deed::HoldTorn(capacity, slots, rest) => self.hold(at, capacity, slots, rest),
+            Deed::Holds(slots) => self.holds(at, slots, CLOSED),
+            Deed::HoldsTorn(slots, rest) => self.holds(at, slots, rest),
             Deed::Say(to, what) => self.say(at, to, what),
+            Deed::Says(to, what, bytes) => self.says(at, to, what, bytes),
             Deed::Tell(to, what) => self.tell(at, to, what),
             Deed::Link(to) => self.link(at, to),
             Deed::Hear(number) => self.hear(at, number, 174),
@@ -133,6 +140,23 @@ impl<'g> Table<'g> {
         }
     }
 
+    fn told(&mut self, at: u8) -> Option<Told> {
+        match self.seat(at) {
+            Some(seat) => seat.told(),
+            None => None,
+        }
+    }
+
+    fn again(&mut self, at: u8) -> Answer {
+        let Some(before) = self.told(at) else {
+            return Answer::Impossible;
+        };
+        match self.open(at, false, at, ROOM) {
+            Answer::Opened(Ok(_)) => Answer::Tells(self.told(at) == Some(before)),
+            answer => answer,
+        }
+    }
+
     /// Puts a disk in the place of a player's, that holds these bytes, all of them synced.
     fn put(&mut self, at: u8, capacity: u32, calls: u32, bytes: &[u8]) -> Answer {
         let Some(disk) = holding(self.alloc, capacity, calls, bytes) else {
@@ -147,15 +171,15 @@ impl<'g> Table<'g> {
         }
     }
 
-    fn hold(&mut self, at: u8, slots: &[&[u8]]) -> Answer {
-        match image(self.alloc, slots) {
-            Some(image) => self.put(at, 1000, 100, &image),
+    fn hold(&mut self, at: u8, capacity: u32, slots: &[&[u8]], rest: &[u8]) -> Answer {
+        match image(self.alloc, slots, rest) {
+            Some(image) => self.put(at, capacity, 100, &image),
             None => Answer::Impossible,
         }
     }
 
-    fn holds(&mut self, at: u8, slots: &[&[u8]]) -> Answer {
-        let Some(image) = image(self.alloc, slots) else {
+    fn holds(&mut self, at: u8, slots: &[&[u8]], rest: &[u8]) -> Answer {
+        let Some(image) = image(self.alloc, slots, rest) else {
             return Answer::Impossible;
         };
         match self.seat(at) {
@@ -182,6 +206,13 @@ impl<'g> Table<'g> {
                     Err(_) => Answer::Impossible,
                 }
             }
+            Err(answer) => answer,
+        }
+    }
+
+    fn says(&mut self, from: u8, to: u8, what: What, bytes: &[u8]) -> Answer {
+        match self.letter(from, to, what) {
+            Ok(letter) => Answer::Tells(letter.bytes() == bytes),
             Err(answer) => answer,
         }
     }
@@ -263,13 +294,13 @@ fn settled(mut disk: MemDisk) -> Option<MemDisk> {
     Some(disk.crash(0))
 }
 
-/// The bytes of slots that begin so, with zeros after that, and of the closed gate after them.
-fn image(alloc: Global, slots: &[&[u8]]) -> Option<Vec<u8>> {
+/// The bytes of slots that begin so, with zeros after that, and these bytes after them.
+fn image(alloc: Global, slots: &[&[u8]], rest: &[u8]) -> Option<Vec<u8>> {
     let mut image = Vec::new(alloc);
     for slot in slots {
         image.extend_from_slice(slot).ok()?;
         image.resize(image.len().next_multiple_of(144), 0).ok()?;
     }
-    image.push(0).ok()?;
+    image.extend_from_slice(rest).ok()?;
     Some(image)
 }

@@ -17,7 +17,7 @@ fn entered(frame: u32) -> (u16, u16) {
 }
 
 /// The machine after one frame more.
-fn gone_on(game: &Game, machine: &Machine, one: u16, two: u16) -> Machine {
+pub fn gone_on(game: &Game, machine: &Machine, one: u16, two: u16) -> Machine {
     let mut next = *machine;
     let row = Row {
         sets: [Keys(one), Keys(two), Keys(0), Keys(0)],
