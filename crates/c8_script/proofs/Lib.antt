@@ -1,3 +1,5 @@
 pub mod DecimalLemmas
+pub mod PrintLemmas
 pub mod ScriptLemmas
 pub mod ScriptLines
+pub mod TranscriptLemmas

@@ -1,28 +1,44 @@
 //! How answers are told: one line each, as `12 no tick 1 Threshold`.
 
+ghost use Rattle.std.specs.Prelude.{◌≡◌, ℕ, List, [], ◌∷◌, OnOk, length};
+ghost use Rattle.std.specs.List.{flat_map};
+ghost use Rattle.std.specs.Io.KnownBytes.{Appends};
+ghost use Rattle.c8_script.specs.Printed.{AreLines, IsLine, told, refusal_text, part_word, heard_word, ticked_text, line, count_text, tallies_text, tally_text, ends_text};
+
 use c8_peer::{Heard, Refused};
 use c8_world::{Answer, Counts, Ends, Posted, Tally};
 use std::io;
 use std::io::Write;
 
 /// Writes a line for each answer: the number of its event, 1 for the first, and what is answered.
-pub fn write_answers<W: Write>(out: &mut W, answers: &[Answer]) -> io::Result<()> {
+pub fn write_answers<W: Write>(out: &mut W, answers: &[Answer]) -> io::Result<()>
+    ensures { OnOk result ((text : List ℕ) × AreLines 1 answers.now text
+        × Appends (W.contents out.old) (W.contents out.new) text) }
+{
     for (before, answer) in answers.iter().enumerate() {
-        let number = before + 1;
-        write!(out, "{number} ")?;
-        write_answer(out, *answer)?;
+        write_line(out, before + 1, *answer)?;
     }
     Ok(())
 }
 
-fn write_answer<W: Write>(out: &mut W, answer: Answer) -> io::Result<()> {
+/// Writes the line of an answer.
+fn write_line<W: Write>(out: &mut W, number: usize, answer: Answer) -> io::Result<()>
+    ensures { OnOk result ((text : List ℕ) × IsLine number answer text
+        × Appends (W.contents out.old) (W.contents out.new) text) }
+{
+    write!(out, "{number} ")?;
+    write_answer(out, answer)
+}
+
+fn write_answer<W: Write>(out: &mut W, answer: Answer) -> io::Result<()>
+    ensures { OnOk result ((name : List ℕ)
+        × Appends (W.contents out.old) (W.contents out.new) (told name answer)) }
+{
     match answer {
         Answer::Opened(Ok(epoch)) => writeln!(out, "epoch {epoch}"),
         Answer::Opened(Err(error)) => write_refusal(out, "open", error.number(), error.name()),
         Answer::Up => writeln!(out, "up"),
-        Answer::Ticked(Ok(Counts { now, confirmed })) => {
-            writeln!(out, "now {now} confirmed {confirmed}")
-        }
+        Answer::Ticked(Ok(counts)) => write_ticked(out, counts),
         Answer::Ticked(Err(error)) => write_refusal(out, "tick", error.number(), error.name()),
         Answer::Said(Ok(Posted { number, length })) => {
             writeln!(out, "datagram {number} length {length}")
@@ -42,7 +58,18 @@ fn write_answer<W: Write>(out: &mut W, answer: Answer) -> io::Result<()> {
     }
 }
 
-fn write_heard<W: Write>(out: &mut W, heard: Heard) -> io::Result<()> {
+fn write_ticked<W: Write>(out: &mut W, counts: Counts) -> io::Result<()>
+    ensures { OnOk result (Appends (W.contents out.old) (W.contents out.new)
+        (ticked_text counts)) }
+{
+    let Counts { now, confirmed } = counts;
+    writeln!(out, "now {now} confirmed {confirmed}")
+}
+
+fn write_heard<W: Write>(out: &mut W, heard: Heard) -> io::Result<()>
+    ensures { OnOk result (Appends (W.contents out.old) (W.contents out.new)
+        (line (heard_word heard ∷ []))) }
+{
     match heard {
         Heard::Nothing => writeln!(out, "nothing"),
         Heard::Kept => writeln!(out, "kept"),
@@ -51,12 +78,17 @@ fn write_heard<W: Write>(out: &mut W, heard: Heard) -> io::Result<()> {
 }
 
 /// Writes why an event was refused: by which part, and its number and name there.
-fn write_refusal<W: Write>(out: &mut W, part: &str, number: u8, name: &str) -> io::Result<()> {
+fn write_refusal<W: Write>(out: &mut W, part: &str, number: u8, name: &str) -> io::Result<()>
+    ensures { OnOk result (Appends (W.contents out.old) (W.contents out.new)
+        (refusal_text part.now number name.now)) }
+{
     writeln!(out, "no {part} {number} {name}")
 }
 
 /// The part of a peer that refuses a datagram.
-fn part_of(error: Refused) -> &'static str {
+fn part_of(error: Refused) -> &'static str
+    ensures { result.now ≡ part_word error }
+{
     match error {
         Refused::Wire(_) => "wire",
         Refused::Hand(_) => "hand",
@@ -73,13 +105,24 @@ fn part_of(error: Refused) -> &'static str {
 }
 
 /// Writes how the players stand, one line each, and whether they agree.
-pub fn write_ends<W: Write>(out: &mut W, ends: &Ends) -> io::Result<()> {
-    let players = ends.players.len();
-    for (before, tally) in ends.players.iter().enumerate() {
-        write_tally(out, before + 1, tally, players)?;
-    }
+pub fn write_ends<W: Write>(out: &mut W, ends: &Ends) -> io::Result<()>
+    ensures { OnOk result (Appends (W.contents out.old) (W.contents out.new)
+        (ends_text ends.now.players.items ends.now.agree)) }
+{
+    write_tallies(out, &ends.players)?;
     let agree = if ends.agree { "yes" } else { "no" };
     writeln!(out, "agree {agree}")
+}
+
+fn write_tallies<W: Write>(out: &mut W, tallies: &[Tally]) -> io::Result<()>
+    ensures { OnOk result (Appends (W.contents out.old) (W.contents out.new)
+        (tallies_text (length tallies.now) 1 tallies.now)) }
+{
+    let players = tallies.len();
+    for (before, tally) in tallies.iter().enumerate() {
+        write_tally(out, before + 1, tally, players)?;
+    }
+    Ok(())
 }
 
 /// Writes how a player stands: its ticks, the frames that it has confirmed, and how many inputs it
@@ -89,10 +132,21 @@ fn write_tally<W: Write>(
     player: usize,
     tally: &Tally,
     players: usize,
-) -> io::Result<()> {
+) -> io::Result<()>
+    ensures { OnOk result (Appends (W.contents out.old) (W.contents out.new)
+        (tally_text players player tally.entry.now)) }
+{
     let (now, confirmed) = (tally.now, tally.confirmed);
     write!(out, "player {player} now {now} confirmed {confirmed} held")?;
-    for count in tally.held.iter().take(players) {
+    write_counts(out, &tally.held[..players.min(4)])
+}
+
+/// Writes the rest of a line: these counts.
+fn write_counts<W: Write>(out: &mut W, counts: &[u32]) -> io::Result<()>
+    ensures { OnOk result (Appends (W.contents out.old) (W.contents out.new)
+        (line (flat_map count_text counts.now ∷ []))) }
+{
+    for count in counts {
         write!(out, " {count}")?;
     }
     writeln!(out)

@@ -1,39 +1,58 @@
-use Rattle.std.proofs.Common.{◌≡◌, ◌⊎◌, ℕ, List, Result, Ok, Err, IfOk, inl, inr}
-use Rattle.c8_game.specs.GameText.{Spells}
-use Rattle.c8_game.specs.Rules.{Rules}
-use Rattle.c8_world.specs.declared.event.Event.{Event}
-use Rattle.c8_script.specs.Script.{SpellsScript}
-use Rattle.c8_script.specs.Sim.{IsOutcomeOfSim, IsRefusalOfSim}
-use Rattle.c8_command.specs.Status.{status_of, status_of_outcome}
+use Rattle.std.proofs.Common.{◌≡◌, ◌++◌, ℕ, List, Option, Result, Ok, Err, IfOk, refl, subst}
+use Rattle.std.specs.Io.KnownBytes.{Appends}
+use Rattle.c8_command.specs.Status.{status_of}
 use Rattle.c8_command.specs.declared.status.Status.{Status}
-use Rattle.c8_command.specs.declared.status.Status.TheVariants.{Done, Refused}
+use Rattle.c8_command.specs.declared.status.Status.TheVariants.{Done}
+use Rattle.c8_world.specs.declared.answer.Answer.{Answer}
 use Rattle.c8_script.specs.Errors.{sim_part}
-use Rattle.c8_script.specs.declared.error.ScriptError.TheVariants as scripts
-use Rattle.c8_script.specs.declared.error.SimError.{SimError}
-use Rattle.c8_script.specs.declared.error.SimError.TheVariants.{Script}
+use Rattle.c8_script.specs.Printed.{AreLines, ends_text}
+use Rattle.c8_script.specs.Sim.{IsOutcomeOfSim, IsUnfinished, HasEnded}
+use Rattle.c8_script.specs.declared.transcript.Transcript.{Transcript}
+use Rattle.c8_script.specs.declared.transcript.Unfinished.{Unfinished}
+use Rattle.c8_script.proofs.PrintLemmas.{appends_then}
 use Rattle.c8_script.proofs.command.sim.Goals as goal
 
--- how the command ended has an outcome of the two texts
-Ended : List ℕ → List ℕ → Status → Type 0
-Ended game script status = (outcome : Result (List Event) SimError) × IsOutcomeOfSim game script outcome × (status ≡ status_of_outcome sim_part outcome)
+-- the lines of these answers were written
+Wrote : List Answer → Option (List ℕ) → Option (List ℕ) → Type 0
+Wrote told u v = (text : List ℕ) × AreLines 1 told text × Appends u v text
 
-told_refusal : {E : Type 0} → (game script : List ℕ) (why : SimError) (answer : Result Status E) → IsRefusalOfSim game script why → IfOk answer (λ status. status ≡ status_of (sim_part why)) → IfOk answer (Ended game script)
-unfolding Ended
-told_refusal game script why (Ok status) refused is = (Err why, refused, is)
-told_refusal game script why (Err error) refused is = tt
+-- the match was played to its end, and all was written
+finished : (game script : List ℕ) (u v w : Option (List ℕ)) (transcript : Transcript) (told : List Answer) → IsOutcomeOfSim game script (Ok transcript) → told ≡ transcript.answers.items → Wrote told u v
+    → Appends v w (ends_text transcript.ends.players.items transcript.ends.agree) → HasEnded game script Done u w
+unfolding Wrote
+finished game script u v w transcript told is same wrote ends =
+    let text = ends_text transcript.ends.players.items transcript.ends.agree in
+    record {
+      outcome = Ok transcript;
+      is_outcome = is;
+      status_is = refl;
+      text = wrote.0 ++ text;
+      printed = (wrote.0, subst (λ (answers : List Answer). AreLines 1 answers wrote.0) same wrote.1, refl);
+      appended = appends_then u v w wrote.0 text wrote.2 ends;
+    }
 
--- both texts were read: what they spell happened, or memory ran out
-told_match : {E : Type 0} → (game script : List ℕ) (rules : Rules) (events : List Event) (answer : Result Status E) → Spells game rules → SpellsScript script events
-    → IfOk answer (λ status. (status ≡ Done) ⊎ (status ≡ Refused)) → IfOk answer (Ended game script)
-unfolding Ended
-told_match game script rules events (Ok status) spelt told (inl done) = (Ok events, (rules, spelt, told), done)
-told_match game script rules events (Ok status) spelt told (inr refused) = (Err (Script scripts.Memory), (rules, spelt, tt), refused)
-told_match game script rules events (Err error) spelt told status = tt
+-- it was not, and the answers until then were written
+cut_short : {E : Type 0} → (game script : List ℕ) (u v : Option (List ℕ)) (unfinished : Unfinished) (told : List Answer) (result : Result Status E) → IsUnfinished game script unfinished
+    → told ≡ unfinished.answers.items → Wrote told u v → IfOk result (λ status. status ≡ status_of (sim_part unfinished.error)) → IfOk result (λ status. HasEnded game script status u v)
+unfolding Wrote
+cut_short game script u v unfinished told (Ok status) is same wrote ended = record {
+  outcome = Err unfinished;
+  is_outcome = is;
+  status_is = ended;
+  text = wrote.0;
+  printed = subst (λ (answers : List Answer). AreLines 1 answers wrote.0) same wrote.1;
+  appended = wrote.2;
+}
+cut_short game script u v unfinished told (Err error) is same wrote ended = tt
 
-pub returns-in-Ok : goal.returns-in-Ok
-unfolding Ended
-returns-in-Ok g c = told_match c.args.game.now c.args.script.now c.in-Ok.game c.in-Ok.events.items c.happen.result c.in-Ok.ensures.0 c.in-Ok.ensures.1 c.happen.ensures
+pub returns-in_ok-write_ends-in-Ok : goal.returns-in_ok-write_ends-in-Ok
+unfolding Wrote
+returns-in_ok-write_ends-in-Ok g c =
+    finished c.args.game.now c.args.script.now (g.W.Write.contents c.args.out.now) (g.W.Write.contents c.write_answers.new.out) (g.W.Write.contents c.write_ends.new.out) c.in-Ok.transcript
+    c.deref.result.now c.in-Ok.ensures c.deref.ensures.value c.in_ok-write_answers-in-Ok.ensures c.in_ok-write_ends-in-Ok.ensures
 
-pub returns-in-Err : goal.returns-in-Err
-unfolding Ended
-returns-in-Err g c = told_refusal c.args.game.now c.args.script.now c.in-Err.error c.tell.result c.in-Err.ensures (rw (← c.from.ensures.0) c.tell.ensures)
+pub returns-in_ok-write_answers-in-Err : goal.returns-in_ok-write_answers-in-Err
+unfolding Wrote
+returns-in_ok-write_answers-in-Err g c =
+    cut_short c.args.game.now c.args.script.now (g.W.Write.contents c.args.out.now) (g.W.Write.contents c.write_answers-in-Err.new.out) c.in-Err.unfinished c.deref-in-Err.result.now c.tell.result
+    c.in-Err.ensures c.deref-in-Err.ensures.value c.in_ok-write_answers-in-Err.ensures (rw (← c.from.ensures.0) c.tell.ensures)

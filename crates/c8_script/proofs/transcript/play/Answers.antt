@@ -1,0 +1,36 @@
+use Rattle.c8_world.specs.World.{start}
+use Rattle.c8_world.specs.Run.{answers_before}
+use Rattle.c8_script.specs.Sim.{IsNewWorld}
+use Rattle.c8_script.proofs.TranscriptLemmas.{begun_none, begun_out}
+use Rattle.c8_script.proofs.transcript.play.Goals as goal
+
+pub returns-in_default : goal.returns-in_default
+returns-in_default c =
+    (c.out_of_memory.ensures.error, rw c.out_of_memory.ensures.answers (begun_none c.args.game.now c.args.events.now c.new-in_default.result.items c.new-in_default.ensures.items))
+
+pub returns-in-Err : goal.returns-in-Err
+returns-in-Err c =
+    let made = c.in-Ok.ensures in
+    let is_new : IsNewWorld c.args.game.now c.in-Ok.world.table = record { rules_are = made.rules; room_is = made.room; holds = made.holds; disks = made.disks } in
+    let out = c.in-Err.ensures.memory (start c.args.game.now) made.holds in (
+      c.out_of_memory-in-Err.ensures.error,
+      rw (c.out_of_memory-in-Err.ensures.answers, c.answers_before.ensures)
+          (begun_out c.args.game.now c.in-Ok.world.table c.run.new.self.table c.args.events.now (answers_before c.in-Err.error) is_new out),
+    )
+
+pub returns-in-Ok-ends : goal.returns-in-Ok-ends
+returns-in-Ok-ends c =
+    let made = c.in-Ok.ensures in
+    let is_new : IsNewWorld c.args.game.now c.in-Ok.world.table = record { rules_are = made.rules; room_is = made.room; holds = made.holds; disks = made.disks } in
+    let run = c.in-Ok-run.ensures.ran (start c.args.game.now) made.holds in
+    let ends = c.in-Ok-ends.ensures.ends run.world run.holds in
+    record {
+      made = c.in-Ok.world.table;
+      is_new = is_new;
+      left = c.run.new.self.table;
+      run = run;
+      armed = c.in-Ok-run.ensures.disks;
+      reads = ends.0;
+      ends = ends.1;
+      agree = c.in-Ok-ends.ensures.agree;
+    }

@@ -1,0 +1,99 @@
+-- What `sim` prints: a line for each answer, and then how the players stand.
+use Rattle.std.specs.Prelude.{◌≡◌, ℕ, ◌+◌, List, [], ◌∷◌, ◌++◌, length, min, take, codes, Bool, true, false, Ok, Err}
+use Rattle.std.specs.List.{flat_map}
+use Rattle.std.specs.Fmt.{decimal}
+use Rattle.c8_peer.specs.Errors.{open_number_of, tick_number_of, refused_number_of, unsayable_number_of, leave_number_of, decide_number_of}
+use Rattle.c8_peer.specs.declared.error.Refused.{Refused}
+use Rattle.c8_peer.specs.declared.error.Refused.TheVariants as refusals
+use Rattle.c8_peer.specs.declared.heard.Heard.{Heard}
+use Rattle.c8_peer.specs.declared.heard.Heard.TheVariants.{Nothing, Kept, Out}
+use Rattle.c8_world.specs.declared.answer.Answer.{Answer}
+use Rattle.c8_world.specs.declared.answer.Answer.TheVariants.{Opened, Up, Ticked, Said, Delivered, NoSuch, Left, Decided, Down, Stopped}
+use Rattle.c8_world.specs.declared.answer.Counts.{Counts}
+use Rattle.c8_world.specs.declared.ends.Tally.{Tally}
+
+-- these parts, one after the other, and a line feed
+abbrev pub line : List (List ℕ) → List ℕ
+line [] = 10 ∷ []
+line (part ∷ parts) = part ++ line parts
+
+-- ---- answers
+
+abbrev pub heard_word : Heard → List ℕ
+heard_word Nothing = codes "nothing"
+heard_word Kept = codes "kept"
+heard_word Out = codes "out"
+
+-- the part of a peer that refuses a datagram
+abbrev pub part_word : Refused → List ℕ
+part_word (refusals.Wire error) = codes "wire"
+part_word (refusals.Hand error) = codes "hand"
+part_word (refusals.Known error) = codes "known"
+part_word refusals.BadAck = codes "deliver"
+part_word refusals.NotChair = codes "deliver"
+part_word refusals.NotFrozen = codes "deliver"
+part_word refusals.WrongLeaver = codes "deliver"
+part_word refusals.Desync = codes "deliver"
+part_word (refusals.Disk why) = codes "deliver"
+part_word refusals.Down = codes "deliver"
+part_word refusals.Dropped = codes "deliver"
+
+-- what is counted after a tick
+abbrev pub ticked_text : Counts → List ℕ
+ticked_text counts = line (codes "now " ∷ decimal counts.now ∷ codes " confirmed " ∷ decimal counts.confirmed ∷ [])
+
+-- why an event was refused: by which part, and the number and the name of it there
+abbrev pub refusal_text : List ℕ → ℕ → List ℕ → List ℕ
+refusal_text part number name = line (codes "no " ∷ part ∷ codes " " ∷ decimal number ∷ codes " " ∷ name ∷ [])
+
+-- what is told of an answer, where this is the name of its refusal
+abbrev pub told : List ℕ → Answer → List ℕ
+told name (Opened (Ok epoch)) = line (codes "epoch " ∷ decimal epoch ∷ [])
+told name (Opened (Err error)) = refusal_text (codes "open") (open_number_of error) name
+told name Up = line (codes "up" ∷ [])
+told name (Ticked (Ok counts)) = ticked_text counts
+told name (Ticked (Err error)) = refusal_text (codes "tick") (tick_number_of error) name
+told name (Said (Ok posted)) = line (codes "datagram " ∷ decimal posted.number ∷ codes " length " ∷ decimal posted.length ∷ [])
+told name (Said (Err error)) = refusal_text (codes "say") (unsayable_number_of error) name
+told name (Delivered (Ok heard)) = line (heard_word heard ∷ [])
+told name (Delivered (Err error)) = refusal_text (part_word error) (refused_number_of error) name
+told name NoSuch = line (codes "none" ∷ [])
+told name (Left (Ok done)) = line (codes "leaving" ∷ [])
+told name (Left (Err error)) = refusal_text (codes "leave") (leave_number_of error) name
+told name (Decided (Ok count)) = line (codes "cut " ∷ decimal count ∷ [])
+told name (Decided (Err error)) = refusal_text (codes "decide") (decide_number_of error) name
+told name Down = line (codes "down" ∷ [])
+told name Stopped = line (codes "stopped" ∷ [])
+
+-- The line of an answer: the number of its event, and what is told. Nothing is said of the names of refusals.
+abbrev pub IsLine : ℕ → Answer → List ℕ → Type 0
+IsLine number answer text = (name : List ℕ) × (text ≡ decimal number ++ codes " " ++ told name answer)
+
+-- the lines of answers, numbered from here on
+abbrev pub AreLines : ℕ → List Answer → List ℕ → Type 0
+AreLines number [] text = text ≡ []
+AreLines number (answer ∷ answers) text =
+    (first rest : List ℕ) × IsLine number answer first × AreLines (number + 1) answers rest × (text ≡ first ++ rest)
+
+-- ---- ends
+
+abbrev pub count_text : ℕ → List ℕ
+count_text count = codes " " ++ decimal count
+
+-- how a player stands in a game of so many players: its ticks, its confirmed frames, and how many inputs it holds of each,
+-- who are four at most
+abbrev pub tally_text : ℕ → ℕ → Tally → List ℕ
+tally_text players player tally =
+    line (codes "player " ∷ decimal player ∷ codes " now " ∷ decimal tally.now ∷ codes " confirmed " ∷ decimal tally.confirmed ∷ codes " held"
+    ∷ flat_map count_text (take (min players 4) tally.held) ∷ [])
+
+abbrev pub tallies_text : ℕ → ℕ → List Tally → List ℕ
+tallies_text players player [] = []
+tallies_text players player (tally ∷ tallies) = tally_text players player tally ++ tallies_text players (player + 1) tallies
+
+abbrev pub yes_or_no : Bool → List ℕ
+yes_or_no true = codes "yes"
+yes_or_no false = codes "no"
+
+abbrev pub ends_text : List Tally → Bool → List ℕ
+ends_text tallies agree = tallies_text (length tallies) 1 tallies ++ line (codes "agree " ∷ yes_or_no agree ∷ [])

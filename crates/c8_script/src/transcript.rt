@@ -1,0 +1,101 @@
+//! What happens by a script: all players of a game in one world, from no journal on.
+
+ghost use Rattle.std.specs.Prelude.{◌≡◌, MatchResult};
+ghost use Rattle.c8_game.specs.GameText.{Spells};
+ghost use Rattle.c8_world.specs.Run.{answers_before};
+ghost use Rattle.c8_script.specs.Script.{SpellsScript};
+ghost use Rattle.c8_script.specs.Sim.{IsCutShort, IsOutcomeOfSim, IsPlayed, IsRefusalOfSim};
+
+use crate::error::{ScriptError, SimError};
+use crate::script::read_script;
+use c8_game::Game;
+use c8_world::{Answer, Ends, Event, Report, RunError, World};
+use std::alloc::Global;
+
+/// The room of the match.
+pub const ROOM: u64 = 0;
+
+/// How many bytes each player's disk has room for: 4096 records, and the gate after them.
+pub const CAPACITY: u32 = 589_825;
+
+/// How many calls each player's disk serves between two stops.
+pub const CALLS: u32 = 65_536;
+
+/// All that a match came to: one answer for each event, in order, and where the players stand in the
+/// end.
+#[derive(Debug, Drop)]
+pub struct Transcript {
+    pub answers: Vec<Answer>,
+    pub ends: Ends,
+}
+
+/// Why a script was not played to its end, and the answers to the events before. Where a text is
+/// refused there are none.
+#[derive(Debug, Drop)]
+pub struct Unfinished {
+    pub answers: Vec<Answer>,
+    pub error: SimError,
+}
+
+/// Lets happen what `script` says, to the players of the game that `game` spells, in a new world.
+/// `Memory` of the script comes also where memory runs out while the events happen.
+pub fn play_script(alloc: Global, game: &[u8], script: &[u8]) -> Result<Transcript, Unfinished>
+    ensures { IsOutcomeOfSim game.now script.now result }
+{
+    match read(alloc, game, script) {
+        Ok((game, events)) => play(alloc, &game, &events),
+        Err(error) => Err(Unfinished {
+            answers: Vec::new(alloc),
+            error,
+        }),
+    }
+}
+
+/// The game and the events that the texts spell, or why one of them is refused: the game's text is
+/// judged first.
+fn read(alloc: Global, game: &[u8], script: &[u8]) -> Result<(Game, Vec<Event>), SimError>
+    ensures { MatchResult result
+        (λ read. Spells game.now read.0 × SpellsScript script.now read.1.items)
+        (IsRefusalOfSim game.now script.now) }
+{
+    let game = Game::read(alloc, game).map_err(SimError::Game)?;
+    let events = read_script(alloc, script).map_err(SimError::Script)?;
+    Ok((game, events))
+}
+
+/// Lets the events happen in a new world. Memory may run out.
+fn play(alloc: Global, game: &Game, events: &[Event]) -> Result<Transcript, Unfinished>
+    ensures { MatchResult result (IsPlayed game.now events.now) (IsCutShort game.now events.now) }
+{
+    let Ok(mut world) = World::new(alloc, game, ROOM, CAPACITY, CALLS) else {
+        return Err(out_of_memory(Vec::new(alloc)));
+    };
+    let answers = match world.run(alloc, events) {
+        Ok(Report { answers }) => answers,
+        Err(error) => return Err(out_of_memory(answers_before(error))),
+    };
+    match world.ends(alloc) {
+        Ok(ends) => Ok(Transcript { answers, ends }),
+        Err(_) => Err(out_of_memory(answers)),
+    }
+}
+
+/// The answers to the events before the one at which memory ran out.
+fn answers_before(error: RunError) -> Vec<Answer>
+    ensures { result.items ≡ answers_before error }
+{
+    match error {
+        RunError::Memory(Report { answers }) => answers,
+    }
+}
+
+/// Memory ran out after these answers.
+fn out_of_memory(answers: Vec<Answer>) -> Unfinished
+    ensures answers { result.answers ≡ answers }
+    ensures error { result.error ≡ SimError.Script ScriptError.Memory }
+{
+    Unfinished {
+        answers,
+        error: SimError::Script(ScriptError::Memory),
+    }
+}
