@@ -29,8 +29,8 @@ enum Step {
     Counts(u32, u32, u32),
     /// The register V2 and the program counter that are shown.
     Shows(u8, u16),
-    /// How many random bytes were drawn of what is shown, and the register V1.
-    Draws(u64, u8),
+    /// How many random bytes were drawn of what is shown, and the registers V1 and V3.
+    Draws(u64, u8, u8),
     /// What is shown is certain.
     IsCertain,
     /// What is shown is what a machine becomes that runs these frames of player 2, and no key of
@@ -75,20 +75,21 @@ const STEPS: [Step; 27] = [
 /// Counts in V2 the frames with player 2's key down.
 const COUNTS: &str = "6004e09e120272011202";
 
-/// The same, and draws a random byte into V1 in every frame.
-const DRAWS: &str = "6004c1ffe09e120272011202";
+/// The same, and draws a random byte in every frame: into V3 after a frame with the key down, else
+/// into V1.
+const DRAWS: &str = "6004c1ffe09e12027201c3ff1202";
 
-/// The eighth byte that is drawn is 6b, whether the key was down or not.
+/// The second byte that is drawn is 7c, the eighth 6b.
 const DRAWING: [Step; 11] = [
     Step::Case("draws again what it takes back"),
     Step::Tick(8),
     Step::Counts(0, 1, 8),
     Step::Shows(0, 0x206),
-    Step::Draws(8, 0x6b),
+    Step::Draws(8, 0x6b, 0),
     Step::Hear("#.......", Some(0)),
     Step::Counts(8, 8, 8),
-    Step::Shows(1, 0x204),
-    Step::Draws(8, 0x6b),
+    Step::Shows(1, 0x202),
+    Step::Draws(8, 0x6b, 0x7c),
     Step::IsCertain,
     Step::Runs("#......."),
 ];
@@ -195,9 +196,11 @@ impl<'g> Play<'g> {
                 let shown = roll.shown();
                 shown.registers()[2] == register && shown.counter() == counter
             }
-            Step::Draws(draws, register) => {
+            Step::Draws(draws, one, three) => {
                 let shown = roll.shown();
-                shown.draws() == draws && shown.registers()[1] == register
+                shown.draws() == draws
+                    && shown.registers()[1] == one
+                    && shown.registers()[3] == three
             }
             Step::IsCertain => roll.base().1 == roll.shown(),
             Step::Runs(text) => *roll.shown() == run_of(self.game, text),
