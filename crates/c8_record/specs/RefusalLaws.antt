@@ -102,13 +102,13 @@ begins_front bodies n player id room some (body, first, spells) = (body, in_fron
 no_bad_after_game : (rules : Rules) (me room : ℕ) (bodies : List (List ℕ)) (n : ℕ) → IsRefusal rules me room bodies WrongGame → IsRefusal rules me room bodies (BadRecord n) → ⊥
 no_bad_after_game rules me room bodies n (player, id, named, head, other) (bad, no_head) =
     let nonzero = no_head player id named head in
-    let some : 0 < n = elim (cases_lt 0 n) [ | inl more ↦ more | inr none ↦ absurd (nonzero (omega (arith, none))) ] in
+    let some : 0 < n = elim (cases_lt 0 n) [ inl more ↦ more | inr none ↦ absurd (nonzero (omega (arith, none))) ] in
     not_refused rules me room (take n bodies) WrongGame bad.before (player, id, named, begins_front bodies n player id named some head, other)
 
 no_bad_after_player : (rules : Rules) (me room : ℕ) (bodies : List (List ℕ)) (n : ℕ) → IsRefusal rules me room bodies WrongPlayer → IsRefusal rules me room bodies (BadRecord n) → ⊥
 no_bad_after_player rules me room bodies n (player, head, other) (bad, no_head) =
     let nonzero = no_head player (id_of rules) room head in
-    let some : 0 < n = elim (cases_lt 0 n) [ | inl more ↦ more | inr none ↦ absurd (nonzero (omega (arith, none))) ] in
+    let some : 0 < n = elim (cases_lt 0 n) [ inl more ↦ more | inr none ↦ absurd (nonzero (omega (arith, none))) ] in
     not_refused rules me room (take n bodies) WrongPlayer bad.before (player, begins_front bodies n player (id_of rules) room some head, other)
 
 no_game_and_player : (rules : Rules) (me room : ℕ) (bodies : List (List ℕ)) → IsRefusal rules me room bodies WrongGame → IsRefusal rules me room bodies WrongPlayer → ⊥
