@@ -1,14 +1,13 @@
 //! The command line.
 
-use crate::help::{ENDING, PEER_ENDING, SIM_ENDING};
-use crate::peer_command::{Asked, peer};
-use c8_alone::{
-    run_command, run_given, show_command, show_given, status_at, tell, with_place, words_in,
-};
-use c8_command::{Refusal, Status, TextsError, read_both};
-use c8_game::{GameError, Player};
-use c8_script::{ScriptError, SimError, sim};
-use clap::{Arg, ArgAction, ArgMatches, Command, value_parser};
+use crate::help::{ENDING, SIM_ENDING};
+use c8_command::Status;
+use c8_front::{run_command, show_command, status_at, tell, with_place, word_of, words_in};
+use c8_keys::run_files;
+use c8_net::{peer_command, peer_given};
+use c8_script::sim_files;
+use c8_show::show;
+use clap::{ArgMatches, Command};
 use std::alloc::{AllocError, Global};
 use std::env::Args;
 use std::fs::File;
@@ -71,60 +70,6 @@ fn command<'a>(alloc: Global) -> Result<Command<'a>, AllocError> {
     command.subcommand(show_command(alloc)?)
 }
 
-fn peer_command<'a>(alloc: Global) -> Result<Command<'a>, AllocError> {
-    let command = Command::new(alloc, "peer")
-        .about("Plays a game with others over UDP, and prints the machine that all agree on")
-        .after_help(PEER_ENDING);
-    with_options(alloc, with_players(alloc, command)?)
-}
-
-/// The arguments of `peer` that say what is played with whom.
-fn with_players<'a>(alloc: Global, command: Command<'a>) -> Result<Command<'a>, AllocError> {
-    let game = "The path of the game's text, the same for all players";
-    let command = with_place(alloc, command, "GAME", game)?;
-    let player = Arg::new(alloc, "PLAYER")
-        .help("The own player's number, 1 to 4")
-        .required(true)
-        .value_parser(value_parser!(u8).range(1..5));
-    let command = command.arg(player)?;
-    let journal = "The path of the own journal, made where there is none";
-    let command = with_place(alloc, command, "JOURNAL", journal)?;
-    let local = "The own address, as 127.0.0.1:4001";
-    let command = with_place(alloc, command, "LOCAL", local)?;
-    let remote = Arg::new(alloc, "REMOTE")
-        .help("The other players' addresses, in order of their numbers")
-        .num_args(0..);
-    command.arg(remote)
-}
-
-/// The options of `peer`.
-fn with_options<'a>(alloc: Global, command: Command<'a>) -> Result<Command<'a>, AllocError> {
-    let room = number(alloc, "room", "The match, the same for all its players");
-    let command = command.arg(room.default_value("0"))?;
-    let turns = number(
-        alloc,
-        "turns",
-        "The most turns, of a millisecond and more each",
-    );
-    let command = command.arg(turns.default_value("100000"))?;
-    let patience = "The turns of silence after which player 1 drops a player [default: never]";
-    let command = command.arg(number(alloc, "patience", patience))?;
-    let progress = Arg::new(alloc, "progress")
-        .long("progress")
-        .help("Says once a second, on standard error, how far the game is")
-        .action(ArgAction::SetTrue);
-    command.arg(progress)
-}
-
-/// An option with a number.
-fn number<'a>(alloc: Global, name: &'a str, help: &'a str) -> Arg<'a> {
-    Arg::new(alloc, name)
-        .long(name)
-        .value_name("N")
-        .help(help)
-        .value_parser(value_parser!(u64))
-}
-
 fn sim_command<'a>(alloc: Global) -> Result<Command<'a>, AllocError> {
     let command = Command::new(alloc, "sim")
         .about(
@@ -149,65 +94,16 @@ where
     I: Read + Drop,
 {
     match matches.subcommand() {
-        Some(("run", given)) => run_given(rt, given, out, refused),
-        Some(("sim", given)) => sim_given(rt, given, out, refused),
-        Some(("show", given)) => show_given(rt.alloc(), given, out, refused),
-        Some(("peer", given)) => match asked_of(given) {
-            Some(asked) => peer(rt, &asked, input, out, refused),
-            None => Ok(Status::CommandLine),
-        },
+        Some(("run", given)) => {
+            let (game, keys) = (word_of(given, "GAME"), word_of(given, "KEYS"));
+            run_files(rt, game, keys, out, refused)
+        }
+        Some(("peer", given)) => peer_given(rt, given, input, out, refused),
+        Some(("sim", given)) => {
+            let (game, script) = (word_of(given, "GAME"), word_of(given, "SCRIPT"));
+            sim_files(rt, game, script, out, refused)
+        }
+        Some(("show", given)) => show(rt.alloc(), word_of(given, "HEX"), out, refused),
         _ => Ok(Status::CommandLine),
     }
-}
-
-/// Plays the files that `sim` is given.
-fn sim_given<R, W: Write, E: Write>(
-    rt: &R,
-    given: &ArgMatches,
-    out: &mut W,
-    refused: &mut E,
-) -> io::Result<Status>
-where
-    R: Files + AllocGlobal,
-{
-    let game = given.get_str("GAME").unwrap_or("");
-    let script = given.get_str("SCRIPT").unwrap_or("");
-    match read_both(rt, game, script) {
-        Ok((game, script)) => sim(rt.alloc(), &game, &script, out, refused),
-        Err(error) => unread(error).tell(refused),
-    }
-}
-
-/// Why the texts of `sim` were not read.
-fn unread(error: TextsError) -> Refusal {
-    match error {
-        TextsError::Failed => Refusal::DISK,
-        TextsError::FirstMemory => SimError::Game(GameError::Memory).into(),
-        TextsError::SecondMemory => SimError::Script(ScriptError::Memory).into(),
-    }
-}
-
-/// What `peer` is asked to play. The command line's reader has seen that each argument is there and
-/// in its range.
-fn asked_of<'m, 'a>(given: &'m ArgMatches<'a>) -> Option<Asked<'m, 'a>> {
-    let player = Player::new(given.get_one::<u8>("PLAYER")?)?;
-    Some(Asked {
-        game: word_of(given, "GAME"),
-        player,
-        journal: word_of(given, "JOURNAL"),
-        local: word_of(given, "LOCAL"),
-        remotes: given.get_strs("REMOTE"),
-        room: number_of(given, "room").unwrap_or(0),
-        turns: number_of(given, "turns").unwrap_or(0),
-        patience: number_of(given, "patience"),
-        progress: given.get_flag("progress"),
-    })
-}
-
-fn word_of<'a>(given: &ArgMatches<'a>, name: &str) -> &'a str {
-    given.get_str(name).unwrap_or("")
-}
-
-fn number_of(given: &ArgMatches<'_>, name: &str) -> Option<u64> {
-    given.get_one::<u64>(name)
 }

@@ -1,6 +1,6 @@
 //! Where the players of a game are.
-use c8_cli::{Addresses, SocketError};
 use c8_game::Player;
+use c8_net::{Addresses, SocketError};
 use std::net::{Ipv4Addr, Ipv6Addr, SocketAddr};
 use std::test::Fail;
 

@@ -1,10 +1,10 @@
 //! The line of each refusal, and the status with which the program ends then.
-use c8_cli::{PeerError, SocketError};
 use c8_command::{Refusal, Status};
 use c8_disk::DiskError;
 use c8_game::GameError;
 use c8_keys::{KeysError, RunError};
 use c8_live::{SessionError, WireFailed};
+use c8_net::{PeerError, SocketError};
 use c8_peer::OpenError;
 use c8_script::{ScriptError, SimError};
 use c8_show::{HexError, ShowError};

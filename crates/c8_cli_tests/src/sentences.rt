@@ -1,9 +1,9 @@
 //! The number, the name and the sentence of each error.
-use c8_cli::{PeerError, SocketError};
 use c8_command::{TextError, TextsError};
 use c8_disk::DiskError;
 use c8_game::GameError;
 use c8_keys::{KeysError, RunError};
+use c8_net::{PeerError, SocketError};
 use c8_peer::OpenError;
 use c8_script::{ScriptError, SimError};
 use c8_show::{HexError, ShowError};

@@ -1,7 +1,7 @@
 //! The way to the other players, over the loopback, with sockets of the system.
-use c8_cli::{Addresses, Asked, SocketError, Udp, peer};
 use c8_game::Player;
 use c8_live::{LONGEST_PACKET, Wire, WireFailed};
+use c8_net::{Addresses, Asked, SocketError, Udp, peer};
 use std::fs;
 use std::net::{Ipv4Addr, SocketAddr, UdpSocket};
 use std::test::Fail;

@@ -1,7 +1,7 @@
 //! A datagram that is lost, where the system tells of it.
-use c8_cli::Udp;
 use c8_game::Player;
 use c8_live::{LONGEST_PACKET, Wire};
+use c8_net::Udp;
 use mio::net::UdpSocket as OwnSocket;
 use std::net::{Ipv4Addr, SocketAddr, UdpSocket};
 use std::test::Fail;

@@ -7,14 +7,43 @@ ghost use Rattle.c8_keys.specs.Run.{IsPlayOfRead, IsOutcomeOfRun};
 ghost use Rattle.c8_keys.specs.declared.error.RunError.{RunError};
 ghost use Rattle.c8_keys.specs.declared.lines.Played.{Played};
 
-use crate::error::RunError;
+use crate::error::{KeysError, RunError};
 use crate::lines::{Played, play};
 use crate::report::write_report;
-use c8_command::{Refusal, Status};
+use c8_command::{Refusal, Status, TextsError, read_both};
 use c8_game::{Game, GameError};
 use std::alloc::Global;
 use std::io;
 use std::io::Write;
+use std::rt::Files;
+
+/// Plays the game of one file by the key lines of another, as `run` does with their texts. A file
+/// that cannot be read is told as the disk's fault, whatever the other one says. The error is that of
+/// a writer.
+pub fn run_files<R, W: Write, E: Write>(
+    rt: &R,
+    game: &str,
+    keys: &str,
+    out: &mut W,
+    refused: &mut E,
+) -> io::Result<Status>
+where
+    R: Files + AllocGlobal,
+{
+    match read_both(rt, game, keys) {
+        Ok((game, keys)) => run(rt.alloc(), &game, &keys, out, refused),
+        Err(error) => unread(error).tell(refused),
+    }
+}
+
+/// Why the texts of two files were not read.
+fn unread(error: TextsError) -> Refusal {
+    match error {
+        TextsError::Failed => Refusal::DISK,
+        TextsError::FirstMemory => RunError::Game(GameError::Memory).into(),
+        TextsError::SecondMemory => RunError::Keys(KeysError::Memory).into(),
+    }
+}
 
 /// Plays the game that `game` spells by the key lines of `keys`, and writes the report of its
 /// machine to `out`; or writes the line of a refusal to `refused`, and nothing to `out`. The error

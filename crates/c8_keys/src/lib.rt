@@ -3,7 +3,7 @@
 //! [`play`] plays a game by key lines, which have a key set for each player and stand for one frame
 //! each; [`key_sets`] reads what one player holds down, a key set a line. [`run`] is the command
 //! `run`: it plays the game of a text alone, and writes the report of its machine
-//! ([`write_report`]).
+//! ([`write_report`]); [`run_files`] takes both texts from files.
 #![tactic(auto)]
 
 mod command;
@@ -12,7 +12,7 @@ mod lines;
 mod report;
 mod sets;
 
-pub use command::run;
+pub use command::{run, run_files};
 pub use error::{KeysError, RunError};
 pub use lines::{Played, play};
 pub use report::write_report;

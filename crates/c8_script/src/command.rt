@@ -4,11 +4,42 @@ ghost use Rattle.std.specs.Prelude.{IfOk};
 ghost use Rattle.c8_script.specs.Sim.{HasEnded};
 
 use crate::answers::{write_answers, write_ends};
+use crate::error::{ScriptError, SimError};
 use crate::transcript::play_script;
-use c8_command::{Refusal, Status};
+use c8_command::{Refusal, Status, TextsError, read_both};
+use c8_game::GameError;
 use std::alloc::Global;
 use std::io;
 use std::io::Write;
+use std::rt::Files;
+
+/// Lets happen what the script of one file says, to the players of the game of another, as `sim` does
+/// with their texts. A file that cannot be read is told as the disk's fault, whatever the other one
+/// says. The error is that of a writer.
+pub fn sim_files<R, W: Write, E: Write>(
+    rt: &R,
+    game: &str,
+    script: &str,
+    out: &mut W,
+    refused: &mut E,
+) -> io::Result<Status>
+where
+    R: Files + AllocGlobal,
+{
+    match read_both(rt, game, script) {
+        Ok((game, script)) => sim(rt.alloc(), &game, &script, out, refused),
+        Err(error) => unread(error).tell(refused),
+    }
+}
+
+/// Why the texts of two files were not read.
+fn unread(error: TextsError) -> Refusal {
+    match error {
+        TextsError::Failed => Refusal::DISK,
+        TextsError::FirstMemory => SimError::Game(GameError::Memory).into(),
+        TextsError::SecondMemory => SimError::Script(ScriptError::Memory).into(),
+    }
+}
 
 /// Lets happen what `script` says, to the players of the game that `game` spells, from no journal
 /// on. Writes the answer to each event and then how the players stand to `out`; or writes the line

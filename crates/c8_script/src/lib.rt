@@ -10,7 +10,7 @@ mod script;
 mod transcript;
 
 pub use answers::{write_answers, write_ends};
-pub use command::sim;
+pub use command::{sim, sim_files};
 pub use error::{ScriptError, SimError};
 pub use script::read_script;
 pub use transcript::{CALLS, CAPACITY, ROOM, Transcript, Unfinished, play_script};

@@ -1,7 +1,7 @@
 //! Why a peer cannot play.
 
 ghost use Rattle.std.specs.Prelude.{◌≡◌};
-ghost use Rattle.c8_cli.specs.Errors.{socket_error_number, peer_part, peer_error_number};
+ghost use Rattle.c8_net.specs.Errors.{socket_error_number, peer_part, peer_error_number};
 
 use c8_command::{Part, Refusal};
 use c8_disk::DiskError;

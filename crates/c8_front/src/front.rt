@@ -9,7 +9,7 @@ ghost use Rattle.c8_command.specs.declared.status.Status.TheVariants as statuses
 
 use c8_command::{Refusal, Status};
 use clap::error::ErrorKind;
-use clap::{Arg, Command};
+use clap::{Arg, ArgMatches, Command};
 use std::alloc::{AllocError, Global};
 use std::env::Args;
 use std::io;
@@ -54,6 +54,18 @@ pub fn with_place<'a>(
     help: &'a str,
 ) -> Result<Command<'a>, AllocError> {
     command.arg(Arg::new(alloc, name).help(help).required(true))
+}
+
+/// The command line of a program that has one command.
+pub fn line_of<'a>(alloc: Global, command: Command<'a>) -> Result<Command<'a>, AllocError> {
+    Command::new(alloc, "c8play")
+        .subcommand_required(true)
+        .subcommand(command)
+}
+
+/// The word that a command was given at a place which has to be given.
+pub fn word_of<'a>(given: &ArgMatches<'a>, name: &str) -> &'a str {
+    given.get_str(name).unwrap_or("")
 }
 
 /// The words of a command line, the program's own name first. `None` where one is not UTF-8, which

@@ -6,18 +6,20 @@
 ghost use Rattle.std.specs.Prelude.{◌≡◌, IfOk, Result};
 ghost use Rattle.c8_command.specs.Status.{status_of_outcome};
 ghost use Rattle.c8_keys.specs.declared.lines.Played.{Played};
-ghost use Rattle.c8_cli.specs.Errors.{peer_part};
-ghost use Rattle.c8_cli.specs.declared.error.PeerError.{PeerError};
+ghost use Rattle.c8_net.specs.Errors.{peer_part};
+ghost use Rattle.c8_net.specs.declared.error.PeerError.{PeerError};
 
 use crate::addresses::Addresses;
+use crate::arguments::{Asked, asked_of};
 use crate::error::{PeerError, SocketError};
 use crate::udp::Udp;
 use c8_command::{Refusal, Status, TextError, read_file, text_of};
 use c8_disk::{Disk, DiskError, FileDisk, FileError};
-use c8_game::{Game, GameError, Keys, Player};
+use c8_game::{Game, GameError, Keys};
 use c8_keys::{KeysError, Played, key_sets, write_report};
 use c8_live::{Session, Wire, tell_progress};
 use c8_peer::{OpenError, Peer};
+use clap::ArgMatches;
 use std::alloc::Global;
 use std::fs::File;
 use std::io::{Read, Write};
@@ -32,24 +34,24 @@ const JOURNAL_CAPACITY: u32 = 1_073_741_824;
 /// How many milliseconds a peer sleeps after a turn.
 const PAUSE: u64 = 1;
 
-/// What `peer` is asked to play.
-#[derive(Clone, Copy)]
-pub struct Asked<'m, 'a> {
-    /// The path of the game's text.
-    pub game: &'a str,
-    pub player: Player,
-    /// The path of the journal.
-    pub journal: &'a str,
-    pub local: &'a str,
-    /// The other players' addresses, in order of number, if there are any.
-    pub remotes: Option<&'m [&'a str]>,
-    pub room: u64,
-    /// The most turns that are made.
-    pub turns: u64,
-    /// After how many turns of silence player one lets a player go, if it does.
-    pub patience: Option<u64>,
-    /// Whether the peer says where it stands.
-    pub progress: bool,
+/// Plays what the command line asks for, as `peer` does. The error is that of a writer.
+pub fn peer_given<R, I, W, E>(
+    rt: &R,
+    given: &ArgMatches<'_>,
+    input: I,
+    out: &mut W,
+    refused: &mut E,
+) -> io::Result<Status>
+where
+    R: Files<File = File> + Net + Clock + AllocGlobal,
+    I: Read + Drop,
+    W: Write,
+    E: Write,
+{
+    match asked_of(given) {
+        Some(asked) => peer(rt, &asked, input, out, refused),
+        None => Ok(Status::CommandLine),
+    }
 }
 
 /// Plays a game with others: the keys are those of the text in `input`, the confirmed machine's

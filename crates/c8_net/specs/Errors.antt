@@ -7,10 +7,10 @@ use Rattle.c8_game.specs.Errors as games
 use Rattle.c8_keys.specs.Errors.{keys_error_number}
 use Rattle.c8_peer.specs.declared.error.OpenError.{OpenError}
 use Rattle.c8_peer.specs.declared.error.OpenError.TheVariants as openings
-use Rattle.c8_cli.specs.declared.error.PeerError.{PeerError}
-use Rattle.c8_cli.specs.declared.error.PeerError.TheVariants.{Game, Keys, Open, Disk, Socket}
-use Rattle.c8_cli.specs.declared.error.SocketError.{SocketError}
-use Rattle.c8_cli.specs.declared.error.SocketError.TheVariants as sockets
+use Rattle.c8_net.specs.declared.error.PeerError.{PeerError}
+use Rattle.c8_net.specs.declared.error.PeerError.TheVariants.{Game, Keys, Open, Disk, Socket}
+use Rattle.c8_net.specs.declared.error.SocketError.{SocketError}
+use Rattle.c8_net.specs.declared.error.SocketError.TheVariants as sockets
 
 abbrev pub socket_error_number : SocketError → ℕ
 socket_error_number sockets.Failed = 1

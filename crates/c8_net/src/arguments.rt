@@ -1,0 +1,103 @@
+//! What the command `peer` takes, and what it is asked to play by that.
+
+use crate::help::PEER_ENDING;
+use c8_front::{with_place, word_of};
+use c8_game::Player;
+use clap::{Arg, ArgAction, ArgMatches, Command, value_parser};
+use std::alloc::{AllocError, Global};
+
+/// What `peer` is asked to play.
+#[derive(Clone, Copy)]
+pub struct Asked<'m, 'a> {
+    /// The path of the game's text.
+    pub game: &'a str,
+    pub player: Player,
+    /// The path of the journal.
+    pub journal: &'a str,
+    pub local: &'a str,
+    /// The other players' addresses, in order of number, if there are any.
+    pub remotes: Option<&'m [&'a str]>,
+    pub room: u64,
+    /// The most turns that are made.
+    pub turns: u64,
+    /// After how many turns of silence player one lets a player go, if it does.
+    pub patience: Option<u64>,
+    /// Whether the peer says where it stands.
+    pub progress: bool,
+}
+
+/// What `peer` takes.
+pub fn peer_command<'a>(alloc: Global) -> Result<Command<'a>, AllocError> {
+    let command = Command::new(alloc, "peer")
+        .about("Plays a game with others over UDP, and prints the machine that all agree on")
+        .after_help(PEER_ENDING);
+    with_options(alloc, with_players(alloc, command)?)
+}
+
+/// The arguments of `peer` that say what is played with whom.
+fn with_players<'a>(alloc: Global, command: Command<'a>) -> Result<Command<'a>, AllocError> {
+    let game = "The path of the game's text, the same for all players";
+    let command = with_place(alloc, command, "GAME", game)?;
+    let player = Arg::new(alloc, "PLAYER")
+        .help("The own player's number, 1 to 4")
+        .required(true)
+        .value_parser(value_parser!(u8).range(1..5));
+    let command = command.arg(player)?;
+    let journal = "The path of the own journal, made where there is none";
+    let command = with_place(alloc, command, "JOURNAL", journal)?;
+    let local = "The own address, as 127.0.0.1:4001";
+    let command = with_place(alloc, command, "LOCAL", local)?;
+    let remote = Arg::new(alloc, "REMOTE")
+        .help("The other players' addresses, in order of their numbers")
+        .num_args(0..);
+    command.arg(remote)
+}
+
+/// The options of `peer`.
+fn with_options<'a>(alloc: Global, command: Command<'a>) -> Result<Command<'a>, AllocError> {
+    let room = number(alloc, "room", "The match, the same for all its players");
+    let command = command.arg(room.default_value("0"))?;
+    let turns = number(
+        alloc,
+        "turns",
+        "The most turns, of a millisecond and more each",
+    );
+    let command = command.arg(turns.default_value("100000"))?;
+    let patience = "The turns of silence after which player 1 drops a player [default: never]";
+    let command = command.arg(number(alloc, "patience", patience))?;
+    let progress = Arg::new(alloc, "progress")
+        .long("progress")
+        .help("Says once a second, on standard error, how far the game is")
+        .action(ArgAction::SetTrue);
+    command.arg(progress)
+}
+
+/// An option with a number.
+fn number<'a>(alloc: Global, name: &'a str, help: &'a str) -> Arg<'a> {
+    Arg::new(alloc, name)
+        .long(name)
+        .value_name("N")
+        .help(help)
+        .value_parser(value_parser!(u64))
+}
+
+/// What `peer` is asked to play by a command line, whose reader has seen that each argument is there
+/// and in its range.
+pub(crate) fn asked_of<'m, 'a>(given: &'m ArgMatches<'a>) -> Option<Asked<'m, 'a>> {
+    let player = Player::new(given.get_one::<u8>("PLAYER")?)?;
+    Some(Asked {
+        game: word_of(given, "GAME"),
+        player,
+        journal: word_of(given, "JOURNAL"),
+        local: word_of(given, "LOCAL"),
+        remotes: given.get_strs("REMOTE"),
+        room: number_of(given, "room").unwrap_or(0),
+        turns: number_of(given, "turns").unwrap_or(0),
+        patience: number_of(given, "patience"),
+        progress: given.get_flag("progress"),
+    })
+}
+
+fn number_of(given: &ArgMatches<'_>, name: &str) -> Option<u64> {
+    given.get_one::<u64>(name)
+}

@@ -1,0 +1,29 @@
+//! What the help of `peer` ends with: what it takes, what it refuses, and the exit statuses.
+
+/// The end of the help of `peer`.
+pub const PEER_ENDING: &str =
+    "What the own player holds down is read from standard input before the game starts: one key set
+a line, four hexadecimal digits, for one frame each; no key is held down after the last line.
+The game ends when all have all of it, and the machine is printed that all agree on. A player
+who was killed starts again with the same journal.
+
+Two players, each in a terminal of their own:
+  ./c8play peer games/duel.game 1 one.journal 127.0.0.1:4001 127.0.0.1:4002 < games/duel.1.keys
+  ./c8play peer games/duel.game 2 two.journal 127.0.0.1:4002 127.0.0.1:4001 < games/duel.2.keys
+
+Refusals, each one line on standard error, as 'refused: game 5 Hex':
+  game 1 Line to 6 Memory: those of the command run
+  keys 1 Line         a line that is not four hexadecimal digits
+  keys 3 Memory       out of memory for the keys
+  open 1 WrongGame    the journal is of another game or room
+  open 2 WrongPlayer  the journal is of another player, or the game has no such player
+  open 3 BadRecord    the journal holds what no peer writes
+  open 4 EpochsSpent  the journal was opened too often
+  open 5 Memory       out of memory at the start
+  disk 1 Failed       a file that cannot be read or written, or a text above 16777216 bytes
+  disk 2 Full         the journal is at its greatest length, 1073741824 bytes
+  socket 1 Failed     the socket cannot be opened or used
+  socket 2 Remotes    not one REMOTE for each other player
+  socket 3 Address    an address that is not written as 127.0.0.1:4001
+
+Exit status: 0 done, 1 refused, 2 a mistake in the command line, 3 a disk or a socket failed";

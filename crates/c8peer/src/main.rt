@@ -1,0 +1,31 @@
+//! c8peer: the command `peer` of c8play alone, in a program that is built sooner. The script
+//! `c8play` takes it where that command is asked for.
+#![tactic(auto)]
+
+use c8_command::Status;
+use c8_front::{line_of, status_at, tell, words_in};
+use c8_net::{peer_command, peer_given};
+use std::io::Write;
+use std::process::ExitCode;
+use std::{env, io};
+
+fn main(rt: HostRuntime) -> ExitCode {
+    let ended = obey(&rt, &mut rt.stdout(), &mut rt.stderr());
+    status_at(ended, &mut rt.stderr()).into()
+}
+
+/// Does what the arguments ask for. The error is that of a writer, or want of memory.
+fn obey<W: Write, E: Write>(rt: &HostRuntime, out: &mut W, refused: &mut E) -> io::Result<Status> {
+    let alloc = rt.alloc();
+    let Some(words) = words_in(alloc, env::args(rt), refused)? else {
+        return Ok(Status::CommandLine);
+    };
+    let command = line_of(alloc, peer_command(alloc)?)?;
+    match command.try_get_matches_from(words.as_slice()) {
+        Ok(matches) => match matches.subcommand() {
+            Some(("peer", given)) => { peer_given(rt, given, rt.reader(), out, refused) }
+            _ => Ok(Status::CommandLine),
+        },
+        Err(error) => tell(&error, out, refused),
+    }
+}

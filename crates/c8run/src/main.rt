@@ -1,0 +1,34 @@
+//! c8run: the command `run` of c8play alone, in a program that is built sooner. The script
+//! `c8play` takes it where that command is asked for.
+#![tactic(auto)]
+
+use c8_command::Status;
+use c8_front::{line_of, run_command, status_at, tell, word_of, words_in};
+use c8_keys::run_files;
+use std::io::Write;
+use std::process::ExitCode;
+use std::{env, io};
+
+fn main(rt: HostRuntime) -> ExitCode {
+    let ended = obey(&rt, &mut rt.stdout(), &mut rt.stderr());
+    status_at(ended, &mut rt.stderr()).into()
+}
+
+/// Does what the arguments ask for. The error is that of a writer, or want of memory.
+fn obey<W: Write, E: Write>(rt: &HostRuntime, out: &mut W, refused: &mut E) -> io::Result<Status> {
+    let alloc = rt.alloc();
+    let Some(words) = words_in(alloc, env::args(rt), refused)? else {
+        return Ok(Status::CommandLine);
+    };
+    let command = line_of(alloc, run_command(alloc)?)?;
+    match command.try_get_matches_from(words.as_slice()) {
+        Ok(matches) => match matches.subcommand() {
+            Some(("run", given)) => {
+                let (game, keys) = (word_of(given, "GAME"), word_of(given, "KEYS"));
+                run_files(rt, game, keys, out, refused)
+            }
+            _ => Ok(Status::CommandLine),
+        },
+        Err(error) => tell(&error, out, refused),
+    }
+}
