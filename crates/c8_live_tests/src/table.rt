@@ -171,15 +171,22 @@ impl<'g> Table<'g> {
         patience: Option<u64>,
     ) -> Result<Table<'g>, Fail> {
         let mut table = Table::new(alloc, game, me, "", patience)?;
-        table.turn()?;
-        for number in 1..game.players() + 1 {
-            if number != me {
-                table.says(&(number, WELCOME, 0))?;
-                table.says(&(number, HELLO, 0))?;
+        table.link()?;
+        Ok(table)
+    }
+
+    /// Two turns, in which links open between the session and each other player.
+    fn link(&mut self) -> Result<(), Fail> {
+        let _first = self.turn()?;
+        let me = self.session.peer().me();
+        for number in 1..self.game.players() + 1 {
+            if number != me.number {
+                self.says(&(number, WELCOME, 0))?;
+                self.says(&(number, HELLO, 0))?;
             }
         }
-        table.turn()?;
-        Ok(table)
+        let _second = self.turn()?;
+        Ok(())
     }
 
     /// Another player's peer.

@@ -98,16 +98,13 @@ fn turn_of(table: &mut Table<'_>, hello: &Hello, old: &Letter) -> Result<String,
     table.turn()
 }
 
-/// A HELLO that is refused is not answered, be it of a time before the player's restart, of another
-/// match, or no datagram at all.
-#[test]
-fn answers_no_hello_that_is_refused(rt: HostRuntime) -> Result<(), Fail> {
-    let game = game_of(rt.alloc(), 2)?;
-    let mut table = Table::new(rt.alloc(), &game, 1, "", None)?;
+/// Player 2 says these, and its first HELLO again. Compares all that each turn says, and how it is
+/// refused what comes.
+fn greet(rt: &impl Abort, table: &mut Table<'_>, hellos: &[Hello]) -> Result<(), Fail> {
     let old = table.said(2, Kind::Hello)?;
     table.restart(2)?;
-    for (place, hello) in hellos().iter().enumerate() {
-        let told = turn_of(&mut table, hello, &old)?;
+    for (place, hello) in hellos.iter().enumerate() {
+        let told = turn_of(table, hello, &old)?;
         let refusal = table.refusal();
         assert!(rt; told.as_str() == hello.told, "turn {place}: {told}");
         assert!(rt;
@@ -116,6 +113,15 @@ fn answers_no_hello_that_is_refused(rt: HostRuntime) -> Result<(), Fail> {
         );
     }
     Ok(())
+}
+
+/// A HELLO that is refused is not answered, be it of a time before the player's restart, of another
+/// match, or no datagram at all.
+#[test]
+fn answers_no_hello_that_is_refused(rt: HostRuntime) -> Result<(), Fail> {
+    let game = game_of(rt.alloc(), 2)?;
+    let mut table = Table::new(rt.alloc(), &game, 1, "", None)?;
+    greet(&rt, &mut table, hellos())
 }
 
 /// One turn, before which player 2 is heard, and then the row's datagram comes, if it has one.
@@ -127,16 +133,18 @@ fn turn_after_data(table: &mut Table<'_>, row: &Silence, data: &Letter) -> Resul
     table.turn()
 }
 
-/// A silence ends with a datagram that is admitted, whatever is answered then, and with no other. It
-/// is judged after what comes in a turn, and before anything is said in it. Player 2 is heard in
-/// each turn, before player 3.
-#[test]
-fn what_is_admitted_ends_a_silence(rt: HostRuntime) -> Result<(), Fail> {
-    let game = game_of(rt.alloc(), 3)?;
-    let mut table = Table::linked(rt.alloc(), &game, 1, Some(3))?;
-    let data = data_of_three(&mut table)?;
-    for (place, row) in silences().iter().enumerate() {
-        let told = turn_after_data(&mut table, row, &data)?;
+/// Player 3's DATA after it has entered a key set.
+fn data_of_three(table: &mut Table<'_>) -> Result<Letter, Fail> {
+    table.other(3)?.tick(Keys(0x20))?;
+    table.said(3, Kind::Data)
+}
+
+/// Player 2 is heard in each turn, and then what a row says comes. Compares all that each turn says,
+/// how it is refused what comes, and for how long player 3 has been silent.
+fn interrupt(rt: &impl Abort, table: &mut Table<'_>, rows: &[Silence]) -> Result<(), Fail> {
+    let data = data_of_three(table)?;
+    for (place, row) in rows.iter().enumerate() {
+        let told = turn_after_data(table, row, &data)?;
         let (refusal, silent) = (table.refusal(), table.session.silent(Player { number: 3 }));
         assert!(rt; told.as_str() == row.told, "turn {place}: {told}");
         assert!(rt;
@@ -147,10 +155,26 @@ fn what_is_admitted_ends_a_silence(rt: HostRuntime) -> Result<(), Fail> {
     Ok(())
 }
 
-/// Player 3's DATA after it has entered a key set.
-fn data_of_three(table: &mut Table<'_>) -> Result<Letter, Fail> {
-    table.other(3)?.tick(Keys(0x20))?;
-    table.said(3, Kind::Data)
+/// A silence ends with a datagram that is admitted, whatever is answered then, and with no other. It
+/// is judged after what comes in a turn, and before anything is said in it. Player 2 is heard in
+/// each turn, before player 3.
+#[test]
+fn what_is_admitted_ends_a_silence(rt: HostRuntime) -> Result<(), Fail> {
+    let game = game_of(rt.alloc(), 3)?;
+    let mut table = Table::linked(rt.alloc(), &game, 1, Some(3))?;
+    interrupt(&rt, &mut table, silences())
+}
+
+/// Compares how many frames each turn ticks and confirms, where nobody answers, and what is entered in
+/// the end.
+fn wait_and_enter(rt: &impl Abort, table: &mut Table<'_>, rows: &[(u32, u32)]) -> Result<(), Fail> {
+    for (place, wanted) in rows.iter().enumerate() {
+        let told = table.turn()?;
+        assert!(rt; told.as_str() == "2 HELLO", "turn {place}: {told}");
+        assert!(rt; table.ticked_and_confirmed() == *wanted, "turn {place}");
+    }
+    assert!(rt; table.entered() == [1, 2, 3, 4, 0].as_slice());
+    Ok(())
 }
 
 /// A key set that is refused, since two frames are not confirmed, is entered in a later turn. Player
@@ -159,11 +183,5 @@ fn data_of_three(table: &mut Table<'_>) -> Result<Letter, Fail> {
 fn enters_a_refused_key_set_again(rt: HostRuntime) -> Result<(), Fail> {
     let game = Game::read(rt.alloc(), NARROW.as_bytes())?;
     let mut table = Table::new(rt.alloc(), &game, 1, "0001\n0002\n0003\n0004\n", Some(4))?;
-    for (place, wanted) in counts().iter().enumerate() {
-        let told = table.turn()?;
-        assert!(rt; told.as_str() == "2 HELLO", "turn {place}: {told}");
-        assert!(rt; table.ticked_and_confirmed() == *wanted, "turn {place}");
-    }
-    assert!(rt; table.entered() == [1, 2, 3, 4, 0].as_slice());
-    Ok(())
+    wait_and_enter(&rt, &mut table, counts())
 }

@@ -67,7 +67,7 @@ fn with_options<'a>(alloc: Global, command: Command<'a>) -> Result<Command<'a>, 
     let command = command.arg(number(alloc, "patience", patience))?;
     let progress = Arg::new(alloc, "progress")
         .long("progress")
-        .help("Says once a second, on standard error, how far the game is")
+        .help("Says after each 1000 turns, on standard error, how far the game is")
         .action(ArgAction::SetTrue);
     command.arg(progress)
 }
