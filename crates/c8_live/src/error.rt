@@ -1,4 +1,8 @@
 //! What ends a session before its game does.
+
+ghost use Rattle.std.specs.Prelude.{◌≡◌};
+ghost use Rattle.c8_live.specs.declared.error.SessionError.TheVariants.{Disk, Wire};
+
 use c8_disk::DiskError;
 use thiserror::Error;
 
@@ -19,12 +23,16 @@ pub enum SessionError {
 }
 
 impl From<DiskError> for SessionError {
+    ghost from_gives = { λ error result. result ≡ Disk error };
+
     fn from(error: DiskError) -> SessionError {
         SessionError::Disk(error)
     }
 }
 
 impl From<WireFailed> for SessionError {
+    ghost from_gives = { λ error result. result ≡ Wire error };
+
     fn from(error: WireFailed) -> SessionError {
         SessionError::Wire(error)
     }

@@ -1,14 +1,20 @@
 //! The loop of one peer, turn by turn: it hears, ticks, lets go, cuts and speaks.
 
-ghost use Rattle.std.specs.Prelude.{◌≡◌, ◌≤◌, IfSome};
+ghost use Rattle.std.specs.Prelude.{◌≡◌, ◌≤◌, IfSome, IfErr};
+ghost use Rattle.c8_live.specs.Runs.{HasRunOn, IsEnd};
 
-use crate::error::SessionError;
+mod calls;
+
+use crate::error::{SessionError, WireFailed};
+use crate::laws::peers_run_on;
+use crate::rollbacks::Rollbacks;
 use crate::silence::Silence;
 use crate::wire::{LONGEST_PACKET, Wire};
 use c8_disk::Disk;
 use c8_game::{Game, Keys, Player};
-use c8_peer::{DecideError, Heard, Kind, LeaveError, Peer, Refused, TickError, Unsayable};
+use c8_peer::{DecideError, Heard, Kind, LeaveError, Peer, Refused, TickError};
 use c8_wire::{LONGEST_DATAGRAM, view};
+use std::mem;
 
 /// The most packets that are delivered in one turn.
 const MOST_PACKETS: u16 = 256;
@@ -29,6 +35,8 @@ pub struct Session<'g, D: Disk> {
     /// After how many turns of silence player one lets a player go.
     patience: Option<u64>,
     silence: Silence,
+    /// The rollbacks that have not been taken.
+    rollbacks: Rollbacks,
     /// The turns since all was confirmed and acknowledged, that one included.
     rested: u32,
 }
@@ -40,7 +48,9 @@ impl<'g, D: Disk> Session<'g, D> {
         game: &Game,
         keys: Vec<Keys>,
         patience: Option<u64>,
-    ) -> Session<'g, D> {
+    ) -> Session<'g, D>
+        ensures { result.peer ≡ peer.entry }
+    {
         Session {
             peer,
             frames: game.frames(),
@@ -48,6 +58,7 @@ impl<'g, D: Disk> Session<'g, D> {
             entered: 0,
             patience,
             silence: Silence::new(),
+            rollbacks: Rollbacks::default(),
             rested: 0,
         }
     }
@@ -57,6 +68,18 @@ impl<'g, D: Disk> Session<'g, D> {
         ensures { result.now ≡ self.now.peer }
     {
         &self.peer
+    }
+
+    /// How many frames the game has.
+    pub fn frames(&self) -> u32 {
+        self.frames
+    }
+
+    /// The rollbacks since they were last taken, or since the start.
+    pub fn take_rollbacks(&mut self) -> Rollbacks
+        ensures { self.new.peer ≡ self.old.peer }
+    {
+        mem::take(&mut self.rollbacks)
     }
 
     /// For how many turns a player has been silent.
@@ -69,8 +92,14 @@ impl<'g, D: Disk> Session<'g, D> {
         self.peer.dropped() || self.rested > REST
     }
 
-    /// One turn. The error is that of the disk or of the wire, which ends the session.
-    pub fn turn<W: Wire>(&mut self, wire: &mut W) -> Result<(), SessionError> {
+    /// One turn: the peer hears, ticks, and as player one lets go and cuts, each a step of the
+    /// definitions; then it speaks. The error is that of the disk or of the wire, which ends the
+    /// session.
+    pub fn turn<W: Wire>(&mut self, wire: &mut W) -> Result<(), SessionError>
+        ensures ran { HasRunOn self.old.peer self.new.peer }
+        ensures end { IfErr result (IsEnd D.Disk self.old.peer self.new.peer) }
+    {
+        peers_run_on::<D>();
         self.silence.begin();
         let greeters = self.hear(wire)?;
         self.tick()?;
@@ -85,7 +114,11 @@ impl<'g, D: Disk> Session<'g, D> {
 
     /// Delivers the packets that wait, and tells of which players a HELLO was taken, player 1's
     /// place first.
-    fn hear<W: Wire>(&mut self, wire: &mut W) -> Result<[bool; 4], SessionError> {
+    fn hear<W: Wire>(&mut self, wire: &mut W) -> Result<[bool; 4], SessionError>
+        ensures ran { HasRunOn self.old.peer self.new.peer }
+        ensures end { IfErr result (IsEnd D.Disk self.old.peer self.new.peer) }
+    {
+        peers_run_on::<D>();
         let mut greeters = [false; 4];
         let mut packet = [0; LONGEST_PACKET];
         for _ in 0..MOST_PACKETS {
@@ -102,37 +135,48 @@ impl<'g, D: Disk> Session<'g, D> {
     }
 
     /// Delivers a packet, and answers whose HELLO it was, if it was one and was taken.
-    fn deliver(&mut self, packet: &[u8]) -> Result<Option<Player>, SessionError> {
-        let answer = self.peer.deliver(packet);
-        if let Err(Refused::Disk(error)) = answer {
-            return Err(SessionError::Disk(error));
+    fn deliver(&mut self, packet: &[u8]) -> Result<Option<Player>, SessionError>
+        ensures ran { HasRunOn self.old.peer self.new.peer }
+        ensures end { IfErr result (IsEnd D.Disk self.old.peer self.new.peer) }
+    {
+        match self.peer_hears(packet) {
+            Err(Refused::Disk(error)) => Err(SessionError::Disk(error)),
+            answer => Ok(self.greeter(packet, answer)),
         }
+    }
+
+    /// Ends the silence of the player whose packet was answered so, if it was admitted, and answers
+    /// whose HELLO it was, if it was one and was taken.
+    fn greeter(&mut self, packet: &[u8], answer: Result<Heard, Refused>) -> Option<Player>
+        ensures { self.new.peer ≡ self.old.peer }
+    {
         if !is_admitted(answer) {
-            return Ok(None);
+            return None;
         }
         let Ok(datagram) = view(packet) else {
-            return Ok(None);
+            return None;
         };
         let header = datagram.header();
-        let Some(sender) = header.from().player() else {
-            return Ok(None);
-        };
+        let sender = header.from().player()?;
         self.silence.heard(sender);
         if answer.is_ok() && header.kind() == c8_wire::Kind::Hello {
-            Ok(Some(sender))
+            Some(sender)
         } else {
-            Ok(None)
+            None
         }
     }
 
     /// Enters the next key set, after the last an empty one. One that is refused is entered again in
     /// the next turn.
-    fn tick(&mut self) -> Result<(), SessionError> {
+    fn tick(&mut self) -> Result<(), SessionError>
+        ensures ran { HasRunOn self.old.peer self.new.peer }
+        ensures end { IfErr result (IsEnd D.Disk self.old.peer self.new.peer) }
+    {
         let (next, is_past) = match self.keys.get(self.entered) {
             Some(keys) => (*keys, false),
             None => (Keys::default(), true),
         };
-        match self.peer.tick(next) {
+        match self.peer_ticks(next) {
             Ok(()) if is_past => Ok(()),
             Ok(()) => {
                 self.entered = self.entered.saturating_add(1);
@@ -144,14 +188,18 @@ impl<'g, D: Disk> Session<'g, D> {
     }
 
     /// Player one lets go of those who have been silent for too long.
-    fn let_go(&mut self) -> Result<(), SessionError> {
+    fn let_go(&mut self) -> Result<(), SessionError>
+        ensures ran { HasRunOn self.old.peer self.new.peer }
+        ensures end { IfErr result (IsEnd D.Disk self.old.peer self.new.peer) }
+    {
+        peers_run_on::<D>();
         let Some(patience) = self.patience else {
             return Ok(());
         };
         for number in 1..self.peer.players() + 1 {
             if let Some(player) = self.other(number)
                 && self.silence.turns(player) >= patience
-                && let Err(LeaveError::Disk(error)) = self.peer.leave(player)
+                && let Err(LeaveError::Disk(error)) = self.peer_lets_go(player)
             {
                 return Err(SessionError::Disk(error));
             }
@@ -160,10 +208,14 @@ impl<'g, D: Disk> Session<'g, D> {
     }
 
     /// Player one cuts the leavers whose drop round is ready.
-    fn cut(&mut self) -> Result<(), SessionError> {
+    fn cut(&mut self) -> Result<(), SessionError>
+        ensures ran { HasRunOn self.old.peer self.new.peer }
+        ensures end { IfErr result (IsEnd D.Disk self.old.peer self.new.peer) }
+    {
+        peers_run_on::<D>();
         for number in 1..self.peer.players() + 1 {
             if let Some(player) = self.other(number)
-                && let Err(DecideError::Disk(error)) = self.peer.decide(player)
+                && let Err(DecideError::Disk(error)) = self.peer_cuts(player)
             {
                 return Err(SessionError::Disk(error));
             }
@@ -172,7 +224,7 @@ impl<'g, D: Disk> Session<'g, D> {
     }
 
     /// Says to each other player what there is to say.
-    fn speak<W: Wire>(&self, wire: &mut W, greeters: [bool; 4]) -> Result<(), SessionError> {
+    fn speak<W: Wire>(&self, wire: &mut W, greeters: [bool; 4]) -> Result<(), WireFailed> {
         for number in 1..self.peer.players() + 1 {
             if let Some(to) = self.other(number) {
                 let has_greeted = greeters[usize::from(to.number - 1)];
@@ -190,8 +242,8 @@ impl<'g, D: Disk> Session<'g, D> {
         wire: &mut W,
         to: Player,
         has_greeted: bool,
-    ) -> Result<(), SessionError> {
-        let is_linked = self.is_linked(to);
+    ) -> Result<(), WireFailed> {
+        let is_linked = self.peer.is_linked(to);
         if !is_linked {
             self.say(wire, to, Kind::Hello)?;
         }
@@ -205,7 +257,7 @@ impl<'g, D: Disk> Session<'g, D> {
     }
 
     /// What the drop rounds want said to a player.
-    fn speak_of_leavers<W: Wire>(&self, wire: &mut W, to: Player) -> Result<(), SessionError> {
+    fn speak_of_leavers<W: Wire>(&self, wire: &mut W, to: Player) -> Result<(), WireFailed> {
         for number in 1..self.peer.players() + 1 {
             if let Some(leaver) = Player::new(number)
                 && let Some(kind) = self.round(to, leaver)
@@ -240,19 +292,12 @@ impl<'g, D: Disk> Session<'g, D> {
     }
 
     /// Says one datagram, if it can be said.
-    fn say<W: Wire>(&self, wire: &mut W, to: Player, kind: Kind) -> Result<(), SessionError> {
+    fn say<W: Wire>(&self, wire: &mut W, to: Player, kind: Kind) -> Result<(), WireFailed> {
         let mut datagram = [0; LONGEST_DATAGRAM];
         match self.peer.say(to, kind, &mut datagram) {
-            Ok(size) => Ok(wire.send(to, &datagram[..size])?),
+            Ok(size) => wire.send(to, &datagram[..size]),
             Err(_) => Ok(()),
         }
-    }
-
-    /// Whether the link to a player is open.
-    fn is_linked(&self, to: Player) -> bool {
-        let mut unsent = [0; LONGEST_DATAGRAM];
-        let said = self.peer.say(to, Kind::Data, &mut unsent);
-        !matches!(said, Err(Unsayable::NoLink))
     }
 
     /// Whether all frames are confirmed here, and every player who is not cut has acknowledged all

@@ -6,10 +6,11 @@ use crate::play::{
 };
 use c8_disk::{Arm, MemDisk};
 use c8_game::{Game, Player};
-use c8_live::{Session, tell_progress};
+use c8_live::{Progress, Session, tell_end};
 use std::alloc::Global;
 use std::process::Abort;
 use std::test::Fail;
+use std::time::Duration;
 
 /// How many players play, and which packets are lost.
 const GAMES: [(u8, u32); 6] = [(2, 0), (2, 3), (3, 0), (3, 3), (4, 0), (4, 3)];
@@ -78,6 +79,13 @@ fn over(sessions: &Vec<Session<'_, MemDisk>>) -> Result<(bool, bool, bool), Fail
     ))
 }
 
+/// How a session is told to have ended, after so many turns.
+fn end_of(alloc: Global, session: &Session<'_, MemDisk>) -> Result<Vec<u8>, Fail> {
+    let mut told = Vec::new(alloc);
+    tell_end(&mut told, 400, session)?;
+    Ok(told)
+}
+
 /// Player 3 falls silent; the others cut it at one length and end with one machine. When it speaks
 /// again it learns that it has been dropped, and that is its end.
 fn drops_the_silent(rt: &impl Abort, alloc: Global, game: &Game, lost: u32) -> Result<(), Fail> {
@@ -91,6 +99,12 @@ fn drops_the_silent(rt: &impl Abort, alloc: Global, game: &Game, lost: u32) -> R
     assert!(rt; over(&sessions)? == (true, true, false));
     many_turns(&mut sessions, &mut mail, 200, &[1, 2])?;
     assert!(rt; nth(&sessions, 2)?.peer().dropped() && nth(&sessions, 2)?.is_over());
+    let (stayed, left) = (
+        end_of(alloc, nth(&sessions, 0)?)?,
+        end_of(alloc, nth(&sessions, 2)?)?,
+    );
+    assert!(rt; stayed.as_slice() == b"all 20 frames are confirmed\n".as_slice());
+    assert!(rt; left.as_slice() == b"dropped by player 1\n".as_slice());
     Ok(())
 }
 
@@ -170,7 +184,7 @@ fn rests_before_it_ends(rt: HostRuntime) -> Result<(), Fail> {
     Ok(())
 }
 
-/// What player 2 of four tells in 2000 turns in which nobody is heard.
+/// What player 2 of four tells in nine turns of a quarter of a second in which nobody is heard.
 fn told_alone(alloc: Global, game: &Game) -> Result<Vec<u8>, Fail> {
     let mut session = session_on(alloc, game, Player { number: 2 }, 100_000, Arm::Off)?;
     let mut wire = Lossy {
@@ -178,17 +192,27 @@ fn told_alone(alloc: Global, game: &Game) -> Result<Vec<u8>, Fail> {
         fails_to_receive: false,
     };
     let mut told = Vec::new(alloc);
-    for turn in 1..2001 {
+    let mut progress = Progress::new(Duration::from_millis(500));
+    for turn in 1..10 {
         session.turn(&mut wire)?;
-        tell_progress(&mut told, turn, &session)?;
+        progress.tell(
+            &mut told,
+            Duration::from_millis(500 + 250 * turn),
+            &mut session,
+        )?;
     }
+    tell_end(&mut told, 9, &session)?;
     Ok(told)
 }
 
-const PROGRESS: &[u8] = b"turn 1000: 8 frames ticked, 0 confirmed, silent 1 3 4\n\
-    turn 2000: 8 frames ticked, 0 confirmed, silent 1 3 4\n";
+const PROGRESS: &[u8] = b"\
+    4 frames ticked, 0 confirmed, 0 rollbacks, the longest of 0 frames, \
+    player 1 silent for 1000 ms, player 3 silent for 1000 ms, player 4 silent for 1000 ms\n\
+    8 frames ticked, 0 confirmed, 0 rollbacks, the longest of 0 frames, \
+    player 1 silent for 2000 ms, player 3 silent for 2000 ms, player 4 silent for 2000 ms\n\
+    0 of 20 frames after 9 turns\n";
 
-/// A line every thousand turns: how far the game is, and who has not been heard since the last.
+/// A line each second, and one at the end: how far the game is, and that nobody was heard.
 #[test]
 fn says_where_it_stands(rt: HostRuntime) -> Result<(), Fail> {
     let game = game_of(rt.alloc(), 4)?;

@@ -1,7 +1,7 @@
 //! The tests of c8_live.
 //!
-//! `games` plays whole games in one thread, `turns` compares all that each turn says. Tables are
-//! lent by functions that say nothing of them: a proof is then of any rows.
+//! `games` plays whole games in one thread, `turns` compares all that each turn says, `told` what a
+//! person is told meanwhile. Tables are lent by functions that say nothing of them: a proof is then of any rows.
 #![tactic(auto)]
 
 #[cfg(test)]
@@ -18,5 +18,7 @@ mod play;
 mod rows;
 #[cfg(test)]
 mod table;
+#[cfg(test)]
+mod told;
 #[cfg(test)]
 mod turns;

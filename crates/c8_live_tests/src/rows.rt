@@ -107,7 +107,7 @@ pub(crate) const NOTHING: u8 = 0;
 pub(crate) const OLD: u8 = 7;
 
 /// No byte of a datagram is changed: none is so long.
-const WHOLE: usize = 1000;
+pub(crate) const WHOLE: usize = 1000;
 
 /// What comes of player 2 before a turn, with which byte of it changed, how it is refused, and all
 /// that the turn says.
@@ -183,4 +183,35 @@ const COUNTS: [(u32, u32); 7] = [(1, 0), (2, 0), (2, 0), (2, 2), (3, 3), (4, 4),
 
 pub(crate) fn counts() -> &'static [(u32, u32)] {
     &COUNTS
+}
+
+/// What player 2 enters before a turn, which byte of its DATA is changed then, and what the turn tells.
+pub(crate) struct Told {
+    pub(crate) first: Option<u16>,
+    pub(crate) second: Option<u16>,
+    pub(crate) byte: usize,
+    pub(crate) line: &'static str,
+}
+
+/// Two frames are ticked before the first of these turns, each of which ticks one more. Byte 32 is of
+/// the mark.
+#[rattlefmt::skip]
+const TOLD: [Told; 9] = [
+    // both frames were run without the key
+    Told { first: Some(0x20), second: None, byte: WHOLE, line: "" },
+    Told { first: None, second: None, byte: WHOLE, line: "" },
+    // the guess was right
+    Told { first: Some(0x20), second: None, byte: WHOLE, line: "5 frames ticked, 2 confirmed, 1 rollbacks, the longest of 2 frames, player 2 silent for 0 ms\n" },
+    // frames 2 to 4 were run with the key
+    Told { first: Some(0), second: None, byte: WHOLE, line: "" },
+    // frames 4 and 5 were run without it
+    Told { first: Some(0), second: Some(0x20), byte: WHOLE, line: "" },
+    Told { first: None, second: None, byte: WHOLE, line: "8 frames ticked, 5 confirmed, 2 rollbacks, the longest of 3 frames, player 2 silent for 400 ms\n" },
+    Told { first: None, second: None, byte: 32, line: "" },
+    Told { first: None, second: None, byte: WHOLE, line: "" },
+    Told { first: None, second: None, byte: WHOLE, line: "11 frames ticked, 5 confirmed, 0 rollbacks, the longest of 0 frames, player 2 silent for 800 ms, the machines differ\n" },
+];
+
+pub(crate) fn told_lines() -> &'static [Told] {
+    &TOLD
 }

@@ -7,6 +7,8 @@ use Rattle.c8_game.specs.Errors as games
 use Rattle.c8_keys.specs.Errors.{keys_error_number}
 use Rattle.c8_peer.specs.declared.error.OpenError.{OpenError}
 use Rattle.c8_peer.specs.declared.error.OpenError.TheVariants as openings
+use Rattle.c8_live.specs.declared.error.SessionError.{SessionError}
+use Rattle.c8_live.specs.declared.error.SessionError.TheVariants as sessions
 use Rattle.c8_net.specs.declared.error.PeerError.{PeerError}
 use Rattle.c8_net.specs.declared.error.PeerError.TheVariants.{Game, Keys, Open, Disk, Socket}
 use Rattle.c8_net.specs.declared.error.SocketError.{SocketError}
@@ -48,3 +50,8 @@ peer_error_number (Keys error) = keys_error_number error
 peer_error_number (Open error) = opening_number error
 peer_error_number (Disk error) = disks.disk_number_of error
 peer_error_number (Socket error) = socket_error_number error
+
+-- a session ends by its disk, or by the way to the others
+abbrev pub error_of_session : SessionError → PeerError
+error_of_session (sessions.Disk error) = Disk error
+error_of_session (sessions.Wire failed) = Socket sockets.Failed

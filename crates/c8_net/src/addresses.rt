@@ -26,6 +26,7 @@ impl Addresses {
         requires { players ≤ 4 }
         ensures remotes { length remotes.now + 1 ≢ players → IsErrOf result SocketError.Remotes }
         ensures counted { IsErrOf result SocketError.Remotes → length remotes.now + 1 ≢ players }
+        ensures no_other { IsErrOf result SocketError.Failed → ⊥ }
     {
         if remotes.len() + 1 != usize::from(players) {
             return Err(SocketError::Remotes);

@@ -29,7 +29,9 @@ pub struct Asked<'m, 'a> {
 /// What `peer` takes.
 pub fn peer_command<'a>(alloc: Global) -> Result<Command<'a>, AllocError> {
     let command = Command::new(alloc, "peer")
-        .about("Plays a game with others over UDP, and prints the machine that all agree on")
+        .about(
+            "Plays a game with others over UDP, and prints the machine after the confirmed frames",
+        )
         .after_help(PEER_ENDING);
     with_options(alloc, with_players(alloc, command)?)
 }
@@ -67,7 +69,7 @@ fn with_options<'a>(alloc: Global, command: Command<'a>) -> Result<Command<'a>, 
     let command = command.arg(number(alloc, "patience", patience))?;
     let progress = Arg::new(alloc, "progress")
         .long("progress")
-        .help("Says after each 1000 turns, on standard error, how far the game is")
+        .help("Says each second, on standard error, how far the game is, and then how it ended")
         .action(ArgAction::SetTrue);
     command.arg(progress)
 }

@@ -1,7 +1,7 @@
 //! Why a peer cannot play.
 
 ghost use Rattle.std.specs.Prelude.{◌≡◌};
-ghost use Rattle.c8_net.specs.Errors.{socket_error_number, peer_part, peer_error_number};
+ghost use Rattle.c8_net.specs.Errors.{socket_error_number, peer_part, peer_error_number, error_of_session};
 
 use c8_command::{Part, Refusal};
 use c8_disk::DiskError;
@@ -67,6 +67,8 @@ pub enum PeerError {
 
 /// Why a session that cannot go on ends the command.
 impl From<SessionError> for PeerError {
+    ghost from_gives = { λ error result. result ≡ error_of_session error };
+
     fn from(error: SessionError) -> PeerError {
         match error {
             SessionError::Disk(error) => PeerError::Disk(error),

@@ -1,6 +1,6 @@
 //! The way to the other players over one UDP socket.
 
-ghost use Rattle.std.specs.Prelude.{◌≤◌, IfOk, IfSome};
+ghost use Rattle.std.specs.Prelude.{◌≡◌, ◌≤◌, IfOk, IfErr, IfSome};
 
 use crate::addresses::Addresses;
 use crate::error::SocketError;
@@ -27,7 +27,9 @@ pub struct Udp {
 
 impl Udp {
     /// A socket at the local address.
-    pub fn open<R: Net>(rt: &R, addresses: &Addresses) -> Result<Udp, SocketError> {
+    pub fn open<R: Net>(rt: &R, addresses: &Addresses) -> Result<Udp, SocketError>
+        ensures { IfErr result (λ error. error ≡ SocketError.Failed) }
+    {
         match UdpSocket::bind(rt, addresses.local) {
             Ok(socket) => Ok(Udp::over(socket, addresses.others)),
             Err(_) => Err(SocketError::Failed),

@@ -1,0 +1,15 @@
+use Rattle.std.proofs.Common.{ℕ, Result, ap}
+use Rattle.c8_peer.specs.declared.error.DecideError.{DecideError}
+use Rattle.c8_peer.specs.Peer.{luck_of}
+use Rattle.c8_peer.specs.State.{Decide, Decided}
+use Rattle.c8_live.proofs.session.Session.peer_cuts.Goals as goal
+
+pub returns-clause-ran : goal.returns-clause-ran
+returns-clause-ran g c =
+    let peer = c.args.self.now.peer in
+    c.peers_run_on.ensures.call peer peer c.decide-answer.new.self (Decide c.args.leaver.number) (Decided c.decide-answer.result) (c.peers_run_on.ensures.still peer) tt c.decide-answer.ensures
+
+pub returns-clause-stopped : goal.returns-clause-stopped
+returns-clause-stopped g c why is =
+    let peer = c.args.self.now.peer in
+    record { before = peer; ran = c.peers_run_on.ensures.still peer; cause = c.decide-answer.ensures.cause why (ap (λ (r : Result ℕ DecideError). luck_of (Decided r)) is) }

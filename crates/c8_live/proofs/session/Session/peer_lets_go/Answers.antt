@@ -1,0 +1,15 @@
+use Rattle.std.proofs.Common.{Result, ap}
+use Rattle.c8_peer.specs.declared.error.LeaveError.{LeaveError}
+use Rattle.c8_peer.specs.Peer.{luck_of}
+use Rattle.c8_peer.specs.State.{Leave, Left}
+use Rattle.c8_live.proofs.session.Session.peer_lets_go.Goals as goal
+
+pub returns-clause-ran : goal.returns-clause-ran
+returns-clause-ran g c =
+    let peer = c.args.self.now.peer in
+    c.peers_run_on.ensures.call peer peer c.leave.new.self (Leave c.args.leaver.number) (Left c.leave.result) (c.peers_run_on.ensures.still peer) tt c.leave.ensures
+
+pub returns-clause-stopped : goal.returns-clause-stopped
+returns-clause-stopped g c why is =
+    let peer = c.args.self.now.peer in
+    record { before = peer; ran = c.peers_run_on.ensures.still peer; cause = c.leave.ensures.cause why (ap (λ (r : Result (Unit {0}) LeaveError). luck_of (Left r)) is) }

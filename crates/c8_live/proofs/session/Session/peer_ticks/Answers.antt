@@ -1,0 +1,15 @@
+use Rattle.std.proofs.Common.{Result, ap, arith}
+use Rattle.c8_peer.specs.declared.error.TickError.{TickError}
+use Rattle.c8_peer.specs.Peer.{luck_of}
+use Rattle.c8_peer.specs.State.{Tick, Ticked}
+use Rattle.c8_live.proofs.session.Session.peer_ticks.Goals as goal
+
+pub returns-clause-ran : goal.returns-clause-ran
+returns-clause-ran g c =
+    let peer = c.args.self.now.peer in
+    c.peers_run_on.ensures.call peer peer c.tick.new.self (Tick c.args.keys.0) (Ticked c.tick.result) (c.peers_run_on.ensures.still peer) (omega arith) c.tick.ensures
+
+pub returns-clause-stopped : goal.returns-clause-stopped
+returns-clause-stopped g c why is =
+    let peer = c.args.self.now.peer in
+    record { before = peer; ran = c.peers_run_on.ensures.still peer; cause = c.tick.ensures.cause why (ap (λ (r : Result (Unit {0}) TickError). luck_of (Ticked r)) is) }

@@ -1,0 +1,74 @@
+//! The calls of its peer that a session makes, and what becomes of the peer by each.
+
+ghost use Rattle.std.specs.Prelude.{◌≡◌, Err};
+ghost use Rattle.c8_disk.specs.declared.error.DiskError.{DiskError};
+ghost use Rattle.c8_live.specs.Runs.{HasRunOn, IsStopped};
+
+use super::Session;
+use crate::laws::peers_run_on;
+use c8_disk::Disk;
+use c8_game::{Keys, Player};
+use c8_peer::laws::deliveries_are_calls;
+use c8_peer::{DecideError, Heard, LeaveError, Refused, TickError};
+
+impl<'g, D: Disk> Session<'g, D> {
+    /// The peer hears bytes. What it runs anew by that is a rollback.
+    pub(super) fn peer_hears(&mut self, packet: &[u8]) -> Result<Heard, Refused>
+        ensures ran { HasRunOn self.old.peer self.new.peer }
+        ensures stopped { (why : DiskError) → result ≡ Err (Refused.Disk why)
+            → IsStopped D.Disk self.old.peer self.new.peer why }
+    {
+        peers_run_on::<D>();
+        deliveries_are_calls();
+        let answer = self.peer.deliver(packet);
+        let frames = frames_of(answer, self.peer.last_run());
+        self.rollbacks.note(frames);
+        answer
+    }
+
+    /// The peer enters a key set.
+    pub(super) fn peer_ticks(&mut self, keys: Keys) -> Result<(), TickError>
+        ensures ran { HasRunOn self.old.peer self.new.peer }
+        ensures stopped { (why : DiskError) → result ≡ Err (TickError.Disk why)
+            → IsStopped D.Disk self.old.peer self.new.peer why }
+    {
+        peers_run_on::<D>();
+        self.peer.tick(keys)
+    }
+
+    /// The peer lets a player go, if it is player one's.
+    pub(super) fn peer_lets_go(&mut self, leaver: Player) -> Result<(), LeaveError>
+        ensures ran { HasRunOn self.old.peer self.new.peer }
+        ensures stopped { (why : DiskError) → result ≡ Err (LeaveError.Disk why)
+            → IsStopped D.Disk self.old.peer self.new.peer why }
+    {
+        peers_run_on::<D>();
+        self.peer.leave(leaver)
+    }
+
+    /// The peer cuts a leaver whose drop round is ready, if it is player one's. What it runs anew by
+    /// that is a rollback.
+    pub(super) fn peer_cuts(&mut self, leaver: Player) -> Result<u32, DecideError>
+        ensures ran { HasRunOn self.old.peer self.new.peer }
+        ensures stopped { (why : DiskError) → result ≡ Err (DecideError.Disk why)
+            → IsStopped D.Disk self.old.peer self.new.peer why }
+    {
+        peers_run_on::<D>();
+        let answer = self.peer.decide(leaver);
+        let frames = if answer.is_ok() {
+            self.peer.last_run()
+        } else {
+            0
+        };
+        self.rollbacks.note(frames);
+        answer
+    }
+}
+
+/// How many frames a delivery ran that is answered so, if its record was the last to run some.
+fn frames_of(answer: Result<Heard, Refused>, last_run: u32) -> u32 {
+    match answer {
+        Ok(Heard::Kept) => last_run,
+        Ok(Heard::Nothing | Heard::Out) | Err(_) => 0,
+    }
+}

@@ -1,0 +1,56 @@
+-- What `peer` comes to: by the text of a game and what standard input has, and then on a journal.
+use Rattle.std.specs.Prelude.{◌≡◌, ◌≢◌, ◌⊎◌, ℕ, ◌+◌, List, Option, IfSome}
+use Rattle.c8_game.specs.GameFaults.{IsRefused}
+use Rattle.c8_game.specs.GameText.{Spells}
+use Rattle.c8_game.specs.Rules.{Rules}
+use Rattle.c8_game.specs.declared.error.GameError.TheVariants as games
+use Rattle.c8_machine.specs.State.{state}
+use Rattle.c8_machine.specs.Serial.{serial}
+use Rattle.c8_disk.specs.declared.disk.Disk.{Ghosts}
+use Rattle.c8_disk.specs.declared.error.DiskError.TheVariants as disks
+use Rattle.c8_known.specs.Confirmed.{confirmed, confirmed_rows}
+use Rattle.c8_peer.specs.Opened.{IsOpened, IsRefusedOpening}
+use Rattle.c8_peer.specs.Peer.{PeerValue, known_by}
+use Rattle.c8_keys.specs.KeySets.{IsFaultOfSets}
+use Rattle.c8_keys.specs.declared.lines.Played.{Played}
+use Rattle.c8_live.specs.Runs.{HasRunOn, IsStopped}
+use Rattle.c8_net.specs.declared.error.PeerError.{PeerError}
+use Rattle.c8_net.specs.declared.error.PeerError.TheVariants.{Game, Keys, Open, Disk, Socket}
+use Rattle.c8_net.specs.declared.error.SocketError.TheVariants as sockets
+
+-- ---- before the journal is opened
+
+-- Why a match cannot begin: the text's first fault, or want of memory; there is not one address for each other player; a key set
+-- of standard input that is none. Of an address only that it was judged then, and of standard input that it could not be read.
+abbrev pub IsNoMatch : List ℕ → Option (List ℕ) → ℕ → PeerError → Type 0
+IsNoMatch game input remotes (Game error) = (error ≡ games.Memory) ⊎ IsRefused game error
+IsNoMatch game input remotes (Keys error) = IfSome input (λ text. IsFaultOfSets text error)
+IsNoMatch game input remotes (Open error) = ⊥
+IsNoMatch game input remotes (Disk why) = why ≡ disks.Failed
+IsNoMatch game input remotes (Socket sockets.Failed) = ⊥
+IsNoMatch game input remotes (Socket sockets.Remotes) = (rules : Rules) × Spells game rules × (remotes + 1 ≢ rules.players)
+IsNoMatch game input remotes (Socket sockets.Address) = (rules : Rules) × Spells game rules × (remotes + 1 ≡ rules.players)
+
+-- ---- on a journal
+
+module _ {D : Type 0} (g : Ghosts D) (disk : D) (rules : Rules) (room me : ℕ) where
+  -- The journal was opened, and the peer ran on, each of its calls one step of the definitions. These are the frames that it counts
+  -- as confirmed then, and the machine is the serial run on their rows.
+  pub record HasPlayed (played : Played) : Type 0 where
+    pub first : PeerValue D
+    pub opened : IsOpened g disk rules room me first
+    pub last : PeerValue D
+    pub ran : HasRunOn first last
+    pub frames : played.frames ≡ confirmed (known_by last)
+    pub machine : state played.machine ≡ serial rules (confirmed_rows (known_by last))
+
+  -- The journal's opening is refused; or the peer ran on until its disk, which was to blame, refused a record. Of a socket that
+  -- failed nothing is said.
+  abbrev pub HasFailed : PeerError → Type 0
+  HasFailed (Game error) = ⊥
+  HasFailed (Keys error) = ⊥
+  HasFailed (Open error) = (left : D) × IsRefusedOpening g disk rules room me error left
+  HasFailed (Disk why) = (first : PeerValue D) × (last : PeerValue D) × IsOpened g disk rules room me first × IsStopped g first last why
+  HasFailed (Socket sockets.Failed) = Unit {0}
+  HasFailed (Socket sockets.Remotes) = ⊥
+  HasFailed (Socket sockets.Address) = ⊥

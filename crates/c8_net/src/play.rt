@@ -1,0 +1,171 @@
+//! A match over UDP: what it takes to begin, and what is played of it on a journal.
+
+ghost use Rattle.std.specs.Prelude.{◌≡◌, ◌+◌, ℕ, List, length, IfOk, IfErr, IfSome};
+ghost use Rattle.c8_game.specs.GameText.{Spells};
+ghost use Rattle.c8_keys.specs.KeySets.{AreSetsOf};
+ghost use Rattle.c8_live.specs.Runs.{HasRunOn, IsEnd};
+ghost use Rattle.c8_net.specs.Match.{IsNoMatch, HasPlayed, HasFailed};
+
+use crate::addresses::Addresses;
+use crate::arguments::Asked;
+use crate::error::PeerError;
+use crate::udp::Udp;
+use c8_command::{TextError, text_of};
+use c8_disk::{Disk, DiskError};
+use c8_game::{Game, Keys, Player};
+use c8_keys::{KeysError, Played, key_sets};
+use c8_live::laws::peers_run_on;
+use c8_live::{Progress, Session, SessionError, Wire, tell_end};
+use c8_peer::Peer;
+use std::alloc::Global;
+use std::io::{Read, Write};
+use std::net::Net;
+use std::thread;
+use std::time::{Clock, Duration};
+
+/// How many milliseconds a peer sleeps after a turn.
+const PAUSE: u64 = 1;
+
+/// What a match takes before its journal is opened.
+#[derive(Drop)]
+pub struct Prepared {
+    pub game: Game,
+    pub addresses: Addresses,
+    /// What the own player enters, one key set a tick.
+    pub keys: Vec<Keys>,
+}
+
+/// What a match takes: the game that a text spells, where the players are, and the key sets of all
+/// that a reader has. Faults are found in this order: the game, how many remotes there are, the
+/// addresses, the reader, its key sets.
+pub fn prepare<I: Read + Drop>(
+    alloc: Global,
+    text: &[u8],
+    input: I,
+    me: Player,
+    local: &str,
+    remotes: &[&str],
+) -> Result<Prepared, PeerError>
+    ensures game { IfOk result (λ it. Spells text.now it.game) }
+    ensures remotes { IfOk result (λ it. length remotes.now + 1 ≡ it.game.players) }
+    ensures keys { IfOk result (λ it. IfSome (I.remaining input)
+        (λ bytes. AreSetsOf bytes it.keys.items)) }
+    ensures refused { IfErr result
+        (IsNoMatch text.now (I.remaining input) (length remotes.now)) }
+{
+    let game = Game::read(alloc, text).map_err(PeerError::Game)?;
+    let addresses = Addresses::read(game.players(), me, local, remotes).map_err(PeerError::Socket)?;
+    let keys = keys_in(alloc, input)?;
+    Ok(Prepared {
+        game,
+        addresses,
+        keys,
+    })
+}
+
+/// The key sets of a reader's whole text.
+fn keys_in<I: Read + Drop>(alloc: Global, input: I) -> Result<Vec<Keys>, PeerError>
+    ensures sets { IfOk result (λ sets. IfSome (I.remaining input)
+        (λ bytes. AreSetsOf bytes sets.items)) }
+    ensures refused { (game : List ℕ) (remotes : ℕ)
+        → IfErr result (IsNoMatch game (I.remaining input) remotes) }
+{
+    match text_of(alloc, input) {
+        Ok(text) => key_sets(alloc, &text).map_err(PeerError::Keys),
+        Err(TextError::Failed) => Err(PeerError::Disk(DiskError::Failed)),
+        Err(TextError::Memory) => Err(PeerError::Keys(KeysError::Memory)),
+    }
+}
+
+/// Plays a match on the disk that holds the own journal: opens that first, then the socket, and makes
+/// turns until the session is over or as many were made as are asked for. Answers the confirmed
+/// machine.
+pub fn play_on<R, D: Disk + Drop, E: Write>(
+    rt: &R,
+    asked: &Asked<'_, '_>,
+    it: Prepared,
+    disk: D,
+    progress: &mut E,
+) -> Result<Played, PeerError>
+where
+    R: Net + Clock + AllocGlobal,
+    ensures played { IfOk result
+        (HasPlayed D.Disk disk it.game asked.now.room asked.now.player.number) }
+    ensures refused { IfErr result
+        (HasFailed D.Disk disk it.game asked.now.room asked.now.player.number) }
+{
+    let Prepared {
+        game,
+        addresses,
+        keys,
+    } = it;
+    let peer = match Peer::open(rt.alloc(), disk, &game, asked.player, asked.room) {
+        Ok(peer) => peer,
+        Err((error, _disk)) => return Err(PeerError::Open(error)),
+    };
+    let mut wire = match Udp::open(rt, &addresses) {
+        Ok(wire) => wire,
+        Err(error) => return Err(PeerError::Socket(error)),
+    };
+    let mut session = Session::new(peer, &game, keys, asked.patience);
+    match play(rt, asked, &mut session, &mut wire, progress) {
+        Ok(()) => {}
+        Err(error) => return Err(PeerError::from(error)),
+    }
+    let (frames, machine) = session.peer().base();
+    Ok(Played {
+        frames,
+        machine: *machine,
+    })
+}
+
+/// Makes turns until there are no more or the session is over, and sleeps after each. Where it is
+/// asked for, says how far the session is, and how it ended: a game goes on where that cannot be
+/// written.
+fn play<R: Clock, D: Disk, W: Wire, E: Write>(
+    rt: &R,
+    asked: &Asked<'_, '_>,
+    session: &mut Session<'_, D>,
+    wire: &mut W,
+    progress: &mut E,
+) -> Result<(), SessionError>
+    ensures ran { HasRunOn session.old.peer session.new.peer }
+    ensures end { IfErr result (IsEnd D.Disk session.old.peer session.new.peer) }
+{
+    peers_run_on::<D>();
+    let mut told = Progress::new(now(rt));
+    let mut made: u64 = 0;
+    for turn in 0..asked.turns {
+        if session.is_over() {
+            break;
+        }
+        session.turn(wire)?;
+        made = turn + 1;
+        tell_if(asked.progress, &mut told, progress, now(rt), session);
+        thread::sleep(rt, Duration::from_millis(PAUSE));
+    }
+    if asked.progress {
+        let _ = tell_end(progress, made, session);
+    }
+    Ok(())
+}
+
+/// Says how far a session is, where that is asked for and due.
+fn tell_if<D: Disk, E: Write>(
+    is_asked: bool,
+    told: &mut Progress,
+    progress: &mut E,
+    now: Duration,
+    session: &mut Session<'_, D>,
+)
+    ensures { session.new.peer ≡ session.old.peer }
+{
+    if is_asked {
+        let _ = told.tell(progress, now, session);
+    }
+}
+
+/// What the clock says; where it cannot be read, that no time has gone by.
+fn now<R: Clock>(rt: &R) -> Duration {
+    rt.monotonic().unwrap_or(Duration::from_secs(0))
+}
