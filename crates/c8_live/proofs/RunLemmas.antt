@@ -1,5 +1,6 @@
 -- How runs of one peer are put together.
-use Rattle.std.proofs.Common.{◌≡◌, ℕ, List, [], ◌∷◌, ◌++◌, Option, Some, refl, subst, ◌∙◌}
+use Rattle.std.proofs.Common.{◌≡◌, ℕ, List, [], ◌∷◌, ◌++◌, Option, Some, refl, sym, subst, ◌∙◌, map}
+use Rattle.std.proofs.lemmas.List.{map-append}
 use Rattle.c8_game.specs.Rules.{Rules}
 use Rattle.c8_disk.specs.declared.disk.Disk.{Ghosts}
 use Rattle.c8_peer.specs.State.{State, Call, Reply}
@@ -7,10 +8,10 @@ use Rattle.c8_peer.specs.Peer.{PeerValue, IsAnswered, luck_of}
 use Rattle.c8_peer.specs.Runs.{Deed, Does, IsDone, IsRun}
 use Rattle.c8_live.specs.declared.error.SessionError.{SessionError}
 use Rattle.c8_live.specs.declared.error.SessionError.TheVariants.{Disk, Wire}
-use Rattle.c8_live.specs.Runs.{HasRunOn, IsEnd}
+use Rattle.c8_live.specs.Runs.{does, HasRunOn, IsEnd}
 
 pub still : {D : Type 0} (p : PeerValue D) → HasRunOn p p
-still p = record { rules = refl; room = refl; me = refl; deeds = []; answers = []; run = refl }
+still p = record { rules = refl; room = refl; me = refl; calls = []; answers = []; run = refl }
 
 -- a run in a match and of a player, told of those that they are
 pub run_of : (rules rules2 : Rules) (room room2 me me2 : ℕ) (s t : State) (deeds : List Deed) (answers : List (Option Reply)) → rules2 ≡ rules → room2 ≡ room → me2 ≡ me
@@ -25,16 +26,19 @@ RunsJoin = (rules : Rules) (room me : ℕ) (s t u : State) (deeds more : List De
     → IsRun rules room me s (deeds ++ more) (answers ++ others) u
 
 pub joined : {D : Type 0} → RunsJoin → (first middle last : PeerValue D) → HasRunOn first middle → HasRunOn middle last → HasRunOn first last
-joined join first middle last one two = record {
-  rules = two.rules ∙ one.rules;
-  room = two.room ∙ one.room;
-  me = two.me ∙ one.me;
-  deeds = one.deeds ++ two.deeds;
-  answers = one.answers ++ two.answers;
-  run =
-      join first.rules first.room first.me first.state middle.state last.state one.deeds two.deeds one.answers two.answers one.run
-      (run_of first.rules middle.rules first.room middle.room first.me middle.me middle.state last.state two.deeds two.answers one.rules one.room one.me two.run);
-}
+joined join first middle last one two =
+    let answers = one.answers ++ two.answers in
+    let more = run_of first.rules middle.rules first.room middle.room first.me middle.me middle.state last.state (map does two.calls) two.answers one.rules one.room one.me two.run in
+    record {
+      rules = two.rules ∙ one.rules;
+      room = two.room ∙ one.room;
+      me = two.me ∙ one.me;
+      calls = one.calls ++ two.calls;
+      answers = answers;
+      run =
+          subst (λ (deeds : List Deed). IsRun first.rules first.room first.me first.state deeds answers last.state) (sym (map-append does one.calls two.calls))
+          (join first.rules first.room first.me first.state middle.state last.state (map does one.calls) (map does two.calls) one.answers two.answers one.run more);
+    }
 
 -- one call
 pub once : {D : Type 0} (disk : Ghosts D) (old new : PeerValue D) (call : Call) (reply : Reply) → IsAnswered disk old call reply new
@@ -43,12 +47,19 @@ once disk old new call reply is deed = record {
   rules = is.same.rules;
   room = is.same.room;
   me = is.same.me;
-  deeds = Does call (luck_of reply) ∷ [];
+  calls = (call, luck_of reply) ∷ [];
   answers = Some reply ∷ [];
   run = (new.state, deed, refl);
 }
 
 -- what ends a session after some calls ends it after those before them too
 pub ended : {D : Type 0} (disk : Ghosts D) → RunsJoin → (first middle last : PeerValue D) (error : SessionError) → HasRunOn first middle → IsEnd disk middle last error → IsEnd disk first last error
-ended disk join first middle last (Disk why) ran end = record { before = end.before; ran = joined join first middle end.before ran end.ran; cause = end.cause }
+ended disk join first middle last (Disk why) ran end = record {
+  before = end.before;
+  ran = joined join first middle end.before ran end.ran;
+  call = end.call;
+  reply = end.reply;
+  answered = end.answered;
+  refused = end.refused;
+}
 ended disk join first middle last (Wire failed) ran end = tt

@@ -1,27 +1,35 @@
 -- What the turns of a session make of its peer.
-use Rattle.std.specs.Prelude.{◌≡◌, List, Option}
+use Rattle.std.specs.Prelude.{◌≡◌, List, map, Option}
 use Rattle.c8_disk.specs.declared.disk.Disk.{Ghosts}
 use Rattle.c8_disk.specs.declared.error.DiskError.{DiskError}
-use Rattle.c8_peer.specs.State.{Reply}
-use Rattle.c8_peer.specs.Peer.{PeerValue, HasCause}
-use Rattle.c8_peer.specs.Runs.{Deed, IsRun}
+use Rattle.c8_peer.specs.State.{Call, Reply}
+use Rattle.c8_peer.specs.Steps.{Luck, Refuses}
+use Rattle.c8_peer.specs.Peer.{PeerValue, IsAnswered, luck_of}
+use Rattle.c8_peer.specs.Runs.{Deed, Does, IsRun}
 use Rattle.c8_live.specs.declared.error.SessionError.{SessionError}
 use Rattle.c8_live.specs.declared.error.SessionError.TheVariants.{Disk, Wire}
+
+-- a call, and what the disk does with its record: neither an opening nor a close, and no crash
+abbrev pub does : Call × Luck → Deed
+does call = Does call.0 call.1
 
 -- The peer of the same match and player after some calls, each one step of the definitions.
 pub record HasRunOn {D : Type 0} (old new : PeerValue D) : Type 0 where
   pub rules : new.rules ≡ old.rules
   pub room : new.room ≡ old.room
   pub me : new.me ≡ old.me
-  pub deeds : List Deed
+  pub calls : List (Call × Luck)
   pub answers : List (Option Reply)
-  pub run : IsRun old.rules old.room old.me old.state deeds answers new.state
+  pub run : IsRun old.rules old.room old.me old.state (map does calls) answers new.state
 
--- The last of these calls was refused by the disk, which was to blame.
+-- After such a run one call more, which the disk refused: its answer tells so, and is what the peer's contract says.
 pub record IsStopped {D : Type 0} (disk : Ghosts D) (old new : PeerValue D) (why : DiskError) : Type 0 where
   pub before : PeerValue D
   pub ran : HasRunOn old before
-  pub cause : HasCause disk before new why
+  pub call : Call
+  pub reply : Reply
+  pub answered : IsAnswered disk before call reply new
+  pub refused : luck_of reply ≡ Refuses why
 
 -- why a session cannot go on; of the way to the others nothing is said
 abbrev pub IsEnd : {D : Type 0} → Ghosts D → PeerValue D → PeerValue D → SessionError → Type 0

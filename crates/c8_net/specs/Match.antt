@@ -20,16 +20,28 @@ use Rattle.c8_net.specs.declared.error.SocketError.TheVariants as sockets
 
 -- ---- before the journal is opened
 
--- Why a match cannot begin: the text's first fault, or want of memory; there is not one address for each other player; a key set
--- of standard input that is none. Of an address only that it was judged then, and of standard input that it could not be read.
+-- why standard input has no key sets: a line that spells none, or want of memory; or it cannot be read
+abbrev pub IsNoKeys : Option (List ℕ) → PeerError → Type 0
+IsNoKeys input (Game error) = ⊥
+IsNoKeys input (Keys error) = IfSome input (λ text. IsFaultOfSets text error)
+IsNoKeys input (Open error) = ⊥
+IsNoKeys input (Disk why) = why ≡ disks.Failed
+IsNoKeys input (Socket error) = ⊥
+
+-- the text spells a game, which has one player more than there are addresses of others
+abbrev pub IsGameFor : List ℕ → ℕ → Type 0
+IsGameFor game remotes = (rules : Rules) × Spells game rules × (remotes + 1 ≡ rules.players)
+
+-- Why a match cannot begin, in this order: the text's first fault, or want of memory; there is not one address for each other
+-- player; an address, of which no more is said; what standard input has.
 abbrev pub IsNoMatch : List ℕ → Option (List ℕ) → ℕ → PeerError → Type 0
 IsNoMatch game input remotes (Game error) = (error ≡ games.Memory) ⊎ IsRefused game error
-IsNoMatch game input remotes (Keys error) = IfSome input (λ text. IsFaultOfSets text error)
-IsNoMatch game input remotes (Open error) = ⊥
-IsNoMatch game input remotes (Disk why) = why ≡ disks.Failed
 IsNoMatch game input remotes (Socket sockets.Failed) = ⊥
 IsNoMatch game input remotes (Socket sockets.Remotes) = (rules : Rules) × Spells game rules × (remotes + 1 ≢ rules.players)
-IsNoMatch game input remotes (Socket sockets.Address) = (rules : Rules) × Spells game rules × (remotes + 1 ≡ rules.players)
+IsNoMatch game input remotes (Socket sockets.Address) = IsGameFor game remotes
+IsNoMatch game input remotes (Keys error) = IsGameFor game remotes × IsNoKeys input (Keys error)
+IsNoMatch game input remotes (Disk why) = IsGameFor game remotes × IsNoKeys input (Disk why)
+IsNoMatch game input remotes (Open error) = ⊥
 
 -- ---- on a journal
 

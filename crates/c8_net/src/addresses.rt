@@ -27,6 +27,7 @@ impl Addresses {
         ensures remotes { length remotes.now + 1 ≢ players → IsErrOf result SocketError.Remotes }
         ensures counted { IsErrOf result SocketError.Remotes → length remotes.now + 1 ≢ players }
         ensures no_other { IsErrOf result SocketError.Failed → ⊥ }
+        ensures read { IfOk result (λ _. length remotes.now + 1 ≡ players) }
     {
         if remotes.len() + 1 != usize::from(players) {
             return Err(SocketError::Remotes);

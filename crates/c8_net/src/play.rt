@@ -1,10 +1,10 @@
 //! A match over UDP: what it takes to begin, and what is played of it on a journal.
 
-ghost use Rattle.std.specs.Prelude.{◌≡◌, ◌+◌, ℕ, List, length, IfOk, IfErr, IfSome};
+ghost use Rattle.std.specs.Prelude.{◌≡◌, ◌+◌, length, IfOk, IfErr, IfSome};
 ghost use Rattle.c8_game.specs.GameText.{Spells};
 ghost use Rattle.c8_keys.specs.KeySets.{AreSetsOf};
 ghost use Rattle.c8_live.specs.Runs.{HasRunOn, IsEnd};
-ghost use Rattle.c8_net.specs.Match.{IsNoMatch, HasPlayed, HasFailed};
+ghost use Rattle.c8_net.specs.Match.{IsNoKeys, IsNoMatch, HasPlayed, HasFailed};
 
 use crate::addresses::Addresses;
 use crate::arguments::Asked;
@@ -53,22 +53,29 @@ pub fn prepare<I: Read + Drop>(
     ensures refused { IfErr result
         (IsNoMatch text.now (I.remaining input) (length remotes.now)) }
 {
-    let game = Game::read(alloc, text).map_err(PeerError::Game)?;
-    let addresses = Addresses::read(game.players(), me, local, remotes).map_err(PeerError::Socket)?;
-    let keys = keys_in(alloc, input)?;
-    Ok(Prepared {
-        game,
-        addresses,
-        keys,
-    })
+    let game = match Game::read(alloc, text) {
+        Ok(game) => game,
+        Err(error) => return Err(PeerError::Game(error)),
+    };
+    let addresses = match Addresses::read(game.players(), me, local, remotes) {
+        Ok(addresses) => addresses,
+        Err(error) => return Err(PeerError::Socket(error)),
+    };
+    match keys_in(alloc, input) {
+        Ok(keys) => Ok(Prepared {
+            game,
+            addresses,
+            keys,
+        }),
+        Err(error) => Err(error),
+    }
 }
 
 /// The key sets of a reader's whole text.
 fn keys_in<I: Read + Drop>(alloc: Global, input: I) -> Result<Vec<Keys>, PeerError>
     ensures sets { IfOk result (λ sets. IfSome (I.remaining input)
         (λ bytes. AreSetsOf bytes sets.items)) }
-    ensures refused { (game : List ℕ) (remotes : ℕ)
-        → IfErr result (IsNoMatch game (I.remaining input) remotes) }
+    ensures refused { IfErr result (IsNoKeys (I.remaining input)) }
 {
     match text_of(alloc, input) {
         Ok(text) => key_sets(alloc, &text).map_err(PeerError::Keys),

@@ -12,4 +12,11 @@ returns-clause-ran g c =
 pub returns-clause-stopped : goal.returns-clause-stopped
 returns-clause-stopped g c why is =
     let peer = c.args.self.now.peer in
-    record { before = peer; ran = c.peers_run_on.ensures.still peer; cause = c.decide-answer.ensures.cause why (ap (λ (r : Result ℕ DecideError). luck_of (Decided r)) is) }
+    record {
+      before = peer;
+      ran = c.peers_run_on.ensures.still peer;
+      call = Decide c.args.leaver.number;
+      reply = Decided c.decide-answer.result;
+      answered = c.decide-answer.ensures;
+      refused = ap (λ (r : Result ℕ DecideError). luck_of (Decided r)) is;
+    }

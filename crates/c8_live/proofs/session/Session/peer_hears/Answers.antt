@@ -15,4 +15,11 @@ returns-clause-ran g c =
 pub returns-clause-stopped : goal.returns-clause-stopped
 returns-clause-stopped g c why is =
     let peer = c.args.self.now.peer in
-    record { before = peer; ran = c.peers_run_on.ensures.still peer; cause = c.deliver-answer.ensures.cause why (ap (λ (r : Result Heard Refused). luck_of (Delivered r)) is) }
+    record {
+      before = peer;
+      ran = c.peers_run_on.ensures.still peer;
+      call = Deliver (read c.args.packet.now);
+      reply = Delivered c.deliver-answer.result;
+      answered = c.deliver-answer.ensures;
+      refused = ap (λ (r : Result Heard Refused). luck_of (Delivered r)) is;
+    }

@@ -12,4 +12,11 @@ returns-clause-ran g c =
 pub returns-clause-stopped : goal.returns-clause-stopped
 returns-clause-stopped g c why is =
     let peer = c.args.self.now.peer in
-    record { before = peer; ran = c.peers_run_on.ensures.still peer; cause = c.leave.ensures.cause why (ap (λ (r : Result (Unit {0}) LeaveError). luck_of (Left r)) is) }
+    record {
+      before = peer;
+      ran = c.peers_run_on.ensures.still peer;
+      call = Leave c.args.leaver.number;
+      reply = Left c.leave.result;
+      answered = c.leave.ensures;
+      refused = ap (λ (r : Result (Unit {0}) LeaveError). luck_of (Left r)) is;
+    }

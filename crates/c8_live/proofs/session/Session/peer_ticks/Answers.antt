@@ -12,4 +12,11 @@ returns-clause-ran g c =
 pub returns-clause-stopped : goal.returns-clause-stopped
 returns-clause-stopped g c why is =
     let peer = c.args.self.now.peer in
-    record { before = peer; ran = c.peers_run_on.ensures.still peer; cause = c.tick.ensures.cause why (ap (λ (r : Result (Unit {0}) TickError). luck_of (Ticked r)) is) }
+    record {
+      before = peer;
+      ran = c.peers_run_on.ensures.still peer;
+      call = Tick c.args.keys.0;
+      reply = Ticked c.tick.result;
+      answered = c.tick.ensures;
+      refused = ap (λ (r : Result (Unit {0}) TickError). luck_of (Ticked r)) is;
+    }
