@@ -1,5 +1,8 @@
 //! The greatest sizes of any game.
 
+/// The most players of a game.
+pub const MOST_PLAYERS: usize = 4;
+
 /// The most bytes of a program.
 pub const MOST_PROGRAM: usize = 3584;
 

@@ -7,7 +7,7 @@ use std::alloc::AllocError;
 use thiserror::Error;
 
 /// Why a text is no game: its first fault.
-#[derive(Clone, Copy, Debug, PartialEq, Eq, Error)]
+#[derive(Clone, Copy, Debug, PartialEq, Eq, Hash, Error)]
 pub enum GameError {
     /// A line that is no name, space and value: an unknown name, no space, an empty value or one
     /// with a space, or a decimal that is none.

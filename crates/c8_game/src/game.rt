@@ -6,13 +6,14 @@ ghost use Rattle.c8_game.specs.GameFaults.{IsRefused};
 ghost use Rattle.c8_game.specs.declared.error.GameError.TheVariants.{Memory};
 ghost use Rattle.c8_game.specs.Rules.{AreInRange, joined, limit_of, number_bytes, id_of, session_of};
 
-use crate::bounds::{MOST_FRAMES, MOST_INPUTS, MOST_PROGRAM};
+use crate::bounds::{MOST_FRAMES, MOST_INPUTS, MOST_PLAYERS, MOST_PROGRAM};
 use crate::error::GameError;
 use crate::row::{Keys, Player, Row};
 use crate::text::draft::Draft;
 use crate::text::lines::Lines;
 use sha2::{Digest, Sha256};
 use std::alloc::Global;
+use std::fmt;
 use std::marker::Model;
 
 /// A game, as its text gives it. Contracts see it as its `Rules` (`specs/Rules.antt`).
@@ -24,7 +25,7 @@ pub struct Game {
     pub(crate) delay: u8,
     pub(crate) window: u8,
     pub(crate) seed: u64,
-    pub(crate) masks: [u16; 4],
+    pub(crate) masks: [u16; MOST_PLAYERS],
     pub(crate) program: Vec<u8>,
 }
 
@@ -55,6 +56,21 @@ impl Model for Game {
       masks = g.masks;
       program = g.program.items;
     }) };
+}
+
+/// Its numbers, and how long its program is.
+impl fmt::Debug for Game {
+    fn fmt<W: fmt::Write>(&self, f: &mut fmt::Formatter<W>) -> fmt::Result {
+        let (players, ipf, frames) = (self.players, self.ipf, self.frames);
+        let (delay, window, seed) = (self.delay, self.window, self.seed);
+        let length = self.program.len();
+        write!(
+            f,
+            "Game {{ players: {players}, ipf: {ipf}, frames: {frames}, "
+        )?;
+        write!(f, "delay: {delay}, window: {window}, seed: {seed}, ")?;
+        write!(f, "program: {length} bytes }}")
+    }
 }
 
 impl Game {
@@ -142,7 +158,7 @@ impl Game {
         ensures value { slice_get self.now.masks (player.number - 1) ≡ Some result.0 }
         ensures absent { self.now.players < player.number → result.0 ≡ 0 }
     {
-        Keys(self.masks[usize::from(player.number - 1)])
+        Keys(self.masks[player.place()])
     }
 
     /// The program, 1 to 3584 bytes, which a machine has from address 200 (hexadecimal) on.

@@ -13,7 +13,7 @@ pub mod laws;
 mod row;
 mod text;
 
-pub use bounds::{MOST_FRAMES, MOST_INPUTS, MOST_PROGRAM};
+pub use bounds::{MOST_FRAMES, MOST_INPUTS, MOST_PLAYERS, MOST_PROGRAM};
 pub use error::GameError;
 pub use game::Game;
 pub use row::{Keys, NoPlayer, Player, Row};

@@ -1,11 +1,12 @@
 //! Key sets, players, and a row of one key set a player.
-ghost use Rattle.std.specs.Prelude.{◌≡◌, ◌≤◌, ◌<◌, ◌⊎◌, ◌↔◌, true, false, MatchOption, IfOk, IfErr, IfNone, IfSome};
+ghost use Rattle.std.specs.Prelude.{◌≡◌, ◌≤◌, ◌<◌, ◌+◌, ◌-◌, ◌==◌, ◌⊎◌, ◌↔◌, true, false, MatchOption, IfOk, IfErr, IfNone, IfSome};
 
+use crate::bounds::MOST_PLAYERS;
 use std::fmt;
 use thiserror::Error;
 
 /// A set of the sixteen keys: key `k` is in it exactly if bit `k` is 1.
-#[derive(Clone, Copy, Debug, Default, PartialEq, Eq)]
+#[derive(Clone, Copy, Debug, Default, PartialEq, Eq, Hash)]
 pub struct Keys(pub u16);
 
 impl Keys {
@@ -32,8 +33,8 @@ impl fmt::Display for Keys {
     }
 }
 
-/// One of the players 1 to 4.
-#[derive(Clone, Copy, Debug, PartialEq, Eq)]
+/// One of the players 1 to 4, in order of their numbers.
+#[derive(Clone, Copy, Debug, PartialEq, Eq, PartialOrd, Ord, Hash)]
 pub struct Player {
     pub number: u8,
     pub ghost from_one: { 1 ≤ number },
@@ -41,6 +42,9 @@ pub struct Player {
 }
 
 impl Player {
+    /// Player 1, who alone lets players go.
+    pub const CHAIR: Player = Player { number: 1 };
+
     /// The player with a number from 1 to 4, none for any other number.
     pub fn new(number: u8) -> Option<Self>
         ensures some { IfSome result (λ player. player.number ≡ number) }
@@ -51,6 +55,22 @@ impl Player {
         } else {
             None
         }
+    }
+
+    /// Its place among all players, player 1 at place 0.
+    pub fn place(self) -> usize
+        ensures value { result ≡ self.number - 1 }
+        ensures next { result + 1 ≡ self.number }
+        ensures below { result < MOST_PLAYERS }
+    {
+        usize::from(self.number - 1)
+    }
+
+    /// Whether it is player 1, who alone lets players go.
+    pub fn is_chair(self) -> bool
+        ensures { result ≡ (self.number == 1) }
+    {
+        self.number == 1
     }
 }
 
@@ -73,6 +93,14 @@ impl TryFrom<u8> for Player {
     }
 }
 
+impl From<Player> for u8 {
+    ghost from_gives = { λ player number. number ≡ player.number };
+
+    fn from(player: Player) -> u8 {
+        player.number
+    }
+}
+
 /// The player's number.
 impl fmt::Display for Player {
     fn fmt<W: fmt::Write>(&self, f: &mut fmt::Formatter<W>) -> fmt::Result {
@@ -81,9 +109,9 @@ impl fmt::Display for Player {
 }
 
 /// What each of four players holds down in one frame, as entered: player 1's set comes first.
-#[derive(Clone, Copy, Debug, Default, PartialEq, Eq)]
+#[derive(Clone, Copy, Debug, Default, PartialEq, Eq, Hash)]
 pub struct Row {
-    pub sets: [Keys; 4],
+    pub sets: [Keys; MOST_PLAYERS],
 }
 
 impl Row {

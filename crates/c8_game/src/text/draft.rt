@@ -12,7 +12,7 @@ ghost use Rattle.c8_game.specs.declared.error.GameError.TheVariants.{Hex, Memory
 ghost use Rattle.c8_game.specs.declared.text.field.Field.{Field};
 ghost use Rattle.c8_game.specs.declared.text.field.Field.TheVariants.{Mask1, Mask2, Mask3, Mask4};
 
-use crate::bounds::MOST_PROGRAM;
+use crate::bounds::{MOST_PLAYERS, MOST_PROGRAM};
 use crate::error::GameError;
 use crate::game::Game;
 use crate::text::field::{FIELDS, Field};
@@ -121,7 +121,7 @@ impl Draft {
         })
     }
 
-    fn masks(&self) -> [u16; 4]
+    fn masks(&self) -> [u16; MOST_PLAYERS]
         ensures { result ≡ told_by self.now.values Mask1 ∷ told_by self.now.values Mask2
             ∷ told_by self.now.values Mask3 ∷ told_by self.now.values Mask4 ∷ [] }
     {

@@ -4,12 +4,22 @@ ghost use Rattle.std.specs.Iterator.{YieldsFirstRef, item_count};
 ghost use Rattle.std.specs.List.{before_first, after_first};
 ghost use Rattle.std.specs.Str.Lines.{lines, strip_carriage_return};
 
+use std::fmt;
+
 /// The lines of a text that are still to come. A line ends at a line feed, and one carriage return
 /// before that is dropped with it. If nothing follows the last line feed, no line begins there; a
 /// last line that no line feed ends keeps its carriage return.
 #[derive(Clone, Copy)]
 pub struct Lines<'a> {
     rest: &'a [u8],
+}
+
+/// How many bytes are left, and none of them.
+impl<'a> fmt::Debug for Lines<'a> {
+    fn fmt<W: fmt::Write>(&self, f: &mut fmt::Formatter<W>) -> fmt::Result {
+        let left = self.rest.len();
+        write!(f, "Lines {{ bytes left: {left} }}")
+    }
 }
 
 impl<'a> Lines<'a> {
