@@ -6,7 +6,7 @@ use Rattle.c8_wire.specs.declared.kinds.Kind.TheVariants as kinds
 use Rattle.c8_wire.specs.Sizes.{longest_run}
 
 -- Which kind of datagram who says to whom, in which match, and the epochs of both. Who says it and
--- who is addressed are seats: those of players are 1 to 4.
+-- who is addressed are seats, the numbers of players 1 to 4.
 pub record HeadValue : Type 0 where
   pub kind : Kind
   pub session : ℕ

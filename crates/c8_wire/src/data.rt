@@ -5,6 +5,7 @@ ghost use Rattle.c8_wire.specs.declared.kinds.Kind.TheVariants as kinds;
 ghost use Rattle.c8_wire.specs.Reading.{number_at, packet_at};
 ghost use Rattle.c8_wire.specs.Spelling.{Spells};
 
+use crate::layout::{ACK_AT, DATA_RUN_AT, DATA_START_AT, MARK_AT, MARK_FRAME_AT};
 use crate::numbers::u32_at;
 use crate::run::Run;
 use c8_game::MOST_INPUTS;
@@ -27,7 +28,7 @@ impl<'a> Data<'a> {
         ensures value { result ≡ (data_of self.now).ack }
         ensures most { result ≤ MOST_INPUTS }
     {
-        u32_at(self.bytes, 24)
+        u32_at(self.bytes, ACK_AT)
     }
 
     /// How many confirmed frames the mark stands for.
@@ -35,14 +36,14 @@ impl<'a> Data<'a> {
         ensures value { result ≡ (data_of self.now).mark_frame }
         ensures most { result ≤ MOST_INPUTS }
     {
-        u32_at(self.bytes, 28)
+        u32_at(self.bytes, MARK_FRAME_AT)
     }
 
     /// The mark of that many confirmed frames.
     pub fn mark(&self) -> [u8; 8]
         ensures { result ≡ (data_of self.now).mark }
     {
-        let (_, rest) = self.bytes.split_at(32);
+        let (_, rest) = self.bytes.split_at(MARK_AT);
         let [a, b, c, d, e, f, g, h, ..] = rest else {
             unreachable!()
         };
@@ -54,7 +55,7 @@ impl<'a> Data<'a> {
         ensures value { result ≡ (data_of self.now).start }
         ensures within { result + length (data_of self.now).words ≤ MOST_INPUTS }
     {
-        u32_at(self.bytes, 40)
+        u32_at(self.bytes, DATA_START_AT)
     }
 
     /// The inputs, lent from the bytes that came: those after the first 46.
@@ -62,7 +63,7 @@ impl<'a> Data<'a> {
         ensures words { words result ≡ (data_of self.now).words }
         ensures slice { spelled result ≡ run_slice kinds.Data (bytes_of (datagrams.Data self.now)) }
     {
-        let (_, bytes) = self.bytes.split_at(46);
+        let (_, bytes) = self.bytes.split_at(DATA_RUN_AT);
         Run::new(bytes)
     }
 }

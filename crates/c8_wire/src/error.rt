@@ -5,7 +5,7 @@ ghost use Rattle.c8_wire.specs.Errors.{number_of};
 use thiserror::Error;
 
 /// The first reason, in this order, why bytes are no datagram.
-#[derive(Clone, Copy, Debug, PartialEq, Eq, Error)]
+#[derive(Clone, Copy, Debug, PartialEq, Eq, Hash, Error)]
 pub enum WireError {
     /// Fewer than 24 bytes.
     #[error("fewer than 24 bytes")]

@@ -5,6 +5,7 @@ ghost use Rattle.c8_wire.specs.declared.kinds.Kind.TheVariants as kinds;
 ghost use Rattle.c8_wire.specs.Reading.{packet_at};
 ghost use Rattle.c8_wire.specs.Spelling.{Spells};
 
+use crate::layout::ACK_AT;
 use crate::numbers::u32_at;
 use c8_game::MOST_INPUTS;
 
@@ -32,6 +33,6 @@ impl<'a> Welcome<'a> {
         ensures value { result ≡ ack_of self.now }
         ensures most { result ≤ MOST_INPUTS }
     {
-        u32_at(self.bytes, 24)
+        u32_at(self.bytes, ACK_AT)
     }
 }

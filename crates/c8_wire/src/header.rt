@@ -1,14 +1,15 @@
 //! The header of a datagram: who says it to whom, in which match and epochs.
-ghost use Rattle.std.specs.Prelude.{◌≡◌, ◌≢◌, ◌≤◌, false, length, Some, MatchOption};
+ghost use Rattle.std.specs.Prelude.{◌≡◌, ◌≢◌, ◌≤◌, ◌<◌, ◌+◌, ◌-◌, false, length, Some, MatchOption};
 ghost use Rattle.c8_wire.specs.Reading.{kind_at, head_at};
 ghost use Rattle.c8_wire.specs.Packet.{IsHead};
 
 use crate::kinds::Kind;
+use crate::layout::{ADDRESSEE_EPOCH_AT, FROM_AT, SENDER_EPOCH_AT, SESSION_AT, TO_AT};
 use crate::numbers::{u32_at, u64_at};
-use c8_game::Player;
+use c8_game::{MOST_PLAYERS, Player};
 
 /// Who says a datagram, or is addressed: a player's place in the header, 1 to 4.
-#[derive(Clone, Copy, Debug, PartialEq, Eq)]
+#[derive(Clone, Copy, Debug, PartialEq, Eq, Hash)]
 pub struct Seat {
     pub number: u8,
     pub ghost from_one: { 1 ≤ number },
@@ -18,7 +19,7 @@ pub struct Seat {
 impl Seat {
     ghost use Rattle.c8_wire.specs.Refusal.{is_player};
 
-    /// The player whose seat it is; every seat is a player's.
+    /// The player whose seat it is. The seats are those of players 1 to 4, so it is never `None`.
     pub fn player(self) -> Option<Player>
         ensures { MatchOption result (is_player self.number ≡ false)
             (λ player. player.number ≡ self.number) }
@@ -30,6 +31,15 @@ impl Seat {
         } else {
             None
         }
+    }
+
+    /// The place of its player among all, player 1 at place 0.
+    pub fn place(self) -> usize
+        ensures value { result ≡ self.number - 1 }
+        ensures next { result + 1 ≡ self.number }
+        ensures below { result < MOST_PLAYERS }
+    {
+        usize::from(self.number - 1)
     }
 }
 
@@ -44,7 +54,7 @@ impl From<Player> for Seat {
 }
 
 /// What a header says, but for the length of the body.
-#[derive(Clone, Copy, Debug, PartialEq, Eq)]
+#[derive(Clone, Copy, Debug, PartialEq, Eq, Hash)]
 pub struct Head {
     pub kind: Kind,
     /// The match that the datagram belongs to.
@@ -80,14 +90,14 @@ impl<'a> Header<'a> {
     pub fn session(&self) -> u64
         ensures { result ≡ (head_of self.now).session }
     {
-        u64_at(self.bytes, 4)
+        u64_at(self.bytes, SESSION_AT)
     }
 
     pub fn from(&self) -> Seat
         ensures { result.number ≡ (head_of self.now).from }
     {
         Seat {
-            number: self.bytes[12],
+            number: self.bytes[FROM_AT],
         }
     }
 
@@ -95,21 +105,21 @@ impl<'a> Header<'a> {
         ensures { result.number ≡ (head_of self.now).to }
     {
         Seat {
-            number: self.bytes[13],
+            number: self.bytes[TO_AT],
         }
     }
 
     pub fn sender_epoch(&self) -> u32
         ensures { result ≡ (head_of self.now).sender_epoch }
     {
-        u32_at(self.bytes, 16)
+        u32_at(self.bytes, SENDER_EPOCH_AT)
     }
 
     /// The addressee's epoch as the sender knows it, 0 if it doesn't.
     pub fn addressee_epoch(&self) -> u32
         ensures { result ≡ (head_of self.now).addressee_epoch }
     {
-        u32_at(self.bytes, 20)
+        u32_at(self.bytes, ADDRESSEE_EPOCH_AT)
     }
 
     /// All that the header says, by value.

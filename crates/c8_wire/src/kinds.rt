@@ -6,7 +6,7 @@ use crate::error::WireError;
 use std::fmt;
 
 /// What a datagram is for. Its number is byte 3 of the datagram.
-#[derive(Clone, Copy, Debug, PartialEq, Eq)]
+#[derive(Clone, Copy, Debug, PartialEq, Eq, Hash)]
 pub enum Kind {
     /// The sender asks for a link.
     Hello = 1,

@@ -5,6 +5,7 @@ ghost use Rattle.c8_wire.specs.declared.kinds.Kind.TheVariants as kinds;
 ghost use Rattle.c8_wire.specs.Reading.{number_at, packet_at};
 ghost use Rattle.c8_wire.specs.Spelling.{Spells};
 
+use crate::layout::{INPUTS_AT, LEAVER_AT, LEAVER_RUN_AT, LEAVER_START_AT};
 use crate::numbers::u32_at;
 use crate::run::Run;
 use c8_game::{MOST_INPUTS, Player};
@@ -29,21 +30,21 @@ impl<'a> Leaving<'a> {
         ensures from_two { 2 ≤ result.number }
     {
         Player {
-            number: self.bytes[24],
+            number: self.bytes[LEAVER_AT],
         }
     }
 
     fn inputs(self) -> u32
         ensures { result ≡ number_at 26 4 self.entry.bytes.now }
     {
-        u32_at(self.bytes, 26)
+        u32_at(self.bytes, INPUTS_AT)
     }
 
     fn start(self) -> u32
         requires { 36 ≤ length self.bytes.now }
         ensures { result ≡ number_at 30 4 self.entry.bytes.now }
     {
-        u32_at(self.bytes, 30)
+        u32_at(self.bytes, LEAVER_START_AT)
     }
 
     fn run(self) -> Run<'a>
@@ -53,7 +54,7 @@ impl<'a> Leaving<'a> {
         ensures words { words result ≡ (leaver_at self.entry.bytes.now).words }
         ensures slice { spelled result ≡ drop 36 self.entry.bytes.now }
     {
-        let (_, bytes) = self.bytes.split_at(36);
+        let (_, bytes) = self.bytes.split_at(LEAVER_RUN_AT);
         Run::new(bytes)
     }
 }

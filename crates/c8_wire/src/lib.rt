@@ -15,11 +15,13 @@ mod handshake;
 mod header;
 mod kinds;
 pub mod laws;
+mod layout;
 mod leaving;
 mod numbers;
 mod reading;
 mod run;
 mod said;
+mod shown;
 mod sizes;
 mod writing;
 

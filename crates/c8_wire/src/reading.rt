@@ -14,6 +14,10 @@ use crate::datagram::Datagram;
 use crate::error::WireError;
 use crate::handshake::{Hello, Welcome};
 use crate::kinds::Kind;
+use crate::layout::{
+    ACK_AT, COUNT_PAST_FIXED, FROM_AT, INPUTS_AT, KIND_AT, LEAVER_AT, MAGIC, MAGIC_AT,
+    MARK_FRAME_AT, RESERVED, RESERVED_AT, SIZE_AT, START_PAST_FIXED, TO_AT, VERSION, VERSION_AT,
+};
 use crate::leaving::{Cut, Freeze, Frozen, Leaving};
 use crate::numbers::{u16_at, u32_at};
 use crate::sizes::{HEADER_LENGTH, LONGEST_RUN};
@@ -80,7 +84,7 @@ fn checked_kind(bytes: &[u8]) -> Result<Kind, WireError>
 /// The kind that the header names, if none of the first four refusals applies.
 #[tactic(auto, unfolding(crate::specs::Refusal::refusal, crate::specs::Refusal::applies))]
 fn named_kind(bytes: &[u8]) -> Result<Kind, WireError>
-    ensures long { OnOk result (24 ≤ length bytes.now) }
+    ensures long { OnOk result (HEADER_LENGTH ≤ length bytes.now) }
     ensures kind { IfOk result (λ kind. kind_at bytes.now ≡ Some kind) }
     ensures rest { IfOk result (λ kind.
         refusal bytes.now ≡ first_of body_refusals (Some kind) bytes.now) }
@@ -89,13 +93,13 @@ fn named_kind(bytes: &[u8]) -> Result<Kind, WireError>
     if bytes.len() < HEADER_LENGTH {
         return Err(WireError::Short);
     }
-    if u16_at(bytes, 0) != 0x4338 {
+    if u16_at(bytes, MAGIC_AT) != u16::from_be_bytes(MAGIC) {
         return Err(WireError::Magic);
     }
-    if bytes[2] != 1 {
+    if bytes[VERSION_AT] != VERSION {
         return Err(WireError::Version);
     }
-    match Kind::from_code(bytes[3]) {
+    match Kind::from_code(bytes[KIND_AT]) {
         Some(kind) => Ok(kind),
         None => Err(WireError::Kind),
     }
@@ -104,7 +108,7 @@ fn named_kind(bytes: &[u8]) -> Result<Kind, WireError>
 /// The first of the other refusals that applies to a datagram of this kind.
 #[tactic(auto, unfolding(crate::specs::Refusal::applies))]
 fn body_refusal(kind: Kind, bytes: &[u8]) -> Option<WireError>
-    requires { 24 ≤ length bytes.now }
+    requires { HEADER_LENGTH ≤ length bytes.now }
     ensures { result ≡ first_of body_refusals (Some kind) bytes.now }
 {
     if is_misfit(kind, bytes) {
@@ -127,11 +131,11 @@ fn body_refusal(kind: Kind, bytes: &[u8]) -> Option<WireError>
 
 /// Whether the body is not as long as the header says, or not as its kind wants.
 fn is_misfit(kind: Kind, bytes: &[u8]) -> bool
-    requires { 24 ≤ length bytes.now }
+    requires { HEADER_LENGTH ≤ length bytes.now }
     ensures value { result ≡ is_misfit kind bytes.now }
-    ensures long { OnFalse result (24 + fixed_size kind ≤ length bytes.now) }
+    ensures long { OnFalse result (HEADER_LENGTH + fixed_size kind ≤ length bytes.now) }
 {
-    let size = usize::from(u16_at(bytes, 14));
+    let size = usize::from(u16_at(bytes, SIZE_AT));
     let fixed = kind.fixed_size();
     let mut is_misfit = bytes.len() - HEADER_LENGTH != size;
     is_misfit |= size < fixed || (!kind.has_run() && size > fixed);
@@ -140,31 +144,31 @@ fn is_misfit(kind: Kind, bytes: &[u8]) -> bool
 
 /// Whether the header does not name two players, or the leaver is none who may leave.
 fn misnames_players(kind: Kind, bytes: &[u8]) -> bool
-    requires { 24 + fixed_size kind ≤ length bytes.now }
+    requires { HEADER_LENGTH + fixed_size kind ≤ length bytes.now }
     ensures { result ≡ misnames_players kind bytes.now }
 {
-    let from = bytes[12];
-    let to = bytes[13];
+    let from = bytes[FROM_AT];
+    let to = bytes[TO_AT];
     let mut misnames = from < 1 || 4 < from || to < 1 || 4 < to || from == to;
-    misnames |= kind.names_leaver() && (bytes[24] < 2 || 4 < bytes[24]);
+    misnames |= kind.names_leaver() && (bytes[LEAVER_AT] < 2 || 4 < bytes[LEAVER_AT]);
     misnames
 }
 
 /// Whether the byte after the leaver is not 0.
 fn fills_reserved(kind: Kind, bytes: &[u8]) -> bool
-    requires { 24 + fixed_size kind ≤ length bytes.now }
+    requires { HEADER_LENGTH + fixed_size kind ≤ length bytes.now }
     ensures { result ≡ fills_reserved kind bytes.now }
 {
-    kind.names_leaver() && bytes[25] != 0
+    kind.names_leaver() && bytes[RESERVED_AT] != RESERVED
 }
 
 /// Whether the run is longer than 64, or not as long as the body has room for.
 fn miscounts(kind: Kind, bytes: &[u8]) -> bool
-    requires { 24 + fixed_size kind ≤ length bytes.now }
+    requires { HEADER_LENGTH + fixed_size kind ≤ length bytes.now }
     ensures { result ≡ miscounts kind bytes.now }
 {
-    let size = usize::from(u16_at(bytes, 14));
-    let count = usize::from(u16_at(bytes, 22 + kind.fixed_size()));
+    let size = usize::from(u16_at(bytes, SIZE_AT));
+    let count = usize::from(u16_at(bytes, COUNT_PAST_FIXED + kind.fixed_size()));
     let mut miscounts = count > LONGEST_RUN;
     miscounts |= size != kind.fixed_size() + 2 * count;
     kind.has_run() && miscounts
@@ -172,21 +176,21 @@ fn miscounts(kind: Kind, bytes: &[u8]) -> bool
 
 /// Whether a number of inputs is above what a game may have, or a run goes past its end.
 fn goes_beyond(kind: Kind, bytes: &[u8]) -> bool
-    requires { 24 + fixed_size kind ≤ length bytes.now }
+    requires { HEADER_LENGTH + fixed_size kind ≤ length bytes.now }
     ensures { result ≡ goes_beyond kind bytes.now }
 {
     match kind {
         Kind::Hello => false,
-        Kind::Welcome => u32_at(bytes, 24) > MOST_INPUTS,
+        Kind::Welcome => u32_at(bytes, ACK_AT) > MOST_INPUTS,
         Kind::Data => {
-            let mut beyond = u32_at(bytes, 24) > MOST_INPUTS;
-            beyond |= u32_at(bytes, 28) > MOST_INPUTS;
+            let mut beyond = u32_at(bytes, ACK_AT) > MOST_INPUTS;
+            beyond |= u32_at(bytes, MARK_FRAME_AT) > MOST_INPUTS;
             beyond |= run_end(kind, bytes) > u64::from(MOST_INPUTS);
             beyond
         }
-        Kind::Freeze => u32_at(bytes, 26) > MOST_INPUTS,
+        Kind::Freeze => u32_at(bytes, INPUTS_AT) > MOST_INPUTS,
         Kind::Frozen | Kind::Cut => {
-            let length = u32_at(bytes, 26);
+            let length = u32_at(bytes, INPUTS_AT);
             let mut beyond = length > MOST_INPUTS;
             beyond |= run_end(kind, bytes) > u64::from(length);
             beyond
@@ -196,9 +200,9 @@ fn goes_beyond(kind: Kind, bytes: &[u8]) -> bool
 
 /// The place after a run's last input.
 fn run_end(kind: Kind, bytes: &[u8]) -> u64
-    requires { 24 + fixed_size kind ≤ length bytes.now }
+    requires { HEADER_LENGTH + fixed_size kind ≤ length bytes.now }
     ensures { result ≡ run_end kind bytes.now }
 {
-    let start = u32_at(bytes, 18 + kind.fixed_size());
-    u64::from(start) + u64::from(u16_at(bytes, 22 + kind.fixed_size()))
+    let start = u32_at(bytes, START_PAST_FIXED + kind.fixed_size());
+    u64::from(start) + u64::from(u16_at(bytes, COUNT_PAST_FIXED + kind.fixed_size()))
 }

@@ -3,6 +3,9 @@
 /// How many bytes a header has.
 pub const HEADER_LENGTH: usize = 24;
 
+/// The most bytes that a body has: that of a DATA with the longest run.
+pub(crate) const LONGEST_BODY: usize = 150;
+
 /// The most bytes that a datagram has.
 pub const LONGEST_DATAGRAM: usize = 174;
 

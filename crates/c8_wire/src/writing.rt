@@ -7,8 +7,9 @@ ghost use Rattle.c8_wire.specs.Spelling.{header_bytes, words_bytes, run_bytes, b
 ghost use Rattle.c8_wire.specs.Saying.{head_value, message_of, packet_said, MaySay};
 
 use crate::header::Head;
+use crate::layout::{MAGIC, RESERVED, VERSION};
 use crate::said::{Body, Said};
-use crate::sizes::LONGEST_DATAGRAM;
+use crate::sizes::{HEADER_LENGTH, LONGEST_BODY, LONGEST_DATAGRAM};
 use arrayvec::ArrayVec;
 use c8_game::Player;
 
@@ -33,12 +34,13 @@ pub fn write(said: &Said<'_>, out: &mut [u8; LONGEST_DATAGRAM]) -> usize
 
 /// Appends the header of a datagram whose body has `size` bytes.
 fn put_header(head: &Head, size: usize, out: &mut ArrayVec<u8, LONGEST_DATAGRAM>)
-    requires room { array_vec_len out.old + 24 ≤ 174 }
-    requires size { size ≤ 150 }
+    requires room { array_vec_len out.old + HEADER_LENGTH ≤ LONGEST_DATAGRAM }
+    requires size { size ≤ LONGEST_BODY }
     ensures bytes { out.new.items ≡ out.old.items ++ header_bytes (head_value head.now) size }
     ensures head { IsHead (head_value head.now) }
 {
-    put(&[0x43, 0x38, 1, head.kind.code()], out);
+    let [first, second] = MAGIC;
+    put(&[first, second, VERSION, head.kind.code()], out);
     put(&head.session.to_be_bytes(), out);
     put(&[head.from.number, head.to.number], out);
     put(&(size as u16).to_be_bytes(), out);
@@ -48,7 +50,7 @@ fn put_header(head: &Head, size: usize, out: &mut ArrayVec<u8, LONGEST_DATAGRAM>
 
 /// Appends the body.
 fn put_body(body: &Body<'_>, out: &mut ArrayVec<u8, LONGEST_DATAGRAM>)
-    requires room { array_vec_len out.old + 150 ≤ 174 }
+    requires room { array_vec_len out.old + LONGEST_BODY ≤ LONGEST_DATAGRAM }
     requires message { IsMessage (message_of body.now) }
     ensures bytes { out.new.items ≡ out.old.items ++ body_bytes (message_of body.now) }
     ensures fits { Fits (message_of body.now) }
@@ -92,16 +94,16 @@ fn put_body(body: &Body<'_>, out: &mut ArrayVec<u8, LONGEST_DATAGRAM>)
 
 /// Appends a player who leaves, a byte 0 and a number of its inputs.
 fn put_leaver(leaver: &Player, inputs: u32, out: &mut ArrayVec<u8, LONGEST_DATAGRAM>)
-    requires { array_vec_len out.old + 6 ≤ 174 }
+    requires { array_vec_len out.old + 6 ≤ LONGEST_DATAGRAM }
     ensures { out.new.items ≡ out.old.items ++ (leaver.now.number ∷ 0 ∷ [] ++ big_bytes 4 inputs) }
 {
-    put(&[leaver.number, 0], out);
+    put(&[leaver.number, RESERVED], out);
     put(&inputs.to_be_bytes(), out);
 }
 
 /// Appends a run: where it starts, how many inputs it has, and their key sets.
 fn put_run(start: u32, run: &[u16], out: &mut ArrayVec<u8, LONGEST_DATAGRAM>)
-    requires { array_vec_len out.old + 6 + 2 * length run.now ≤ 174 }
+    requires { array_vec_len out.old + 6 + 2 * length run.now ≤ LONGEST_DATAGRAM }
     ensures bytes { out.new.items ≡ out.old.items ++ run_bytes start run.now }
     ensures fits { (i : ℕ) → slice_index run.now i < 2 ^ 16 }
 {
@@ -112,7 +114,7 @@ fn put_run(start: u32, run: &[u16], out: &mut ArrayVec<u8, LONGEST_DATAGRAM>)
 
 /// Appends key sets, two bytes each.
 fn put_words(run: &[u16], out: &mut ArrayVec<u8, LONGEST_DATAGRAM>)
-    requires { array_vec_len out.old + 2 * length run.now ≤ 174 }
+    requires { array_vec_len out.old + 2 * length run.now ≤ LONGEST_DATAGRAM }
     ensures { out.new.items ≡ out.old.items ++ words_bytes run.now }
 {
     for word in run {
@@ -122,7 +124,7 @@ fn put_words(run: &[u16], out: &mut ArrayVec<u8, LONGEST_DATAGRAM>)
 
 /// Appends bytes.
 fn put(bytes: &[u8], out: &mut ArrayVec<u8, LONGEST_DATAGRAM>)
-    requires { array_vec_len out.old + length bytes.now ≤ 174 }
+    requires { array_vec_len out.old + length bytes.now ≤ LONGEST_DATAGRAM }
     ensures bytes { out.new.items ≡ out.old.items ++ bytes.now }
     ensures fits { (i : ℕ) → slice_index bytes.now i < 2 ^ 8 }
 {

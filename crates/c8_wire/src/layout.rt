@@ -1,0 +1,57 @@
+//! Where each field of a datagram stands, from its first byte on. What reads and what writes
+//! datagrams has no other place of these numbers.
+
+/// What every datagram begins with.
+pub(crate) const MAGIC: [u8; 2] = [0x43, 0x38];
+
+/// The one version of the format.
+pub(crate) const VERSION: u8 = 1;
+
+/// The byte that stands between a leaver and its number of inputs.
+pub(crate) const RESERVED: u8 = 0;
+
+// The header.
+pub(crate) const MAGIC_AT: usize = 0;
+
+pub(crate) const VERSION_AT: usize = 2;
+
+pub(crate) const KIND_AT: usize = 3;
+
+pub(crate) const SESSION_AT: usize = 4;
+
+pub(crate) const FROM_AT: usize = 12;
+
+pub(crate) const TO_AT: usize = 13;
+
+pub(crate) const SIZE_AT: usize = 14;
+
+pub(crate) const SENDER_EPOCH_AT: usize = 16;
+
+pub(crate) const ADDRESSEE_EPOCH_AT: usize = 20;
+
+// The body of WELCOME, and that of DATA.
+pub(crate) const ACK_AT: usize = 24;
+
+pub(crate) const MARK_FRAME_AT: usize = 28;
+
+pub(crate) const MARK_AT: usize = 32;
+
+pub(crate) const DATA_START_AT: usize = 40;
+
+pub(crate) const DATA_RUN_AT: usize = 46;
+
+// The body of FREEZE, and that of FROZEN and CUT.
+pub(crate) const LEAVER_AT: usize = 24;
+
+pub(crate) const RESERVED_AT: usize = 25;
+
+pub(crate) const INPUTS_AT: usize = 26;
+
+pub(crate) const LEAVER_START_AT: usize = 30;
+
+pub(crate) const LEAVER_RUN_AT: usize = 36;
+
+// A run's start and its count end the fixed part of a body: they stand so far past its length.
+pub(crate) const START_PAST_FIXED: usize = 18;
+
+pub(crate) const COUNT_PAST_FIXED: usize = 22;
