@@ -5,7 +5,7 @@ ghost use Rattle.c8_hand.specs.Errors.{number_of};
 use thiserror::Error;
 
 /// Why a datagram is not admitted.
-#[derive(Clone, Copy, Debug, PartialEq, Eq, Error)]
+#[derive(Clone, Copy, Debug, PartialEq, Eq, Hash, Error)]
 pub enum HandError {
     /// The link to the sender is not open.
     #[error("no link to the sender is open")]

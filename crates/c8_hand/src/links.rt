@@ -6,7 +6,7 @@ ghost use Rattle.c8_hand.specs.Links.{no_links, link_to, open_epoch, refusal, li
 
 use crate::error::HandError;
 use crate::link::Link;
-use c8_game::{Game, Player};
+use c8_game::{Game, MOST_PLAYERS, Player};
 use c8_wire::{Datagram, Head, Kind, Seat};
 use std::marker::Model;
 
@@ -17,7 +17,7 @@ pub struct Links {
     players: u8,
     session: u64,
     epoch: u32,
-    links: [Link; 4],
+    links: [Link; MOST_PLAYERS],
 }
 
 impl Model for Links {
@@ -39,7 +39,7 @@ impl Links {
             players: game.players(),
             session: game.session(room),
             epoch,
-            links: [Link::closed(0); 4],
+            links: [Link::closed(0); MOST_PLAYERS],
         }
     }
 
@@ -61,14 +61,14 @@ impl Links {
     pub fn known(&self, player: Player) -> u32
         ensures { result ≡ (link_to self.now player.number).known }
     {
-        self.links[usize::from(player.number - 1)].known
+        self.links[player.place()].known
     }
 
     /// The epoch that is known of a player to whom the link is open.
     pub fn open(&self, player: Player) -> Option<u32>
         ensures { result ≡ open_epoch self.now player.number }
     {
-        let link = self.links[usize::from(player.number - 1)];
+        let link = self.links[player.place()];
         if link.is_open { Some(link.known) } else { None }
     }
 
@@ -96,7 +96,7 @@ impl Links {
         if to != self.me.number || from == self.me.number || from > self.players {
             return Some(HandError::NotMine);
         }
-        let link = &self.links[usize::from(from - 1)];
+        let link = &self.links[head.from.place()];
         match head.kind {
             Kind::Hello => link.refusal_of_hello(self.epoch, head),
             Kind::Welcome => link.refusal_of_welcome(self.epoch, head),
@@ -127,7 +127,7 @@ impl Links {
     fn take(&mut self, head: &Head)
         ensures { self.new ≡ heard self.old (head_value head.now) }
     {
-        let link = &mut self.links[usize::from(head.from.number - 1)];
+        let link = &mut self.links[head.from.place()];
         match head.kind {
             Kind::Hello => {
                 if head.sender_epoch > link.known {
