@@ -5,7 +5,7 @@ ghost use Rattle.c8_known.specs.Errors.{number_of};
 use thiserror::Error;
 
 /// Why a run of inputs is refused.
-#[derive(Clone, Copy, Debug, PartialEq, Eq, Error)]
+#[derive(Clone, Copy, Debug, PartialEq, Eq, Hash, Error)]
 pub enum KnownError {
     /// It starts after the inputs that are held.
     #[error("inputs before these are missing")]

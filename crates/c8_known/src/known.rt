@@ -13,6 +13,7 @@ use crate::table::{Table, differ, hold, hold_run, least_reach, tables_of};
 use c8_game::{Game, Keys, Player, Row};
 use c8_wire::Run;
 use std::alloc::{AllocError, Global};
+use std::fmt;
 use std::marker::Model;
 
 /// What one player knows of the inputs of all. Room for a whole game is reserved when it is made.
@@ -35,6 +36,17 @@ impl Model for Known {
 
     ghost invariant = { λ k. IsKnown (seen k.me.number k.delay k.limit k.ticks k.tables.items)
         × HasRoom k.limit k.tables.items };
+}
+
+/// Whose it is, of how many players and after how many ticks, and none of the inputs.
+impl fmt::Debug for Known {
+    fn fmt<W: fmt::Write>(&self, f: &mut fmt::Formatter<W>) -> fmt::Result {
+        let (me, players, ticks) = (self.me, self.tables.len(), self.ticks);
+        write!(
+            f,
+            "Known {{ me: {me}, players: {players}, ticks: {ticks} }}"
+        )
+    }
 }
 
 impl Known {
@@ -97,7 +109,7 @@ impl Known {
         ensures value { result ≡ count_in self.now player.number }
         ensures within { result ≤ self.now.limit }
     {
-        self.tables[usize::from(player.number - 1)].inputs.len() as u32
+        self.tables[player.place()].inputs.len() as u32
     }
 
     /// The inputs of a player from one place of its list to another, lent.
@@ -108,7 +120,7 @@ impl Known {
         ensures { result.now
             ≡ take (to - from) (drop from (player_in self.now player.number).held) }
     {
-        &self.tables[usize::from(player.number - 1)].inputs[from as usize..to as usize]
+        &self.tables[player.place()].inputs[from as usize..to as usize]
     }
 
     /// Whether a FREEZE or a LEAVE of the player stands: its inputs are no longer taken from it.
@@ -116,7 +128,7 @@ impl Known {
         requires { Plays self.now player.number }
         ensures { result ≡ is_frozen_in self.now player.number }
     {
-        let table = &self.tables[usize::from(player.number - 1)];
+        let table = &self.tables[player.place()];
         table.frozen || table.leaving
     }
 
@@ -125,7 +137,7 @@ impl Known {
         requires { Plays self.now player.number }
         ensures { result ≡ (player_in self.now player.number).frozen }
     {
-        self.tables[usize::from(player.number - 1)].frozen
+        self.tables[player.place()].frozen
     }
 
     /// Whether a LEAVE of the player stands.
@@ -133,7 +145,7 @@ impl Known {
         requires { Plays self.now player.number }
         ensures { result ≡ (player_in self.now player.number).leaving }
     {
-        self.tables[usize::from(player.number - 1)].leaving
+        self.tables[player.place()].leaving
     }
 
     /// The length at which the player's list is cut.
@@ -141,7 +153,7 @@ impl Known {
         requires { Plays self.now player.number }
         ensures { result ≡ (player_in self.now player.number).cut }
     {
-        self.tables[usize::from(player.number - 1)].cut
+        self.tables[player.place()].cut
     }
 
     /// How many frames are confirmed: the greatest number, at most that of the own player's ticks,
@@ -229,7 +241,7 @@ impl Known {
         if teller.number == player.number && self.frozen(player) {
             return Err(KnownError::FromLeaver);
         }
-        let inputs = &self.tables[usize::from(player.number - 1)].inputs;
+        let inputs = &self.tables[player.place()].inputs;
         let (start, count) = (start as usize, inputs.len());
         if start + run.len() > self.limit as usize {
             return Err(KnownError::Full);
@@ -252,10 +264,7 @@ impl Known {
         ensures known { IsKnown self.new }
         ensures still { IsStillKnown self.old self.new }
     {
-        hold(
-            &mut self.tables[usize::from(self.me.number - 1)].inputs,
-            keys.0,
-        );
+        hold(&mut self.tables[self.me.place()].inputs, keys.0);
         self.ticks += 1;
     }
 
@@ -270,7 +279,7 @@ impl Known {
         ensures known { IsKnown self.new }
         ensures still { IsStillKnown self.old self.new }
     {
-        hold_run(&mut self.tables[usize::from(player.number - 1)].inputs, run);
+        hold_run(&mut self.tables[player.place()].inputs, run);
     }
 
     /// Notes that the player's inputs are taken from player one alone from here on.
@@ -280,7 +289,7 @@ impl Known {
         ensures known { IsKnown self.new }
         ensures still { IsStillKnown self.old self.new }
     {
-        self.tables[usize::from(player.number - 1)].frozen = true;
+        self.tables[player.place()].frozen = true;
     }
 
     /// Notes that player one lets the player go or, at the player itself, that it has been dropped.
@@ -290,7 +299,7 @@ impl Known {
         ensures known { IsKnown self.new }
         ensures still { IsStillKnown self.old self.new }
     {
-        self.tables[usize::from(player.number - 1)].leaving = true;
+        self.tables[player.place()].leaving = true;
     }
 
     /// Notes that the list of another player, who leaves, ends where it ends now.
@@ -304,6 +313,6 @@ impl Known {
         ensures known { IsKnown self.new }
         ensures still { IsStillKnown self.old self.new }
     {
-        self.tables[usize::from(player.number - 1)].cut = Some(length);
+        self.tables[player.place()].cut = Some(length);
     }
 }
