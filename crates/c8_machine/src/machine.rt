@@ -21,7 +21,7 @@ pub const MEMORY_SIZE: usize = 4096;
 const ADDRESSES: u16 = 4096;
 
 /// Why a machine has stopped for good.
-#[derive(Clone, Copy, Debug, PartialEq, Eq)]
+#[derive(Clone, Copy, Debug, PartialEq, Eq, Hash)]
 pub enum Stop {
     /// A code that is no instruction, or a call of machine language.
     UnknownInstruction,
@@ -48,7 +48,7 @@ impl Stop {
 }
 
 /// What became of one step.
-#[derive(Clone, Copy, Debug, PartialEq, Eq)]
+#[derive(Clone, Copy, Debug, PartialEq, Eq, Hash)]
 pub enum Step {
     /// The instruction was done, and another one of the frame may follow.
     Went,
