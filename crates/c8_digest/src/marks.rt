@@ -5,13 +5,14 @@ ghost use Rattle.c8_digest.specs.Marks.{kept, mark_at, newest_of};
 use crate::digest::MARK_LENGTH;
 use circular_buffer::HeapCircularBuffer;
 use std::alloc::{AllocError, Global};
+use std::fmt;
 use std::marker::Model;
 
 /// How many marks are kept.
 const MOST_MARKS: usize = 16;
 
 /// A mark, and after how many frames the machine had it.
-#[derive(Clone, Copy, Debug, PartialEq, Eq)]
+#[derive(Clone, Copy, Debug, PartialEq, Eq, Hash)]
 pub struct FrameMark {
     pub frame: u32,
     pub mark: [u8; MARK_LENGTH],
@@ -33,6 +34,14 @@ impl Model for Marks {
     ghost view = { λ marks. marks.ring.items };
 
     ghost invariant = { λ marks. marks.ring.capacity ≡ most_marks };
+}
+
+/// How many there are, and none of them.
+impl fmt::Debug for Marks {
+    fn fmt<W: fmt::Write>(&self, f: &mut fmt::Formatter<W>) -> fmt::Result {
+        let count = self.ring.len();
+        write!(f, "Marks {{ count: {count} }}")
+    }
 }
 
 impl Marks {

@@ -4,14 +4,14 @@ ghost use Rattle.std.specs.List.{list_all, range_with_len};
 ghost use Rattle.c8_known.specs.Known.{count_in, Plays};
 ghost use Rattle.c8_round.specs.Round.{no_reports, report_of, with_report, has_answered, is_stayer, is_ready, owed, raised};
 
-use c8_game::Player;
+use c8_game::{MOST_PLAYERS, Player};
 use c8_known::Known;
 use std::marker::Model;
 
 /// What each player has answered of each leaver: how many of its inputs it holds.
 #[derive(Debug, Drop)]
 pub struct Chair {
-    reports: [[Option<u32>; 4]; 4],
+    reports: [[Option<u32>; MOST_PLAYERS]; MOST_PLAYERS],
 }
 
 impl Model for Chair {
@@ -28,7 +28,7 @@ impl Chair {
         ensures { result ≡ no_reports }
     {
         Chair {
-            reports: [[None; 4]; 4],
+            reports: [[None; MOST_PLAYERS]; MOST_PLAYERS],
         }
     }
 
@@ -36,8 +36,8 @@ impl Chair {
     pub fn report(&mut self, stayer: Player, leaver: Player, held: u32)
         ensures { self.new ≡ with_report self.old leaver.number stayer.number held }
     {
-        let answers = &mut self.reports[usize::from(leaver.number - 1)];
-        let answer = &mut answers[usize::from(stayer.number - 1)];
+        let answers = &mut self.reports[leaver.place()];
+        let answer = &mut answers[stayer.place()];
         *answer = Some(raised(*answer, held));
     }
 
@@ -74,10 +74,10 @@ impl Chair {
             || has_answered (count_in known.now leaver.number)
             (report_of self.now leaver.number player.number)) }
     {
-        if player.number == 1 || known.leaving(player) {
+        if player.is_chair() || known.leaving(player) {
             return true;
         }
-        match self.reports[usize::from(leaver.number - 1)][usize::from(player.number - 1)] {
+        match self.reports[leaver.place()][player.place()] {
             Some(held) => held <= known.count(leaver),
             None => false,
         }
@@ -88,7 +88,7 @@ impl Chair {
         requires { Plays known.now leaver.number }
         ensures { result ≡ owed self.now known.now stayer.number leaver.number }
     {
-        let answer = self.reports[usize::from(leaver.number - 1)][usize::from(stayer.number - 1)];
+        let answer = self.reports[leaver.place()][stayer.place()];
         let held = match answer {
             Some(held) => held,
             None => u32::from(known.delay()),

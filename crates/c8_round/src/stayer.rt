@@ -4,14 +4,14 @@ ghost use Rattle.c8_known.specs.Known.{Plays};
 ghost use Rattle.c8_round.specs.Round.{no_haves, with_have, answer_from};
 
 use crate::chair::raised;
-use c8_game::Player;
+use c8_game::{MOST_PLAYERS, Player};
 use c8_known::Known;
 use std::marker::Model;
 
 /// How many of each leaver's inputs player one said to hold.
 #[derive(Debug, Drop)]
 pub struct Stayer {
-    haves: [Option<u32>; 4],
+    haves: [Option<u32>; MOST_PLAYERS],
 }
 
 impl Model for Stayer {
@@ -27,14 +27,16 @@ impl Stayer {
     pub fn new() -> Stayer
         ensures { result ≡ no_haves }
     {
-        Stayer { haves: [None; 4] }
+        Stayer {
+            haves: [None; MOST_PLAYERS],
+        }
     }
 
     /// Player one said to hold so many of a leaver's inputs. The greatest counts.
     pub fn told(&mut self, leaver: Player, have: u32)
         ensures { self.new ≡ with_have self.old leaver.number have }
     {
-        let known = &mut self.haves[usize::from(leaver.number - 1)];
+        let known = &mut self.haves[leaver.place()];
         *known = Some(raised(*known, have));
     }
 
@@ -44,7 +46,7 @@ impl Stayer {
         requires { Plays known.now leaver.number }
         ensures { result ≡ answer_from self.now known.now leaver.number }
     {
-        let told = match self.haves[usize::from(leaver.number - 1)] {
+        let told = match self.haves[leaver.place()] {
             Some(have) => have,
             None => u32::from(known.delay()),
         };

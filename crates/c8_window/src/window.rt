@@ -4,7 +4,7 @@ ghost use Rattle.c8_known.specs.Known.{count_in};
 ghost use Rattle.c8_window.specs.Window.{acked_of, first_window, acked_more, pending_of};
 
 use crate::error::BadAck;
-use c8_game::{Game, Player};
+use c8_game::{Game, MOST_PLAYERS, Player};
 use c8_known::Known;
 use c8_wire::LONGEST_RUN;
 use std::marker::Model;
@@ -12,7 +12,7 @@ use std::marker::Model;
 /// How many of the own inputs each other player has acknowledged.
 #[derive(Debug, Drop)]
 pub struct Window {
-    acked: [u32; 4],
+    acked: [u32; MOST_PLAYERS],
 }
 
 impl Model for Window {
@@ -29,7 +29,7 @@ impl Window {
         ensures { result ≡ first_window game.now.delay }
     {
         Window {
-            acked: [u32::from(game.delay()); 4],
+            acked: [u32::from(game.delay()); MOST_PLAYERS],
         }
     }
 
@@ -37,7 +37,7 @@ impl Window {
     pub fn acked(&self, player: Player) -> u32
         ensures { result ≡ acked_of self.now player.number }
     {
-        self.acked[usize::from(player.number - 1)]
+        self.acked[player.place()]
     }
 
     /// Takes an acknowledgement of `count` of the own inputs. One of more inputs than there are is
@@ -56,7 +56,7 @@ impl Window {
         if count > known.count(known.me()) {
             return Err(BadAck);
         }
-        let acked = &mut self.acked[usize::from(player.number - 1)];
+        let acked = &mut self.acked[player.place()];
         *acked = count.max(*acked);
         Ok(())
     }
