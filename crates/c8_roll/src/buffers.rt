@@ -6,6 +6,7 @@ use c8_digest::Marks;
 use c8_game::Game;
 use circular_buffer::HeapCircularBuffer;
 use std::alloc::{AllocError, Global};
+use std::fmt;
 use std::marker::Model;
 
 /// All the memory that a roll takes: for its marks, and for a snapshot of each frame that its player
@@ -24,6 +25,14 @@ impl Model for Buffers {
     ghost view = { λ buffers. buffers.snapshots.capacity };
 
     ghost invariant = { λ buffers. (buffers.marks ≡ []) × (buffers.snapshots.items ≡ []) };
+}
+
+/// For how many snapshots there is room.
+impl fmt::Debug for Buffers {
+    fn fmt<W: fmt::Write>(&self, f: &mut fmt::Formatter<W>) -> fmt::Result {
+        let room = self.snapshots.capacity();
+        write!(f, "Buffers {{ snapshots: {room} }}")
+    }
 }
 
 impl Buffers {

@@ -11,12 +11,21 @@ use c8_game::Game;
 use c8_known::Known;
 use c8_machine::Machine;
 use std::alloc::{AllocError, Global};
+use std::fmt;
 
 /// What a player sees and what is certain, of one game.
 #[derive(Drop)]
 pub struct Roll<'g> {
     timeline: Timeline<'g>,
     marks: Marks,
+}
+
+/// How many frames are confirmed and how many were run, and no machine.
+impl<'g> fmt::Debug for Roll<'g> {
+    fn fmt<W: fmt::Write>(&self, f: &mut fmt::Formatter<W>) -> fmt::Result {
+        let (confirmed, ticks) = (self.timeline.first(), self.timeline.ticks());
+        write!(f, "Roll {{ confirmed: {confirmed}, ticks: {ticks} }}")
+    }
 }
 
 impl<'g> Roll<'g> {

@@ -172,7 +172,7 @@ fn reads_each_kind(rt: HostRuntime) -> Result<(), Fail> {
 
 fn is_the_seat_of_four(seat: Seat) -> bool {
     let four = Player { number: 4 };
-    seat.player() == Some(four) && Seat::from(four) == seat
+    seat.player() == Some(four) && Seat::from(four) == seat && seat.place() == four.place()
 }
 
 #[test]

@@ -13,6 +13,8 @@ mod refusals;
 #[cfg(test)]
 mod runs;
 #[cfg(test)]
+mod shown;
+#[cfg(test)]
 mod texts;
 #[cfg(test)]
 mod writing;

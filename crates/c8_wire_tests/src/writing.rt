@@ -5,7 +5,7 @@ ghost use Rattle.c8_wire.specs.Saying.{message_of, MaySay};
 
 use crate::datagrams::{CUT, DATA, FREEZE, FROZEN, HELLO, SESSION, WELCOME, read};
 use c8_game::Player;
-use c8_wire::{Body, Head, Kind, Said, Seat, write};
+use c8_wire::{Body, Head, Kind, LONGEST_DATAGRAM, Said, Seat, write};
 use std::test::Fail;
 
 const KINDS: [Kind; 6] = [
@@ -115,7 +115,7 @@ fn is_written(kind: Kind, bytes: &[u8]) -> bool {
         head: head(kind),
         body: body(kind),
     };
-    let mut out = [0x77; 174];
+    let mut out = [0x77; LONGEST_DATAGRAM];
     let length = write(&said, &mut out);
     let (front, rest) = out.split_at(length);
     front == bytes && rest.iter().all(|byte| *byte == 0x77)
@@ -131,7 +131,7 @@ fn writes_each_kind(rt: HostRuntime) -> Result<(), Fail> {
 }
 
 /// Writes the longest datagram, a DATA of 64 inputs, and answers its length.
-fn write_longest(out: &mut [u8; 174]) -> usize {
+fn write_longest(out: &mut [u8; LONGEST_DATAGRAM]) -> usize {
     let body = Body::Data {
         ack: 262148,
         mark_frame: 262144,
@@ -159,7 +159,7 @@ fn spelled_words() -> [u8; 128] {
 /// It is written and read again.
 #[test]
 fn writes_64_inputs(rt: HostRuntime) -> Result<(), Fail> {
-    let mut out = [0x77; 174];
+    let mut out = [0x77; LONGEST_DATAGRAM];
     assert!(rt; write_longest(&mut out) == 174);
     let told = read(&out, &spelled_words())?;
     assert!(rt; told.head == [3, SESSION, 3, 2, 2571, 202182159] && told.head == told.header);
