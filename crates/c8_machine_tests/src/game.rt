@@ -210,3 +210,23 @@ fn cuts_a_text_into_lines(rt: HostRuntime) {
     assert!(rt; has_lines(b"\n", &[b""]));
     assert!(rt; has_lines(b"", &[]));
 }
+
+fn debug_text(alloc: Global, game: &Game) -> Result<String, Fail> {
+    Ok(format!(in alloc; "{game:?}")?)
+}
+
+fn debug_text_of_lines(alloc: Global, text: &[u8]) -> Result<String, Fail> {
+    let lines = Lines::new(text);
+    Ok(format!(in alloc; "{lines:?}")?)
+}
+
+#[test]
+fn sums_up_what_is_long(rt: HostRuntime) -> Result<(), Fail> {
+    let text = debug_text(rt.alloc(), &worked(rt.alloc())?)?;
+    let wanted =
+        "Game { players: 2, ipf: 10, frames: 100, delay: 0, window: 8, seed: 0, program: 2 bytes }";
+    assert!(rt; text.as_str() == wanted, "{text}");
+    let text = debug_text_of_lines(rt.alloc(), b"one\ntwo")?;
+    assert!(rt; text.as_str() == "Lines { bytes left: 7 }", "{text}");
+    Ok(())
+}

@@ -93,3 +93,19 @@ fn keeps_the_last_sixteen(rt: HostRuntime) -> Result<(), Fail> {
     assert!(rt; wrong.is_none(), "{wrong:?}");
     Ok(())
 }
+
+/// What is told of marks after so many were put.
+fn debug_text(alloc: Global, many: u32) -> Result<String, Fail> {
+    let mut marks = Marks::new(alloc)?;
+    for frame in 0..many {
+        marks.put(frame, [0; 8]);
+    }
+    Ok(format!(in alloc; "{marks:?}")?)
+}
+
+#[test]
+fn sums_up_its_marks(rt: HostRuntime) -> Result<(), Fail> {
+    let text = debug_text(rt.alloc(), 3)?;
+    assert!(rt; text.as_str() == "Marks { count: 3 }", "{text}");
+    Ok(())
+}

@@ -1,5 +1,5 @@
 //! What faults, players and key sets are called, and key sets and players by their numbers.
-use c8_game::{GameError, Keys, NoPlayer, Player};
+use c8_game::{GameError, Keys, MOST_PLAYERS, NoPlayer, Player};
 use std::alloc::Global;
 use std::test::Fail;
 
@@ -69,6 +69,26 @@ fn knows_four_players(rt: HostRuntime) -> Result<(), Fail> {
         assert!(rt; is_made_alike(*number), "{number}");
     }
     Ok(())
+}
+
+/// Whether a player has this place, is the chair or not, and is the one of its number.
+fn is_placed(player: Player, place: usize, is_chair: bool) -> bool {
+    player.place() == place
+        && player.is_chair() == is_chair
+        && Player::new(u8::from(player)) == Some(player)
+}
+
+fn is_before(one: Player, other: Player) -> bool {
+    one < other && other > one && one.max(other) == other
+}
+
+#[test]
+fn places_players_in_order(rt: HostRuntime) {
+    let (two, last) = (Player { number: 2 }, Player { number: 4 });
+    assert!(rt; is_placed(Player::CHAIR, 0, true));
+    assert!(rt; is_placed(two, 1, false));
+    assert!(rt; is_placed(last, MOST_PLAYERS - 1, false));
+    assert!(rt; is_before(Player::CHAIR, two) && is_before(two, last));
 }
 
 /// A text, and the set that it spells.
