@@ -5,7 +5,7 @@ use c8_game::{Game, Keys, Player, Row};
 use c8_known::{Known, KnownError};
 use c8_wire::Run;
 use std::alloc::Global;
-use std::fmt::Display;
+use std::fmt::{Debug, Display};
 use std::test::Fail;
 
 pub fn game_of(alloc: Global, text: &[u8]) -> Result<Game, Fail> {
@@ -137,6 +137,14 @@ pub fn bytes_of(words: [u16; 4]) -> [u8; 8] {
 /// Whether an error prints a text.
 pub fn prints<E: Display + Drop>(alloc: Global, error: E, text: &str) -> bool {
     match format!(in alloc; "{error}") {
+        Ok(told) => told.as_str() == text,
+        Err(_) => false,
+    }
+}
+
+/// Whether a value is summed up by a text.
+pub fn is_summed_up<T: Debug>(alloc: Global, value: &T, text: &str) -> bool {
+    match format!(in alloc; "{value:?}") {
         Ok(told) => told.as_str() == text,
         Err(_) => false,
     }

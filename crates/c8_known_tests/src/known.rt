@@ -1,7 +1,7 @@
 //! What player 1 knows after calls, by steps.
 use crate::calls::{
-    at_first, bytes_of, count, cut, enter, freeze, frozen, game_of, hear, inputs, leave, prints,
-    row,
+    at_first, bytes_of, count, cut, enter, freeze, frozen, game_of, hear, inputs, is_summed_up,
+    leave, prints, row,
 };
 use c8_game::{Keys, Player, Row};
 use c8_known::{Known, KnownError};
@@ -218,4 +218,13 @@ fn tells_each_refusal(rt: HostRuntime) {
     assert!(rt; tells(alloc, KnownError::Differs, 3, "Differs", text));
     let text = "inputs after the end of the game";
     assert!(rt; tells(alloc, KnownError::Full, 4, "Full", text));
+}
+
+#[test]
+fn sums_up_what_is_known(rt: HostRuntime) -> Result<(), Fail> {
+    let mut known = begin(rt.alloc())?;
+    assert!(rt; enter(&mut known, 0x0001) == Some(1));
+    let text = "Known { me: 1, players: 3, ticks: 1 }";
+    assert!(rt; is_summed_up(rt.alloc(), &known, text));
+    Ok(())
 }

@@ -3,11 +3,11 @@ mod chance;
 mod late;
 mod slow;
 
-use crate::calls::{at_first, come, enter, game_of};
+use crate::calls::{at_first, come, enter, game_of, is_summed_up};
 use c8_game::{Game, Player};
 use c8_known::Known;
 use c8_machine::Machine;
-use c8_roll::Roll;
+use c8_roll::{Buffers, Roll};
 use late::gone_on;
 use std::alloc::Global;
 use std::process::Abort;
@@ -270,5 +270,17 @@ fn a_long_match_costs_no_more(rt: HostRuntime) -> Result<(), Fail> {
     assert!(rt; ends(&mut known, &mut roll));
     let again = Roll::open(rt.alloc(), &game, &known)?;
     assert!(rt; again.last_run() == 2002 && again.shown() == roll.shown());
+    Ok(())
+}
+
+#[test]
+fn sums_up_a_roll(rt: HostRuntime) -> Result<(), Fail> {
+    let game = read(rt.alloc(), 3, 100, COUNTS)?;
+    let mut play = Play::new(rt.alloc(), &game)?;
+    assert!(rt; play.holds(Step::Tick(8)) && play.holds(Step::Hear("#..", Some(0))));
+    let text = "Roll { confirmed: 3, ticks: 8 }";
+    assert!(rt; is_summed_up(rt.alloc(), &play.roll, text));
+    let buffers = Buffers::new(rt.alloc(), &game)?;
+    assert!(rt; is_summed_up(rt.alloc(), &buffers, "Buffers { snapshots: 9 }"));
     Ok(())
 }
