@@ -96,8 +96,8 @@ pub(crate) enum Look {
     Dropped,
     Alarm,
     LastRun,
-    /// A register of the machine that is shown.
-    Register(usize),
+    /// All registers of the machine that is shown.
+    Registers,
     /// The program counter of the machine that is shown.
     Counter,
     /// How many frames the machine of the confirmed ones has run.
@@ -131,6 +131,7 @@ pub(crate) enum Answer {
     Is(u32),
     Tells(bool),
     Sets([u16; 4]),
+    Registers([u8; 16]),
     /// There is none.
     Nothing,
     Done,

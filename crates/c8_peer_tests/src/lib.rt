@@ -6,6 +6,8 @@ mod deed;
 #[cfg(test)]
 mod drops;
 #[cfg(test)]
+mod ends;
+#[cfg(test)]
 mod opening;
 #[cfg(test)]
 mod playing;

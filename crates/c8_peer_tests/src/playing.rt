@@ -1,6 +1,6 @@
 //! One and two peers.
 use crate::deed::Look::{
-    Alarm, Base, Confirmed, Counter, Down, Epoch, LastRun, Me, Now, Players, Register,
+    Alarm, Base, Confirmed, Counter, Down, Epoch, LastRun, Me, Now, Players, Registers,
 };
 use crate::deed::What::{Cut, Data, Freeze, Frozen, Hello, Welcome};
 use crate::deed::{About, Answer, Deed, Row};
@@ -15,10 +15,6 @@ use std::test::Fail;
 /// Two players, a window of 8 frames and no delay.
 const GAME: &str =
     "players 2\nipf 10\nframes 100\ndelay 0\nwindow 8\nseed 0\nmask1 000f\nmask2 fff0\ncode 1200\n";
-
-/// The same of one frame.
-const SHORT: &str =
-    "players 2\nipf 10\nframes 1\ndelay 0\nwindow 8\nseed 0\nmask1 000f\nmask2 fff0\ncode 1200\n";
 
 /// A game that counts the frames with player 2's key 4 down.
 const COUNTS: &str =
@@ -84,20 +80,6 @@ fn a_full_disk_takes_a_peer_down(rt: HostRuntime) -> Result<(), Fail> {
     plays(rt.alloc(), GAME, &NOBODY, &FULL)
 }
 
-const ENDS: [Row; 6] = [
-    (1, Deed::Disk(20000, 4000), Answer::Done),
-    (1, Deed::Open, Answer::Opened(Ok(1))),
-    (1, Deed::Tick(1), TICKED),
-    (1, Deed::Tick(2), Answer::Ticked(Err(TickError::End))),
-    (1, Deed::Look(Now), Answer::Is(1)),
-    (1, Deed::Look(Confirmed), Answer::Is(0)),
-];
-
-#[test]
-fn the_game_ends_after_its_frames(rt: HostRuntime) -> Result<(), Fail> {
-    plays(rt.alloc(), SHORT, &NOBODY, &ENDS)
-}
-
 const AHEAD: Answer = Answer::Ticked(Err(TickError::Threshold));
 
 const WINDOW: [Row; 14] = [
@@ -122,19 +104,54 @@ fn nobody_runs_further_ahead_than_the_window(rt: HostRuntime) -> Result<(), Fail
     plays(rt.alloc(), GAME, &MET, &WINDOW)
 }
 
+/// Register 0 has the key, and register 2 how many frames had it down.
+const NONE_COUNTED: Answer = Answer::Registers([4, 0, 0, 0, 0, 0, 0, 0, 0, 0, 0, 0, 0, 0, 0, 0]);
+
+const ONE_COUNTED: Answer = Answer::Registers([4, 0, 1, 0, 0, 0, 0, 0, 0, 0, 0, 0, 0, 0, 0, 0]);
+
 /// Player 1 has run eight frames on the guess that player 2 holds no key down, which is wrong in the
-/// fourth: five frames are run again. A delivery that is refused runs none.
+/// first alone: all eight are run again. Datagram 0 has all eight key sets, from place 0 on.
+const MISSED: [Row; 16] = [
+    (1, Deed::Ticks(0, 8), TICKED),
+    (1, Deed::Look(Now), Answer::Is(8)),
+    (1, Deed::Look(Confirmed), Answer::Is(0)),
+    (1, Deed::Look(LastRun), Answer::Is(1)),
+    (1, Deed::Look(Registers), NONE_COUNTED),
+    (1, Deed::Look(Counter), Answer::Is(0x204)),
+    (2, Deed::Tick(0x10), TICKED),
+    (2, Deed::Ticks(0, 7), TICKED),
+    (2, Deed::Say(1, Data), Answer::Said(Ok(62))),
+    (
+        2,
+        Deed::Spells(0, 40, b"\0\0\0\0\0\x08\0\x10\0\0\0\0\0\0\0\0\0\0\0\0\0\0"),
+        Answer::Tells(true),
+    ),
+    (1, Deed::Hear(0), KEPT),
+    (1, Deed::Look(Now), Answer::Is(8)),
+    (1, Deed::Look(Confirmed), Answer::Is(8)),
+    (1, Deed::Look(LastRun), Answer::Is(8)),
+    (1, Deed::Look(Registers), ONE_COUNTED),
+    (1, Deed::Look(Counter), Answer::Is(0x202)),
+];
+
+#[test]
+fn a_key_missed_in_the_first_frame_runs_all_again(rt: HostRuntime) -> Result<(), Fail> {
+    plays(rt.alloc(), COUNTS, &MET, &MISSED)
+}
+
+/// The same where the guess is wrong in the fourth alone: five frames are run again. A delivery that
+/// is refused runs none.
 const LATE: [Row; 14] = [
     (1, Deed::Ticks(0, 8), TICKED),
     (1, Deed::Look(LastRun), Answer::Is(1)),
-    (1, Deed::Look(Register(2)), Answer::Is(0)),
+    (1, Deed::Look(Registers), NONE_COUNTED),
     (2, Deed::Ticks(0, 3), TICKED),
     (2, Deed::Tick(0x10), TICKED),
     (2, Deed::Ticks(0, 4), TICKED),
     (2, Deed::Tell(1, Data), KEPT),
     (1, Deed::Look(LastRun), Answer::Is(5)),
     (1, Deed::Look(Confirmed), Answer::Is(8)),
-    (1, Deed::Look(Register(2)), Answer::Is(1)),
+    (1, Deed::Look(Registers), ONE_COUNTED),
     (1, Deed::Look(Counter), Answer::Is(0x202)),
     (
         1,

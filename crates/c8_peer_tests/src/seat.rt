@@ -195,10 +195,7 @@ impl<'g> Seat<'g> {
             Look::Dropped => Answer::Tells(peer.dropped()),
             Look::Alarm => Answer::Tells(peer.alarm()),
             Look::LastRun => Answer::Is(peer.last_run()),
-            Look::Register(place) => match peer.shown().registers().get(place) {
-                Some(value) => Answer::Is(u32::from(*value)),
-                None => Answer::Impossible,
-            },
+            Look::Registers => Answer::Registers(*peer.shown().registers()),
             Look::Counter => Answer::Is(u32::from(peer.shown().counter())),
             Look::Base => Answer::Is(peer.base().0),
             Look::Rows => Answer::Is(peer.rows().len()),
