@@ -3,6 +3,12 @@ use Rattle.std.specs.Prelude.{◌≡◌, ◌<◌, ◌≤◌, ◌⊎◌, ℕ, ◌
 use Rattle.c8_disk.specs.declared.error.DiskError.{DiskError}
 use Rattle.c8_disk.specs.declared.error.DiskError.TheVariants.{Failed, Full}
 
+-- A call that reads, writes or syncs, and what is answered.
+pub data DiskCall : Type 0 where
+  Reading : (at count : ℕ) → Result (Unit {0}) DiskError → DiskCall
+  Writing : (at : ℕ) → (bytes : List ℕ) → Result (Unit {0}) DiskError → DiskCall
+  Syncing : Result (Unit {0}) DiskError → DiskCall
+
 -- the most bytes that one write may have
 abbrev pub longest_write : ℕ
 longest_write = 144
@@ -56,7 +62,8 @@ pub record Elapses (before now : ℕ) (past since : ℕ → List ℕ → Type 0)
   pub nothing_else : (t : ℕ) (image : List ℕ) → t ≤ before → since t image → past t image ⊎ may_leave image
   pub keeps : (t : ℕ) (image : List ℕ) → t ≤ before → past t image → since t image
 
--- `Failed` is told only where the disk failed in the call.
+-- `Failed` is told where the disk failed in the call, and only there.
 pub record HasCause {T : Type 0} (failures now : ℕ) (result : Result T DiskError) : Type 0 where
   pub no_fewer : failures ≤ now
   pub failed : IsErrOf result Failed → failures < now
+  pub unfailed : (IsErrOf result Failed → ⊥) → now ≡ failures

@@ -1,9 +1,12 @@
 -- What a disk in a file shows.
-use Rattle.std.specs.Prelude.{ℕ, Bool, List, length}
+use Rattle.std.specs.Prelude.{◌≡◌, ◌↔◌, ℕ, Bool, true, List, [], ◌∷◌, ◌++◌, length, Result, IsErrOf}
 use Rattle.c8_disk.specs.declared.call.Call.{Call}
 use Rattle.c8_disk.specs.declared.disk.Arm.{Arm}
 use Rattle.c8_disk.specs.declared.file.FileDisk.{FileDisk}
 use Rattle.c8_disk.specs.declared.file.held.Held.{Held}
+use Rattle.c8_disk.specs.declared.error.DiskError.{DiskError}
+use Rattle.c8_disk.specs.declared.error.DiskError.TheVariants.{Failed}
+use Rattle.c8_disk.specs.Disk.{DiskCall, Reading, Writing, Syncing}
 use Rattle.c8_disk.specs.Past.{IsImage, LeftSince}
 
 -- Of what it is known to hold: the images that a crash now may leave; the moment, which is how many writes and syncs are
@@ -55,3 +58,17 @@ module _ {S : Type 0} where
   -- what `arm` was told, the oldest first
   abbrev pub file_arms : FileDisk S → List Arm
   file_arms disk = disk.arms.items
+
+  -- after a call that is answered so: it is still the file that was opened, and it is down where the call failed, and only there
+  abbrev pub IsFileAfter : FileDisk S → Result (Unit {0}) DiskError → FileDisk S → Type 0
+  IsFileAfter old result new = (file_first new ≡ file_first old) × (IsErrOf result Failed ↔ (file_is_down new ≡ true))
+
+  abbrev pub IsFileCall : FileDisk S → DiskCall → FileDisk S → Type 0
+  IsFileCall old (Reading at count result) new = IsFileAfter old result new
+  IsFileCall old (Writing at bytes result) new = IsFileAfter old result new
+  IsFileCall old (Syncing result) new = IsFileAfter old result new
+
+  -- told when to fail, which it only notes
+  abbrev pub IsFileTold : FileDisk S → Arm → FileDisk S → Type 0
+  IsFileTold old arm new =
+      (file_bytes new ≡ file_bytes old) × (file_first new ≡ file_first old) × (file_calls new ≡ file_calls old) × (file_is_down new ≡ file_is_down old) × (file_arms new ≡ file_arms old ++ arm ∷ [])

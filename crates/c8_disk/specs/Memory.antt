@@ -1,6 +1,6 @@
 -- What a disk in memory shows, and what its calls make of that.
-use Rattle.std.specs.Prelude.{◌≡◌, ℕ, ◌+◌, ◌-◌, Bool, List, [], ◌∷◌, ◌++◌, length, Result, Ok, Err}
-use Rattle.c8_disk.specs.Disk.{overwritten}
+use Rattle.std.specs.Prelude.{◌≡◌, ◌<◌, ◌↔◌, ℕ, ◌+◌, ◌-◌, ◌==◌, ◌||◌, Bool, true, false, List, [], ◌∷◌, ◌++◌, length, Result, Ok, Err, IsErrOf}
+use Rattle.c8_disk.specs.Disk.{DiskCall, Reading, Writing, Syncing, overwritten}
 use Rattle.c8_disk.specs.declared.error.DiskError.{DiskError}
 use Rattle.c8_disk.specs.declared.error.DiskError.TheVariants.{Failed, Full}
 use Rattle.c8_disk.specs.declared.call.Call.TheVariants.{Sync}
@@ -9,7 +9,7 @@ use Rattle.c8_disk.specs.declared.call.Call.{Call}
 use Rattle.c8_disk.specs.declared.disk.Arm.{Arm}
 use Rattle.c8_disk.specs.declared.mem_disk.MemDisk.{MemDisk}
 use Rattle.c8_disk.specs.Past.{IsImage, LeftSince, IsWriteOf, synced}
-use Rattle.c8_disk.specs.Budget.{is_spent, stepped}
+use Rattle.c8_disk.specs.Budget.{stops_now, is_spent, stepped}
 
 -- what a read gives
 abbrev pub bytes_of : MemDisk → List ℕ
@@ -123,3 +123,19 @@ abbrev pub after_sync : Result (Unit {0}) DiskError → MemValue → MemValue
 after_sync (Ok _) v = record (served (asked v)) { calls = v.calls ++ Sync ∷ [] }
 after_sync (Err Failed) v = failed (asked v)
 after_sync (Err Full) v = asked v
+
+-- its calls are spent, or it is stopped, by its value
+abbrev pub has_stopped : MemValue → Bool
+has_stopped v = v.left == 0 || stops_now v.arm
+
+-- What a call makes of it. It fails where the disk has stopped, and only there; a write is refused for want of room where it
+-- has not.
+abbrev pub IsCall : MemValue → DiskCall → MemValue → Type 0
+IsCall v (Reading at count result) w = (IsErrOf result Failed ↔ (has_stopped v ≡ true)) × (IsErrOf result Full → ⊥) × (w ≡ after_read result v)
+IsCall v (Writing at bytes result) w =
+    (IsErrOf result Failed ↔ (has_stopped v ≡ true)) × (IsErrOf result Full ↔ ((has_stopped v ≡ false) × (v.room < at + length bytes))) × IsWritten at bytes result v w
+IsCall v (Syncing result) w = (IsErrOf result Failed ↔ (has_stopped v ≡ true)) × (IsErrOf result Full → ⊥) × (w ≡ after_sync result v)
+
+-- told when its calls fail from now on
+abbrev pub told : Arm → MemValue → MemValue
+told arm v = record v { arm = arm; arms = v.arms ++ arm ∷ [] }

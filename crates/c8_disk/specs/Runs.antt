@@ -1,6 +1,6 @@
 -- Runs of calls of a disk, by what the trait `Disk` shows.
-use Rattle.std.specs.Prelude.{◌≡◌, ◌≤◌, ◌⊎◌, ℕ, List}
-use Rattle.c8_disk.specs.Disk.{AddsNone}
+use Rattle.std.specs.Prelude.{◌≡◌, ◌≤◌, ◌⊎◌, ℕ, List, [], ◌∷◌}
+use Rattle.c8_disk.specs.Disk.{AddsNone, DiskCall}
 use Rattle.c8_disk.specs.declared.disk.Disk.{Ghosts}
 
 -- A crash at any moment of the run leaves an image that has P.
@@ -10,8 +10,16 @@ pub record LeavesOnly {D : Type 0} (disk : Ghosts D) (old new : D) (P : List ℕ
   -- and of a run that began earlier
   pub before : (t : ℕ) (image : List ℕ) → t ≤ disk.moment old → disk.left_since new t image → disk.left_since old t image ⊎ P image
 
--- It is the same disk: with the room that it had, told to fail as it was, and its failures counted on.
+-- These calls, one after another, lead from the first disk to the second.
+abbrev pub Leads : {D : Type 0} → Ghosts D → List DiskCall → D → D → Type 0
+Leads disk [] old new = new ≡ old
+Leads {D} disk (call ∷ calls) old new = (mid : D) × disk.does old call mid × Leads disk calls mid new
+
+-- It is the same disk: some calls led to it, whichever they were, it has the room that it had, was told to fail as it was, and its
+-- failures are counted on.
 pub record IsSameDisk {D : Type 0} (disk : Ghosts D) (old new : D) : Type 0 where
+  pub calls : List DiskCall
+  pub led : Leads disk calls old new
   pub capacity : disk.capacity new ≡ disk.capacity old
   pub arms : disk.arms new ≡ disk.arms old
   pub no_fewer : disk.failures old ≤ disk.failures new

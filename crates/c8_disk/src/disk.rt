@@ -1,7 +1,7 @@
 //! A disk as a journal sees it: what a read gives, and what a crash may leave.
 ghost use Rattle.std.specs.Prelude.{◌≡◌, ◌+◌, ◌<◌, ◌≤◌, List, [], ◌∷◌, ◌++◌, ℕ, length, take, drop, OnOk, IsErrOf};
 ghost use Rattle.c8_disk.specs.declared.disk.Arm.{Arm};
-ghost use Rattle.c8_disk.specs.Disk.{AddsNone, Only, Writes, WritesImages, Elapses, HasCause, longest_write};
+ghost use Rattle.c8_disk.specs.Disk.{DiskCall, Reading, Writing, Syncing, AddsNone, Only, Writes, WritesImages, Elapses, HasCause, longest_write};
 
 use crate::DiskError;
 
@@ -10,7 +10,7 @@ pub const LONGEST_WRITE: usize = 144;
 
 /// When the calls of a disk are to fail. A [`crate::MemDisk`] fails then; a [`crate::FileDisk`]
 /// only notes what it was told, and fails when it fails.
-#[derive(Clone, Copy, Debug, PartialEq, Eq)]
+#[derive(Clone, Copy, Debug, PartialEq, Eq, Hash)]
 pub enum Arm {
     /// No stop.
     Off,
@@ -48,6 +48,13 @@ pub trait Disk {
     /// What `arm` was told, the oldest first.
     ghost arms: { Self → List Arm };
 
+    /// What a call that reads, writes or syncs makes of it, by what it answers: what one who knows
+    /// the kind of disk rests on.
+    ghost does: { Self → DiskCall → Self → Type 0 };
+
+    /// What `arm` makes of it, for one who knows the kind.
+    ghost told: { Self → Arm → Self → Type 0 };
+
     /// How many bytes there are.
     fn len(&self) -> u32
         ensures { result ≡ length (seen self.now) };
@@ -70,7 +77,8 @@ pub trait Disk {
         ensures never_full { IsErrOf result DiskError.Full → ⊥ }
         ensures changes { changes self.new ≡ changes self.old }
         ensures capacity { capacity self.new ≡ capacity self.old }
-        ensures arms { arms self.new ≡ arms self.old };
+        ensures arms { arms self.new ≡ arms self.old }
+        ensures does { does self.old (Reading at (length buffer.old) result) self.new };
 
     /// Writes over what is there, and past the end. Until a sync that answers `Ok`, a crash may
     /// leave any bytes in the range. A write that answers `Failed` may have done any part of its
@@ -87,7 +95,8 @@ pub trait Disk {
         ensures full { IsErrOf result DiskError.Full → capacity self.old < at + length bytes.now }
         ensures changes { changes self.new ≡ changes self.old + 1 }
         ensures capacity { capacity self.new ≡ capacity self.old }
-        ensures arms { arms self.new ≡ arms self.old };
+        ensures arms { arms self.new ≡ arms self.old }
+        ensures does { does self.old (Writing at bytes.now result) self.new };
 
     /// After an `Ok`, a crash leaves what a read gives.
     fn sync(&mut self) -> Result<(), DiskError>
@@ -100,7 +109,8 @@ pub trait Disk {
         ensures never_full { IsErrOf result DiskError.Full → ⊥ }
         ensures changes { changes self.new ≡ changes self.old + 1 }
         ensures capacity { capacity self.new ≡ capacity self.old }
-        ensures arms { arms self.new ≡ arms self.old };
+        ensures arms { arms self.new ≡ arms self.old }
+        ensures does { does self.old (Syncing result) self.new };
 
     /// Says when calls fail from now on. It changes nothing that a read or a crash gives.
     fn arm(&mut self, arm: Arm)
@@ -112,7 +122,8 @@ pub trait Disk {
         ensures failures { failures self.new ≡ failures self.old }
         ensures changes { changes self.new ≡ changes self.old }
         ensures capacity { capacity self.new ≡ capacity self.old }
-        ensures arms { arms self.new ≡ arms self.old ++ arm ∷ [] };
+        ensures arms { arms self.new ≡ arms self.old ++ arm ∷ [] }
+        ensures told { told self.old arm self.new };
 
     /// What a read gives is one of the images.
     ghost reads_now: { (disk : Self) → may_leave disk (seen disk) };

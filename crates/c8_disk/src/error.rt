@@ -8,7 +8,7 @@ use std::io;
 use thiserror::Error;
 
 /// Why a call of a disk was refused.
-#[derive(Clone, Copy, Debug, PartialEq, Eq, Error)]
+#[derive(Clone, Copy, Debug, PartialEq, Eq, Hash, Error)]
 pub enum DiskError {
     /// The disk failed in this call.
     #[error("the disk failed")]
@@ -38,7 +38,7 @@ impl DiskError {
 }
 
 /// Why a file was not opened as a disk. None of its bytes was changed.
-#[derive(Clone, Copy, Debug, PartialEq, Eq, Error)]
+#[derive(Clone, Copy, Debug, PartialEq, Eq, Hash, Error)]
 pub enum FileError {
     /// A call of the system failed, or what stands at the path is no file that this process alone
     /// may read and write.

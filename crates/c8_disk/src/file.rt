@@ -1,6 +1,6 @@
 //! A disk in a file of the operating system.
 ghost use Rattle.std.specs.Prelude.{◌≡◌, ◌≤◌, ◌<◌, ◌+◌, ◌↔◌, [], ◌∷◌, ◌++◌, true, false, length, take, drop, vec_len, vec_capacity, IfOk, IfErr, OnOk, OnErr, IsErrOf, IsTrue};
-ghost use Rattle.c8_disk.specs.Disk.{Only, AddsNone, Writes, WritesImages, Elapses, HasCause, longest_write};
+ghost use Rattle.c8_disk.specs.Disk.{Reading, Writing, Syncing, Only, AddsNone, Writes, WritesImages, Elapses, HasCause, longest_write};
 ghost use Rattle.c8_disk.specs.Past.{IsImage, LeftSince, AddsWrite};
 ghost use Rattle.c8_disk.specs.PastLaws.{reads_image, counts, only};
 
@@ -156,7 +156,7 @@ impl<S: SystemFile> FileDisk<S> {
 }
 
 impl<S: SystemFile> Disk for FileDisk<S> {
-    ghost use Rattle.c8_disk.specs.File.{file_bytes, file_first, file_calls, file_images, file_moment, file_left_since, file_room, file_is_down, file_failures, file_changes, file_arms};
+    ghost use Rattle.c8_disk.specs.File.{file_bytes, file_first, file_calls, file_images, file_moment, file_left_since, file_room, file_is_down, file_failures, file_changes, file_arms, IsFileCall, IsFileTold};
 
     ghost seen = { λ d. d.held.bytes.items };
 
@@ -173,6 +173,10 @@ impl<S: SystemFile> Disk for FileDisk<S> {
     ghost capacity = { λ d. d.held.room };
 
     ghost arms = { λ d. d.arms.items };
+
+    ghost does = { λ d call e. IsFileCall d call e };
+
+    ghost told = { λ d arm e. IsFileTold d arm e };
 
     ghost reads_now = { λ d. reads_image d.held.first.value.items d.held.calls.items
         d.held.bytes.items d.held.lawful d.held.replayed };
@@ -202,6 +206,7 @@ impl<S: SystemFile> Disk for FileDisk<S> {
         ensures changes { file_changes self.new ≡ file_changes self.old }
         ensures capacity { file_room self.new ≡ file_room self.old }
         ensures arms { file_arms self.new ≡ file_arms self.old }
+        ensures does { IsFileCall self.old (Reading at (length buffer.old) result) self.new }
 
         // A call that fails takes the disk down, and a disk that is down fails each call.
         ensures down { IsErrOf result DiskError.Failed ↔ (file_is_down self.new ≡ true) }
@@ -233,6 +238,7 @@ impl<S: SystemFile> Disk for FileDisk<S> {
         ensures changes { file_changes self.new ≡ file_changes self.old + 1 }
         ensures capacity { file_room self.new ≡ file_room self.old }
         ensures arms { file_arms self.new ≡ file_arms self.old }
+        ensures does { IsFileCall self.old (Writing at bytes.now result) self.new }
 
         // A call that fails takes the disk down, and a disk that is down fails each call.
         ensures down { IsErrOf result DiskError.Failed ↔ (file_is_down self.new ≡ true) }
@@ -276,6 +282,7 @@ impl<S: SystemFile> Disk for FileDisk<S> {
         ensures changes { file_changes self.new ≡ file_changes self.old + 1 }
         ensures capacity { file_room self.new ≡ file_room self.old }
         ensures arms { file_arms self.new ≡ file_arms self.old }
+        ensures does { IsFileCall self.old (Syncing result) self.new }
 
         // A call that fails takes the disk down, and a disk that is down fails each call. A sync
         // that fails is not noted.
@@ -305,6 +312,7 @@ impl<S: SystemFile> Disk for FileDisk<S> {
         ensures changes { file_changes self.new ≡ file_changes self.old }
         ensures capacity { file_room self.new ≡ file_room self.old }
         ensures arms { file_arms self.new ≡ file_arms self.old ++ arm ∷ [] }
+        ensures told { IsFileTold self.old arm self.new }
         ensures down { file_is_down self.new ≡ file_is_down self.old }
         ensures first { file_first self.new ≡ file_first self.old }
         ensures calls { file_calls self.new ≡ file_calls self.old }

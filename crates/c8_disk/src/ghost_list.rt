@@ -2,6 +2,7 @@
 ghost use Rattle.std.specs.Prelude.{◌≡◌, List, [], ◌∷◌, ◌++◌};
 ghost use Rattle.std.specs.Borrow.{ftrue};
 
+use std::fmt;
 use std::marker::{Model, PhantomData};
 
 /// A list that takes no room: it is there for clauses, which read it as `items`. A type keeps one
@@ -14,6 +15,13 @@ pub struct GhostList<T> {
 
 impl<T> Model for GhostList<T> {
     ghost also_owns = { λ _. ftrue };
+}
+
+/// It holds nothing that could be shown.
+impl<T> fmt::Debug for GhostList<T> {
+    fn fmt<W: fmt::Write>(&self, f: &mut fmt::Formatter<W>) -> fmt::Result {
+        write!(f, "GhostList")
+    }
 }
 
 // It owns nothing.

@@ -1,4 +1,5 @@
 mod Crash
+mod Disks
 mod Kept
 mod Least
 mod Lists

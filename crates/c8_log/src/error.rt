@@ -7,7 +7,7 @@ use thiserror::Error;
 
 /// Why a call of a log was refused. After any of these `append` and `read` are refused, until the
 /// log is opened again.
-#[derive(Clone, Copy, Debug, PartialEq, Eq, Error)]
+#[derive(Clone, Copy, Debug, PartialEq, Eq, Hash, Error)]
 pub enum LogError {
     /// The disk failed. What was to be written may stand or not: the next opening decides.
     #[error("the disk failed")]

@@ -146,6 +146,7 @@ impl<D: Disk> Journal<D> {
         ensures changes { D.changes self.new.disk ≡ D.changes self.old.disk }
         ensures capacity { D.capacity self.new.disk ≡ D.capacity self.old.disk }
         ensures arms { D.arms self.new.disk ≡ D.arms self.old.disk ++ arm ∷ [] }
+        ensures told { D.told self.old.disk arm self.new.disk }
     {
         self.log.arm(arm);
     }

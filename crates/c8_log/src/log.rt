@@ -63,7 +63,9 @@ impl<D: Disk> Log<D> {
             refusal.0 ≡ LogError.Failed → D.failures disk < D.failures refusal.1) }
         ensures full { IfErr result (λ refusal.
             refusal.0 ≡ LogError.Full → (has_closed_gate (D.seen disk) ≡ false)
-            × (D.capacity disk < slot_length * length (kept (D.seen disk)) + 1)) }
+            × (D.capacity disk < slot_length * length (kept (D.seen disk)) + 1)
+            × (D.failures refusal.1 ≡ D.failures disk)) }
+        ensures unfailed { IfOk result (λ log. D.failures log.disk ≡ D.failures disk) }
         ensures left { IfErr result (λ refusal.
             IsLeftByOpening refusal.0 (D.seen disk) (D.seen refusal.1)) }
         ensures never_down { IfErr result (λ refusal. refusal.0 ≢ LogError.Down) }
@@ -165,6 +167,7 @@ impl<D: Disk> Log<D> {
         ensures body { IfOk result (λ slot.
             slice_get (kept (D.seen self.old.disk)) n ≡ Some slot.body.now) }
         ensures ok { OnOk result (self.new ≡ record self.old { disk = self.new.disk }) }
+        ensures unfailed { OnOk result (D.failures self.new.disk ≡ D.failures self.old.disk) }
         ensures at_rest { OnOk result (IsAtRest D.Disk self.new) }
 
         // Nothing is written, and a crash at any moment of the call leaves what a crash before it
@@ -201,6 +204,7 @@ impl<D: Disk> Log<D> {
         ensures changes { D.changes self.new.disk ≡ D.changes self.old.disk }
         ensures capacity { D.capacity self.new.disk ≡ D.capacity self.old.disk }
         ensures arms { D.arms self.new.disk ≡ D.arms self.old.disk ++ arm ∷ [] }
+        ensures told { D.told self.old.disk arm self.new.disk }
     {
         self.disk.arm(arm);
     }

@@ -4,6 +4,7 @@ use Rattle.c8_game.specs.Rules.{Rules}
 use Rattle.c8_disk.specs.declared.disk.Disk.{Ghosts}
 use Rattle.c8_disk.specs.declared.error.DiskError.{DiskError}
 use Rattle.c8_disk.specs.Runs.{LeavesOnly, IsSameDisk}
+use Rattle.c8_disk.specs.RunLaws.{same_disk}
 use Rattle.c8_log.specs.Journal.{JournalValue}
 use Rattle.c8_known.specs.Journal.{Record}
 use Rattle.c8_known.specs.Known.{KnownValue}
@@ -21,9 +22,6 @@ outcome_seen {D} {ran} v rules room j k m is seen call o comes =
     (subst (λ (known : KnownValue). outcome rules known m call ≡ o m) is.known comes)
 
 module _ {D : Type 0} (g : Ghosts D) where
-  same_disk : (disk : D) → IsSameDisk g disk disk
-  same_disk disk = record { capacity = refl; arms = refl; no_fewer = omega arith }
-
   -- the disk is left alone
   quiet : (v : PeerValue D) (m : Memory) (call : Call) (reply : Reply) → IsSound g v → added v call ≡ None → luck_of reply ≡ Works
       → IsStep v call reply (record v { state = record v.state { memory = m } }) → IsAnswered g v call reply (record v { state = record v.state { memory = m } })
@@ -35,7 +33,7 @@ module _ {D : Type 0} (g : Ghosts D) where
     untouched = λ e. refl;
     changes = omega arith;
     ran = rw none refl;
-    same = record { rules = refl; room = refl; me = refl; disk_is = same_disk v.disk };
+    same = record { rules = refl; room = refl; me = refl; disk_is = same_disk g v.disk };
   }
 
   -- nothing is recorded; the memory may change

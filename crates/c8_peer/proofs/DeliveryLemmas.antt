@@ -70,7 +70,8 @@ module _ {D : Type 0} where
       acks_more (known_by v) (known_of v.rules v.me (v.state.journal ++ r ∷ []))
       (journal_grows v.rules v.me v.room v.state.journal (r ∷ []) sound.range sound.plays.0 sound.plays.1 (journal_more v.rules v.me v.room v.state.journal r sound.is_journal may)) message within
 
-  pub cause_of : (g : Ghosts D) (v new : PeerValue D) (why : DiskError) → (IsErrOf {T = Unit {0}} (Err why) errors.Failed → g.failures v.disk < g.failures new.disk)
-      → (IsErrOf {T = Unit {0}} (Err why) errors.Full → g.capacity v.disk < slot_length * (length v.state.journal + 1) + 1) → HasCause g v new why
+  pub cause_of : (g : Ghosts D) (v new : PeerValue D) (why : DiskError)
+      → (IsErrOf {T = Unit {0}} (Err why) errors.Failed → (slot_length * (length v.state.journal + 1) + 1 ≤ g.capacity v.disk) × (g.failures v.disk < g.failures new.disk))
+      → (IsErrOf {T = Unit {0}} (Err why) errors.Full → (g.capacity v.disk < slot_length * (length v.state.journal + 1) + 1) × (new.disk ≡ v.disk)) → HasCause g v new why
   cause_of g v new errors.Failed failed full = failed refl
   cause_of g v new errors.Full failed full = full refl

@@ -65,7 +65,7 @@ module _ {D : Type 0} (g : Ghosts D) (reads_now : (disk : D) → g.may_leave dis
     refused_reading replays.WrongGame fails is = unfit_after replays.WrongGame is.0
     refused_reading replays.WrongPlayer fails is = unfit_after replays.WrongPlayer is.0
     refused_reading (replays.BadRecord n) fails is = unfit_after (replays.BadRecord n) is.0
-    refused_reading (replays.Disk Failed) fails is = (omega (arith, fails refl, first.no_fewer), inl (settled_unread disk left (settled_after disk mid left same mended rests reads)))
+    refused_reading (replays.Disk Failed) fails is = inl (omega (arith, fails refl, first.no_fewer), settled_unread disk left (settled_after disk mid left same mended rests reads))
     refused_reading (replays.Disk Full) fails is = absurd (let why = is.0 in cc)
 
 -- ---- what the record comes to, on the disk as it was found
@@ -78,18 +78,18 @@ module _ {D : Type 0} (g : Ghosts D) (disk mid : D) (rules : Rules) (room me : �
     leaves = subst (λ (bodies : List (List ℕ)). AllKeepBodies bodies (Some (opening_body rules room me bodies)) (g.may_leave left)) same is.leaves;
   }
 
-  pub refused_beginning : (left : D) (error : OpenError) → AreJournalBodies rules me room (bodies_found g disk) → IsSettled g disk mid → IsSameDisk g disk mid → IsNotBegun g mid rules room me error left → IsRefusedFor g disk rules room me error left
-  refused_beginning left opens.WrongGame are settled first none = absurd none
-  refused_beginning left opens.WrongPlayer are settled first none = absurd none
-  refused_beginning left (opens.BadRecord n) are settled first none = absurd none
-  refused_beginning left opens.Memory are settled first none = absurd none
-  refused_beginning left opens.EpochsSpent are settled first is = record {
+  pub refused_beginning : (left : D) (error : OpenError) → AreJournalBodies rules me room (bodies_found g disk) → IsSettled g disk mid → IsSameDisk g disk mid → g.failures mid ≡ g.failures disk → IsNotBegun g mid rules room me error left → IsRefusedFor g disk rules room me error left
+  refused_beginning left opens.WrongGame are settled first unfailed none = absurd none
+  refused_beginning left opens.WrongPlayer are settled first unfailed none = absurd none
+  refused_beginning left (opens.BadRecord n) are settled first unfailed none = absurd none
+  refused_beginning left opens.Memory are settled first unfailed none = absurd none
+  refused_beginning left opens.EpochsSpent are settled first unfailed is = record {
     bodies = are;
     spent = subst (λ (bodies : List (List ℕ)). last_epoch ≤ epoch (records_of bodies)) same is.0;
     settled = subst (IsSettled g disk) (sym is.1) settled;
   }
-  refused_beginning left (opens.Disk Failed) are settled first is = (omega (arith, is.0, first.no_fewer), inr (not_written left is.1))
-  refused_beginning left (opens.Disk Full) are settled first is = (omega (arith, is.0, first.capacity, ap length same), inr (not_written left is.1))
+  refused_beginning left (opens.Disk Failed) are settled first unfailed is = inr ((omega (arith, is.0.0, first.capacity, ap length same), omega (arith, is.0.1, unfailed)), not_written left is.1)
+  refused_beginning left (opens.Disk Full) are settled first unfailed is = inr ((omega (arith, is.0.0, first.capacity, ap length same), is.0.1 ∙ unfailed), not_written left is.1)
 
   pub begun_there : (journal : JournalValue D) (number : ℕ) → IsBegun g mid rules room me journal number → IsBegun g disk rules room me journal number
   begun_there journal number is = record {

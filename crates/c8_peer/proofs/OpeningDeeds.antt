@@ -70,23 +70,23 @@ module _ {D : Type 0} (g : Ghosts D) where
     tells = λ image may. tells image (subst (λ (d : D). g.may_leave d image) is may);
   }
   refused_for disk left rules room me s finds (opens.Disk why) within is shut keeps reads tells =
-      elim is.1 [
+      elim is [
         | inl unread ↦ record {
           opening = NotRead why;
           deed = record { may = (shut, within); is = refl };
           tells = λ image may.
-              let before = unread image may in
+              let before = unread.1 image may in
               let old = tells before.0 before.1 in
               (old.0, before.2 ∙ old.1);
         }
         | inr tried ↦ record {
           opening = NotWritten why;
           deed = record {
-            may = (shut, (subst (IsJournal rules me room) reads tried.bodies.journal, subst (λ (f : List Record). epoch f < last_epoch) reads tried.not_spent, within));
+            may = (shut, (subst (IsJournal rules me room) reads tried.1.bodies.journal, subst (λ (f : List Record). epoch f < last_epoch) reads tried.1.not_spent, within));
             is = refl;
           };
           tells = λ image may.
-              elim (tried.leaves image may) [
+              elim (tried.1.leaves image may) [
                 | inl without ↦ (false, without ∙ keeps)
                 | inr with ↦ (
                   true,

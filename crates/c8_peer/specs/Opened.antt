@@ -1,12 +1,12 @@
 -- What an opening makes of a disk: the peer that it opens there, or why it is refused and what it leaves.
-use Rattle.std.specs.Prelude.{◌≡◌, ◌⊎◌, ℕ, ◌+◌, ◌*◌, ◌<◌, ◌≤◌, List, length, [], ◌∷◌, ◌++◌, Some, Result, Ok, Err}
+use Rattle.std.specs.Prelude.{◌≡◌, ◌⊎◌, ℕ, ◌+◌, ◌*◌, ◌<◌, ◌≤◌, List, length, [], ◌∷◌, ◌++◌, false, Some, Result, Ok, Err}
 use Rattle.c8_game.specs.Rules.{Rules}
 use Rattle.c8_disk.specs.declared.disk.Disk.{Ghosts}
 use Rattle.c8_disk.specs.declared.error.DiskError.{DiskError}
 use Rattle.c8_disk.specs.declared.error.DiskError.TheVariants as errors
 use Rattle.c8_disk.specs.Runs.{IsSameDisk}
 use Rattle.c8_log.specs.Slots.{slot_length, kept}
-use Rattle.c8_log.specs.Log.{AllKeep, KeepsOneOf, repaired}
+use Rattle.c8_log.specs.Log.{AllKeep, KeepsOneOf, has_closed_gate, repaired}
 use Rattle.c8_log.specs.Journal.{AllKeepBodies}
 use Rattle.c8_known.specs.Journal.{epoch, ticks}
 use Rattle.c8_record.specs.Body.{body_of, records_of}
@@ -32,7 +32,7 @@ opening_body rules room me bodies = body_of (opening_record rules room me (recor
 abbrev pub MayBegin : Rules → ℕ → ℕ → List (List ℕ) → Type 0
 MayBegin rules room me bodies = AreJournalBodies rules me room bodies × (epoch (records_of bodies) < last_epoch)
 
--- ---- the disk, of which only what it keeps and how often it failed counts
+-- ---- the disk
 
 module _ {D : Type 0} (g : Ghosts D) (disk : D) where
   -- the bodies that it keeps when the opening begins
@@ -49,10 +49,16 @@ module _ {D : Type 0} (g : Ghosts D) (disk : D) where
   abbrev pub IsUnread : D → Type 0
   IsUnread left = (image : List ℕ) → g.may_leave left image → KeepsOneOf (g.may_leave disk) image
 
-  -- when the disk may be blamed: it failed in the call, or it has no room for the opening's record and the gate after it
-  abbrev pub HasOpeningCause : DiskError → D → Type 0
-  HasOpeningCause errors.Failed left = g.failures disk < g.failures left
-  HasOpeningCause errors.Full left = g.capacity disk < slot_length * (length bodies_found + 1) + 1
+  -- why the disk refuses before all of its journal is read: it failed; or it did not, and has no room for the gate after the kept
+  -- bodies, which is open or missing
+  abbrev pub HasReadingCause : DiskError → D → Type 0
+  HasReadingCause errors.Failed left = g.failures disk < g.failures left
+  HasReadingCause errors.Full left = (has_closed_gate (g.seen disk) ≡ false) × (g.capacity disk < slot_length * length bodies_found + 1) × (g.failures left ≡ g.failures disk)
+
+  -- why it refuses the opening's record: it has no room for it and the gate after it, and did not fail; or it has, and failed
+  abbrev pub HasWritingCause : DiskError → D → Type 0
+  HasWritingCause errors.Failed left = (slot_length * (length bodies_found + 1) + 1 ≤ g.capacity disk) × (g.failures disk < g.failures left)
+  HasWritingCause errors.Full left = (g.capacity disk < slot_length * (length bodies_found + 1) + 1) × (g.failures left ≡ g.failures disk)
 
 -- ---- the opening of a player's peer, in a game and a room
 
@@ -102,7 +108,7 @@ module _ {D : Type 0} (g : Ghosts D) (disk : D) (rules : Rules) (room me : ℕ) 
   IsRefusedFor (opens.BadRecord n) left = IsUnfit (replays.BadRecord n) left
   IsRefusedFor opens.EpochsSpent left = IsSpent left
   IsRefusedFor opens.Memory left = left ≡ disk
-  IsRefusedFor (opens.Disk why) left = HasOpeningCause g disk why left × (IsUnread g disk left ⊎ IsNotWritten left)
+  IsRefusedFor (opens.Disk why) left = (HasReadingCause g disk why left × IsUnread g disk left) ⊎ (HasWritingCause g disk why left × IsNotWritten left)
 
   -- Why an opening is refused: there is no such player in the game, and the disk is as it was; or else for one of these.
   abbrev pub IsRefusedOpening : OpenError → D → Type 0

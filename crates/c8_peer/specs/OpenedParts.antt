@@ -12,7 +12,7 @@ use Rattle.c8_record.specs.Replay.{AreJournalBodies}
 use Rattle.c8_peer.specs.declared.error.OpenError.{OpenError}
 use Rattle.c8_peer.specs.declared.error.OpenError.TheVariants as opens
 use Rattle.c8_peer.specs.Opening.{last_epoch, opening_record}
-use Rattle.c8_peer.specs.Opened.{opening_body, bodies_found, IsSettled, MayBegin, HasOpeningCause, IsNotWritten}
+use Rattle.c8_peer.specs.Opened.{opening_body, bodies_found, IsSettled, MayBegin, HasWritingCause, IsNotWritten}
 
 -- the disk after a journal was read, or was to be
 abbrev pub disk_read : {D : Type 0} → Result (LogValue D × ℕ) (OpenError × D) → D
@@ -33,6 +33,7 @@ module _ {D : Type 0} (g : Ghosts D) (disk : D) (rules : Rules) (room me : ℕ) 
     pub up : log.down ≡ false
     pub same : kept (g.seen log.disk) ≡ bodies_found g disk
     pub settled : IsSettled g disk log.disk
+    pub unfailed : g.failures log.disk ≡ g.failures disk
 
   -- The opening's record stands, and this is its epoch.
   pub record IsBegun (journal : JournalValue D) (number : ℕ) : Type 0 where
@@ -49,7 +50,7 @@ module _ {D : Type 0} (g : Ghosts D) (disk : D) (rules : Rules) (room me : ℕ) 
   IsNotBegun (opens.BadRecord n) left = ⊥
   IsNotBegun opens.EpochsSpent left = (last_epoch ≤ epoch (records_of (bodies_found g disk))) × (left ≡ disk)
   IsNotBegun opens.Memory left = ⊥
-  IsNotBegun (opens.Disk why) left = HasOpeningCause g disk why left × IsNotWritten g disk rules room me left
+  IsNotBegun (opens.Disk why) left = HasWritingCause g disk why left × IsNotWritten g disk rules room me left
 
   -- What a crash leaves while the record is added: what was found, or that and the record, where an epoch may begin.
   abbrev pub BeginningLeaves : List ℕ → Type 0

@@ -170,10 +170,11 @@ MayLeave p call = KeepsWithOrWithout p.state.journal (or_pending (added p call) 
 abbrev pub LeavesJournal : {D : Type 0} → Ghosts D → PeerValue D → Type 0
 LeavesJournal {D} disk p = (image : List ℕ) → disk.may_leave p.disk image → KeepsWithOrWithout p.state.journal p.state.pending image
 
--- When the disk may refuse a record: it failed in the call, or it has no room for one slot more and the gate after it.
+-- When the disk refuses a record, and with which word: it has no room for one slot more and the gate after it, and then it is
+-- not called; or it has, and it failed in the call.
 abbrev pub HasCause : {D : Type 0} → Ghosts D → PeerValue D → PeerValue D → DiskError → Type 0
-HasCause disk old new errors.Failed = disk.failures old.disk < disk.failures new.disk
-HasCause disk old new errors.Full = disk.capacity old.disk < slot_length * (length old.state.journal + 1) + 1
+HasCause disk old new errors.Failed = (slot_length * (length old.state.journal + 1) + 1 ≤ disk.capacity old.disk) × (disk.failures old.disk < disk.failures new.disk)
+HasCause disk old new errors.Full = (disk.capacity old.disk < slot_length * (length old.state.journal + 1) + 1) × (new.disk ≡ old.disk)
 
 -- What a tick, a delivery, a leave and a decision answer for, of a peer before the call and after it. The record that it adds is
 -- that of `added`.

@@ -9,7 +9,7 @@ use c8_wire::WireError;
 use thiserror::Error;
 
 /// Why a peer was not opened. The disk is given back with the refusal.
-#[derive(Clone, Copy, Debug, PartialEq, Eq, Error)]
+#[derive(Clone, Copy, Debug, PartialEq, Eq, Hash, Error)]
 pub enum OpenError {
     /// The journal begins with a HEAD of another game or another room. The disk keeps what it had.
     #[error("a journal of another game or room")]
@@ -62,7 +62,7 @@ impl OpenError {
 }
 
 /// Why a tick was refused. But for `Disk`, nothing has changed.
-#[derive(Clone, Copy, Debug, PartialEq, Eq, Error)]
+#[derive(Clone, Copy, Debug, PartialEq, Eq, Hash, Error)]
 pub enum TickError {
     /// As many frames are not confirmed as the game's window has.
     #[error("too far ahead of what is confirmed")]
@@ -108,7 +108,7 @@ impl TickError {
 }
 
 /// Why a datagram was refused. But for `Desync` and `Disk`, nothing has changed.
-#[derive(Clone, Copy, Debug, PartialEq, Eq, Error)]
+#[derive(Clone, Copy, Debug, PartialEq, Eq, Hash, Error)]
 pub enum Refused {
     /// It is no datagram.
     #[error("{0}")]
@@ -185,7 +185,7 @@ impl Refused {
 }
 
 /// Why a datagram cannot be said. Nothing has changed.
-#[derive(Clone, Copy, Debug, PartialEq, Eq, Error)]
+#[derive(Clone, Copy, Debug, PartialEq, Eq, Hash, Error)]
 pub enum Unsayable {
     /// The disk refused a record; the peer has to be opened again.
     #[error("the peer is down")]
@@ -236,7 +236,7 @@ impl Unsayable {
 }
 
 /// Why a player was not let go. But for `Disk`, nothing has changed.
-#[derive(Clone, Copy, Debug, PartialEq, Eq, Error)]
+#[derive(Clone, Copy, Debug, PartialEq, Eq, Hash, Error)]
 pub enum LeaveError {
     /// This peer is not player one.
     #[error("only player one lets a player go")]
@@ -287,7 +287,7 @@ impl LeaveError {
 }
 
 /// Why a leaver was not cut. But for `Disk`, nothing has changed.
-#[derive(Clone, Copy, Debug, PartialEq, Eq, Error)]
+#[derive(Clone, Copy, Debug, PartialEq, Eq, Hash, Error)]
 pub enum DecideError {
     /// No LEAVE of the player stands, or this peer is not player one.
     #[error("the player has not been let go")]

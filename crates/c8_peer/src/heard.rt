@@ -1,7 +1,7 @@
 //! What a delivery did.
 
 /// What a datagram that was taken did.
-#[derive(Clone, Copy, Debug, PartialEq, Eq)]
+#[derive(Clone, Copy, Debug, PartialEq, Eq, Hash)]
 pub enum Heard {
     /// It brought nothing for the journal; links, acknowledgements and reports may have changed.
     Nothing,

@@ -5,7 +5,7 @@ ghost use Rattle.c8_peer.specs.Asked.{wire_of};
 use c8_game::Player;
 
 /// What a peer may be asked to say, each with the leaver of whom it tells.
-#[derive(Clone, Copy, Debug, PartialEq, Eq)]
+#[derive(Clone, Copy, Debug, PartialEq, Eq, Hash)]
 pub enum Kind {
     /// It asks for a link.
     Hello,

@@ -27,6 +27,7 @@ use c8_record::laws::journals_stay_within_the_window;
 use c8_record::{Record, body_of, make_known};
 use c8_roll::Roll;
 pub use rows::Rows;
+use std::fmt;
 use std::marker::Model;
 
 /// One player's peer, over a disk that holds its journal.
@@ -69,6 +70,19 @@ impl<'g, D: Disk> Model for Peer<'g, D> {
         × ((last_run_of p.roll ≤ p.game.now.window + 1) ⊎ (last_run_of p.roll ≡ p.known.ticks)) };
 }
 
+/// Whose it is, its epoch, its ticks and confirmed frames, and whether it is down.
+impl<'g, D: Disk> fmt::Debug for Peer<'g, D> {
+    fn fmt<W: fmt::Write>(&self, f: &mut fmt::Formatter<W>) -> fmt::Result {
+        let (me, epoch) = (self.me(), self.epoch());
+        let (now, confirmed) = (self.now(), self.confirmed());
+        let down = self.is_down();
+        write!(
+            f,
+            "Peer {{ player: {me}, epoch: {epoch}, now: {now}, confirmed: {confirmed}, down: {down} }}"
+        )
+    }
+}
+
 impl<'g, D: Disk> Peer<'g, D> {
     ghost use Rattle.c8_peer.specs.Peer.{KeepsWithOrWithout, LeavesJournal, IsSound, mode_of};
 
@@ -86,6 +100,7 @@ impl<'g, D: Disk> Peer<'g, D> {
     pub fn arm(&mut self, arm: Arm)
         ensures value { self.new ≡ record self.old { disk = self.new.disk } }
         ensures arms { D.arms self.new.disk ≡ D.arms self.old.disk ++ arm ∷ [] }
+        ensures told { D.told self.old.disk arm self.new.disk }
         ensures failures { D.failures self.new.disk ≡ D.failures self.old.disk }
         ensures changes { D.changes self.new.disk ≡ D.changes self.old.disk }
         ensures capacity { D.capacity self.new.disk ≡ D.capacity self.old.disk }
@@ -129,9 +144,11 @@ impl<'g, D: Disk> Peer<'g, D> {
         ensures any_moment { LeavesOnly D.Disk self.old.disk self.new.disk
             (KeepsWithOrWithout self.old.state.journal (Some (value_of lent.now))) }
         ensures failed { IsErrOf result DiskError.Failed
-            → D.failures self.old.disk < D.failures self.new.disk }
-        ensures full { IsErrOf result DiskError.Full → D.capacity self.old.disk
-            < slot_length * (length self.old.state.journal + 1) + 1 }
+            → (slot_length * (length self.old.state.journal + 1) + 1 ≤ D.capacity self.old.disk)
+            × (D.failures self.old.disk < D.failures self.new.disk) }
+        ensures full { IsErrOf result DiskError.Full → (D.capacity self.old.disk
+            < slot_length * (length self.old.state.journal + 1) + 1)
+            × (self.new.disk ≡ self.old.disk) }
         ensures changes { D.changes self.new.disk ≤ D.changes self.old.disk + 4 }
         ensures same { IsSameDisk D.Disk self.old.disk self.new.disk }
         ensures journal { LeavesJournal D.Disk self.new }

@@ -57,9 +57,9 @@ fn is_not_mine(me: Player, to: Player, kind: Kind) -> bool
 {
     match kind {
         Kind::Hello | Kind::Welcome | Kind::Data => false,
-        Kind::Freeze(leaver) => me.number != 1 || to.number == leaver.number,
-        Kind::Frozen(_) => me.number == 1 || to.number != 1,
-        Kind::Cut(_) => me.number != 1,
+        Kind::Freeze(leaver) => !me.is_chair() || to == leaver,
+        Kind::Frozen(_) => me.is_chair() || !to.is_chair(),
+        Kind::Cut(_) => !me.is_chair(),
     }
 }
 

@@ -6,7 +6,7 @@ use c8_disk::DiskError;
 use thiserror::Error;
 
 /// Why a journal is refused.
-#[derive(Clone, Copy, Debug, PartialEq, Eq, Error)]
+#[derive(Clone, Copy, Debug, PartialEq, Eq, Hash, Error)]
 pub enum ReplayError {
     /// It begins with a HEAD of another game or another room.
     #[error("a journal of another game or room")]

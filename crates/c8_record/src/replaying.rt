@@ -38,6 +38,8 @@ pub fn replay<D: Disk>(
     ensures count { log.new.count ≡ log.old.count }
     ensures down { log.new.down ≡ is_failed result }
     ensures failed { is_failed result ≡ true → D.failures log.old.disk < D.failures log.new.disk }
+    ensures unfailed { is_failed result ≡ false
+        → D.failures log.new.disk ≡ D.failures log.old.disk }
 {
     let mut block = Block::new();
     let mut epoch = 0;

@@ -21,7 +21,7 @@ use Rattle.c8_world.specs.World.{World, never_opened, start, player_of, act_of, 
 use Rattle.c8_world.specs.Events.{act_of as code_act, event_of}
 use Rattle.c8_world.specs.Table.{TableValue, IsTaken, IsFull, IsUntouched, seat_of, IsSameMatch, Holds, HadMemory, HasHappened, HasNotHappened, act_in, reported}
 use Rattle.c8_world.specs.Headline.{IsHeadline}
-use Rattle.c8_world.specs.Run.{IsOpeningRefused, HasLivedOn, RunsBy, Runs, WorldValue, IsLived, HasRun, HasRunOut, AreMoments}
+use Rattle.c8_world.specs.Run.{IsRefusedMemory, HasLivedOn, RunsBy, Runs, WorldValue, IsLived, HasRun, HasRunOut, AreMoments}
 
 -- ---- runs
 
@@ -150,32 +150,19 @@ other_act (code_acts.Give number player) p other e = cc e
 other_act (code_acts.Leave leaver) p other e = cc e
 other_act (code_acts.Decide leaver) p other e = cc e
 
--- what a run that ran out has lived: the events so far, and then that of the event
-pub lived_on : (old mid new : WorldValue) (events : List asked.Event) (i : ℕ) (told : List codes.Answer) → mid.events ≡ old.events ++ take i events → mid.answers ≡ old.answers ++ told
-    → IsOpeningRefused mid new → HasLivedOn old events told new
-lived_on old mid new events i told events_are answers_are refused =
-    ⊎_elim
-    (λ same. record {
-      before = take i events;
-      after = drop i events;
-      at = sym (take-append-drop i events);
-      more = [];
-      told_more = [];
-      refused = inl (refl, refl);
-      events_are = same.0 ∙ events_are ∙ sym (append-nil (old.events ++ take i events));
-      answers_are = same.1 ∙ answers_are ∙ sym (append-nil (old.answers ++ told));
-    })
-    (λ opened. record {
-      before = take i events;
-      after = drop i events;
-      at = sym (take-append-drop i events);
-      more = happenings.Do (code_acts.Open opened.0) ∷ [];
-      told_more = answers.Opened (Err opens.Memory) ∷ [];
-      refused = inr (opened.0, refl, refl);
-      events_are = opened.1 ∙ ap (λ (xs : List asked.Event). xs ++ happenings.Do (code_acts.Open opened.0) ∷ []) events_are;
-      answers_are = opened.2 ∙ ap (λ (xs : List codes.Answer). xs ++ answers.Opened (Err opens.Memory) ∷ []) answers_are;
-    })
-    refused
+-- what a run that ran out has lived: the events so far, and then what the event adds
+pub lived_on : (old mid new : WorldValue) (events : List asked.Event) (i : ℕ) (event : asked.Event) (told : List codes.Answer) → i < length events → event ≡ slice_index_or events i event
+    → mid.events ≡ old.events ++ take i events → mid.answers ≡ old.answers ++ told → IsRefusedMemory event mid new → HasLivedOn old events told new
+lived_on old mid new events i event told within is events_are answers_are refused = record {
+  before = take i events;
+  after = event ∷ drop (i + 1) events;
+  at = here_split events i event within is;
+  more = refused.more;
+  told_more = refused.told;
+  refused = inr (event, drop (i + 1) events, refl, refused.added);
+  events_are = refused.events_are ∙ ap (λ (xs : List asked.Event). xs ++ refused.more) events_are;
+  answers_are = refused.answers_are ∙ ap (λ (xs : List codes.Answer). xs ++ refused.told) answers_are;
+}
 
 -- nothing has been lived
 pub lived_none : (w : WorldValue) (events : List asked.Event) (told : List codes.Answer) → told ≡ [] → HasLivedOn w events told w
@@ -185,7 +172,7 @@ lived_none w events told none = record {
   at = refl;
   more = [];
   told_more = [];
-  refused = inl (refl, refl);
+  refused = inl (refl, refl, refl);
   events_are = sym (append-nil (w.events ++ []) ∙ append-nil w.events);
   answers_are = sym (append-nil (w.answers ++ told) ∙ ap (λ (xs : List codes.Answer). w.answers ++ xs) none ∙ append-nil w.answers);
 }
@@ -235,6 +222,15 @@ start_holds t full untouched quiet = record {
 pub seat_more : (P : Option Seat → Type 0) (seats now : List (Option Seat)) (seat : Option Seat) → now ≡ seats ++ seat ∷ [] → All P seats → P seat → All P now
 seat_more P seats now seat is all one = subst (λ (xs : List (Option Seat)). All P xs) (sym is) (All-push P seats seat all one)
 
-pub opening_refused : (inside self : WorldValue) (player : Player) (new : WorldValue) → inside ≡ self
-    → new.events ≡ inside.events ++ happenings.Do (code_acts.Open player) ∷ [] → new.answers ≡ inside.answers ++ answers.Opened (Err opens.Memory) ∷ [] → IsOpeningRefused self new
-opening_refused inside self player new view events_are told_are = subst (λ (w : WorldValue). IsOpeningRefused w new) view (inr (player, events_are, told_are))
+pub opening_refused : (inside self : WorldValue) (event : asked.Event) (player : Player) (new : WorldValue) → inside ≡ self → act_in event ≡ Open player.number
+    → new.events ≡ inside.events ++ happenings.Do (code_acts.Open player) ∷ [] → new.answers ≡ inside.answers ++ answers.Opened (Err opens.Memory) ∷ [] → IsRefusedMemory event self new
+opening_refused inside self event player new view opens_it events_are told_are =
+    subst (λ (w : WorldValue). IsRefusedMemory event w new) view
+    (record { more = happenings.Do (code_acts.Open player) ∷ []; told = answers.Opened (Err opens.Memory) ∷ []; added = inr (player, opens_it, refl, refl); events_are = events_are; answers_are = told_are })
+
+-- another act adds nothing
+pub nothing_refused : (inside self : WorldValue) (event : asked.Event) (new : WorldValue) → inside ≡ self → ((p : ℕ) → act_in event ≢ Open p) → new.events ≡ inside.events → new.answers ≡ inside.answers
+    → IsRefusedMemory event self new
+nothing_refused inside self event new view other events_are told_are =
+    subst (λ (w : WorldValue). IsRefusedMemory event w new) view
+    (record { more = []; told = []; added = inl (other, refl, refl); events_are = events_are ∙ sym (append-nil inside.events); answers_are = told_are ∙ sym (append-nil inside.answers) })

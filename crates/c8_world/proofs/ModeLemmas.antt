@@ -1,19 +1,25 @@
 -- What was answered tells how each peer stands.
-use Rattle.std.proofs.Common.{◌≡◌, ◌≢◌, ℕ, ◌<◌, ◌^◌, inl, inr, List, [], ◌∷◌, length, Bool, true, false, Option, Some, None, Ok, refl, sym, ap, subst, ◌∙◌}
+use Rattle.std.proofs.Common.{◌≡◌, ◌≢◌, ℕ, ◌<◌, ◌^◌, inl, inr, List, [], ◌∷◌, length, Bool, true, false, Option, Some, None, Ok, Err, refl, sym, ap, subst, ◌∙◌}
 use Rattle.std.specs.Prelude.{◌==◌, if◌then◌else◌}
 use Rattle.std.specs.List.{slice_get}
 use Rattle.std.proofs.lemmas.Bool.{cases_eq, cases_Bool, eq-eqb, ne_eqb}
 use Rattle.c8_game.specs.Rules.{Rules, AreInRange}
 use Rattle.c8_wire.specs.Packet.{Packet}
 use Rattle.c8_peer.specs.State as states
-use Rattle.c8_peer.specs.State.{Mode, Down, Away, State, Call, Reply, Opened}
+use Rattle.c8_peer.specs.State.{Mode, Down, Away, State, Call, Reply, Opened, Ticked, Delivered, Said, Left, Decided}
 use Rattle.c8_peer.specs.Steps.{Luck, Stepped, step}
 use Rattle.c8_peer.specs.Opening.{found, away, opened}
 use Rattle.c8_peer.specs.Replies.{mode_told}
 use Rattle.c8_world.specs.Below.{ArePeersLawful}
 use Rattle.c8_world.specs.World.{World, start, is_player, peer_of, with_peer, Act, Open, Tick, Say, Give, Leave, Decide, player_of, Event, Do, Stop, Happening, Answer, Told, IsUp, IsDown, NoSuch, Stopped, After, said_by, stepped, call_at_mode, call_at, open_at_mode, open_at, give_to, acted, crashed, after, MayAct, act_of, CanHappen, Chain}
 use Rattle.c8_world.specs.Agreement.{IsPlayer}
-use Rattle.c8_world.specs.Modes.{mode_answered, mode_after, mode_by}
+use Rattle.c8_world.specs.declared.answer.Answer as codes
+use Rattle.c8_world.specs.declared.answer.Answer.TheVariants as answers
+use Rattle.c8_world.specs.declared.event.Event as asked
+use Rattle.c8_world.specs.Events.{event_of}
+use Rattle.c8_world.specs.Table.{reported}
+use Rattle.c8_world.specs.Run.{Runs}
+use Rattle.c8_world.specs.Modes.{mode_answered, mode_after, mode_by, mode_reported, reported_by}
 use Rattle.c8_world.proofs.Openings.{plays_so}
 use Rattle.c8_world.proofs.Worlds.{IsSound, peer_here, peer_there, plays_if, acted_sound, event_sound, peer_at_start, start_sound}
 
@@ -128,6 +134,52 @@ module _ (laws : ArePeersLawful) (rules : Rules) (room p : ℕ) (plays : IsPlaye
         chain_tells chain.0 v events answers (event_sound laws rules room w chain.0 event answer range few sound chain.1).sound chain.2
         ∙ ap (λ (mode : Mode). mode_by p mode events answers) (event_tells w chain.0 event answer sound chain.1)
 
+-- ---- as it is reported
+
+reported_mode : (rules : Rules) (q : ℕ) (u : World) (mode : Mode) (told : Answer) → mode_answered mode told ≡ mode_reported mode (reported rules q u told)
+reported_mode rules q u mode (Told (Opened result)) = refl
+reported_mode rules q u mode (Told (Ticked (Ok done))) = refl
+reported_mode rules q u mode (Told (Ticked (Err error))) = refl
+reported_mode rules q u mode (Told (Delivered result)) = refl
+reported_mode rules q u mode (Told (Said (Ok packet))) = refl
+reported_mode rules q u mode (Told (Said (Err error))) = refl
+reported_mode rules q u mode (Told (Left result)) = refl
+reported_mode rules q u mode (Told (Decided result)) = refl
+reported_mode rules q u mode IsUp = refl
+reported_mode rules q u mode IsDown = refl
+reported_mode rules q u mode NoSuch = refl
+reported_mode rules q u mode Stopped = refl
+
+reported_down : (rules : Rules) (q : ℕ) (u : World) (told : Answer) → reported rules q u told ≡ answers.Down → told ≡ IsDown
+reported_down rules q u (Told (Opened result)) down = absurd (cc down)
+reported_down rules q u (Told (Ticked (Ok done))) down = absurd (cc down)
+reported_down rules q u (Told (Ticked (Err error))) down = absurd (cc down)
+reported_down rules q u (Told (Delivered result)) down = absurd (cc down)
+reported_down rules q u (Told (Said (Ok packet))) down = absurd (cc down)
+reported_down rules q u (Told (Said (Err error))) down = absurd (cc down)
+reported_down rules q u (Told (Left result)) down = absurd (cc down)
+reported_down rules q u (Told (Decided result)) down = absurd (cc down)
+reported_down rules q u IsUp down = absurd (cc down)
+reported_down rules q u IsDown down = refl
+reported_down rules q u NoSuch down = absurd (cc down)
+reported_down rules q u Stopped down = absurd (cc down)
+
+module _ (laws : ArePeersLawful) (rules : Rules) (room p : ℕ) (plays : IsPlayer rules p) (range : AreInRange rules) (few : room < 2 ^ 64) where
+  runs_tell : (w v : World) (events : List asked.Event) (told : List codes.Answer) → IsSound rules room w → Runs rules room w events told v → (peer_of v p).mode ≡ reported_by p (peer_of w p).mode events told
+  runs_tell w v [] [] sound runs = ap (λ (x : World). (peer_of x p).mode) runs
+  runs_tell w v [] (answer ∷ told) sound runs = absurd runs
+  runs_tell w v (event ∷ events) [] sound runs = absurd runs
+  runs_tell w v (event ∷ events) (answer ∷ told) sound (reply, u, can, fine, is, rest) =
+      let q : ℕ = player_of (act_of (event_of event)) in
+      let old : Mode = (peer_of w p).mode in
+      let next : (peer_of u p).mode ≡ (if q == p then mode_reported old answer else old) =
+      event_tells laws rules room p plays range few w u (event_of event) reply sound can ∙ ap (λ (mode : Mode). if q == p then mode else old) (reported_mode rules q u old reply ∙ ap (mode_reported old) (sym is)) in
+      runs_tell u v events told (event_sound laws rules room w u (event_of event) reply range few sound can).sound rest ∙ ap (λ (mode : Mode). reported_by p mode events told) next
+
+  pub reports_told : (v : World) (events : List asked.Event) (told : List codes.Answer) → Runs rules room (start rules) events told v → (peer_of v p).mode ≡ reported_by p Away events told
+  reports_told v events told runs =
+      runs_tell (start rules) v events told (start_sound rules room range) runs ∙ ap (λ (s : State). reported_by p s.mode events told) (peer_at_start rules p)
+
 pub modes_told : (laws : ArePeersLawful) (rules : Rules) (room : ℕ) (v : World) (events : List Event) (answers : List Answer) (p : ℕ) → AreInRange rules → room < 2 ^ 64 → Chain rules room (start rules) events answers v
     → IsPlayer rules p → (peer_of v p).mode ≡ mode_by p Away events answers
 modes_told laws rules room v events answers p range few chain plays =
@@ -167,3 +219,10 @@ pub down_told : (laws : ArePeersLawful) (rules : Rules) (room : ℕ) (v u : Worl
     → IsPlayer rules (player_of act) → CanHappen rules room v (Do act) IsDown u → mode_by (player_of act) Away events answers ≢ states.Open
 down_told laws rules room v u events answers act range few chain plays can up =
     acted_not_down rules room v act can.happening (plays_so rules (player_of act) plays) (modes_told laws rules room v events answers (player_of act) range few chain plays ∙ up) (ap (λ (a : After). a.answer) can.is)
+
+pub report_not_up : (laws : ArePeersLawful) (rules : Rules) (room : ℕ) (v u : World) (events : List asked.Event) (told : List codes.Answer) (act : Act) (answer : Answer) → AreInRange rules → room < 2 ^ 64
+    → Runs rules room (start rules) events told v → IsPlayer rules (player_of act) → CanHappen rules room v (Do act) answer u → reported rules (player_of act) u answer ≡ answers.Down
+    → reported_by (player_of act) Away events told ≢ states.Open
+report_not_up laws rules room v u events told act answer range few runs plays can down up =
+    acted_not_down rules room v act can.happening (plays_so rules (player_of act) plays) (reports_told laws rules room (player_of act) plays range few v events told runs ∙ up)
+    (ap (λ (a : After). a.answer) can.is ∙ reported_down rules (player_of act) u answer down)

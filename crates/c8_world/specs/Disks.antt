@@ -1,5 +1,5 @@
 -- What the disks of a world have room for, when they were told to fail, and why they are blamed.
-use Rattle.std.specs.Prelude.{◌≡◌, ◌≢◌, ◌<◌, ◌⊎◌, ℕ, ◌+◌, ◌*◌, List, [], ◌∷◌, ◌++◌, length, nat_eq, if◌then◌else◌, Option, Some, None, Err}
+use Rattle.std.specs.Prelude.{◌≡◌, ◌<◌, ◌⊎◌, ℕ, ◌+◌, ◌*◌, List, [], ◌∷◌, ◌++◌, length, nat_eq, if◌then◌else◌, Option, Some, None, Err}
 use Rattle.c8_disk.specs.declared.disk.Arm.{Arm}
 use Rattle.c8_disk.specs.declared.disk.Arm.TheVariants as arms
 use Rattle.c8_disk.specs.declared.mem_disk.MemDisk.{MemDisk}
@@ -21,7 +21,7 @@ use Rattle.c8_world.specs.declared.seat.Seat.TheVariants as seats
 use Rattle.c8_world.specs.World.{player_of}
 use Rattle.c8_world.specs.Events.{act_of}
 use Rattle.c8_world.specs.Agreement.{IsPlayer}
-use Rattle.c8_world.specs.Table.{TableValue, seat_of, act_in}
+use Rattle.c8_world.specs.Table.{TableValue, seat_of}
 
 -- the bytes that a disk has room for, and all that it was told of when its calls fail, the oldest first
 pub record Setting : Type 0 where
@@ -39,7 +39,7 @@ setting_of (Some (seats.Away disk)) = setting_of_disk disk
 abbrev pub setting_at : TableValue → ℕ → Setting
 setting_at t p = setting_of (seat_of t p)
 
--- The disks are the same, and were told nothing.
+-- The rooms stay, and no disk was told anything.
 abbrev pub KeepSettings : TableValue → TableValue → Type 0
 KeepSettings old new = (p : ℕ) → IsPlayer old.rules p → setting_at new p ≡ setting_at old p
 
@@ -47,11 +47,11 @@ KeepSettings old new = (p : ℕ) → IsPlayer old.rules p → setting_at new p �
 abbrev pub armed : List Arm → Setting → Setting
 armed more s = record s { arms = s.arms ++ more }
 
--- The disks are the same, but that each player's was told so much more.
+-- The rooms stay, and each player's disk was told so much more.
 abbrev pub AreArmed : (ℕ → List Arm) → TableValue → TableValue → Type 0
 AreArmed more old new = (p : ℕ) → IsPlayer old.rules p → setting_at new p ≡ armed (more p) (setting_at old p)
 
--- of nothing that one player's disk is told, the others are
+-- what one player's disk is told; the others are told nothing
 abbrev pub for_player : ℕ → List Arm → ℕ → List Arm
 for_player player more p = if nat_eq p player then more else []
 
@@ -96,45 +96,12 @@ Blames (answers.Decided result) why = result ≡ Err (decides.Disk why)
 Blames answers.Down why = ⊥
 Blames answers.Stopped why = ⊥
 
--- Why a disk may be blamed: it failed meanwhile; or it had no room for one record more than it kept, and the gate after that.
+-- Why a disk is blamed: it failed meanwhile; or it did not, and had no room for one record more than it kept, and the gate after
+-- that.
 abbrev pub IsToBlame : DiskError → MemDisk → MemDisk → Type 0
 IsToBlame errors.Failed old new = failures_of old < failures_of new
-IsToBlame errors.Full old new = room_of old < slot_length * (length (kept (bytes_of old)) + 1) + 1
+IsToBlame errors.Full old new = (room_of old < slot_length * (length (kept (bytes_of old)) + 1) + 1) × (failures_of new ≡ failures_of old)
 
 abbrev pub disk_in : Seat → MemDisk
 disk_in (seats.Held peer) = peer.disk
 disk_in (seats.Away disk) = disk
-
--- where an answer blames the disk of a seat, it is to blame
-abbrev pub IsCaused : codes.Answer → Seat → Seat → Type 0
-IsCaused answer old new = (why : DiskError) → Blames answer why → IsToBlame why (disk_in old) (disk_in new)
-
-abbrev pub AreToBlame : DiskError → Option Seat → Option Seat → Type 0
-AreToBlame why None new = ⊥
-AreToBlame why (Some old) None = ⊥
-AreToBlame why (Some old) (Some new) = IsToBlame why (disk_in old) (disk_in new)
-
--- the seats of all players but one are as they were
-abbrev pub OthersStay : ℕ → TableValue → TableValue → Type 0
-OthersStay player old new = (p : ℕ) → IsPlayer old.rules p → p ≢ player → seat_of new p ≡ seat_of old p
-
--- What an act that is answered so makes of the seats: those of other players stay, and the disk of its own player is blamed only
--- where it is to blame.
-pub record IsTurn (player : ℕ) (answer : codes.Answer) (old new : TableValue) : Type 0 where
-  pub others : OthersStay player old new
-  pub caused : (why : DiskError) → Blames answer why → AreToBlame why (seat_of old player) (seat_of new player)
-
--- events one after another, each a turn of its player
-abbrev pub AreTurns : List asked.Event → List codes.Answer → TableValue → TableValue → Type 0
-AreTurns [] [] old new = new ≡ old
-AreTurns [] (answer ∷ answers) old new = ⊥
-AreTurns (event ∷ events) [] old new = ⊥
-AreTurns (event ∷ events) (answer ∷ answers) old new = (mid : TableValue) × IsTurn (player_of (act_in event)) answer old mid × AreTurns events answers mid new
-
--- those before some event, with these answers
-pub record AreFirstTurns (events : List asked.Event) (answers : List codes.Answer) (old : TableValue) : Type 0 where
-  pub before : List asked.Event
-  pub after : List asked.Event
-  pub at : events ≡ before ++ after
-  pub mid : TableValue
-  pub turns : AreTurns before answers old mid

@@ -5,6 +5,7 @@ pub mod Matches
 pub mod Events
 pub mod Seats
 pub mod Table
+pub mod Turns
 pub mod Run
 pub mod Headline
 pub mod Ends

@@ -1,8 +1,12 @@
 -- How players' peers stand, by what was answered.
-use Rattle.std.specs.Prelude.{ℕ, ◌==◌, List, [], ◌∷◌, if◌then◌else◌}
-use Rattle.c8_peer.specs.State.{Mode, Away}
+use Rattle.std.specs.Prelude.{ℕ, ◌==◌, List, [], ◌∷◌, Ok, Err, if◌then◌else◌}
+use Rattle.c8_peer.specs.State.{Mode, Open, Away, Opened, Ticked, Delivered, Left, Decided}
 use Rattle.c8_peer.specs.Replies.{mode_told}
+use Rattle.c8_world.specs.declared.answer.Answer as codes
+use Rattle.c8_world.specs.declared.answer.Answer.TheVariants as answers
+use Rattle.c8_world.specs.declared.event.Event as asked
 use Rattle.c8_world.specs.World.{player_of, Event, act_of, Answer, Told, IsUp, IsDown, NoSuch, Stopped}
+use Rattle.c8_world.specs.Events.{event_of}
 
 -- after an answer of its own; who was not asked stands as before, and who was stopped is away
 abbrev pub mode_answered : Mode → Answer → Mode
@@ -22,3 +26,26 @@ mode_by p mode [] [] = mode
 mode_by p mode [] (answer ∷ answers) = mode
 mode_by p mode (event ∷ events) [] = mode
 mode_by p mode (event ∷ events) (answer ∷ answers) = mode_by p (mode_after p mode event answer) events answers
+
+-- ---- by what is reported
+
+-- after an answer of its own, as a world reports it
+abbrev pub mode_reported : Mode → codes.Answer → Mode
+mode_reported mode (answers.Opened result) = mode_told (Opened result)
+mode_reported mode answers.Up = mode
+mode_reported mode (answers.Ticked (Ok counts)) = Open
+mode_reported mode (answers.Ticked (Err error)) = mode_told (Ticked (Err error))
+mode_reported mode (answers.Said result) = Open
+mode_reported mode (answers.Delivered result) = mode_told (Delivered result)
+mode_reported mode answers.NoSuch = mode
+mode_reported mode (answers.Left result) = mode_told (Left result)
+mode_reported mode (answers.Decided result) = mode_told (Decided result)
+mode_reported mode answers.Down = mode
+mode_reported mode answers.Stopped = Away
+
+-- a player's, after a list of events
+abbrev pub reported_by : ℕ → Mode → List asked.Event → List codes.Answer → Mode
+reported_by p mode [] [] = mode
+reported_by p mode [] (answer ∷ told) = mode
+reported_by p mode (event ∷ events) [] = mode
+reported_by p mode (event ∷ events) (answer ∷ told) = reported_by p (if player_of (act_of (event_of event)) == p then mode_reported mode answer else mode) events told

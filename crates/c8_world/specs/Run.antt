@@ -1,5 +1,5 @@
 -- Runs of real peers, and their moments.
-use Rattle.std.specs.Prelude.{◌≡◌, ◌⊎◌, ℕ, List, [], ◌∷◌, ◌++◌, Err}
+use Rattle.std.specs.Prelude.{◌≡◌, ◌≢◌, ◌⊎◌, ℕ, List, [], ◌∷◌, ◌++◌, Err}
 use Rattle.c8_game.specs.Rules.{Rules}
 use Rattle.c8_game.specs.declared.row.Player.{Player}
 use Rattle.c8_peer.specs.declared.error.OpenError.TheVariants as opens
@@ -10,7 +10,7 @@ use Rattle.c8_world.specs.declared.event.Event.TheVariants as happenings
 use Rattle.c8_world.specs.declared.error.RunError.{RunError}
 use Rattle.c8_world.specs.declared.error.RunError.TheVariants as errors
 use Rattle.c8_world.specs.declared.event.Event as asked
-use Rattle.c8_world.specs.World.{World, start, player_of, act_of, Happening, Answer, CanHappen}
+use Rattle.c8_world.specs.World.{World, start, Open, player_of, act_of, Happening, Answer, CanHappen}
 use Rattle.c8_world.specs.Events.{event_of}
 use Rattle.c8_world.specs.Table.{TableValue, Holds, reported, HadMemory, TakesMemory, act_in, IsLeftBy}
 
@@ -66,21 +66,30 @@ pub record HasRunOut (old : TableValue) (w : World) (events : List asked.Event) 
   pub left : IsLeftBy (act_in event) then now
   pub holds : Holds new now
 
--- The events of a life are as they were, or an opening that was refused for want of memory is one more.
-abbrev pub IsOpeningRefused : WorldValue → WorldValue → Type 0
-IsOpeningRefused old new =
-    ((new.events ≡ old.events) × (new.answers ≡ old.answers))
-    ⊎ ((player : Player) × (new.events ≡ old.events ++ happenings.Do (acts.Open player) ∷ []) × (new.answers ≡ old.answers ++ answers.Opened (Err opens.Memory) ∷ []))
+-- What an event at which memory was refused adds to a life: nothing, unless its act was to be an opening; then an opening that
+-- was refused for want of memory.
+abbrev pub IsAdded : asked.Event → List asked.Event → List codes.Answer → Type 0
+IsAdded event more told =
+    (((p : ℕ) → act_in event ≢ Open p) × (more ≡ []) × (told ≡ []))
+    ⊎ ((player : Player) × (act_in event ≡ Open player.number) × (more ≡ happenings.Do (acts.Open player) ∷ []) × (told ≡ answers.Opened (Err opens.Memory) ∷ []))
 
--- What a run that ran out of memory has lived: the events before that one, and then, where that was to be an opening, an opening
--- refused for want of memory.
+-- Memory was refused at an event of a life.
+pub record IsRefusedMemory (event : asked.Event) (old new : WorldValue) : Type 0 where
+  pub more : List asked.Event
+  pub told : List codes.Answer
+  pub added : IsAdded event more told
+  pub events_are : new.events ≡ old.events ++ more
+  pub answers_are : new.answers ≡ old.answers ++ told
+
+-- What a run that ran out of memory has lived: nothing where it was refused for the report; else the events before one, and what
+-- that one adds.
 pub record HasLivedOn (old : WorldValue) (events : List asked.Event) (told : List codes.Answer) (new : WorldValue) : Type 0 where
   pub before : List asked.Event
   pub after : List asked.Event
   pub at : events ≡ before ++ after
   pub more : List asked.Event
   pub told_more : List codes.Answer
-  pub refused : ((more ≡ []) × (told_more ≡ [])) ⊎ ((player : Player) × (more ≡ happenings.Do (acts.Open player) ∷ []) × (told_more ≡ answers.Opened (Err opens.Memory) ∷ []))
+  pub refused : ((before ≡ []) × (more ≡ []) × (told_more ≡ [])) ⊎ ((event : asked.Event) × (rest : List asked.Event) × (after ≡ event ∷ rest) × IsAdded event more told_more)
   pub events_are : new.events ≡ old.events ++ before ++ more
   pub answers_are : new.answers ≡ old.answers ++ told ++ told_more
 

@@ -3,21 +3,21 @@
 use c8_peer::{DecideError, Heard, LeaveError, OpenError, Refused, TickError, Unsayable};
 
 /// How many ticks a player has made, and how many frames are confirmed there.
-#[derive(Clone, Copy, Debug, PartialEq, Eq)]
+#[derive(Clone, Copy, Debug, PartialEq, Eq, Hash)]
 pub struct Counts {
     pub now: u32,
     pub confirmed: u32,
 }
 
 /// A datagram that was said: its number, the first one's 0, and how many bytes it has.
-#[derive(Clone, Copy, Debug, PartialEq, Eq)]
+#[derive(Clone, Copy, Debug, PartialEq, Eq, Hash)]
 pub struct Posted {
     pub number: u64,
     pub length: usize,
 }
 
 /// What is answered to an event: what the peer answers, or why it was not asked.
-#[derive(Clone, Copy, Debug, PartialEq, Eq)]
+#[derive(Clone, Copy, Debug, PartialEq, Eq, Hash)]
 pub enum Answer {
     /// The epoch that began with the opening.
     Opened(Result<u32, OpenError>),

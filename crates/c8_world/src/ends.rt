@@ -5,18 +5,18 @@ ghost use Rattle.c8_known.specs.Confirmed.{confirmed, row};
 ghost use Rattle.c8_world.specs.Ends.{known_at, held_of, tally_of, tally_at, AreSameRows, HasStayedAt, AgreesWith, AgreesWithAll, HaveAgreed};
 
 use c8_disk::MemDisk;
-use c8_game::{Player, Row};
+use c8_game::{MOST_PLAYERS, Player, Row};
 use c8_known::Known;
 use c8_peer::Peer;
 use std::alloc::{AllocError, Global};
 
 /// What one player has: its ticks, its confirmed frames, and how many inputs it holds of each
 /// player, player 1 first; 0 of one who is not in the game.
-#[derive(Clone, Copy, Debug, PartialEq, Eq)]
+#[derive(Clone, Copy, Debug, PartialEq, Eq, Hash)]
 pub struct Tally {
     pub now: u32,
     pub confirmed: u32,
-    pub held: [u32; 4],
+    pub held: [u32; MOST_PLAYERS],
 }
 
 /// Where all players stand, player 1 first, and whether those who were not let go agree.
@@ -119,8 +119,10 @@ impl<'w, 'g> Standing<'w, 'g> {
     }
 }
 
-/// Whether any two of the players whom player one has not let go have the same rows.
-pub(crate) fn all_agree(standings: &[Standing<'_, '_>]) -> bool
+/// Whether any two of the players whom player one has not let go have the same rows, as far as both
+/// count frames as confirmed: of what is known of all players of a match, player 1's first. So one
+/// who holds the peers of a match asks, as [`crate::World::ends`] does of a world.
+pub fn all_agree(standings: &[Standing<'_, '_>]) -> bool
     requires few { length standings.now ≤ 4 }
     ensures { (result ≡ true) ↔ HaveAgreed standings.now }
 {

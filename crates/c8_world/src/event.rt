@@ -4,11 +4,8 @@ ghost use Rattle.std.specs.Prelude.{◌≡◌};
 use c8_game::{Keys, Player};
 use c8_peer::Kind;
 
-/// Who lets others go and cuts their lists.
-pub(crate) const CHAIR: Player = Player { number: 1 };
-
 /// What one player does.
-#[derive(Clone, Copy, Debug, PartialEq, Eq)]
+#[derive(Clone, Copy, Debug, PartialEq, Eq, Hash)]
 pub enum Act {
     /// Opens its peer on its disk. One that is down is closed first.
     Open(Player),
@@ -25,7 +22,7 @@ pub enum Act {
 }
 
 /// An act, or one inside which its player stops.
-#[derive(Clone, Copy, Debug, PartialEq, Eq)]
+#[derive(Clone, Copy, Debug, PartialEq, Eq, Hash)]
 pub enum Event {
     Do(Act),
     /// The disk serves so many calls more and fails then. After the act the player's peer is away,
@@ -45,7 +42,7 @@ impl Act {
         match self {
             Act::Open(player) | Act::Tick(player, _) | Act::Say(player, _, _) => player,
             Act::Give(_, player) => player,
-            Act::Leave(_) | Act::Decide(_) => CHAIR,
+            Act::Leave(_) | Act::Decide(_) => Player::CHAIR,
         }
     }
 }

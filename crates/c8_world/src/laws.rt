@@ -14,7 +14,12 @@ ghost use Rattle.c8_record.specs.Allowed.{IsJournal};
 ghost use Rattle.c8_peer.specs.Opening.{found};
 ghost use Rattle.c8_peer.specs.Truth.{IsTrue};
 ghost use Rattle.c8_peer.specs.State.{Open as Up, Away};
-ghost use Rattle.c8_world.specs.Modes.{mode_by};
+ghost use Rattle.c8_world.specs.Modes.{mode_by, reported_by};
+ghost use Rattle.c8_world.specs.declared.answer.Answer as codes;
+ghost use Rattle.c8_world.specs.declared.answer.Answer.TheVariants.{Down};
+ghost use Rattle.c8_world.specs.declared.event.Event as asked;
+ghost use Rattle.c8_world.specs.Run.{Runs};
+ghost use Rattle.c8_world.specs.Table.{reported};
 ghost use Rattle.c8_world.specs.World.{World, start, Act, Open, Give, player_of, Event, Do, Answer, IsDown, CanHappen, Chain, IsReached, peer_of, journal_of};
 ghost use Rattle.c8_world.specs.Agreement.{IsPlayer, IsUndropped, NobodyLeaves, AgreeUpTo, Agree, AreEntered, IsBounded, AreReports, HasFrozen, Reads, AgreeByReads, IsAmong, AreLinked, refused_for, IsFit};
 ghost use Rattle.c8_world.specs.Headline.{IsHeadline};
@@ -84,6 +89,23 @@ pub fn answers_tell_modes()
         → AreInRange rules → room < 2 ^ 64 → Chain rules room (start rules) events answers v
         → IsPlayer rules (player_of act) → CanHappen rules room v (Do act) IsDown u
         → mode_by (player_of act) Away events answers ≢ Up }
+{
+    peers_are_lawful();
+}
+
+/// And so does what a world reports: `Down` is reported of an act only where no opening of that
+/// player was reported Ok before, or a refusal by the disk or a stop came after the last of these.
+pub fn reports_tell_modes()
+    ensures modes { (rules : Rules) (room : ℕ) (v : World) (events : List asked.Event)
+        (answers : List codes.Answer) (p : ℕ)
+        → AreInRange rules → room < 2 ^ 64 → Runs rules room (start rules) events answers v
+        → IsPlayer rules p → (peer_of v p).mode ≡ reported_by p Away events answers }
+    ensures down { (rules : Rules) (room : ℕ) (v u : World) (events : List asked.Event)
+        (answers : List codes.Answer) (act : Act) (answer : Answer)
+        → AreInRange rules → room < 2 ^ 64 → Runs rules room (start rules) events answers v
+        → IsPlayer rules (player_of act) → CanHappen rules room v (Do act) answer u
+        → reported rules (player_of act) u answer ≡ Down
+        → reported_by (player_of act) Away events answers ≢ Up }
 {
     peers_are_lawful();
 }

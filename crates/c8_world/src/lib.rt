@@ -5,12 +5,13 @@
 //! runs them, and its contract says that each is an event of the definitions (`specs/World.antt`)
 //! and that any two moments agree (`specs/Headline.antt`, by `specs/Agreement.antt`). What a world of
 //! the definitions is to real peers and disks stands in `specs/Seats.antt` and `specs/Table.antt`,
-//! what a run is in `specs/Run.antt`. `laws` has the theorem over every list of events, and matches
+//! what a run is in `specs/Run.antt`, and what each event makes of seats and disks in
+//! `specs/Turns.antt`. `laws` has the theorem over every list of events, and matches
 //! worked out by the same definitions (`specs/Matches.antt`).
 //!
 //! Inside: a `Seat` is one player's peer or its disk, the `Table` all seats and all that was said, a
-//! `Standing` what is known of a player in the end. `Seat` and `Standing` are public only since
-//! contracts name them.
+//! `Standing` what is known of a player in the end, of which `all_agree` tells whether the players
+//! agree. `Seat` is public only since contracts name it.
 #![tactic(auto)]
 
 mod answer;
@@ -25,7 +26,7 @@ mod table;
 mod world;
 
 pub use answer::{Answer, Counts, Posted, Report};
-pub use ends::{Ends, Standing, Tally};
+pub use ends::{Ends, Standing, Tally, all_agree};
 pub use error::RunError;
 pub use event::{Act, Event};
 pub use seat::Seat;

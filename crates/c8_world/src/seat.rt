@@ -1,5 +1,5 @@
 //! One player's place in a world: its peer, or the disk of a peer that is away.
-ghost use Rattle.std.specs.Prelude.{◌≡◌, ◌≤◌, ◌↔◌, ℕ, [], ◌∷◌, Bool, true, Some, IfSome, IfOk};
+ghost use Rattle.std.specs.Prelude.{◌≡◌, ◌≤◌, ◌↔◌, ℕ, [], ◌∷◌, Bool, true, Some, Err, IfSome, IfOk};
 ghost use Rattle.c8_game.specs.Rules.{Rules};
 ghost use Rattle.c8_record.specs.Allowed.{IsJournal};
 ghost use Rattle.c8_peer.specs.Opening.{found};
@@ -10,8 +10,8 @@ ghost use Rattle.c8_peer.specs.Runs.{crashed};
 ghost use Rattle.c8_wire.specs.Read.{read};
 ghost use Rattle.c8_world.specs.Seats.{IsSeat, IsAsked, IsOpenedSeat, IsSaidAt, Tells};
 ghost use Rattle.c8_world.specs.Ends.{IsStanding};
-ghost use Rattle.c8_world.specs.declared.answer.Answer.TheVariants.{Opened};
-ghost use Rattle.c8_world.specs.Disks.{setting_of, setting_of_disk, armed, disk_in, IsCaused};
+ghost use Rattle.c8_world.specs.Disks.{setting_of, setting_of_disk, armed, disk_in};
+ghost use Rattle.c8_world.specs.Turns.{answer_of, IsActed, IsSpared, IsTold, IsSeatCrash};
 
 use crate::answer::{Answer, Counts};
 use crate::ends::Standing;
@@ -45,8 +45,8 @@ impl<'g> Seat<'g> {
             → IsSeat game.entry.now room player.number self.entry s
             → ((finds : Bool) → IsJournal game.entry.now player.number room (found s finds))
             → IsOpenedSeat game.entry.now room player.number s result.1 result.0 }
-        ensures caused { IfSome result.1 (λ opened.
-            IsCaused (Opened opened) self.entry result.0) }
+        ensures turn { IsActed (answer_of result.1) self.entry result.0 }
+        ensures spared { result.1 ≡ Some (Err OpenError.Memory) → IsSpared self.entry result.0 }
         ensures setting { setting_of (Some result.0) ≡ setting_of (Some self.entry) }
     {
         if self.is_up() {
@@ -68,7 +68,7 @@ impl<'g> Seat<'g> {
     pub(crate) fn tick(&mut self, keys: Keys) -> Answer
         ensures asked { (rules : Rules) (room p : ℕ) (s : State) → IsSeat rules room p self.old s
             → IsAsked rules room p s (states.Tick keys.0) result self.new }
-        ensures caused { IsCaused result self.old self.new }
+        ensures turn { IsActed result self.old self.new }
         ensures setting { setting_of (Some self.new) ≡ setting_of (Some self.old) }
     {
         match self {
@@ -92,7 +92,7 @@ impl<'g> Seat<'g> {
     pub(crate) fn deliver(&mut self, bytes: &[u8]) -> Answer
         ensures asked { (rules : Rules) (room p : ℕ) (s : State) → IsSeat rules room p self.old s
             → IsAsked rules room p s (states.Deliver (read bytes.now)) result self.new }
-        ensures caused { IsCaused result self.old self.new }
+        ensures turn { IsActed result self.old self.new }
         ensures setting { setting_of (Some self.new) ≡ setting_of (Some self.old) }
     {
         match self {
@@ -110,7 +110,7 @@ impl<'g> Seat<'g> {
     pub(crate) fn leave(&mut self, leaver: Player) -> Answer
         ensures asked { (rules : Rules) (room p : ℕ) (s : State) → IsSeat rules room p self.old s
             → IsAsked rules room p s (states.Leave leaver.number) result self.new }
-        ensures caused { IsCaused result self.old self.new }
+        ensures turn { IsActed result self.old self.new }
         ensures setting { setting_of (Some self.new) ≡ setting_of (Some self.old) }
     {
         match self {
@@ -128,7 +128,7 @@ impl<'g> Seat<'g> {
     pub(crate) fn decide(&mut self, leaver: Player) -> Answer
         ensures asked { (rules : Rules) (room p : ℕ) (s : State) → IsSeat rules room p self.old s
             → IsAsked rules room p s (states.Decide leaver.number) result self.new }
-        ensures caused { IsCaused result self.old self.new }
+        ensures turn { IsActed result self.old self.new }
         ensures setting { setting_of (Some self.new) ≡ setting_of (Some self.old) }
     {
         match self {
@@ -168,6 +168,7 @@ impl<'g> Seat<'g> {
     pub(crate) fn arm(&mut self, arm: Arm)
         ensures held { (rules : Rules) (room p : ℕ) (s : State) → IsSeat rules room p self.old s
             → IsSeat rules room p self.new s }
+        ensures told { IsTold arm self.old self.new }
         ensures setting { setting_of (Some self.new)
             ≡ armed (arm ∷ []) (setting_of (Some self.old)) }
     {
@@ -181,6 +182,7 @@ impl<'g> Seat<'g> {
     pub(crate) fn crash(self, pick: u64) -> Seat<'g>
         ensures crashed { (rules : Rules) (room p : ℕ) (s : State) → IsSeat rules room p self.entry s
             → (leaves : Bool) × IsSeat rules room p result (crashed s leaves) }
+        ensures crash { IsSeatCrash pick self.entry result }
         ensures setting { setting_of (Some result) ≡ setting_of (Some self.entry) }
     {
         Seat::Away(self.into_disk().crash(pick))

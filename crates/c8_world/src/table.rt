@@ -11,15 +11,16 @@ ghost use Rattle.c8_world.specs.World.{World, peer_of, player_of, start, Open, T
 ghost use Rattle.c8_world.specs.Events.{act_of, event_of};
 ghost use Rattle.c8_disk.specs.declared.disk.Arm.TheVariants as arms;
 ghost use Rattle.c8_world.specs.Agreement.{IsPlayer};
-ghost use Rattle.c8_disk.specs.declared.error.DiskError.{DiskError};
-ghost use Rattle.c8_world.specs.Disks.{setting_of, KeepSettings, AreArmed, for_player, arms_by, arms_taken_back, IsNewDisk, Blames, AreToBlame, OthersStay, IsTurn};
+ghost use Rattle.c8_world.specs.Disks.{setting_of, KeepSettings, AreArmed, for_player, arms_by, arms_taken_back, IsNewDisk};
+ghost use Rattle.c8_world.specs.Turns.{IsActed, IsSpared, IsSeatCrash, OfSeats, IsMove, IsDone, IsUndone, IsArmed, IsCrashed, IsUnstopped, IsTurn, IsTurnOut};
+ghost use Rattle.c8_world.specs.declared.event.Event.TheVariants as happenings;
 ghost use Rattle.c8_world.specs.Ends.{IsStanding, AreStandings};
 ghost use Rattle.c8_world.specs.declared.seat.Seat.TheVariants.{Held};
 ghost use Rattle.c8_world.specs.Table.{IsTaken, IsUntouched, IsNotHeld, seat_of, IsOpenedAs, IsUnopened, IsSameMatch, Holds, HasHappened, HasNotHappened, HasCrashed, act_in};
 
 use crate::answer::{Answer, Posted};
 use crate::ends::Standing;
-use crate::event::{Act, CHAIR, Event};
+use crate::event::{Act, Event};
 use crate::laws::{openings_find_journals, what_was_said_is_true};
 use crate::pool::Pool;
 use crate::seat::Seat;
@@ -55,13 +56,6 @@ impl<'g> Model for Table<'g> {
     ghost invariant = { λ t. IsFull t.game.now t.room t.seats.items };
 }
 
-/// The place of a player's seat.
-fn place_of(player: Player) -> usize
-    ensures { result + 1 ≡ player.number }
-{
-    usize::from(player.number - 1)
-}
-
 /// The seat of a player whose peer was never opened.
 fn new_seat<'g>(alloc: Global, capacity: u32, calls: u32) -> Result<Option<Seat<'g>>, AllocError>
     ensures full { IfOk result (λ seat. is_some seat ≡ true) }
@@ -90,8 +84,8 @@ fn open_seat<'g>(
         → IsTaken game.entry.now room player.number place.old s
         → ((finds : Bool) → IsJournal game.entry.now player.number room (found s finds))
         → IsUnopened game.entry.now room player.number s place.new) }
-    ensures caused { IfOk result (λ answer. (why : DiskError) → Blames answer why
-        → AreToBlame why place.old place.new) }
+    ensures turn { IfOk result (λ answer. OfSeats (IsActed answer) place.old place.new) }
+    ensures spared { IfErr result (λ _. OfSeats IsSpared place.old place.new) }
     ensures setting { setting_of place.new ≡ setting_of place.old }
 {
     let Some(seat) = place.take() else {
@@ -112,6 +106,7 @@ fn crash_seat(place: &mut Option<Seat<'_>>, pick: u64)
     ensures full { is_some place.new ≡ true }
     ensures crashed { (rules : Rules) (room p : ℕ) (s : State) → IsTaken rules room p place.old s
         → (leaves : Bool) × IsTaken rules room p place.new (crashed s leaves) }
+    ensures crash { OfSeats (IsSeatCrash pick) place.old place.new }
     ensures setting { setting_of place.new ≡ setting_of place.old }
 {
     let Some(seat) = place.take() else {
@@ -169,8 +164,8 @@ impl<'g> Table<'g> {
             → HasHappened self.old w (event_of event) answer self.new) }
         ensures memory { IfErr result (λ _. (w : World) → Holds self.old w
             → HasNotHappened self.old w (act_in event) self.new) }
-        ensures turn { IfOk result (λ answer.
-            IsTurn (player_of (act_in event)) answer self.old self.new) }
+        ensures turn { IfOk result (λ answer. IsTurn event answer self.old self.new) }
+        ensures turn_out { IfErr result (λ _. IsTurnOut event self.old self.new) }
         ensures disks { IfOk result (λ _. AreArmed (arms_by event) self.old self.new) }
         ensures disks_out { IfErr result (λ _. AreArmed (arms_taken_back event) self.old self.new) }
     {
@@ -188,7 +183,8 @@ impl<'g> Table<'g> {
         ensures memory { IfErr result (λ _. (w : World) → Holds self.old w
             → HasNotHappened self.old w (act_of act) self.new) }
         ensures turn { IfOk result (λ answer.
-            IsTurn (player_of (act_of act)) answer self.old self.new) }
+            IsTurn (happenings.Stop act calls pick) answer self.old self.new) }
+        ensures turn_out { IfErr result (λ _. IsUnstopped act calls self.old self.new) }
         ensures disks { IfOk result (λ _. AreArmed
             (for_player (player_of (act_of act)) (arms.Stop calls ∷ [])) self.old self.new) }
         ensures disks_out { IfErr result (λ _. AreArmed
@@ -216,8 +212,8 @@ impl<'g> Table<'g> {
             → HasHappened self.old w (Do (act_of act)) answer self.new) }
         ensures memory { IfErr result (λ _. (w : World) → Holds self.old w
             → HasNotHappened self.old w (act_of act) self.new) }
-        ensures turn { IfOk result (λ answer.
-            IsTurn (player_of (act_of act)) answer self.old self.new) }
+        ensures turn { IfOk result (λ answer. IsDone act answer self.old self.new) }
+        ensures turn_out { IfErr result (λ _. IsUndone act self.old self.new) }
         ensures disks { KeepSettings self.old self.new }
     {
         match act {
@@ -237,7 +233,9 @@ impl<'g> Table<'g> {
             → HasHappened self.old w (Do (Open player.number)) answer self.new) }
         ensures memory { IfErr result (λ _. (w : World) → Holds self.old w
             → HasNotHappened self.old w (Open player.number) self.new) }
-        ensures turn { IfOk result (λ answer. IsTurn player.number answer self.old self.new) }
+        ensures turn { IfOk result (λ answer.
+            IsMove player.number (IsActed answer) self.old self.new) }
+        ensures turn_out { IfErr result (λ _. IsMove player.number IsSpared self.old self.new) }
         ensures disks { KeepSettings self.old self.new }
     {
         self.game.in_range();
@@ -245,7 +243,7 @@ impl<'g> Table<'g> {
         if player.number > self.game.players() {
             return Ok(Answer::Opened(Err(OpenError::WrongPlayer)));
         }
-        let seat = &mut self.seats[place_of(player)];
+        let seat = &mut self.seats[player.place()];
         open_seat(seat, alloc, self.game, player, self.room)
     }
 
@@ -254,13 +252,13 @@ impl<'g> Table<'g> {
         ensures same { IsSameMatch self.old self.new }
         ensures happened { (w : World) → Holds self.old w
             → HasHappened self.old w (Do (Tick player.number keys.0)) result self.new }
-        ensures turn { IsTurn player.number result self.old self.new }
+        ensures turn { IsMove player.number (IsActed result) self.old self.new }
         ensures disks { KeepSettings self.old self.new }
     {
         if player.number > self.game.players() {
             return Answer::Down;
         }
-        let Some(seat) = &mut self.seats[place_of(player)] else {
+        let Some(seat) = &mut self.seats[player.place()] else {
             unreachable!();
         };
         seat.tick(keys)
@@ -273,13 +271,15 @@ impl<'g> Table<'g> {
             → HasHappened self.old w (Do (Say player.number to.number (saying_of what))) answer self.new) }
         ensures memory { IfErr result (λ _. (w : World) → Holds self.old w
             → HasNotHappened self.old w (Say player.number to.number (saying_of what)) self.new) }
-        ensures turn { IfOk result (λ answer. IsTurn player.number answer self.old self.new) }
+        ensures turn { IfOk result (λ answer.
+            IsMove player.number (IsActed answer) self.old self.new) }
+        ensures turn_out { IfErr result (λ _. IsMove player.number IsSpared self.old self.new) }
         ensures disks { KeepSettings self.old self.new }
     {
         if player.number > self.game.players() {
             return Ok(Answer::Down);
         }
-        let Some(seat) = &self.seats[place_of(player)] else {
+        let Some(seat) = &self.seats[player.place()] else {
             unreachable!();
         };
         let mut bytes = [0; LONGEST_DATAGRAM];
@@ -299,7 +299,7 @@ impl<'g> Table<'g> {
         ensures same { IsSameMatch self.old self.new }
         ensures happened { (w : World) → Holds self.old w
             → HasHappened self.old w (Do (Give number player.number)) result self.new }
-        ensures turn { IsTurn player.number result self.old self.new }
+        ensures turn { IsMove player.number (IsActed result) self.old self.new }
         ensures disks { KeepSettings self.old self.new }
     {
         self.game.in_range();
@@ -311,7 +311,7 @@ impl<'g> Table<'g> {
         if player.number > self.game.players() {
             return Answer::Down;
         }
-        let Some(seat) = &mut self.seats[place_of(player)] else {
+        let Some(seat) = &mut self.seats[player.place()] else {
             unreachable!();
         };
         seat.deliver(bytes)
@@ -322,11 +322,11 @@ impl<'g> Table<'g> {
         ensures same { IsSameMatch self.old self.new }
         ensures happened { (w : World) → Holds self.old w
             → HasHappened self.old w (Do (Leave leaver.number)) result self.new }
-        ensures turn { IsTurn 1 result self.old self.new }
+        ensures turn { IsMove 1 (IsActed result) self.old self.new }
         ensures disks { KeepSettings self.old self.new }
     {
         self.game.in_range();
-        let Some(seat) = &mut self.seats[place_of(CHAIR)] else {
+        let Some(seat) = &mut self.seats[Player::CHAIR.place()] else {
             unreachable!();
         };
         seat.leave(leaver)
@@ -337,11 +337,11 @@ impl<'g> Table<'g> {
         ensures same { IsSameMatch self.old self.new }
         ensures happened { (w : World) → Holds self.old w
             → HasHappened self.old w (Do (Decide leaver.number)) result self.new }
-        ensures turn { IsTurn 1 result self.old self.new }
+        ensures turn { IsMove 1 (IsActed result) self.old self.new }
         ensures disks { KeepSettings self.old self.new }
     {
         self.game.in_range();
-        let Some(seat) = &mut self.seats[place_of(CHAIR)] else {
+        let Some(seat) = &mut self.seats[Player::CHAIR.place()] else {
             unreachable!();
         };
         seat.decide(leaver)
@@ -350,14 +350,13 @@ impl<'g> Table<'g> {
     /// Says when the calls of a player's disk fail from now on.
     fn arm(&mut self, player: Player, arm: Arm)
         ensures same { IsSameMatch self.old self.new }
-        ensures holds { (w : World) → Holds self.old w → Holds self.new w }
-        ensures others { OthersStay player.number self.old self.new }
+        ensures armed { IsArmed player.number arm self.old self.new }
         ensures disks { AreArmed (for_player player.number (arm ∷ [])) self.old self.new }
     {
         if player.number > self.game.players() {
             return;
         }
-        let Some(seat) = &mut self.seats[place_of(player)] else {
+        let Some(seat) = &mut self.seats[player.place()] else {
             unreachable!();
         };
         seat.arm(arm);
@@ -366,15 +365,13 @@ impl<'g> Table<'g> {
     /// Stops a player.
     fn crash(&mut self, player: Player, pick: u64)
         ensures same { IsSameMatch self.old self.new }
-        ensures crashed { (w : World) → Holds self.old w
-            → HasCrashed self.old w player.number self.new }
-        ensures others { OthersStay player.number self.old self.new }
+        ensures crashed { IsCrashed player.number pick self.old self.new }
         ensures disks { KeepSettings self.old self.new }
     {
         if player.number > self.game.players() {
             return;
         }
-        crash_seat(&mut self.seats[place_of(player)], pick);
+        crash_seat(&mut self.seats[player.place()], pick);
     }
 
     /// The match is one of a game, in a room of 64 bits.
@@ -408,7 +405,7 @@ impl<'g> Table<'g> {
         if player.number > self.game.players() {
             return None;
         }
-        match &self.seats[place_of(player)] {
+        match &self.seats[player.place()] {
             Some(Seat::Held(peer)) => Some(peer),
             _ => None,
         }
@@ -441,7 +438,7 @@ impl<'g> Table<'g> {
     {
         self.game.in_range();
         openings_find_journals();
-        let Some(seat) = &self.seats[place_of(player)] else {
+        let Some(seat) = &self.seats[player.place()] else {
             unreachable!();
         };
         seat.standing(alloc, self.game, player, self.room)

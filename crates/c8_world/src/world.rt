@@ -2,14 +2,15 @@
 ghost use Rattle.std.specs.Prelude.{◌≡◌, ◌≤◌, ◌<◌, ◌++◌, ◌∷◌, [], ℕ, length, vec_capacity, true, Some, IfOk, IfErr, OnOk, OnErr, MatchOption};
 ghost use Rattle.std.specs.List.{slice_get};
 ghost use Rattle.c8_world.specs.Events.{event_of};
-ghost use Rattle.c8_world.specs.World.{World as Moment, start, player_of};
+ghost use Rattle.c8_world.specs.World.{World as Moment, start};
 ghost use Rattle.c8_world.specs.Table.{seat_of, IsNotHeld, Holds, IsSameMatch, HasHappened, HasNotHappened, act_in};
-ghost use Rattle.c8_world.specs.Run.{IsLived, IsOpeningRefused, HasLivedOn, HasRun, HasRunOut, AreMoments, answers_before};
+ghost use Rattle.c8_world.specs.Run.{IsLived, IsRefusedMemory, HasLivedOn, HasRun, HasRunOut, AreMoments, answers_before};
 ghost use Rattle.c8_world.specs.Headline.{IsHeadline};
 ghost use Rattle.c8_world.specs.Agreement.{Reads};
 ghost use Rattle.c8_world.specs.Ends.{AreEnds};
 ghost use Rattle.c8_world.specs.Agreement.{IsPlayer};
-ghost use Rattle.c8_world.specs.Disks.{AreArmed, AreArmedOut, IsNewDisk, arms_by, arms_in, arms_taken_back, IsTurn, AreTurns, AreFirstTurns};
+ghost use Rattle.c8_world.specs.Disks.{AreArmed, AreArmedOut, IsNewDisk, arms_by, arms_in, arms_taken_back};
+ghost use Rattle.c8_world.specs.Turns.{IsTurn, IsTurnOut, AreTurns, AreFirstTurns};
 ghost use Rattle.c8_world.specs.declared.seat.Seat.TheVariants.{Held};
 
 use crate::answer::{Answer, Report};
@@ -22,13 +23,15 @@ use c8_disk::{GhostList, MemDisk};
 use c8_game::{Game, Player};
 use c8_peer::{OpenError, Peer};
 use std::alloc::{AllocError, Global};
+use std::fmt;
 use std::marker::Model;
 
 /// All peers of one match over disks in memory, and every datagram that they said.
 ///
 /// Events happen to it one after the other: openings, ticks, sayings, deliveries of anything that
-/// was said, as often and as late as one likes, players who are dropped, and stops inside any of these. Whatever the
-/// events are, peers that were not dropped agree on every frame that they count as confirmed.
+/// was said, as often and as late as one likes, players who are dropped, and stops inside any of
+/// these. Whatever the events are, any two peers that were not dropped agree on every frame that
+/// both count as confirmed.
 #[derive(Drop)]
 pub struct World<'g> {
     table: Table<'g>,
@@ -52,6 +55,14 @@ impl<'g> Model for World<'g> {
       events = w.events.items;
       answers = w.answers.items;
     }) };
+}
+
+/// How many datagrams were said, and nothing of its peers.
+impl<'g> fmt::Debug for World<'g> {
+    fn fmt<W: fmt::Write>(&self, f: &mut fmt::Formatter<W>) -> fmt::Result {
+        let said = self.said();
+        write!(f, "World {{ said: {said} }}")
+    }
 }
 
 impl<'g> World<'g> {
@@ -79,9 +90,10 @@ impl<'g> World<'g> {
         })
     }
 
-    /// Runs the events, one after the other, and reports one answer each; all peers that were not
-    /// dropped agree then, at any two moments (`headline`). Where memory is refused the run ends:
-    /// see [`RunError`].
+    /// Runs the events, one after the other, and reports one answer each (`ran`); what each makes of
+    /// the seats and their disks is told event by event (`turns`). Any two peers that were not
+    /// dropped agree, at any two moments (`headline`). Where memory is refused the run ends: see
+    /// [`RunError`].
     pub fn run(&mut self, alloc: Global, events: &[Event]) -> Result<Report, RunError>
         ensures same { IsSameMatch self.old.table self.new.table }
         ensures ran { IfOk result (λ report. (w : Moment) → Holds self.old.table w
@@ -96,7 +108,7 @@ impl<'g> World<'g> {
         ensures turns { IfOk result (λ report.
             AreTurns events.now report.answers.items self.old.table self.new.table) }
         ensures turns_out { IfErr result (λ error.
-            AreFirstTurns events.now (answers_before error) self.old.table) }
+            AreFirstTurns events.now (answers_before error) self.old.table self.new.table) }
         ensures disks { IfOk result (λ _.
             AreArmed (arms_in events.now) self.old.table self.new.table) }
         ensures disks_out { IfErr result (λ _.
@@ -144,7 +156,7 @@ impl<'g> World<'g> {
         ensures turns { OnOk result
             (AreTurns events.now answers.new.items self.old.table self.new.table) }
         ensures turns_out { OnErr result
-            (AreFirstTurns events.now answers.new.items self.old.table) }
+            (AreFirstTurns events.now answers.new.items self.old.table self.new.table) }
         ensures disks { OnOk result
             (AreArmed (arms_in events.now) self.old.table self.new.table) }
         ensures disks_out { OnErr result
@@ -214,9 +226,9 @@ impl<'g> World<'g> {
             × (self.new.answers ≡ self.old.answers ++ answer ∷ [])) }
         ensures memory { IfErr result (λ _. (w : Moment) → Holds self.old.table w
             → HasNotHappened self.old.table w (act_in event) self.new.table) }
-        ensures life_out { IfErr result (λ _. IsOpeningRefused self.old self.new) }
-        ensures turn { IfOk result (λ answer.
-            IsTurn (player_of (act_in event)) answer self.old.table self.new.table) }
+        ensures life_out { IfErr result (λ _. IsRefusedMemory event self.old self.new) }
+        ensures turn { IfOk result (λ answer. IsTurn event answer self.old.table self.new.table) }
+        ensures turn_out { IfErr result (λ _. IsTurnOut event self.old.table self.new.table) }
         ensures disks { IfOk result (λ _. AreArmed (arms_by event) self.old.table self.new.table) }
         ensures disks_out { IfErr result (λ _.
             AreArmed (arms_taken_back event) self.old.table self.new.table) }

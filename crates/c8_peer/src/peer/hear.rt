@@ -28,18 +28,34 @@ impl<'g, D: Disk> Peer<'g, D> {
         ensures { IsAnswered D.Disk self.old (Deliver (read bytes.now)) (Delivered result)
             self.new }
     {
+        let error = match view(bytes) {
+            Ok(datagram) => return self.deliver_datagram(&datagram),
+            Err(error) => error,
+        };
         if self.is_down() {
             return Err(Refused::Down);
         }
         if self.known.leaving(self.known.me()) {
             return Err(Refused::Dropped);
         }
-        let datagram = match view(bytes) {
-            Ok(datagram) => datagram,
-            Err(error) => return Err(Refused::Wire(error)),
-        };
-        match self.memory.links.admit(&datagram) {
-            Ok(()) => self.hear(&datagram),
+        Err(Refused::Wire(error))
+    }
+
+    /// The same of bytes in which [`c8_wire::view`] has found a datagram, for one who has looked at
+    /// it already.
+    pub fn deliver_datagram(&mut self, datagram: &Datagram<'_>) -> Result<Heard, Refused>
+        requires { IsPacket (packet_of datagram.now) }
+        ensures { IsAnswered D.Disk self.old (Deliver (Ok (packet_of datagram.now)))
+            (Delivered result) self.new }
+    {
+        if self.is_down() {
+            return Err(Refused::Down);
+        }
+        if self.known.leaving(self.known.me()) {
+            return Err(Refused::Dropped);
+        }
+        match self.memory.links.admit(datagram) {
+            Ok(()) => self.hear(datagram),
             Err(error) => Err(Refused::Hand(error)),
         }
     }

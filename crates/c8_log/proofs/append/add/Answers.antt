@@ -8,6 +8,7 @@ use Rattle.c8_disk.specs.RunLaws.{weaker, then_run}
 use Rattle.c8_log.proofs.Writes.{ok_written, failed_torn, on_ok_both}
 use Rattle.c8_log.proofs.Staged.{IsStaged, gate_there, staged, first_keeps, second_keeps, two_writes, up_with_it}
 use Rattle.c8_log.proofs.append.add.Given.{Over}
+use Rattle.c8_disk.specs.RunLaws.{same_then}
 use Rattle.c8_log.proofs.append.add.Goals as goal
 
 pub returns-in_err-write_and_sync-clause-any_moment : goal.returns-in_err-write_and_sync-clause-any_moment
@@ -93,3 +94,6 @@ returns-clause-seen g c =
     let there = gate_there old c.args.count (ap (λ (k : ℕ). has_closed_gate_at old k) c.requires.up.count_is ∙ c.requires.up.closed) in
     on_ok_both c.write_and_sync-2.result (gate_written g c) c.write_and_sync-2.ensures.durable (λ holds only.
     holds ∙ ap (λ (l : List ℕ). overwritten l gate (0xa5 ∷ [])) (first_written g c) ∙ two_writes c.writes_keep_the_rest.ensures.whole old gate 0xa5 (c.args.body.now ++ 0 ∷ []) (omega (arith, there)))
+
+pub returns-clause-same : goal.returns-clause-same
+returns-clause-same g c = same_then g.D.Disk c.args.disk.now c.write_and_sync.new.disk c.write_and_sync-2.new.disk c.write_and_sync.ensures.same c.write_and_sync-2.ensures.same

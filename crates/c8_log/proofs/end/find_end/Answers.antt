@@ -1,7 +1,8 @@
-use Rattle.std.proofs.Common.{◌≡◌, ℕ, ◌+◌, ◌*◌, ◌/◌, ◌≤◌, ◌<◌, List, length, true, false, sym, ◌∙◌, ap, arith}
+use Rattle.std.proofs.Common.{◌≡◌, ℕ, ◌+◌, ◌*◌, ◌/◌, ◌≤◌, ◌<◌, List, length, true, false, sym, ◌∙◌, ap, rules, arith}
 use Rattle.c8_log.specs.Slots.{is_open, kept_count}
 use Rattle.c8_log.specs.Log.{has_closed_gate_at}
 use Rattle.c8_log.proofs.Kept.{front_of, front_unique, shut_by_end, closed_here}
+use Rattle.c8_disk.specs.RunLaws.{reads_then}
 use Rattle.c8_log.proofs.end.find_end.Goals as goal
 
 -- the scan's count is the least number
@@ -35,3 +36,26 @@ returns-clause-closed g c =
     let whole = c.len-whole.result / 144 in
     c.in_ok-closed.ensures.closed ∙ ap (λ (l : List ℕ). has_closed_gate_at l whole) c.loop-n.invariant.reads.seen
     ∙ ap (has_closed_gate_at image) (counts image whole (λ m lt. c.loop-n.invariant.below m (omega arith)) (shut_by_end image whole (omega arith)))
+
+pub returns-in_err-stands_open-clause-reads : goal.returns-in_err-stands_open-clause-reads
+returns-in_err-stands_open-clause-reads g c =
+    reads_then g.D.Disk c.args.disk.now c.loop-n.disk c.stands_open.new.disk c.loop-n.invariant.reads c.stands_open.ensures.reads
+
+pub returns-then-not-branch-clause-reads : goal.returns-then-not-branch-clause-reads
+returns-then-not-branch-clause-reads g c =
+    reads_then g.D.Disk c.args.disk.now c.loop-n.disk c.stands_open.new.disk c.loop-n.invariant.reads c.stands_open.ensures.reads
+
+pub loop-n-preserved : goal.loop-n-preserved
+loop-n-preserved g c = record {
+  below = search rules;
+  reads = reads_then g.D.Disk c.args.disk.now c.loop-n.disk c.stands_open.new.disk c.loop-n.invariant.reads c.stands_open.ensures.reads;
+  unfailed = search rules;
+}
+
+pub returns-in_err-closed-clause-reads : goal.returns-in_err-closed-clause-reads
+returns-in_err-closed-clause-reads g c =
+    reads_then g.D.Disk c.args.disk.now c.loop-n.disk c.ends_closed.new.disk c.loop-n.invariant.reads c.ends_closed.ensures.reads
+
+pub returns-clause-reads : goal.returns-clause-reads
+returns-clause-reads g c =
+    reads_then g.D.Disk c.args.disk.now c.loop-n.disk c.ends_closed.new.disk c.loop-n.invariant.reads c.ends_closed.ensures.reads

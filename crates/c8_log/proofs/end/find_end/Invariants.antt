@@ -7,4 +7,5 @@ abbrev pub invariant-loop-n : goal.invariant-loop-n
 invariant-loop-n g l = record {
   below : (m : ℕ) → m < l.n → is_open (g.D.Disk.seen l.initial.disk) m ≡ true;
   reads : ReadsOnly g.D.Disk l.initial.disk l.disk;
+  unfailed : g.D.Disk.failures l.disk ≡ g.D.Disk.failures l.initial.disk;
 }

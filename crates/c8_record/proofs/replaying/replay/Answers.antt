@@ -1,8 +1,9 @@
-use Rattle.std.proofs.Common.{◌≡◌, ◌∙◌, ℕ, List, Some, refl, ap, subst, rules}
+use Rattle.std.proofs.Common.{◌≡◌, ◌∙◌, ℕ, List, Some, Err, refl, ap, subst, rules}
+use Rattle.std.proofs.lemmas.Result.{err_from_is_err_and}
 use Rattle.std.specs.List.{slice_get}
-use Rattle.c8_disk.specs.RunLaws.{reads_then}
+use Rattle.c8_disk.specs.RunLaws.{same_disk, reads_then}
 use Rattle.c8_log.specs.Slots.{kept}
-use Rattle.c8_record.proofs.ReplayLemmas.{read_none, read_of_game, read_more}
+use Rattle.c8_record.proofs.ReplayLemmas.{read_none, read_of_game, read_more, read_bad, from_disk}
 use Rattle.c8_record.proofs.replaying.replay.Goals as goal
 
 pub loop-n-init : goal.loop-n-init
@@ -12,7 +13,14 @@ loop-n-init g c = record {
   count = refl;
   end = c.len-n-end.ensures.count;
   up = c.requires.up;
-  reads = search rules;
+  reads = record {
+    seen = refl;
+    crash = λ image left. left;
+    any_moment = search rules;
+    changes = refl;
+    same = same_disk g.D.Disk c.args.log.now.disk;
+  };
+  unfailed = refl;
 }
 
 pub take_body-requires : goal.take_body-requires
@@ -33,4 +41,21 @@ loop-n-preserved g c =
       end = c.loop-n.invariant.end;
       up = ap (λ log. log.down) c.in-Ok.ensures.ok ∙ c.loop-n.invariant.up;
       reads = reads_then g.D.Disk c.args.log.now.disk c.loop-n.log.disk c.read.new.self.disk c.loop-n.invariant.reads c.in-Ok.ensures.reads;
+      unfailed = c.in-Ok.ensures.unfailed ∙ c.loop-n.invariant.unfailed;
     }
+
+pub returns-in-Err-clause-reads : goal.returns-in-Err-clause-reads
+returns-in-Err-clause-reads g c = reads_then g.D.Disk c.args.log.now.disk c.loop-n.log.disk c.read.new.self.disk c.loop-n.invariant.reads c.in-Err.ensures.reads
+
+pub returns-in_err-epoch-clause-reads : goal.returns-in_err-epoch-clause-reads
+returns-in_err-epoch-clause-reads g c = reads_then g.D.Disk c.args.log.now.disk c.loop-n.log.disk c.read.new.self.disk c.loop-n.invariant.reads c.in-Ok.ensures.reads
+
+pub returns-in_err-epoch-clause-replayed : goal.returns-in_err-epoch-clause-replayed
+returns-in_err-epoch-clause-replayed g c =
+    let bodies : List (List ℕ) = kept (g.D.Disk.seen c.args.log.now.disk) in
+    let body : slice_get bodies c.loop-n.n ≡ Some c.in-Ok.slot.body.now =
+    subst (λ (image : List ℕ). slice_get (kept image) c.loop-n.n ≡ Some c.in-Ok.slot.body.now) c.loop-n.invariant.reads.seen c.in-Ok.ensures.body in
+    let error = err_from_is_err_and c.from_residual.result c.from_residual.ensures.1 in
+    rw (error.1, error.2, c.in_err-epoch.ensures.stays)
+    (from_disk c.args.game.now c.args.known.now.me c.args.room bodies (Err c.in_err-epoch.field-0.0) c.loop-n.known
+    (read_bad c.args.game.now c.args.known.now.me c.args.room bodies c.loop-n.n c.loop-n.known c.loop-n.epoch c.in-Ok.slot.body.now c.in_err-epoch.field-0.0 c.loop-n.invariant.taken body c.in_err-epoch.ensures.unfit))

@@ -12,4 +12,5 @@ invariant-loop-n g l = record {
   end : l.n-end ≡ l.fn.log.count;
   up : l.log.down ≡ false;
   reads : ReadsOnly g.D.Disk l.fn.log.disk l.log.disk;
+  unfailed : g.D.Disk.failures l.log.disk ≡ g.D.Disk.failures l.fn.log.disk;
 }

@@ -2,6 +2,8 @@ use Rattle.std.proofs.Common.{◌≡◌, ◌<◌, ◌*◌, ℕ, List, take, drop
 use Rattle.c8_log.specs.Slots.{body_of, kept, kept_count}
 use Rattle.c8_log.proofs.Kept.{kept_at, body_read}
 use Rattle.c8_log.proofs.Repair.{rests, still_up}
+use Rattle.c8_disk.specs.Runs.{ReadsOnly}
+use Rattle.c8_log.proofs.Disks.{reads_once}
 use Rattle.c8_log.proofs.log.Log.read.Goals as goal
 
 pub returns-clause-at_rest : goal.returns-clause-at_rest
@@ -19,3 +21,15 @@ returns-clause-body g c =
     let is : c.body.result.now ≡ body_of image c.args.n =
     c.body.ensures ∙ ap (λ (l : List ℕ). drop 1 l) (c.in_ok-read_at.ensures.read ∙ ap (λ (k : ℕ). take k (drop (144 * c.args.n) image)) size) ∙ body_read image c.args.n in
     subst (λ log. slice_get (kept (g.D.Disk.seen log.disk)) c.args.n ≡ Some c.body.result.now) c.self.view_is (kept_at image c.args.n within ∙ ap Some (sym is))
+
+pub returns-in_err-read_at-clause-reads : goal.returns-in_err-read_at-clause-reads
+returns-in_err-read_at-clause-reads g c =
+    let is = c.read_at.ensures in
+    subst (λ log. ReadsOnly g.D.Disk log.disk c.read_at.new.self) c.self.view_is
+    (reads_once g.D.Disk g.met.D.Disk.only_now c.self.inside.disk c.read_at.new.self _ is.does is.seen is.crash is.time is.changes is.capacity is.arms is.cause.no_fewer)
+
+pub returns-clause-reads : goal.returns-clause-reads
+returns-clause-reads g c =
+    let is = c.read_at.ensures in
+    subst (λ log. ReadsOnly g.D.Disk log.disk c.read_at.new.self) c.self.view_is
+    (reads_once g.D.Disk g.met.D.Disk.only_now c.self.inside.disk c.read_at.new.self _ is.does is.seen is.crash is.time is.changes is.capacity is.arms is.cause.no_fewer)

@@ -1,34 +1,9 @@
-use Rattle.std.proofs.Common.{◌≡◌, ℕ, Ok, Err, Some, false, refl, sym, ap, ◌∙◌}
-use Rattle.c8_wire.specs.Lent.{packet_of}
-use Rattle.c8_wire.specs.Read.{read}
-use Rattle.c8_hand.specs.Links.{refusal}
-use Rattle.c8_known.specs.Known.{player_in}
-use Rattle.c8_peer.specs.declared.error.Refused.TheVariants as refusals
-use Rattle.c8_peer.specs.declared.peer.Peer.TheInside.{Inside}
-use Rattle.c8_peer.specs.State.{Memory, Deliver, Delivered, answered}
-use Rattle.c8_peer.specs.Steps.{outcome}
-use Rattle.c8_peer.specs.Peer.{mode_of}
-use Rattle.c8_peer.proofs.AnswerLemmas.{answers, outcome_seen}
+use Rattle.std.proofs.Common.{◌≡◌, Ok, sym, subst}
+use Rattle.c8_wire.specs.Packet.{Packet}
+use Rattle.c8_peer.specs.State.{Deliver, Delivered}
+use Rattle.c8_peer.specs.Peer.{IsAnswered}
 use Rattle.c8_peer.proofs.peer.Peer.deliver.Goals as goal
 
--- the links refuse it
-pub returns-in-Err-admit : goal.returns-in-Err-admit
-returns-in-Err-admit g c =
-    let k = c.self.inside.known in
-    let m : Memory = c.self.inside.memory in
-    let head = (packet_of c.in-Ok.datagram).head in
-    let told : read c.args.bytes.now ≡ Ok (packet_of c.in-Ok.datagram) = c.in-Ok.ensures.answer in
-    -- the links were lent out of the peer: what was said of these parts is said of the peer's own
-    let refused : (x : Inside g.row.D.Denot) → x ≡ c.self.inside → c.me.result.number ≡ x.known.me → c.leaving.result ≡ (player_in x.known c.me.result.number).leaving
-    → refusal x.memory.links head ≡ Some c.in-Err-admit.error
-    → outcome c.self.inside.game.now k m (Deliver (read c.args.bytes.now)) ≡ answered m (Delivered (Err (refusals.Hand c.in-Err-admit.error))) = λ x same own leaves judged.
-    let mine : c.me.result.number ≡ k.me = own ∙ ap (λ (y : Inside g.row.D.Denot). y.known.me) same in
-    let stays : (player_in k k.me).leaving ≡ false =
-    ap (λ (q : ℕ). (player_in k q).leaving) (sym mine) ∙ sym (leaves ∙ ap (λ (y : Inside g.row.D.Denot). (player_in y.known c.me.result.number).leaving) same) ∙ c.if-leaving.false in
-    let no : refusal m.links head ≡ Some c.in-Err-admit.error = ap (λ (y : Inside g.row.D.Denot). refusal y.memory.links head) (sym same) ∙ judged in
-    rw (stays, told, no) refl in
-    answers g.D.Disk c.args.self.now c.args.self.now.state.memory (Deliver (read c.args.bytes.now)) (Delivered (Err (refusals.Hand c.in-Err-admit.error))) c.is_down.ensures.sound
-    (c.is_down.ensures.value ∙ ap mode_of c.if-is_down.false)
-    (outcome_seen c.args.self.now c.self.inside.game.now c.self.inside.room c.self.inside.journal k m c.self.invariant.0 c.self.view_is (Deliver (read c.args.bytes.now))
-    (λ (m : Memory). answered m (Delivered (Err (refusals.Hand c.in-Err-admit.error))))
-    (refused _ c.self-inside.view_is c.me.ensures.value c.leaving.ensures c.in-Err-admit.ensures.judged)) refl
+pub returns-in-Ok : goal.returns-in-Ok
+returns-in-Ok g c =
+    subst (λ told. IsAnswered g.D.Disk c.args.self.now (Deliver told) (Delivered c.deliver_datagram.result) c.deliver_datagram.new.self) (sym c.in-Ok.ensures.answer) c.deliver_datagram.ensures

@@ -14,6 +14,7 @@ returns-in_err-journal-clause-refused g c =
     let left = c.in_err-journal.field-0.0 in
     rw (error.1, error.2)
     (refused_beginning g.D.Disk c.args.disk c.in_ok-log.log.disk c.args.game.now c.args.room c.args.known.me c.in_ok-log.ensures.read.same left.1 left.0 c.in_ok-log.ensures.read.bodies c.in_ok-log.ensures.read.settled c.in_ok-log.ensures.same
+    c.in_ok-log.ensures.read.unfailed
     (subst (λ (me : ℕ). IsNotBegun g.D.Disk c.in_ok-log.log.disk c.args.game.now c.args.room me left.0 left.1) c.me-me.ensures.value c.in_err-journal.ensures.refused))
 
 pub returns-in_err-journal-clause-any_moment : goal.returns-in_err-journal-clause-any_moment
@@ -60,3 +61,12 @@ returns-clause-any_moment g c =
     let left = c.in_ok-journal.journal.disk in
     leaves_opening g.D.Disk c.args.disk mid c.args.game.now c.args.room c.args.known.me c.in_ok-log.ensures.read.same g.met.D.Disk.reads_now left c.in_ok-log.ensures.any_moment
     (subst (λ (me : ℕ). LeavesOnly g.D.Disk mid left (BeginningLeaves g.D.Disk mid c.args.game.now c.args.room me)) c.me-me.ensures.value c.in_ok-journal.ensures.any_moment)
+
+pub returns-in_err-journal-clause-same : goal.returns-in_err-journal-clause-same
+returns-in_err-journal-clause-same g c =
+    let error = err_from_is_err_and c.from_residual-in_err-journal.result c.from_residual-in_err-journal.ensures.1 in
+    let left = c.in_err-journal.field-0.0 in
+    rw (error.1, error.2) (same_then g.D.Disk c.args.disk c.in_ok-log.log.disk left.1 c.in_ok-log.ensures.same c.in_err-journal.ensures.same)
+
+pub returns-clause-same : goal.returns-clause-same
+returns-clause-same g c = same_then g.D.Disk c.args.disk c.in_ok-log.log.disk c.in_ok-journal.journal.disk c.in_ok-log.ensures.same c.in_ok-journal.ensures.same

@@ -1,19 +1,15 @@
-use Rattle.std.proofs.Common.{◌≡◌, ap, ◌∙◌}
+use Rattle.std.proofs.Common.{ap, ◌∙◌}
 use Rattle.std.specs.Prelude.{Result}
-use Rattle.c8_disk.specs.declared.error.DiskError.{DiskError}
-use Rattle.c8_disk.specs.PastLaws.{reads_image}
 use Rattle.c8_peer.specs.declared.heard.Heard.{Heard}
 use Rattle.c8_peer.specs.declared.error.Refused.{Refused}
 use Rattle.c8_peer.specs.State.{Delivered}
-use Rattle.c8_peer.specs.Steps.{Refuses}
 use Rattle.c8_peer.specs.Peer.{mode_of, luck_of}
-use Rattle.c8_world.specs.Disks.{IsToBlame}
-use Rattle.c8_world.proofs.TurnLemmas.{blamed}
+use Rattle.c8_world.specs.declared.answer.Answer.TheVariants as answers
+use Rattle.c8_world.proofs.TurnLemmas.{in_memory, answered_seat}
 use Rattle.c8_world.proofs.seat.Seat.deliver.Goals as goal
 
-pub returns-else-is_down-clause-caused : goal.returns-else-is_down-clause-caused
-returns-else-is_down-clause-caused c why blames =
-    let luck : luck_of (Delivered c.deliver.result) ≡ Refuses why = ap (λ (r : Result Heard Refused). luck_of (Delivered r)) blames in
+pub returns-else-is_down-clause-turn : goal.returns-else-is_down-clause-turn
+returns-else-is_down-clause-turn c =
     rw c.in-Held.is
-    (blamed _ (λ disk. reads_image disk.first.items disk.calls.items disk.bytes.items disk.lawful disk.replayed) c.in-Held.peer c.deliver.new.self c.is_down.ensures.sound
-    (c.is_down.ensures.value ∙ ap mode_of c.if-is_down.false) (λ (e : DiskError). IsToBlame e c.in-Held.peer.disk c.deliver.new.self.disk) (λ fails. fails) (λ full. full) why (c.deliver.ensures.cause why luck))
+    (answered_seat (answers.Delivered c.deliver.result) c.deliver.ensures c.is_down.ensures.sound in_memory
+    (c.is_down.ensures.value ∙ ap mode_of c.if-is_down.false) (λ why blames. ap (λ (r : Result Heard Refused). luck_of (Delivered r)) blames) (λ still. still))

@@ -1,4 +1,4 @@
-use Rattle.std.proofs.Common.{◌≡◌, ◌≢◌, ℕ, List, Ok, sym, ap, subst, ◌∙◌}
+use Rattle.std.proofs.Common.{◌≡◌, ◌≢◌, inr, ℕ, List, Result, Ok, Err, refl, sym, ap, subst, ◌∙◌}
 use Rattle.std.proofs.lemmas.Bool.{both_ways}
 use Rattle.c8_disk.specs.Memory.{bytes_of}
 use Rattle.c8_log.specs.Slots.{kept}
@@ -7,8 +7,16 @@ use Rattle.c8_record.specs.Body.{records_of}
 use Rattle.c8_peer.specs.State.{Open, Opened}
 use Rattle.c8_peer.specs.Steps.{Stepped}
 use Rattle.c8_peer.specs.Opening.{Stands, found, opened}
-use Rattle.c8_peer.specs.Peer.{told}
+use Rattle.c8_peer.specs.Peer.{PeerValue, told}
 use Rattle.c8_peer.specs.Runs.{After}
+use Rattle.c8_peer.specs.declared.error.OpenError.{OpenError}
+use Rattle.c8_peer.specs.declared.error.OpenError.TheVariants as opens
+use Rattle.c8_peer.specs.Opened.{disk_after, IsRefusedOpening}
+use Rattle.c8_disk.specs.Runs.{IsSameDisk}
+use Rattle.c8_disk.specs.declared.mem_disk.MemDisk.{MemDisk}
+use Rattle.c8_disk.specs.contracts.mem_disk.MemDiskDisk.TheImpl.{ghosts}
+use Rattle.c8_world.specs.declared.seat.Seat.TheVariants as seats
+use Rattle.c8_world.proofs.TurnLemmas.{in_memory, opened_seat, opening_blamed, opening_spared}
 use Rattle.c8_world.proofs.SeatLemmas.{found_now, reply_in, refused_away}
 use Rattle.c8_world.proofs.seat.Seat.open.Goals as goal
 
@@ -56,3 +64,20 @@ returns-in-Err-clause-opened c s plays is journals =
       replies = replies;
       seat_is = (refused_away rules room p s (found s now.0) refused.opening c.in-Err.error replies, refused.tells);
     }
+
+pub returns-in-Ok-clause-turn : goal.returns-in-Ok-clause-turn
+returns-in-Ok-clause-turn c =
+    let is_opened = c.in-Ok.ensures.opened in
+    opened_seat (Ok c.epoch-epoch.result) _ _ is_opened.same in_memory c.into_disk-disk.ensures.disk refl (λ why never. absurd (cc never))
+
+pub returns-in-Err-clause-turn : goal.returns-in-Err-clause-turn
+returns-in-Err-clause-turn c =
+    opened_seat (Err c.in-Err.error) _ _ (subst (λ (r : Result (PeerValue MemDisk) (OpenError × MemDisk)). IsSameDisk ghosts c.into_disk-disk.result (disk_after r)) c.in-Err.is c.open.ensures.same)
+    in_memory c.into_disk-disk.ensures.disk refl
+    (λ why is P failed full. opening_blamed ghosts c.into_disk-disk.result c.in-Err.disk c.args.game.now c.args.room c.args.player.number P failed full c.in-Err.error why (let e : c.in-Err.error ≡ opens.Disk why = cc in e) c.in-Err.ensures.refused)
+
+pub returns-in-Err-clause-spared : goal.returns-in-Err-clause-spared
+returns-in-Err-clause-spared c memory =
+    let is : c.in-Err.error ≡ opens.Memory = cc in
+    let left = opening_spared ghosts c.into_disk-disk.result c.in-Err.disk c.args.game.now c.args.room c.args.player.number (subst (λ (e : OpenError). IsRefusedOpening ghosts c.into_disk-disk.result c.args.game.now c.args.room c.args.player.number e c.in-Err.disk) is c.in-Err.ensures.refused) in
+    inr (ap seats.Away (left ∙ c.into_disk-disk.ensures.disk))

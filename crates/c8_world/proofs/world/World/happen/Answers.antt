@@ -1,7 +1,7 @@
 use Rattle.std.proofs.Common.{refl, ap, sym, ◌∙◌}
 use Rattle.c8_world.specs.declared.event.Act.TheVariants.{Open}
 use Rattle.c8_world.specs.Events.{act_of}
-use Rattle.c8_world.proofs.LifeLemmas.{lived_more, lived_unopened, lived_still, other_act, opening_refused}
+use Rattle.c8_world.proofs.LifeLemmas.{lived_more, lived_unopened, lived_still, other_act, opening_refused, nothing_refused}
 use Rattle.c8_world.proofs.world.World.happen.Goals as goal
 
 -- src/world.rt:128:17
@@ -24,5 +24,10 @@ invariant_of-self-in_default c =
 
 pub returns-in-Open-clause-life_out : goal.returns-in-Open-clause-life_out
 returns-in-Open-clause-life_out c =
-    opening_refused _ c.args.self.now c.in-Open.player
-    (record { table = c.happen.new.self; events = c.and-self-inside-in-Open.result.items; answers = c.and-self-inside-in-Open-2.result.items }) c.self.view_is c.and-self-inside-in-Open.ensures c.and-self-inside-in-Open-2.ensures
+    opening_refused _ c.args.self.now c.args.event c.in-Open.player
+    (record { table = c.happen.new.self; events = c.and-self-inside-in-Open.result.items; answers = c.and-self-inside-in-Open-2.result.items }) c.self.view_is (sym c.act.ensures ∙ ap act_of c.in-Open.is) c.and-self-inside-in-Open.ensures c.and-self-inside-in-Open-2.ensures
+
+pub returns-in_default-clause-life_out : goal.returns-in_default-clause-life_out
+returns-in_default-clause-life_out c =
+    nothing_refused _ c.args.self.now c.args.event (record { table = c.happen.new.self; events = c.self.inside.events.items; answers = c.self.inside.answers.items }) c.self.view_is
+    (λ p e. other_act c.act.result p c.in_default.not-Open (c.act.ensures ∙ e)) refl refl

@@ -32,7 +32,8 @@ loop-event-preserved c = record {
 
 pub returns-in-Err-clause-life_out : goal.returns-in-Err-clause-life_out
 returns-in-Err-clause-life_out c =
-    lived_on c.args.self.now c.loop-event.self c.happen.new.self c.args.events.now c.loop-event.event-index c.loop-event.answers.items c.loop-event.invariant.events c.loop-event.invariant.answers
+    lived_on c.args.self.now c.loop-event.self c.happen.new.self c.args.events.now c.loop-event.event-index c.event-item.result c.loop-event.answers.items (omega arith) c.event-item.is
+    c.loop-event.invariant.events c.loop-event.invariant.answers
     c.in-Err.ensures.life_out
 
 pub returns-in-Err-clause-disks_out : goal.returns-in-Err-clause-disks_out
@@ -42,4 +43,4 @@ returns-in-Err-clause-disks_out c =
 
 pub returns-in-Err-clause-turns_out : goal.returns-in-Err-clause-turns_out
 returns-in-Err-clause-turns_out c =
-    first_turns c.args.self.now.table c.loop-event.self.table c.args.events.now c.loop-event.event-index c.event-item.result c.loop-event.answers.items (omega arith) c.event-item.is c.loop-event.invariant.turns
+    first_turns c.args.self.now.table c.loop-event.self.table c.happen.new.self.table c.args.events.now c.loop-event.event-index c.event-item.result c.loop-event.answers.items (omega arith) c.event-item.is c.loop-event.invariant.turns c.in-Err.ensures.turn_out

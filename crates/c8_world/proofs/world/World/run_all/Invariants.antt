@@ -3,7 +3,8 @@ use Rattle.std.specs.Prelude.{vec_len, vec_capacity}
 use Rattle.c8_world.specs.World.{World}
 use Rattle.c8_world.specs.Table.{IsSameMatch, Holds}
 use Rattle.c8_world.specs.Run.{HasRun}
-use Rattle.c8_world.specs.Disks.{AreArmed, AreTurns, arms_in}
+use Rattle.c8_world.specs.Disks.{AreArmed, arms_in}
+use Rattle.c8_world.specs.Turns.{AreTurns}
 use Rattle.c8_world.proofs.world.World.run_all.Given as goal
 
 -- the events so far have been run

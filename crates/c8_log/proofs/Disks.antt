@@ -1,0 +1,41 @@
+-- What one call of a disk leaves, and what the calls of an opening do.
+use Rattle.std.proofs.Common.{◌≡◌, ⊎_elim, inl, inr, ◌≤◌, ℕ, List, refl, ap, ◌∙◌, arith}
+use Rattle.c8_disk.specs.Disk.{DiskCall, AddsNone, Elapses}
+use Rattle.c8_disk.specs.declared.disk.Disk.{Ghosts}
+use Rattle.c8_disk.specs.Runs.{LeavesOnly, ReadsOnly}
+use Rattle.c8_disk.specs.RunLaws.{weaker, then_run, same_after}
+use Rattle.c8_log.specs.Slots.{kept}
+use Rattle.c8_log.specs.Log.{KeepsOneOf}
+
+module _ {D : Type 0} (g : Ghosts D) (only_now : (disk : D) (image : List ℕ) → g.left_since disk (g.moment disk) image → g.may_leave disk image) where
+  -- a call that adds no image
+  pub leaves_once : (old new : D) → AddsNone (g.may_leave old) (g.may_leave new) → Elapses (g.moment old) (g.moment new) (g.left_since old) (g.left_since new) (g.may_leave new)
+      → LeavesOnly g old new (g.may_leave old)
+  leaves_once old new none time = record {
+    later = time.later;
+    each = λ image left. ⊎_elim (λ past. only_now old image past) (λ now. none image now) (time.nothing_else (g.moment old) image (omega arith) left);
+    before = λ t image le left. ⊎_elim (λ past. inl past) (λ now. inr (none image now)) (time.nothing_else t image le left);
+  }
+
+  -- one that only reads
+  pub reads_once : (old new : D) (call : DiskCall) → g.does old call new → g.seen new ≡ g.seen old → AddsNone (g.may_leave old) (g.may_leave new)
+      → Elapses (g.moment old) (g.moment new) (g.left_since old) (g.left_since new) (g.may_leave new) → g.changes new ≡ g.changes old → g.capacity new ≡ g.capacity old → g.arms new ≡ g.arms old
+      → g.failures old ≤ g.failures new → ReadsOnly g old new
+  reads_once old new call does seen none time changes capacity arms more = record {
+    seen = seen;
+    crash = none;
+    any_moment = leaves_once old new none time;
+    changes = changes;
+    same = same_after g old new call does capacity arms more;
+  }
+
+  -- a sync, then reading, and then a repair, which keeps the bodies that are seen
+  pub settles : ((disk : D) → g.may_leave disk (g.seen disk)) → (old synced read new : D) → g.seen synced ≡ g.seen old → AddsNone (g.may_leave old) (g.may_leave synced)
+      → Elapses (g.moment old) (g.moment synced) (g.left_since old) (g.left_since synced) (g.may_leave synced) → ReadsOnly g synced read
+      → LeavesOnly g read new (λ image. kept image ≡ kept (g.seen read)) → LeavesOnly g old new (KeepsOneOf (g.may_leave old))
+  settles reads_now old synced read new seen none time reads repaired =
+      let P : List ℕ → Type 0 = KeepsOneOf (g.may_leave old) in
+      let first = weaker g old synced (g.may_leave old) P (leaves_once old synced none time) (λ image left. (image, left, refl)) in
+      let second = weaker g synced read (g.may_leave synced) P reads.any_moment (λ image left. (image, none image left, refl)) in
+      let third = weaker g read new (λ image. kept image ≡ kept (g.seen read)) P repaired (λ image keeps. (g.seen old, reads_now old, keeps ∙ ap kept (reads.seen ∙ seen))) in
+      then_run g old synced new P first (then_run g synced read new P second third)

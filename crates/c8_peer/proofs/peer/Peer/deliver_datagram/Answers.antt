@@ -1,0 +1,33 @@
+use Rattle.std.proofs.Common.{◌≡◌, ℕ, Ok, Err, Some, false, refl, sym, ap, ◌∙◌}
+use Rattle.c8_wire.specs.Lent.{packet_of}
+use Rattle.c8_hand.specs.Links.{refusal}
+use Rattle.c8_known.specs.Known.{player_in}
+use Rattle.c8_peer.specs.declared.error.Refused.TheVariants as refusals
+use Rattle.c8_peer.specs.declared.peer.Peer.TheInside.{Inside}
+use Rattle.c8_peer.specs.State.{Memory, Deliver, Delivered, answered}
+use Rattle.c8_peer.specs.Steps.{outcome}
+use Rattle.c8_peer.specs.Peer.{mode_of}
+use Rattle.c8_peer.proofs.AnswerLemmas.{answers, outcome_seen}
+use Rattle.c8_peer.proofs.peer.Peer.deliver_datagram.Goals as goal
+
+-- the links refuse it
+pub returns-in-Err : goal.returns-in-Err
+returns-in-Err g c =
+    let k = c.self.inside.known in
+    let m : Memory = c.self.inside.memory in
+    let packet = packet_of c.args.datagram.now in
+    let head = packet.head in
+    -- the links were lent out of the peer: what was said of these parts is said of the peer's own
+    let refused : (x : Inside g.row.D.Denot) → x ≡ c.self.inside → c.me.result.number ≡ x.known.me → c.leaving.result ≡ (player_in x.known c.me.result.number).leaving
+    → refusal x.memory.links head ≡ Some c.in-Err.error
+    → outcome c.self.inside.game.now k m (Deliver (Ok packet)) ≡ answered m (Delivered (Err (refusals.Hand c.in-Err.error))) = λ x same own leaves judged.
+    let mine : c.me.result.number ≡ k.me = own ∙ ap (λ (y : Inside g.row.D.Denot). y.known.me) same in
+    let stays : (player_in k k.me).leaving ≡ false =
+    ap (λ (q : ℕ). (player_in k q).leaving) (sym mine) ∙ sym (leaves ∙ ap (λ (y : Inside g.row.D.Denot). (player_in y.known c.me.result.number).leaving) same) ∙ c.if-leaving.false in
+    let no : refusal m.links head ≡ Some c.in-Err.error = ap (λ (y : Inside g.row.D.Denot). refusal y.memory.links head) (sym same) ∙ judged in
+    rw (stays, no) refl in
+    answers g.D.Disk c.args.self.now c.args.self.now.state.memory (Deliver (Ok packet)) (Delivered (Err (refusals.Hand c.in-Err.error))) c.is_down.ensures.sound
+    (c.is_down.ensures.value ∙ ap mode_of c.if-is_down.false)
+    (outcome_seen c.args.self.now c.self.inside.game.now c.self.inside.room c.self.inside.journal k m c.self.invariant.0 c.self.view_is (Deliver (Ok packet))
+    (λ (m : Memory). answered m (Delivered (Err (refusals.Hand c.in-Err.error))))
+    (refused _ c.self-inside.view_is c.me.ensures.value c.leaving.ensures c.in-Err.ensures.judged)) refl

@@ -1,0 +1,160 @@
+-- What each event of a run makes of the seats and their disks.
+use Rattle.std.specs.Prelude.{◌≡◌, ◌≢◌, ◌⊎◌, ℕ, List, [], ◌∷◌, ◌++◌, Option, Some, None, Result}
+use Rattle.c8_disk.specs.Disk.{DiskCall}
+use Rattle.c8_disk.specs.declared.disk.Arm.{Arm}
+use Rattle.c8_disk.specs.declared.disk.Arm.TheVariants as arms
+use Rattle.c8_disk.specs.declared.error.DiskError.{DiskError}
+use Rattle.c8_disk.specs.declared.mem_disk.MemDisk.{MemDisk}
+use Rattle.c8_disk.specs.Memory.{bytes_of, images_of, synced_of, calls_allowed, MemValue, value_of, IsCall, told}
+use Rattle.c8_peer.specs.declared.error.OpenError.{OpenError}
+use Rattle.c8_world.specs.declared.answer.Answer as codes
+use Rattle.c8_world.specs.declared.answer.Answer.TheVariants as answers
+use Rattle.c8_world.specs.declared.event.Act as code
+use Rattle.c8_world.specs.declared.event.Event as asked
+use Rattle.c8_world.specs.declared.event.Event.TheVariants as happenings
+use Rattle.c8_world.specs.declared.seat.Seat.{Seat}
+use Rattle.c8_world.specs.declared.seat.Seat.TheVariants as seats
+use Rattle.c8_world.specs.World.{World, player_of, Do}
+use Rattle.c8_world.specs.Events.{act_of}
+use Rattle.c8_world.specs.Agreement.{IsPlayer}
+use Rattle.c8_world.specs.Table.{TableValue, seat_of, IsSameMatch, Holds, HasHappened, HasNotHappened, HasCrashed}
+use Rattle.c8_world.specs.Disks.{Blames, IsToBlame, disk_in}
+
+-- ---- a disk in memory
+
+-- calls one after another, each as such a disk serves or refuses it
+abbrev pub AreCalls : List DiskCall → MemValue → MemValue → Type 0
+AreCalls [] v w = w ≡ v
+AreCalls (call ∷ calls) v w = (u : MemValue) × IsCall v call u × AreCalls calls u w
+
+-- A crash leaves an image that it may, by the pick: 0 what was last synced, 1 what a read gives, and any other one of them all.
+-- All calls are served anew then, and no stop is set.
+pub record IsDiskCrash (pick : ℕ) (old new : MemDisk) : Type 0 where
+  pub image : images_of old (bytes_of new)
+  pub synced : pick ≡ 0 → bytes_of new ≡ synced_of old
+  pub read : pick ≡ 1 → bytes_of new ≡ bytes_of old
+  pub value : value_of new ≡ record (value_of old) { bytes = bytes_of new; first = bytes_of new; calls = []; left = calls_allowed old; arm = arms.Off }
+
+-- ---- a seat
+
+-- what an opening answers: that the peer was open already, or what it came to
+abbrev pub answer_of : Option (Result ℕ OpenError) → codes.Answer
+answer_of None = answers.Up
+answer_of (Some result) = answers.Opened result
+
+-- the peer was not asked, or only to say something
+abbrev pub IsStill : codes.Answer → Type 0
+IsStill (answers.Opened result) = ⊥
+IsStill answers.Up = Unit {0}
+IsStill (answers.Ticked result) = ⊥
+IsStill (answers.Said result) = Unit {0}
+IsStill (answers.Delivered result) = ⊥
+IsStill answers.NoSuch = Unit {0}
+IsStill (answers.Left result) = ⊥
+IsStill (answers.Decided result) = ⊥
+IsStill answers.Down = Unit {0}
+IsStill answers.Stopped = ⊥
+
+-- An act that is answered so changes the disk of its player's seat by calls alone; it blames the disk only where the disk is to
+-- blame; and a seat of which nothing was asked stays.
+pub record IsActed (answer : codes.Answer) (old new : Seat) : Type 0 where
+  pub calls : List DiskCall
+  pub led : AreCalls calls (value_of (disk_in old)) (value_of (disk_in new))
+  pub caused : (why : DiskError) → Blames answer why → IsToBlame why (disk_in old) (disk_in new)
+  pub still : IsStill answer → new ≡ old
+
+-- where memory was refused the seat stays, or its peer is away, and its disk was not touched
+abbrev pub IsSpared : Seat → Seat → Type 0
+IsSpared old new = (new ≡ old) ⊎ (new ≡ seats.Away (disk_in old))
+
+-- its disk is told when its calls fail
+abbrev pub IsTold : Arm → Seat → Seat → Type 0
+IsTold arm old new = value_of (disk_in new) ≡ told arm (value_of (disk_in old))
+
+-- its peer is gone, and its disk has crashed
+abbrev pub IsSeatCrash : ℕ → Seat → Seat → Type 0
+IsSeatCrash pick old new = (disk : MemDisk) × (new ≡ seats.Away disk) × IsDiskCrash pick (disk_in old) disk
+
+-- the same of the seat of a player, who has none where the game has no such player
+abbrev pub OfSeats : (Seat → Seat → Type 0) → Option Seat → Option Seat → Type 0
+OfSeats P None None = Unit {0}
+OfSeats P None (Some new) = ⊥
+OfSeats P (Some old) None = ⊥
+OfSeats P (Some old) (Some new) = P old new
+
+-- ---- a table
+
+-- the seats of all players but one are as they were
+abbrev pub OthersStay : ℕ → TableValue → TableValue → Type 0
+OthersStay player old new = (p : ℕ) → IsPlayer old.rules p → p ≢ player → seat_of new p ≡ seat_of old p
+
+-- Of one player's seat this is so, and the others stay.
+pub record IsMove (player : ℕ) (P : Seat → Seat → Type 0) (old new : TableValue) : Type 0 where
+  pub same : IsSameMatch old new
+  pub others : OthersStay player old new
+  pub own : OfSeats P (seat_of old player) (seat_of new player)
+
+-- An act has happened, with this answer.
+pub record IsDone (act : code.Act) (answer : codes.Answer) (old new : TableValue) : Type 0 where
+  pub moves : IsMove (player_of (act_of act)) (IsActed answer) old new
+  pub happened : (w : World) → Holds old w → HasHappened old w (Do (act_of act)) answer new
+
+-- Memory was refused at an act.
+pub record IsUndone (act : code.Act) (old new : TableValue) : Type 0 where
+  pub moves : IsMove (player_of (act_of act)) IsSpared old new
+  pub unhappened : (w : World) → Holds old w → HasNotHappened old w (act_of act) new
+
+-- The disk of a player was told when its calls fail; its peer is in the state that it was in.
+pub record IsArmed (player : ℕ) (arm : Arm) (old new : TableValue) : Type 0 where
+  pub moves : IsMove player (IsTold arm) old new
+  pub holds : (w : World) → Holds old w → Holds new w
+
+-- A player was stopped.
+pub record IsCrashed (player pick : ℕ) (old new : TableValue) : Type 0 where
+  pub moves : IsMove player (IsSeatCrash pick) old new
+  pub crashed : (w : World) → Holds old w → HasCrashed old w player new
+
+-- A stop: the disk of the player is told to serve so many calls, the act comes to what it comes to with that disk, and then it
+-- crashes by the pick. A record whose act was answered Ok stands after it.
+pub record IsStop (act : code.Act) (calls pick : ℕ) (old new : TableValue) : Type 0 where
+  pub armed : TableValue
+  pub acted : TableValue
+  pub answer : codes.Answer
+  pub begins : IsArmed (player_of (act_of act)) (arms.Stop calls) old armed
+  pub does : IsDone act answer armed acted
+  pub crashes : IsCrashed (player_of (act_of act)) pick acted new
+
+-- A stop at whose act memory was refused: the disk is then told that it does not stop.
+pub record IsUnstopped (act : code.Act) (calls : ℕ) (old new : TableValue) : Type 0 where
+  pub armed : TableValue
+  pub undone : TableValue
+  pub begins : IsArmed (player_of (act_of act)) (arms.Stop calls) old armed
+  pub does : IsUndone act armed undone
+  pub ends : IsArmed (player_of (act_of act)) arms.Off undone new
+
+-- ---- events
+
+-- an event that is answered so, and one at which memory was refused
+abbrev pub IsTurn : asked.Event → codes.Answer → TableValue → TableValue → Type 0
+IsTurn (happenings.Do act) answer old new = IsDone act answer old new
+IsTurn (happenings.Stop act calls pick) answer old new = (answer ≡ answers.Stopped) × IsStop act calls pick old new
+
+abbrev pub IsTurnOut : asked.Event → TableValue → TableValue → Type 0
+IsTurnOut (happenings.Do act) old new = IsUndone act old new
+IsTurnOut (happenings.Stop act calls pick) old new = IsUnstopped act calls old new
+
+-- events one after another
+abbrev pub AreTurns : List asked.Event → List codes.Answer → TableValue → TableValue → Type 0
+AreTurns [] [] old new = new ≡ old
+AreTurns [] (answer ∷ answers) old new = ⊥
+AreTurns (event ∷ events) [] old new = ⊥
+AreTurns (event ∷ events) (answer ∷ answers) old new = (mid : TableValue) × IsTurn event answer old mid × AreTurns events answers mid new
+
+-- Those before some event, with these answers; and then memory was refused at that one, or for the report, before all of them.
+pub record AreFirstTurns (events : List asked.Event) (answers : List codes.Answer) (old new : TableValue) : Type 0 where
+  pub before : List asked.Event
+  pub after : List asked.Event
+  pub at : events ≡ before ++ after
+  pub mid : TableValue
+  pub turns : AreTurns before answers old mid
+  pub out : ((before ≡ []) × (new ≡ mid)) ⊎ ((event : asked.Event) × (rest : List asked.Event) × (after ≡ event ∷ rest) × IsTurnOut event mid new)
