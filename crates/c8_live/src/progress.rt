@@ -5,7 +5,7 @@ ghost use Rattle.std.specs.Prelude.{◌≡◌};
 use crate::rollbacks::Rollbacks;
 use crate::session::Session;
 use c8_disk::Disk;
-use c8_game::Player;
+use c8_game::{MOST_PLAYERS, Player};
 use std::io;
 use std::io::Write;
 use std::time::Duration;
@@ -19,7 +19,7 @@ pub struct Progress {
     /// When the next line is due.
     due: Duration,
     /// When each player was last heard, player 1's place first; at first when it began.
-    heard: [Duration; 4],
+    heard: [Duration; MOST_PLAYERS],
 }
 
 impl Progress {
@@ -27,7 +27,7 @@ impl Progress {
     pub fn new(now: Duration) -> Progress {
         Progress {
             due: now.saturating_add(Duration::from_secs(EVERY)),
-            heard: [now; 4],
+            heard: [now; MOST_PLAYERS],
         }
     }
 
@@ -63,7 +63,7 @@ impl Progress {
             if let Some(player) = Player::new(number)
                 && session.silent(player) == 0
             {
-                self.heard[usize::from(player.number - 1)] = now;
+                self.heard[player.place()] = now;
             }
         }
     }
@@ -79,7 +79,7 @@ impl Progress {
             if let Some(player) = Player::new(number)
                 && number != session.peer().me().number
             {
-                let heard = self.heard[usize::from(player.number - 1)];
+                let heard = self.heard[player.place()];
                 let silence = now.saturating_sub(heard).as_millis();
                 write!(out, ", player {number} silent for {silence} ms")?;
             }

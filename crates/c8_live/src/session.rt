@@ -11,10 +11,10 @@ use crate::rollbacks::Rollbacks;
 use crate::silence::Silence;
 use crate::wire::{LONGEST_PACKET, Wire};
 use c8_disk::Disk;
-use c8_game::{Game, Keys, Player};
+use c8_game::{Game, Keys, MOST_PLAYERS, Player};
 use c8_peer::{DecideError, Heard, Kind, LeaveError, Peer, Refused, TickError};
-use c8_wire::{LONGEST_DATAGRAM, view};
-use std::mem;
+use c8_wire::{Header, LONGEST_DATAGRAM, view};
+use std::{fmt, mem};
 
 /// The most packets that are delivered in one turn.
 const MOST_PACKETS: u16 = 256;
@@ -39,6 +39,15 @@ pub struct Session<'g, D: Disk> {
     rollbacks: Rollbacks,
     /// The turns since all was confirmed and acknowledged, that one included.
     rested: u32,
+}
+
+/// Its peer, and how many of the key sets it has entered.
+impl<'g, D: Disk> fmt::Debug for Session<'g, D> {
+    fn fmt<W: fmt::Write>(&self, f: &mut fmt::Formatter<W>) -> fmt::Result {
+        let peer = &self.peer;
+        let entered = self.entered;
+        write!(f, "Session {{ peer: {peer:?}, entered: {entered} }}")
+    }
 }
 
 impl<'g, D: Disk> Session<'g, D> {
@@ -114,18 +123,18 @@ impl<'g, D: Disk> Session<'g, D> {
 
     /// Delivers the packets that wait, and tells of which players a HELLO was taken, player 1's
     /// place first.
-    fn hear<W: Wire>(&mut self, wire: &mut W) -> Result<[bool; 4], SessionError>
+    fn hear<W: Wire>(&mut self, wire: &mut W) -> Result<[bool; MOST_PLAYERS], SessionError>
         ensures ran { HasRunOn self.old.peer self.new.peer }
         ensures end { IfErr result (IsEnd D.Disk self.old.peer self.new.peer) }
     {
         peers_run_on::<D>();
-        let mut greeters = [false; 4];
+        let mut greeters = [false; MOST_PLAYERS];
         let mut packet = [0; LONGEST_PACKET];
         for _ in 0..MOST_PACKETS {
             match wire.receive(&mut packet)? {
                 Some(size) => {
                     if let Some(greeter) = self.deliver(&packet[..size])? {
-                        greeters[usize::from(greeter.number - 1)] = true;
+                        greeters[greeter.place()] = true;
                     }
                 }
                 None => break,
@@ -139,24 +148,25 @@ impl<'g, D: Disk> Session<'g, D> {
         ensures ran { HasRunOn self.old.peer self.new.peer }
         ensures end { IfErr result (IsEnd D.Disk self.old.peer self.new.peer) }
     {
-        match self.peer_hears(packet) {
+        peers_run_on::<D>();
+        // A peer takes nothing of what is no datagram.
+        let Ok(datagram) = view(packet) else {
+            return Ok(None);
+        };
+        match self.peer_hears(&datagram) {
             Err(Refused::Disk(error)) => Err(SessionError::Disk(error)),
-            answer => Ok(self.greeter(packet, answer)),
+            answer => Ok(self.greeter(datagram.header(), answer)),
         }
     }
 
-    /// Ends the silence of the player whose packet was answered so, if it was admitted, and answers
+    /// Ends the silence of the player whose datagram was answered so, if it was admitted, and answers
     /// whose HELLO it was, if it was one and was taken.
-    fn greeter(&mut self, packet: &[u8], answer: Result<Heard, Refused>) -> Option<Player>
+    fn greeter(&mut self, header: Header<'_>, answer: Result<Heard, Refused>) -> Option<Player>
         ensures { self.new.peer ≡ self.old.peer }
     {
         if !is_admitted(answer) {
             return None;
         }
-        let Ok(datagram) = view(packet) else {
-            return None;
-        };
-        let header = datagram.header();
         let sender = header.from().player()?;
         self.silence.heard(sender);
         if answer.is_ok() && header.kind() == c8_wire::Kind::Hello {
@@ -224,10 +234,14 @@ impl<'g, D: Disk> Session<'g, D> {
     }
 
     /// Says to each other player what there is to say.
-    fn speak<W: Wire>(&self, wire: &mut W, greeters: [bool; 4]) -> Result<(), WireFailed> {
+    fn speak<W: Wire>(
+        &self,
+        wire: &mut W,
+        greeters: [bool; MOST_PLAYERS],
+    ) -> Result<(), WireFailed> {
         for number in 1..self.peer.players() + 1 {
             if let Some(to) = self.other(number) {
-                let has_greeted = greeters[usize::from(to.number - 1)];
+                let has_greeted = greeters[to.place()];
                 self.speak_to(wire, to, has_greeted)?;
                 self.speak_of_leavers(wire, to)?;
             }
@@ -276,7 +290,7 @@ impl<'g, D: Disk> Session<'g, D> {
             return None;
         }
         let is_cut = self.peer.cut_of(leaver).is_some();
-        if self.peer.me().number == 1 {
+        if self.peer.me().is_chair() {
             if is_cut {
                 Some(Kind::Cut(leaver))
             } else if self.peer.leaving(leaver) && !self.peer.leaving(to) {
@@ -284,7 +298,7 @@ impl<'g, D: Disk> Session<'g, D> {
             } else {
                 None
             }
-        } else if to.number == 1 && self.peer.frozen(leaver) && !is_cut {
+        } else if to.is_chair() && self.peer.frozen(leaver) && !is_cut {
             Some(Kind::Frozen(leaver))
         } else {
             None

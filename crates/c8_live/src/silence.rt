@@ -2,19 +2,21 @@
 
 ghost use Rattle.std.specs.Prelude.{◌≡◌};
 
-use c8_game::Player;
+use c8_game::{MOST_PLAYERS, Player};
 
 /// For each player the turns that began since a datagram of it was last admitted, or since the
 /// start.
 #[derive(Clone, Copy, Debug, PartialEq, Eq)]
 pub struct Silence {
-    turns: [u64; 4],
+    turns: [u64; MOST_PLAYERS],
 }
 
 impl Silence {
     /// No turn has begun.
     pub fn new() -> Silence {
-        Silence { turns: [0; 4] }
+        Silence {
+            turns: [0; MOST_PLAYERS],
+        }
     }
 
     /// A turn begins.
@@ -30,11 +32,11 @@ impl Silence {
 
     /// A datagram of the player was admitted.
     pub fn heard(&mut self, player: Player) {
-        self.turns[usize::from(player.number - 1)] = 0;
+        self.turns[player.place()] = 0;
     }
 
     /// For how many turns the player has been silent, the one that runs included.
     pub fn turns(&self, player: Player) -> u64 {
-        self.turns[usize::from(player.number - 1)]
+        self.turns[player.place()]
     }
 }

@@ -4,10 +4,11 @@ ghost use Rattle.std.specs.Prelude.{◌≤◌, IfOk, IfSome};
 
 use crate::error::WireFailed;
 use c8_game::Player;
+use c8_wire::LONGEST_DATAGRAM;
 
 /// The most bytes of a packet that are read: one more than the longest datagram has, so that a
 /// longer packet is refused as such.
-pub const LONGEST_PACKET: usize = 175;
+pub const LONGEST_PACKET: usize = LONGEST_DATAGRAM + 1;
 
 /// The way to the other players. A datagram may be lost on it, come twice or late, and no call
 /// waits for anything.

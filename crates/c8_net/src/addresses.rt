@@ -4,14 +4,14 @@ ghost use Rattle.std.specs.Prelude.{◌≡◌, ◌≢◌, ◌+◌, ◌<◌, ◌�
 ghost use Rattle.std.specs.Net.Grammar.{IsSocketText};
 
 use crate::error::SocketError;
-use c8_game::Player;
+use c8_game::{MOST_PLAYERS, Player};
 use std::net::SocketAddr;
 
 /// The own address, and for each other player its address, player 1's first.
 #[derive(Clone, Copy)]
 pub struct Addresses {
     pub local: SocketAddr,
-    pub others: [Option<SocketAddr>; 4],
+    pub others: [Option<SocketAddr>; MOST_PLAYERS],
 }
 
 impl Addresses {
@@ -33,7 +33,7 @@ impl Addresses {
             return Err(SocketError::Remotes);
         }
         let local = address(local)?;
-        let mut others = [None; 4];
+        let mut others = [None; MOST_PLAYERS];
         for place in 0..remotes.len() {
             others[place_of(place, me)] = Some(address(remotes[place])?);
         }

@@ -4,7 +4,7 @@ ghost use Rattle.std.specs.Prelude.{◌≡◌, ◌≤◌, IfOk, IfErr, IfSome};
 
 use crate::addresses::Addresses;
 use crate::error::SocketError;
-use c8_game::Player;
+use c8_game::{MOST_PLAYERS, Player};
 use c8_live::{LONGEST_PACKET, Wire, WireFailed};
 use mio::net::UdpSocket;
 use std::io;
@@ -22,7 +22,7 @@ const MOST_UNHEARD: u8 = 16;
 #[derive(Drop)]
 pub struct Udp {
     socket: UdpSocket,
-    others: [Option<SocketAddr>; 4],
+    others: [Option<SocketAddr>; MOST_PLAYERS],
 }
 
 impl Udp {
@@ -38,14 +38,14 @@ impl Udp {
 
     /// The way over a socket that is open already, to where the other players are, player 1's place
     /// first.
-    pub fn over(socket: UdpSocket, others: [Option<SocketAddr>; 4]) -> Udp {
+    pub fn over(socket: UdpSocket, others: [Option<SocketAddr>; MOST_PLAYERS]) -> Udp {
         Udp { socket, others }
     }
 }
 
 impl Wire for Udp {
     fn send(&mut self, to: Player, datagram: &[u8]) -> Result<(), WireFailed> {
-        let Some(address) = self.others[usize::from(to.number - 1)] else {
+        let Some(address) = self.others[to.place()] else {
             return Ok(());
         };
         match self.socket.send_to(datagram, address) {

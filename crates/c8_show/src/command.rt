@@ -12,7 +12,7 @@ ghost use Rattle.c8_show.specs.declared.error.ShowError.{ShowError};
 
 use crate::error::{HexError, ShowError};
 use c8_command::{Refusal, Status};
-use c8_wire::{Datagram, Header, Run, view};
+use c8_wire::{Datagram, view};
 use hex::FromHexError;
 use std::alloc::Global;
 use std::io;
@@ -68,67 +68,9 @@ fn tell<W: Write, E: Write>(
 {
     match outcome {
         Ok(datagram) => {
-            write_datagram(out, datagram)?;
+            writeln!(out, "{datagram}")?;
             Ok(Status::Done)
         }
         Err(error) => Refusal::from(error).tell(refused),
     }
-}
-
-/// Writes the fields of a datagram, one line each.
-fn write_datagram<W: Write>(out: &mut W, datagram: Datagram<'_>) -> io::Result<()> {
-    write_header(out, datagram.header())?;
-    write_body(out, datagram)
-}
-
-fn write_header<W: Write>(out: &mut W, header: Header<'_>) -> io::Result<()> {
-    let name = header.kind().name();
-    let (from, to) = (header.from().number, header.to().number);
-    let session = header.session();
-    let (sender, addressee) = (header.sender_epoch(), header.addressee_epoch());
-    writeln!(out, "kind {name}")?;
-    writeln!(out, "session {session:016x}")?;
-    writeln!(out, "from {from} to {to}")?;
-    writeln!(out, "epochs {sender} {addressee}")
-}
-
-fn write_body<W: Write>(out: &mut W, datagram: Datagram<'_>) -> io::Result<()> {
-    match datagram {
-        Datagram::Hello(_) => Ok(()),
-        Datagram::Welcome(welcome) => {
-            let ack = welcome.ack();
-            writeln!(out, "ack {ack}")
-        }
-        Datagram::Data(data) => {
-            let (ack, frame) = (data.ack(), data.mark_frame());
-            let mark = u64::from_be_bytes(data.mark());
-            writeln!(out, "ack {ack}")?;
-            writeln!(out, "mark {frame} {mark:016x}")?;
-            write_run(out, data.start(), data.run())
-        }
-        Datagram::Freeze(freeze) => {
-            let (leaver, have) = (freeze.leaver().number, freeze.have());
-            writeln!(out, "leaver {leaver} have {have}")
-        }
-        Datagram::Frozen(frozen) => {
-            let (leaver, held) = (frozen.leaver().number, frozen.held());
-            writeln!(out, "leaver {leaver} held {held}")?;
-            write_run(out, frozen.start(), frozen.run())
-        }
-        Datagram::Cut(cut) => {
-            let (leaver, length) = (cut.leaver().number, cut.length());
-            writeln!(out, "leaver {leaver} length {length}")?;
-            write_run(out, cut.start(), cut.run())
-        }
-    }
-}
-
-fn write_run<W: Write>(out: &mut W, start: u32, run: Run<'_>) -> io::Result<()> {
-    let count = run.len();
-    writeln!(out, "start {start} count {count}")?;
-    write!(out, "run")?;
-    for word in run.iter() {
-        write!(out, " {word:04x}")?;
-    }
-    writeln!(out)
 }

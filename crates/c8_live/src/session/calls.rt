@@ -2,25 +2,27 @@
 
 ghost use Rattle.std.specs.Prelude.{◌≡◌, Err};
 ghost use Rattle.c8_disk.specs.declared.error.DiskError.{DiskError};
+ghost use Rattle.c8_wire.specs.Packet.{IsPacket};
+ghost use Rattle.c8_wire.specs.Lent.{packet_of};
 ghost use Rattle.c8_live.specs.Runs.{HasRunOn, IsStopped};
 
 use super::Session;
 use crate::laws::peers_run_on;
 use c8_disk::Disk;
 use c8_game::{Keys, Player};
-use c8_peer::laws::deliveries_are_calls;
 use c8_peer::{DecideError, Heard, LeaveError, Refused, TickError};
+use c8_wire::Datagram;
 
 impl<'g, D: Disk> Session<'g, D> {
-    /// The peer hears bytes. What it runs anew by that is a rollback.
-    pub(super) fn peer_hears(&mut self, packet: &[u8]) -> Result<Heard, Refused>
+    /// The peer hears a datagram. What it runs anew by that is a rollback.
+    pub(super) fn peer_hears(&mut self, datagram: &Datagram<'_>) -> Result<Heard, Refused>
+        requires { IsPacket (packet_of datagram.now) }
         ensures ran { HasRunOn self.old.peer self.new.peer }
         ensures stopped { (why : DiskError) → result ≡ Err (Refused.Disk why)
             → IsStopped D.Disk self.old.peer self.new.peer why }
     {
         peers_run_on::<D>();
-        deliveries_are_calls();
-        let answer = self.peer.deliver(packet);
+        let answer = self.peer.deliver_datagram(datagram);
         let frames = frames_of(answer, self.peer.last_run());
         self.rollbacks.note(frames);
         answer

@@ -1,5 +1,5 @@
-use Rattle.std.proofs.Common.{Result, ap, arith}
-use Rattle.c8_wire.specs.Read.{read}
+use Rattle.std.proofs.Common.{Result, Ok, ap}
+use Rattle.c8_wire.specs.Lent.{packet_of}
 use Rattle.c8_peer.specs.declared.error.Refused.{Refused}
 use Rattle.c8_peer.specs.declared.heard.Heard.{Heard}
 use Rattle.c8_peer.specs.Peer.{luck_of}
@@ -9,8 +9,8 @@ use Rattle.c8_live.proofs.session.Session.peer_hears.Goals as goal
 pub returns-clause-ran : goal.returns-clause-ran
 returns-clause-ran g c =
     let peer = c.args.self.now.peer in
-    let bytes = c.args.packet.now in
-    c.peers_run_on.ensures.call peer peer c.deliver-answer.new.self (Deliver (read bytes)) (Delivered c.deliver-answer.result) (c.peers_run_on.ensures.still peer) (c.deliveries_are_calls.ensures bytes (λ i. omega (arith, c.type_inv.packet i))) c.deliver-answer.ensures
+    c.peers_run_on.ensures.call peer peer c.deliver_datagram-answer.new.self (Deliver (Ok (packet_of c.args.datagram.now))) (Delivered c.deliver_datagram-answer.result)
+    (c.peers_run_on.ensures.still peer) c.requires c.deliver_datagram-answer.ensures
 
 pub returns-clause-stopped : goal.returns-clause-stopped
 returns-clause-stopped g c why is =
@@ -18,8 +18,8 @@ returns-clause-stopped g c why is =
     record {
       before = peer;
       ran = c.peers_run_on.ensures.still peer;
-      call = Deliver (read c.args.packet.now);
-      reply = Delivered c.deliver-answer.result;
-      answered = c.deliver-answer.ensures;
+      call = Deliver (Ok (packet_of c.args.datagram.now));
+      reply = Delivered c.deliver_datagram-answer.result;
+      answered = c.deliver_datagram-answer.ensures;
       refused = ap (λ (r : Result Heard Refused). luck_of (Delivered r)) is;
     }
