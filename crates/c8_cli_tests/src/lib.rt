@@ -1,5 +1,5 @@
-//! The tests of c8_command, c8_keys, c8_show, c8_script and c8_cli, of what no whole text that a
-//! command prints can tell.
+//! The tests of c8_command, c8_keys, c8_show, c8_script, c8_front, c8_net and c8_cli, of what no
+//! whole text that a command prints can tell.
 //!
 //! Tables are lent by functions that say nothing of them: a proof is then of any rows.
 #![tactic(auto)]

@@ -1,4 +1,4 @@
-//! c8play: CHIP-8 programs, played by two to four people who agree on every frame.
+//! c8play: CHIP-8 programs, played together by two to four people over UDP.
 //!
 //! The command line and what it asks for are c8_cli's.
 #![tactic(auto)]
