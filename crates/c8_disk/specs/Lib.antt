@@ -1,3 +1,5 @@
+pub mod Asks
+pub mod AsksLaws
 pub mod AtOnce
 pub mod AtOnceLaws
 pub mod Budget

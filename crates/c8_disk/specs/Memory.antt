@@ -1,6 +1,6 @@
 -- What a disk in memory shows, and what its calls make of that.
-use Rattle.std.specs.Prelude.{◌≡◌, ◌<◌, ◌↔◌, ℕ, ◌+◌, ◌-◌, ◌==◌, ◌||◌, Bool, true, false, List, [], ◌∷◌, ◌++◌, length, Result, Ok, Err, IsErrOf}
-use Rattle.c8_disk.specs.Disk.{DiskCall, Reading, Writing, Syncing, overwritten}
+use Rattle.std.specs.Prelude.{◌≡◌, ◌<◌, ◌≤◌, ◌↔◌, ℕ, ◌+◌, ◌-◌, ◌==◌, ◌||◌, Bool, true, false, List, [], ◌∷◌, ◌++◌, length, Result, Ok, Err, IsErrOf}
+use Rattle.c8_disk.specs.Disk.{DiskCall, Reading, Writing, Syncing, longest_write, overwritten}
 use Rattle.c8_disk.specs.declared.error.DiskError.{DiskError}
 use Rattle.c8_disk.specs.declared.error.DiskError.TheVariants.{Failed, Full}
 use Rattle.c8_disk.specs.declared.call.Call.TheVariants.{Sync}
@@ -133,7 +133,8 @@ has_stopped v = v.left == 0 || stops_now v.arm
 abbrev pub IsCall : MemValue → DiskCall → MemValue → Type 0
 IsCall v (Reading at count result) w = (IsErrOf result Failed ↔ (has_stopped v ≡ true)) × (IsErrOf result Full → ⊥) × (w ≡ after_read result v)
 IsCall v (Writing at bytes result) w =
-    (IsErrOf result Failed ↔ (has_stopped v ≡ true)) × (IsErrOf result Full ↔ ((has_stopped v ≡ false) × (v.room < at + length bytes))) × IsWritten at bytes result v w
+    (at ≤ length v.bytes) × (length bytes ≤ longest_write)
+    × (IsErrOf result Failed ↔ (has_stopped v ≡ true)) × (IsErrOf result Full ↔ ((has_stopped v ≡ false) × (v.room < at + length bytes))) × IsWritten at bytes result v w
 IsCall v (Syncing result) w = (IsErrOf result Failed ↔ (has_stopped v ≡ true)) × (IsErrOf result Full → ⊥) × (w ≡ after_sync result v)
 
 -- told when its calls fail from now on

@@ -45,21 +45,12 @@ module _ {D : Type 0} (g : Ghosts D) where
   at_the_end counts_now old new P run image left = run.each image (counts_now new (g.moment old) image run.later left)
 
   -- some calls, and then others
-  leads_then : (a b c : D) (first second : List DiskCall) → Leads g first a b → Leads g second b c → Leads g (first ++ second) a c
+  pub leads_then : (a b c : D) (first second : List DiskCall) → Leads g first a b → Leads g second b c → Leads g (first ++ second) a c
   leads_then a b c [] second led on = subst (λ (d : D). Leads g second d c) led on
   leads_then a b c (call ∷ first) second (mid, does, led) on = (mid, does, leads_then mid b c first second led on)
 
-  -- the same disk is where nothing was asked of it, and where one call was
-  pub same_disk : (disk : D) → IsSameDisk g disk disk
-  same_disk disk = record { calls = []; led = refl; capacity = refl; arms = refl; no_fewer = omega arith }
-
-  pub same_after : (old new : D) (call : DiskCall) → g.does old call new → g.capacity new ≡ g.capacity old → g.arms new ≡ g.arms old → g.failures old ≤ g.failures new → IsSameDisk g old new
-  same_after old new call does capacity arms more = record { calls = call ∷ []; led = (new, does, refl); capacity = capacity; arms = arms; no_fewer = more }
-
   pub same_then : (a b c : D) → IsSameDisk g a b → IsSameDisk g b c → IsSameDisk g a c
   same_then a b c first second = record {
-    calls = first.calls ++ second.calls;
-    led = leads_then a b c first.calls second.calls first.led second.led;
     capacity = second.capacity ∙ first.capacity;
     arms = second.arms ∙ first.arms;
     no_fewer = omega (arith, first.no_fewer, second.no_fewer);

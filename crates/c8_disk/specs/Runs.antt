@@ -15,11 +15,8 @@ abbrev pub Leads : {D : Type 0} → Ghosts D → List DiskCall → D → D → T
 Leads disk [] old new = new ≡ old
 Leads {D} disk (call ∷ calls) old new = (mid : D) × disk.does old call mid × Leads disk calls mid new
 
--- It is the same disk: some calls led to it, whichever they were, it has the room that it had, was told to fail as it was, and its
--- failures are counted on.
+-- It is the same disk: with the room that it had, told to fail as it was, and its failures counted on.
 pub record IsSameDisk {D : Type 0} (disk : Ghosts D) (old new : D) : Type 0 where
-  pub calls : List DiskCall
-  pub led : Leads disk calls old new
   pub capacity : disk.capacity new ≡ disk.capacity old
   pub arms : disk.arms new ≡ disk.arms old
   pub no_fewer : disk.failures old ≤ disk.failures new

@@ -1,9 +1,10 @@
 -- What one call of a disk leaves, and what the calls of an opening do.
-use Rattle.std.proofs.Common.{◌≡◌, ⊎_elim, inl, inr, ◌≤◌, ℕ, List, refl, ap, ◌∙◌, arith}
-use Rattle.c8_disk.specs.Disk.{DiskCall, AddsNone, Elapses}
+use Rattle.std.proofs.Common.{◌≡◌, ⊎_elim, inl, inr, ◌≤◌, ◌+◌, ℕ, List, Bool, true, false, refl, sym, ap, subst, ◌∙◌, arith}
+use Rattle.std.proofs.lemmas.Bool.{cond-true, cond-false}
+use Rattle.c8_disk.specs.Disk.{AddsNone, Elapses}
 use Rattle.c8_disk.specs.declared.disk.Disk.{Ghosts}
 use Rattle.c8_disk.specs.Runs.{LeavesOnly, ReadsOnly}
-use Rattle.c8_disk.specs.RunLaws.{weaker, then_run, same_after}
+use Rattle.c8_disk.specs.RunLaws.{weaker, then_run}
 use Rattle.c8_log.specs.Slots.{kept}
 use Rattle.c8_log.specs.Log.{KeepsOneOf}
 
@@ -15,18 +16,6 @@ module _ {D : Type 0} (g : Ghosts D) (only_now : (disk : D) (image : List ℕ) �
     later = time.later;
     each = λ image left. ⊎_elim (λ past. only_now old image past) (λ now. none image now) (time.nothing_else (g.moment old) image (omega arith) left);
     before = λ t image le left. ⊎_elim (λ past. inl past) (λ now. inr (none image now)) (time.nothing_else t image le left);
-  }
-
-  -- one that only reads
-  pub reads_once : (old new : D) (call : DiskCall) → g.does old call new → g.seen new ≡ g.seen old → AddsNone (g.may_leave old) (g.may_leave new)
-      → Elapses (g.moment old) (g.moment new) (g.left_since old) (g.left_since new) (g.may_leave new) → g.changes new ≡ g.changes old → g.capacity new ≡ g.capacity old → g.arms new ≡ g.arms old
-      → g.failures old ≤ g.failures new → ReadsOnly g old new
-  reads_once old new call does seen none time changes capacity arms more = record {
-    seen = seen;
-    crash = none;
-    any_moment = leaves_once old new none time;
-    changes = changes;
-    same = same_after g old new call does capacity arms more;
   }
 
   -- a sync, then reading, and then a repair, which keeps the bodies that are seen

@@ -1,3 +1,4 @@
+mod Asked
 mod Crash
 mod Disks
 mod Kept

@@ -1,3 +1,4 @@
+pub mod Asked
 pub mod Errors
 pub mod Journal
 pub mod Log

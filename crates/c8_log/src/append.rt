@@ -2,6 +2,8 @@
 ghost use Rattle.std.specs.Prelude.{◌≡◌, ◌≤◌, ◌<◌, ◌+◌, ◌*◌, ◌^◌, ◌++◌, [], ◌∷◌, OnOk, IsErrOf, IsTrue, ◌↔◌};
 ghost use Rattle.c8_disk.specs.Disk.{HasCause};
 ghost use Rattle.c8_disk.specs.Runs.{LeavesOnly, IsSameDisk};
+ghost use Rattle.c8_disk.specs.Asks.{Asks};
+ghost use Rattle.c8_log.specs.Asked.{Append};
 ghost use Rattle.c8_log.specs.Slots.{kept, slot_length};
 ghost use Rattle.c8_log.specs.Log.{IsUp, IsLeftByAppend, KeepsWithOrWithout, with_slot};
 
@@ -37,6 +39,7 @@ pub(crate) fn add<D: Disk>(
     ensures never_full { IsErrOf result DiskError.Full → ⊥ }
     ensures changes { D.changes disk.new ≤ D.changes disk.old + 4 }
     ensures same { IsSameDisk D.Disk disk.old disk.new }
+    ensures asks { Asks D.Disk (Append count body.now) result disk.old disk.new }
 {
     c8_disk::laws::writes_keep_the_rest();
     let gate = SLOT * count;

@@ -2,6 +2,7 @@
 ghost use Rattle.std.specs.Prelude.{◌≡◌, ◌<◌, ◌≤◌, ◌+◌, ◌*◌, ◌^◌, length, IfOk, IsErrOf};
 ghost use Rattle.c8_disk.specs.Disk.{HasCause};
 ghost use Rattle.c8_disk.specs.Runs.{ReadsOnly};
+ghost use Rattle.c8_disk.specs.Asks.{Asks, Reads, answer_of};
 ghost use Rattle.c8_log.specs.Slots.{is_open, kept_count, slot_length};
 ghost use Rattle.c8_log.specs.Log.{has_closed_gate, has_closed_gate_at};
 
@@ -20,6 +21,8 @@ pub(crate) fn find_end<D: Disk>(disk: &mut D) -> Result<End, DiskError>
     ensures closed { IfOk result (λ end. end.closed ≡ has_closed_gate (D.seen disk.old)) }
     ensures fits { IfOk result (λ end. slot_length * end.count < 2 ^ 32) }
     ensures reads { ReadsOnly D.Disk disk.old disk.new }
+    ensures asks { Asks D.Disk (Reads (kept_count (D.seen disk.old) + 1)) (answer_of result)
+        disk.old disk.new }
     ensures cause { HasCause (D.failures disk.old) (D.failures disk.new) result }
     ensures never_full { IsErrOf result DiskError.Full → ⊥ }
 {
@@ -45,6 +48,7 @@ fn stands_open<D: Disk>(disk: &mut D, n: u32) -> Result<bool, DiskError>
     requires fits { slot_length * n + slot_length < 2 ^ 32 }
     ensures stands { IfOk result (λ stands. stands ≡ is_open (D.seen disk.old) n) }
     ensures reads { ReadsOnly D.Disk disk.old disk.new }
+    ensures asks { Asks D.Disk (Reads 1) (answer_of result) disk.old disk.new }
     ensures cause { HasCause (D.failures disk.old) (D.failures disk.new) result }
     ensures never_full { IsErrOf result DiskError.Full → ⊥ }
 {
@@ -59,6 +63,7 @@ fn ends_closed<D: Disk>(disk: &mut D, n: u32) -> Result<bool, DiskError>
     requires ends { length (D.seen disk.old) < slot_length * n + slot_length }
     ensures closed { IfOk result (λ closed. closed ≡ has_closed_gate_at (D.seen disk.old) n) }
     ensures reads { ReadsOnly D.Disk disk.old disk.new }
+    ensures asks { Asks D.Disk (Reads 1) (answer_of result) disk.old disk.new }
     ensures cause { HasCause (D.failures disk.old) (D.failures disk.new) result }
     ensures never_full { IsErrOf result DiskError.Full → ⊥ }
 {

@@ -2,6 +2,8 @@
 ghost use Rattle.std.specs.Prelude.{◌≡◌, ◌<◌, ◌≤◌, ◌+◌, ◌*◌, ◌++◌, [], ◌∷◌, ◌↔◌, ◌==◌, true, false, length, OnOk, OnErr, IsErrOf};
 ghost use Rattle.c8_disk.specs.Disk.{AddsNone};
 ghost use Rattle.c8_disk.specs.Runs.{LeavesOnly, IsSameDisk};
+ghost use Rattle.c8_disk.specs.Asks.{Asks};
+ghost use Rattle.c8_log.specs.Asked.{AppendWithin};
 ghost use Rattle.c8_log.specs.Slots.{kept, slot_length};
 
 use crate::slot::BODY_LENGTH;
@@ -121,6 +123,10 @@ impl<D: Disk> Journal<D> {
 
         ensures changes { D.changes self.new.disk ≤ D.changes self.old.disk + 4 }
         ensures same { IsSameDisk D.Disk self.old.disk self.new.disk }
+
+        // Which calls of the disk it makes, until one of them is refused.
+        ensures asks { Asks D.Disk (AppendWithin (D.capacity self.old.disk)
+            (length self.old.bodies) body.now) result self.old.disk self.new.disk }
     {
         let error = match self.log.append(body) {
             Ok(_) => return Ok(()),

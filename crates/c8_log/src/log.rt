@@ -2,6 +2,8 @@
 ghost use Rattle.std.specs.Prelude.{◌≡◌, ◌≢◌, ◌<◌, ◌≤◌, ◌+◌, ◌*◌, ◌^◌, ◌++◌, [], ◌∷◌, ◌↔◌, ◌==◌, true, false, length, slice_get, Some, IfOk, OnOk, IfErr, OnErr, IsErrOf};
 ghost use Rattle.c8_disk.specs.Disk.{AddsNone};
 ghost use Rattle.c8_disk.specs.Runs.{LeavesOnly, IsSameDisk, ReadsOnly};
+ghost use Rattle.c8_disk.specs.Asks.{Asks, Reads};
+ghost use Rattle.c8_log.specs.Asked.{AppendWithin, Opening, told_by, told_by_opening};
 ghost use Rattle.c8_log.specs.Slots.{kept, kept_count, slot_length};
 
 use crate::LogError;
@@ -74,6 +76,10 @@ impl<D: Disk> Log<D> {
         ensures no_repair { has_closed_gate (D.seen disk) ≡ true
             → D.changes (disk_after result) ≡ D.changes disk + 1 }
         ensures same { IsSameDisk D.Disk disk (disk_after result) }
+
+        // Which calls of the disk it makes, until one of them is refused.
+        ensures asks { Asks D.Disk (Opening (D.seen disk)) (told_by_opening result)
+            disk (disk_after result) }
     {
         let mut disk = disk;
         match settle(&mut disk) {
@@ -145,6 +151,11 @@ impl<D: Disk> Log<D> {
 
         ensures changes { D.changes self.new.disk ≤ D.changes self.old.disk + 4 }
         ensures same { IsSameDisk D.Disk self.old.disk self.new.disk }
+
+        // Which calls of the disk it makes, where the log was up, until one of them is refused.
+        ensures asks { self.old.down ≡ false → Asks D.Disk
+            (AppendWithin (D.capacity self.old.disk) self.old.count body.now)
+            (told_by result) self.old.disk self.new.disk }
     {
         if self.down {
             return Err(LogError::Down);
@@ -173,6 +184,8 @@ impl<D: Disk> Log<D> {
         // Nothing is written, and a crash at any moment of the call leaves what a crash before it
         // could have left.
         ensures reads { ReadsOnly D.Disk self.old.disk self.new.disk }
+        ensures asks { self.old.down ≡ false
+            → Asks D.Disk (Reads 1) (told_by result) self.old.disk self.new.disk }
 
         // When each error comes, and what it leaves.
         ensures down { IsErrOf result LogError.Down ↔ (self.old.down ≡ true) }

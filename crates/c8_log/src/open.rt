@@ -3,6 +3,8 @@
 ghost use Rattle.std.specs.Prelude.{◌≡◌, ◌<◌, ◌≤◌, ◌+◌, ◌*◌, ◌^◌, true, false, length, IfOk, OnOk, IfErr, IsErrOf};
 ghost use Rattle.c8_disk.specs.Disk.{Only, HasCause};
 ghost use Rattle.c8_disk.specs.Runs.{LeavesOnly, IsSameDisk};
+ghost use Rattle.c8_disk.specs.Asks.{Asks, answer_of};
+ghost use Rattle.c8_log.specs.Asked.{Repair, Opening};
 ghost use Rattle.c8_log.specs.Slots.{kept, kept_count, slot_length};
 ghost use Rattle.c8_log.specs.Log.{IsUp, KeepsOneOf, IsLeftByOpening, has_closed_gate, repaired, log_error};
 
@@ -26,6 +28,7 @@ pub(crate) fn settle<D: Disk>(disk: &mut D) -> Result<u32, DiskError>
     ensures no_repair { has_closed_gate (D.seen disk.old) ≡ true
         → D.changes disk.new ≡ D.changes disk.old + 1 }
     ensures same { IsSameDisk D.Disk disk.old disk.new }
+    ensures asks { Asks D.Disk (Opening (D.seen disk.old)) (answer_of result) disk.old disk.new }
 {
     disk.sync()?;
     let end = find_end(disk)?;
@@ -52,6 +55,7 @@ fn repair<D: Disk>(disk: &mut D, end: End) -> Result<(), DiskError>
     ensures changes { D.changes disk.new ≤ D.changes disk.old + 2 }
     ensures no_repair { end.closed ≡ true → D.changes disk.new ≡ D.changes disk.old }
     ensures same { IsSameDisk D.Disk disk.old disk.new }
+    ensures asks { Asks D.Disk (Repair (D.seen disk.old)) result disk.old disk.new }
 {
     c8_disk::laws::writes_keep_the_rest();
     if end.closed {

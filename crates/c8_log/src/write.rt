@@ -2,6 +2,8 @@
 ghost use Rattle.std.specs.Prelude.{◌≡◌, ◌<◌, ◌≤◌, ◌+◌, length, OnOk, IsErrOf};
 ghost use Rattle.c8_disk.specs.Disk.{Only, Writes, HasCause, longest_write};
 ghost use Rattle.c8_disk.specs.Runs.{LeavesOnly, IsSameDisk};
+ghost use Rattle.c8_disk.specs.Asks.{Asks};
+ghost use Rattle.c8_log.specs.Asked.{WriteAndSync};
 ghost use Rattle.c8_log.specs.Written.{IsBeforeOrTorn};
 
 use c8_disk::{Disk, DiskError};
@@ -20,6 +22,7 @@ pub(crate) fn write_and_sync<D: Disk>(disk: &mut D, at: u32, bytes: &[u8]) -> Re
     ensures full { IsErrOf result DiskError.Full → D.capacity disk.old < at + length bytes.now }
     ensures changes { D.changes disk.new ≤ D.changes disk.old + 2 }
     ensures same { IsSameDisk D.Disk disk.old disk.new }
+    ensures asks { Asks D.Disk (WriteAndSync at bytes.now) result disk.old disk.new }
 {
     // For the proof: a whole write that was not synced is a torn one.
     c8_disk::laws::writes_keep_the_rest();

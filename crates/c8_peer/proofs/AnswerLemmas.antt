@@ -1,10 +1,12 @@
 -- What every call answers for, at each of its ends.
-use Rattle.std.proofs.Common.{◌≡◌, ◌≤◌, ◌+◌, ◌++◌, ℕ, [], ◌∷◌, Some, None, refl, sym, subst, ◌∙◌, arith}
+use Rattle.std.proofs.Common.{◌≡◌, ◌≤◌, ◌+◌, ◌++◌, ℕ, [], ◌∷◌, length, Some, None, Ok, Err, refl, sym, subst, ◌∙◌, arith}
 use Rattle.c8_game.specs.Rules.{Rules}
 use Rattle.c8_disk.specs.declared.disk.Disk.{Ghosts}
 use Rattle.c8_disk.specs.declared.error.DiskError.{DiskError}
 use Rattle.c8_disk.specs.Runs.{LeavesOnly, IsSameDisk}
-use Rattle.c8_disk.specs.RunLaws.{same_disk}
+use Rattle.c8_disk.specs.Asks.{Answer, Asks}
+use Rattle.c8_log.specs.Asked.{AppendWithin}
+use Rattle.c8_record.specs.Body.{body_of}
 use Rattle.c8_log.specs.Journal.{JournalValue}
 use Rattle.c8_known.specs.Journal.{Record}
 use Rattle.c8_known.specs.Known.{KnownValue}
@@ -29,11 +31,12 @@ module _ {D : Type 0} (g : Ghosts D) where
     step = step;
     cause = λ why e. let never : Works ≡ Refuses why = sym luck ∙ e in absurd cc;
     any_moment = rw none sound.still;
+    asks = λ r some. let never : None ≡ Some r = sym none ∙ some in absurd cc;
     journal = sound.leaves;
     untouched = λ e. refl;
     changes = omega arith;
     ran = rw none refl;
-    same = record { rules = refl; room = refl; me = refl; disk_is = same_disk g v.disk };
+    same = record { rules = refl; room = refl; me = refl; disk_is = record { capacity = refl; arms = refl; no_fewer = omega arith } };
   }
 
   -- nothing is recorded; the memory may change
@@ -42,10 +45,11 @@ module _ {D : Type 0} (g : Ghosts D) where
   answers v m call reply sound mode comes luck = quiet v m call reply sound (rw (mode, comes) refl) luck (rw (mode, comes) refl)
 
   -- what a call that records does with the disk
-  pub record Kept (v : PeerValue D) (r : Record) (new : D) : Type 0 where
+  pub record Kept (v : PeerValue D) (r : Record) (answer : Answer) (new : D) : Type 0 where
     pub any_moment : LeavesOnly g v.disk new (KeepsWithOrWithout v.state.journal (Some r))
     pub changes : g.changes new ≤ g.changes v.disk + 4
     pub same : IsSameDisk g v.disk new
+    pub asks : Asks g (AppendWithin (g.capacity v.disk) (length v.state.journal) (body_of r)) answer v.disk new
 
   abbrev pub with_record : PeerValue D → D → Record → Memory → ℕ → PeerValue D
   with_record v disk r m ran = record v { disk = disk; state = record v.state { journal = v.state.journal ++ r ∷ []; memory = m }; last_run = ran }
@@ -55,13 +59,16 @@ module _ {D : Type 0} (g : Ghosts D) where
 
   -- the disk takes the record
   pub records : (v : PeerValue D) (disk : D) (m : Memory) (ran : ℕ) (call : Call) (reply : Reply) (r : Record) → v.state.mode ≡ Open
-      → outcome v.rules (known_by v) v.state.memory call ≡ recorded m reply r → luck_of reply ≡ Works → Kept v r disk → ran ≤ most_run v.rules call
+      → outcome v.rules (known_by v) v.state.memory call ≡ recorded m reply r → luck_of reply ≡ Works → Kept v r (Ok tt) disk → ran ≤ most_run v.rules call
       → LeavesJournal g (with_record v disk r m ran) → IsAnswered g v call reply (with_record v disk r m ran)
   records v disk m ran call reply r mode comes luck kept few leaves = record {
     step = rw (mode, comes, luck) refl;
     cause = λ why e. let never : Works ≡ Refuses why = sym luck ∙ e in absurd cc;
     any_moment = rw (mode, comes) kept.any_moment;
     journal = leaves;
+    asks = λ other is. let this : Some r ≡ Some other = rw (mode, comes) refl ∙ is in
+        let same : r ≡ other = cc in
+        rw luck (subst (λ (x : Record). Asks g (AppendWithin (g.capacity v.disk) (length v.state.journal) (body_of x)) (Ok tt) v.disk disk) same kept.asks);
     untouched = λ e. let never : Some r ≡ None = sym (rw (mode, comes) refl) ∙ e in absurd cc;
     changes = kept.changes;
     ran = rw (mode, comes, luck) few;
@@ -70,7 +77,7 @@ module _ {D : Type 0} (g : Ghosts D) where
 
   -- the disk refuses it
   pub is_refused : (v : PeerValue D) (disk : D) (m : Memory) (call : Call) (reply said : Reply) (r : Record) (why : DiskError) → v.state.mode ≡ Open
-      → outcome v.rules (known_by v) v.state.memory call ≡ recorded m said r → reply ≡ refused_by_disk call why → luck_of reply ≡ Refuses why → Kept v r disk
+      → outcome v.rules (known_by v) v.state.memory call ≡ recorded m said r → reply ≡ refused_by_disk call why → luck_of reply ≡ Refuses why → Kept v r (Err why) disk
       → HasCause g v (without_record v disk r) why → LeavesJournal g (without_record v disk r) → IsAnswered g v call reply (without_record v disk r)
   is_refused v disk m call reply said r why mode comes is luck kept cause leaves = record {
     step = rw (mode, comes, luck, is) refl;
@@ -78,6 +85,9 @@ module _ {D : Type 0} (g : Ghosts D) where
         let this : why ≡ other = cc in subst (HasCause g v (without_record v disk r)) this cause;
     any_moment = rw (mode, comes) kept.any_moment;
     journal = leaves;
+    asks = λ other is. let this : Some r ≡ Some other = rw (mode, comes) refl ∙ is in
+        let same : r ≡ other = cc in
+        rw luck (subst (λ (x : Record). Asks g (AppendWithin (g.capacity v.disk) (length v.state.journal) (body_of x)) (Err why) v.disk disk) same kept.asks);
     untouched = λ e. let never : Some r ≡ None = sym (rw (mode, comes) refl) ∙ e in absurd cc;
     changes = kept.changes;
     ran = rw (mode, comes, luck) refl;

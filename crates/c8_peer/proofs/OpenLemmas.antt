@@ -6,12 +6,16 @@ use Rattle.c8_disk.specs.declared.disk.Disk.{Ghosts}
 use Rattle.c8_disk.specs.declared.error.DiskError.TheVariants.{Failed, Full}
 use Rattle.c8_disk.specs.Runs.{LeavesOnly, IsSameDisk, ReadsOnly}
 use Rattle.c8_disk.specs.RunLaws.{then_run, weaker}
+use Rattle.c8_disk.specs.Asks.{Answer, Reads, Asks}
+use Rattle.c8_disk.specs.AsksLaws.{asks_then, asks_refused}
+use Rattle.c8_disk.specs.declared.error.DiskError.{DiskError}
+use Rattle.c8_log.specs.Asked.{AppendWithin, Opening as OpenLog}
 use Rattle.c8_log.specs.Log.{AllKeep, KeepsOneOf, LogValue, repaired}
 use Rattle.c8_log.specs.Journal.{JournalValue, AllKeepBodies}
 use Rattle.c8_known.specs.Journal.{Record, Head, Epoch, epoch, epochs}
 use Rattle.c8_known.specs.Known.{KnownValue, known_of, with_record}
 use Rattle.c8_record.specs.Body.{record_of, records_of}
-use Rattle.c8_record.specs.Replay.{AreJournalBodies, IsRefusal, IsReplayedFromDisk, is_failed}
+use Rattle.c8_record.specs.Replay.{AreJournalBodies, IsRefusal, IsReplayedFromDisk, is_failed, told_by}
 use Rattle.c8_record.specs.declared.error.ReplayError.{ReplayError}
 use Rattle.c8_record.specs.declared.error.ReplayError.TheVariants as replays
 use Rattle.c8_record.specs.JournalLaws.{epoch_more, known_more, of_game}
@@ -21,8 +25,8 @@ use Rattle.c8_peer.specs.State.{Memory, Opened, fresh_memory}
 use Rattle.c8_peer.specs.Opening.{last_epoch, unfit, opening_record}
 use Rattle.c8_peer.specs.Peer.{PeerValue, mode_of, IsSound}
 use Rattle.c8_peer.specs.Held.{IsPeer}
-use Rattle.c8_peer.specs.Opened.{opening_body, bodies_found, MayBegin, IsOpened, IsSettled, IsUnread, IsUnfit, IsNotWritten, IsRefusedFor, IsRefusedOpening, OpeningLeaves}
-use Rattle.c8_peer.specs.OpenedParts.{IsRead, IsBegun, IsNotBegun, BeginningLeaves}
+use Rattle.c8_peer.specs.Opened.{opening_body, bodies_found, ReadRun, OpenRun, MayBegin, IsOpened, IsSettled, IsUnread, IsUnfit, IsNotWritten, IsRefusedFor, IsRefusedOpening, OpeningLeaves}
+use Rattle.c8_peer.specs.OpenedParts.{IsRead, BeginRun, IsBegun, IsNotBegun, BeginningLeaves}
 use Rattle.c8_peer.proofs.OpeningLemmas.{opening_allowed, opening_memory}
 use Rattle.c8_peer.proofs.PeerLemmas.{one_body_more, bodies_more, view}
 use Rattle.c8_peer.proofs.ReaderLemmas.{ticks_are}
@@ -38,6 +42,21 @@ next_epoch rules room me (r ∷ rest) last is = ap (λ (n : ℕ). n + 1) is ∙ 
 nothing_known : (rules : Rules) (room me : ℕ) (journal : List Record) (k : KnownValue) → with_record k (opening_record rules room me journal) ≡ k
 nothing_known rules room me [] k = refl
 nothing_known rules room me (r ∷ rest) k = refl
+
+-- ---- which calls of the disk lead to what was read
+
+module _ {D : Type 0} (g : Ghosts D) (disk : D) (rules : Rules) (room me : ℕ) where
+  pub read_run : (log : LogValue D) (left : D) (answer : Answer) → Asks g (OpenLog (g.seen disk)) (Ok tt) disk log.disk → log.count ≡ length (bodies_found g log.disk) → bodies_found g log.disk ≡ bodies_found g disk
+      → Asks g (Reads log.count) answer log.disk left → Asks g (ReadRun g disk rules room me) answer disk left
+  read_run log left answer opens count same reads =
+      asks_then g (OpenLog (g.seen disk)) (Reads (length (bodies_found g disk))) disk log.disk left answer opens
+      (subst (λ (n : ℕ). Asks g (Reads n) answer log.disk left) (count ∙ ap length same) reads)
+
+  -- the log was not opened
+  pub open_refused : (left : D) (why : DiskError) → Asks g (OpenLog (g.seen disk)) (Err why) disk left → Asks g (OpenRun g disk rules room me) (Err why) disk left
+  open_refused left why asks =
+      asks_refused g (ReadRun g disk rules room me) (BeginRun g disk rules room me) disk left why
+      (asks_refused g (OpenLog (g.seen disk)) (Reads (length (bodies_found g disk))) disk left why asks)
 
 -- ---- why a journal that was read is refused
 
@@ -57,16 +76,19 @@ module _ {D : Type 0} (g : Ghosts D) (reads_now : (disk : D) → g.may_leave dis
   module _ (disk mid left : D) (rules : Rules) (room me : ℕ) (k : KnownValue) (same : bodies_found g mid ≡ bodies_found g disk)
       (mended : g.seen mid ≡ repaired (g.seen disk)) (rests : AllKeep (bodies_found g mid) (g.may_leave mid))
       (first : IsSameDisk g disk mid) (reads : ReadsOnly g mid left) where
-    unfit_after : (error : ReplayError) → IsRefusal rules me room (bodies_found g mid) error → IsUnfit g disk rules room me error left
-    unfit_after error is = (subst (λ (bodies : List (List ℕ)). IsRefusal rules me room bodies error) same is, settled_after disk mid left same mended rests reads)
+    unfit_after : (error : ReplayError) → IsRefusal rules me room (bodies_found g mid) error → Asks g (ReadRun g disk rules room me) (Ok tt) disk left → IsUnfit g disk rules room me error left
+    unfit_after error is asks = (subst (λ (bodies : List (List ℕ)). IsRefusal rules me room bodies error) same is, settled_after disk mid left same mended rests reads, asks)
 
-    pub refused_reading : (error : ReplayError) → (is_failed (Err error) ≡ true → g.failures mid < g.failures left) → IsReplayedFromDisk rules me room (bodies_found g mid) (Err error) k
+    pub refused_reading : (error : ReplayError) → Asks g (ReadRun g disk rules room me) (told_by (Err error)) disk left → (is_failed (Err error) ≡ true → g.failures mid < g.failures left) → IsReplayedFromDisk rules me room (bodies_found g mid) (Err error) k
         → IsRefusedFor g disk rules room me (unfit error) left
-    refused_reading replays.WrongGame fails is = unfit_after replays.WrongGame is.0
-    refused_reading replays.WrongPlayer fails is = unfit_after replays.WrongPlayer is.0
-    refused_reading (replays.BadRecord n) fails is = unfit_after (replays.BadRecord n) is.0
-    refused_reading (replays.Disk Failed) fails is = inl (omega (arith, fails refl, first.no_fewer), settled_unread disk left (settled_after disk mid left same mended rests reads))
-    refused_reading (replays.Disk Full) fails is = absurd (let why = is.0 in cc)
+    refused_reading replays.WrongGame asks fails is = unfit_after replays.WrongGame is.0 asks
+    refused_reading replays.WrongPlayer asks fails is = unfit_after replays.WrongPlayer is.0 asks
+    refused_reading (replays.BadRecord n) asks fails is = unfit_after (replays.BadRecord n) is.0 asks
+    refused_reading (replays.Disk Failed) asks fails is = (
+      inl (omega (arith, fails refl, first.no_fewer), settled_unread disk left (settled_after disk mid left same mended rests reads)),
+      asks_refused g (ReadRun g disk rules room me) (BeginRun g disk rules room me) disk left Failed asks,
+    )
+    refused_reading (replays.Disk Full) asks fails is = absurd (let why = is.0 in cc)
 
 -- ---- what the record comes to, on the disk as it was found
 
@@ -78,18 +100,31 @@ module _ {D : Type 0} (g : Ghosts D) (disk mid : D) (rules : Rules) (room me : �
     leaves = subst (λ (bodies : List (List ℕ)). AllKeepBodies bodies (Some (opening_body rules room me bodies)) (g.may_leave left)) same is.leaves;
   }
 
-  pub refused_beginning : (left : D) (error : OpenError) → AreJournalBodies rules me room (bodies_found g disk) → IsSettled g disk mid → IsSameDisk g disk mid → g.failures mid ≡ g.failures disk → IsNotBegun g mid rules room me error left → IsRefusedFor g disk rules room me error left
-  refused_beginning left opens.WrongGame are settled first unfailed none = absurd none
-  refused_beginning left opens.WrongPlayer are settled first unfailed none = absurd none
-  refused_beginning left (opens.BadRecord n) are settled first unfailed none = absurd none
-  refused_beginning left opens.Memory are settled first unfailed none = absurd none
-  refused_beginning left opens.EpochsSpent are settled first unfailed is = record {
+  -- the same calls, by the disk as it was found
+  pub begin_run : (left : D) (answer : Answer) → g.capacity mid ≡ g.capacity disk → Asks g (BeginRun g mid rules room me) answer mid left → Asks g (BeginRun g disk rules room me) answer mid left
+  begin_run left answer capacity asks =
+      subst (λ (c : ℕ). Asks g (AppendWithin c (length (bodies_found g disk)) (opening_body rules room me (bodies_found g disk))) answer mid left) capacity
+      (subst (λ (bodies : List (List ℕ)). Asks g (AppendWithin (g.capacity mid) (length bodies) (opening_body rules room me bodies)) answer mid left) same asks)
+
+  pub refused_beginning : (left : D) (error : OpenError) → AreJournalBodies rules me room (bodies_found g disk) → IsSettled g disk mid → IsSameDisk g disk mid → g.failures mid ≡ g.failures disk → Asks g (ReadRun g disk rules room me) (Ok tt) disk mid → IsNotBegun g mid rules room me error left → IsRefusedFor g disk rules room me error left
+  refused_beginning left opens.WrongGame are settled first unfailed asks none = absurd none
+  refused_beginning left opens.WrongPlayer are settled first unfailed asks none = absurd none
+  refused_beginning left (opens.BadRecord n) are settled first unfailed asks none = absurd none
+  refused_beginning left opens.Memory are settled first unfailed asks none = absurd none
+  refused_beginning left opens.EpochsSpent are settled first unfailed asks is = record {
     bodies = are;
     spent = subst (λ (bodies : List (List ℕ)). last_epoch ≤ epoch (records_of bodies)) same is.0;
     settled = subst (IsSettled g disk) (sym is.1) settled;
+    asks = subst (Asks g (ReadRun g disk rules room me) (Ok tt) disk) (sym is.1) asks;
   }
-  refused_beginning left (opens.Disk Failed) are settled first unfailed is = inr ((omega (arith, is.0.0, first.capacity, ap length same), omega (arith, is.0.1, unfailed)), not_written left is.1)
-  refused_beginning left (opens.Disk Full) are settled first unfailed is = inr ((omega (arith, is.0.0, first.capacity, ap length same), is.0.1 ∙ unfailed), not_written left is.1)
+  refused_beginning left (opens.Disk Failed) are settled first unfailed asks is = (
+    inr ((omega (arith, is.0.0, first.capacity, ap length same), omega (arith, is.0.1, unfailed)), not_written left is.1),
+    asks_then g (ReadRun g disk rules room me) (BeginRun g disk rules room me) disk mid left (Err Failed) asks (begin_run left (Err Failed) first.capacity is.2),
+  )
+  refused_beginning left (opens.Disk Full) are settled first unfailed asks is = (
+    inr ((omega (arith, is.0.0, first.capacity, ap length same), is.0.1 ∙ unfailed), not_written left is.1),
+    asks_then g (ReadRun g disk rules room me) (BeginRun g disk rules room me) disk mid left (Err Full) asks (begin_run left (Err Full) first.capacity is.2),
+  )
 
   pub begun_there : (journal : JournalValue D) (number : ℕ) → IsBegun g mid rules room me journal number → IsBegun g disk rules room me journal number
   begun_there journal number is = record {
@@ -144,8 +179,8 @@ module _ {D : Type 0} (g : Ghosts D) (disk : D) (rules : Rules) (room me : ℕ) 
         last = ap (λ (one : Memory). one.links.epoch) in_epoch ∙ ap epoch (sym longer);
       })
 
-  pub opened_peer : (ran : ℕ) → ran ≡ k.ticks → IsSound g (view rules room k.me journal m ran) → IsSameDisk g disk journal.disk → IsOpened g disk rules room me (view rules room k.me journal m ran)
-  opened_peer ran runs sound same = record {
+  pub opened_peer : (ran : ℕ) → ran ≡ k.ticks → IsSound g (view rules room k.me journal m ran) → IsSameDisk g disk journal.disk → Asks g (OpenRun g disk rules room me) (Ok tt) disk journal.disk → IsOpened g disk rules room me (view rules room k.me journal m ran)
+  opened_peer ran runs sound same asks = record {
     rules_are = refl;
     room_is = refl;
     me_is = ap (λ (known : KnownValue). known.me) read.known ∙ (of_game rules me (records_of (bodies_found g disk))).player;
@@ -158,6 +193,7 @@ module _ {D : Type 0} (g : Ghosts D) (disk : D) (rules : Rules) (room me : ℕ) 
     sound = sound;
     ran = runs ∙ ticks_are (view rules room k.me journal m ran) rules room journal k m refl peer_opened;
     same = same;
+    asks = asks;
   }
 
 -- ---- the refusal of a player of the game

@@ -1,11 +1,13 @@
 -- What holds of a peer's parts goes on through its calls.
-use Rattle.std.proofs.Common.{◌≡◌, ◌≤◌, ◌+◌, ℕ, List, [], ◌∷◌, ◌++◌, map, option_map, Some, true, false, refl, sym, ap, subst, ◌∙◌, inl, inr, ⊎_elim, arith, None, Bool}
+use Rattle.std.proofs.Common.{◌≡◌, ◌≤◌, ◌+◌, ℕ, List, [], ◌∷◌, ◌++◌, length, map, option_map, Some, true, false, refl, sym, ap, subst, ◌∙◌, inl, inr, ⊎_elim, arith, None, Bool}
 use Rattle.std.proofs.lemmas.Bool.{cases_Bool}
-use Rattle.std.proofs.lemmas.List.{map-append}
+use Rattle.std.proofs.lemmas.List.{map-append, length-map}
 use Rattle.c8_game.specs.Rules.{Rules}
 use Rattle.c8_disk.specs.declared.disk.Disk.{Ghosts}
 use Rattle.c8_disk.specs.Runs.{LeavesOnly}
 use Rattle.c8_disk.specs.RunLaws.{weaker}
+use Rattle.c8_disk.specs.Asks.{Answer, Asks}
+use Rattle.c8_log.specs.Asked.{AppendWithin}
 use Rattle.c8_log.specs.Journal.{JournalValue, KeepsBodies}
 use Rattle.c8_known.specs.Journal.{Record, Head, Epoch, Own, Got, Freeze, Leave, Cut, epoch}
 use Rattle.c8_known.specs.JournalLaws.{epoch_stays}
@@ -215,6 +217,15 @@ module _ {D : Type 0} where
       subst (λ (x : PeerValue D). LeavesOnly g x.disk new (KeepsWithOrWithout x.state.journal (Some r))) is
       (weaker g old.disk new (KeepsBodies old.bodies (Some body)) (KeepsWithOrWithout (records_of old.bodies) (Some r)) run
       (λ image keeps. keeps_records rules me room old.bodies r are image (subst (λ (one : List ℕ). KeepsBodies old.bodies (Some one) image) spelled keeps)))
+
+  -- what the disk was asked, in the words of the records
+  pub asks_records : {ran : ℕ} (g : Ghosts D) (v : PeerValue D) (rules : Rules) (room me : ℕ) (old : JournalValue D) (new : D) (m : Memory) (r : Record) (body : List ℕ) (answer : Answer)
+      → view rules room me old m ran ≡ v → body ≡ body_of r → Asks g (AppendWithin (g.capacity old.disk) (length old.bodies) body) answer old.disk new
+      → Asks g (AppendWithin (g.capacity v.disk) (length v.state.journal) (body_of r)) answer v.disk new
+  asks_records g v rules room me old new m r body answer is spelled asks =
+      subst (λ (x : PeerValue D). Asks g (AppendWithin (g.capacity x.disk) (length x.state.journal) (body_of r)) answer x.disk new) is
+      (subst (λ (n : ℕ). Asks g (AppendWithin (g.capacity old.disk) n (body_of r)) answer old.disk new) (sym (length-map old.bodies record_of))
+      (subst (λ (one : List ℕ). Asks g (AppendWithin (g.capacity old.disk) (length old.bodies) one) answer old.disk new) spelled asks))
 
   pub allowed_outside : {v w : PeerValue D} (r : Record) → v ≡ w → IsAllowed v.rules v.me v.room v.state.journal r → IsAllowed w.rules w.me w.room w.state.journal r
   allowed_outside r is may = subst (λ (x : PeerValue D). IsAllowed x.rules x.me x.room x.state.journal r) is may

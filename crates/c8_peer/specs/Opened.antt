@@ -5,6 +5,8 @@ use Rattle.c8_disk.specs.declared.disk.Disk.{Ghosts}
 use Rattle.c8_disk.specs.declared.error.DiskError.{DiskError}
 use Rattle.c8_disk.specs.declared.error.DiskError.TheVariants as errors
 use Rattle.c8_disk.specs.Runs.{IsSameDisk}
+use Rattle.c8_disk.specs.Asks.{Run, Reads, Then, Asks}
+use Rattle.c8_log.specs.Asked.{AppendWithin, Opening as OpenLog}
 use Rattle.c8_log.specs.Slots.{slot_length, kept}
 use Rattle.c8_log.specs.Log.{AllKeep, KeepsOneOf, has_closed_gate, repaired}
 use Rattle.c8_log.specs.Journal.{AllKeepBodies}
@@ -63,6 +65,14 @@ module _ {D : Type 0} (g : Ghosts D) (disk : D) where
 -- ---- the opening of a player's peer, in a game and a room
 
 module _ {D : Type 0} (g : Ghosts D) (disk : D) (rules : Rules) (room me : ℕ) where
+  -- which calls of the disk an opening makes: those that open the log, a read of each kept body at most, and the append of its
+  -- record after them
+  abbrev pub ReadRun : Run
+  ReadRun = Then (OpenLog (g.seen disk)) (Reads (length (bodies_found g disk)))
+
+  abbrev pub OpenRun : Run
+  OpenRun = Then ReadRun (AppendWithin (g.capacity disk) (length (bodies_found g disk)) (opening_body rules room me (bodies_found g disk)))
+
   -- What is so of a peer that was opened there.
   --
   -- - `rules_are`, `room_is`, `me_is`: it is of this match and player.
@@ -72,7 +82,7 @@ module _ {D : Type 0} (g : Ghosts D) (disk : D) (rules : Rules) (room me : ℕ) 
   -- - `bodies`: the bodies found are those of that journal.
   -- - `sound`: what is so of every peer is so of this one.
   -- - `ran`: as many frames were run as the journal has ticks.
-  -- - `same`: it stands on the same disk.
+  -- - `same`, `asks`: it stands on the same disk, to which these calls led.
   pub record IsOpened (p : PeerValue D) : Type 0 where
     pub rules_are : p.rules ≡ rules
     pub room_is : p.room ≡ room
@@ -83,16 +93,18 @@ module _ {D : Type 0} (g : Ghosts D) (disk : D) (rules : Rules) (room me : ℕ) 
     pub sound : IsSound g p
     pub ran : p.last_run ≡ ticks p.state.journal
     pub same : IsSameDisk g disk p.disk
+    pub asks : Asks g OpenRun (Ok tt) disk p.disk
 
   -- what was found is no journal of this match and player
   abbrev pub IsUnfit : ReplayError → D → Type 0
-  IsUnfit error left = IsRefusal rules me room (bodies_found g disk) error × IsSettled g disk left
+  IsUnfit error left = IsRefusal rules me room (bodies_found g disk) error × IsSettled g disk left × Asks g ReadRun (Ok tt) disk left
 
   -- What was found is such a journal, and its epochs are spent.
   pub record IsSpent (left : D) : Type 0 where
     pub bodies : AreJournalBodies rules me room (bodies_found g disk)
     pub spent : last_epoch ≤ epoch (records_of (bodies_found g disk))
     pub settled : IsSettled g disk left
+    pub asks : Asks g ReadRun (Ok tt) disk left
 
   -- What was found may be opened, and the opening's record is pending: each image keeps what was found, with it or without.
   pub record IsNotWritten (left : D) : Type 0 where
@@ -108,7 +120,8 @@ module _ {D : Type 0} (g : Ghosts D) (disk : D) (rules : Rules) (room me : ℕ) 
   IsRefusedFor (opens.BadRecord n) left = IsUnfit (replays.BadRecord n) left
   IsRefusedFor opens.EpochsSpent left = IsSpent left
   IsRefusedFor opens.Memory left = left ≡ disk
-  IsRefusedFor (opens.Disk why) left = (HasReadingCause g disk why left × IsUnread g disk left) ⊎ (HasWritingCause g disk why left × IsNotWritten left)
+  IsRefusedFor (opens.Disk why) left =
+      ((HasReadingCause g disk why left × IsUnread g disk left) ⊎ (HasWritingCause g disk why left × IsNotWritten left)) × Asks g OpenRun (Err why) disk left
 
   -- Why an opening is refused: there is no such player in the game, and the disk is as it was; or else for one of these.
   abbrev pub IsRefusedOpening : OpenError → D → Type 0

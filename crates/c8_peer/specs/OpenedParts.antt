@@ -1,5 +1,5 @@
 -- Checked, not believed: what the parts of an opening come to.
-use Rattle.std.specs.Prelude.{◌≡◌, ◌⊎◌, ℕ, ◌<◌, ◌≤◌, List, [], ◌∷◌, ◌++◌, false, None, Result, Ok, Err}
+use Rattle.std.specs.Prelude.{◌≡◌, ◌⊎◌, ℕ, ◌<◌, ◌≤◌, List, length, [], ◌∷◌, ◌++◌, false, None, Result, Ok, Err}
 use Rattle.c8_game.specs.Rules.{Rules}
 use Rattle.c8_disk.specs.declared.disk.Disk.{Ghosts}
 use Rattle.c8_log.specs.Slots.{kept}
@@ -12,7 +12,9 @@ use Rattle.c8_record.specs.Replay.{AreJournalBodies}
 use Rattle.c8_peer.specs.declared.error.OpenError.{OpenError}
 use Rattle.c8_peer.specs.declared.error.OpenError.TheVariants as opens
 use Rattle.c8_peer.specs.Opening.{last_epoch, opening_record}
-use Rattle.c8_peer.specs.Opened.{opening_body, bodies_found, IsSettled, MayBegin, HasWritingCause, IsNotWritten}
+use Rattle.c8_disk.specs.Asks.{Run, Asks}
+use Rattle.c8_log.specs.Asked.{AppendWithin}
+use Rattle.c8_peer.specs.Opened.{opening_body, bodies_found, ReadRun, IsSettled, MayBegin, HasWritingCause, IsNotWritten}
 
 -- the disk after a journal was read, or was to be
 abbrev pub disk_read : {D : Type 0} → Result (LogValue D × ℕ) (OpenError × D) → D
@@ -34,6 +36,11 @@ module _ {D : Type 0} (g : Ghosts D) (disk : D) (rules : Rules) (room me : ℕ) 
     pub same : kept (g.seen log.disk) ≡ bodies_found g disk
     pub settled : IsSettled g disk log.disk
     pub unfailed : g.failures log.disk ≡ g.failures disk
+    pub asks : Asks g (ReadRun g disk rules room me) (Ok tt) disk log.disk
+
+  -- which calls the record takes
+  abbrev pub BeginRun : Run
+  BeginRun = AppendWithin (g.capacity disk) (length (bodies_found g disk)) (opening_body rules room me (bodies_found g disk))
 
   -- The opening's record stands, and this is its epoch.
   pub record IsBegun (journal : JournalValue D) (number : ℕ) : Type 0 where
@@ -50,7 +57,7 @@ module _ {D : Type 0} (g : Ghosts D) (disk : D) (rules : Rules) (room me : ℕ) 
   IsNotBegun (opens.BadRecord n) left = ⊥
   IsNotBegun opens.EpochsSpent left = (last_epoch ≤ epoch (records_of (bodies_found g disk))) × (left ≡ disk)
   IsNotBegun opens.Memory left = ⊥
-  IsNotBegun (opens.Disk why) left = HasWritingCause g disk why left × IsNotWritten g disk rules room me left
+  IsNotBegun (opens.Disk why) left = HasWritingCause g disk why left × IsNotWritten g disk rules room me left × Asks g BeginRun (Err why) disk left
 
   -- What a crash leaves while the record is added: what was found, or that and the record, where an epoch may begin.
   abbrev pub BeginningLeaves : List ℕ → Type 0

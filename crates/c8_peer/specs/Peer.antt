@@ -5,6 +5,8 @@ use Rattle.c8_disk.specs.declared.disk.Disk.{Ghosts}
 use Rattle.c8_disk.specs.declared.error.DiskError.{DiskError}
 use Rattle.c8_disk.specs.declared.error.DiskError.TheVariants as errors
 use Rattle.c8_disk.specs.Runs.{LeavesOnly, IsSameDisk}
+use Rattle.c8_disk.specs.Asks.{Answer, Asks}
+use Rattle.c8_log.specs.Asked.{AppendWithin}
 use Rattle.c8_log.specs.Slots.{slot_length, kept}
 use Rattle.c8_known.specs.Journal.{Record, epoch}
 use Rattle.c8_known.specs.Known.{KnownValue, known_of}
@@ -176,6 +178,11 @@ abbrev pub HasCause : {D : Type 0} → Ghosts D → PeerValue D → PeerValue D 
 HasCause disk old new errors.Failed = (slot_length * (length old.state.journal + 1) + 1 ≤ disk.capacity old.disk) × (disk.failures old.disk < disk.failures new.disk)
 HasCause disk old new errors.Full = (disk.capacity old.disk < slot_length * (length old.state.journal + 1) + 1) × (new.disk ≡ old.disk)
 
+-- what the disk answers to a record, by what it did with it
+abbrev pub disk_answer : Luck → Answer
+disk_answer Works = Ok tt
+disk_answer (Refuses why) = Err why
+
 -- What a tick, a delivery, a leave and a decision answer for, of a peer before the call and after it. The record that it adds is
 -- that of `added`.
 --
@@ -183,7 +190,8 @@ HasCause disk old new errors.Full = (disk.capacity old.disk < slot_length * (len
 -- - `cause`: the disk is blamed for a refusal only where it has one.
 -- - `any_moment`: what a crash inside the call may leave.
 -- - `journal`: what a crash after it may leave.
--- - `untouched`: where it adds no record the disk is not called.
+-- - `asks`: where it adds a record the disk is asked to append that, after those of the journal.
+-- - `untouched`: where it adds none the disk is not called.
 -- - `changes`: at most four writes and syncs in all.
 -- - `ran`: how many frames it runs.
 -- - `same`: match, player and disk stay.
@@ -192,6 +200,8 @@ pub record IsAnswered {D : Type 0} (disk : Ghosts D) (old : PeerValue D) (call :
   pub cause : (why : DiskError) → luck_of reply ≡ Refuses why → HasCause disk old new why
   pub any_moment : LeavesOnly disk old.disk new.disk (MayLeave old call)
   pub journal : LeavesJournal disk new
+  pub asks : (r : Record) → added old call ≡ Some r
+      → Asks disk (AppendWithin (disk.capacity old.disk) (length old.state.journal) (body_of r)) (disk_answer (luck_of reply)) old.disk new.disk
   pub untouched : added old call ≡ None → new.disk ≡ old.disk
   pub changes : disk.changes new.disk ≤ disk.changes old.disk + 4
   pub ran : HasRun old call reply new

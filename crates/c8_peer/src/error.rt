@@ -11,25 +11,25 @@ use thiserror::Error;
 /// Why a peer was not opened. The disk is given back with the refusal.
 #[derive(Clone, Copy, Debug, PartialEq, Eq, Hash, Error)]
 pub enum OpenError {
-    /// The journal begins with a HEAD of another game or another room. The disk keeps what it had.
+    /// The journal begins with a HEAD of another game or another room. It stays as it was.
     #[error("a journal of another game or room")]
     WrongGame,
-    /// The journal begins with a HEAD of another player, or there is no such player in the game. The
-    /// disk keeps what it had.
+    /// The journal begins with a HEAD of another player, or there is no such player in the game. It
+    /// stays as it was.
     #[error("no journal of this player, or no player of the game")]
     WrongPlayer,
     /// The body of this number, counted from 0, is the first that spells no record, or one that the
-    /// rules don't allow there. The disk keeps what it had.
+    /// rules don't allow there. The journal stays as it was.
     #[error("body {0} is no record that may stand there")]
     BadRecord(usize),
-    /// The last epoch was the last that there is. The disk keeps what it had.
+    /// The last epoch was the last that there is. The journal stays as it was.
     #[error("the epochs are spent")]
     EpochsSpent,
     /// Memory was refused, before the disk was touched.
     #[error("out of memory")]
     Memory,
-    /// The disk refused a call. The next opening finds the journal as it was, or with one record
-    /// more: the one that this opening would have added, or one that was pending before.
+    /// The disk refused a call. The next opening finds what it would have found before, or what this
+    /// one found and then the record that it would have added.
     #[error("the disk refused a call")]
     Disk(DiskError),
 }
@@ -74,7 +74,7 @@ pub enum TickError {
     #[error("this player has been dropped")]
     Dropped,
     /// The disk refused the record. The peer is down: what its readers answer is as before the call,
-    /// and the next opening decides whether the input stands.
+    /// and the next opening that reads the journal decides whether the input stands.
     #[error("the disk refused a call")]
     Disk(DiskError),
     /// The disk refused a record before; the peer has to be opened again.
@@ -116,7 +116,7 @@ pub enum Refused {
     /// It is not for this peer, this match or these epochs.
     #[error("{0}")]
     Hand(HandError),
-    /// The inputs that it brings cannot be held.
+    /// The inputs that it brings cannot be held, or the end that it tells cannot stand.
     #[error("{0}")]
     Known(KnownError),
     /// It acknowledges more inputs than this player has entered.
@@ -132,11 +132,11 @@ pub enum Refused {
     #[error("this player does not leave so")]
     WrongLeaver,
     /// The sender's machine differs from this peer's after the same number of frames. The alarm stands
-    /// from now on; nothing else has changed.
+    /// until the next opening; nothing else has changed.
     #[error("the sender's machine differs")]
     Desync,
     /// The disk refused the record. The peer is down: what its readers answer is as before the call,
-    /// and the next opening decides whether the record stands.
+    /// and the next opening that reads the journal decides whether the record stands.
     #[error("the disk refused a call")]
     Disk(DiskError),
     /// The disk refused a record before; the peer has to be opened again.
@@ -247,8 +247,8 @@ pub enum LeaveError {
     /// The player has been let go.
     #[error("the player has been let go already")]
     Already,
-    /// The disk refused the record. The peer is down, and the next opening decides whether the record
-    /// stands.
+    /// The disk refused the record. The peer is down, and the next opening that reads the journal
+    /// decides whether the record stands.
     #[error("the disk refused a call")]
     Disk(DiskError),
     /// The disk refused a record before; the peer has to be opened again.
@@ -298,8 +298,8 @@ pub enum DecideError {
     /// The player has been cut.
     #[error("the player has been cut already")]
     Already,
-    /// The disk refused the record. The peer is down, and the next opening decides whether the record
-    /// stands.
+    /// The disk refused the record. The peer is down, and the next opening that reads the journal
+    /// decides whether the record stands.
     #[error("the disk refused a call")]
     Disk(DiskError),
     /// The disk refused a record before; the peer has to be opened again.

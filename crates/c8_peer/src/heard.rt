@@ -3,7 +3,8 @@
 /// What a datagram that was taken did.
 #[derive(Clone, Copy, Debug, PartialEq, Eq, Hash)]
 pub enum Heard {
-    /// It brought nothing for the journal; links, acknowledgements and reports may have changed.
+    /// It brought nothing for the journal; links, acknowledgements and what is kept of a drop round
+    /// may have changed.
     Nothing,
     /// It brought something that is in the journal now, as one record.
     Kept,

@@ -11,13 +11,13 @@ pub enum Kind {
     Hello,
     /// It answers a HELLO.
     Welcome,
-    /// Its own inputs that the other has not acknowledged.
+    /// The first of its own inputs that the other has not acknowledged, at most 64.
     Data,
     /// Player one lets a player go.
     Freeze(Player),
-    /// How many inputs of a leaver it holds, and those that player one lacks.
+    /// How many inputs of a leaver it holds, and the first of those that player one lacks, at most 64.
     Frozen(Player),
-    /// Where a leaver's list ends, and the inputs before that the other lacks.
+    /// Where a leaver's list ends, and the first inputs before that which the other lacks, at most 64.
     Cut(Player),
 }
 

@@ -143,8 +143,8 @@ pub fn answers_tell_modes()
         ≡ mode_told (opened rules room me s found opening).reply }
 {}
 
-/// An opening has one answer: what a reading finds, and what the disk and the memory do, decide it
-/// and the state after it. `served`: of what is found all openings that the disk and the memory
+/// An opening that is served to its end has one answer: what a reading finds decides it and the
+/// state after it. `served`: of what is found all openings that the disk and the memory
 /// serve to their end are one. `answer`: so they answer the same and leave the same state.
 /// `refused`: one whose record the disk refused would have stood.
 pub fn an_opening_has_one_answer()

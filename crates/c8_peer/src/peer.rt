@@ -1,7 +1,10 @@
 //! One peer, and how a record comes into its journal.
-ghost use Rattle.std.specs.Prelude.{◌≡◌, ◌≤◌, ◌<◌, ◌+◌, ◌*◌, [], ◌∷◌, ◌++◌, length, false, Some, OnOk, OnErr, IsErrOf};
+ghost use Rattle.std.specs.Prelude.{◌≡◌, ◌≤◌, ◌<◌, ◌+◌, ◌*◌, [], ◌∷◌, ◌++◌, length, false, Some, Ok, Err, MatchResult, OnOk, OnErr, IsErrOf};
 ghost use Rattle.c8_disk.specs.Disk.{AddsNone};
 ghost use Rattle.c8_disk.specs.Runs.{LeavesOnly, IsSameDisk};
+ghost use Rattle.c8_disk.specs.Asks.{Asks};
+ghost use Rattle.c8_log.specs.Asked.{AppendWithin};
+ghost use Rattle.c8_record.specs.Body.{body_of};
 ghost use Rattle.c8_log.specs.Slots.{slot_length};
 ghost use Rattle.c8_record.specs.Allowed.{IsAllowed};
 ghost use Rattle.c8_record.specs.Lent.{value_of};
@@ -35,8 +38,8 @@ use std::marker::Model;
 /// A call is one step: it answers, adds at most one record to the journal, and says at most one
 /// datagram. What it adds is recorded before anything that rests on it is said or counted. Where
 /// the disk refuses a record the peer is down, its readers answer as before the call, and it is to
-/// be closed and opened again; the next opening decides whether the record stands. No call but the
-/// opening takes memory.
+/// be closed and opened again; the next opening that reads the journal decides whether the record
+/// stands. No call but the opening takes memory.
 #[derive(Drop)]
 pub struct Peer<'g, D: Disk> {
     game: &'g Game,
@@ -113,7 +116,8 @@ impl<'g, D: Disk> Peer<'g, D> {
         self.journal.arm(arm);
     }
 
-    /// Gives the disk back. Whether the pending record stands, the next opening decides.
+    /// Gives the disk back. Whether the pending record stands, the next opening that reads the
+    /// journal decides.
     pub fn close(self) -> D
         ensures disk { result ≡ self.entry.disk }
         ensures sound { IsSound D.Disk self.entry }
@@ -151,6 +155,13 @@ impl<'g, D: Disk> Peer<'g, D> {
             × (self.new.disk ≡ self.old.disk) }
         ensures changes { D.changes self.new.disk ≤ D.changes self.old.disk + 4 }
         ensures same { IsSameDisk D.Disk self.old.disk self.new.disk }
+        ensures asks { MatchResult result
+            (λ _. Asks D.Disk (AppendWithin (D.capacity self.old.disk)
+            (length self.old.state.journal) (body_of (value_of lent.now))) (Ok tt)
+            self.old.disk self.new.disk)
+            (λ why. Asks D.Disk (AppendWithin (D.capacity self.old.disk)
+            (length self.old.state.journal) (body_of (value_of lent.now))) (Err why)
+            self.old.disk self.new.disk) }
         ensures journal { LeavesJournal D.Disk self.new }
     {
         // For the proof: none is pending at a journal that is up, and no peer is too far ahead.

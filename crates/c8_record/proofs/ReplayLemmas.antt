@@ -10,10 +10,14 @@ use Rattle.c8_known.specs.Journal.{Record, Head, Epoch, Own, Got, Freeze, Leave,
 use Rattle.c8_known.specs.Known.{KnownValue, known_of, with_record, IsOfGame}
 use Rattle.c8_record.specs.declared.error.ReplayError.{ReplayError}
 use Rattle.c8_record.specs.declared.error.ReplayError.TheVariants.{WrongGame, WrongPlayer, BadRecord, Disk}
+use Rattle.c8_disk.specs.declared.error.DiskError.TheVariants.{Failed}
+use Rattle.c8_log.specs.declared.error.LogError.{LogError}
+use Rattle.c8_log.specs.declared.error.LogError.TheVariants as logs
+use Rattle.c8_log.specs.Asked.{told_by as told_by_log}
 use Rattle.c8_record.specs.Body.{Spells, record_of, records_of}
 use Rattle.c8_record.specs.Allowed.{Past, past_of, IsAllowedAfter, IsAllowed, IsJournal}
 use Rattle.c8_record.specs.Taken.{epoch_after, IsOfOtherGame, IsOfOtherPlayer, IsUnfitBody, IsTaken}
-use Rattle.c8_record.specs.Replay.{AreJournalBodies, IsRefusal, is_failed, IsReplayed, IsReplayedFromDisk}
+use Rattle.c8_record.specs.Replay.{AreJournalBodies, IsRefusal, is_failed, told_by, IsReplayed, IsReplayedFromDisk}
 use Rattle.c8_record.specs.JournalLaws.{journal_none, journal_more, epoch_more, known_more, of_game}
 
 -- the first n bodies are taken
@@ -142,3 +146,16 @@ not_failed rules me room bodies WrongGame now is = refl
 not_failed rules me room bodies WrongPlayer now is = refl
 not_failed rules me room bodies (BadRecord n) now is = refl
 not_failed rules me room bodies (Disk why) now is = absurd is.0
+
+-- a body that is refused was read
+pub unfit_served : (rules : Rules) (room : ℕ) (past : Past) (body : List ℕ) (error : ReplayError) → IsUnfitBody rules room past body error → Ok tt ≡ told_by (Err error)
+unfit_served rules room past body WrongGame unfit = refl
+unfit_served rules room past body WrongPlayer unfit = refl
+unfit_served rules room past body (BadRecord n) unfit = refl
+unfit_served rules room past body (Disk why) unfit = absurd unfit
+
+-- a read of a log that was up is refused where the disk failed
+pub read_failed : (error : LogError) → (error ≡ logs.Full → ⊥) → (error ≡ logs.Down → ⊥) → told_by_log {T = Unit {0}} (Err error) ≡ Err Failed
+read_failed logs.Failed full down = refl
+read_failed logs.Full full down = absurd (full refl)
+read_failed logs.Down full down = absurd (down refl)

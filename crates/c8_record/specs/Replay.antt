@@ -7,6 +7,7 @@ use Rattle.c8_known.specs.Known.{KnownValue, known_of}
 use Rattle.c8_record.specs.Body.{Spells, record_of, records_of}
 use Rattle.c8_record.specs.Allowed.{IsAllowed, IsJournal}
 use Rattle.c8_disk.specs.declared.error.DiskError.TheVariants.{Failed}
+use Rattle.c8_disk.specs.Asks.{Answer}
 use Rattle.c8_record.specs.declared.error.ReplayError.{ReplayError}
 use Rattle.c8_record.specs.declared.error.ReplayError.TheVariants.{WrongGame, WrongPlayer, BadRecord, Disk}
 
@@ -58,6 +59,14 @@ is_failed (Err WrongGame) = false
 is_failed (Err WrongPlayer) = false
 is_failed (Err (BadRecord n)) = false
 is_failed (Err (Disk why)) = true
+
+-- what the disk answered, by what a replay does
+abbrev pub told_by : Result ℕ ReplayError → Answer
+told_by (Ok last) = Ok tt
+told_by (Err WrongGame) = Ok tt
+told_by (Err WrongPlayer) = Ok tt
+told_by (Err (BadRecord n)) = Ok tt
+told_by (Err (Disk why)) = Err why
 
 -- The same of bodies that are read from a disk, which may fail at one of them: then what is known is what some first
 -- records say, which are all in order.

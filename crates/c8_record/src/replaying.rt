@@ -1,10 +1,11 @@
 //! What a journal says, read again from its beginning.
 ghost use Rattle.std.specs.Prelude.{◌≡◌, ◌≢◌, ◌<◌, ◌≤◌, ℕ, [], false, true, length, MatchResult, IfOk, IfErr, OnOk, OnErr};
 ghost use Rattle.c8_disk.specs.Runs.{ReadsOnly};
+ghost use Rattle.c8_disk.specs.Asks.{Asks, Reads};
 ghost use Rattle.c8_log.specs.Slots.{kept};
 ghost use Rattle.c8_known.specs.Known.{known_of, IsOfGame};
 ghost use Rattle.c8_record.specs.Lent.{value_of};
-ghost use Rattle.c8_record.specs.Replay.{IsReplayed, IsReplayedFromDisk, is_failed};
+ghost use Rattle.c8_record.specs.Replay.{IsReplayed, IsReplayedFromDisk, is_failed, told_by};
 ghost use Rattle.c8_record.specs.Taken.{epoch_after, IsUnfitBody, IsTaken};
 
 use crate::allowed::judge;
@@ -40,6 +41,7 @@ pub fn replay<D: Disk>(
     ensures failed { is_failed result ≡ true → D.failures log.old.disk < D.failures log.new.disk }
     ensures unfailed { is_failed result ≡ false
         → D.failures log.new.disk ≡ D.failures log.old.disk }
+    ensures asks { Asks D.Disk (Reads log.old.count) (told_by result) log.old.disk log.new.disk }
 {
     let mut block = Block::new();
     let mut epoch = 0;

@@ -1,19 +1,9 @@
--- What the disks of a world have room for, when they were told to fail, and why they are blamed.
-use Rattle.std.specs.Prelude.{◌≡◌, ◌<◌, ◌⊎◌, ℕ, ◌+◌, ◌*◌, List, [], ◌∷◌, ◌++◌, length, nat_eq, if◌then◌else◌, Option, Some, None, Err}
+-- What the disks of a world have room for, and when they were told to fail.
+use Rattle.std.specs.Prelude.{◌≡◌, ◌⊎◌, ℕ, List, [], ◌∷◌, ◌++◌, nat_eq, if◌then◌else◌, Option, Some, None}
 use Rattle.c8_disk.specs.declared.disk.Arm.{Arm}
 use Rattle.c8_disk.specs.declared.disk.Arm.TheVariants as arms
 use Rattle.c8_disk.specs.declared.mem_disk.MemDisk.{MemDisk}
-use Rattle.c8_disk.specs.declared.error.DiskError.{DiskError}
-use Rattle.c8_disk.specs.declared.error.DiskError.TheVariants as errors
-use Rattle.c8_disk.specs.Memory.{bytes_of, room_of, arms_of, failures_of, value_of, new_value}
-use Rattle.c8_log.specs.Slots.{slot_length, kept}
-use Rattle.c8_peer.specs.declared.error.OpenError.TheVariants as opens
-use Rattle.c8_peer.specs.declared.error.TickError.TheVariants as ticks
-use Rattle.c8_peer.specs.declared.error.Refused.TheVariants as refusals
-use Rattle.c8_peer.specs.declared.error.LeaveError.TheVariants as leaves
-use Rattle.c8_peer.specs.declared.error.DecideError.TheVariants as decides
-use Rattle.c8_world.specs.declared.answer.Answer as codes
-use Rattle.c8_world.specs.declared.answer.Answer.TheVariants as answers
+use Rattle.c8_disk.specs.Memory.{room_of, arms_of, value_of, new_value}
 use Rattle.c8_world.specs.declared.event.Event as asked
 use Rattle.c8_world.specs.declared.event.Event.TheVariants as happenings
 use Rattle.c8_world.specs.declared.seat.Seat.{Seat}
@@ -81,26 +71,7 @@ pub record AreArmedOut (events : List asked.Event) (old new : TableValue) : Type
 abbrev pub IsNewDisk : ℕ → ℕ → Option Seat → Type 0
 IsNewDisk capacity calls seat = (disk : MemDisk) × (seat ≡ Some (seats.Away disk)) × (value_of disk ≡ new_value capacity calls)
 
--- ---- why a disk is blamed
-
--- the answer says that the disk refused, and why
-abbrev pub Blames : codes.Answer → DiskError → Type 0
-Blames (answers.Opened result) why = result ≡ Err (opens.Disk why)
-Blames answers.Up why = ⊥
-Blames (answers.Ticked result) why = result ≡ Err (ticks.Disk why)
-Blames (answers.Said result) why = ⊥
-Blames (answers.Delivered result) why = result ≡ Err (refusals.Disk why)
-Blames answers.NoSuch why = ⊥
-Blames (answers.Left result) why = result ≡ Err (leaves.Disk why)
-Blames (answers.Decided result) why = result ≡ Err (decides.Disk why)
-Blames answers.Down why = ⊥
-Blames answers.Stopped why = ⊥
-
--- Why a disk is blamed: it failed meanwhile; or it did not, and had no room for one record more than it kept, and the gate after
--- that.
-abbrev pub IsToBlame : DiskError → MemDisk → MemDisk → Type 0
-IsToBlame errors.Failed old new = failures_of old < failures_of new
-IsToBlame errors.Full old new = (room_of old < slot_length * (length (kept (bytes_of old)) + 1) + 1) × (failures_of new ≡ failures_of old)
+-- ---- one seat
 
 abbrev pub disk_in : Seat → MemDisk
 disk_in (seats.Held peer) = peer.disk

@@ -1,15 +1,22 @@
 -- What each event of a run makes of the seats and their disks.
-use Rattle.std.specs.Prelude.{◌≡◌, ◌≢◌, ◌⊎◌, ℕ, List, [], ◌∷◌, ◌++◌, Option, Some, None, Result}
-use Rattle.c8_disk.specs.Disk.{DiskCall}
+use Rattle.std.specs.Prelude.{◌≡◌, ◌≢◌, ◌⊎◌, ℕ, List, [], ◌∷◌, ◌++◌, Option, Some, None, Result, Ok, Err}
+use Rattle.std.specs.List.{slice_get}
+use Rattle.c8_game.specs.Rules.{Rules}
+use Rattle.c8_wire.specs.Read.{read}
 use Rattle.c8_disk.specs.declared.disk.Arm.{Arm}
 use Rattle.c8_disk.specs.declared.disk.Arm.TheVariants as arms
-use Rattle.c8_disk.specs.declared.error.DiskError.{DiskError}
 use Rattle.c8_disk.specs.declared.mem_disk.MemDisk.{MemDisk}
-use Rattle.c8_disk.specs.Memory.{bytes_of, images_of, synced_of, calls_allowed, MemValue, value_of, IsCall, told}
+use Rattle.c8_disk.specs.contracts.mem_disk.MemDiskDisk.TheImpl.{ghosts}
+use Rattle.c8_disk.specs.Memory.{bytes_of, images_of, synced_of, calls_allowed, value_of, told}
+use Rattle.c8_known.specs.Journal.{epoch}
 use Rattle.c8_peer.specs.declared.error.OpenError.{OpenError}
+use Rattle.c8_peer.specs.State.{Open as Up, Call, Tick, Deliver, Leave, Decide, Reply, Ticked, Delivered, Left, Decided}
+use Rattle.c8_peer.specs.Peer.{IsSound, IsAnswered}
+use Rattle.c8_peer.specs.Opened.{IsOpened, IsRefusedOpening}
 use Rattle.c8_world.specs.declared.answer.Answer as codes
 use Rattle.c8_world.specs.declared.answer.Answer.TheVariants as answers
 use Rattle.c8_world.specs.declared.event.Act as code
+use Rattle.c8_world.specs.declared.event.Act.TheVariants as acts
 use Rattle.c8_world.specs.declared.event.Event as asked
 use Rattle.c8_world.specs.declared.event.Event.TheVariants as happenings
 use Rattle.c8_world.specs.declared.seat.Seat.{Seat}
@@ -18,14 +25,7 @@ use Rattle.c8_world.specs.World.{World, player_of, Do}
 use Rattle.c8_world.specs.Events.{act_of}
 use Rattle.c8_world.specs.Agreement.{IsPlayer}
 use Rattle.c8_world.specs.Table.{TableValue, seat_of, IsSameMatch, Holds, HasHappened, HasNotHappened, HasCrashed}
-use Rattle.c8_world.specs.Disks.{Blames, IsToBlame, disk_in}
-
--- ---- a disk in memory
-
--- calls one after another, each as such a disk serves or refuses it
-abbrev pub AreCalls : List DiskCall → MemValue → MemValue → Type 0
-AreCalls [] v w = w ≡ v
-AreCalls (call ∷ calls) v w = (u : MemValue) × IsCall v call u × AreCalls calls u w
+use Rattle.c8_world.specs.Disks.{disk_in}
 
 -- A crash leaves an image that it may, by the pick: 0 what was last synced, 1 what a read gives, and any other one of them all.
 -- All calls are served anew then, and no stop is set.
@@ -37,31 +37,54 @@ pub record IsDiskCrash (pick : ℕ) (old new : MemDisk) : Type 0 where
 
 -- ---- a seat
 
+-- An open peer answered a call, as the contract of that call has it.
+abbrev pub IsCalledAt : Call → Reply → Seat → Seat → Type 0
+IsCalledAt call reply (seats.Held old) (seats.Held new) = (old.state.mode ≡ Up) × IsSound ghosts old × IsAnswered ghosts old call reply new
+IsCalledAt call reply (seats.Held old) (seats.Away disk) = ⊥
+IsCalledAt call reply (seats.Away disk) new = ⊥
+
+-- What a call that is answered so makes of a seat; one whose peer is not open stays as it is.
+abbrev pub IsActedBy : Call → codes.Answer → Seat → Seat → Type 0
+IsActedBy call (answers.Ticked (Ok counts)) old new = IsCalledAt call (Ticked (Ok tt)) old new
+IsActedBy call (answers.Ticked (Err error)) old new = IsCalledAt call (Ticked (Err error)) old new
+IsActedBy call (answers.Delivered result) old new = IsCalledAt call (Delivered result) old new
+IsActedBy call (answers.Left result) old new = IsCalledAt call (Left result) old new
+IsActedBy call (answers.Decided result) old new = IsCalledAt call (Decided result) old new
+IsActedBy call answers.Down old new = new ≡ old
+IsActedBy call answers.Up old new = ⊥
+IsActedBy call (answers.Opened result) old new = ⊥
+IsActedBy call (answers.Said result) old new = ⊥
+IsActedBy call answers.NoSuch old new = ⊥
+IsActedBy call answers.Stopped old new = ⊥
+
+-- a delivery of a datagram, where there is one of that number
+abbrev pub IsGiven : Option (List ℕ) → codes.Answer → Seat → Seat → Type 0
+IsGiven None answer old new = (answer ≡ answers.NoSuch) × (new ≡ old)
+IsGiven (Some bytes) answer old new = IsActedBy (Deliver (read bytes)) answer old new
+
 -- what an opening answers: that the peer was open already, or what it came to
 abbrev pub answer_of : Option (Result ℕ OpenError) → codes.Answer
 answer_of None = answers.Up
 answer_of (Some result) = answers.Opened result
 
--- the peer was not asked, or only to say something
-abbrev pub IsStill : codes.Answer → Type 0
-IsStill (answers.Opened result) = ⊥
-IsStill answers.Up = Unit {0}
-IsStill (answers.Ticked result) = ⊥
-IsStill (answers.Said result) = Unit {0}
-IsStill (answers.Delivered result) = ⊥
-IsStill answers.NoSuch = Unit {0}
-IsStill (answers.Left result) = ⊥
-IsStill (answers.Decided result) = ⊥
-IsStill answers.Down = Unit {0}
-IsStill answers.Stopped = ⊥
+-- What an opening that is answered so makes of a seat, as the contract of the opening has it.
+abbrev pub IsOpenedAt : Rules → ℕ → ℕ → codes.Answer → Seat → Seat → Type 0
+IsOpenedAt rules room p answers.Up old new = new ≡ old
+IsOpenedAt rules room p (answers.Opened (Ok number)) old (seats.Held peer) = IsOpened ghosts (disk_in old) rules room p peer × (number ≡ epoch peer.state.journal)
+IsOpenedAt rules room p (answers.Opened (Ok number)) old (seats.Away disk) = ⊥
+IsOpenedAt rules room p (answers.Opened (Err error)) old (seats.Held peer) = ⊥
+IsOpenedAt rules room p (answers.Opened (Err error)) old (seats.Away disk) = IsRefusedOpening ghosts (disk_in old) rules room p error disk
+IsOpenedAt rules room p (answers.Ticked result) old new = ⊥
+IsOpenedAt rules room p (answers.Said result) old new = ⊥
+IsOpenedAt rules room p (answers.Delivered result) old new = ⊥
+IsOpenedAt rules room p answers.NoSuch old new = ⊥
+IsOpenedAt rules room p (answers.Left result) old new = ⊥
+IsOpenedAt rules room p (answers.Decided result) old new = ⊥
+IsOpenedAt rules room p answers.Down old new = ⊥
+IsOpenedAt rules room p answers.Stopped old new = ⊥
 
--- An act that is answered so changes the disk of its player's seat by calls alone; it blames the disk only where the disk is to
--- blame; and a seat of which nothing was asked stays.
-pub record IsActed (answer : codes.Answer) (old new : Seat) : Type 0 where
-  pub calls : List DiskCall
-  pub led : AreCalls calls (value_of (disk_in old)) (value_of (disk_in new))
-  pub caused : (why : DiskError) → Blames answer why → IsToBlame why (disk_in old) (disk_in new)
-  pub still : IsStill answer → new ≡ old
+abbrev pub IsSameSeat : Seat → Seat → Type 0
+IsSameSeat old new = new ≡ old
 
 -- where memory was refused the seat stays, or its peer is away, and its disk was not touched
 abbrev pub IsSpared : Seat → Seat → Type 0
@@ -94,9 +117,18 @@ pub record IsMove (player : ℕ) (P : Seat → Seat → Type 0) (old new : Table
   pub others : OthersStay player old new
   pub own : OfSeats P (seat_of old player) (seat_of new player)
 
+-- What an act that is answered so makes of its player's seat; a saying makes nothing of it.
+abbrev pub IsActed : TableValue → code.Act → codes.Answer → Seat → Seat → Type 0
+IsActed t (acts.Open player) answer = IsOpenedAt t.rules t.room player.number answer
+IsActed t (acts.Tick player keys) answer = IsActedBy (Tick keys.0) answer
+IsActed t (acts.Say player to what) answer = IsSameSeat
+IsActed t (acts.Give number player) answer = IsGiven (slice_get t.pool number) answer
+IsActed t (acts.Leave leaver) answer = IsActedBy (Leave leaver.number) answer
+IsActed t (acts.Decide leaver) answer = IsActedBy (Decide leaver.number) answer
+
 -- An act has happened, with this answer.
 pub record IsDone (act : code.Act) (answer : codes.Answer) (old new : TableValue) : Type 0 where
-  pub moves : IsMove (player_of (act_of act)) (IsActed answer) old new
+  pub moves : IsMove (player_of (act_of act)) (IsActed old act answer) old new
   pub happened : (w : World) → Holds old w → HasHappened old w (Do (act_of act)) answer new
 
 -- Memory was refused at an act.

@@ -205,7 +205,7 @@ pub fn all_agree_while_nobody_leaves()
     peers_are_lawful();
 }
 
-/// All of this of any two moments, in one record.
+/// What is so of any two moments, in one record.
 pub fn any_two_moments_agree()
     ensures { (rules : Rules) (room : ℕ) (w v : World) (events : List Event)
         (answers : List Answer)

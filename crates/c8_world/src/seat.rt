@@ -11,7 +11,7 @@ ghost use Rattle.c8_wire.specs.Read.{read};
 ghost use Rattle.c8_world.specs.Seats.{IsSeat, IsAsked, IsOpenedSeat, IsSaidAt, Tells};
 ghost use Rattle.c8_world.specs.Ends.{IsStanding};
 ghost use Rattle.c8_world.specs.Disks.{setting_of, setting_of_disk, armed, disk_in};
-ghost use Rattle.c8_world.specs.Turns.{answer_of, IsActed, IsSpared, IsTold, IsSeatCrash};
+ghost use Rattle.c8_world.specs.Turns.{answer_of, IsActedBy, IsOpenedAt, IsSpared, IsTold, IsSeatCrash};
 
 use crate::answer::{Answer, Counts};
 use crate::ends::Standing;
@@ -45,7 +45,8 @@ impl<'g> Seat<'g> {
             → IsSeat game.entry.now room player.number self.entry s
             → ((finds : Bool) → IsJournal game.entry.now player.number room (found s finds))
             → IsOpenedSeat game.entry.now room player.number s result.1 result.0 }
-        ensures turn { IsActed (answer_of result.1) self.entry result.0 }
+        ensures turn { IsOpenedAt game.entry.now room player.number (answer_of result.1)
+            self.entry result.0 }
         ensures spared { result.1 ≡ Some (Err OpenError.Memory) → IsSpared self.entry result.0 }
         ensures setting { setting_of (Some result.0) ≡ setting_of (Some self.entry) }
     {
@@ -68,7 +69,7 @@ impl<'g> Seat<'g> {
     pub(crate) fn tick(&mut self, keys: Keys) -> Answer
         ensures asked { (rules : Rules) (room p : ℕ) (s : State) → IsSeat rules room p self.old s
             → IsAsked rules room p s (states.Tick keys.0) result self.new }
-        ensures turn { IsActed result self.old self.new }
+        ensures turn { IsActedBy (states.Tick keys.0) result self.old self.new }
         ensures setting { setting_of (Some self.new) ≡ setting_of (Some self.old) }
     {
         match self {
@@ -92,7 +93,7 @@ impl<'g> Seat<'g> {
     pub(crate) fn deliver(&mut self, bytes: &[u8]) -> Answer
         ensures asked { (rules : Rules) (room p : ℕ) (s : State) → IsSeat rules room p self.old s
             → IsAsked rules room p s (states.Deliver (read bytes.now)) result self.new }
-        ensures turn { IsActed result self.old self.new }
+        ensures turn { IsActedBy (states.Deliver (read bytes.now)) result self.old self.new }
         ensures setting { setting_of (Some self.new) ≡ setting_of (Some self.old) }
     {
         match self {
@@ -110,7 +111,7 @@ impl<'g> Seat<'g> {
     pub(crate) fn leave(&mut self, leaver: Player) -> Answer
         ensures asked { (rules : Rules) (room p : ℕ) (s : State) → IsSeat rules room p self.old s
             → IsAsked rules room p s (states.Leave leaver.number) result self.new }
-        ensures turn { IsActed result self.old self.new }
+        ensures turn { IsActedBy (states.Leave leaver.number) result self.old self.new }
         ensures setting { setting_of (Some self.new) ≡ setting_of (Some self.old) }
     {
         match self {
@@ -128,7 +129,7 @@ impl<'g> Seat<'g> {
     pub(crate) fn decide(&mut self, leaver: Player) -> Answer
         ensures asked { (rules : Rules) (room p : ℕ) (s : State) → IsSeat rules room p self.old s
             → IsAsked rules room p s (states.Decide leaver.number) result self.new }
-        ensures turn { IsActed result self.old self.new }
+        ensures turn { IsActedBy (states.Decide leaver.number) result self.old self.new }
         ensures setting { setting_of (Some self.new) ≡ setting_of (Some self.old) }
     {
         match self {

@@ -12,7 +12,9 @@ ghost use Rattle.c8_world.specs.Events.{act_of, event_of};
 ghost use Rattle.c8_disk.specs.declared.disk.Arm.TheVariants as arms;
 ghost use Rattle.c8_world.specs.Agreement.{IsPlayer};
 ghost use Rattle.c8_world.specs.Disks.{setting_of, KeepSettings, AreArmed, for_player, arms_by, arms_taken_back, IsNewDisk};
-ghost use Rattle.c8_world.specs.Turns.{IsActed, IsSpared, IsSeatCrash, OfSeats, IsMove, IsDone, IsUndone, IsArmed, IsCrashed, IsUnstopped, IsTurn, IsTurnOut};
+ghost use Rattle.c8_peer.specs.State as calls;
+ghost use Rattle.c8_wire.specs.Read.{read};
+ghost use Rattle.c8_world.specs.Turns.{IsActedBy, IsGiven, IsOpenedAt, IsSameSeat, IsSpared, IsSeatCrash, OfSeats, IsMove, IsDone, IsUndone, IsArmed, IsCrashed, IsUnstopped, IsTurn, IsTurnOut};
 ghost use Rattle.c8_world.specs.declared.event.Event.TheVariants as happenings;
 ghost use Rattle.c8_world.specs.Ends.{IsStanding, AreStandings};
 ghost use Rattle.c8_world.specs.declared.seat.Seat.TheVariants.{Held};
@@ -84,7 +86,8 @@ fn open_seat<'g>(
         → IsTaken game.entry.now room player.number place.old s
         → ((finds : Bool) → IsJournal game.entry.now player.number room (found s finds))
         → IsUnopened game.entry.now room player.number s place.new) }
-    ensures turn { IfOk result (λ answer. OfSeats (IsActed answer) place.old place.new) }
+    ensures turn { IfOk result (λ answer.
+        OfSeats (IsOpenedAt game.entry.now room player.number answer) place.old place.new) }
     ensures spared { IfErr result (λ _. OfSeats IsSpared place.old place.new) }
     ensures setting { setting_of place.new ≡ setting_of place.old }
 {
@@ -233,8 +236,8 @@ impl<'g> Table<'g> {
             → HasHappened self.old w (Do (Open player.number)) answer self.new) }
         ensures memory { IfErr result (λ _. (w : World) → Holds self.old w
             → HasNotHappened self.old w (Open player.number) self.new) }
-        ensures turn { IfOk result (λ answer.
-            IsMove player.number (IsActed answer) self.old self.new) }
+        ensures turn { IfOk result (λ answer. IsMove player.number
+            (IsOpenedAt self.old.rules self.old.room player.number answer) self.old self.new) }
         ensures turn_out { IfErr result (λ _. IsMove player.number IsSpared self.old self.new) }
         ensures disks { KeepSettings self.old self.new }
     {
@@ -252,7 +255,8 @@ impl<'g> Table<'g> {
         ensures same { IsSameMatch self.old self.new }
         ensures happened { (w : World) → Holds self.old w
             → HasHappened self.old w (Do (Tick player.number keys.0)) result self.new }
-        ensures turn { IsMove player.number (IsActed result) self.old self.new }
+        ensures turn { IsMove player.number (IsActedBy (calls.Tick keys.0) result)
+            self.old self.new }
         ensures disks { KeepSettings self.old self.new }
     {
         if player.number > self.game.players() {
@@ -271,8 +275,7 @@ impl<'g> Table<'g> {
             → HasHappened self.old w (Do (Say player.number to.number (saying_of what))) answer self.new) }
         ensures memory { IfErr result (λ _. (w : World) → Holds self.old w
             → HasNotHappened self.old w (Say player.number to.number (saying_of what)) self.new) }
-        ensures turn { IfOk result (λ answer.
-            IsMove player.number (IsActed answer) self.old self.new) }
+        ensures turn { IfOk result (λ _. IsMove player.number IsSameSeat self.old self.new) }
         ensures turn_out { IfErr result (λ _. IsMove player.number IsSpared self.old self.new) }
         ensures disks { KeepSettings self.old self.new }
     {
@@ -299,7 +302,8 @@ impl<'g> Table<'g> {
         ensures same { IsSameMatch self.old self.new }
         ensures happened { (w : World) → Holds self.old w
             → HasHappened self.old w (Do (Give number player.number)) result self.new }
-        ensures turn { IsMove player.number (IsActed result) self.old self.new }
+        ensures turn { IsMove player.number (IsGiven (slice_get self.old.pool number) result)
+            self.old self.new }
         ensures disks { KeepSettings self.old self.new }
     {
         self.game.in_range();
@@ -322,7 +326,7 @@ impl<'g> Table<'g> {
         ensures same { IsSameMatch self.old self.new }
         ensures happened { (w : World) → Holds self.old w
             → HasHappened self.old w (Do (Leave leaver.number)) result self.new }
-        ensures turn { IsMove 1 (IsActed result) self.old self.new }
+        ensures turn { IsMove 1 (IsActedBy (calls.Leave leaver.number) result) self.old self.new }
         ensures disks { KeepSettings self.old self.new }
     {
         self.game.in_range();
@@ -337,7 +341,7 @@ impl<'g> Table<'g> {
         ensures same { IsSameMatch self.old self.new }
         ensures happened { (w : World) → Holds self.old w
             → HasHappened self.old w (Do (Decide leaver.number)) result self.new }
-        ensures turn { IsMove 1 (IsActed result) self.old self.new }
+        ensures turn { IsMove 1 (IsActedBy (calls.Decide leaver.number) result) self.old self.new }
         ensures disks { KeepSettings self.old self.new }
     {
         self.game.in_range();

@@ -1,7 +1,8 @@
 //! The opening of a peer on a disk: the room is reserved, the journal is read, and a new epoch
 //! begins in it.
-ghost use Rattle.std.specs.Prelude.{◌≡◌, ◌==◌, ◌≤◌, ◌<◌, ◌+◌, ℕ, List, [], length, false, Some, IfOk, IfErr};
+ghost use Rattle.std.specs.Prelude.{◌≡◌, ◌==◌, ◌≤◌, ◌<◌, ◌+◌, ℕ, List, [], length, false, Some, Ok, IfOk, IfErr};
 ghost use Rattle.c8_disk.specs.Runs.{LeavesOnly, IsSameDisk};
+ghost use Rattle.c8_disk.specs.Asks.{Asks};
 ghost use Rattle.c8_log.specs.Log.{KeepsOneOf};
 ghost use Rattle.c8_log.specs.Slots.{kept};
 ghost use Rattle.c8_known.specs.Journal.{epoch};
@@ -10,7 +11,7 @@ ghost use Rattle.c8_record.specs.Body.{records_of};
 ghost use Rattle.c8_record.specs.Replay.{AreJournalBodies};
 ghost use Rattle.c8_peer.specs.Opening.{last_epoch};
 ghost use Rattle.c8_peer.specs.Opened.{disk_after, opening_body, IsOpened, IsRefusedFor, IsRefusedOpening, OpeningLeaves};
-ghost use Rattle.c8_peer.specs.OpenedParts.{disk_read, disk_begun, IsRead, IsBegun, IsNotBegun, BeginningLeaves};
+ghost use Rattle.c8_peer.specs.OpenedParts.{disk_read, disk_begun, IsRead, BeginRun, IsBegun, IsNotBegun, BeginningLeaves};
 
 use super::Peer;
 use crate::error::OpenError;
@@ -159,6 +160,8 @@ fn begin_epoch<D: Disk>(
         IsNotBegun D.Disk log.disk game.now room me.number refusal.0 refusal.1) }
     ensures any_moment { LeavesOnly D.Disk log.disk (disk_begun result)
         (BeginningLeaves D.Disk log.disk game.now room me.number) }
+    ensures asks { IfOk result (λ begun. Asks D.Disk
+        (BeginRun D.Disk log.disk game.now room me.number) (Ok tt) log.disk begun.0.disk) }
     ensures changes { D.changes (disk_begun result) ≤ D.changes log.disk + 4 }
     ensures same { IsSameDisk D.Disk log.disk (disk_begun result) }
 {

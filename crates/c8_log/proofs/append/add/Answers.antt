@@ -1,4 +1,4 @@
-use Rattle.std.proofs.Common.{◌≡◌, inl, inr, ◌+◌, ◌*◌, ◌++◌, [], ◌∷◌, ℕ, List, length, OnOk, IsErrOf, rules, ap, ◌∙◌, subst, arith, length-append}
+use Rattle.std.proofs.Common.{◌≡◌, inl, inr, ◌+◌, ◌*◌, ◌++◌, [], ◌∷◌, ℕ, List, length, Ok, Err, OnOk, IsErrOf, rules, ap, ◌∙◌, subst, arith, length-append}
 use Rattle.c8_disk.specs.Disk.{overwritten, Only, Torn}
 use Rattle.c8_disk.specs.declared.error.DiskError.TheVariants.{Failed}
 use Rattle.c8_log.specs.Slots.{kept}
@@ -8,7 +8,10 @@ use Rattle.c8_disk.specs.RunLaws.{weaker, then_run}
 use Rattle.c8_log.proofs.Writes.{ok_written, failed_torn, on_ok_both}
 use Rattle.c8_log.proofs.Staged.{IsStaged, gate_there, staged, first_keeps, second_keeps, two_writes, up_with_it}
 use Rattle.c8_log.proofs.append.add.Given.{Over}
-use Rattle.c8_disk.specs.RunLaws.{same_then}
+use Rattle.std.proofs.lemmas.Result.{err_from_is_err_and}
+use Rattle.c8_disk.specs.Asks.{Asks}
+use Rattle.c8_disk.specs.AsksLaws.{asks_as, asks_then, asks_refused}
+use Rattle.c8_log.specs.Asked.{WriteAndSync}
 use Rattle.c8_log.proofs.append.add.Goals as goal
 
 pub returns-in_err-write_and_sync-clause-any_moment : goal.returns-in_err-write_and_sync-clause-any_moment
@@ -95,5 +98,18 @@ returns-clause-seen g c =
     on_ok_both c.write_and_sync-2.result (gate_written g c) c.write_and_sync-2.ensures.durable (λ holds only.
     holds ∙ ap (λ (l : List ℕ). overwritten l gate (0xa5 ∷ [])) (first_written g c) ∙ two_writes c.writes_keep_the_rest.ensures.whole old gate 0xa5 (c.args.body.now ++ 0 ∷ []) (omega (arith, there)))
 
-pub returns-clause-same : goal.returns-clause-same
-returns-clause-same g c = same_then g.D.Disk c.args.disk.now c.write_and_sync.new.disk c.write_and_sync-2.new.disk c.write_and_sync.ensures.same c.write_and_sync-2.ensures.same
+pub returns-in_err-write_and_sync-clause-asks : goal.returns-in_err-write_and_sync-clause-asks
+returns-in_err-write_and_sync-clause-asks g c =
+    let error = err_from_is_err_and c.from_residual.result c.from_residual.ensures.1 in
+    let why = c.in_err-write_and_sync.field-0.0 in
+    rw (error.1, error.2)
+    (asks_refused g.D.Disk (WriteAndSync (144 * c.args.count + 1) (c.args.body.now ++ 0 ∷ [])) (WriteAndSync (144 * c.args.count) (0xa5 ∷ [])) c.args.disk.now c.write_and_sync.new.disk why
+    (asks_as g.D.Disk (WriteAndSync (144 * c.args.count + 1) (c.args.body.now ++ 0 ∷ [])) c.args.disk.now c.write_and_sync.new.disk c.write_and_sync.result (Err why) c.in_err-write_and_sync.was
+    (subst (λ (bytes : List ℕ). Asks g.D.Disk (WriteAndSync (144 * c.args.count + 1) bytes) c.write_and_sync.result c.args.disk.now c.write_and_sync.new.disk) c.with_closed_gate.ensures c.write_and_sync.ensures.asks)))
+
+pub returns-clause-asks : goal.returns-clause-asks
+returns-clause-asks g c =
+    asks_then g.D.Disk (WriteAndSync (144 * c.args.count + 1) (c.args.body.now ++ 0 ∷ [])) (WriteAndSync (144 * c.args.count) (0xa5 ∷ [])) c.args.disk.now c.write_and_sync.new.disk c.write_and_sync-2.new.disk c.write_and_sync-2.result
+    (asks_as g.D.Disk (WriteAndSync (144 * c.args.count + 1) (c.args.body.now ++ 0 ∷ [])) c.args.disk.now c.write_and_sync.new.disk c.write_and_sync.result (Ok tt) c.in_ok-write_and_sync.was
+    (subst (λ (bytes : List ℕ). Asks g.D.Disk (WriteAndSync (144 * c.args.count + 1) bytes) c.write_and_sync.result c.args.disk.now c.write_and_sync.new.disk) c.with_closed_gate.ensures c.write_and_sync.ensures.asks))
+    c.write_and_sync-2.ensures.asks

@@ -1,12 +1,13 @@
-use Rattle.c8_log.proofs.Disks.{reads_once}
+use Rattle.std.proofs.Common.{Ok, Err}
+use Rattle.std.proofs.lemmas.Result.{err_from_is_err_and}
+use Rattle.c8_disk.specs.AsksLaws.{asks_read}
 use Rattle.c8_log.proofs.end.ends_closed.Goals as goal
 
-pub returns-in_err-read_at-clause-reads : goal.returns-in_err-read_at-clause-reads
-returns-in_err-read_at-clause-reads g c =
-    let is = c.read_at.ensures in
-    reads_once g.D.Disk g.met.D.Disk.only_now c.args.disk.now c.read_at.new.self _ is.does is.seen is.crash is.time is.changes is.capacity is.arms is.cause.no_fewer
+pub returns-in_err-read_at-clause-asks : goal.returns-in_err-read_at-clause-asks
+returns-in_err-read_at-clause-asks g c =
+    let error = err_from_is_err_and c.from_residual.result c.from_residual.ensures.1 in
+    let why = c.in_err-read_at.field-0.0 in
+    rw (error.1, error.2) (asks_read g.D.Disk c.args.disk.now c.read_at.new.self _ _ c.read_at.result (Err why) c.in_err-read_at.was c.read_at.ensures.does)
 
-pub returns-clause-reads : goal.returns-clause-reads
-returns-clause-reads g c =
-    let is = c.read_at.ensures in
-    reads_once g.D.Disk g.met.D.Disk.only_now c.args.disk.now c.read_at.new.self _ is.does is.seen is.crash is.time is.changes is.capacity is.arms is.cause.no_fewer
+pub returns-clause-asks : goal.returns-clause-asks
+returns-clause-asks g c = asks_read g.D.Disk c.args.disk.now c.read_at.new.self _ _ c.read_at.result (Ok tt) c.in_ok-read_at.was c.read_at.ensures.does

@@ -1,4 +1,4 @@
-use Rattle.std.proofs.Common.{◌≡◌, [], ◌∷◌, ⊎_elim, ℕ, ◌*◌, ◌≤◌, List, length, sym, ◌∙◌, ap, subst, arith}
+use Rattle.std.proofs.Common.{◌≡◌, [], ◌∷◌, ⊎_elim, ℕ, ◌*◌, ◌≤◌, List, length, inl, inr, refl, sym, ◌∙◌, ap, subst, arith}
 use Rattle.std.proofs.lemmas.Bool.{true≢false, cond-false}
 use Rattle.c8_disk.specs.Disk.{overwritten, Torn}
 use Rattle.c8_log.specs.Slots.{kept, kept_count}
@@ -8,6 +8,8 @@ use Rattle.c8_log.specs.Written.{IsBeforeOrTorn}
 use Rattle.c8_disk.specs.RunLaws.{weaker}
 use Rattle.c8_log.proofs.Crash.{repair_keeps}
 use Rattle.c8_log.proofs.Repair.{kept_within, length_of_kept, up_from_repair}
+use Rattle.c8_disk.specs.Asks.{Asks}
+use Rattle.c8_log.specs.Asked.{WriteAndSync}
 use Rattle.c8_log.proofs.open.repair.Goals as goal
 
 pub write_and_sync-requires-clause-place : goal.write_and_sync-requires-clause-place
@@ -44,3 +46,14 @@ returns-clause-full g c is =
 
 pub returns-clause-no_repair : goal.returns-clause-no_repair
 returns-clause-no_repair g c closed = absurd (true≢false (sym closed ∙ c.if-end.false))
+
+pub returns-then-end-clause-asks : goal.returns-then-end-clause-asks
+returns-then-end-clause-asks g c =
+    let closed = sym c.requires.closed ∙ c.if-end.true in
+    record { calls = []; led = refl; is = inl (closed, (refl, refl)) }
+
+pub returns-clause-asks : goal.returns-clause-asks
+returns-clause-asks g c =
+    let open_gate = sym c.requires.closed ∙ c.if-end.false in
+    let asks = subst (λ (n : ℕ). Asks g.D.Disk (WriteAndSync (144 * n) (0 ∷ [])) c.write_and_sync.result c.args.disk.now c.write_and_sync.new.disk) c.requires.count c.write_and_sync.ensures.asks in
+    record { calls = asks.calls; led = asks.led; is = inr (open_gate, asks.is) }

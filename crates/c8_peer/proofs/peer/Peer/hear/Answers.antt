@@ -73,7 +73,8 @@ returns-in-Ok g c =
     let noted = memory_after v.state.memory p in
     let comes = comes_to v p (verdicts.Keep c.in-Ok-Keep.record c.in-Ok-Keep.heard) c.in-Ok-Keep.field-0 c.requires.stays c.requires.admitted c.in-Ok-Keep.ensures.judged.0 c.in-Ok-Keep.field-0-is in
     let leaves = subst (LeavesJournal g.D.Disk) c.in-Ok.ensures.ok c.in-Ok.ensures.journal in
-    let kept : Kept g.D.Disk v r c.keep.new.self.disk = record { any_moment = c.in-Ok.ensures.any_moment; changes = c.in-Ok.ensures.changes; same = c.in-Ok.ensures.same } in
+    let kept : Kept g.D.Disk v r (Ok tt) c.keep.new.self.disk =
+    record { any_moment = c.in-Ok.ensures.any_moment; changes = c.in-Ok.ensures.changes; same = c.in-Ok.ensures.same; asks = c.in-Ok.ensures.asks } in
     let ran = c.keep.new.self.last_run in
     let later = heard_later (verdicts.Keep c.in-Ok-Keep.record c.in-Ok-Keep.heard) c.in-Ok-Keep.field-0 c.in-Ok-Keep.ensures.judged.1 c.in-Ok-Keep.field-0-is in
     let few = subst (λ (entry : Bool). ran ≤ (if entry then v.rules.window + 1 else v.rules.window)) later.1 c.in-Ok.ensures.ran in
@@ -90,7 +91,8 @@ returns-in-Err-keep g c =
     let is = c.in-Err-keep.ensures.err in
     let comes = comes_to v p (verdicts.Keep c.in-Ok-Keep.record c.in-Ok-Keep.heard) c.in-Ok-Keep.field-0 c.requires.stays c.requires.admitted c.in-Ok-Keep.ensures.judged.0 c.in-Ok-Keep.field-0-is in
     let leaves = subst (LeavesJournal g.D.Disk) is c.in-Err-keep.ensures.journal in
-    let kept : Kept g.D.Disk v r c.keep.new.self.disk = record { any_moment = c.in-Err-keep.ensures.any_moment; changes = c.in-Err-keep.ensures.changes; same = c.in-Err-keep.ensures.same } in
+    let kept : Kept g.D.Disk v r (Err why) c.keep.new.self.disk =
+    record { any_moment = c.in-Err-keep.ensures.any_moment; changes = c.in-Err-keep.ensures.changes; same = c.in-Err-keep.ensures.same; asks = c.in-Err-keep.ensures.asks } in
     subst (λ (x : PeerValue g.row.D.Denot). IsAnswered g.D.Disk v (Deliver (Ok p)) (Delivered (Err (refusals.Disk why))) x) (sym is)
     (is_refused g.D.Disk v c.keep.new.self.disk (memory_after v.state.memory p) (Deliver (Ok p)) (Delivered (Err (refusals.Disk why))) (Delivered (Ok c.in-Ok-Keep.heard)) r why c.requires.up comes refl refl kept
     (cause_of g.D.Disk v (without_record g.D.Disk v c.keep.new.self.disk r) why c.in-Err-keep.ensures.failed c.in-Err-keep.ensures.full) leaves)

@@ -1,8 +1,10 @@
-use Rattle.std.proofs.Common.{inl, arith, ◌+◌, ◌≤◌, ◌∙◌, ◌++◌, ◌∷◌, [], ap, List, ℕ, Some, sym, subst, ◌≡◌}
+use Rattle.std.proofs.Common.{inl, arith, length, Ok, Err, ◌+◌, ◌≤◌, ◌∙◌, ◌++◌, ◌∷◌, [], ap, List, ℕ, Some, sym, subst, ◌≡◌}
 use Rattle.c8_game.specs.Rules.{Rules}
 use Rattle.c8_roll.specs.Roll.{roll_of}
 use Rattle.c8_roll.specs.RollLaws.{roll_rules, roll_ticks}
 use Rattle.c8_roll.specs.Seen.{value_of as seen, last_run_of}
+use Rattle.c8_disk.specs.AsksLaws.{asks_as}
+use Rattle.c8_log.specs.Asked.{AppendWithin}
 use Rattle.c8_log.specs.Journal.{JournalValue}
 use Rattle.c8_record.specs.Body.{record_of, records_of}
 use Rattle.c8_record.specs.BodyLaws.{read_again}
@@ -10,7 +12,7 @@ use Rattle.c8_record.specs.Lent.{value_of}
 use Rattle.c8_peer.specs.State.{Open}
 use Rattle.c8_peer.specs.Peer.{PeerValue}
 use Rattle.c8_peer.specs.Held.{most_run_with}
-use Rattle.c8_peer.proofs.PeerLemmas.{is_up, peer_refused, can_follow, peer_more, was_roll, runs_few, allowed_inside, view_refused, view_more, leaves_records, one_body_more}
+use Rattle.c8_peer.proofs.PeerLemmas.{is_up, peer_refused, can_follow, peer_more, was_roll, runs_few, allowed_inside, view_refused, view_more, leaves_records, asks_records, one_body_more}
 use Rattle.c8_peer.proofs.WindowLemmas.{is_within, roll_within}
 use Rattle.c8_peer.proofs.peer.Peer.keep.Goals as goal
 
@@ -96,3 +98,15 @@ returns-in-Ok-clause-ran g c =
     subst (λ (x : Rules). last_run_of c.go_on.new.roll ≤ x.window) game (c.go_on.ensures.settled within (omega (arith, same, ticks))) in
     subst (λ (x : PeerValue g.row.D.Denot). last_run_of c.go_on.new.roll ≤ most_run_with x.rules r) c.self.view_is
     (runs_few rules c.self.inside.known c.make_known.new.known r (last_run_of c.go_on.new.roll) c.make_known.ensures.value most settled)
+
+pub returns-in-Err-clause-asks : goal.returns-in-Err-clause-asks
+returns-in-Err-clause-asks g c =
+    asks_records g.D.Disk c.args.self.now c.self.inside.game.now c.self.inside.room c.self.inside.known.me c.self.inside.journal c.append.new.self.disk c.self.inside.memory (value_of c.args.lent.now) c.body_of.result
+    (Err c.in-Err.error) c.self.view_is c.body_of.ensures.body
+    (asks_as g.D.Disk (AppendWithin (g.D.Disk.capacity c.self.inside.journal.disk) (length c.self.inside.journal.bodies) c.body_of.result) c.self.inside.journal.disk c.append.new.self.disk c.append.result (Err c.in-Err.error) c.in-Err.is c.append.ensures.asks)
+
+pub returns-in-Ok-clause-asks : goal.returns-in-Ok-clause-asks
+returns-in-Ok-clause-asks g c =
+    asks_records g.D.Disk c.args.self.now c.self.inside.game.now c.self.inside.room c.self.inside.known.me c.self.inside.journal c.append.new.self.disk c.self.inside.memory (value_of c.args.lent.now) c.body_of.result
+    (Ok tt) c.self.view_is c.body_of.ensures.body
+    (asks_as g.D.Disk (AppendWithin (g.D.Disk.capacity c.self.inside.journal.disk) (length c.self.inside.journal.bodies) c.body_of.result) c.self.inside.journal.disk c.append.new.self.disk c.append.result (Ok tt) c.in-Ok.is c.append.ensures.asks)

@@ -1,11 +1,14 @@
-use Rattle.std.proofs.Common.{inr, ap, subst, ◌∙◌, ◌≤◌, ℕ}
+use Rattle.std.proofs.Common.{inr, Ok, ap, subst, ◌∙◌, ◌≤◌, ℕ}
 use Rattle.std.proofs.lemmas.Result.{err_from_is_err_and}
 use Rattle.c8_disk.specs.Runs.{LeavesOnly}
 use Rattle.c8_disk.specs.RunLaws.{same_then}
+use Rattle.c8_disk.specs.Asks.{Asks}
+use Rattle.c8_disk.specs.AsksLaws.{asks_then}
+use Rattle.c8_peer.specs.Opened.{ReadRun}
 use Rattle.c8_roll.specs.Seen.{last_run_of}
 use Rattle.c8_peer.specs.State.{fresh_memory}
-use Rattle.c8_peer.specs.OpenedParts.{IsBegun, IsNotBegun, BeginningLeaves}
-use Rattle.c8_peer.proofs.OpenLemmas.{refused_beginning, begun_there, leaves_opening, peer_opened, opened_peer}
+use Rattle.c8_peer.specs.OpenedParts.{BeginRun, IsBegun, IsNotBegun, BeginningLeaves}
+use Rattle.c8_peer.proofs.OpenLemmas.{refused_beginning, begin_run, begun_there, leaves_opening, peer_opened, opened_peer}
 use Rattle.c8_peer.proofs.peer.open.open_in.Goals as goal
 
 pub returns-in_err-journal-clause-refused : goal.returns-in_err-journal-clause-refused
@@ -14,7 +17,7 @@ returns-in_err-journal-clause-refused g c =
     let left = c.in_err-journal.field-0.0 in
     rw (error.1, error.2)
     (refused_beginning g.D.Disk c.args.disk c.in_ok-log.log.disk c.args.game.now c.args.room c.args.known.me c.in_ok-log.ensures.read.same left.1 left.0 c.in_ok-log.ensures.read.bodies c.in_ok-log.ensures.read.settled c.in_ok-log.ensures.same
-    c.in_ok-log.ensures.read.unfailed
+    c.in_ok-log.ensures.read.unfailed c.in_ok-log.ensures.read.asks
     (subst (λ (me : ℕ). IsNotBegun g.D.Disk c.in_ok-log.log.disk c.args.game.now c.args.room me left.0 left.1) c.me-me.ensures.value c.in_err-journal.ensures.refused))
 
 pub returns-in_err-journal-clause-any_moment : goal.returns-in_err-journal-clause-any_moment
@@ -54,6 +57,9 @@ returns-clause-opened g c =
     (last_run_of c.over-roll.result) c.over-roll.ensures.ran
     c.is_down-down.ensures.sound
     (same_then g.D.Disk c.args.disk c.in_ok-log.log.disk c.in_ok-journal.journal.disk c.in_ok-log.ensures.same c.in_ok-journal.ensures.same)
+    (asks_then g.D.Disk (ReadRun g.D.Disk c.args.disk rules c.args.room me) (BeginRun g.D.Disk c.args.disk rules c.args.room me) c.args.disk c.in_ok-log.log.disk c.in_ok-journal.journal.disk (Ok tt) read.asks
+    (begin_run g.D.Disk c.args.disk c.in_ok-log.log.disk rules c.args.room me read.same c.in_ok-journal.journal.disk (Ok tt) c.in_ok-log.ensures.same.capacity
+    (subst (λ (m : ℕ). Asks g.D.Disk (BeginRun g.D.Disk c.in_ok-log.log.disk rules c.args.room m) (Ok tt) c.in_ok-log.log.disk c.in_ok-journal.journal.disk) own c.in_ok-journal.ensures.asks)))
 
 pub returns-clause-any_moment : goal.returns-clause-any_moment
 returns-clause-any_moment g c =
@@ -61,12 +67,3 @@ returns-clause-any_moment g c =
     let left = c.in_ok-journal.journal.disk in
     leaves_opening g.D.Disk c.args.disk mid c.args.game.now c.args.room c.args.known.me c.in_ok-log.ensures.read.same g.met.D.Disk.reads_now left c.in_ok-log.ensures.any_moment
     (subst (λ (me : ℕ). LeavesOnly g.D.Disk mid left (BeginningLeaves g.D.Disk mid c.args.game.now c.args.room me)) c.me-me.ensures.value c.in_ok-journal.ensures.any_moment)
-
-pub returns-in_err-journal-clause-same : goal.returns-in_err-journal-clause-same
-returns-in_err-journal-clause-same g c =
-    let error = err_from_is_err_and c.from_residual-in_err-journal.result c.from_residual-in_err-journal.ensures.1 in
-    let left = c.in_err-journal.field-0.0 in
-    rw (error.1, error.2) (same_then g.D.Disk c.args.disk c.in_ok-log.log.disk left.1 c.in_ok-log.ensures.same c.in_err-journal.ensures.same)
-
-pub returns-clause-same : goal.returns-clause-same
-returns-clause-same g c = same_then g.D.Disk c.args.disk c.in_ok-log.log.disk c.in_ok-journal.journal.disk c.in_ok-log.ensures.same c.in_ok-journal.ensures.same

@@ -1,16 +1,47 @@
-use Rattle.c8_disk.specs.RunLaws.{same_then}
-use Rattle.c8_peer.proofs.OpenLemmas.{refused_reading}
+use Rattle.std.proofs.Common.{Ok, Err, rules, ap}
+use Rattle.c8_disk.specs.AsksLaws.{asks_as}
+use Rattle.c8_log.specs.declared.error.LogError.{LogError}
+use Rattle.c8_log.specs.Asked.{Opening as OpenLog, told_by as told_by_log}
+use Rattle.c8_disk.specs.declared.error.DiskError.TheVariants.{Failed, Full}
+use Rattle.c8_record.specs.Replay.{told_by}
+use Rattle.c8_peer.proofs.OpenLemmas.{refused_reading, read_run, open_refused}
 use Rattle.c8_peer.proofs.peer.open.read_journal.Goals as goal
 
 pub returns-in-Err-clause-refused : goal.returns-in-Err-clause-refused
 returns-in-Err-clause-refused g c =
+    let rules = c.args.game.now in
+    let me = c.args.known.now.me in
     rw (c.from.ensures, c.close.ensures)
-    (refused_reading g.D.Disk g.met.D.Disk.reads_now c.args.disk c.in-Ok.log.disk c.replay.new.log.disk c.args.game.now c.args.room c.args.known.now.me c.replay.new.known
-    c.in-Ok.ensures.kept c.in-Ok.ensures.repaired (c.in-Ok.ensures.at_rest).durable c.in-Ok.ensures.same c.replay.ensures.reads c.in-Err.error c.in-Err.ensures.failed c.in-Err.ensures.replayed)
+    (refused_reading g.D.Disk g.met.D.Disk.reads_now c.args.disk c.in-Ok.log.disk c.replay.new.log.disk rules c.args.room me c.replay.new.known
+    c.in-Ok.ensures.kept c.in-Ok.ensures.repaired (c.in-Ok.ensures.at_rest).durable c.in-Ok.ensures.same c.replay.ensures.reads c.in-Err.error
+    (read_run g.D.Disk c.args.disk rules c.args.room me c.in-Ok.log c.replay.new.log.disk (told_by (Err c.in-Err.error)) c.in-Ok.ensures.asks (c.in-Ok.ensures.at_rest).count c.in-Ok.ensures.kept c.in-Err.ensures.asks)
+    c.in-Err.ensures.failed c.in-Err.ensures.replayed)
 
-pub returns-in-Ok-replay-clause-same : goal.returns-in-Ok-replay-clause-same
-returns-in-Ok-replay-clause-same g c = same_then g.D.Disk c.args.disk c.in-Ok.log.disk c.replay.new.log.disk c.in-Ok.ensures.same c.replay.ensures.reads.same
+pub returns-in-Err-Failed-default-clause-refused : goal.returns-in-Err-Failed-default-clause-refused
+returns-in-Err-Failed-default-clause-refused g c = (
+  search rules,
+  open_refused g.D.Disk c.args.disk c.args.game.now c.args.room c.args.known.now.me c.in-Err-Failed-default.disk Failed
+      (asks_as g.D.Disk (OpenLog (g.D.Disk.seen c.args.disk)) c.args.disk c.in-Err-Failed-default.disk _ (Err Failed) (ap (λ (e : LogError). told_by_log {T = Unit {0}} (Err e)) c.in-Err-Failed-default.field-0-0-is)
+      c.in-Err-Failed-default.ensures.asks),
+)
 
-pub returns-in-Err-clause-same : goal.returns-in-Err-clause-same
-returns-in-Err-clause-same g c =
-    rw c.close.ensures (same_then g.D.Disk c.args.disk c.in-Ok.log.disk c.replay.new.log.disk c.in-Ok.ensures.same c.replay.ensures.reads.same)
+pub returns-in-Err-Full-default-clause-refused : goal.returns-in-Err-Full-default-clause-refused
+returns-in-Err-Full-default-clause-refused g c = (
+  search rules,
+  open_refused g.D.Disk c.args.disk c.args.game.now c.args.room c.args.known.now.me c.in-Err-Full-default.disk Full
+      (asks_as g.D.Disk (OpenLog (g.D.Disk.seen c.args.disk)) c.args.disk c.in-Err-Full-default.disk _ (Err Full) (ap (λ (e : LogError). told_by_log {T = Unit {0}} (Err e)) c.in-Err-Full-default.field-0-0-is)
+      c.in-Err-Full-default.ensures.asks),
+)
+
+pub returns-in-Ok-replay-clause-read : goal.returns-in-Ok-replay-clause-read
+returns-in-Ok-replay-clause-read g c = record {
+  bodies = search rules;
+  known = search rules;
+  last_is = search rules;
+  up = search rules;
+  same = search rules;
+  settled = search rules;
+  unfailed = search rules;
+  asks = read_run g.D.Disk c.args.disk c.args.game.now c.args.room c.args.known.now.me c.in-Ok.log c.replay.new.log.disk (Ok tt) c.in-Ok.ensures.asks (c.in-Ok.ensures.at_rest).count c.in-Ok.ensures.kept
+      c.in-Ok-replay.ensures.asks;
+}

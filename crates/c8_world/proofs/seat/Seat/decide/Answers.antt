@@ -1,14 +1,6 @@
-use Rattle.std.proofs.Common.{ℕ, ap, ◌∙◌}
-use Rattle.std.specs.Prelude.{Result}
-use Rattle.c8_peer.specs.declared.error.DecideError.{DecideError}
-use Rattle.c8_peer.specs.State.{Decided}
-use Rattle.c8_peer.specs.Peer.{mode_of, luck_of}
-use Rattle.c8_world.specs.declared.answer.Answer.TheVariants as answers
-use Rattle.c8_world.proofs.TurnLemmas.{in_memory, answered_seat}
+use Rattle.std.proofs.Common.{ap, ◌∙◌}
+use Rattle.c8_peer.specs.Peer.{mode_of}
 use Rattle.c8_world.proofs.seat.Seat.decide.Goals as goal
 
 pub returns-else-is_down-clause-turn : goal.returns-else-is_down-clause-turn
-returns-else-is_down-clause-turn c =
-    rw c.in-Held.is
-    (answered_seat (answers.Decided c.decide.result) c.decide.ensures c.is_down.ensures.sound in_memory
-    (c.is_down.ensures.value ∙ ap mode_of c.if-is_down.false) (λ why blames. ap (λ (r : Result ℕ DecideError). luck_of (Decided r)) blames) (λ still. still))
+returns-else-is_down-clause-turn c = rw c.in-Held.is (c.is_down.ensures.value ∙ ap mode_of c.if-is_down.false, c.is_down.ensures.sound, c.decide.ensures)

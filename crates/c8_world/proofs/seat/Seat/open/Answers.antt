@@ -1,4 +1,4 @@
-use Rattle.std.proofs.Common.{◌≡◌, ◌≢◌, inr, ℕ, List, Result, Ok, Err, refl, sym, ap, subst, ◌∙◌}
+use Rattle.std.proofs.Common.{◌≡◌, ◌≢◌, inr, ℕ, List, Ok, Err, refl, sym, ap, subst, ◌∙◌}
 use Rattle.std.proofs.lemmas.Bool.{both_ways}
 use Rattle.c8_disk.specs.Memory.{bytes_of}
 use Rattle.c8_log.specs.Slots.{kept}
@@ -7,16 +7,15 @@ use Rattle.c8_record.specs.Body.{records_of}
 use Rattle.c8_peer.specs.State.{Open, Opened}
 use Rattle.c8_peer.specs.Steps.{Stepped}
 use Rattle.c8_peer.specs.Opening.{Stands, found, opened}
-use Rattle.c8_peer.specs.Peer.{PeerValue, told}
+use Rattle.c8_peer.specs.Peer.{told}
 use Rattle.c8_peer.specs.Runs.{After}
 use Rattle.c8_peer.specs.declared.error.OpenError.{OpenError}
 use Rattle.c8_peer.specs.declared.error.OpenError.TheVariants as opens
-use Rattle.c8_peer.specs.Opened.{disk_after, IsRefusedOpening}
-use Rattle.c8_disk.specs.Runs.{IsSameDisk}
+use Rattle.c8_peer.specs.Opened.{IsOpened, IsRefusedOpening}
 use Rattle.c8_disk.specs.declared.mem_disk.MemDisk.{MemDisk}
 use Rattle.c8_disk.specs.contracts.mem_disk.MemDiskDisk.TheImpl.{ghosts}
 use Rattle.c8_world.specs.declared.seat.Seat.TheVariants as seats
-use Rattle.c8_world.proofs.TurnLemmas.{in_memory, opened_seat, opening_blamed, opening_spared}
+use Rattle.c8_world.proofs.TurnLemmas.{opening_spared}
 use Rattle.c8_world.proofs.SeatLemmas.{found_now, reply_in, refused_away}
 use Rattle.c8_world.proofs.seat.Seat.open.Goals as goal
 
@@ -67,14 +66,11 @@ returns-in-Err-clause-opened c s plays is journals =
 
 pub returns-in-Ok-clause-turn : goal.returns-in-Ok-clause-turn
 returns-in-Ok-clause-turn c =
-    let is_opened = c.in-Ok.ensures.opened in
-    opened_seat (Ok c.epoch-epoch.result) _ _ is_opened.same in_memory c.into_disk-disk.ensures.disk refl (λ why never. absurd (cc never))
+    (subst (λ (disk : MemDisk). IsOpened ghosts disk c.args.game.now c.args.room c.args.player.number c.in-Ok.peer) c.into_disk-disk.ensures.disk c.in-Ok.ensures.opened, c.epoch-epoch.ensures)
 
 pub returns-in-Err-clause-turn : goal.returns-in-Err-clause-turn
 returns-in-Err-clause-turn c =
-    opened_seat (Err c.in-Err.error) _ _ (subst (λ (r : Result (PeerValue MemDisk) (OpenError × MemDisk)). IsSameDisk ghosts c.into_disk-disk.result (disk_after r)) c.in-Err.is c.open.ensures.same)
-    in_memory c.into_disk-disk.ensures.disk refl
-    (λ why is P failed full. opening_blamed ghosts c.into_disk-disk.result c.in-Err.disk c.args.game.now c.args.room c.args.player.number P failed full c.in-Err.error why (let e : c.in-Err.error ≡ opens.Disk why = cc in e) c.in-Err.ensures.refused)
+    subst (λ (disk : MemDisk). IsRefusedOpening ghosts disk c.args.game.now c.args.room c.args.player.number c.in-Err.error c.in-Err.disk) c.into_disk-disk.ensures.disk c.in-Err.ensures.refused
 
 pub returns-in-Err-clause-spared : goal.returns-in-Err-clause-spared
 returns-in-Err-clause-spared c memory =

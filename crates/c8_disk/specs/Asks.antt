@@ -1,0 +1,52 @@
+-- Which calls a run makes of a disk, and what it comes to. A run is a relation between the list of its calls and what it answers
+-- in the end: Ok, or the refusal of its last call.
+use Rattle.std.specs.Prelude.{◌≡◌, ◌⊎◌, ◌≤◌, ℕ, List, [], ◌∷◌, ◌++◌, length, Result, Ok, Err}
+use Rattle.c8_disk.specs.declared.disk.Disk.{Ghosts}
+use Rattle.c8_disk.specs.declared.error.DiskError.{DiskError}
+use Rattle.c8_disk.specs.Disk.{DiskCall, Reading, Writing, Syncing}
+use Rattle.c8_disk.specs.Runs.{Leads}
+
+-- what a call or a run of calls answers
+abbrev pub Answer : Type 0
+Answer = Result (Unit {0}) DiskError
+
+-- the same of a result with something in it
+abbrev pub answer_of : {T : Type 0} → Result T DiskError → Answer
+answer_of (Ok found) = Ok tt
+answer_of (Err why) = Err why
+
+abbrev pub Run : Type 1
+Run = List DiskCall → Answer → Type 0
+
+-- no call
+abbrev pub Nothing : Run
+Nothing calls answer = (calls ≡ []) × (answer ≡ Ok tt)
+
+-- one write, and one sync
+abbrev pub Write : ℕ → List ℕ → Run
+Write at bytes calls answer = calls ≡ Writing at bytes answer ∷ []
+
+abbrev pub Sync : Run
+Sync calls answer = calls ≡ Syncing answer ∷ []
+
+-- reads, until one of them is refused
+abbrev pub AreReads : Run
+AreReads [] answer = answer ≡ Ok tt
+AreReads (Reading at count result ∷ calls) answer = ((result ≡ Ok tt) × AreReads calls answer) ⊎ ((why : DiskError) × (result ≡ Err why) × (answer ≡ Err why) × (calls ≡ []))
+AreReads (Writing at bytes result ∷ calls) answer = ⊥
+AreReads (Syncing result ∷ calls) answer = ⊥
+
+-- at most so many
+abbrev pub Reads : ℕ → Run
+Reads most calls answer = (length calls ≤ most) × AreReads calls answer
+
+-- a run, and where it answers Ok another one
+abbrev pub Then : Run → Run → Run
+Then P Q calls answer =
+    ((first : List DiskCall) × (rest : List DiskCall) × (calls ≡ first ++ rest) × P first (Ok tt) × Q rest answer) ⊎ ((why : DiskError) × (answer ≡ Err why) × P calls (Err why))
+
+-- Such a run, with this answer, leads from the one disk to the other.
+pub record Asks {D : Type 0} (disk : Ghosts D) (P : Run) (answer : Answer) (old new : D) : Type 0 where
+  pub calls : List DiskCall
+  pub led : Leads disk calls old new
+  pub is : P calls answer

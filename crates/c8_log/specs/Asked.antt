@@ -1,0 +1,41 @@
+-- Which calls of its disk a log makes.
+use Rattle.std.specs.Prelude.{◌≡◌, ◌⊎◌, ◌<◌, ◌≤◌, ℕ, ◌+◌, ◌*◌, true, false, List, [], ◌∷◌, ◌++◌, Result, Ok, Err}
+use Rattle.c8_disk.specs.declared.error.DiskError.TheVariants.{Failed as DiskFailed, Full as DiskFull}
+use Rattle.c8_disk.specs.Asks.{Answer, Run, Nothing, Write, Sync, Reads, Then}
+use Rattle.c8_log.specs.declared.error.LogError.{LogError}
+use Rattle.c8_log.specs.declared.error.LogError.TheVariants.{Failed, Full, Down}
+use Rattle.c8_log.specs.Slots.{slot_length, open_gate, closed_gate, kept_count}
+use Rattle.c8_log.specs.Log.{has_closed_gate}
+
+-- a write that is put on the disk
+abbrev pub WriteAndSync : ℕ → List ℕ → Run
+WriteAndSync at bytes = Then (Write at bytes) Sync
+
+-- an append to slot n: the body after its closed gate, with a closed gate after it, and then the slot's own gate is opened
+abbrev pub Append : ℕ → List ℕ → Run
+Append n body = Then (WriteAndSync (slot_length * n + 1) (body ++ closed_gate ∷ [])) (WriteAndSync (slot_length * n) (open_gate ∷ []))
+
+-- the same of a disk with so much room: where the slot and the gate after it don't fit, nothing is asked of it
+abbrev pub AppendWithin : ℕ → ℕ → List ℕ → Run
+AppendWithin capacity n body calls answer =
+    ((slot_length * (n + 1) + 1 ≤ capacity) × Append n body calls answer) ⊎ ((capacity < slot_length * (n + 1) + 1) × (calls ≡ []) × (answer ≡ Err DiskFull))
+
+-- the repair of the gate after the kept slots, unless it stands closed
+abbrev pub Repair : List ℕ → Run
+Repair image calls answer =
+    ((has_closed_gate image ≡ true) × Nothing calls answer) ⊎ ((has_closed_gate image ≡ false) × WriteAndSync (slot_length * kept_count image) (closed_gate ∷ []) calls answer)
+
+-- an opening: a sync, a read of each kept slot and of the next gate at most, and the repair
+abbrev pub Opening : List ℕ → Run
+Opening image = Then Sync (Then (Reads (kept_count image + 1)) (Repair image))
+
+-- what the disk answered, by what the log answers
+abbrev pub told_by : {T : Type 0} → Result T LogError → Answer
+told_by (Ok found) = Ok tt
+told_by (Err Failed) = Err DiskFailed
+told_by (Err Full) = Err DiskFull
+told_by (Err Down) = Ok tt
+
+abbrev pub told_by_opening : {L D : Type 0} → Result L (LogError × D) → Answer
+told_by_opening (Ok log) = Ok tt
+told_by_opening (Err refusal) = told_by {T = Unit {0}} (Err refusal.0)
