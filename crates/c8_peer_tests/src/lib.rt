@@ -19,5 +19,3 @@ mod seat;
 mod stops;
 #[cfg(test)]
 mod table;
-#[cfg(test)]
-mod texts;
