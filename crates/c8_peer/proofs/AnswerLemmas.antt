@@ -1,20 +1,23 @@
 -- What every call answers for, at each of its ends.
-use Rattle.std.proofs.Common.{◌≡◌, ◌≤◌, ◌+◌, ◌++◌, ℕ, [], ◌∷◌, length, Some, None, Ok, Err, refl, sym, subst, ◌∙◌, arith}
+use Rattle.std.proofs.Common.{◌≡◌, ◌<◌, ◌≤◌, ◌+◌, ◌*◌, ◌++◌, ℕ, [], ◌∷◌, length, Some, None, Ok, Err, refl, sym, ap, subst, ◌∙◌, arith}
 use Rattle.c8_game.specs.Rules.{Rules}
 use Rattle.c8_disk.specs.declared.disk.Disk.{Ghosts}
 use Rattle.c8_disk.specs.declared.error.DiskError.{DiskError}
+use Rattle.c8_disk.specs.declared.error.DiskError.TheVariants as errors
 use Rattle.c8_disk.specs.Runs.{LeavesOnly, IsSameDisk}
 use Rattle.c8_disk.specs.Asks.{Answer, Asks}
 use Rattle.c8_log.specs.Asked.{AppendWithin}
+use Rattle.c8_log.specs.Slots.{slot_length}
 use Rattle.c8_record.specs.Body.{body_of}
 use Rattle.c8_log.specs.Journal.{JournalValue}
 use Rattle.c8_known.specs.Journal.{Record}
 use Rattle.c8_known.specs.Known.{KnownValue}
 use Rattle.c8_peer.specs.State.{Memory, Open, Down, Call, Reply, Outcome, answered, recorded}
 use Rattle.c8_peer.specs.Steps.{Works, Refuses, outcome, refused_by_disk}
-use Rattle.c8_peer.specs.Peer.{PeerValue, known_by, luck_of, IsStep, added, most_run, KeepsWithOrWithout, LeavesJournal, HasCause, IsAnswered, IsSound}
+use Rattle.c8_peer.specs.Peer.{PeerValue, known_by, luck_of, IsStep, added, most_run, RunsFrames, KeepsWithOrWithout, LeavesJournal, HasCause, IsAnswered, IsSound}
 use Rattle.c8_peer.specs.Held.{IsPeer}
 use Rattle.c8_peer.proofs.PeerLemmas.{view}
+use Rattle.c8_peer.proofs.RoomLemmas.{had_room}
 
 -- what a call comes to, by what the peer knows inside and as it is seen
 pub outcome_seen : {D : Type 0} {ran : ℕ} (v : PeerValue D) (rules : Rules) (room : ℕ) (j : JournalValue D) (k : KnownValue) (m : Memory) → IsPeer rules room j k m → view rules room k.me j m ran ≡ v
@@ -30,6 +33,7 @@ module _ {D : Type 0} (g : Ghosts D) where
   quiet v m call reply sound none luck step = record {
     step = step;
     cause = λ why e. let never : Works ≡ Refuses why = sym luck ∙ e in absurd cc;
+    full = λ r some. let never : None ≡ Some r = sym none ∙ some in absurd cc;
     any_moment = rw none sound.still;
     asks = λ r some. let never : None ≡ Some r = sym none ∙ some in absurd cc;
     journal = sound.leaves;
@@ -57,13 +61,20 @@ module _ {D : Type 0} (g : Ghosts D) where
   abbrev pub without_record : PeerValue D → D → Record → PeerValue D
   without_record v disk r = record v { disk = disk; state = record v.state { pending = Some r; mode = Down } }
 
+  -- where there is no room for a record, no other word is said of it
+  must_be_full : (old new : PeerValue D) (why : DiskError) → HasCause g old new why → g.capacity old.disk < slot_length * (length old.state.journal + 1) + 1 → why ≡ errors.Full
+  must_be_full old new errors.Failed cause few = let room = cause.0 in absurd (omega (arith, few, room))
+  must_be_full old new errors.Full cause few = refl
+
   -- the disk takes the record
   pub records : (v : PeerValue D) (disk : D) (m : Memory) (ran : ℕ) (call : Call) (reply : Reply) (r : Record) → v.state.mode ≡ Open
-      → outcome v.rules (known_by v) v.state.memory call ≡ recorded m reply r → luck_of reply ≡ Works → Kept v r (Ok tt) disk → ran ≤ most_run v.rules call
+      → outcome v.rules (known_by v) v.state.memory call ≡ recorded m reply r → luck_of reply ≡ Works → Kept v r (Ok tt) disk
+      → RunsFrames (most_run v.rules call) (known_by v) (known_by (with_record v disk r m ran)) ran
       → LeavesJournal g (with_record v disk r m ran) → IsAnswered g v call reply (with_record v disk r m ran)
-  records v disk m ran call reply r mode comes luck kept few leaves = record {
+  records v disk m ran call reply r mode comes luck kept runs leaves = record {
     step = rw (mode, comes, luck) refl;
     cause = λ why e. let never : Works ≡ Refuses why = sym luck ∙ e in absurd cc;
+    full = λ other is few. let room = had_room (g.capacity v.disk) (length v.state.journal) (body_of r) kept.asks.calls kept.asks.is in absurd (omega (arith, few, room));
     any_moment = rw (mode, comes) kept.any_moment;
     journal = leaves;
     asks = λ other is. let this : Some r ≡ Some other = rw (mode, comes) refl ∙ is in
@@ -71,7 +82,7 @@ module _ {D : Type 0} (g : Ghosts D) where
         rw luck (subst (λ (x : Record). Asks g (AppendWithin (g.capacity v.disk) (length v.state.journal) (body_of x)) (Ok tt) v.disk disk) same kept.asks);
     untouched = λ e. let never : Some r ≡ None = sym (rw (mode, comes) refl) ∙ e in absurd cc;
     changes = kept.changes;
-    ran = rw (mode, comes, luck) few;
+    ran = rw (mode, comes, luck) runs;
     same = record { rules = refl; room = refl; me = refl; disk_is = kept.same };
   }
 
@@ -83,6 +94,7 @@ module _ {D : Type 0} (g : Ghosts D) where
     step = rw (mode, comes, luck, is) refl;
     cause = λ other e. let same : Refuses why ≡ Refuses other = sym luck ∙ e in
         let this : why ≡ other = cc in subst (HasCause g v (without_record v disk r)) this cause;
+    full = λ other e few. luck ∙ ap Refuses (must_be_full v (without_record v disk r) why cause few);
     any_moment = rw (mode, comes) kept.any_moment;
     journal = leaves;
     asks = λ other is. let this : Some r ≡ Some other = rw (mode, comes) refl ∙ is in

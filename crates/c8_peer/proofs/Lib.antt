@@ -9,6 +9,7 @@ pub mod WritingLemmas
 pub mod PeerLemmas
 pub mod AnswerLemmas
 pub mod ReaderLemmas
+mod RoomLemmas
 mod WindowLemmas
 pub mod DeliveryLemmas
 pub mod RefusalLemmas

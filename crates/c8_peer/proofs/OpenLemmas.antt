@@ -30,6 +30,7 @@ use Rattle.c8_peer.specs.OpenedParts.{IsRead, BeginRun, IsBegun, IsNotBegun, Beg
 use Rattle.c8_peer.proofs.OpeningLemmas.{opening_allowed, opening_memory}
 use Rattle.c8_peer.proofs.PeerLemmas.{one_body_more, bodies_more, view}
 use Rattle.c8_peer.proofs.ReaderLemmas.{ticks_are}
+use Rattle.c8_peer.proofs.RoomLemmas.{had_room_then}
 
 -- ---- the record that is added
 
@@ -193,6 +194,7 @@ module _ {D : Type 0} (g : Ghosts D) (disk : D) (rules : Rules) (room me : ℕ) 
     sound = sound;
     ran = runs ∙ ticks_are (view rules room k.me journal m ran) rules room journal k m refl peer_opened;
     same = same;
+    has_room = had_room_then (ReadRun g disk rules room me) (g.capacity disk) (length (bodies_found g disk)) _ asks.calls asks.is;
     asks = asks;
   }
 

@@ -3,6 +3,7 @@ use Rattle.std.proofs.Common.{◌≡◌, ◌≤◌, ◌+◌, ℕ, List, [], ◌�
 use Rattle.std.proofs.lemmas.Bool.{cases_Bool}
 use Rattle.std.proofs.lemmas.List.{map-append, length-map}
 use Rattle.c8_game.specs.Rules.{Rules}
+use Rattle.c8_game.specs.declared.row.Row.{Row}
 use Rattle.c8_disk.specs.declared.disk.Disk.{Ghosts}
 use Rattle.c8_disk.specs.Runs.{LeavesOnly}
 use Rattle.c8_disk.specs.RunLaws.{weaker}
@@ -20,12 +21,14 @@ use Rattle.c8_record.specs.Allowed.{IsAllowed, past_of, CanFollow}
 use Rattle.c8_record.specs.Replay.{AreJournalBodies}
 use Rattle.c8_record.specs.JournalLaws.{journal_more, known_more, epoch_more, of_game}
 use Rattle.c8_roll.specs.Roll.{RollValue, roll_of}
+use Rattle.c8_roll.specs.RollLaws.{roll_rules}
+use Rattle.c8_roll.specs.Rollback.{KeepsRows, IsWithinWindow, RunsFromOldest, RunsFromWhatWasKnown}
 use Rattle.c8_peer.specs.State.{Memory, Open, Down, Call, Reply, Outcome, recorded}
 use Rattle.c8_peer.specs.Steps.{outcome}
 use Rattle.c8_peer.proofs.AllowedLemmas.{keeps_allowed}
 use Rattle.c8_peer.specs.Lawful.{IsMemory, IsCall}
 use Rattle.c8_peer.specs.TruthLaws.{count_rises}
-use Rattle.c8_peer.specs.Peer.{PeerValue, mode_of, state_of, KeepsWithOrWithout}
+use Rattle.c8_peer.specs.Peer.{PeerValue, known_by, mode_of, state_of, RunsFrames, KeepsWithOrWithout}
 use Rattle.c8_peer.specs.Held.{IsPeer, is_opening, is_entry, most_run_with, WasRoll}
 
 -- the memory stays in order with each record more
@@ -158,6 +161,13 @@ runs_few rules k later r ran more most settled = elim (cases_Bool (is_entry r)) 
       rw other (settled (omega (arith, same)))
 ]
 
+-- the rows that a roll kept are those of what was known
+pub runs_anew : (rules : Rules) (v : RollValue) (rows : List Row) (k later : KnownValue) (ran : ℕ) → v ≡ roll_of rules k → KeepsRows rules.window k rows → IsWithinWindow v
+    → RunsFromWhatWasKnown v rows later ran → RunsFromOldest k later ran
+runs_anew rules v rows k later ran is keeps few again =
+    let game : v.rules ≡ rules = roll_rules rules k v is in
+    again k (is ∙ ap (λ (one : Rules). roll_of one k) (sym game)) (subst (λ (one : Rules). KeepsRows one.window k rows) (sym game) keeps) (omega (arith, few))
+
 pub was_roll : (rules : Rules) (v : RollValue) (k later : KnownValue) (r : Record) → v ≡ roll_of rules k → later ≡ with_record k r → IsStillKnown k later → WasRoll v later
 unfolding roll_of
 was_roll rules v k later r is more still = record {
@@ -208,6 +218,17 @@ module _ {D : Type 0} where
         state = record { journal = records i; pending = option_map record_of (pending i); mode = mode_of (down i); memory = m };
         last_run = ran;
       })
+
+  -- how many frames the call runs that adds a record
+  pub runs_frames : {before : ℕ} (v : PeerValue D) (rules : Rules) (room : ℕ) (j : JournalValue D) (k later : KnownValue) (m : Memory) (r : Record) (ran : ℕ) → view rules room k.me j m before ≡ v
+      → IsPeer rules room j k m → IsAllowed rules k.me room (records_of j.bodies) r → later ≡ with_record k r → ran ≤ most_run_with rules r → RunsFromOldest k later ran
+      → RunsFrames (most_run_with v.rules r) (known_by v) (known_of v.rules v.me (v.state.journal ++ r ∷ [])) ran
+  runs_frames v rules room j k later m r ran seen is may more few again =
+      let journal : List Record = records_of j.bodies in
+      let longer : later ≡ known_of rules k.me (journal ++ r ∷ []) = more ∙ ap (λ (before : KnownValue). with_record before r) is.known ∙ sym (known_more rules k.me room journal r may) in
+      let from : RunsFromOldest (known_of rules k.me journal) (known_of rules k.me (journal ++ r ∷ [])) ran =
+      subst (λ (x : KnownValue). RunsFromOldest x (known_of rules k.me (journal ++ r ∷ [])) ran) is.known (subst (λ (x : KnownValue). RunsFromOldest k x ran) longer again) in
+      subst (λ (x : PeerValue D). RunsFrames (most_run_with x.rules r) (known_by x) (known_of x.rules x.me (x.state.journal ++ r ∷ [])) ran) seen (record { few = few; from_oldest = from })
 
   -- a crash inside the call that adds a record
   pub leaves_records : {ran : ℕ} (g : Ghosts D) (v : PeerValue D) (rules : Rules) (room me : ℕ) (old : JournalValue D) (new : D) (m : Memory) (r : Record) (body : List ℕ)

@@ -82,6 +82,7 @@ module _ {D : Type 0} (g : Ghosts D) (disk : D) (rules : Rules) (room me : ℕ) 
   -- - `bodies`: the bodies found are those of that journal.
   -- - `sound`: what is so of every peer is so of this one.
   -- - `ran`: as many frames were run as the journal has ticks.
+  -- - `has_room`: there was room for one slot more and the gate after it.
   -- - `same`, `asks`: it stands on the same disk, to which these calls led.
   pub record IsOpened (p : PeerValue D) : Type 0 where
     pub rules_are : p.rules ≡ rules
@@ -92,6 +93,7 @@ module _ {D : Type 0} (g : Ghosts D) (disk : D) (rules : Rules) (room me : ℕ) 
     pub bodies : AreJournalBodies rules me room (bodies_found g disk)
     pub sound : IsSound g p
     pub ran : p.last_run ≡ ticks p.state.journal
+    pub has_room : slot_length * (length (bodies_found g disk) + 1) + 1 ≤ g.capacity disk
     pub same : IsSameDisk g disk p.disk
     pub asks : Asks g OpenRun (Ok tt) disk p.disk
 

@@ -10,6 +10,7 @@ use Rattle.c8_log.specs.Asked.{AppendWithin}
 use Rattle.c8_log.specs.Slots.{slot_length, kept}
 use Rattle.c8_known.specs.Journal.{Record, epoch}
 use Rattle.c8_known.specs.Known.{KnownValue, known_of}
+use Rattle.c8_roll.specs.Rollback.{RunsFromOldest}
 use Rattle.c8_record.specs.Body.{body_of, record_of, records_of}
 use Rattle.c8_record.specs.Allowed.{IsJournal}
 use Rattle.c8_peer.specs.declared.error.TickError.{TickError}
@@ -140,15 +141,20 @@ most_run rules (Say to what) = rules.window
 most_run rules (Leave leaver) = rules.window
 most_run rules (Decide leaver) = rules.window
 
--- How many frames are told as run, before a call and after it: where its record stands, no more than that; else none is run, and
--- the number stays.
-abbrev pub IsRunOf : Option Record → Luck → ℕ → ℕ → ℕ → Type 0
-IsRunOf (Some r) Works most before now = now ≤ most
-IsRunOf (Some r) (Refuses why) most before now = now ≡ before
-IsRunOf None luck most before now = now ≡ before
+-- How many frames a call runs whose record stands: those from the oldest on whose best guess it changes, or, where it changes none,
+-- those that are new; and no more than that.
+pub record RunsFrames (most : ℕ) (before now : KnownValue) (ran : ℕ) : Type 0 where
+  pub few : ran ≤ most
+  pub from_oldest : RunsFromOldest before now ran
 
-abbrev pub HasRun : {D : Type 0} → PeerValue D → Call → Reply → PeerValue D → Type 0
-HasRun old call reply new = IsRunOf (added old call) (luck_of reply) (most_run old.rules call) old.last_run new.last_run
+-- How many frames are told as run, before a call and after it: where its record stands, those that it runs; else the number stays.
+abbrev pub IsLastRun : Option Record → Luck → ℕ → KnownValue → KnownValue → ℕ → ℕ → Type 0
+IsLastRun (Some r) Works most before now was is = RunsFrames most before now is
+IsLastRun (Some r) (Refuses why) most before now was is = is ≡ was
+IsLastRun None luck most before now was is = is ≡ was
+
+abbrev pub TellsFrames : {D : Type 0} → PeerValue D → Call → Reply → PeerValue D → Type 0
+TellsFrames old call reply new = IsLastRun (added old call) (luck_of reply) (most_run old.rules call) (known_by old) (known_by new) old.last_run new.last_run
 
 -- the image keeps just these records
 abbrev pub Keeps : List Record → List ℕ → Type 0
@@ -188,23 +194,25 @@ disk_answer (Refuses why) = Err why
 --
 -- - `step`: it is the one step of the definitions.
 -- - `cause`: the disk is blamed for a refusal only where it has one.
+-- - `full`: where it has no room for the record and the gate after it, it refuses the record as Full.
 -- - `any_moment`: what a crash inside the call may leave.
 -- - `journal`: what a crash after it may leave.
 -- - `asks`: where it adds a record the disk is asked to append that, after those of the journal.
 -- - `untouched`: where it adds none the disk is not called.
 -- - `changes`: at most four writes and syncs in all.
--- - `ran`: how many frames it runs.
+-- - `ran`: how many frames it tells as run.
 -- - `same`: match, player and disk stay.
 pub record IsAnswered {D : Type 0} (disk : Ghosts D) (old : PeerValue D) (call : Call) (reply : Reply) (new : PeerValue D) : Type 0 where
   pub step : IsStep old call reply new
   pub cause : (why : DiskError) → luck_of reply ≡ Refuses why → HasCause disk old new why
+  pub full : (r : Record) → added old call ≡ Some r → disk.capacity old.disk < slot_length * (length old.state.journal + 1) + 1 → luck_of reply ≡ Refuses errors.Full
   pub any_moment : LeavesOnly disk old.disk new.disk (MayLeave old call)
   pub journal : LeavesJournal disk new
   pub asks : (r : Record) → added old call ≡ Some r
       → Asks disk (AppendWithin (disk.capacity old.disk) (length old.state.journal) (body_of r)) (disk_answer (luck_of reply)) old.disk new.disk
   pub untouched : added old call ≡ None → new.disk ≡ old.disk
   pub changes : disk.changes new.disk ≤ disk.changes old.disk + 4
-  pub ran : HasRun old call reply new
+  pub ran : TellsFrames old call reply new
   pub same : IsSamePeer disk old new
 
 -- What is so of every peer between two calls.

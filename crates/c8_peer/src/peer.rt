@@ -6,11 +6,12 @@ ghost use Rattle.c8_disk.specs.Asks.{Asks};
 ghost use Rattle.c8_log.specs.Asked.{AppendWithin};
 ghost use Rattle.c8_record.specs.Body.{body_of};
 ghost use Rattle.c8_log.specs.Slots.{slot_length};
+ghost use Rattle.c8_known.specs.Known.{known_of};
 ghost use Rattle.c8_record.specs.Allowed.{IsAllowed};
 ghost use Rattle.c8_record.specs.Lent.{value_of};
 ghost use Rattle.c8_roll.specs.Roll.{roll_of};
-ghost use Rattle.c8_roll.specs.Seen.{value_of as seen, last_run_of};
-ghost use Rattle.c8_roll.specs.Rollback.{IsWithinWindow};
+ghost use Rattle.c8_roll.specs.Seen.{value_of as seen, rows_run, last_run_of};
+ghost use Rattle.c8_roll.specs.Rollback.{IsWithinWindow, KeepsRows, RunsFromWhatWasKnown};
 ghost use Rattle.c8_peer.specs.State.{Open, Down};
 ghost use Rattle.c8_peer.specs.Held.{is_opening, most_run_with, WasRoll};
 
@@ -53,7 +54,8 @@ pub struct Peer<'g, D: Disk> {
 impl<'g, D: Disk> Model for Peer<'g, D> {
     ghost use Rattle.std.specs.Prelude.{◌≡◌, ◌≤◌, ◌+◌, ◌⊎◌};
     ghost use Rattle.c8_roll.specs.Roll.{roll_of};
-    ghost use Rattle.c8_roll.specs.Seen.{value_of, last_run_of};
+    ghost use Rattle.c8_roll.specs.Seen.{value_of, rows_run, last_run_of};
+    ghost use Rattle.c8_roll.specs.Rollback.{KeepsRows};
     ghost use Rattle.c8_peer.specs.Peer.{PeerValue, state_of};
     ghost use Rattle.c8_peer.specs.Held.{IsPeer};
 
@@ -70,7 +72,8 @@ impl<'g, D: Disk> Model for Peer<'g, D> {
 
     ghost invariant = { λ p. IsPeer p.game.now p.room p.journal p.known p.memory
         × (value_of p.roll ≡ roll_of p.game.now p.known)
-        × ((last_run_of p.roll ≤ p.game.now.window + 1) ⊎ (last_run_of p.roll ≡ p.known.ticks)) };
+        × ((last_run_of p.roll ≤ p.game.now.window + 1) ⊎ (last_run_of p.roll ≡ p.known.ticks))
+        × KeepsRows p.game.now.window p.known (rows_run p.roll) };
 }
 
 /// Whose it is, its epoch, its ticks and confirmed frames, and whether it is down.
@@ -87,7 +90,7 @@ impl<'g, D: Disk> fmt::Debug for Peer<'g, D> {
 }
 
 impl<'g, D: Disk> Peer<'g, D> {
-    ghost use Rattle.c8_peer.specs.Peer.{KeepsWithOrWithout, LeavesJournal, IsSound, mode_of};
+    ghost use Rattle.c8_peer.specs.Peer.{KeepsWithOrWithout, LeavesJournal, IsSound, RunsFrames, known_by, mode_of};
 
     /// Whether the disk refused a record. The peer is to be closed then, and its disk opened again.
     /// With the answer comes what is so of every peer.
@@ -139,8 +142,10 @@ impl<'g, D: Disk> Peer<'g, D> {
           };
           last_run = self.new.last_run;
         }) }
-        ensures ran { OnOk result
-            (self.new.last_run ≤ most_run_with self.old.rules (value_of lent.now)) }
+        ensures ran { OnOk result (RunsFrames
+            (most_run_with self.old.rules (value_of lent.now)) (known_by self.old)
+            (known_of self.old.rules self.old.me (self.old.state.journal ++ value_of lent.now ∷ []))
+            self.new.last_run) }
         ensures err { OnErr result (self.new ≡ record self.old {
           disk = self.new.disk;
           state = record self.old.state { pending = Some (value_of lent.now); mode = Down };
@@ -186,6 +191,9 @@ impl<'g, D: Disk> Peer<'g, D> {
 fn go_on(roll: &mut Roll<'_>, known: &Known)
     requires { WasRoll (seen roll.old) known.now }
     ensures grown { seen roll.new ≡ roll_of (seen roll.old).rules known.now }
+    ensures kept { KeepsRows (seen roll.old).rules.window known.now (rows_run roll.new) }
+    ensures again { RunsFromWhatWasKnown (seen roll.old) (rows_run roll.old) known.now
+        (last_run_of roll.new) }
     ensures bound { IsWithinWindow (seen roll.old)
         → last_run_of roll.new ≤ (seen roll.old).rules.window + 1 }
     ensures settled { IsWithinWindow (seen roll.old) → known.now.ticks ≤ (seen roll.old).ticks

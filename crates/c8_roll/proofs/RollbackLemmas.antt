@@ -15,8 +15,9 @@ use Rattle.c8_known.specs.Known.{KnownValue}
 use Rattle.c8_known.specs.Confirmed.{confirmed, best_row, best_rows, best_rows_below}
 use Rattle.c8_roll.specs.declared.timeline.Snapshot.{Snapshot}
 use Rattle.c8_roll.specs.Roll.{marks_up_to, RollValue, roll_of}
+use Rattle.c8_roll.specs.RollLaws.{roll_ticks, roll_confirmed}
 use Rattle.c8_roll.specs.Timeline.{TimelineValue, machine_or, state_at, IsAll, IsNew, IsTimeline, back_at, AreBest, IsChange, IsRunOf}
-use Rattle.c8_roll.specs.Rollback.{KeepsRows, AreAsRun, IsOldest, IsOldestChange, IsOldestOrLast, AreStillBest, IsOldestWrong, run_from}
+use Rattle.c8_roll.specs.Rollback.{KeepsRows, AreAsRun, IsOldest, IsOldestChange, IsOldestOrLast, AreStillBest, IsOldestWrong, HasAllRows, RunsFromOldest, run_from}
 use Rattle.c8_roll.proofs.RollLemmas.{best_sure, IsStill}
 use Rattle.c8_roll.proofs.TimelineLemmas.{base_is, back_run}
 
@@ -162,6 +163,17 @@ oldest_wrong window before now rows answer keeps few is =
     let all : confirmed before + length rows ≡ before.ticks =
     ⊎_elim (λ (full : window < length rows). omega (arith, few, most, within, full)) keeps.all (cases_lt window (length rows)) in
     oldest_wrong_of before now rows answer all keeps.best is
+
+pub runs_from : (old : RollValue) (rows : List Row) (before now : KnownValue) (answer : Option ℕ) (ran : ℕ) → old ≡ roll_of old.rules before → KeepsRows old.rules.window before rows
+    → HasAllRows old → IsOldestChange rows old.confirmed now answer → ran + run_from old.ticks answer ≡ now.ticks → RunsFromOldest before now ran
+runs_from old rows before now answer ran was keeps few is all =
+    let ticks = roll_ticks old.rules before old was in
+    let sure = roll_confirmed old.rules before old was in
+    record {
+      oldest = answer;
+      is = oldest_wrong old.rules.window before now rows answer keeps (omega (arith, ticks, sure, few)) (subst (λ (n : ℕ). IsOldestChange rows n now answer) sure is);
+      all = subst (λ (n : ℕ). ran + run_from n answer ≡ now.ticks) ticks all;
+    }
 
 -- ---- there is one oldest change
 

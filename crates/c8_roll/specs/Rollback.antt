@@ -69,3 +69,14 @@ IsOldestWrong before now (Some frame) = (confirmed before ≤ frame) × (frame <
 abbrev pub run_from : ℕ → Option ℕ → ℕ
 run_from ticks None = ticks
 run_from ticks (Some frame) = frame
+
+-- From the oldest frame on whose guess has changed they are run anew, and where none has, those that are new: this many in all.
+pub record RunsFromOldest (before now : KnownValue) (ran : ℕ) : Type 0 where
+  pub oldest : Option ℕ
+  pub is : IsOldestWrong before now oldest
+  pub all : ran + run_from before.ticks oldest ≡ now.ticks
+
+-- That many, of a roll that kept the rows of what was known before, all of them.
+abbrev pub RunsFromWhatWasKnown : RollValue → List Row → KnownValue → ℕ → Type 0
+RunsFromWhatWasKnown old rows now ran =
+    (before : KnownValue) → old ≡ roll_of old.rules before → KeepsRows old.rules.window before rows → HasAllRows old → RunsFromOldest before now ran

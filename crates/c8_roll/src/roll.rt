@@ -2,7 +2,7 @@
 ghost use Rattle.std.specs.Prelude.{◌≡◌, ◌+◌, ◌<◌, ◌≤◌, ℕ, Option, IfOk};
 ghost use Rattle.c8_machine.specs.State.{state};
 ghost use Rattle.c8_roll.specs.Roll.{roll_of, GrowsTo};
-ghost use Rattle.c8_roll.specs.Rollback.{WasKnown, IsWithinWindow, HasAllRows, LacksRows, KeepsRows, IsOldestChange, IsOldestOrLast, run_from};
+ghost use Rattle.c8_roll.specs.Rollback.{WasKnown, IsWithinWindow, HasAllRows, LacksRows, KeepsRows, IsOldestChange, IsOldestOrLast, run_from, RunsFromWhatWasKnown};
 
 use crate::buffers::Buffers;
 use crate::timeline::Timeline;
@@ -71,6 +71,8 @@ impl<'g> Roll<'g> {
         ensures ran { HasAllRows (value_of self.old) → (oldest : Option ℕ)
             → IsOldestChange (rows_run self.old) (value_of self.old).confirmed known.now oldest
             → last_run_of self.new + run_from (value_of self.old).ticks oldest ≡ known.now.ticks }
+        ensures again { RunsFromWhatWasKnown (value_of self.old) (rows_run self.old) known.now
+            (last_run_of self.new) }
         ensures ahead { (value_of self.old).confirmed + last_run_of self.new ≤ known.now.ticks }
         ensures bound { IsWithinWindow (value_of self.old)
             → last_run_of self.new ≤ (value_of self.old).rules.window + 1 }
@@ -94,6 +96,8 @@ impl<'g> Roll<'g> {
         ensures oldest_or_last { LacksRows (value_of self.old) → IsOldestOrLast (rows_run self.old)
             (value_of self.old).confirmed known.now result }
         ensures ran { last_run_of self.new + run_from known.now.ticks result ≡ known.now.ticks }
+        ensures again { RunsFromWhatWasKnown (value_of self.old) (rows_run self.old) known.now
+            (last_run_of self.new) }
         ensures ahead { (value_of self.old).confirmed + last_run_of self.new ≤ known.now.ticks }
         ensures bound { IsWithinWindow (value_of self.old)
             → last_run_of self.new ≤ (value_of self.old).rules.window }
@@ -114,6 +118,8 @@ impl<'g> Roll<'g> {
             (value_of self.old).confirmed known.now result }
         ensures ran { last_run_of self.new + run_from (value_of self.old).ticks result
             ≡ known.now.ticks }
+        ensures again { RunsFromWhatWasKnown (value_of self.old) (rows_run self.old) known.now
+            (last_run_of self.new) }
         ensures ahead { (value_of self.old).confirmed + last_run_of self.new ≤ known.now.ticks }
     {
         let oldest = self.timeline.go_back(known);

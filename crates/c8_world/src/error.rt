@@ -1,4 +1,6 @@
 //! Why a run ends before its events do.
+ghost use Rattle.std.specs.Prelude.{◌≡◌};
+
 use crate::answer::Report;
 use thiserror::Error;
 
@@ -14,7 +16,9 @@ pub enum RunError {
 
 impl RunError {
     /// The number that stands for it in what a program prints.
-    pub fn number(&self) -> u8 {
+    pub fn number(&self) -> u8
+        ensures { result ≡ 1 }
+    {
         match self {
             RunError::Memory(_) => 1,
         }

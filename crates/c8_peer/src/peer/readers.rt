@@ -137,8 +137,9 @@ impl<'g, D: Disk> Peer<'g, D> {
     }
 
     /// How many frames were run when the peer last recorded something: at the opening as many as the
-    /// journal has ticks, and in a call at most the window's, since no peer is further ahead than
-    /// that; in a tick one more. A call that records nothing runs none.
+    /// journal has ticks; in a call those from the oldest on whose best guess the record changed, or
+    /// the new one alone, at most the window's, since no peer is further ahead than that, and in a
+    /// tick one more. A call that records nothing runs none.
     pub fn last_run(&self) -> u32
         ensures value { result ≡ self.now.last_run }
         ensures ahead { (known_by self.now).ticks

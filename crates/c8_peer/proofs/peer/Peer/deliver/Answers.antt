@@ -1,5 +1,4 @@
-use Rattle.std.proofs.Common.{◌≡◌, Ok, sym, subst}
-use Rattle.c8_wire.specs.Packet.{Packet}
+use Rattle.std.proofs.Common.{sym, subst}
 use Rattle.c8_peer.specs.State.{Deliver, Delivered}
 use Rattle.c8_peer.specs.Peer.{IsAnswered}
 use Rattle.c8_peer.proofs.peer.Peer.deliver.Goals as goal

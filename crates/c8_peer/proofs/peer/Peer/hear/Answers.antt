@@ -1,4 +1,4 @@
-use Rattle.std.proofs.Common.{◌∙◌, ◌≤◌, ◌+◌, ◌∷◌, [], Bool, Ok, Err, sym, refl, subst}
+use Rattle.std.proofs.Common.{◌∙◌, ◌+◌, ◌++◌, ◌∷◌, [], Bool, Ok, Err, sym, refl, subst}
 use Rattle.std.specs.Prelude.{if◌then◌else◌}
 use Rattle.c8_wire.specs.Lent.{packet_of}
 use Rattle.c8_record.specs.Lent.{value_of}
@@ -7,7 +7,8 @@ use Rattle.c8_peer.specs.declared.heard.Heard.TheVariants as heards
 use Rattle.c8_peer.specs.State.{Deliver, Delivered, recorded}
 use Rattle.c8_peer.specs.Hearing.{taken}
 use Rattle.c8_peer.specs.Lawful.{IsMemory}
-use Rattle.c8_peer.specs.Peer.{PeerValue, known_by, IsAnswered, LeavesJournal}
+use Rattle.c8_known.specs.Known.{known_of}
+use Rattle.c8_peer.specs.Peer.{PeerValue, known_by, RunsFrames, IsAnswered, LeavesJournal}
 use Rattle.c8_peer.specs.declared.verdict.Verdict.TheVariants as verdicts
 use Rattle.c8_peer.specs.Verdicts.{AcksWithin, memory_after}
 use Rattle.c8_peer.proofs.PeerLemmas.{memory_more}
@@ -77,9 +78,10 @@ returns-in-Ok g c =
     record { any_moment = c.in-Ok.ensures.any_moment; changes = c.in-Ok.ensures.changes; same = c.in-Ok.ensures.same; asks = c.in-Ok.ensures.asks } in
     let ran = c.keep.new.self.last_run in
     let later = heard_later (verdicts.Keep c.in-Ok-Keep.record c.in-Ok-Keep.heard) c.in-Ok-Keep.field-0 c.in-Ok-Keep.ensures.judged.1 c.in-Ok-Keep.field-0-is in
-    let few = subst (λ (entry : Bool). ran ≤ (if entry then v.rules.window + 1 else v.rules.window)) later.1 c.in-Ok.ensures.ran in
+    let runs : RunsFrames v.rules.window (known_by v) (known_of v.rules v.me (v.state.journal ++ r ∷ [])) ran =
+    subst (λ (entry : Bool). RunsFrames (if entry then v.rules.window + 1 else v.rules.window) (known_by v) (known_of v.rules v.me (v.state.journal ++ r ∷ [])) ran) later.1 c.in-Ok.ensures.ran in
     let done : IsAnswered g.D.Disk v (Deliver (Ok p)) (Delivered (Ok c.in-Ok-Keep.heard)) (with_record g.D.Disk v c.keep.new.self.disk r noted ran) =
-    records g.D.Disk v c.keep.new.self.disk noted ran (Deliver (Ok p)) (Delivered (Ok c.in-Ok-Keep.heard)) r c.requires.up comes refl kept few leaves in
+    records g.D.Disk v c.keep.new.self.disk noted ran (Deliver (Ok p)) (Delivered (Ok c.in-Ok-Keep.heard)) r c.requires.up comes refl kept runs leaves in
     subst (λ (x : PeerValue g.row.D.Denot). IsAnswered g.D.Disk v (Deliver (Ok p)) (Delivered (Ok c.in-Ok-Keep.heard)) x) (sym (c.note-in-Ok.ensures ∙ rw c.in-Ok.ensures.ok refl)) done
 
 pub returns-in-Err-keep : goal.returns-in-Err-keep

@@ -2,7 +2,8 @@ use Rattle.std.proofs.Common.{inl, arith, length, Ok, Err, ◌+◌, ◌≤◌, �
 use Rattle.c8_game.specs.Rules.{Rules}
 use Rattle.c8_roll.specs.Roll.{roll_of}
 use Rattle.c8_roll.specs.RollLaws.{roll_rules, roll_ticks}
-use Rattle.c8_roll.specs.Seen.{value_of as seen, last_run_of}
+use Rattle.c8_roll.specs.Rollback.{KeepsRows}
+use Rattle.c8_roll.specs.Seen.{value_of as seen, rows_run, last_run_of}
 use Rattle.c8_disk.specs.AsksLaws.{asks_as}
 use Rattle.c8_log.specs.Asked.{AppendWithin}
 use Rattle.c8_log.specs.Journal.{JournalValue}
@@ -11,8 +12,7 @@ use Rattle.c8_record.specs.BodyLaws.{read_again}
 use Rattle.c8_record.specs.Lent.{value_of}
 use Rattle.c8_peer.specs.State.{Open}
 use Rattle.c8_peer.specs.Peer.{PeerValue}
-use Rattle.c8_peer.specs.Held.{most_run_with}
-use Rattle.c8_peer.proofs.PeerLemmas.{is_up, peer_refused, can_follow, peer_more, was_roll, runs_few, allowed_inside, view_refused, view_more, leaves_records, asks_records, one_body_more}
+use Rattle.c8_peer.proofs.PeerLemmas.{is_up, peer_refused, can_follow, peer_more, was_roll, runs_few, runs_anew, runs_frames, allowed_inside, view_refused, view_more, leaves_records, asks_records, one_body_more}
 use Rattle.c8_peer.proofs.WindowLemmas.{is_within, roll_within}
 use Rattle.c8_peer.proofs.peer.Peer.keep.Goals as goal
 
@@ -26,6 +26,7 @@ invariant_of-self-in-Err g c =
           (ap (λ (j : JournalValue g.row.D.Denot). j.pending) is ∙ ap (λ (body : List ℕ). Some body) c.body_of.ensures.body),
       c.self.invariant.1,
       c.self.invariant.2,
+      c.self.invariant.3,
     )
 
 pub returns-in-Err-clause-err : goal.returns-in-Err-clause-err
@@ -66,6 +67,8 @@ invariant_of-self g c =
       inl (subst (λ (rules : Rules). last_run_of c.go_on.new.roll ≤ rules.window + 1) (roll_rules c.self.inside.game.now c.self.inside.known (seen c.self.inside.roll) c.self.invariant.1)
           (c.go_on.ensures.bound (roll_within c.self.inside.game.now c.self.inside.known (seen c.self.inside.roll) c.self.invariant.1
           (is_within c.journals_stay_within_the_window.ensures c.self.inside.game.now c.self.inside.room c.self.inside.journal c.self.inside.known c.self.inside.memory c.self.invariant.0)))),
+      subst (λ (rules : Rules). KeepsRows rules.window c.make_known.new.known (rows_run c.go_on.new.roll)) (roll_rules c.self.inside.game.now c.self.inside.known (seen c.self.inside.roll) c.self.invariant.1)
+          c.go_on.ensures.kept,
     )
 
 pub returns-in-Ok-clause-ok : goal.returns-in-Ok-clause-ok
@@ -96,8 +99,10 @@ returns-in-Ok-clause-ran g c =
     let most : last_run_of c.go_on.new.roll ≤ rules.window + 1 = subst (λ (x : Rules). last_run_of c.go_on.new.roll ≤ x.window + 1) game (c.go_on.ensures.bound within) in
     let settled : c.make_known.new.known.ticks ≤ c.self.inside.known.ticks → last_run_of c.go_on.new.roll ≤ rules.window = λ same.
     subst (λ (x : Rules). last_run_of c.go_on.new.roll ≤ x.window) game (c.go_on.ensures.settled within (omega (arith, same, ticks))) in
-    subst (λ (x : PeerValue g.row.D.Denot). last_run_of c.go_on.new.roll ≤ most_run_with x.rules r) c.self.view_is
-    (runs_few rules c.self.inside.known c.make_known.new.known r (last_run_of c.go_on.new.roll) c.make_known.ensures.value most settled)
+    let few = runs_few rules c.self.inside.known c.make_known.new.known r (last_run_of c.go_on.new.roll) c.make_known.ensures.value most settled in
+    let again = runs_anew rules v (rows_run c.self.inside.roll) c.self.inside.known c.make_known.new.known (last_run_of c.go_on.new.roll) c.self.invariant.1 c.self.invariant.3 within c.go_on.ensures.again in
+    runs_frames c.args.self.now rules c.self.inside.room c.self.inside.journal c.self.inside.known c.make_known.new.known c.self.inside.memory r (last_run_of c.go_on.new.roll) c.self.view_is c.self.invariant.0
+    (allowed_inside r c.self.view_is c.requires.allowed) c.make_known.ensures.value few again
 
 pub returns-in-Err-clause-asks : goal.returns-in-Err-clause-asks
 returns-in-Err-clause-asks g c =

@@ -40,7 +40,7 @@ invariant_of-peer g c =
     (subst (λ (me : ℕ). IsBegun g.D.Disk c.in_ok-log.log.disk rules c.args.room me c.in_ok-journal.journal number) own c.in_ok-journal.ensures.begun) in
     let fresh = c.new-memory.ensures ∙ ap (λ (me : ℕ). fresh_memory rules c.args.room me number) own in
     let from_one : 1 ≤ c.args.known.me = subst (λ (me : ℕ). 1 ≤ me) own c.me-me.result.from_one in
-    (peer_opened g.D.Disk c.args.disk rules c.args.room me c.in_range.ensures from_one c.requires.player c.ranges.room.fits c.read_journal.new.known c.in_ok-log.log c.in_ok-log.last read c.in_ok-journal.journal number begun c.new-memory.result fresh, c.over-roll.ensures.roll, inr c.over-roll.ensures.ran)
+    (peer_opened g.D.Disk c.args.disk rules c.args.room me c.in_range.ensures from_one c.requires.player c.ranges.room.fits c.read_journal.new.known c.in_ok-log.log c.in_ok-log.last read c.in_ok-journal.journal number begun c.new-memory.result fresh, c.over-roll.ensures.roll, inr c.over-roll.ensures.ran, c.over-roll.ensures.kept)
 
 pub returns-clause-opened : goal.returns-clause-opened
 returns-clause-opened g c =

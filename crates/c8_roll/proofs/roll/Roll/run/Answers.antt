@@ -7,10 +7,10 @@ use Rattle.c8_known.specs.Growth.{IsStillKnown}
 use Rattle.c8_known.specs.Confirmed.{confirmed, best_rows}
 use Rattle.c8_known.specs.ConfirmedLaws.{confirmed_is}
 use Rattle.c8_roll.specs.Roll.{roll_of, marks_up_to}
-use Rattle.c8_roll.specs.Seen.{value_of}
+use Rattle.c8_roll.specs.Seen.{value_of, rows_run}
 use Rattle.c8_roll.specs.Timeline.{TimelineValue, IsAll, IsRunOf}
 use Rattle.c8_roll.proofs.RollLemmas.{IsStill, still_rolled}
-use Rattle.c8_roll.proofs.RollbackLemmas.{rolled, back_of, keeps, from_is, oldest, oldest_or_last}
+use Rattle.c8_roll.proofs.RollbackLemmas.{rolled, back_of, keeps, from_is, oldest, oldest_or_last, runs_from}
 use Rattle.c8_roll.proofs.roll.Roll.run.Goals as goal
 use Rattle.c8_roll.proofs.roll.Roll.run.Goals.{After-run_on}
 
@@ -54,6 +54,11 @@ returns-clause-oldest c = λ ahead.
     (cases_lt (length c.args.self.now.timeline.snapshots) c.args.self.now.timeline.room) in
     oldest c.args.self.now.timeline c.go_back-oldest.new.self c.args.known.now c.go_back-oldest.result all c.go_back-oldest.ensures.back c.go_back-oldest.ensures.within
     c.go_back-oldest.ensures.best c.go_back-oldest.ensures.answer c.go_back-oldest.ensures.wrong
+
+pub returns-clause-again : goal.returns-clause-again
+returns-clause-again c = λ before was keeps all.
+    runs_from (value_of c.args.self.now) (rows_run c.args.self.now) before c.args.known.now c.go_back-oldest.result c.run_on.new.self.last_run was keeps all
+    (returns-clause-oldest c all) (returns-clause-ran c)
 
 pub returns-clause-oldest_or_last : goal.returns-clause-oldest_or_last
 returns-clause-oldest_or_last c = λ lacks.
