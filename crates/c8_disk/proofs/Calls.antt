@@ -4,8 +4,8 @@ use Rattle.std.proofs.lemmas.Bool.{cases_Bool, and_parts, and_from, leb-true, le
 use Rattle.std.proofs.lemmas.List.{drop_more, take_more}
 use Rattle.c8_disk.specs.Disk.{overwritten}
 use Rattle.c8_disk.specs.Past.{content, Leaves, IsImage, synced_count, synced, are_lawful, fit, TornBy}
-use Rattle.c8_disk.specs.PastLaws.{reads, join_leaves, lawful_front, none_synced, none_behind}
-use Rattle.c8_disk.specs.TornLaws.{untouched}
+use Rattle.c8_disk.specs.checked.PastLaws.{reads, join_leaves, lawful_front, none_synced, none_behind}
+use Rattle.c8_disk.specs.checked.TornLaws.{untouched}
 use Rattle.c8_disk.specs.declared.call.Call.{Call}
 use Rattle.c8_disk.specs.declared.call.Call.TheVariants.{Write, Sync}
 

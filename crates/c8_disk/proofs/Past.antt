@@ -4,7 +4,7 @@ use Rattle.std.proofs.lemmas.Bool.{cases_lt, and_parts, and_from, le-leb}
 use Rattle.std.proofs.lemmas.List.{take_all, take-append-le, length_push}
 use Rattle.c8_disk.specs.Disk.{overwritten, Torn, Tears, AddsNone, Only, Elapses}
 use Rattle.c8_disk.specs.Past.{content, Leaves, IsImage, LeftSince, are_lawful, fit, IsWriteOf}
-use Rattle.c8_disk.specs.PastLaws.{reads, content-append, split_leaves}
+use Rattle.c8_disk.specs.checked.PastLaws.{reads, content-append, split_leaves}
 use Rattle.c8_disk.specs.declared.call.Call.{Call}
 use Rattle.c8_disk.specs.declared.call.Call.TheVariants.{Write, Sync}
 

@@ -2,7 +2,7 @@
 use Rattle.std.proofs.Common.{◌≡◌, ◌≤◌, ℕ, ◌+◌, List, take, drop, sym, ◌∙◌, ap, arith}
 use Rattle.std.proofs.lemmas.List.{take-take}
 use Rattle.c8_disk.specs.Disk.{Torn}
-use Rattle.c8_disk.specs.TornLaws.{torn_wider}
+use Rattle.c8_disk.specs.checked.TornLaws.{torn_wider}
 
 -- one byte more
 pub torn_more : (at count : ℕ) (old mid new : List ℕ) → Torn at count old mid → Torn (at + count) 1 mid new → Torn at (count + 1) old new

@@ -1,14 +1,10 @@
 pub mod Asks
-pub mod AsksLaws
 pub mod AtOnce
-pub mod AtOnceLaws
 pub mod Budget
 pub mod Disk
 pub mod Errors
 pub mod File
 pub mod Memory
 pub mod Past
-pub mod PastLaws
-pub mod RunLaws
 pub mod Runs
-pub mod TornLaws
+pub mod checked

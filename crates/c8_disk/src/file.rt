@@ -2,7 +2,7 @@
 ghost use Rattle.std.specs.Prelude.{◌≡◌, ◌≤◌, ◌<◌, ◌+◌, ◌↔◌, [], ◌∷◌, ◌++◌, true, false, length, take, drop, vec_len, vec_capacity, IfOk, IfErr, OnOk, OnErr, IsErrOf, IsTrue};
 ghost use Rattle.c8_disk.specs.Disk.{Reading, Writing, Syncing, Only, AddsNone, Writes, WritesImages, Elapses, HasCause, longest_write};
 ghost use Rattle.c8_disk.specs.Past.{IsImage, LeftSince, AddsWrite};
-ghost use Rattle.c8_disk.specs.PastLaws.{reads_image, counts, only};
+ghost use Rattle.c8_disk.specs.checked.PastLaws.{reads_image, counts, only};
 
 mod health;
 mod held;

@@ -3,7 +3,7 @@ ghost use Rattle.std.specs.Prelude.{◌≡◌, ◌≤◌, ◌<◌, ◌+◌, ◌^
 ghost use Rattle.c8_disk.specs.AtOnce.{IsBetweenSyncs};
 ghost use Rattle.c8_disk.specs.Disk.{Reading, Writing, Syncing, Only, AddsNone, Writes, WritesImages, Elapses, HasCause, longest_write};
 ghost use Rattle.c8_disk.specs.Past.{content, synced, are_lawful, fit, IsImage, LeftSince};
-ghost use Rattle.c8_disk.specs.PastLaws.{reads_image, counts, only};
+ghost use Rattle.c8_disk.specs.checked.PastLaws.{reads_image, counts, only};
 
 use crate::budget::Budget;
 use crate::bytes::{overwrite, replace};

@@ -17,9 +17,9 @@ use Rattle.c8_game.specs.declared.text.field.Field.TheVariants.{Players, Ipf, Fr
 use Rattle.c8_game.specs.Fields.{fields, owner_of, field_named, number_of}
 use Rattle.c8_game.specs.GameText.{Item, Blank, Number, Code, Says, is_skipped, number_in, numbers_for, code_in, code_of, rule_of, Give}
 use Rattle.c8_game.specs.GameFaults.{is_name_and_value, name_in, value_in, names, is_told, field_fault, named_fault, code_fault, line_fault, players_in, is_lacking, is_stray, end_fault}
-use Rattle.c8_game.specs.Draft.{Holds, AddsLine, AreFirst, first_for}
+use Rattle.c8_game.specs.checked.Draft.{Holds, AddsLine, AreFirst, first_for}
 use Rattle.c8_game.specs.Rules.{Rules, most_program}
-use Rattle.c8_game.specs.Places.{index_of, number_at, told_by, listed}
+use Rattle.c8_game.specs.checked.Places.{index_of, number_at, told_by, listed}
 use Rattle.c8_game.proofs.FieldLemmas.{same_field, index_of-small, itself, apart, number_at-set_same, number_at-set_other}
 use Rattle.c8_game.proofs.ItemLemmas.{fault_blank, says_number, says_code, named_told}
 

@@ -9,7 +9,7 @@ use Rattle.std.specs.Prelude.{slice_set}
 use Rattle.c8_game.specs.declared.text.field.Field.{Field}
 use Rattle.c8_game.specs.declared.text.field.Field.TheVariants.{Players, Ipf, Frames, Delay, Window, Seed, Mask1, Mask2, Mask3, Mask4}
 use Rattle.c8_game.specs.Fields.{fields, word_of, field_named, is_same, IsWithin}
-use Rattle.c8_game.specs.Places.{index_of, number_at}
+use Rattle.c8_game.specs.checked.Places.{index_of, number_at}
 
 field_at : ℕ → Field
 field_at n =

@@ -7,9 +7,9 @@ use Rattle.std.proofs.lemmas.List.{append-nil}
 use Rattle.c8_game.specs.declared.error.GameError.{GameError}
 use Rattle.c8_game.specs.declared.error.GameError.TheVariants.{Memory}
 use Rattle.c8_game.specs.declared.text.draft.Draft.{Draft}
-use Rattle.c8_game.specs.Draft.{Holds, AddsLine, Finishes}
+use Rattle.c8_game.specs.checked.Draft.{Holds, AddsLine, Finishes}
 use Rattle.c8_game.specs.Faults.{AreFaultless}
-use Rattle.c8_game.specs.FaultLaws.{faultless_none, faultless_more, first_found}
+use Rattle.c8_game.specs.checked.FaultLaws.{faultless_none, faultless_more, first_found}
 use Rattle.c8_game.specs.GameText.{Item, Says, Spells}
 use Rattle.c8_game.specs.GameFaults.{line_fault, IsRefused}
 use Rattle.c8_game.specs.Rules.{Rules}

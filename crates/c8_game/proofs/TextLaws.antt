@@ -14,9 +14,9 @@ use Rattle.c8_game.specs.declared.error.GameError.{GameError}
 use Rattle.c8_game.specs.declared.error.GameError.TheVariants.{Line, Hex}
 use Rattle.c8_game.specs.declared.text.field.Field.{Field}
 use Rattle.c8_game.specs.declared.text.field.Field.TheVariants.{Players, Ipf, Frames, Delay, Window, Seed, Mask1, Mask2, Mask3, Mask4}
-use Rattle.c8_game.specs.Draft.{AreFirst, first_for}
+use Rattle.c8_game.specs.checked.Draft.{AreFirst, first_for}
 use Rattle.c8_game.specs.Faults.{AreFaultless}
-use Rattle.c8_game.specs.FaultLaws.{none_or_some, faultless_none, faultless_more, faultless_line, first_or_faultless, faultless_or_first, one_first}
+use Rattle.c8_game.specs.checked.FaultLaws.{none_or_some, faultless_none, faultless_more, faultless_line, first_or_faultless, faultless_or_first, one_first}
 use Rattle.c8_game.specs.Fields.{fields, word_of, owner_of, field_named, is_same, number_of}
 use Rattle.c8_game.specs.GameText.{Item, Blank, Number, Code, Says, is_skipped, number_in, numbers_for, code_of, rule_of, Give, Spells}
 use Rattle.c8_game.specs.GameFaults.{is_space, is_name_and_value, name_in, value_in, names, is_told, code_fault, named_fault, field_fault, line_fault, players_in, is_lacking, is_stray, end_fault, IsRefused}

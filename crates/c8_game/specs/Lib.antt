@@ -4,8 +4,6 @@ pub mod KeysText
 pub mod Fields
 pub mod GameText
 pub mod Faults
-pub mod FaultLaws
 pub mod GameFaults
 pub mod Lines
-pub mod Places
-pub mod Draft
+pub mod checked

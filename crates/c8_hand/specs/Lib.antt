@@ -1,4 +1,4 @@
 pub mod Errors
 pub mod Links
 pub mod Held
-pub mod LinkLaws
+pub mod checked

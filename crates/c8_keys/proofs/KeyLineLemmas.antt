@@ -8,7 +8,7 @@ use Rattle.std.proofs.lemmas.List.FromFn.{map-range_with_len_more, length-map-ra
 use Rattle.std.proofs.Math.Seq.{set-append_seam}
 use Rattle.std.specs.Str.Lines.{lines}
 use Rattle.c8_game.specs.Faults.{AreFaultless}
-use Rattle.c8_game.specs.FaultLaws.{first_found}
+use Rattle.c8_game.specs.checked.FaultLaws.{first_found}
 use Rattle.c8_game.specs.Rules.{Rules}
 use Rattle.c8_game.specs.declared.row.Keys.{Keys}
 use Rattle.c8_game.specs.declared.row.Row.{Row}

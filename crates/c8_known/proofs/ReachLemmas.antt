@@ -10,7 +10,7 @@ use Rattle.std.proofs.lemmas.Option.{slice_get-get_or, slice_get_past, slice_get
 use Rattle.c8_known.specs.declared.table.Table.{Table}
 use Rattle.c8_known.specs.Known.{PlayerValue, KnownValue, nobody, player_in, Plays}
 use Rattle.c8_known.specs.Confirmed.{past_cut, input_of, is_settled_of, confirmed, IsConfirmed}
-use Rattle.c8_known.specs.ConfirmedLaws.{input_held, confirmed_only}
+use Rattle.c8_known.specs.checked.ConfirmedLaws.{input_held, confirmed_only}
 use Rattle.c8_known.specs.Tables.{table_value, reach_to, reach_of, least_of}
 
 pub least_more : (tables : List Table) (place bound : ℕ) (table : Table) → place < length tables → table ≡ slice_index_or tables place table

@@ -4,7 +4,7 @@ use Rattle.std.specs.List.{range_with_len}
 use Rattle.c8_game.specs.Rules.{Rules, limit_of}
 use Rattle.c8_known.specs.Journal as journals
 use Rattle.c8_known.specs.Known.{PlayerValue, said_of, known_of}
-use Rattle.c8_known.specs.StartLaws.{at_start, said_at_start}
+use Rattle.c8_known.specs.checked.StartLaws.{at_start, said_at_start}
 use Rattle.c8_known.specs.declared.table.Table.{Table}
 use Rattle.c8_known.specs.Tables.{table_value, seen}
 

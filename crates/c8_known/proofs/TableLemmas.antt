@@ -8,7 +8,7 @@ use Rattle.c8_known.specs.Known.{PlayerValue, KnownValue, nobody, player_in, cou
 use Rattle.c8_known.specs.Growth.{IsStillKnown}
 use Rattle.c8_known.specs.declared.known.Known.TheInside.{Inside}
 use Rattle.c8_known.specs.Tables.{table_value, seen, HasRoom}
-use Rattle.c8_known.specs.KnownLaws.{changed, own_known, own_still, got_known, got_still, freeze_known, freeze_still, leave_known, leave_still, cut_known, cut_still}
+use Rattle.c8_known.specs.checked.KnownLaws.{changed, own_known, own_still, got_known, got_still, freeze_known, freeze_still, leave_known, leave_still, cut_known, cut_still}
 
 -- a table of the code, and the player of whom it is
 pub record IsTableOf (k : KnownValue) (tables : List Table) (place q : ℕ) (table : Table) : Type 0 where

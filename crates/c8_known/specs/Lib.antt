@@ -5,10 +5,4 @@ pub mod Growth
 pub mod Errors
 pub mod Tables
 pub mod Fresh
-pub mod KnownLaws
-pub mod OneMore
-pub mod ConfirmedLaws
-pub mod FreshLaws
-pub mod StartLaws
-pub mod BeginsLaws
-pub mod JournalLaws
+pub mod checked

@@ -4,7 +4,7 @@ use Rattle.std.proofs.lemmas.Bool.{cond-true, cond-false}
 use Rattle.c8_disk.specs.Disk.{AddsNone, Elapses}
 use Rattle.c8_disk.specs.declared.disk.Disk.{Ghosts}
 use Rattle.c8_disk.specs.Runs.{LeavesOnly, ReadsOnly}
-use Rattle.c8_disk.specs.RunLaws.{weaker, then_run}
+use Rattle.c8_disk.specs.checked.RunLaws.{weaker, then_run}
 use Rattle.c8_log.specs.Slots.{kept}
 use Rattle.c8_log.specs.Log.{KeepsOneOf}
 

@@ -3,7 +3,7 @@ use Rattle.std.proofs.Common.{◌≡◌, ◌≤◌, ℕ, true, false, List, [], 
 use Rattle.std.proofs.Math.Seq.{take-length, take-append_seam}
 use Rattle.std.proofs.lemmas.Bool.{true≢false}
 use Rattle.c8_disk.specs.Runs.{LeavesOnly}
-use Rattle.c8_disk.specs.RunLaws.{at_the_end}
+use Rattle.c8_disk.specs.checked.RunLaws.{at_the_end}
 use Rattle.c8_disk.specs.declared.disk.Disk.{Ghosts}
 use Rattle.c8_log.specs.Slots.{kept}
 use Rattle.c8_log.specs.Log.{LogValue, KeepsWithOrWithout}

@@ -6,7 +6,7 @@ use Rattle.c8_disk.specs.Disk.{overwritten, Torn, Only}
 use Rattle.c8_disk.specs.declared.disk.Disk.{Ghosts}
 use Rattle.c8_log.specs.Slots.{body_of, kept_count, kept}
 use Rattle.c8_log.specs.Log.{has_closed_gate, has_closed_gate_at, IsUp, KeepsWithOrWithout}
-use Rattle.c8_log.specs.Written.{IsBeforeOrTorn}
+use Rattle.c8_log.specs.checked.Written.{IsBeforeOrTorn}
 use Rattle.c8_log.proofs.Writes.{WritesLaw}
 use Rattle.c8_log.proofs.Kept.{IsFront, front_of, front_unique}
 use Rattle.c8_log.proofs.Crash.{HasOneMore, behind_the_gate, with_it, with_or_without}

@@ -3,4 +3,4 @@ pub mod Errors
 pub mod Journal
 pub mod Log
 pub mod Slots
-pub mod Written
+pub mod checked

@@ -4,7 +4,7 @@ ghost use Rattle.c8_disk.specs.Disk.{Only, Writes, HasCause, longest_write};
 ghost use Rattle.c8_disk.specs.Runs.{LeavesOnly, IsSameDisk};
 ghost use Rattle.c8_disk.specs.Asks.{Asks};
 ghost use Rattle.c8_log.specs.Asked.{WriteAndSync};
-ghost use Rattle.c8_log.specs.Written.{IsBeforeOrTorn};
+ghost use Rattle.c8_log.specs.checked.Written.{IsBeforeOrTorn};
 
 use c8_disk::{Disk, DiskError};
 

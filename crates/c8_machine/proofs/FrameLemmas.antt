@@ -6,12 +6,12 @@ use Rattle.c8_machine.specs.declared.machine.Step.{Step}
 use Rattle.c8_machine.specs.declared.machine.Step.TheVariants.{Went}
 use Rattle.c8_machine.specs.declared.machine.Stop.{Stop}
 use Rattle.c8_machine.specs.Instructions.{Instruction, Return, Call}
-use Rattle.c8_machine.specs.Decoding.{instruction_of}
+use Rattle.c8_machine.specs.checked.Decoding.{instruction_of}
 use Rattle.c8_machine.specs.State.{State}
 use Rattle.c8_machine.specs.Steps.{Does, Executes, IsStep, code_at}
 use Rattle.c8_machine.specs.Frames.{IsFrame, IsLiveFrame, IsChain, Runs, FillsFrame, settled, ended, goes_on}
-use Rattle.c8_machine.specs.FrameExists.{framed}
-use Rattle.c8_machine.specs.DecodingLaws.{is_instruction_of, only_instruction}
+use Rattle.c8_machine.specs.checked.FrameExists.{framed}
+use Rattle.c8_machine.specs.checked.DecodingLaws.{is_instruction_of, only_instruction}
 use Rattle.c8_machine.specs.Serial.{frame_of}
 
 record Same (s t : State) (step other : Step) : Type 0 where

@@ -1,8 +1,6 @@
 pub mod State
 pub mod Instructions
-pub mod Decoding
-pub mod DecodingLaws
 pub mod Steps
 pub mod Frames
-pub mod FrameExists
 pub mod Serial
+pub mod checked

@@ -4,7 +4,7 @@ use Rattle.c8_game.specs.Rules.{Rules, joined}
 use Rattle.c8_game.specs.declared.row.Row.{Row}
 use Rattle.c8_machine.specs.State.{State, first_state}
 use Rattle.c8_machine.specs.Frames.{IsFrame}
-use Rattle.c8_machine.specs.FrameExists.{framed}
+use Rattle.c8_machine.specs.checked.FrameExists.{framed}
 
 -- the machine after a frame: every machine has one (`framed`), and no other (the law
 -- `frame_is_determined` of `src/laws.rt`)

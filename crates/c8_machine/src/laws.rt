@@ -2,7 +2,7 @@
 ghost use Rattle.std.specs.Prelude.{◌≡◌, ℕ, ◌^◌, ◌<◌, List, [], ◌∷◌, ◌++◌};
 ghost use Rattle.c8_game.specs.Rules.{Rules, AreInRange, joined};
 ghost use Rattle.c8_game.specs.declared.row.Row.{Row};
-ghost use Rattle.c8_machine.specs.Decoding.{HasOneInstruction};
+ghost use Rattle.c8_machine.specs.checked.Decoding.{HasOneInstruction};
 ghost use Rattle.c8_machine.specs.State.{State, IsState, first_state};
 ghost use Rattle.c8_machine.specs.Serial.{FrameIsDetermined, frame_of, serial};
 

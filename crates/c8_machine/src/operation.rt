@@ -1,7 +1,7 @@
 //! Codes, read as what the machine has to do.
 ghost use Rattle.std.specs.Prelude.{◌≡◌, ◌/◌, ◌%◌, MatchOption};
 ghost use Rattle.c8_machine.specs.Instructions.{IsInRange};
-ghost use Rattle.c8_machine.specs.Decoding.{meaning, instruction_of, system_instruction, arithmetic_instruction, key_instruction, register_instruction};
+ghost use Rattle.c8_machine.specs.checked.Decoding.{meaning, instruction_of, system_instruction, arithmetic_instruction, key_instruction, register_instruction};
 
 /// What a code of two bytes means: X and Y are numbers of registers, 0 to 15.
 #[derive(Clone, Copy)]

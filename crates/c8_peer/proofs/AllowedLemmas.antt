@@ -8,10 +8,10 @@ use Rattle.c8_wire.specs.declared.error.WireError.{WireError}
 use Rattle.c8_wire.specs.Packet.{HeadValue, DataMessage, FreezeMessage, LeaverMessage, Message, Packet, AreWords, IsDataMessage, IsFreezeMessage, IsLeaverMessage, IsMessage, Fits, IsPacket}
 use Rattle.c8_wire.specs.Packet as packets
 use Rattle.c8_wire.specs.Sizes.{longest_run}
-use Rattle.c8_wire.specs.WordLaws.{length-spelled_words}
+use Rattle.c8_wire.specs.checked.WordLaws.{length-spelled_words}
 use Rattle.c8_hand.specs.declared.error.HandError.{HandError}
 use Rattle.c8_hand.specs.Links as links
-use Rattle.c8_hand.specs.LinkLaws.{is_for_me}
+use Rattle.c8_hand.specs.checked.LinkLaws.{is_for_me}
 use Rattle.c8_known.specs.declared.error.KnownError.{KnownError}
 use Rattle.c8_known.specs.declared.error.KnownError.TheVariants as errors
 use Rattle.c8_known.specs.Journal.{Record, Own, Got, Freeze, Leave, Cut, player_of, epochs, had_epoch}
@@ -22,8 +22,8 @@ use Rattle.c8_round.specs.Round.{is_ready, with_report, with_have}
 use Rattle.c8_window.specs.Window.{acked_more}
 use Rattle.c8_record.specs.Body.{HasSpelling}
 use Rattle.c8_record.specs.Allowed.{Past, past_of, MayFollow, IsAllowedAfter, IsAllowed, IsJournal, IsOrderlyOf, IsOrderly}
-use Rattle.c8_record.specs.JournalLaws.{journal_known, of_game}
-use Rattle.c8_record.specs.LeaverLaws.{journal_orderly}
+use Rattle.c8_record.specs.checked.JournalLaws.{journal_known, of_game}
+use Rattle.c8_record.specs.checked.LeaverLaws.{journal_orderly}
 use Rattle.c8_peer.specs.State.{Memory, Reply, Outcome, answered, recorded, Saying, Call, Tick, Deliver, Say, Decide}
 use Rattle.c8_peer.specs.State as calls
 use Rattle.c8_peer.specs.Calls.{tick, leave, decide}

@@ -15,7 +15,7 @@ use Rattle.c8_known.specs.Known.{KnownValue}
 use Rattle.c8_peer.specs.State.{Memory, Open, Down, Call, Reply, Outcome, answered, recorded}
 use Rattle.c8_peer.specs.Steps.{Works, Refuses, outcome, refused_by_disk}
 use Rattle.c8_peer.specs.Peer.{PeerValue, known_by, luck_of, IsStep, added, most_run, RunsFrames, KeepsWithOrWithout, LeavesJournal, HasCause, IsAnswered, IsSound}
-use Rattle.c8_peer.specs.Held.{IsPeer}
+use Rattle.c8_peer.specs.checked.Held.{IsPeer}
 use Rattle.c8_peer.proofs.PeerLemmas.{view}
 use Rattle.c8_peer.proofs.RoomLemmas.{had_room}
 

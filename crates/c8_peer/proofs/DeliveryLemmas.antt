@@ -10,16 +10,16 @@ use Rattle.c8_hand.specs.Links.{refusal}
 use Rattle.c8_known.specs.Journal.{Record}
 use Rattle.c8_known.specs.Known.{KnownValue, player_in, count_in, known_of}
 use Rattle.c8_known.specs.Growth.{IsStillKnown}
-use Rattle.c8_known.specs.BeginsLaws.{begins_length}
+use Rattle.c8_known.specs.checked.BeginsLaws.{begins_length}
 use Rattle.c8_record.specs.Allowed.{IsAllowed}
-use Rattle.c8_record.specs.JournalLaws.{journal_more, journal_grows}
+use Rattle.c8_record.specs.checked.JournalLaws.{journal_more, journal_grows}
 use Rattle.c8_peer.specs.State.{Deliver, Outcome}
 use Rattle.c8_peer.specs.Hearing.{hear_message}
 use Rattle.c8_peer.specs.Steps.{outcome}
 use Rattle.c8_peer.specs.Lawful.{IsMemory}
 use Rattle.c8_peer.specs.Peer.{PeerValue, known_by, IsSound, HasCause}
 use Rattle.c8_peer.specs.declared.verdict.Verdict.{Verdict}
-use Rattle.c8_peer.specs.Verdicts.{AcksWithin, IsLater, by_verdict, memory_after}
+use Rattle.c8_peer.specs.checked.Verdicts.{AcksWithin, IsLater, by_verdict, memory_after}
 use Rattle.c8_peer.proofs.AllowedLemmas.{keeps_allowed}
 use Rattle.c8_peer.proofs.MemoryLemmas.{memory_kept}
 use Rattle.c8_peer.proofs.SayingLemmas.{own_player}

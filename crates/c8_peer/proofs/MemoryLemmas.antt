@@ -14,7 +14,7 @@ use Rattle.c8_hand.specs.Links as links
 use Rattle.c8_known.specs.declared.error.KnownError.{KnownError}
 use Rattle.c8_known.specs.Journal.{Record, count}
 use Rattle.c8_known.specs.Known.{PlayerValue, KnownValue, player_in, count_in, is_player, known_of}
-use Rattle.c8_known.specs.OneMore.{player_known}
+use Rattle.c8_known.specs.checked.OneMore.{player_known}
 use Rattle.c8_known.specs.Fresh.{is_from_leaver, misfit, fresh_words}
 use Rattle.c8_known.specs.Confirmed.{confirmed}
 use Rattle.c8_window.specs.Window.{WindowValue, acked_of, acked_more, with_acked}

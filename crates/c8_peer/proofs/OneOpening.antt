@@ -4,7 +4,7 @@ use Rattle.c8_game.specs.Rules.{Rules}
 use Rattle.c8_disk.specs.declared.error.DiskError.{DiskError}
 use Rattle.c8_known.specs.Journal.{Record}
 use Rattle.c8_record.specs.Body.{body_of}
-use Rattle.c8_record.specs.RefusalLaws.{journal_not_refused, one_refusal}
+use Rattle.c8_record.specs.checked.RefusalLaws.{journal_not_refused, one_refusal}
 use Rattle.c8_peer.specs.State.{State, Reply}
 use Rattle.c8_peer.specs.Opening.{Opening, NoPlayer, Stands, NotWritten, NoMemory, NotRead, Unfit, Spent, MayBecome, IsServed}
 use Rattle.c8_peer.specs.Runs.{After, Opens, IsDone, after}

@@ -5,9 +5,9 @@ use Rattle.c8_game.specs.Rules.{Rules, AreInRange, id_of}
 use Rattle.c8_disk.specs.declared.disk.Disk.{Ghosts}
 use Rattle.c8_disk.specs.declared.error.DiskError.TheVariants.{Failed, Full}
 use Rattle.c8_disk.specs.Runs.{LeavesOnly, IsSameDisk, ReadsOnly}
-use Rattle.c8_disk.specs.RunLaws.{then_run, weaker}
+use Rattle.c8_disk.specs.checked.RunLaws.{then_run, weaker}
 use Rattle.c8_disk.specs.Asks.{Answer, Reads, Asks}
-use Rattle.c8_disk.specs.AsksLaws.{asks_then, asks_refused}
+use Rattle.c8_disk.specs.checked.AsksLaws.{asks_then, asks_refused}
 use Rattle.c8_disk.specs.declared.error.DiskError.{DiskError}
 use Rattle.c8_log.specs.Asked.{AppendWithin, Opening as OpenLog}
 use Rattle.c8_log.specs.Log.{AllKeep, KeepsOneOf, LogValue, repaired}
@@ -18,15 +18,15 @@ use Rattle.c8_record.specs.Body.{record_of, records_of}
 use Rattle.c8_record.specs.Replay.{AreJournalBodies, IsRefusal, IsReplayedFromDisk, is_failed, told_by}
 use Rattle.c8_record.specs.declared.error.ReplayError.{ReplayError}
 use Rattle.c8_record.specs.declared.error.ReplayError.TheVariants as replays
-use Rattle.c8_record.specs.JournalLaws.{epoch_more, known_more, of_game}
+use Rattle.c8_record.specs.checked.JournalLaws.{epoch_more, known_more, of_game}
 use Rattle.c8_peer.specs.declared.error.OpenError.{OpenError}
 use Rattle.c8_peer.specs.declared.error.OpenError.TheVariants as opens
 use Rattle.c8_peer.specs.State.{Memory, Opened, fresh_memory}
 use Rattle.c8_peer.specs.Opening.{last_epoch, unfit, opening_record}
 use Rattle.c8_peer.specs.Peer.{PeerValue, mode_of, IsSound}
-use Rattle.c8_peer.specs.Held.{IsPeer}
+use Rattle.c8_peer.specs.checked.Held.{IsPeer}
 use Rattle.c8_peer.specs.Opened.{opening_body, bodies_found, ReadRun, OpenRun, MayBegin, IsOpened, IsSettled, IsUnread, IsUnfit, IsNotWritten, IsRefusedFor, IsRefusedOpening, OpeningLeaves}
-use Rattle.c8_peer.specs.OpenedParts.{IsRead, BeginRun, IsBegun, IsNotBegun, BeginningLeaves}
+use Rattle.c8_peer.specs.checked.OpenedParts.{IsRead, BeginRun, IsBegun, IsNotBegun, BeginningLeaves}
 use Rattle.c8_peer.proofs.OpeningLemmas.{opening_allowed, opening_memory}
 use Rattle.c8_peer.proofs.PeerLemmas.{one_body_more, bodies_more, view}
 use Rattle.c8_peer.proofs.ReaderLemmas.{ticks_are}

@@ -12,10 +12,10 @@ use Rattle.c8_game.specs.Rules.{Rules, AreInRange, id_of, number_bytes}
 use Rattle.c8_hand.specs.Links.{LinkValue, no_link, no_links, link_to}
 use Rattle.c8_known.specs.Journal.{Record, Head, Epoch, words_of, epochs_of, epochs, epoch, had_epoch, held, count}
 use Rattle.c8_known.specs.Known.{known_of, Plays}
-use Rattle.c8_known.specs.StartLaws.{players_known}
+use Rattle.c8_known.specs.checked.StartLaws.{players_known}
 use Rattle.c8_record.specs.Body.{HasSpelling}
 use Rattle.c8_record.specs.Allowed.{IsAllowed, IsJournal}
-use Rattle.c8_record.specs.JournalLaws.{epoch_more, of_game}
+use Rattle.c8_record.specs.checked.JournalLaws.{epoch_more, of_game}
 use Rattle.c8_window.specs.Window.{first_window, acked_of}
 use Rattle.c8_peer.specs.State.{fresh_memory}
 use Rattle.c8_peer.specs.Opening.{last_epoch, opening_record}

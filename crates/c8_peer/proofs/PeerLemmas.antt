@@ -6,30 +6,30 @@ use Rattle.c8_game.specs.Rules.{Rules}
 use Rattle.c8_game.specs.declared.row.Row.{Row}
 use Rattle.c8_disk.specs.declared.disk.Disk.{Ghosts}
 use Rattle.c8_disk.specs.Runs.{LeavesOnly}
-use Rattle.c8_disk.specs.RunLaws.{weaker}
+use Rattle.c8_disk.specs.checked.RunLaws.{weaker}
 use Rattle.c8_disk.specs.Asks.{Answer, Asks}
 use Rattle.c8_log.specs.Asked.{AppendWithin}
 use Rattle.c8_log.specs.Journal.{JournalValue, KeepsBodies}
 use Rattle.c8_known.specs.Journal.{Record, Head, Epoch, Own, Got, Freeze, Leave, Cut, epoch}
-use Rattle.c8_known.specs.JournalLaws.{epoch_stays}
+use Rattle.c8_known.specs.checked.JournalLaws.{epoch_stays}
 use Rattle.c8_known.specs.Known.{KnownValue, known_of, with_record, IsOfGame}
 use Rattle.c8_known.specs.Growth.{IsStillKnown}
 use Rattle.c8_record.specs.Body.{body_of, record_of, records_of, HasSpelling, Spells}
-use Rattle.c8_record.specs.BodyLaws.{bodies_back, read_again}
-use Rattle.c8_record.specs.RefusalLaws.{journal_bodies}
+use Rattle.c8_record.specs.checked.BodyLaws.{bodies_back, read_again}
+use Rattle.c8_record.specs.checked.RefusalLaws.{journal_bodies}
 use Rattle.c8_record.specs.Allowed.{IsAllowed, past_of, CanFollow}
 use Rattle.c8_record.specs.Replay.{AreJournalBodies}
-use Rattle.c8_record.specs.JournalLaws.{journal_more, known_more, epoch_more, of_game}
+use Rattle.c8_record.specs.checked.JournalLaws.{journal_more, known_more, epoch_more, of_game}
 use Rattle.c8_roll.specs.Roll.{RollValue, roll_of}
-use Rattle.c8_roll.specs.RollLaws.{roll_rules}
+use Rattle.c8_roll.specs.checked.RollLaws.{roll_rules}
 use Rattle.c8_roll.specs.Rollback.{KeepsRows, IsWithinWindow, RunsFromOldest, RunsFromWhatWasKnown}
 use Rattle.c8_peer.specs.State.{Memory, Open, Down, Call, Reply, Outcome, recorded}
 use Rattle.c8_peer.specs.Steps.{outcome}
 use Rattle.c8_peer.proofs.AllowedLemmas.{keeps_allowed}
 use Rattle.c8_peer.specs.Lawful.{IsMemory, IsCall}
-use Rattle.c8_peer.specs.TruthLaws.{count_rises}
+use Rattle.c8_peer.specs.checked.TruthLaws.{count_rises}
 use Rattle.c8_peer.specs.Peer.{PeerValue, known_by, mode_of, state_of, RunsFrames, KeepsWithOrWithout}
-use Rattle.c8_peer.specs.Held.{IsPeer, is_opening, is_entry, most_run_with, WasRoll}
+use Rattle.c8_peer.specs.checked.Held.{IsPeer, is_opening, is_entry, most_run_with, WasRoll}
 
 -- the memory stays in order with each record more
 pub memory_more : (rules : Rules) (room me : ℕ) (journal more : List Record) (m : Memory) → IsMemory rules room me journal m → IsMemory rules room me (journal ++ more) m

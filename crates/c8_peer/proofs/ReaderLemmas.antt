@@ -3,27 +3,27 @@ use Rattle.std.proofs.Common.{◌≡◌, ◌⊎◌, ◌≤◌, ℕ, List, [], �
 use Rattle.std.specs.Prelude.{option_to_list, if◌then◌else◌}
 use Rattle.std.proofs.lemmas.List.{append-nil}
 use Rattle.c8_record.specs.Allowed.{IsAllowed, IsJournal}
-use Rattle.c8_record.specs.JournalLaws.{journal_more, journal_known, of_game}
+use Rattle.c8_record.specs.checked.JournalLaws.{journal_more, journal_known, of_game}
 use Rattle.c8_known.specs.Journal.{Record}
 use Rattle.std.proofs.lemmas.List.{map-append}
 use Rattle.c8_game.specs.Rules.{Rules, limit_of}
 use Rattle.c8_disk.specs.declared.disk.Disk.{Ghosts}
 use Rattle.c8_disk.specs.Runs.{LeavesOnly}
-use Rattle.c8_disk.specs.RunLaws.{weaker}
+use Rattle.c8_disk.specs.checked.RunLaws.{weaker}
 use Rattle.c8_log.specs.Journal.{JournalValue, KeepsBodies, AllKeepBodies}
 use Rattle.c8_known.specs.Journal.{ticks}
 use Rattle.c8_known.specs.Known.{KnownValue, known_of, count_in, Plays}
 use Rattle.c8_known.specs.Confirmed.{confirmed}
-use Rattle.c8_known.specs.ConfirmedLaws.{confirmed_is}
+use Rattle.c8_known.specs.checked.ConfirmedLaws.{confirmed_is}
 use Rattle.c8_window.specs.Window.{acked_of}
-use Rattle.c8_known.specs.StartLaws.{players_known}
+use Rattle.c8_known.specs.checked.StartLaws.{players_known}
 use Rattle.c8_record.specs.Body.{body_of, record_of, records_of, Spells}
-use Rattle.c8_record.specs.BodyLaws.{bodies_back}
+use Rattle.c8_record.specs.checked.BodyLaws.{bodies_back}
 use Rattle.c8_record.specs.Replay.{AreJournalBodies}
 use Rattle.c8_roll.specs.Roll.{RollValue, roll_of}
 use Rattle.c8_peer.specs.State.{Memory, Open, Down}
 use Rattle.c8_peer.specs.Peer.{PeerValue, known_by, mode_of, KeepsWithOrWithout, IsSound}
-use Rattle.c8_peer.specs.Held.{IsPeer}
+use Rattle.c8_peer.specs.checked.Held.{IsPeer}
 use Rattle.c8_peer.proofs.PeerLemmas.{view}
 use Rattle.c8_peer.proofs.MemoryLemmas.{own_count}
 

@@ -15,14 +15,14 @@ use Rattle.c8_known.specs.Known.{known_of}
 use Rattle.c8_known.specs.Confirmed.{confirmed, rows_below}
 use Rattle.c8_record.specs.Body.{records_of}
 use Rattle.c8_record.specs.Allowed.{IsAllowed, IsJournal}
-use Rattle.c8_record.specs.JournalLaws.{journal_none, journal_more}
-use Rattle.c8_record.specs.RefusalLaws.{journal_back}
+use Rattle.c8_record.specs.checked.JournalLaws.{journal_none, journal_more}
+use Rattle.c8_record.specs.checked.RefusalLaws.{journal_back}
 use Rattle.c8_peer.specs.State.{Memory, Mode, Open, Down, Away, State, Call, Reply, Said, Outcome}
 use Rattle.c8_peer.specs.State as states
 use Rattle.c8_peer.specs.Steps.{outcome, Luck, Works, Refuses, refused_by_disk, when_down, done, at_mode, step}
 use Rattle.c8_peer.specs.Opening.{found, opening_record, Opening, NoPlayer, Stands, NotWritten, NoMemory, NotRead, Unfit, Spent, away, opened, MayBecome}
 use Rattle.c8_peer.specs.Truth.{IsTrue}
-use Rattle.c8_peer.specs.TruthLaws.{truth_stays, confirmed_counts, confirmed_stays}
+use Rattle.c8_peer.specs.checked.TruthLaws.{truth_stays, confirmed_counts, confirmed_stays}
 use Rattle.c8_peer.specs.Lawful.{IsMemory, IsCall}
 use Rattle.c8_peer.specs.Peer.{PeerValue, luck_of, Keeps, KeepsWithOrWithout, or_pending, added_at, MayLeave, IsAnswered, IsSaid, IsSound}
 use Rattle.c8_peer.specs.Runs.{never_opened, Deed, Does, Opens, Closes, Stops, StopsOpening, After, as_answered, crashed, after, MayDo, IsDone, IsRun, IsLawful, IsReached, IsAmong, known_at}

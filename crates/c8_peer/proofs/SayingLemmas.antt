@@ -10,21 +10,21 @@ use Rattle.c8_known.specs.Journal as journals
 use Rattle.c8_known.specs.Journal.{Record, Head, Epoch, Own, Got, held, count, has_freeze, has_leave, cut_of}
 use Rattle.c8_known.specs.Known.{PlayerValue, KnownValue, nobody, player_in, count_in, is_frozen_of, is_frozen_in, is_player, known_of, said_of, Plays, IsKnown}
 use Rattle.c8_known.specs.Growth.{Begins}
-use Rattle.c8_known.specs.BeginsLaws.{begins_length, begins_take}
-use Rattle.c8_known.specs.OneMore.{player_known}
-use Rattle.c8_known.specs.StartLaws.{players_known}
+use Rattle.c8_known.specs.checked.BeginsLaws.{begins_length, begins_take}
+use Rattle.c8_known.specs.checked.OneMore.{player_known}
+use Rattle.c8_known.specs.checked.StartLaws.{players_known}
 use Rattle.c8_known.specs.Confirmed.{confirmed}
 use Rattle.c8_roll.specs.Roll.{mark_step}
 use Rattle.c8_window.specs.Window.{acked_of}
 use Rattle.c8_round.specs.Round.{owed, answer_from}
 use Rattle.c8_record.specs.Allowed.{IsJournal, IsOrderly}
-use Rattle.c8_record.specs.JournalLaws.{of_game, journal_known}
-use Rattle.c8_record.specs.LeaverLaws.{journal_orderly}
+use Rattle.c8_record.specs.checked.JournalLaws.{of_game, journal_known}
+use Rattle.c8_record.specs.checked.LeaverLaws.{journal_orderly}
 use Rattle.c8_peer.specs.State.{Memory, Call, Tick, Deliver, Say, Leave, Decide, Saying, Hello, Welcome, Data, Freeze, Frozen, Cut, Said, Outcome}
 use Rattle.c8_peer.specs.Saying.{is_not_mine, lacks_record, lacks_link, run_from, cut_length, message, packet, say}
 use Rattle.c8_peer.specs.Steps.{outcome}
 use Rattle.c8_peer.specs.Truth.{Stands, IsFrozenAt, IsTrueMessage, IsTrue}
-use Rattle.c8_peer.specs.TruthLaws.{count_rises}
+use Rattle.c8_peer.specs.checked.TruthLaws.{count_rises}
 use Rattle.c8_peer.specs.Lawful.{IsMemory, IsCall}
 use Rattle.c8_peer.proofs.MemoryLemmas.{unless, tick_is, leave_is, decide_is, deliver_is, no_packet_is}
 

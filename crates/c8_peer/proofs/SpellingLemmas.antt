@@ -16,16 +16,16 @@ use Rattle.c8_hand.specs.Links.{head_to}
 use Rattle.c8_known.specs.Journal as journals
 use Rattle.c8_known.specs.Journal.{Record, Head, Epoch, Own, Got, words_of, held, count}
 use Rattle.c8_known.specs.Known.{PlayerValue, KnownValue, player_in, count_in, known_of, Plays, IsKnown}
-use Rattle.c8_known.specs.StartLaws.{players_known}
+use Rattle.c8_known.specs.checked.StartLaws.{players_known}
 use Rattle.c8_known.specs.Confirmed.{confirmed, rows_below}
-use Rattle.c8_known.specs.ConfirmedLaws.{confirmed_is}
+use Rattle.c8_known.specs.checked.ConfirmedLaws.{confirmed_is}
 use Rattle.c8_roll.specs.Roll.{mark_step}
 use Rattle.c8_window.specs.Window.{acked_of}
 use Rattle.c8_round.specs.Round.{owed, answer_from}
 use Rattle.c8_record.specs.Body.{HasSpelling}
 use Rattle.c8_record.specs.Allowed.{IsJournal, IsOrderly}
-use Rattle.c8_record.specs.JournalLaws.{journal_known}
-use Rattle.c8_record.specs.LeaverLaws.{journal_orderly}
+use Rattle.c8_record.specs.checked.JournalLaws.{journal_known}
+use Rattle.c8_record.specs.checked.LeaverLaws.{journal_orderly}
 use Rattle.c8_peer.proofs.DigestLemmas.{digest_length, digest_bytes_fit}
 use Rattle.c8_peer.specs.State.{Memory, Call, Saying, Hello, Welcome, Data, Freeze, Frozen, Cut, Said}
 use Rattle.c8_peer.specs.Saying.{lacks_record, run_from, cut_length, message}

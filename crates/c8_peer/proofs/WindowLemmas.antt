@@ -8,10 +8,10 @@ use Rattle.c8_known.specs.Confirmed.{confirmed}
 use Rattle.c8_record.specs.Allowed.{IsJournal}
 use Rattle.c8_record.specs.Body.{records_of}
 use Rattle.c8_roll.specs.Roll.{RollValue, roll_of}
-use Rattle.c8_roll.specs.RollLaws.{roll_rules, roll_ticks, roll_confirmed}
+use Rattle.c8_roll.specs.checked.RollLaws.{roll_rules, roll_ticks, roll_confirmed}
 use Rattle.c8_roll.specs.Rollback.{IsWithinWindow}
 use Rattle.c8_peer.specs.State.{Memory}
-use Rattle.c8_peer.specs.Held.{IsPeer}
+use Rattle.c8_peer.specs.checked.Held.{IsPeer}
 
 -- what c8_record says of every journal
 abbrev pub StayWithin : Type 0

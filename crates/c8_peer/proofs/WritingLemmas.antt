@@ -17,7 +17,7 @@ use Rattle.c8_peer.specs.Saying.{message, packet, say}
 use Rattle.c8_peer.specs.Steps.{outcome}
 use Rattle.c8_peer.specs.Truth.{IsTrue}
 use Rattle.c8_peer.specs.Peer.{PeerValue, known_by, IsSaid}
-use Rattle.c8_peer.specs.Held.{IsPeer}
+use Rattle.c8_peer.specs.checked.Held.{IsPeer}
 use Rattle.c8_peer.proofs.SayingLemmas.{said_true}
 use Rattle.c8_peer.proofs.SpellingLemmas.{said_spelled}
 use Rattle.c8_peer.proofs.PeerLemmas.{view}

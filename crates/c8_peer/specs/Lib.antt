@@ -6,13 +6,10 @@ pub mod Saying
 pub mod Steps
 pub mod Opening
 pub mod Truth
-pub mod TruthLaws
 pub mod Lawful
 pub mod Peer
-pub mod Verdicts
 pub mod Replies
 pub mod Asked
-pub mod Held
 pub mod Runs
 pub mod Opened
-pub mod OpenedParts
+pub mod checked

@@ -15,7 +15,7 @@ ghost use Rattle.c8_peer.specs.State.{Memory, Outcome};
 ghost use Rattle.c8_peer.specs.Hearing.{refused, unless_misfit, got, differs_from, hear_data, hear_welcome, hear_freeze, hear_frozen, hear_end, hear_cut, cut_or_got, hear_message};
 ghost use Rattle.c8_peer.specs.Steps.{Works};
 ghost use Rattle.c8_peer.specs.Peer.{luck_of_refusal};
-ghost use Rattle.c8_peer.specs.Verdicts.{AcksWithin, IsLater, by_verdict, Judges, memory_after};
+ghost use Rattle.c8_peer.specs.checked.Verdicts.{AcksWithin, IsLater, by_verdict, Judges, memory_after};
 
 use crate::error::Refused;
 use crate::heard::Heard;

@@ -3,7 +3,7 @@
 ghost use Rattle.std.specs.Prelude.{◌≡◌, ℕ, ◌^◌, ◌<◌, ◌≤◌, List, [], ◌∷◌, ◌++◌, Bool, true, Option, Ok, Err, Some};
 ghost use Rattle.c8_game.specs.Rules.{Rules, AreInRange};
 ghost use Rattle.c8_wire.specs.Packet.{AreBytes, Packet, IsPacket};
-ghost use Rattle.c8_wire.specs.Read.{read};
+ghost use Rattle.c8_wire.specs.checked.Read.{read};
 ghost use Rattle.c8_disk.specs.Disk.{Only};
 ghost use Rattle.c8_known.specs.Journal.{Record, epoch};
 ghost use Rattle.c8_known.specs.Known.{known_of};

@@ -5,7 +5,7 @@ ghost use Rattle.c8_wire.specs.Saying.{head_value};
 ghost use Rattle.c8_hand.specs.Links.{refusal, head_to};
 ghost use Rattle.c8_peer.specs.Asked.{wire_of};
 ghost use Rattle.c8_peer.specs.State.{fresh_memory};
-ghost use Rattle.c8_peer.specs.Verdicts.{memory_after, AcksWithin};
+ghost use Rattle.c8_peer.specs.checked.Verdicts.{memory_after, AcksWithin};
 
 use crate::kind::Kind;
 use c8_game::{Game, Player};

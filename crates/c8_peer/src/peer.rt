@@ -13,7 +13,7 @@ ghost use Rattle.c8_roll.specs.Roll.{roll_of};
 ghost use Rattle.c8_roll.specs.Seen.{value_of as seen, rows_run, last_run_of};
 ghost use Rattle.c8_roll.specs.Rollback.{IsWithinWindow, KeepsRows, RunsFromWhatWasKnown};
 ghost use Rattle.c8_peer.specs.State.{Open, Down};
-ghost use Rattle.c8_peer.specs.Held.{is_opening, most_run_with, WasRoll};
+ghost use Rattle.c8_peer.specs.checked.Held.{is_opening, most_run_with, WasRoll};
 
 mod calls;
 mod hear;
@@ -57,7 +57,7 @@ impl<'g, D: Disk> Model for Peer<'g, D> {
     ghost use Rattle.c8_roll.specs.Seen.{value_of, rows_run, last_run_of};
     ghost use Rattle.c8_roll.specs.Rollback.{KeepsRows};
     ghost use Rattle.c8_peer.specs.Peer.{PeerValue, state_of};
-    ghost use Rattle.c8_peer.specs.Held.{IsPeer};
+    ghost use Rattle.c8_peer.specs.checked.Held.{IsPeer};
 
     ghost Value = { PeerValue D };
 

@@ -16,9 +16,9 @@ use Rattle.c8_log.specs.declared.error.LogError.TheVariants as logs
 use Rattle.c8_log.specs.Asked.{told_by as told_by_log}
 use Rattle.c8_record.specs.Body.{Spells, record_of, records_of}
 use Rattle.c8_record.specs.Allowed.{Past, past_of, IsAllowedAfter, IsAllowed, IsJournal}
-use Rattle.c8_record.specs.Taken.{epoch_after, IsOfOtherGame, IsOfOtherPlayer, IsUnfitBody, IsTaken}
+use Rattle.c8_record.specs.checked.Taken.{epoch_after, IsOfOtherGame, IsOfOtherPlayer, IsUnfitBody, IsTaken}
 use Rattle.c8_record.specs.Replay.{AreJournalBodies, IsRefusal, is_failed, told_by, IsReplayed, IsReplayedFromDisk}
-use Rattle.c8_record.specs.JournalLaws.{journal_none, journal_more, epoch_more, known_more, of_game}
+use Rattle.c8_record.specs.checked.JournalLaws.{journal_none, journal_more, epoch_more, known_more, of_game}
 
 -- the first n bodies are taken
 pub record IsReadTo (rules : Rules) (me room : ℕ) (bodies : List (List ℕ)) (n : ℕ) (now : KnownValue) (last : ℕ) : Type 0 where

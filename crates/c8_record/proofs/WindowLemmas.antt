@@ -6,9 +6,9 @@ use Rattle.c8_known.specs.Journal as journals
 use Rattle.c8_known.specs.Journal.{Record, Head, Epoch, Own, Got, Freeze, Leave, Cut}
 use Rattle.c8_known.specs.Known.{KnownValue, with_record, known_of}
 use Rattle.c8_known.specs.Confirmed.{confirmed}
-use Rattle.c8_known.specs.ConfirmedLaws.{confirmed_rises}
+use Rattle.c8_known.specs.checked.ConfirmedLaws.{confirmed_rises}
 use Rattle.c8_record.specs.Allowed.{Past, past_of, IsAllowedAfter, IsJournal}
-use Rattle.c8_record.specs.JournalLaws.{next_allowed, known_more, journal_begins, journal_grows}
+use Rattle.c8_record.specs.checked.JournalLaws.{next_allowed, known_more, journal_begins, journal_grows}
 
 abbrev IsWithin : Rules → KnownValue → Type 0
 IsWithin rules k = k.ticks ≤ confirmed k + rules.window

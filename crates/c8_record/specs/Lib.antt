@@ -3,8 +3,4 @@ pub mod Allowed
 pub mod Lent
 pub mod Replay
 pub mod Errors
-pub mod Taken
-pub mod JournalLaws
-pub mod BodyLaws
-pub mod LeaverLaws
-pub mod RefusalLaws
+pub mod checked

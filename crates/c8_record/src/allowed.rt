@@ -6,7 +6,7 @@ ghost use Rattle.c8_wire.specs.Lent.{words};
 ghost use Rattle.c8_record.specs.Allowed.{MayOwn, MayGot, MayFreeze, MayLeave, MayCut, IsAllowedAfter};
 ghost use Rattle.c8_record.specs.Body.{HasSpelling};
 ghost use Rattle.c8_record.specs.Lent.{value_of};
-ghost use Rattle.c8_record.specs.Taken.{IsUnfit};
+ghost use Rattle.c8_record.specs.checked.Taken.{IsUnfit};
 
 use crate::error::ReplayError;
 use crate::record::Record;

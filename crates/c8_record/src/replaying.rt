@@ -6,7 +6,7 @@ ghost use Rattle.c8_log.specs.Slots.{kept};
 ghost use Rattle.c8_known.specs.Known.{known_of, IsOfGame};
 ghost use Rattle.c8_record.specs.Lent.{value_of};
 ghost use Rattle.c8_record.specs.Replay.{IsReplayed, IsReplayedFromDisk, is_failed, told_by};
-ghost use Rattle.c8_record.specs.Taken.{epoch_after, IsUnfitBody, IsTaken};
+ghost use Rattle.c8_record.specs.checked.Taken.{epoch_after, IsUnfitBody, IsTaken};
 
 use crate::allowed::judge;
 use crate::error::ReplayError;

@@ -11,7 +11,7 @@ use Rattle.c8_digest.specs.Marks.{kept}
 use Rattle.c8_known.specs.Known.{KnownValue}
 use Rattle.c8_known.specs.Confirmed.{confirmed, row, rows_below, best_row, best_rows_below}
 use Rattle.c8_known.specs.Growth.{IsStillKnown}
-use Rattle.c8_known.specs.ConfirmedLaws.{map_same, confirmed_rises, row_stays, best_of_confirmed}
+use Rattle.c8_known.specs.checked.ConfirmedLaws.{map_same, confirmed_rises, row_stays, best_of_confirmed}
 use Rattle.c8_roll.specs.Roll.{mark_after, marks_up_to, RollValue, roll_of}
 
 pub rows_next : (k : KnownValue) (n : ℕ) → rows_below k (n + 1) ≡ rows_below k n ++ row k n ∷ []

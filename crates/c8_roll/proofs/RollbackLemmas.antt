@@ -15,8 +15,8 @@ use Rattle.c8_known.specs.Known.{KnownValue}
 use Rattle.c8_known.specs.Confirmed.{confirmed, best_row, best_rows, best_rows_below}
 use Rattle.c8_roll.specs.declared.timeline.Snapshot.{Snapshot}
 use Rattle.c8_roll.specs.Roll.{marks_up_to, RollValue, roll_of}
-use Rattle.c8_roll.specs.RollLaws.{roll_ticks, roll_confirmed}
-use Rattle.c8_roll.specs.Timeline.{TimelineValue, machine_or, state_at, IsAll, IsNew, IsTimeline, back_at, AreBest, IsChange, IsRunOf}
+use Rattle.c8_roll.specs.checked.RollLaws.{roll_ticks, roll_confirmed}
+use Rattle.c8_roll.specs.checked.Timeline.{TimelineValue, machine_or, state_at, IsAll, IsNew, IsTimeline, back_at, AreBest, IsChange, IsRunOf}
 use Rattle.c8_roll.specs.Rollback.{KeepsRows, AreAsRun, IsOldest, IsOldestChange, IsOldestOrLast, AreStillBest, IsOldestWrong, HasAllRows, RunsFromOldest, run_from}
 use Rattle.c8_roll.proofs.RollLemmas.{best_sure, IsStill}
 use Rattle.c8_roll.proofs.TimelineLemmas.{base_is, back_run}

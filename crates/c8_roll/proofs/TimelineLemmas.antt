@@ -15,7 +15,7 @@ use Rattle.c8_machine.specs.Serial.{frame_of, serial}
 use Rattle.c8_known.specs.Known.{KnownValue}
 use Rattle.c8_known.specs.Confirmed.{confirmed, rows_below, best_row, best_rows_below}
 use Rattle.c8_roll.specs.declared.timeline.Snapshot.{Snapshot}
-use Rattle.c8_roll.specs.Timeline.{TimelineValue, machine_or, machine_at, state_at, IsAll, IsTimeline, back_at, AreBest, IsRunOf}
+use Rattle.c8_roll.specs.checked.Timeline.{TimelineValue, machine_or, machine_at, state_at, IsAll, IsTimeline, back_at, AreBest, IsRunOf}
 use Rattle.c8_roll.proofs.RollLemmas.{best_next, best_sure}
 
 -- ---- runs

@@ -5,7 +5,7 @@ use Rattle.c8_machine.specs.State.{state}
 use Rattle.c8_roll.specs.declared.timeline.Snapshot.{Snapshot}
 use Rattle.c8_roll.specs.declared.roll.Roll.{Roll}
 use Rattle.c8_roll.specs.Roll.{RollValue}
-use Rattle.c8_roll.specs.Timeline.{state_at}
+use Rattle.c8_roll.specs.checked.Timeline.{state_at}
 
 abbrev pub value_of : Roll → RollValue
 value_of roll = record {

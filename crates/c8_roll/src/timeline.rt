@@ -7,7 +7,7 @@ ghost use Rattle.c8_machine.specs.Serial.{frame_of, serial};
 ghost use Rattle.c8_known.specs.Known.{KnownValue};
 ghost use Rattle.c8_known.specs.Confirmed.{confirmed, best_row, best_rows_below};
 ghost use Rattle.c8_roll.specs.Roll.{marks_up_to};
-ghost use Rattle.c8_roll.specs.Timeline.{IsNew, IsTimeline, state_at, back_at, IsAll, AreBest, IsChange, IsRunOf};
+ghost use Rattle.c8_roll.specs.checked.Timeline.{IsNew, IsTimeline, state_at, back_at, IsAll, AreBest, IsChange, IsRunOf};
 
 use c8_digest::{Marks, mark};
 use c8_game::{Game, Row};
@@ -42,7 +42,7 @@ pub(crate) struct Timeline<'g> {
 }
 
 impl<'g> Model for Timeline<'g> {
-    ghost use Rattle.c8_roll.specs.Timeline.{TimelineValue, IsTimeline};
+    ghost use Rattle.c8_roll.specs.checked.Timeline.{TimelineValue, IsTimeline};
 
     ghost Value = { TimelineValue };
 

@@ -7,7 +7,7 @@ use Rattle.std.proofs.lemmas.Nat.Bits.{bit_at-zero, bit_at_and, bit_at_xor, bit_
 use Rattle.std.specs.List.{list_any, range_with_len}
 use Rattle.std.specs.Int.{w64, bit_at, trailing_zeros}
 use Rattle.c8_screen.specs.Points.{Points, row_has, points_of, sprite, clipped, exclusive_or, meets}
-use Rattle.c8_screen.specs.Strip.{strip}
+use Rattle.c8_screen.specs.checked.Strip.{strip}
 
 -- ---- a strip's points
 

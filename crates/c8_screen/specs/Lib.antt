@@ -1,2 +1,2 @@
 pub mod Points
-pub mod Strip
+pub mod checked

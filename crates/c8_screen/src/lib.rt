@@ -5,7 +5,7 @@
 #![tactic(auto)]
 
 ghost use Rattle.std.specs.Prelude.{◌≡◌, ℕ, ◌%◌, ◌<◌, ◌==◌, not, bit_and, bit_xor, length, slice_index};
-ghost use Rattle.c8_screen.specs.Strip.{strip};
+ghost use Rattle.c8_screen.specs.checked.Strip.{strip};
 
 /// How many points a row has.
 pub const WIDTH: u8 = 64;

@@ -7,7 +7,7 @@ use Rattle.std.specs.Char.{is_ascii_digit}
 use Rattle.std.specs.List.{list_all}
 use native.Mathlib.Numerals.{unary_clauses}
 use Rattle.c8_game.specs.Fields.{decimal_number}
-use Rattle.c8_script.specs.ScriptWords.{number_in}
+use Rattle.c8_script.specs.checked.ScriptWords.{number_in}
 
 decimal_more : (text : List ℕ) (digit : ℕ) → decimal_number (text ++ digit ∷ []) ≡ decimal_number text * 10 + (digit - 48)
 decimal_more [] digit = omega arith

@@ -17,7 +17,7 @@ use Rattle.c8_world.specs.declared.event.Act.TheVariants.{Open, Tick, Say, Give,
 use Rattle.c8_world.specs.declared.event.Event.{Event}
 use Rattle.c8_world.specs.declared.event.Event.TheVariants.{Do, Stop}
 use Rattle.c8_script.specs.Script.{player_word, SpellsKeys, SpellsNumber, kind_words, SpellsAct, WordsSpell}
-use Rattle.c8_script.specs.ScriptWords.{player_in, player_of, keys_in, number_in, kind_in, act_of, said_of, act_in, stop_of, stop_in, act_or_stop, event_in}
+use Rattle.c8_script.specs.checked.ScriptWords.{player_in, player_of, keys_in, number_in, kind_in, act_of, said_of, act_in, stop_of, stop_in, act_or_stop, event_in}
 
 -- ---- choices
 

@@ -21,7 +21,7 @@ use Rattle.c8_world.specs.declared.event.Act.TheVariants.{Open, Tick, Say, Give,
 use Rattle.c8_world.specs.declared.event.Event.{Event}
 use Rattle.c8_world.specs.declared.event.Event.TheVariants.{Do, Stop}
 use Rattle.c8_script.specs.Script.{player_word, SpellsNumber, kind_words, SpellsAct, WordsSpell, SpellsEvent, not_skipped, event_lines, IsFaultOfScript}
-use Rattle.c8_script.specs.ScriptWords.{event_in, event_of}
+use Rattle.c8_script.specs.checked.ScriptWords.{event_in, event_of}
 use Rattle.c8_script.specs.declared.error.ScriptError.{ScriptError}
 use Rattle.c8_script.specs.declared.error.ScriptError.TheVariants.{Line, Memory}
 use Rattle.c8_script.proofs.ScriptLemmas.{words_spelt, words_read}

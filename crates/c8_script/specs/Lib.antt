@@ -1,5 +1,5 @@
 pub mod Errors
 pub mod Printed
 pub mod Script
-pub mod ScriptWords
 pub mod Sim
+pub mod checked

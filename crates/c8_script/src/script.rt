@@ -4,7 +4,7 @@ ghost use Rattle.std.specs.Prelude.{◌≡◌, ◌⊎◌, List, IfOk, MatchResul
 ghost use Rattle.c8_game.specs.GameText.{is_skipped};
 ghost use Rattle.c8_world.specs.declared.event.Event.{Event};
 ghost use Rattle.c8_script.specs.Script.{SpellsScript, IsFaultOfScript};
-ghost use Rattle.c8_script.specs.ScriptWords.{event_of};
+ghost use Rattle.c8_script.specs.checked.ScriptWords.{event_of};
 ghost use Rattle.c8_script.specs.declared.error.ScriptError.TheVariants.{Line, Memory};
 
 mod words;

@@ -10,8 +10,8 @@ use Rattle.c8_wire.specs.Packet.{AreBytes, HeadValue, IsHead, DataMessage, IsDat
 use Rattle.c8_wire.specs.Spelling.{header_bytes, run_bytes, body_bytes}
 use Rattle.c8_wire.specs.Reading.{number_at, size_at, data_at}
 use Rattle.c8_wire.specs.Refusal.{applies}
-use Rattle.c8_wire.specs.NumberLaws.{AreBytes-drop, AreBytes-take, spelled_at}
-use Rattle.c8_wire.specs.WordLaws.{words_of-lt, length-spelled_words}
+use Rattle.c8_wire.specs.checked.NumberLaws.{AreBytes-drop, AreBytes-take, spelled_at}
+use Rattle.c8_wire.specs.checked.WordLaws.{words_of-lt, length-spelled_words}
 use Rattle.c8_wire.proofs.HeadLemmas.{then, HasHead, front_accepted}
 use Rattle.c8_wire.proofs.RunLemmas.{IsRunAt, length-words_at, spelled_run, HasRun, run_again}
 use Rattle.c8_wire.proofs.TableLemmas.{IsAccepted}

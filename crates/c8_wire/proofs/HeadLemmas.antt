@@ -11,7 +11,7 @@ use Rattle.c8_wire.specs.Kinds.{code_of}
 use Rattle.c8_wire.specs.Packet.{AreBytes, HeadValue, IsHead}
 use Rattle.c8_wire.specs.Spelling.{header_bytes}
 use Rattle.c8_wire.specs.Reading.{number_at, kind_at, size_at, head_at}
-use Rattle.c8_wire.specs.NumberLaws.{spelled_at}
+use Rattle.c8_wire.specs.checked.NumberLaws.{spelled_at}
 use Rattle.c8_wire.proofs.TableLemmas.{kind_of_its_code}
 
 -- what is spelled by a front and a rest, and the rest by what it is

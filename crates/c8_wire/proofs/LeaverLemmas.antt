@@ -10,8 +10,8 @@ use Rattle.c8_wire.specs.Packet.{AreBytes, HeadValue, IsHead, FreezeMessage, IsF
 use Rattle.c8_wire.specs.Spelling.{header_bytes, leaver_bytes, run_bytes, body_bytes}
 use Rattle.c8_wire.specs.Reading.{number_at, size_at, words_of, freeze_at, leaver_at}
 use Rattle.c8_wire.specs.Refusal.{applies}
-use Rattle.c8_wire.specs.NumberLaws.{spelled_at}
-use Rattle.c8_wire.specs.WordLaws.{length-spelled_words}
+use Rattle.c8_wire.specs.checked.NumberLaws.{spelled_at}
+use Rattle.c8_wire.specs.checked.WordLaws.{length-spelled_words}
 use Rattle.c8_wire.proofs.HeadLemmas.{then, byte_here, HasHead, front_accepted}
 use Rattle.c8_wire.proofs.RunLemmas.{IsRunAt, length-words_at, spelled_run, HasRun, run_again}
 use Rattle.c8_wire.proofs.TableLemmas.{IsAccepted}

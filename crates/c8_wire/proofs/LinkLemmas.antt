@@ -10,7 +10,7 @@ use Rattle.c8_wire.specs.Packet.{AreBytes, HeadValue, IsHead, Hello, Welcome}
 use Rattle.c8_wire.specs.Spelling.{header_bytes, body_bytes}
 use Rattle.c8_wire.specs.Reading.{number_at, size_at}
 use Rattle.c8_wire.specs.Refusal.{applies}
-use Rattle.c8_wire.specs.NumberLaws.{spelled_at}
+use Rattle.c8_wire.specs.checked.NumberLaws.{spelled_at}
 use Rattle.c8_wire.proofs.HeadLemmas.{then, HasHead, front_accepted}
 use Rattle.c8_wire.proofs.TableLemmas.{IsAccepted}
 

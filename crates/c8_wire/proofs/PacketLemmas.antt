@@ -8,8 +8,8 @@ use Rattle.c8_wire.specs.Packet.{AreBytes, HeadValue, IsHead, Message, Hello, We
 use Rattle.c8_wire.specs.Spelling.{header_bytes, leaver_bytes, body_bytes, spelling, Spells}
 use Rattle.c8_wire.specs.Reading.{number_at, kind_at, size_at, head_at, message_at, packet_at}
 use Rattle.c8_wire.specs.Refusal.{applies, refusal}
-use Rattle.c8_wire.specs.NumberLaws.{AreBytes-drop, number_at-lt}
-use Rattle.c8_wire.specs.WordLaws.{words_of-lt}
+use Rattle.c8_wire.specs.checked.NumberLaws.{AreBytes-drop, number_at-lt}
+use Rattle.c8_wire.specs.checked.WordLaws.{words_of-lt}
 use Rattle.c8_wire.proofs.LinkLemmas.{length-hello, spelled_hello, welcome_shaped, spelled_welcome, ack_again, hello_accepted, welcome_accepted}
 use Rattle.c8_wire.proofs.LeaverLemmas.{freeze_shaped, frozen_shaped, cut_shaped, spelled_freeze, spelled_run_of_leaver, is_freeze, is_leaver, freeze_again, leaver_again, freeze_values, leaver_values, length-leaver_bytes, freeze_accepted, frozen_accepted, cut_accepted}
 use Rattle.c8_wire.proofs.RunLemmas.{IsRunAt}

@@ -6,7 +6,7 @@ use Rattle.c8_wire.specs.Packet.{AreBytes, Packet}
 use Rattle.c8_wire.specs.Spelling.{Spells}
 use Rattle.c8_wire.specs.Reading.{kind_at, packet_at}
 use Rattle.c8_wire.specs.Refusal.{refusal}
-use Rattle.c8_wire.specs.Read.{answer, read}
+use Rattle.c8_wire.specs.checked.Read.{answer, read}
 use Rattle.c8_wire.proofs.TableLemmas.{kind_named}
 use Rattle.c8_wire.proofs.PacketLemmas.{found, again, same_kind}
 

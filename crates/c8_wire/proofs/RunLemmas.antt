@@ -7,8 +7,8 @@ use Rattle.byteorder.specs.Numbers.{big_number-reads_back}
 use Rattle.c8_wire.specs.Packet.{AreBytes}
 use Rattle.c8_wire.specs.Spelling.{run_bytes}
 use Rattle.c8_wire.specs.Reading.{number_at, words_of}
-use Rattle.c8_wire.specs.NumberLaws.{AreBytes-drop, spelled_at}
-use Rattle.c8_wire.specs.WordLaws.{length_words_of, spelled_words, words_of-spelled}
+use Rattle.c8_wire.specs.checked.NumberLaws.{AreBytes-drop, spelled_at}
+use Rattle.c8_wire.specs.checked.WordLaws.{length_words_of, spelled_words, words_of-spelled}
 use Rattle.c8_wire.proofs.HeadLemmas.{then}
 
 -- the numbers of a run that stands at a place, in bytes that end with it

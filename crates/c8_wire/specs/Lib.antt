@@ -5,8 +5,6 @@ pub mod Packet
 pub mod Spelling
 pub mod Reading
 pub mod Refusal
-pub mod Read
 pub mod Lent
 pub mod Saying
-pub mod NumberLaws
-pub mod WordLaws
+pub mod checked

@@ -6,7 +6,7 @@ ghost use Rattle.c8_wire.specs.Packet.{AreBytes, AreWords, Packet};
 ghost use Rattle.c8_wire.specs.Spelling.{words_bytes, Spells};
 ghost use Rattle.c8_wire.specs.Reading.{words_of};
 ghost use Rattle.c8_wire.specs.Refusal.{refusal};
-ghost use Rattle.c8_wire.specs.Read.{read};
+ghost use Rattle.c8_wire.specs.checked.Read.{read};
 
 /// Bytes spell at most one packet.
 pub fn bytes_spell_one_packet()

@@ -6,7 +6,7 @@ ghost use Rattle.c8_wire.specs.Packet.{Packet};
 ghost use Rattle.c8_wire.specs.Spelling.{Spells};
 ghost use Rattle.c8_wire.specs.Reading.{kind_at, packet_at};
 ghost use Rattle.c8_wire.specs.Refusal.{first_of, body_refusals, refusal, is_misfit, misnames_players, fills_reserved, miscounts, goes_beyond, run_end};
-ghost use Rattle.c8_wire.specs.Read.{read};
+ghost use Rattle.c8_wire.specs.checked.Read.{read};
 ghost use Rattle.c8_wire.specs.Lent.{bytes_of, packet_of};
 
 use crate::data::Data;

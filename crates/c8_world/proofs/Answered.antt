@@ -13,7 +13,7 @@ use Rattle.c8_peer.specs.State as states
 use Rattle.c8_peer.specs.State.{Mode, Down, Away, State, Call, Outcome, Delivered}
 use Rattle.c8_peer.specs.Steps.{outcome, Luck, Works, Refuses, refused_by_disk, Stepped, done, at_mode, step}
 use Rattle.c8_peer.specs.Opening.{Opening, NoPlayer, Stands, NotWritten, NoMemory, NotRead, Unfit, Spent, found, opened}
-use Rattle.c8_world.specs.Below.{ArePeersLawful}
+use Rattle.c8_world.specs.checked.Below.{ArePeersLawful}
 use Rattle.c8_world.specs.World.{World, is_player, peer_of, journal_of, Act, Open, Tick, Say, Give, Leave, Decide, Event, Do, Stop, Happening, Answer, Told, NoSuch, After, call_at_mode, call_at, open_at_mode, give_to, acted, after, CanHappen, Chain, IsReached}
 use Rattle.c8_world.specs.Agreement.{IsPlayer, IsUndropped, NobodyLeaves, refused_for}
 use Rattle.c8_world.proofs.Events.{IsWorldly}

@@ -16,7 +16,7 @@ use Rattle.c8_known.specs.Journal.{Record, held, count, has_leave}
 use Rattle.c8_known.specs.Known.{PlayerValue, KnownValue, player_in, count_in, known_of}
 use Rattle.c8_known.specs.Confirmed.{confirmed, rows_below}
 use Rattle.c8_known.specs.Fresh.{differ, misfit}
-use Rattle.c8_known.specs.BeginsLaws.{begins_same, begins_drop, begins_length, begin_one}
+use Rattle.c8_known.specs.checked.BeginsLaws.{begins_same, begins_drop, begins_length, begin_one}
 use Rattle.c8_wire.specs.Packet.{DataMessage}
 use Rattle.c8_peer.specs.Hearing.{differs_from, is_desync}
 use Rattle.c8_peer.specs.Truth.{Stands, IsTrueMark}

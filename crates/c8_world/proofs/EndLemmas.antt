@@ -14,9 +14,9 @@ use Rattle.c8_disk.specs.Memory.{bytes_of}
 use Rattle.c8_log.specs.Slots.{kept}
 use Rattle.c8_known.specs.Journal.{Record, has_leave}
 use Rattle.c8_known.specs.Known.{PlayerValue, KnownValue, player_in, known_of}
-use Rattle.c8_known.specs.OneMore.{player_known}
+use Rattle.c8_known.specs.checked.OneMore.{player_known}
 use Rattle.c8_known.specs.Confirmed.{row, rows_below}
-use Rattle.c8_known.specs.ConfirmedLaws.{map_same}
+use Rattle.c8_known.specs.checked.ConfirmedLaws.{map_same}
 use Rattle.c8_record.specs.Body.{body_of, records_of}
 use Rattle.c8_record.specs.Allowed.{IsJournal}
 use Rattle.c8_record.specs.Replay.{AreJournalBodies, IsRefusal, IsReplayed}

@@ -9,7 +9,7 @@ use Rattle.c8_wire.specs.Packet as packets
 use Rattle.c8_hand.specs.declared.error.HandError.{HandError}
 use Rattle.c8_hand.specs.Links.{LinksValue, link_to, heard, IsForMe}
 use Rattle.c8_hand.specs.Links as links
-use Rattle.c8_hand.specs.LinkLaws.{is_for_me, opens_by_welcome}
+use Rattle.c8_hand.specs.checked.LinkLaws.{is_for_me, opens_by_welcome}
 use Rattle.c8_known.specs.declared.error.KnownError.{KnownError}
 use Rattle.c8_known.specs.declared.error.KnownError.TheVariants as knowns
 use Rattle.c8_known.specs.Journal.{Record, held, count, has_freeze, has_leave, cut_of}
@@ -17,7 +17,7 @@ use Rattle.c8_known.specs.Journal as records
 use Rattle.c8_known.specs.Known.{PlayerValue, KnownValue, player_in, count_in, known_of, is_player, is_frozen_of, Plays}
 use Rattle.c8_known.specs.Confirmed.{confirmed}
 use Rattle.c8_known.specs.Fresh.{is_from_leaver, misfit, fresh_words}
-use Rattle.c8_known.specs.StartLaws.{players_known}
+use Rattle.c8_known.specs.checked.StartLaws.{players_known}
 use Rattle.c8_window.specs.Window.{acked_more}
 use Rattle.c8_round.specs.Round.{ChairValue, report_of, with_report, with_have, is_ready}
 use Rattle.c8_record.specs.Allowed.{IsAllowed}
@@ -29,7 +29,7 @@ use Rattle.c8_peer.specs.Saying.{is_not_mine, lacks_record, lacks_link, say}
 use Rattle.c8_peer.specs.Steps.{outcome}
 use Rattle.c8_peer.specs.Truth.{Stands, IsFrozenAt, IsTrue, IsTrueMessage}
 use Rattle.c8_peer.specs.Lawful.{IsMemory}
-use Rattle.c8_world.specs.Below.{ArePeersLawful}
+use Rattle.c8_world.specs.checked.Below.{ArePeersLawful}
 use Rattle.c8_world.specs.Agreement.{IsPlayer, IsAmong, Names}
 use Rattle.c8_world.proofs.Journals.{AreSound, Fits}
 use Rattle.c8_world.proofs.Records.{count_known, freeze_known_by, leave_known_by, me_is, names_player, one_unfrozen, stands_entered, fits_own, fits_got, fits_freeze, fits_leave, fits_cut, fits_decision}

@@ -6,12 +6,12 @@ use Rattle.std.proofs.lemmas.Bool.{cases_eq, eq-eqb}
 use Rattle.c8_game.specs.Rules.{Rules, AreInRange}
 use Rattle.c8_known.specs.Journal.{Record, Freeze, words_of, freezes, cuts_of, held, count, has_freeze, has_leave, cut_of}
 use Rattle.c8_known.specs.Growth.{Begins}
-use Rattle.c8_known.specs.BeginsLaws.{begins_same, begins_more}
-use Rattle.c8_known.specs.JournalLaws.{held_next, held_begins, had_stayed, freeze_more, cut_stays, cut_next}
+use Rattle.c8_known.specs.checked.BeginsLaws.{begins_same, begins_more}
+use Rattle.c8_known.specs.checked.JournalLaws.{held_next, held_begins, had_stayed, freeze_more, cut_stays, cut_next}
 use Rattle.c8_record.specs.Allowed.{IsAllowed, IsJournal}
-use Rattle.c8_record.specs.JournalLaws.{journal_more}
+use Rattle.c8_record.specs.checked.JournalLaws.{journal_more}
 use Rattle.c8_peer.specs.Truth.{IsFrozenAt}
-use Rattle.c8_peer.specs.TruthLaws.{frozen_stays}
+use Rattle.c8_peer.specs.checked.TruthLaws.{frozen_stays}
 use Rattle.c8_world.specs.Agreement.{IsPlayer}
 
 -- ---- what holds

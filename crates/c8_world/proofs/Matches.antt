@@ -23,7 +23,7 @@ use Rattle.c8_peer.specs.Opening.{Unfit}
 use Rattle.c8_peer.specs.Calls.{tick, leave, decide}
 use Rattle.c8_peer.specs.Hearing.{hear_welcome, hear_freeze, hear_frozen, hear_cut}
 use Rattle.c8_peer.specs.Saying.{say}
-use Rattle.c8_world.specs.Below.{ArePeersLawful}
+use Rattle.c8_world.specs.checked.Below.{ArePeersLawful}
 use Rattle.c8_world.specs.World.{World, start, Open, Happening, acted, known_by, IsReached}
 use Rattle.c8_world.specs.Agreement.{IsPlayer, AgreeUpTo}
 use Rattle.c8_world.specs.Matches.{Line, events_of, answers_of, works, datagram, inputs, confirmed_by, lengths_from, two, three, four, begins, replies, goes_on, GoesInTurn, lost, left, taken, StopsInTick, play, let_go, answers, cuts, CutsWhereHeld, eleventh, told, DiffersWhenDropped, opened_again, CutsAfterRestart, silent, WaitsForSilent, over, EndsAfterLastFrame, with_head, RefusesOther}

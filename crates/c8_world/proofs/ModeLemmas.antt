@@ -10,7 +10,7 @@ use Rattle.c8_peer.specs.State.{Mode, Down, Away, State, Call, Reply, Opened, Ti
 use Rattle.c8_peer.specs.Steps.{Luck, Stepped, step}
 use Rattle.c8_peer.specs.Opening.{found, away, opened}
 use Rattle.c8_peer.specs.Replies.{mode_told}
-use Rattle.c8_world.specs.Below.{ArePeersLawful}
+use Rattle.c8_world.specs.checked.Below.{ArePeersLawful}
 use Rattle.c8_world.specs.World.{World, start, is_player, peer_of, with_peer, Act, Open, Tick, Say, Give, Leave, Decide, player_of, Event, Do, Stop, Happening, Answer, Told, IsUp, IsDown, NoSuch, Stopped, After, said_by, stepped, call_at_mode, call_at, open_at_mode, open_at, give_to, acted, crashed, after, MayAct, act_of, CanHappen, Chain}
 use Rattle.c8_world.specs.Agreement.{IsPlayer}
 use Rattle.c8_world.specs.declared.answer.Answer as codes

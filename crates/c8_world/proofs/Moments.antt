@@ -10,14 +10,14 @@ use Rattle.c8_machine.specs.Serial.{serial}
 use Rattle.c8_known.specs.Journal.{Record, held, count, has_leave, cut_of}
 use Rattle.c8_known.specs.Known.{PlayerValue, KnownValue, nobody, player_in, said_of, known_of}
 use Rattle.c8_known.specs.Confirmed.{past_cut, unless_held, input_of, confirmed, or_empty, row, rows_below}
-use Rattle.c8_known.specs.ConfirmedLaws.{confirmed_is, confirmed_rises, map_same, same_row, nobody_past, some_value}
+use Rattle.c8_known.specs.checked.ConfirmedLaws.{confirmed_is, confirmed_rises, map_same, same_row, nobody_past, some_value}
 use Rattle.c8_known.specs.Growth.{Begins}
-use Rattle.c8_known.specs.BeginsLaws.{begins_get}
-use Rattle.c8_known.specs.OneMore.{player_known}
-use Rattle.c8_known.specs.StartLaws.{players_known}
+use Rattle.c8_known.specs.checked.BeginsLaws.{begins_get}
+use Rattle.c8_known.specs.checked.OneMore.{player_known}
+use Rattle.c8_known.specs.checked.StartLaws.{players_known}
 use Rattle.c8_record.specs.Allowed.{IsJournal}
-use Rattle.c8_record.specs.JournalLaws.{journal_known, journal_grows}
-use Rattle.c8_peer.specs.TruthLaws.{confirmed_stays}
+use Rattle.c8_record.specs.checked.JournalLaws.{journal_known, journal_grows}
+use Rattle.c8_peer.specs.checked.TruthLaws.{confirmed_stays}
 use Rattle.c8_world.specs.Agreement.{IsPlayer, AreSameUpTo}
 use Rattle.c8_world.proofs.Journals.{AreSound, Grown, player_one, held_grown, cut_grown}
 

@@ -6,12 +6,12 @@ use Rattle.std.proofs.lemmas.List.{append-nil}
 use Rattle.c8_game.specs.Rules.{Rules, AreInRange}
 use Rattle.c8_known.specs.Journal.{Record}
 use Rattle.c8_record.specs.Allowed.{IsJournal}
-use Rattle.c8_record.specs.JournalLaws.{journal_more}
-use Rattle.c8_record.specs.RefusalLaws.{journal_not_refused}
+use Rattle.c8_record.specs.checked.JournalLaws.{journal_more}
+use Rattle.c8_record.specs.checked.RefusalLaws.{journal_not_refused}
 use Rattle.c8_peer.specs.State as states
 use Rattle.c8_peer.specs.State.{Mode, Down, Away, State}
 use Rattle.c8_peer.specs.Opening.{Opening, NoPlayer, Stands, NotWritten, NoMemory, NotRead, Unfit, Spent, found, opened, MayBecome}
-use Rattle.c8_world.specs.Below.{ArePeersLawful}
+use Rattle.c8_world.specs.checked.Below.{ArePeersLawful}
 use Rattle.c8_world.specs.World.{World, is_player, peer_of, journal_of, Open, Do, Happening, Answer, Told, After, open_at_mode, open_at, acted, CanHappen, IsReached}
 use Rattle.c8_world.specs.Agreement.{IsPlayer, IsFit}
 use Rattle.c8_world.proofs.Worlds.{IsSound}

@@ -12,7 +12,7 @@ use Rattle.c8_known.specs.Growth.{Begins}
 use Rattle.c8_peer.specs.State.{State}
 use Rattle.c8_peer.specs.Opening.{found, away}
 use Rattle.c8_peer.specs.Truth.{IsTrue}
-use Rattle.c8_world.specs.Below.{ArePeersLawful}
+use Rattle.c8_world.specs.checked.Below.{ArePeersLawful}
 use Rattle.c8_world.specs.World.{World, start, peer_of, journal_of, with_peer, Event, Answer, Chain, IsReached}
 use Rattle.c8_world.specs.Agreement.{IsPlayer, NobodyLeaves, AreSameUpTo, AgreeUpTo, Agree, AreEntered, IsBounded, AreReports, HasFrozen, Reads, read_by, AgreeByReads, IsAmong, AreLinked}
 use Rattle.c8_world.proofs.Journals.{AreSound, has_freeze_at, player_one}

@@ -8,7 +8,7 @@ use Rattle.c8_wire.specs.Packet as packets
 use Rattle.c8_hand.specs.declared.error.HandError.{HandError}
 use Rattle.c8_hand.specs.Links.{heard}
 use Rattle.c8_hand.specs.Links as links
-use Rattle.c8_hand.specs.LinkLaws.{is_for_me}
+use Rattle.c8_hand.specs.checked.LinkLaws.{is_for_me}
 use Rattle.c8_known.specs.declared.error.KnownError.{KnownError}
 use Rattle.c8_known.specs.declared.error.KnownError.TheVariants as knowns
 use Rattle.c8_known.specs.Journal.{Record, held, count, has_leave, cut_of}

@@ -16,7 +16,7 @@ use Rattle.c8_known.specs.Journal.{epoch}
 use Rattle.c8_known.specs.Known.{KnownValue, player_in, count_in, known_of}
 use Rattle.c8_known.specs.Confirmed.{confirmed}
 use Rattle.c8_known.specs.Fresh.{is_from_leaver, misfit, fresh_words}
-use Rattle.c8_known.specs.BeginsLaws.{begins_same, begin_one}
+use Rattle.c8_known.specs.checked.BeginsLaws.{begins_same, begin_one}
 use Rattle.c8_digest.specs.Marks.{mark_at}
 use Rattle.c8_roll.specs.Roll.{marks_up_to}
 use Rattle.c8_window.specs.Window.{acked_more}
@@ -26,7 +26,7 @@ use Rattle.c8_peer.specs.State.{Memory, Mode, Down, Away, State, Call, Outcome}
 use Rattle.c8_peer.specs.Steps.{outcome, Luck, done, at_mode}
 use Rattle.c8_peer.specs.Hearing.{refused, unless_misfit, got, differs_from, is_desync, hear_data, hear_message, unless_hand, deliver}
 use Rattle.c8_peer.specs.Opening.{Opening, NoPlayer, Stands, NotWritten, NoMemory, NotRead, Unfit, Spent, found, MayBecome, last_epoch}
-use Rattle.c8_world.specs.Below.{ArePeersLawful}
+use Rattle.c8_world.specs.checked.Below.{ArePeersLawful}
 use Rattle.c8_world.specs.World.{World, is_player, peer_of, journal_of, Act, Open, Tick, Say, Give, Leave, Decide, Event, Do, Stop, player_of, Happening, Answer, IsDown, NoSuch, Stopped, After, stepped, call_at_mode, give_to, acted, crashed, after, MayAct, act_of, Chain}
 use Rattle.c8_world.specs.Agreement.{IsPlayer}
 use Rattle.c8_world.specs.Matches.{Line, events_of, answers_of, Leads}

@@ -4,7 +4,7 @@ use Rattle.c8_game.specs.Rules.{Rules}
 use Rattle.c8_disk.specs.declared.mem_disk.MemDisk.{MemDisk}
 use Rattle.c8_disk.specs.Memory.{bytes_of, images_of}
 use Rattle.c8_disk.specs.Disk.{Only}
-use Rattle.c8_disk.specs.PastLaws.{reads_image}
+use Rattle.c8_disk.specs.checked.PastLaws.{reads_image}
 use Rattle.c8_log.specs.Slots.{kept, kept_count}
 use Rattle.c8_world.specs.World.{never_opened}
 use Rattle.c8_known.specs.Journal.{Record}

@@ -6,7 +6,7 @@ use Rattle.std.proofs.lemmas.List.{append-nil, map-append, length-map, length-ap
 use Rattle.c8_game.specs.Rules.{Rules}
 use Rattle.c8_wire.specs.Packet.{Packet}
 use Rattle.c8_wire.specs.Spelling.{spelling, Spells}
-use Rattle.c8_wire.specs.Read.{read}
+use Rattle.c8_wire.specs.checked.Read.{read}
 use Rattle.c8_peer.specs.declared.error.Unsayable.{Unsayable}
 use Rattle.c8_peer.specs.State as states
 use Rattle.c8_peer.specs.State.{State, Call, Reply, Said, Saying}

@@ -11,19 +11,19 @@ use Rattle.c8_hand.specs.Links.{LinkValue, link_to, no_links}
 use Rattle.c8_known.specs.Journal.{Record, Freeze, held, had_epoch, cut_of, epoch}
 use Rattle.c8_known.specs.Known.{known_of}
 use Rattle.c8_known.specs.Growth.{Begins}
-use Rattle.c8_known.specs.BeginsLaws.{begins_same, begins_more, begins_length, begins_get, begins_append}
-use Rattle.c8_known.specs.JournalLaws.{epoch_stays}
+use Rattle.c8_known.specs.checked.BeginsLaws.{begins_same, begins_more, begins_length, begins_get, begins_append}
+use Rattle.c8_known.specs.checked.JournalLaws.{epoch_stays}
 use Rattle.c8_round.specs.Round.{report_of, no_reports}
 use Rattle.c8_record.specs.Allowed.{IsAllowed, IsJournal}
-use Rattle.c8_record.specs.JournalLaws.{journal_none}
+use Rattle.c8_record.specs.checked.JournalLaws.{journal_none}
 use Rattle.c8_peer.specs.State as states
 use Rattle.c8_peer.specs.State.{Memory, Mode, Down, Away, State, Call, Reply, Opened, Ticked, Delivered, Said, Left, Decided, Outcome, fresh_memory}
 use Rattle.c8_peer.specs.Steps.{outcome, Luck, Works, Refuses, refused_by_disk, Stepped, done, at_mode, step}
 use Rattle.c8_peer.specs.Opening.{Opening, NoPlayer, Stands, NotWritten, NoMemory, NotRead, Unfit, Spent, found, opening_record, away, opened, MayBecome}
 use Rattle.c8_peer.specs.Lawful.{IsMemory, IsCall}
 use Rattle.c8_peer.specs.Truth.{IsTrue}
-use Rattle.c8_peer.specs.TruthLaws.{truth_stays}
-use Rattle.c8_world.specs.Below.{ArePeersLawful}
+use Rattle.c8_peer.specs.checked.TruthLaws.{truth_stays}
+use Rattle.c8_world.specs.checked.Below.{ArePeersLawful}
 use Rattle.c8_world.specs.World.{World, never_opened, start, is_player, peer_of, journal_of, with_peer, Act, Open, Tick, Say, Give, Leave, Decide, Event, Do, Stop, player_of, Happening, Answer, After, said_by, stepped, call_at_mode, call_at, open_at_mode, give_to, acted, crashed, after, MayAct, act_of, CanHappen, Chain}
 use Rattle.c8_world.specs.Agreement.{IsPlayer, IsAmong}
 use Rattle.c8_world.proofs.Journals.{AreSound, Fits, Grown, HasMore, player_one, more_grown, held_grown, frozen_grown, sound_more, fits_later}

@@ -1,6 +1,5 @@
 pub mod World
 pub mod Agreement
-pub mod Below
 pub mod Matches
 pub mod Events
 pub mod Seats
@@ -11,3 +10,4 @@ pub mod Headline
 pub mod Ends
 pub mod Disks
 pub mod Modes
+pub mod checked

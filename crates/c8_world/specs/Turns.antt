@@ -2,7 +2,7 @@
 use Rattle.std.specs.Prelude.{◌≡◌, ◌≢◌, ◌⊎◌, ℕ, List, [], ◌∷◌, ◌++◌, Option, Some, None, Result, Ok, Err}
 use Rattle.std.specs.List.{slice_get}
 use Rattle.c8_game.specs.Rules.{Rules}
-use Rattle.c8_wire.specs.Read.{read}
+use Rattle.c8_wire.specs.checked.Read.{read}
 use Rattle.c8_disk.specs.declared.disk.Arm.{Arm}
 use Rattle.c8_disk.specs.declared.disk.Arm.TheVariants as arms
 use Rattle.c8_disk.specs.declared.mem_disk.MemDisk.{MemDisk}

@@ -1,5 +1,5 @@
 //! What the crates below say of one peer and of the round, in one place for the laws of all peers.
-ghost use Rattle.c8_world.specs.Below.{ArePeersLawful};
+ghost use Rattle.c8_world.specs.checked.Below.{ArePeersLawful};
 
 /// Each fact is a law of c8_round or of c8_peer.
 pub(crate) fn peers_are_lawful()

@@ -7,7 +7,7 @@ ghost use Rattle.c8_peer.specs.State as states;
 ghost use Rattle.c8_peer.specs.State.{State};
 ghost use Rattle.c8_peer.specs.Asked.{saying_of};
 ghost use Rattle.c8_peer.specs.Runs.{crashed};
-ghost use Rattle.c8_wire.specs.Read.{read};
+ghost use Rattle.c8_wire.specs.checked.Read.{read};
 ghost use Rattle.c8_world.specs.Seats.{IsSeat, IsAsked, IsOpenedSeat, IsSaidAt, Tells};
 ghost use Rattle.c8_world.specs.Ends.{IsStanding};
 ghost use Rattle.c8_world.specs.Disks.{setting_of, setting_of_disk, armed, disk_in};

@@ -13,7 +13,7 @@ ghost use Rattle.c8_disk.specs.declared.disk.Arm.TheVariants as arms;
 ghost use Rattle.c8_world.specs.Agreement.{IsPlayer};
 ghost use Rattle.c8_world.specs.Disks.{setting_of, KeepSettings, AreArmed, for_player, arms_by, arms_taken_back, IsNewDisk};
 ghost use Rattle.c8_peer.specs.State as calls;
-ghost use Rattle.c8_wire.specs.Read.{read};
+ghost use Rattle.c8_wire.specs.checked.Read.{read};
 ghost use Rattle.c8_world.specs.Turns.{IsActedBy, IsGiven, IsOpenedAt, IsSameSeat, IsSpared, IsSeatCrash, OfSeats, IsMove, IsDone, IsUndone, IsArmed, IsCrashed, IsUnstopped, IsTurn, IsTurnOut};
 ghost use Rattle.c8_world.specs.declared.event.Event.TheVariants as happenings;
 ghost use Rattle.c8_world.specs.Ends.{IsStanding, AreStandings};

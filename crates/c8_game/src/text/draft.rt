@@ -4,7 +4,7 @@ ghost use Rattle.std.specs.List.{list_any};
 ghost use Rattle.std.specs.Option.{ForSome};
 ghost use Rattle.std.specs.Result.{result_unwrap_or};
 ghost use Rattle.hex.specs.Hex.{decode_of};
-ghost use Rattle.c8_game.specs.Places.{index_of, number_at, told_by};
+ghost use Rattle.c8_game.specs.checked.Places.{index_of, number_at, told_by};
 ghost use Rattle.c8_game.specs.Fields.{fields, owner_of, least_of, greatest_of, IsWithin};
 ghost use Rattle.c8_game.specs.GameText.{is_skipped};
 ghost use Rattle.c8_game.specs.GameFaults.{is_name_and_value, name_in, value_in, field_fault};
@@ -31,7 +31,7 @@ pub struct Draft {
 
 impl Draft {
     ghost use Rattle.c8_game.specs.Fields.{number_of};
-    ghost use Rattle.c8_game.specs.Draft.{Holds, AddsLine, Finishes};
+    ghost use Rattle.c8_game.specs.checked.Draft.{Holds, AddsLine, Finishes};
 
     /// A draft before its first line.
     pub fn new(alloc: Global) -> Self

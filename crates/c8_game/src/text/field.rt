@@ -33,7 +33,7 @@ pub(crate) const FIELDS: [Field; 10] = [
 ];
 
 impl Field {
-    ghost use Rattle.c8_game.specs.Places.{index_of};
+    ghost use Rattle.c8_game.specs.checked.Places.{index_of};
     ghost use Rattle.c8_game.specs.Fields.{fields, word_of, owner_of, is_mask, least_of, greatest_of, field_named};
 
     /// The field that a word names.

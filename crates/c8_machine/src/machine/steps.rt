@@ -1,7 +1,7 @@
 //! One step of the machine, and which part of it does which instruction.
 ghost use Rattle.std.specs.Prelude.{◌≡◌, ◌+◌, ◌%◌, ◌<◌, IsSome, MatchOption};
 ghost use Rattle.c8_machine.specs.Instructions.{IsInRange};
-ghost use Rattle.c8_machine.specs.Decoding.{meaning};
+ghost use Rattle.c8_machine.specs.checked.Decoding.{meaning};
 ghost use Rattle.c8_machine.specs.State.{state};
 ghost use Rattle.c8_machine.specs.Steps.{code_at, next, stopped, register, Executes, IsStep};
 

@@ -2,13 +2,13 @@
 ghost use Rattle.std.specs.Prelude.{◌≡◌, true, false, None, Ok, OnOk};
 ghost use Rattle.c8_wire.specs.Packet.{IsPacket};
 ghost use Rattle.c8_wire.specs.Lent.{packet_of};
-ghost use Rattle.c8_wire.specs.Read.{read};
+ghost use Rattle.c8_wire.specs.checked.Read.{read};
 ghost use Rattle.c8_hand.specs.Links.{refusal, IsForMe};
 ghost use Rattle.c8_known.specs.Known.{player_in};
 ghost use Rattle.c8_peer.specs.State.{Open, Deliver, Delivered};
 ghost use Rattle.c8_peer.specs.Hearing.{hear_message};
 ghost use Rattle.c8_peer.specs.Lawful.{IsMemory};
-ghost use Rattle.c8_peer.specs.Verdicts.{AcksWithin, Judges, memory_after};
+ghost use Rattle.c8_peer.specs.checked.Verdicts.{AcksWithin, Judges, memory_after};
 
 use super::Peer;
 use crate::error::Refused;

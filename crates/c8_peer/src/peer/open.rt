@@ -11,7 +11,7 @@ ghost use Rattle.c8_record.specs.Body.{records_of};
 ghost use Rattle.c8_record.specs.Replay.{AreJournalBodies};
 ghost use Rattle.c8_peer.specs.Opening.{last_epoch};
 ghost use Rattle.c8_peer.specs.Opened.{disk_after, opening_body, IsOpened, IsRefusedFor, IsRefusedOpening, OpeningLeaves};
-ghost use Rattle.c8_peer.specs.OpenedParts.{disk_read, disk_begun, IsRead, BeginRun, IsBegun, IsNotBegun, BeginningLeaves};
+ghost use Rattle.c8_peer.specs.checked.OpenedParts.{disk_read, disk_begun, IsRead, BeginRun, IsBegun, IsNotBegun, BeginningLeaves};
 
 use super::Peer;
 use crate::error::OpenError;

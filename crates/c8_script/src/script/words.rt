@@ -1,7 +1,7 @@
 //! The words of a script's line, each shape in one arm.
 
 ghost use Rattle.std.specs.Prelude.{◌≡◌, map};
-ghost use Rattle.c8_script.specs.ScriptWords.{event_in, stop_in, act_in, kind_in, player_in, number_in};
+ghost use Rattle.c8_script.specs.checked.ScriptWords.{event_in, stop_in, act_in, kind_in, player_in, number_in};
 
 use c8_game::{Keys, Player};
 use c8_peer::Kind;

@@ -1,5 +1,5 @@
 use Rattle.std.proofs.Common.{length, arith}
-use Rattle.c8_disk.specs.TornLaws.{torn_wider}
+use Rattle.c8_disk.specs.checked.TornLaws.{torn_wider}
 use Rattle.c8_disk.proofs.Tear.{torn_more}
 use Rattle.c8_disk.proofs.bytes.tear.Goals as goal
 

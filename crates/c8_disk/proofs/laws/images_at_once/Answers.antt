@@ -1,4 +1,4 @@
-use Rattle.c8_disk.specs.AtOnceLaws.{between, each_between}
+use Rattle.c8_disk.specs.checked.AtOnceLaws.{between, each_between}
 use Rattle.c8_disk.proofs.laws.images_at_once.Goals as goal
 
 pub returns-clause-only : goal.returns-clause-only

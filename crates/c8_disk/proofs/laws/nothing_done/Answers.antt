@@ -1,4 +1,4 @@
-use Rattle.c8_disk.specs.RunLaws.{nothing_done}
+use Rattle.c8_disk.specs.checked.RunLaws.{nothing_done}
 use Rattle.c8_disk.proofs.laws.nothing_done.Goals as goal
 
 pub returns : goal.returns

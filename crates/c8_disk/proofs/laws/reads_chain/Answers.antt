@@ -1,4 +1,4 @@
-use Rattle.c8_disk.specs.RunLaws.{reads_then, then_reads}
+use Rattle.c8_disk.specs.checked.RunLaws.{reads_then, then_reads}
 use Rattle.c8_disk.proofs.laws.reads_chain.Goals as goal
 
 pub returns-clause-reads : goal.returns-clause-reads

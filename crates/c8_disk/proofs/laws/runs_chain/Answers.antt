@@ -1,4 +1,4 @@
-use Rattle.c8_disk.specs.RunLaws.{then_run}
+use Rattle.c8_disk.specs.checked.RunLaws.{then_run}
 use Rattle.c8_disk.proofs.laws.runs_chain.Goals as goal
 
 pub returns : goal.returns

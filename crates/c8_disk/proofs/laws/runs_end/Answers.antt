@@ -1,4 +1,4 @@
-use Rattle.c8_disk.specs.RunLaws.{at_the_end}
+use Rattle.c8_disk.specs.checked.RunLaws.{at_the_end}
 use Rattle.c8_disk.proofs.laws.runs_end.Goals as goal
 
 pub returns-clause-read : goal.returns-clause-read

@@ -1,4 +1,4 @@
-use Rattle.c8_disk.specs.RunLaws.{since_earlier}
+use Rattle.c8_disk.specs.checked.RunLaws.{since_earlier}
 use Rattle.c8_disk.proofs.laws.runs_go_on.Goals as goal
 
 pub returns : goal.returns

@@ -1,4 +1,4 @@
-use Rattle.c8_disk.specs.RunLaws.{weaker}
+use Rattle.c8_disk.specs.checked.RunLaws.{weaker}
 use Rattle.c8_disk.proofs.laws.runs_weaken.Goals as goal
 
 pub returns : goal.returns

@@ -1,4 +1,4 @@
-use Rattle.c8_disk.specs.TornLaws.{overwritten_is, untouched}
+use Rattle.c8_disk.specs.checked.TornLaws.{overwritten_is, untouched}
 use Rattle.c8_disk.proofs.laws.writes_keep_the_rest.Goals as goal
 
 pub returns-clause-whole : goal.returns-clause-whole

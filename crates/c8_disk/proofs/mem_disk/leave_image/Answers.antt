@@ -1,6 +1,6 @@
 use Rattle.std.proofs.Common.{◌≡◌, ◌≤◌, List, ℕ, length, take, drop, vec_capacity, true, sym, ◌∙◌, ap, subst, arith}
 use Rattle.c8_disk.specs.Past.{content, synced, synced_count, are_lawful, fit, IsImage, TornBy}
-use Rattle.c8_disk.specs.PastLaws.{reads_image, image_within}
+use Rattle.c8_disk.specs.checked.PastLaws.{reads_image, image_within}
 use Rattle.c8_disk.specs.declared.call.Call.{Call}
 use Rattle.c8_disk.proofs.Calls.{synced_within, synced_lawful, synced_is_image, torn_is_image, fit_front, fit_back, fit_more}
 use Rattle.c8_disk.proofs.mem_disk.leave_image.Goals as goal

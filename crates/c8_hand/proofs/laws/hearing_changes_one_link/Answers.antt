@@ -1,4 +1,4 @@
-use Rattle.c8_hand.specs.LinkLaws.{sender_link, other_link}
+use Rattle.c8_hand.specs.checked.LinkLaws.{sender_link, other_link}
 use Rattle.c8_hand.proofs.laws.hearing_changes_one_link.Goals as goal
 
 pub returns-clause-sender : goal.returns-clause-sender

@@ -1,4 +1,4 @@
-use Rattle.c8_hand.specs.LinkLaws.{known_rises}
+use Rattle.c8_hand.specs.checked.LinkLaws.{known_rises}
 use Rattle.c8_hand.proofs.laws.known_epochs_never_fall.Goals as goal
 
 pub returns : goal.returns

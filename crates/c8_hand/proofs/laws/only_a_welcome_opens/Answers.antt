@@ -1,4 +1,4 @@
-use Rattle.c8_hand.specs.LinkLaws.{opens_by_welcome}
+use Rattle.c8_hand.specs.checked.LinkLaws.{opens_by_welcome}
 use Rattle.c8_hand.proofs.laws.only_a_welcome_opens.Goals as goal
 
 pub returns : goal.returns

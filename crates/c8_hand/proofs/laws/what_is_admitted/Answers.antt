@@ -1,4 +1,4 @@
-use Rattle.c8_hand.specs.LinkLaws.{is_for_me, admitted_welcome, names_both, comes_by_link}
+use Rattle.c8_hand.specs.checked.LinkLaws.{is_for_me, admitted_welcome, names_both, comes_by_link}
 use Rattle.c8_hand.proofs.laws.what_is_admitted.Goals as goal
 
 pub returns-clause-mine : goal.returns-clause-mine

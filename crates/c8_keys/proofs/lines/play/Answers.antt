@@ -1,6 +1,6 @@
 use Rattle.std.proofs.Common.{◌≡◌, [], ◌∷◌, ◌++◌, true, false, arith, ap, sym, ◌∙◌, length-append, map}
 use Rattle.std.proofs.lemmas.List.{append_assoc, map-append}
-use Rattle.c8_game.specs.FaultLaws.{faultless_more}
+use Rattle.c8_game.specs.checked.FaultLaws.{faultless_more}
 use Rattle.c8_game.specs.Rules.{joined}
 use Rattle.c8_machine.specs.Serial.{serial}
 use Rattle.c8_keys.specs.KeyLines.{is_key_line, row_of, key_line_fault}

@@ -1,4 +1,4 @@
-use Rattle.c8_known.specs.KnownLaws.{cut_in_two}
+use Rattle.c8_known.specs.checked.KnownLaws.{cut_in_two}
 use Rattle.c8_known.proofs.laws.a_cut_is_a_run_and_an_end.Goals as goal
 
 pub returns : goal.returns

@@ -1,4 +1,4 @@
-use Rattle.c8_known.specs.KnownLaws.{own_still, got_still, freeze_still, leave_still, cut_still}
+use Rattle.c8_known.specs.checked.KnownLaws.{own_still, got_still, freeze_still, leave_still, cut_still}
 use Rattle.c8_known.proofs.laws.a_record_takes_nothing_back.Goals as goal
 
 pub returns-clause-own : goal.returns-clause-own

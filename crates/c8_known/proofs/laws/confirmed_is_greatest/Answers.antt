@@ -1,4 +1,4 @@
-use Rattle.c8_known.specs.ConfirmedLaws.{confirmed_is, confirmed_only}
+use Rattle.c8_known.specs.checked.ConfirmedLaws.{confirmed_is, confirmed_only}
 use Rattle.c8_known.proofs.laws.confirmed_is_greatest.Goals as goal
 
 pub returns-clause-is : goal.returns-clause-is

@@ -1,4 +1,4 @@
-use Rattle.c8_known.specs.OneMore.{player_known}
+use Rattle.c8_known.specs.checked.OneMore.{player_known}
 use Rattle.c8_known.proofs.laws.known_is_what_the_journal_says.Goals as goal
 
 pub returns : goal.returns

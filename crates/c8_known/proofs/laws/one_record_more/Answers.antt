@@ -1,4 +1,4 @@
-use Rattle.c8_known.specs.OneMore.{one_more}
+use Rattle.c8_known.specs.checked.OneMore.{one_more}
 use Rattle.c8_known.proofs.laws.one_record_more.Goals as goal
 
 pub returns : goal.returns

@@ -1,4 +1,4 @@
-use Rattle.c8_known.specs.ConfirmedLaws.{best_of_confirmed}
+use Rattle.c8_known.specs.checked.ConfirmedLaws.{best_of_confirmed}
 use Rattle.c8_known.proofs.laws.what_is_confirmed_is_not_guessed.Goals as goal
 
 pub returns : goal.returns

@@ -1,5 +1,5 @@
-use Rattle.c8_known.specs.KnownLaws.{cut_known, freeze_known, got_known, leave_known, own_known}
-use Rattle.c8_known.specs.StartLaws.{known_at_start}
+use Rattle.c8_known.specs.checked.KnownLaws.{cut_known, freeze_known, got_known, leave_known, own_known}
+use Rattle.c8_known.specs.checked.StartLaws.{known_at_start}
 use Rattle.c8_known.proofs.laws.what_is_known_stays_sound.Goals as goal
 
 pub returns-clause-start : goal.returns-clause-start

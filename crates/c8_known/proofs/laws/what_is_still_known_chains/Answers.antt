@@ -1,4 +1,4 @@
-use Rattle.c8_known.specs.KnownLaws.{still_same, still_more}
+use Rattle.c8_known.specs.checked.KnownLaws.{still_same, still_more}
 use Rattle.c8_known.proofs.laws.what_is_still_known_chains.Goals as goal
 
 pub returns-clause-same : goal.returns-clause-same

@@ -3,14 +3,14 @@ use Rattle.c8_disk.specs.Disk.{overwritten, Only, Torn}
 use Rattle.c8_disk.specs.declared.error.DiskError.TheVariants.{Failed}
 use Rattle.c8_log.specs.Slots.{kept}
 use Rattle.c8_log.specs.Log.{has_closed_gate_at, IsUp, KeepsWithOrWithout}
-use Rattle.c8_log.specs.Written.{IsBeforeOrTorn}
-use Rattle.c8_disk.specs.RunLaws.{weaker, then_run}
+use Rattle.c8_log.specs.checked.Written.{IsBeforeOrTorn}
+use Rattle.c8_disk.specs.checked.RunLaws.{weaker, then_run}
 use Rattle.c8_log.proofs.Writes.{ok_written, failed_torn, on_ok_both}
 use Rattle.c8_log.proofs.Staged.{IsStaged, gate_there, staged, first_keeps, second_keeps, two_writes, up_with_it}
 use Rattle.c8_log.proofs.append.add.Given.{Over}
 use Rattle.std.proofs.lemmas.Result.{err_from_is_err_and}
 use Rattle.c8_disk.specs.Asks.{Asks}
-use Rattle.c8_disk.specs.AsksLaws.{asks_as, asks_then, asks_refused}
+use Rattle.c8_disk.specs.checked.AsksLaws.{asks_as, asks_then, asks_refused}
 use Rattle.c8_log.specs.Asked.{WriteAndSync}
 use Rattle.c8_log.proofs.append.add.Goals as goal
 

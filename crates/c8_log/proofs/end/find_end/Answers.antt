@@ -4,9 +4,9 @@ use Rattle.c8_log.specs.Slots.{is_open, kept_count}
 use Rattle.c8_log.specs.Log.{has_closed_gate_at}
 use Rattle.c8_log.proofs.Kept.{front_of, front_unique, shut_by_end, closed_here}
 use Rattle.std.proofs.lemmas.Result.{err_from_is_err_and}
-use Rattle.c8_disk.specs.RunLaws.{reads_then}
+use Rattle.c8_disk.specs.checked.RunLaws.{reads_then}
 use Rattle.c8_disk.specs.Asks.{Asks, Reads, answer_of}
-use Rattle.c8_disk.specs.AsksLaws.{asks_no_read, asks_reads, asks_fewer, asks_as}
+use Rattle.c8_disk.specs.checked.AsksLaws.{asks_no_read, asks_reads, asks_fewer, asks_as}
 use Rattle.c8_log.proofs.Kept.{both}
 use Rattle.c8_log.proofs.end.find_end.Goals as goal
 

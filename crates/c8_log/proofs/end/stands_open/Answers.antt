@@ -1,6 +1,6 @@
 use Rattle.std.proofs.Common.{Ok, Err}
 use Rattle.std.proofs.lemmas.Result.{err_from_is_err_and}
-use Rattle.c8_disk.specs.AsksLaws.{asks_read}
+use Rattle.c8_disk.specs.checked.AsksLaws.{asks_read}
 use Rattle.c8_log.proofs.end.stands_open.Goals as goal
 
 pub returns-in_err-read_at-clause-asks : goal.returns-in_err-read_at-clause-asks

@@ -4,8 +4,8 @@ use Rattle.c8_disk.specs.Disk.{overwritten, Torn}
 use Rattle.c8_log.specs.Slots.{kept, kept_count}
 use Rattle.c8_log.specs.Log.{has_closed_gate, repaired}
 use Rattle.c8_log.proofs.Writes.{ok_written, on_ok_both}
-use Rattle.c8_log.specs.Written.{IsBeforeOrTorn}
-use Rattle.c8_disk.specs.RunLaws.{weaker}
+use Rattle.c8_log.specs.checked.Written.{IsBeforeOrTorn}
+use Rattle.c8_disk.specs.checked.RunLaws.{weaker}
 use Rattle.c8_log.proofs.Crash.{repair_keeps}
 use Rattle.c8_log.proofs.Repair.{kept_within, length_of_kept, up_from_repair}
 use Rattle.c8_disk.specs.Asks.{Asks}

@@ -3,7 +3,7 @@ use Rattle.c8_log.specs.Log.{has_closed_gate}
 use Rattle.c8_log.proofs.Disks.{settles}
 use Rattle.std.proofs.lemmas.Result.{err_from_is_err_and}
 use Rattle.c8_disk.specs.Asks.{answer_of, Sync, Reads, Then, Asks}
-use Rattle.c8_disk.specs.AsksLaws.{asks_sync, asks_as, asks_then, asks_refused}
+use Rattle.c8_disk.specs.checked.AsksLaws.{asks_sync, asks_as, asks_then, asks_refused}
 use Rattle.c8_log.specs.Slots.{kept_count}
 use Rattle.c8_log.specs.Asked.{Repair}
 use Rattle.c8_log.proofs.open.settle.Goals as goal

@@ -1,7 +1,7 @@
 use Rattle.std.proofs.Common.{Ok, Err, refl}
 use Rattle.std.proofs.lemmas.Result.{err_from_is_err_and}
 use Rattle.c8_disk.specs.Asks.{Write, Sync}
-use Rattle.c8_disk.specs.AsksLaws.{asks_write, asks_sync, asks_then, asks_refused}
+use Rattle.c8_disk.specs.checked.AsksLaws.{asks_write, asks_sync, asks_then, asks_refused}
 use Rattle.c8_log.proofs.write.write_and_sync.Goals as goal
 
 pub returns-in_err-write_at-clause-asks : goal.returns-in_err-write_at-clause-asks

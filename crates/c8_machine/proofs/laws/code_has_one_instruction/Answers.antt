@@ -1,4 +1,4 @@
-use Rattle.c8_machine.specs.DecodingLaws.{is_instruction_of, only_instruction}
+use Rattle.c8_machine.specs.checked.DecodingLaws.{is_instruction_of, only_instruction}
 use Rattle.c8_machine.proofs.laws.code_has_one_instruction.Goals as goal
 
 pub returns : goal.returns

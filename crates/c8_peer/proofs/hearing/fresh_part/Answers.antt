@@ -1,6 +1,6 @@
 use Rattle.std.proofs.Common.{refl}
 use Rattle.c8_wire.specs.Lent.{words}
-use Rattle.c8_known.specs.FreshLaws.{misfit_none, misfit_is}
+use Rattle.c8_known.specs.checked.FreshLaws.{misfit_none, misfit_is}
 use Rattle.c8_peer.proofs.hearing.fresh_part.Goals as goal
 
 pub returns-in-Ok-clause-fits : goal.returns-in-Ok-clause-fits

@@ -2,7 +2,7 @@ use Rattle.std.proofs.Common.{◌≡◌, ◌∙◌, ℕ, true, sym, ap, subst, a
 use Rattle.c8_wire.specs.Lent.{cut_of}
 use Rattle.c8_known.specs.Known.{player_in}
 use Rattle.c8_peer.specs.State.{Outcome}
-use Rattle.c8_peer.specs.Verdicts.{Judges}
+use Rattle.c8_peer.specs.checked.Verdicts.{Judges}
 use Rattle.c8_peer.proofs.JudgingLemmas.{cut_goes_on, is_player_of}
 use Rattle.c8_peer.proofs.hearing.judge_cut.Goals as goal
 

@@ -2,7 +2,7 @@ use Rattle.std.proofs.Common.{◌≡◌, refl}
 use Rattle.std.specs.Prelude.{Result, Ok, Err}
 use Rattle.c8_wire.specs.declared.error.WireError.{WireError}
 use Rattle.c8_wire.specs.Packet.{Packet, IsPacket}
-use Rattle.c8_wire.specs.Read.{read}
+use Rattle.c8_wire.specs.checked.Read.{read}
 use Rattle.c8_peer.specs.State.{Deliver}
 use Rattle.c8_peer.specs.Lawful.{IsCall}
 use Rattle.c8_peer.proofs.laws.deliveries_are_calls.Goals as goal

@@ -1,4 +1,4 @@
-use Rattle.c8_peer.specs.TruthLaws.{confirmed_counts, confirmed_stays}
+use Rattle.c8_peer.specs.checked.TruthLaws.{confirmed_counts, confirmed_stays}
 use Rattle.c8_peer.proofs.laws.what_is_confirmed_stays.Goals as goal
 
 pub returns-clause-counts : goal.returns-clause-counts

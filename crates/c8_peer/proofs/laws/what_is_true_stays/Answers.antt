@@ -1,4 +1,4 @@
-use Rattle.c8_peer.specs.TruthLaws.{truth_stays}
+use Rattle.c8_peer.specs.checked.TruthLaws.{truth_stays}
 use Rattle.c8_peer.proofs.laws.what_is_true_stays.Goals as goal
 
 pub returns : goal.returns

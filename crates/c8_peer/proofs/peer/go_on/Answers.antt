@@ -1,6 +1,6 @@
 use Rattle.std.proofs.Common.{arith}
 use Rattle.c8_roll.specs.Seen.{value_of}
-use Rattle.c8_roll.specs.RollLaws.{roll_ticks}
+use Rattle.c8_roll.specs.checked.RollLaws.{roll_ticks}
 use Rattle.c8_peer.proofs.peer.go_on.Goals as goal
 
 pub advance-requires : goal.advance-requires

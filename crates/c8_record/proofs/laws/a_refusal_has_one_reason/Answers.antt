@@ -1,4 +1,4 @@
-use Rattle.c8_record.specs.RefusalLaws.{one_refusal}
+use Rattle.c8_record.specs.checked.RefusalLaws.{one_refusal}
 use Rattle.c8_record.proofs.laws.a_refusal_has_one_reason.Goals as goal
 
 pub returns : goal.returns

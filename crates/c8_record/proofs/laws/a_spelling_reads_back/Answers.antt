@@ -1,5 +1,5 @@
 use Rattle.std.proofs.Common.{sym}
-use Rattle.c8_record.specs.BodyLaws.{length_body, read_again, reads_back}
+use Rattle.c8_record.specs.checked.BodyLaws.{length_body, read_again, reads_back}
 use Rattle.c8_record.proofs.laws.a_spelling_reads_back.Goals as goal
 
 pub returns-clause-length : goal.returns-clause-length

@@ -1,5 +1,5 @@
-use Rattle.c8_record.specs.BodyLaws.{bodies_back}
-use Rattle.c8_record.specs.RefusalLaws.{journal_back, journal_bodies}
+use Rattle.c8_record.specs.checked.BodyLaws.{bodies_back}
+use Rattle.c8_record.specs.checked.RefusalLaws.{journal_back, journal_bodies}
 use Rattle.c8_record.proofs.laws.bodies_are_the_spellings.Goals as goal
 
 pub returns-clause-bodies : goal.returns-clause-bodies

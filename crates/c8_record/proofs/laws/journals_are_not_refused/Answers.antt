@@ -1,4 +1,4 @@
-use Rattle.c8_record.specs.RefusalLaws.{not_refused}
+use Rattle.c8_record.specs.checked.RefusalLaws.{not_refused}
 use Rattle.c8_record.proofs.laws.journals_are_not_refused.Goals as goal
 
 pub returns : goal.returns

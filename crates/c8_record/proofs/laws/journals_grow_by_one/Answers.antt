@@ -1,4 +1,4 @@
-use Rattle.c8_record.specs.JournalLaws.{journal_none, journal_more, next_allowed, journal_begins, known_more}
+use Rattle.c8_record.specs.checked.JournalLaws.{journal_none, journal_more, next_allowed, journal_begins, known_more}
 use Rattle.c8_record.proofs.laws.journals_grow_by_one.Goals as goal
 
 pub returns-clause-none : goal.returns-clause-none

@@ -1,4 +1,4 @@
-use Rattle.c8_record.specs.LeaverLaws.{journal_orderly}
+use Rattle.c8_record.specs.checked.LeaverLaws.{journal_orderly}
 use Rattle.c8_record.proofs.laws.leavers_are_orderly.Goals as goal
 
 pub returns : goal.returns

@@ -1,7 +1,7 @@
-use Rattle.c8_known.specs.ConfirmedLaws.{rows_stay}
+use Rattle.c8_known.specs.checked.ConfirmedLaws.{rows_stay}
 use Rattle.c8_known.specs.Known.{known_of}
 use Rattle.std.proofs.Common.{◌++◌}
-use Rattle.c8_record.specs.JournalLaws.{journal_known, journal_grows}
+use Rattle.c8_record.specs.checked.JournalLaws.{journal_known, journal_grows}
 use Rattle.c8_record.proofs.laws.what_a_journal_says_stays.Goals as goal
 
 pub returns-clause-known : goal.returns-clause-known

@@ -1,5 +1,5 @@
 use Rattle.std.proofs.Common.{arith, ⊎_elim}
-use Rattle.c8_record.specs.BodyLaws.{shaped}
+use Rattle.c8_record.specs.checked.BodyLaws.{shaped}
 use Rattle.c8_record.proofs.reading.read.Goals as goal
 
 pub returns-in_err-player-clause-value : goal.returns-in_err-player-clause-value

@@ -1,6 +1,6 @@
 use Rattle.std.proofs.Common.{◌∙◌, List, ℕ, not, nat_eq, ap, sym, rules}
 use Rattle.std.specs.Cmp.Lexicographic.{pointwise, nat_list_eq_equiv}
-use Rattle.c8_record.specs.BodyLaws.{has_inputs, spells_lent}
+use Rattle.c8_record.specs.checked.BodyLaws.{has_inputs, spells_lent}
 use Rattle.c8_record.proofs.reading.view.Goals as goal
 use Rattle.c8_record.proofs.reading.view.Goals.{then-lacks_inputs-via-then-lacks_inputs, then-lacks_inputs-via-else-lacks_inputs+then-ne}
 

@@ -1,10 +1,10 @@
 use Rattle.std.proofs.Common.{◌≡◌, ◌∙◌, ◌+◌, ℕ, List, Some, Ok, Err, refl, sym, ap, subst, rules}
 use Rattle.std.proofs.lemmas.Result.{err_from_is_err_and}
 use Rattle.std.specs.List.{slice_get}
-use Rattle.c8_disk.specs.RunLaws.{reads_then}
+use Rattle.c8_disk.specs.checked.RunLaws.{reads_then}
 use Rattle.c8_disk.specs.Asks.{Reads, Asks}
 use Rattle.c8_disk.specs.declared.error.DiskError.TheVariants.{Failed}
-use Rattle.c8_disk.specs.AsksLaws.{asks_no_read, asks_reads, asks_fewer, asks_as}
+use Rattle.c8_disk.specs.checked.AsksLaws.{asks_no_read, asks_reads, asks_fewer, asks_as}
 use Rattle.std.proofs.lemmas.Bool.{true≢false}
 use Rattle.c8_record.specs.Replay.{told_by}
 use Rattle.c8_log.specs.Slots.{kept}

@@ -5,8 +5,8 @@ use Rattle.c8_known.specs.Known.{with_record}
 use Rattle.c8_record.specs.Body.{Spells, record_of}
 use Rattle.c8_record.specs.Allowed.{Past, IsAllowedAfter}
 use Rattle.c8_record.specs.Lent.{value_of}
-use Rattle.c8_record.specs.Taken.{epoch_after}
-use Rattle.c8_record.specs.BodyLaws.{reads_back}
+use Rattle.c8_record.specs.checked.Taken.{epoch_after}
+use Rattle.c8_record.specs.checked.BodyLaws.{reads_back}
 use Rattle.c8_record.proofs.TakenLemmas.{unfit_body}
 use Rattle.c8_record.proofs.replaying.take_body.Goals as goal
 

@@ -1,6 +1,6 @@
 use Rattle.std.proofs.Common.{ℕ, List, ap, ◌∙◌}
 use Rattle.c8_record.specs.Body.{field_bytes, body_of}
-use Rattle.c8_record.specs.BodyLaws.{got_spells}
+use Rattle.c8_record.specs.checked.BodyLaws.{got_spells}
 use Rattle.c8_record.proofs.writing.got_body.Goals as goal
 
 pub returns-clause-spells : goal.returns-clause-spells

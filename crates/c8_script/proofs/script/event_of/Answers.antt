@@ -3,7 +3,7 @@ use Rattle.std.proofs.lemmas.Iterator.Consumers.{map_from_collect}
 use Rattle.std.proofs.lemmas.Iterator.Splits.{YieldsList-from_slice_split}
 use Rattle.std.specs.Option.{ok_or}
 use Rattle.c8_world.specs.declared.event.Event.{Event}
-use Rattle.c8_script.specs.ScriptWords.{event_in}
+use Rattle.c8_script.specs.checked.ScriptWords.{event_in}
 use Rattle.c8_script.specs.declared.error.ScriptError.{ScriptError}
 use Rattle.c8_script.specs.declared.error.ScriptError.TheVariants.{Line, Memory}
 use Rattle.c8_script.proofs.script.event_of.Goals as goal

@@ -3,7 +3,7 @@ use Rattle.std.proofs.lemmas.List.{append_assoc, append-nil}
 use Rattle.std.proofs.lemmas.Result.{err_from_is_err_and}
 use Rattle.std.specs.Str.Lines.{lines}
 use Rattle.c8_script.specs.Script.{not_skipped, event_lines}
-use Rattle.c8_script.specs.ScriptWords.{event_of}
+use Rattle.c8_script.specs.checked.ScriptWords.{event_of}
 use Rattle.c8_script.proofs.ScriptLines.{lines_spelt, no_other, one_skipped, one_read, fault_told}
 use Rattle.c8_script.proofs.script.read_script.Goals as goal
 

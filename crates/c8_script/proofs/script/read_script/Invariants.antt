@@ -2,7 +2,7 @@ use Rattle.std.proofs.Common.{◌≡◌, ◌++◌, ℕ, List, map, Some}
 use Rattle.std.specs.Str.Lines.{lines}
 use Rattle.c8_game.specs.Lines.{lines_left}
 use Rattle.c8_script.specs.Script.{not_skipped}
-use Rattle.c8_script.specs.ScriptWords.{event_of}
+use Rattle.c8_script.specs.checked.ScriptWords.{event_of}
 use Rattle.c8_script.proofs.script.read_script.Given as goal
 
 -- each line so far that is not skipped was read as its event

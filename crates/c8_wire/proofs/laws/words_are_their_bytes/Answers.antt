@@ -1,4 +1,4 @@
-use Rattle.c8_wire.specs.WordLaws.{words_of-spelled, spelled_words, length-spelled_words}
+use Rattle.c8_wire.specs.checked.WordLaws.{words_of-spelled, spelled_words, length-spelled_words}
 use Rattle.c8_wire.proofs.laws.words_are_their_bytes.Goals as goal
 
 pub returns-clause-again : goal.returns-clause-again

@@ -2,7 +2,7 @@ use Rattle.std.proofs.Common.{◌++◌, List, ℕ, get_or, take, sym, ap, ◌∙
 use Rattle.std.specs.List.{flat_map}
 use Rattle.std.proofs.lemmas.List.{length-append, length-take, flat_map_more, take_more}
 use Rattle.byteorder.specs.Endian.{big_bytes}
-use Rattle.c8_wire.specs.WordLaws.{length-spelled_words}
+use Rattle.c8_wire.specs.checked.WordLaws.{length-spelled_words}
 use Rattle.c8_wire.proofs.writing.put_words.Goals as goal
 
 pub put-requires : goal.put-requires

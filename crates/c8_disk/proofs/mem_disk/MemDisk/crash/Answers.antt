@@ -2,7 +2,7 @@ use Rattle.std.proofs.Common.{rules, vec_capacity, List, ◌∙◌, ap, subst}
 use Rattle.c8_disk.specs.Past.{fit, IsImage}
 use Rattle.c8_disk.specs.declared.call.Call.{Call}
 use Rattle.c8_disk.proofs.Calls.{fit_more}
-use Rattle.c8_disk.specs.AtOnceLaws.{between}
+use Rattle.c8_disk.specs.checked.AtOnceLaws.{between}
 use Rattle.c8_disk.proofs.mem_disk.MemDisk.crash.Goals as goal
 
 pub leave_image-requires-clause-fits_first : goal.leave_image-requires-clause-fits_first

@@ -2,7 +2,7 @@ use Rattle.std.proofs.Common.{◌≡◌, rules, None}
 use Rattle.c8_wire.specs.Packet.{HeadValue}
 use Rattle.c8_wire.specs.Lent.{packet_of}
 use Rattle.c8_hand.specs.Links.{refusal}
-use Rattle.c8_hand.specs.LinkLaws.{is_for_me}
+use Rattle.c8_hand.specs.checked.LinkLaws.{is_for_me}
 use Rattle.c8_hand.proofs.links.Links.admit.Goals as goal
 
 pub returns-in-None-clause-mine : goal.returns-in-None-clause-mine

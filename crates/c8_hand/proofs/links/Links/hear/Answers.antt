@@ -2,7 +2,7 @@ use Rattle.std.proofs.Common.{◌≡◌, ℕ, ◌≤◌, rules, sym, subst}
 use Rattle.c8_wire.specs.Packet.{HeadValue}
 use Rattle.c8_wire.specs.Lent.{packet_of}
 use Rattle.c8_hand.specs.Links.{LinksValue, link_to, heard, OpensByWelcome}
-use Rattle.c8_hand.specs.LinkLaws.{opens_by_welcome, known_rises}
+use Rattle.c8_hand.specs.checked.LinkLaws.{opens_by_welcome, known_rises}
 use Rattle.c8_hand.proofs.links.Links.hear.Goals as goal
 
 pub returns-clause-opens : goal.returns-clause-opens

@@ -1,6 +1,6 @@
 use Rattle.std.proofs.Common.{length, Ok, Err, refl, ap, rules}
 use Rattle.c8_log.proofs.Refused.{leaves, value_is, is_journal}
-use Rattle.c8_disk.specs.AsksLaws.{asks_as}
+use Rattle.c8_disk.specs.checked.AsksLaws.{asks_as}
 use Rattle.c8_log.specs.Asked.{AppendWithin, told_by}
 use Rattle.c8_log.proofs.Asked.{of_journal}
 use Rattle.c8_log.proofs.journal.Journal.append.Goals as goal

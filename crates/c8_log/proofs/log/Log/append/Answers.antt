@@ -3,7 +3,7 @@ use Rattle.c8_log.specs.Log.{log_error}
 use Rattle.c8_log.proofs.Repair.{rests}
 use Rattle.std.proofs.lemmas.Result.{err_from_is_err_and}
 use Rattle.c8_disk.specs.Asks.{Asks}
-use Rattle.c8_disk.specs.AsksLaws.{asks_as}
+use Rattle.c8_disk.specs.checked.AsksLaws.{asks_as}
 use Rattle.c8_log.specs.declared.error.LogError.TheVariants as errors
 use Rattle.c8_log.specs.Asked.{Append, AppendWithin, told_by}
 use Rattle.c8_log.proofs.Asked.{told_error, within, without}

@@ -1,7 +1,7 @@
 use Rattle.std.proofs.Common.{Ok, Err, false, sym, ap, ◌∙◌}
 use Rattle.c8_log.proofs.Repair.{rests}
 use Rattle.c8_disk.specs.Asks.{answer_of}
-use Rattle.c8_disk.specs.AsksLaws.{asks_as}
+use Rattle.c8_disk.specs.checked.AsksLaws.{asks_as}
 use Rattle.c8_log.specs.declared.error.LogError.{LogError}
 use Rattle.c8_log.specs.Asked.{Opening, told_by}
 use Rattle.c8_log.proofs.Asked.{told_error}

@@ -4,7 +4,7 @@ use Rattle.c8_log.proofs.Kept.{kept_at, body_read}
 use Rattle.c8_log.proofs.Repair.{rests, still_up}
 use Rattle.std.proofs.lemmas.Result.{err_from_is_err_and}
 use Rattle.c8_disk.specs.Asks.{Reads, Asks}
-use Rattle.c8_disk.specs.AsksLaws.{asks_read, asks_as}
+use Rattle.c8_disk.specs.checked.AsksLaws.{asks_read, asks_as}
 use Rattle.c8_log.proofs.Asked.{told_error}
 use Rattle.c8_log.proofs.log.Log.read.Goals as goal
 

@@ -10,7 +10,7 @@ use Rattle.c8_peer.specs.Lawful.{IsMemory}
 use Rattle.c8_known.specs.Known.{known_of}
 use Rattle.c8_peer.specs.Peer.{PeerValue, known_by, RunsFrames, IsAnswered, LeavesJournal}
 use Rattle.c8_peer.specs.declared.verdict.Verdict.TheVariants as verdicts
-use Rattle.c8_peer.specs.Verdicts.{AcksWithin, memory_after}
+use Rattle.c8_peer.specs.checked.Verdicts.{AcksWithin, memory_after}
 use Rattle.c8_peer.proofs.PeerLemmas.{memory_more}
 use Rattle.c8_peer.proofs.DeliveryLemmas.{heard_is, comes_to, heard_later, memory_noted, record_allowed, acks_kept, cause_of}
 use Rattle.c8_peer.proofs.AnswerLemmas.{answers, records, is_refused, with_record, without_record, Kept}

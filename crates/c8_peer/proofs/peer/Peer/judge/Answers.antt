@@ -3,10 +3,10 @@ use Rattle.c8_wire.specs.Packet.{HeadValue}
 use Rattle.c8_wire.specs.Lent.{packet_of}
 use Rattle.c8_known.specs.Known.{KnownValue}
 use Rattle.c8_roll.specs.Seen.{value_of as seen}
-use Rattle.c8_roll.specs.RollLaws.{roll_marks}
+use Rattle.c8_roll.specs.checked.RollLaws.{roll_marks}
 use Rattle.c8_peer.specs.Hearing.{hear_message}
 use Rattle.c8_peer.specs.Peer.{PeerValue, known_by}
-use Rattle.c8_peer.specs.Verdicts.{Judges, memory_after}
+use Rattle.c8_peer.specs.checked.Verdicts.{Judges, memory_after}
 use Rattle.c8_peer.proofs.ReaderLemmas.{plays_inside}
 use Rattle.c8_peer.proofs.peer.Peer.judge.Goals as goal
 

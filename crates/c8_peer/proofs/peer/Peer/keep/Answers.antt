@@ -1,14 +1,14 @@
 use Rattle.std.proofs.Common.{inl, arith, length, Ok, Err, ◌+◌, ◌≤◌, ◌∙◌, ◌++◌, ◌∷◌, [], ap, List, ℕ, Some, sym, subst, ◌≡◌}
 use Rattle.c8_game.specs.Rules.{Rules}
 use Rattle.c8_roll.specs.Roll.{roll_of}
-use Rattle.c8_roll.specs.RollLaws.{roll_rules, roll_ticks}
+use Rattle.c8_roll.specs.checked.RollLaws.{roll_rules, roll_ticks}
 use Rattle.c8_roll.specs.Rollback.{KeepsRows}
 use Rattle.c8_roll.specs.Seen.{value_of as seen, rows_run, last_run_of}
-use Rattle.c8_disk.specs.AsksLaws.{asks_as}
+use Rattle.c8_disk.specs.checked.AsksLaws.{asks_as}
 use Rattle.c8_log.specs.Asked.{AppendWithin}
 use Rattle.c8_log.specs.Journal.{JournalValue}
 use Rattle.c8_record.specs.Body.{record_of, records_of}
-use Rattle.c8_record.specs.BodyLaws.{read_again}
+use Rattle.c8_record.specs.checked.BodyLaws.{read_again}
 use Rattle.c8_record.specs.Lent.{value_of}
 use Rattle.c8_peer.specs.State.{Open}
 use Rattle.c8_peer.specs.Peer.{PeerValue}

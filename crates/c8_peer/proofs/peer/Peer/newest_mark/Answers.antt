@@ -1,7 +1,7 @@
 use Rattle.std.proofs.Common.{◌≡◌, ◌∙◌, Some, sym, ap}
 use Rattle.c8_digest.specs.Marks.{newest_of}
 use Rattle.c8_roll.specs.Seen.{value_of as seen}
-use Rattle.c8_roll.specs.RollLaws.{newest_of_roll}
+use Rattle.c8_roll.specs.checked.RollLaws.{newest_of_roll}
 use Rattle.c8_peer.specs.Peer.{known_by}
 use Rattle.c8_peer.specs.Saying.{newest_mark}
 use Rattle.c8_peer.proofs.ReaderLemmas.{roll_is}

@@ -1,6 +1,6 @@
 use Rattle.std.proofs.Common.{◌∙◌}
 use Rattle.c8_roll.specs.Seen.{value_of as seen}
-use Rattle.c8_roll.specs.RollLaws.{roll_shown}
+use Rattle.c8_roll.specs.checked.RollLaws.{roll_shown}
 use Rattle.c8_peer.specs.Peer.{known_by}
 use Rattle.c8_peer.proofs.ReaderLemmas.{roll_is}
 use Rattle.c8_peer.proofs.peer.Peer.shown.Goals as goal

@@ -1,13 +1,13 @@
 use Rattle.std.proofs.Common.{inr, Ok, ap, subst, ◌∙◌, ◌≤◌, ℕ}
 use Rattle.std.proofs.lemmas.Result.{err_from_is_err_and}
 use Rattle.c8_disk.specs.Runs.{LeavesOnly}
-use Rattle.c8_disk.specs.RunLaws.{same_then}
+use Rattle.c8_disk.specs.checked.RunLaws.{same_then}
 use Rattle.c8_disk.specs.Asks.{Asks}
-use Rattle.c8_disk.specs.AsksLaws.{asks_then}
+use Rattle.c8_disk.specs.checked.AsksLaws.{asks_then}
 use Rattle.c8_peer.specs.Opened.{ReadRun}
 use Rattle.c8_roll.specs.Seen.{last_run_of}
 use Rattle.c8_peer.specs.State.{fresh_memory}
-use Rattle.c8_peer.specs.OpenedParts.{BeginRun, IsBegun, IsNotBegun, BeginningLeaves}
+use Rattle.c8_peer.specs.checked.OpenedParts.{BeginRun, IsBegun, IsNotBegun, BeginningLeaves}
 use Rattle.c8_peer.proofs.OpenLemmas.{refused_beginning, begin_run, begun_there, leaves_opening, peer_opened, opened_peer}
 use Rattle.c8_peer.proofs.peer.open.open_in.Goals as goal
 

@@ -1,5 +1,5 @@
 use Rattle.std.proofs.Common.{Ok, Err, rules, ap}
-use Rattle.c8_disk.specs.AsksLaws.{asks_as}
+use Rattle.c8_disk.specs.checked.AsksLaws.{asks_as}
 use Rattle.c8_log.specs.declared.error.LogError.{LogError}
 use Rattle.c8_log.specs.Asked.{Opening as OpenLog, told_by as told_by_log}
 use Rattle.c8_disk.specs.declared.error.DiskError.TheVariants.{Failed, Full}

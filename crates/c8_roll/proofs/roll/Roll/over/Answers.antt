@@ -5,7 +5,7 @@ use Rattle.c8_digest.specs.StateBytes.{mark_of}
 use Rattle.c8_digest.specs.Marks.{kept}
 use Rattle.c8_machine.specs.Serial.{serial}
 use Rattle.c8_known.specs.Confirmed.{confirmed, best_rows}
-use Rattle.c8_known.specs.ConfirmedLaws.{confirmed_is}
+use Rattle.c8_known.specs.checked.ConfirmedLaws.{confirmed_is}
 use Rattle.c8_roll.specs.Roll.{marks_up_to}
 use Rattle.c8_roll.proofs.RollbackLemmas.{rolled, new_run, keeps}
 use Rattle.c8_roll.proofs.roll.Roll.over.Goals as goal

@@ -5,10 +5,10 @@ use Rattle.c8_machine.specs.Serial.{serial}
 use Rattle.c8_known.specs.Known.{KnownValue}
 use Rattle.c8_known.specs.Growth.{IsStillKnown}
 use Rattle.c8_known.specs.Confirmed.{confirmed, best_rows}
-use Rattle.c8_known.specs.ConfirmedLaws.{confirmed_is}
+use Rattle.c8_known.specs.checked.ConfirmedLaws.{confirmed_is}
 use Rattle.c8_roll.specs.Roll.{roll_of, marks_up_to}
 use Rattle.c8_roll.specs.Seen.{value_of, rows_run}
-use Rattle.c8_roll.specs.Timeline.{TimelineValue, IsAll, IsRunOf}
+use Rattle.c8_roll.specs.checked.Timeline.{TimelineValue, IsAll, IsRunOf}
 use Rattle.c8_roll.proofs.RollLemmas.{IsStill, still_rolled}
 use Rattle.c8_roll.proofs.RollbackLemmas.{rolled, back_of, keeps, from_is, oldest, oldest_or_last, runs_from}
 use Rattle.c8_roll.proofs.roll.Roll.run.Goals as goal

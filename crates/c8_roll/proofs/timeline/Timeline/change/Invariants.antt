@@ -1,4 +1,4 @@
-use Rattle.c8_roll.specs.Timeline.{AreBest}
+use Rattle.c8_roll.specs.checked.Timeline.{AreBest}
 use Rattle.c8_roll.proofs.timeline.Timeline.change.Given as goal
 
 abbrev pub invariant-loop-place : goal.invariant-loop-place

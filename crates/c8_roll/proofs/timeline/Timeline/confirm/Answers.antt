@@ -2,7 +2,7 @@ use Rattle.std.proofs.Common.{◌≢◌, ℕ, length, sym, ap, subst, ◌∙◌,
 use Rattle.c8_machine.specs.State.{state}
 use Rattle.c8_machine.specs.Serial.{frame_of}
 use Rattle.c8_known.specs.Confirmed.{best_row}
-use Rattle.c8_roll.specs.Timeline.{TimelineValue, IsAll, IsRunOf}
+use Rattle.c8_roll.specs.checked.Timeline.{TimelineValue, IsAll, IsRunOf}
 use Rattle.c8_roll.proofs.TimelineLemmas.{dropped_is, dropped_run, extended_is, extended_run, last_but_one}
 use Rattle.c8_roll.proofs.timeline.Timeline.confirm.Goals as goal
 use Rattle.c8_roll.proofs.timeline.Timeline.confirm.Goals.{else-kept-gt0, then-kept-gt0}

@@ -5,7 +5,7 @@ use Rattle.c8_digest.specs.StateBytes.{mark_of}
 use Rattle.c8_digest.specs.Marks.{kept}
 use Rattle.c8_known.specs.Confirmed.{rows_below, best_row}
 use Rattle.c8_roll.specs.Roll.{marks_up_to}
-use Rattle.c8_roll.specs.Timeline.{IsRunOf, state_at}
+use Rattle.c8_roll.specs.checked.Timeline.{IsRunOf, state_at}
 use Rattle.c8_roll.proofs.RollLemmas.{no_mark, next_mark}
 use Rattle.c8_roll.proofs.TimelineLemmas.{base_is}
 use Rattle.c8_roll.proofs.timeline.Timeline.confirm_all.Goals as goal

@@ -1,7 +1,7 @@
 use Rattle.std.proofs.Common.{◌≡◌, ◌+◌, ◌≤◌, ℕ}
 use Rattle.c8_known.specs.Confirmed.{confirmed}
 use Rattle.c8_roll.specs.Roll.{marks_up_to}
-use Rattle.c8_roll.specs.Timeline.{IsAll, IsRunOf}
+use Rattle.c8_roll.specs.checked.Timeline.{IsAll, IsRunOf}
 use Rattle.c8_roll.proofs.timeline.Timeline.confirm_all.Given as goal
 
 abbrev pub invariant-loop-frame : goal.invariant-loop-frame

@@ -1,7 +1,7 @@
 use Rattle.std.proofs.Common.{◌≡◌, ◌<◌, length, inl, sym, ap, subst, ◌∙◌, arith}
 use Rattle.std.specs.Option.{option_copied}
 use Rattle.c8_machine.specs.declared.machine.Machine.{Machine}
-use Rattle.c8_roll.specs.Timeline.{TimelineValue, machine_or, machine_at, back_at, IsTimeline}
+use Rattle.c8_roll.specs.checked.Timeline.{TimelineValue, machine_or, machine_at, back_at, IsTimeline}
 use Rattle.c8_roll.proofs.TimelineLemmas.{back_is}
 use Rattle.c8_roll.proofs.timeline.Timeline.go_back.Goals as goal
 

@@ -4,7 +4,7 @@ use Rattle.c8_machine.specs.State.{state}
 use Rattle.c8_machine.specs.Serial.{frame_of}
 use Rattle.c8_known.specs.Confirmed.{best_row}
 use Rattle.c8_roll.specs.declared.timeline.Timeline.TheInside.{Inside}
-use Rattle.c8_roll.specs.Timeline.{TimelineValue, IsRunOf}
+use Rattle.c8_roll.specs.checked.Timeline.{TimelineValue, IsRunOf}
 use Rattle.c8_roll.proofs.TimelineLemmas.{snapped_is, snapped_run, passed_is, passed_run, all_of_more}
 use Rattle.c8_roll.proofs.timeline.Timeline.run.Goals as goal
 use Rattle.c8_roll.proofs.timeline.Timeline.run.Goals.{then-len-capacity, else-len-capacity}

@@ -4,7 +4,7 @@ use Rattle.c8_game.specs.declared.row.Row.{Row}
 use Rattle.c8_machine.specs.State.{State, state}
 use Rattle.c8_machine.specs.Serial.{frame_of, serial}
 use Rattle.c8_known.specs.Confirmed.{best_row, best_rows_below}
-use Rattle.c8_roll.specs.Timeline.{TimelineValue, IsTimeline}
+use Rattle.c8_roll.specs.checked.Timeline.{TimelineValue, IsTimeline}
 use Rattle.c8_roll.proofs.TimelineLemmas.{run_shown, serial_next}
 use Rattle.c8_roll.proofs.timeline.Timeline.run_on.Goals as goal
 

@@ -2,7 +2,7 @@ use Rattle.std.proofs.Common.{◌≡◌, ◌+◌}
 use Rattle.c8_machine.specs.State.{state}
 use Rattle.c8_machine.specs.Serial.{serial}
 use Rattle.c8_known.specs.Confirmed.{best_rows_below}
-use Rattle.c8_roll.specs.Timeline.{IsTimeline, IsRunOf}
+use Rattle.c8_roll.specs.checked.Timeline.{IsTimeline, IsRunOf}
 use Rattle.c8_roll.proofs.timeline.Timeline.run_on.Given as goal
 
 abbrev pub invariant-loop-frame : goal.invariant-loop-frame

@@ -4,7 +4,7 @@ use Rattle.std.proofs.lemmas.List.{take_all}
 use Rattle.std.specs.Str.{bytes_eq}
 use Rattle.c8_world.specs.declared.event.Act.{Act}
 use Rattle.c8_world.specs.declared.event.Event.TheVariants.{Stop}
-use Rattle.c8_script.specs.ScriptWords.{stop_in, stop_of, act_in, number_in}
+use Rattle.c8_script.specs.checked.ScriptWords.{stop_in, stop_of, act_in, number_in}
 use Rattle.c8_script.proofs.script.words.stop_in.Goals as goal
 
 -- two words are too few for a stop

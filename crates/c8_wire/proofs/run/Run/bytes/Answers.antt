@@ -1,5 +1,5 @@
 use Rattle.std.proofs.Common.{rules, arith}
-use Rattle.c8_wire.specs.WordLaws.{length_of_words}
+use Rattle.c8_wire.specs.checked.WordLaws.{length_of_words}
 use Rattle.c8_wire.proofs.run.Run.bytes.Goals as goal
 
 -- what is wrong here is refused at once

@@ -1,5 +1,5 @@
 use Rattle.std.proofs.Common.{sym, arith}
-use Rattle.c8_wire.specs.WordLaws.{spelled_words}
+use Rattle.c8_wire.specs.checked.WordLaws.{spelled_words}
 use Rattle.c8_wire.proofs.run.Run.new.Goals as goal
 
 pub invariant_of-result : goal.invariant_of-result

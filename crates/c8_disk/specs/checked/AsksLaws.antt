@@ -4,7 +4,7 @@ use Rattle.c8_disk.specs.declared.disk.Disk.{Ghosts}
 use Rattle.c8_disk.specs.declared.error.DiskError.{DiskError}
 use Rattle.c8_disk.specs.Disk.{DiskCall, Reading, Writing, Syncing}
 use Rattle.c8_disk.specs.Runs.{Leads}
-use Rattle.c8_disk.specs.RunLaws.{leads_then}
+use Rattle.c8_disk.specs.checked.RunLaws.{leads_then}
 use Rattle.c8_disk.specs.Asks.{Answer, Run, Nothing, Write, Sync, AreReads, Reads, Then, Asks}
 
 -- reads that were all served, and more of them

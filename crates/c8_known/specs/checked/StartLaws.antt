@@ -6,7 +6,7 @@ use Rattle.std.proofs.lemmas.List.FromFn.{length-map-range_with_len}
 use Rattle.c8_game.specs.Rules.{Rules, AreInRange}
 use Rattle.c8_known.specs.Journal as journals
 use Rattle.c8_known.specs.Known.{PlayerValue, nobody, player_in, count_in, said_of, known_of, IsKnown}
-use Rattle.c8_known.specs.OneMore.{player_known}
+use Rattle.c8_known.specs.checked.OneMore.{player_known}
 
 -- a player of whom only the empty sets of the delay are held
 abbrev pub at_start : ℕ → PlayerValue

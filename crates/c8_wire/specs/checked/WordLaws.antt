@@ -6,7 +6,7 @@ use Rattle.byteorder.specs.Endian.{big_bytes, big_number}
 use Rattle.byteorder.specs.Numbers.{big_number-reads_back}
 use Rattle.c8_wire.specs.Packet.{AreBytes}
 use Rattle.c8_wire.specs.Reading.{number_at, words_of}
-use Rattle.c8_wire.specs.NumberLaws.{big_bytes-big_number}
+use Rattle.c8_wire.specs.checked.NumberLaws.{big_bytes-big_number}
 
 pub length_words_of : (bytes : List ℕ) → length (words_of bytes) ≡ length bytes / 2
 unfolding words_of

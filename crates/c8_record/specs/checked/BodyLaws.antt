@@ -9,7 +9,7 @@ use Rattle.byteorder.specs.Numbers.{big_number-reads_back}
 use Rattle.c8_wire.specs.Packet.{AreBytes, AreWords}
 use Rattle.c8_wire.specs.Reading.{number_at, words_of}
 use Rattle.c8_wire.specs.Spelling.{words_bytes}
-use Rattle.c8_wire.specs.WordLaws.{length-spelled_words, words_of-spelled, words_of-lt}
+use Rattle.c8_wire.specs.checked.WordLaws.{length-spelled_words, words_of-spelled, words_of-lt}
 use Rattle.c8_known.specs.Journal.{Record, Head, Epoch, Own, Got, Freeze, Leave, Cut}
 use Rattle.c8_record.specs.declared.record.Record.{Record as Lent}
 use Rattle.c8_record.specs.declared.record.Record.TheVariants as lents

@@ -11,7 +11,7 @@ use Rattle.std.proofs.lemmas.List.FromFn.{get_or-map-range_with_len}
 use Rattle.c8_game.specs.Rules.{Rules}
 use Rattle.c8_known.specs.Journal as journals
 use Rattle.c8_known.specs.Journal.{Record, Head, Epoch, Own, Got, Freeze, Leave, Cut, words_of, is_own, freezes, lets_go, cuts_of, player_of}
-use Rattle.c8_known.specs.JournalLaws.{held_next, freeze_next, leave_next}
+use Rattle.c8_known.specs.checked.JournalLaws.{held_next, freeze_next, leave_next}
 use Rattle.c8_known.specs.Known.{PlayerValue, KnownValue, nobody, player_in, said_of, known_of, with_words, cut_at, with_cut, with_record, NamesPlayer}
 
 -- ---- one player's part

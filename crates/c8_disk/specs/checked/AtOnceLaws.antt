@@ -5,8 +5,8 @@ use Rattle.std.proofs.lemmas.List.{get_or-take, get_or-drop, get_or_append_left,
 use Rattle.c8_disk.specs.Disk.{overwritten, Torn}
 use Rattle.c8_disk.specs.Past.{content, Leaves, IsImage, synced, synced_count, are_lawful}
 use Rattle.c8_disk.specs.AtOnce.{is_in_range, is_touched, IsBetweenSyncs}
-use Rattle.c8_disk.specs.PastLaws.{reads, content-append, split_leaves, join_leaves, lawful_front, lawful_back, none_synced, none_behind, image_within}
-use Rattle.c8_disk.specs.TornLaws.{overwritten_is, length-overwritten, torn_wider, untouched}
+use Rattle.c8_disk.specs.checked.PastLaws.{reads, content-append, split_leaves, join_leaves, lawful_front, lawful_back, none_synced, none_behind, image_within}
+use Rattle.c8_disk.specs.checked.TornLaws.{overwritten_is, length-overwritten, torn_wider, untouched}
 use Rattle.c8_disk.specs.declared.call.Call.{Call}
 use Rattle.c8_disk.specs.declared.call.Call.TheVariants.{Write, Sync}
 

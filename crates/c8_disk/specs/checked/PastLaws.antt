@@ -4,7 +4,7 @@ use Rattle.std.proofs.lemmas.Bool.{cases_Bool, and_parts, and_from, leb-true, lt
 use Rattle.std.proofs.lemmas.List.{take_all}
 use Rattle.c8_disk.specs.Disk.{overwritten, Torn}
 use Rattle.c8_disk.specs.Past.{content, Leaves, IsImage, LeftSince, synced_count, are_lawful}
-use Rattle.c8_disk.specs.TornLaws.{overwritten_is_torn, length-overwritten}
+use Rattle.c8_disk.specs.checked.TornLaws.{overwritten_is_torn, length-overwritten}
 use Rattle.c8_disk.specs.declared.call.Call.{Call}
 use Rattle.c8_disk.specs.declared.call.Call.TheVariants.{Write, Sync}
 

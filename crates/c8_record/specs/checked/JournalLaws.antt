@@ -12,11 +12,11 @@ use Rattle.c8_known.specs.Journal as journals
 use Rattle.c8_known.specs.Journal.{Record, Head, Epoch, Own, Got, Freeze, Leave, Cut, player_of, epoch, epochs}
 use Rattle.c8_known.specs.Known.{KnownValue, player_in, count_in, is_frozen_in, known_of, with_record, IsKnown, IsOfGame, NamesPlayer}
 use Rattle.c8_known.specs.Growth.{IsStillKnown}
-use Rattle.c8_known.specs.OneMore.{one_more}
-use Rattle.c8_known.specs.StartLaws.{players_known, known_at_start}
-use Rattle.c8_known.specs.KnownLaws.{own_known, own_still, got_known, got_still, freeze_known, freeze_still, leave_known, leave_still, cut_known, cut_still, still_same, still_more}
+use Rattle.c8_known.specs.checked.OneMore.{one_more}
+use Rattle.c8_known.specs.checked.StartLaws.{players_known, known_at_start}
+use Rattle.c8_known.specs.checked.KnownLaws.{own_known, own_still, got_known, got_still, freeze_known, freeze_still, leave_known, leave_still, cut_known, cut_still, still_same, still_more}
 use Rattle.c8_record.specs.Allowed.{Past, past_of, MayOwn, MayCut, IsAllowedAfter, IsAllowed, IsJournal}
-use Rattle.c8_record.specs.Taken.{epoch_after}
+use Rattle.c8_record.specs.checked.Taken.{epoch_after}
 
 -- ---- places in a list with one item more
 

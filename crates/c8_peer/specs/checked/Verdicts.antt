@@ -17,7 +17,7 @@ use Rattle.c8_peer.specs.State.{Memory, Delivered, Outcome, answered, recorded}
 use Rattle.c8_peer.specs.Hearing.{refused, taken}
 use Rattle.c8_peer.specs.Steps.{Works}
 use Rattle.c8_peer.specs.Peer.{luck_of_refusal}
-use Rattle.c8_peer.specs.Held.{is_opening, is_entry}
+use Rattle.c8_peer.specs.checked.Held.{is_opening, is_entry}
 
 -- the memory after a message that nothing refused
 abbrev pub memory_after_message : Memory → HeadValue → Message → Memory

@@ -13,7 +13,7 @@ use Rattle.c8_record.specs.declared.error.ReplayError.TheVariants.{WrongGame, Wr
 use Rattle.c8_record.specs.Body.{body_of, Spells, record_of, records_of, HasSpelling}
 use Rattle.c8_record.specs.Allowed.{IsAllowed, IsJournal}
 use Rattle.c8_record.specs.Replay.{AreJournalBodies, BeginsWithHead, IsFirstBad, IsRefusal}
-use Rattle.c8_record.specs.BodyLaws.{reads_back, one_record, records_back, bodies_spell}
+use Rattle.c8_record.specs.checked.BodyLaws.{reads_back, one_record, records_back, bodies_spell}
 
 -- ---- a journal's bodies
 

@@ -10,11 +10,11 @@ use Rattle.c8_known.specs.Journal.{Record, Freeze, held, count}
 use Rattle.c8_known.specs.Known.{KnownValue, known_of}
 use Rattle.c8_known.specs.Confirmed.{confirmed, row, rows_below}
 use Rattle.c8_known.specs.Growth.{Begins, IsStillKnown}
-use Rattle.c8_known.specs.ConfirmedLaws.{confirmed_rises, row_stays, map_same}
-use Rattle.c8_known.specs.BeginsLaws.{begins_more, begins_drop, begins_length}
-use Rattle.c8_known.specs.JournalLaws.{held_begins, leave_stays, epoch_stays, cut_stays}
+use Rattle.c8_known.specs.checked.ConfirmedLaws.{confirmed_rises, row_stays, map_same}
+use Rattle.c8_known.specs.checked.BeginsLaws.{begins_more, begins_drop, begins_length}
+use Rattle.c8_known.specs.checked.JournalLaws.{held_begins, leave_stays, epoch_stays, cut_stays}
 use Rattle.c8_record.specs.Allowed.{IsJournal}
-use Rattle.c8_record.specs.JournalLaws.{journal_grows}
+use Rattle.c8_record.specs.checked.JournalLaws.{journal_grows}
 use Rattle.c8_peer.specs.Truth.{Stands, IsTrueMark, IsFrozenAt, IsTrueMessage, IsTrue}
 
 -- rows that are confirmed stay

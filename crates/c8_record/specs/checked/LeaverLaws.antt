@@ -5,10 +5,10 @@ use Rattle.std.proofs.lemmas.List.{append-nil}
 use Rattle.c8_game.specs.Rules.{Rules}
 use Rattle.c8_known.specs.Journal.{Record, Head, Epoch, Own, Got, Freeze, Leave, Cut}
 use Rattle.c8_known.specs.Known.{PlayerValue, KnownValue, nobody, player_in, with_words, with_cut, with_record, known_of, Plays}
-use Rattle.c8_known.specs.StartLaws.{at_start, player_at_start}
-use Rattle.c8_known.specs.KnownLaws.{changed, player_same, player_other}
+use Rattle.c8_known.specs.checked.StartLaws.{at_start, player_at_start}
+use Rattle.c8_known.specs.checked.KnownLaws.{changed, player_same, player_other}
 use Rattle.c8_record.specs.Allowed.{Past, past_of, IsAllowedAfter, IsJournal, IsOrderlyOf, IsOrderly}
-use Rattle.c8_record.specs.JournalLaws.{next_allowed, known_more}
+use Rattle.c8_record.specs.checked.JournalLaws.{next_allowed, known_more}
 
 orderly_changed : (k : KnownValue) (ticks q : ℕ) (p : PlayerValue) → IsOrderly k → Plays k q → IsOrderlyOf k.me q p → IsOrderly (changed k ticks q p)
 orderly_changed k ticks q p orderly plays new other from =

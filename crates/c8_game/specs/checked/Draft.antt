@@ -9,7 +9,7 @@ use Rattle.c8_game.specs.declared.text.field.Field.{Field}
 use Rattle.c8_game.specs.declared.text.field.Field.TheVariants.{Players, Ipf, Frames, Delay, Window, Seed, Mask1, Mask2, Mask3, Mask4}
 use Rattle.c8_game.specs.GameText.{Item, Says, numbers_for, code_of}
 use Rattle.c8_game.specs.GameFaults.{line_fault, end_fault}
-use Rattle.c8_game.specs.Places.{number_at, listed}
+use Rattle.c8_game.specs.checked.Places.{number_at, listed}
 use Rattle.c8_game.specs.Rules.{Rules}
 
 -- the draft has what these items say

@@ -5,7 +5,7 @@ use Rattle.std.proofs.lemmas.List.{append-nil, length-set, get_or-set_same, get_
 use Rattle.c8_known.specs.Journal.{Own, Got, Freeze, Leave, Cut}
 use Rattle.c8_known.specs.Known.{PlayerValue, KnownValue, nobody, player_in, count_in, is_frozen_in, with_words, cut_at, with_cut, with_record, Plays, EndsAtCut, IsKnown}
 use Rattle.c8_known.specs.Growth.{IsStillKnownOf, IsStillKnown}
-use Rattle.c8_known.specs.BeginsLaws.{begins_more}
+use Rattle.c8_known.specs.checked.BeginsLaws.{begins_more}
 
 -- ---- one player is changed, and the number of ticks
 

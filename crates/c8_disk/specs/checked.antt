@@ -1,0 +1,5 @@
+pub mod AsksLaws
+pub mod AtOnceLaws
+pub mod PastLaws
+pub mod RunLaws
+pub mod TornLaws

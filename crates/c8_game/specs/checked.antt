@@ -1,0 +1,3 @@
+pub mod Draft
+pub mod FaultLaws
+pub mod Places

@@ -1,0 +1,3 @@
+pub mod Decoding
+pub mod DecodingLaws
+pub mod FrameExists

@@ -1,0 +1,4 @@
+pub mod Held
+pub mod OpenedParts
+pub mod TruthLaws
+pub mod Verdicts

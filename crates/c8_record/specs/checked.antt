@@ -1,0 +1,5 @@
+pub mod BodyLaws
+pub mod JournalLaws
+pub mod LeaverLaws
+pub mod RefusalLaws
+pub mod Taken

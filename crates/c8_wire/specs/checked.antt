@@ -1,0 +1,3 @@
+pub mod NumberLaws
+pub mod Read
+pub mod WordLaws
