@@ -130,13 +130,13 @@ has_stopped v = v.left == 0 || stops_now v.arm
 
 -- What a call makes of it. It fails where the disk has stopped, and only there; a write is refused for want of room where it
 -- has not.
-abbrev pub IsCall : MemValue → DiskCall → MemValue → Type 0
-IsCall v (Reading at count result) w = (IsErrOf result Failed ↔ (has_stopped v ≡ true)) × (IsErrOf result Full → ⊥) × (w ≡ after_read result v)
-IsCall v (Writing at bytes result) w =
+abbrev pub IsMemoryCall : MemValue → DiskCall → MemValue → Type 0
+IsMemoryCall v (Reading at count result) w = (IsErrOf result Failed ↔ (has_stopped v ≡ true)) × (IsErrOf result Full → ⊥) × (w ≡ after_read result v)
+IsMemoryCall v (Writing at bytes result) w =
     (at ≤ length v.bytes) × (length bytes ≤ longest_write)
     × (IsErrOf result Failed ↔ (has_stopped v ≡ true)) × (IsErrOf result Full ↔ ((has_stopped v ≡ false) × (v.room < at + length bytes))) × IsWritten at bytes result v w
-IsCall v (Syncing result) w = (IsErrOf result Failed ↔ (has_stopped v ≡ true)) × (IsErrOf result Full → ⊥) × (w ≡ after_sync result v)
+IsMemoryCall v (Syncing result) w = (IsErrOf result Failed ↔ (has_stopped v ≡ true)) × (IsErrOf result Full → ⊥) × (w ≡ after_sync result v)
 
 -- told when its calls fail from now on
-abbrev pub told : Arm → MemValue → MemValue
-told arm v = record v { arm = arm; arms = v.arms ++ arm ∷ [] }
+abbrev pub with_arm : Arm → MemValue → MemValue
+with_arm arm v = record v { arm = arm; arms = v.arms ++ arm ∷ [] }

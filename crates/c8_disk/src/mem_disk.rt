@@ -59,7 +59,7 @@ fn note(calls: &mut Vec<Call>, call: Call)
 }
 
 impl MemDisk {
-    ghost use Rattle.c8_disk.specs.Memory.{bytes_of, first_of, calls_of, images_of, moment_of, left_since, synced_of, calls_allowed, value_of, new_value, told};
+    ghost use Rattle.c8_disk.specs.Memory.{bytes_of, first_of, calls_of, images_of, moment_of, left_since, synced_of, calls_allowed, value_of, new_value, with_arm};
 
     /// An empty disk with room for `capacity` bytes, which serves `calls` calls.
     pub fn new(alloc: Global, capacity: u32, calls: u32) -> Result<MemDisk, AllocError>
@@ -84,7 +84,7 @@ impl MemDisk {
 
     /// Serves `calls` more calls that read, write or sync, and fails each one after them.
     pub fn stop_after(&mut self, calls: u64)
-        ensures value { value_of self.new ≡ told (Arm.Stop calls) (value_of self.old) }
+        ensures value { value_of self.new ≡ with_arm (Arm.Stop calls) (value_of self.old) }
         ensures crash { AddsNone (images_of self.old) (images_of self.new) }
         ensures crash_keeps { AddsNone (images_of self.new) (images_of self.old) }
         ensures time { Elapses (moment_of self.old) (moment_of self.new)
@@ -175,7 +175,7 @@ fn leave_image(first: &mut Vec<u8>, bytes: &mut Vec<u8>, calls: &[Call], pick: u
 }
 
 impl Disk for MemDisk {
-    ghost use Rattle.c8_disk.specs.Memory.{bytes_of, images_of, moment_of, left_since, room_of, arms_of, failures_of, changes_of, is_stopped, value_of, after_read, IsWritten, after_sync, IsCall, told};
+    ghost use Rattle.c8_disk.specs.Memory.{bytes_of, images_of, moment_of, left_since, room_of, arms_of, failures_of, changes_of, is_stopped, value_of, after_read, IsWritten, after_sync, IsMemoryCall, with_arm};
 
     ghost seen = { λ d. d.bytes.items };
 
@@ -193,9 +193,9 @@ impl Disk for MemDisk {
 
     ghost arms = { λ d. d.arms.items };
 
-    ghost does = { λ d call e. IsCall (value_of d) call (value_of e) };
+    ghost does = { λ d call e. IsMemoryCall (value_of d) call (value_of e) };
 
-    ghost told = { λ d arm e. value_of e ≡ told arm (value_of d) };
+    ghost told = { λ d arm e. value_of e ≡ with_arm arm (value_of d) };
 
     ghost reads_now = { λ d. reads_image d.first.items d.calls.items
         d.bytes.items d.lawful d.replayed };
@@ -230,7 +230,7 @@ impl Disk for MemDisk {
         // refused is not served.
         ensures failed { IsErrOf result DiskError.Failed ↔ (is_stopped self.old ≡ true) }
         ensures value { value_of self.new ≡ after_read result (value_of self.old) }
-        ensures does { IsCall (value_of self.old) (Reading at (length buffer.old) result) (value_of self.new) }
+        ensures does { IsMemoryCall (value_of self.old) (Reading at (length buffer.old) result) (value_of self.new) }
     {
         if self.budget.refuses() {
             return Err(DiskError::Failed);
@@ -260,7 +260,7 @@ impl Disk for MemDisk {
         // refused is not served.
         ensures failed { IsErrOf result DiskError.Failed ↔ (is_stopped self.old ≡ true) }
         ensures value { IsWritten at bytes.now result (value_of self.old) (value_of self.new) }
-        ensures does { IsCall (value_of self.old) (Writing at bytes.now result) (value_of self.new) }
+        ensures does { IsMemoryCall (value_of self.old) (Writing at bytes.now result) (value_of self.new) }
     {
         self.asked = self.asked.and(&());
         if self.budget.refuses() {
@@ -291,7 +291,7 @@ impl Disk for MemDisk {
         // refused is not served.
         ensures failed { IsErrOf result DiskError.Failed ↔ (is_stopped self.old ≡ true) }
         ensures value { value_of self.new ≡ after_sync result (value_of self.old) }
-        ensures does { IsCall (value_of self.old) (Syncing result) (value_of self.new) }
+        ensures does { IsMemoryCall (value_of self.old) (Syncing result) (value_of self.new) }
     {
         self.asked = self.asked.and(&());
         if self.budget.refuses() {
@@ -312,7 +312,7 @@ impl Disk for MemDisk {
         ensures changes { changes_of self.new ≡ changes_of self.old }
         ensures capacity { room_of self.new ≡ room_of self.old }
         ensures arms { arms_of self.new ≡ arms_of self.old ++ arm ∷ [] }
-        ensures told { value_of self.new ≡ told arm (value_of self.old) }
+        ensures told { value_of self.new ≡ with_arm arm (value_of self.old) }
     {
         self.budget.arm = arm;
         self.arms = self.arms.and(&arm);

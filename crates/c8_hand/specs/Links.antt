@@ -1,8 +1,8 @@
 -- What a peer knows of the others' epochs, which datagrams it admits, and what these change.
 use Rattle.std.specs.Prelude.{◌≡◌, ℕ, ◌≤◌, ◌==◌, ◌&&◌, ◌||◌, ◌⊎◌, ◌≢◌, Bool, true, false, not, nat_lt, nat_le, Option, Some, None, if◌then◌else◌}
 use Rattle.c8_game.specs.Rules.{Rules, session_of}
-use Rattle.c8_wire.specs.declared.kinds.Kind.{Kind}
-use Rattle.c8_wire.specs.declared.kinds.Kind.TheVariants as kinds
+use Rattle.c8_wire.specs.declared.kinds.DatagramKind.{DatagramKind}
+use Rattle.c8_wire.specs.declared.kinds.DatagramKind.TheVariants as kinds
 use Rattle.c8_wire.specs.Packet.{HeadValue}
 use Rattle.c8_hand.specs.declared.error.HandError.{HandError}
 use Rattle.c8_hand.specs.declared.error.HandError.TheVariants as errors
@@ -75,7 +75,7 @@ refusal_of_others link own theirs mine =
     if nat_lt theirs link.known || nat_lt mine own then Some errors.Stale
     else (if nat_lt link.known theirs || nat_lt own mine then Some errors.Ahead else (if link.is_open then None else Some errors.NotOpen))
 
-abbrev pub refusal_by_kind : Kind → LinkValue → ℕ → ℕ → ℕ → Option HandError
+abbrev pub refusal_by_kind : DatagramKind → LinkValue → ℕ → ℕ → ℕ → Option HandError
 refusal_by_kind kinds.Hello = refusal_of_hello
 refusal_by_kind kinds.Welcome = refusal_of_welcome
 refusal_by_kind kinds.Data = refusal_of_others
@@ -94,7 +94,7 @@ refusal l head =
     else (if is_mine l head then refusal_by_kind head.kind (link_to l head.from) l.epoch head.sender_epoch head.addressee_epoch else Some errors.NotMine)
 
 -- the link to the sender of an admitted datagram: a HELLO of a later epoch closes it, a WELCOME opens it
-abbrev pub link_after : Kind → LinkValue → ℕ → LinkValue
+abbrev pub link_after : DatagramKind → LinkValue → ℕ → LinkValue
 link_after kinds.Hello link theirs = if nat_lt link.known theirs then record { known = theirs; is_open = false } else link
 link_after kinds.Welcome link theirs = record { known = theirs; is_open = true }
 link_after kinds.Data link theirs = link
@@ -135,7 +135,7 @@ OpensByWelcome old head new = (player : ℕ) → (link_to new player).is_open �
     → (link_to new player ≡ link_to old player) ⊎ IsWelcomeOf new player head
 
 -- the header of a datagram to a player
-abbrev pub head_to : LinksValue → ℕ → Kind → HeadValue
+abbrev pub head_to : LinksValue → ℕ → DatagramKind → HeadValue
 head_to l player kind = record {
   kind = kind;
   session = l.session;

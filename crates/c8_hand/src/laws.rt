@@ -1,7 +1,7 @@
 //! What callers may rest on that is no single call's: laws of links, each the contract of a
 //! function that does nothing.
 ghost use Rattle.std.specs.Prelude.{◌≡◌, ◌≢◌, ℕ, ◌≤◌, None, true, false};
-ghost use Rattle.c8_wire.specs.declared.kinds.Kind.TheVariants as kinds;
+ghost use Rattle.c8_wire.specs.declared.kinds.DatagramKind.TheVariants as kinds;
 ghost use Rattle.c8_wire.specs.Packet.{HeadValue};
 ghost use Rattle.c8_hand.specs.Links.{LinksValue, link_to, refusal, link_after, heard, IsForMe, NamesBoth, OpensByWelcome};
 

@@ -7,7 +7,7 @@ ghost use Rattle.c8_hand.specs.Links.{no_links, link_to, open_epoch, refusal, li
 use crate::error::HandError;
 use crate::link::Link;
 use c8_game::{Game, MOST_PLAYERS, Player};
-use c8_wire::{Datagram, Head, Kind, Seat};
+use c8_wire::{Datagram, Head, DatagramKind, Seat};
 use std::marker::Model;
 
 /// For each other player the newest epoch that is known of it, and whether the link to it is open.
@@ -98,9 +98,9 @@ impl Links {
         }
         let link = &self.links[head.from.place()];
         match head.kind {
-            Kind::Hello => link.refusal_of_hello(self.epoch, head),
-            Kind::Welcome => link.refusal_of_welcome(self.epoch, head),
-            Kind::Data | Kind::Freeze | Kind::Frozen | Kind::Cut => {
+            DatagramKind::Hello => link.refusal_of_hello(self.epoch, head),
+            DatagramKind::Welcome => link.refusal_of_welcome(self.epoch, head),
+            DatagramKind::Data | DatagramKind::Freeze | DatagramKind::Frozen | DatagramKind::Cut => {
                 link.refusal_of_others(self.epoch, head)
             }
         }
@@ -129,19 +129,19 @@ impl Links {
     {
         let link = &mut self.links[head.from.place()];
         match head.kind {
-            Kind::Hello => {
+            DatagramKind::Hello => {
                 if head.sender_epoch > link.known {
                     *link = Link::closed(head.sender_epoch);
                 }
             }
-            Kind::Welcome => *link = Link::opened(head.sender_epoch),
-            Kind::Data | Kind::Freeze | Kind::Frozen | Kind::Cut => {}
+            DatagramKind::Welcome => *link = Link::opened(head.sender_epoch),
+            DatagramKind::Data | DatagramKind::Freeze | DatagramKind::Frozen | DatagramKind::Cut => {}
         }
     }
 
     /// The header of a datagram of this kind to another player: it names the own epoch, and the one
     /// that is known of the player.
-    pub fn head(&self, player: Player, kind: Kind) -> Head
+    pub fn head(&self, player: Player, kind: DatagramKind) -> Head
         requires { player.number ≢ self.now.me }
         ensures { head_value result ≡ head_to self.now player.number kind }
     {

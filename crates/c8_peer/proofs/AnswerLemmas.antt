@@ -14,7 +14,7 @@ use Rattle.c8_known.specs.Journal.{Record}
 use Rattle.c8_known.specs.Known.{KnownValue}
 use Rattle.c8_peer.specs.State.{Memory, Open, Down, Call, Reply, Outcome, answered, recorded}
 use Rattle.c8_peer.specs.Steps.{Works, Refuses, outcome, refused_by_disk}
-use Rattle.c8_peer.specs.Peer.{PeerValue, known_by, luck_of, IsStep, added, most_run, RunsFrames, KeepsWithOrWithout, LeavesJournal, HasCause, IsAnswered, IsSound}
+use Rattle.c8_peer.specs.Peer.{PeerValue, known_by, luck_of, IsStep, added, most_run, RunsFrames, KeepsWithOrWithout, LeavesJournal, HasAppendCause, IsAnswered, IsSound}
 use Rattle.c8_peer.specs.checked.Held.{IsPeer}
 use Rattle.c8_peer.proofs.PeerLemmas.{view}
 use Rattle.c8_peer.proofs.RoomLemmas.{had_room}
@@ -62,7 +62,7 @@ module _ {D : Type 0} (g : Ghosts D) where
   without_record v disk r = record v { disk = disk; state = record v.state { pending = Some r; mode = Down } }
 
   -- where there is no room for a record, no other word is said of it
-  must_be_full : (old new : PeerValue D) (why : DiskError) → HasCause g old new why → g.capacity old.disk < slot_length * (length old.state.journal + 1) + 1 → why ≡ errors.Full
+  must_be_full : (old new : PeerValue D) (why : DiskError) → HasAppendCause g old new why → g.capacity old.disk < slot_length * (length old.state.journal + 1) + 1 → why ≡ errors.Full
   must_be_full old new errors.Failed cause few = let room = cause.0 in absurd (omega (arith, few, room))
   must_be_full old new errors.Full cause few = refl
 
@@ -89,11 +89,11 @@ module _ {D : Type 0} (g : Ghosts D) where
   -- the disk refuses it
   pub is_refused : (v : PeerValue D) (disk : D) (m : Memory) (call : Call) (reply said : Reply) (r : Record) (why : DiskError) → v.state.mode ≡ Open
       → outcome v.rules (known_by v) v.state.memory call ≡ recorded m said r → reply ≡ refused_by_disk call why → luck_of reply ≡ Refuses why → Kept v r (Err why) disk
-      → HasCause g v (without_record v disk r) why → LeavesJournal g (without_record v disk r) → IsAnswered g v call reply (without_record v disk r)
+      → HasAppendCause g v (without_record v disk r) why → LeavesJournal g (without_record v disk r) → IsAnswered g v call reply (without_record v disk r)
   is_refused v disk m call reply said r why mode comes is luck kept cause leaves = record {
     step = rw (mode, comes, luck, is) refl;
     cause = λ other e. let same : Refuses why ≡ Refuses other = sym luck ∙ e in
-        let this : why ≡ other = cc in subst (HasCause g v (without_record v disk r)) this cause;
+        let this : why ≡ other = cc in subst (HasAppendCause g v (without_record v disk r)) this cause;
     full = λ other e few. luck ∙ ap Refuses (must_be_full v (without_record v disk r) why cause few);
     any_moment = rw (mode, comes) kept.any_moment;
     journal = leaves;

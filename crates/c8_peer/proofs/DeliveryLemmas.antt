@@ -17,7 +17,7 @@ use Rattle.c8_peer.specs.State.{Deliver, Outcome}
 use Rattle.c8_peer.specs.Hearing.{hear_message}
 use Rattle.c8_peer.specs.Steps.{outcome}
 use Rattle.c8_peer.specs.Lawful.{IsMemory}
-use Rattle.c8_peer.specs.Peer.{PeerValue, known_by, IsSound, HasCause}
+use Rattle.c8_peer.specs.Peer.{PeerValue, known_by, IsSound, HasAppendCause}
 use Rattle.c8_peer.specs.declared.verdict.Verdict.{Verdict}
 use Rattle.c8_peer.specs.checked.Verdicts.{AcksWithin, IsLater, by_verdict, memory_after}
 use Rattle.c8_peer.proofs.AllowedLemmas.{keeps_allowed}
@@ -72,6 +72,6 @@ module _ {D : Type 0} where
 
   pub cause_of : (g : Ghosts D) (v new : PeerValue D) (why : DiskError)
       → (IsErrOf {T = Unit {0}} (Err why) errors.Failed → (slot_length * (length v.state.journal + 1) + 1 ≤ g.capacity v.disk) × (g.failures v.disk < g.failures new.disk))
-      → (IsErrOf {T = Unit {0}} (Err why) errors.Full → (g.capacity v.disk < slot_length * (length v.state.journal + 1) + 1) × (new.disk ≡ v.disk)) → HasCause g v new why
+      → (IsErrOf {T = Unit {0}} (Err why) errors.Full → (g.capacity v.disk < slot_length * (length v.state.journal + 1) + 1) × (new.disk ≡ v.disk)) → HasAppendCause g v new why
   cause_of g v new errors.Failed failed full = failed refl
   cause_of g v new errors.Full failed full = full refl

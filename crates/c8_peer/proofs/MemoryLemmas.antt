@@ -3,8 +3,8 @@ use Rattle.std.proofs.Common.{◌≡◌, ℕ, zero, suc, ◌+◌, ◌^◌, ◌<�
 use Rattle.std.specs.Prelude.{◌==◌, ◌||◌, not, nat_lt, nat_le, is_some, if◌then◌else◌, Result}
 use Rattle.std.proofs.lemmas.Bool.{ltb-false, ne_eqb}
 use Rattle.c8_game.specs.Rules.{Rules, AreInRange}
-use Rattle.c8_wire.specs.declared.kinds.Kind.{Kind}
-use Rattle.c8_wire.specs.declared.kinds.Kind.TheVariants as kinds
+use Rattle.c8_wire.specs.declared.kinds.DatagramKind.{DatagramKind}
+use Rattle.c8_wire.specs.declared.kinds.DatagramKind.TheVariants as kinds
 use Rattle.c8_wire.specs.declared.error.WireError.{WireError}
 use Rattle.c8_wire.specs.Packet.{HeadValue, DataMessage, FreezeMessage, LeaverMessage, Message, Packet, IsHead, IsPacket}
 use Rattle.c8_wire.specs.Packet as packets
@@ -53,7 +53,7 @@ low_with l player (suc (suc (suc zero))) bound link low is = low_of (player == 3
 low_with l player (suc (suc (suc (suc zero)))) bound link low is = low_of (player == 4) link l.four bound is (low 4)
 low_with l player (suc (suc (suc (suc (suc n))))) bound link low is = rw (link_past (with_link l player link) (suc (suc (suc (suc (suc n))))) (omega arith)) (low 0)
 
-low_after : (kind : Kind) (link : LinkValue) (theirs bound : ℕ) → link.known < bound → theirs < bound → (link_after kind link theirs).known < bound
+low_after : (kind : DatagramKind) (link : LinkValue) (theirs bound : ℕ) → link.known < bound → theirs < bound → (link_after kind link theirs).known < bound
 low_after kinds.Hello link theirs bound was is = low_of (nat_lt link.known theirs) (record { known = theirs; is_open = false }) link bound is was
 low_after kinds.Welcome link theirs bound was is = is
 low_after kinds.Data link theirs bound was is = was

@@ -9,7 +9,7 @@ use Rattle.sha2.specs.Sha256.{sha256}
 use Rattle.c8_game.specs.Rules.{Rules, AreInRange, id_of, session_of, most_inputs}
 use Rattle.c8_machine.specs.Serial.{serial}
 use Rattle.c8_digest.specs.StateBytes.{state_bytes}
-use Rattle.c8_wire.specs.declared.kinds.Kind.{Kind}
+use Rattle.c8_wire.specs.declared.kinds.DatagramKind.{DatagramKind}
 use Rattle.c8_wire.specs.Sizes.{longest_run}
 use Rattle.c8_wire.specs.Packet.{Message, Packet, IsLeaverMessage, AreBytes, AreWords, IsMark, IsRun, Fits, IsMessage, IsHead, IsPacket, kind_of}
 use Rattle.c8_hand.specs.Links.{head_to}
@@ -211,7 +211,7 @@ message_spelled rules me room journal m to (Cut leaver) is memory orderly known 
 
 -- ---- the head, and all of it
 
-head_spelled : (rules : Rules) (me room : ℕ) (journal : List Record) (m : Memory) (to : ℕ) (kind : Kind) → AreInRange rules → 1 ≤ me → me ≤ rules.players → IsMemory rules room me journal m
+head_spelled : (rules : Rules) (me room : ℕ) (journal : List Record) (m : Memory) (to : ℕ) (kind : DatagramKind) → AreInRange rules → 1 ≤ me → me ≤ rules.players → IsMemory rules room me journal m
     → to ≢ (known_of rules me journal).me → Plays (known_of rules me journal) to → IsHead (head_to m.links to kind)
 head_spelled rules me room journal m to kind range from within memory apart plays =
     let player = memory.player in

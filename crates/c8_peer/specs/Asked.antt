@@ -1,6 +1,6 @@
 -- What the code's kinds ask a peer to say.
-use Rattle.c8_wire.specs.declared.kinds.Kind as wire
-use Rattle.c8_wire.specs.declared.kinds.Kind.TheVariants as wires
+use Rattle.c8_wire.specs.declared.kinds.DatagramKind as wire
+use Rattle.c8_wire.specs.declared.kinds.DatagramKind.TheVariants as wires
 use Rattle.c8_peer.specs.declared.kind.Kind.{Kind}
 use Rattle.c8_peer.specs.declared.kind.Kind.TheVariants as kinds
 use Rattle.c8_peer.specs.State.{Saying, Hello, Welcome, Data, Freeze, Frozen, Cut}
@@ -13,7 +13,7 @@ saying_of (kinds.Freeze leaver) = Freeze leaver.number
 saying_of (kinds.Frozen leaver) = Frozen leaver.number
 saying_of (kinds.Cut leaver) = Cut leaver.number
 
-abbrev pub wire_of : Kind → wire.Kind
+abbrev pub wire_of : Kind → wire.DatagramKind
 wire_of kinds.Hello = wires.Hello
 wire_of kinds.Welcome = wires.Welcome
 wire_of kinds.Data = wires.Data

@@ -19,7 +19,7 @@ use Rattle.c8_peer.specs.declared.error.OpenError.{OpenError}
 use Rattle.c8_peer.specs.declared.error.OpenError.TheVariants as opens
 use Rattle.c8_peer.specs.State.{State, Opened}
 use Rattle.c8_peer.specs.Opening.{last_epoch, opening_record, Stands, opened, MayBecome}
-use Rattle.c8_peer.specs.Peer.{PeerValue, told, IsSound}
+use Rattle.c8_peer.specs.Peer.{PeerValue, stepped, IsSound}
 
 -- the disk after an opening, which a refused one gives back
 abbrev pub disk_after : {D : Type 0} → Result (PeerValue D) (OpenError × D) → D
@@ -88,7 +88,7 @@ module _ {D : Type 0} (g : Ghosts D) (disk : D) (rules : Rules) (room me : ℕ) 
     pub rules_are : p.rules ≡ rules
     pub room_is : p.room ≡ room
     pub me_is : p.me ≡ me
-    pub opening : (s : State) → told (Opened (Ok (epoch p.state.journal))) p ≡ opened rules room me s (records_of (bodies_found g disk)) Stands
+    pub opening : (s : State) → stepped (Opened (Ok (epoch p.state.journal))) p ≡ opened rules room me s (records_of (bodies_found g disk)) Stands
     pub may : MayBecome rules room me (records_of (bodies_found g disk)) Stands
     pub bodies : AreJournalBodies rules me room (bodies_found g disk)
     pub sound : IsSound g p

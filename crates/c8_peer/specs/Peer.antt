@@ -115,12 +115,12 @@ luck_of (Left result) = luck_of_leave result
 luck_of (Decided result) = luck_of_decision result
 
 -- an answer, and the state after it
-abbrev pub told : {D : Type 0} → Reply → PeerValue D → Stepped
-told reply p = record { reply = reply; state = p.state }
+abbrev pub stepped : {D : Type 0} → Reply → PeerValue D → Stepped
+stepped reply p = record { reply = reply; state = p.state }
 
 -- The call that is answered so is the one step of the definitions.
 abbrev pub IsStep : {D : Type 0} → PeerValue D → Call → Reply → PeerValue D → Type 0
-IsStep old call reply new = told reply new ≡ step old.rules old.me old.state call (luck_of reply)
+IsStep old call reply new = stepped reply new ≡ step old.rules old.me old.state call (luck_of reply)
 
 -- ---- the disk, and the frames that are run
 
@@ -180,9 +180,9 @@ LeavesJournal {D} disk p = (image : List ℕ) → disk.may_leave p.disk image �
 
 -- When the disk refuses a record, and with which word: it has no room for one slot more and the gate after it, and then it is
 -- not called; or it has, and it failed in the call.
-abbrev pub HasCause : {D : Type 0} → Ghosts D → PeerValue D → PeerValue D → DiskError → Type 0
-HasCause disk old new errors.Failed = (slot_length * (length old.state.journal + 1) + 1 ≤ disk.capacity old.disk) × (disk.failures old.disk < disk.failures new.disk)
-HasCause disk old new errors.Full = (disk.capacity old.disk < slot_length * (length old.state.journal + 1) + 1) × (new.disk ≡ old.disk)
+abbrev pub HasAppendCause : {D : Type 0} → Ghosts D → PeerValue D → PeerValue D → DiskError → Type 0
+HasAppendCause disk old new errors.Failed = (slot_length * (length old.state.journal + 1) + 1 ≤ disk.capacity old.disk) × (disk.failures old.disk < disk.failures new.disk)
+HasAppendCause disk old new errors.Full = (disk.capacity old.disk < slot_length * (length old.state.journal + 1) + 1) × (new.disk ≡ old.disk)
 
 -- what the disk answers to a record, by what it did with it
 abbrev pub disk_answer : Luck → Answer
@@ -204,7 +204,7 @@ disk_answer (Refuses why) = Err why
 -- - `same`: match, player and disk stay.
 pub record IsAnswered {D : Type 0} (disk : Ghosts D) (old : PeerValue D) (call : Call) (reply : Reply) (new : PeerValue D) : Type 0 where
   pub step : IsStep old call reply new
-  pub cause : (why : DiskError) → luck_of reply ≡ Refuses why → HasCause disk old new why
+  pub cause : (why : DiskError) → luck_of reply ≡ Refuses why → HasAppendCause disk old new why
   pub full : (r : Record) → added old call ≡ Some r → disk.capacity old.disk < slot_length * (length old.state.journal + 1) + 1 → luck_of reply ≡ Refuses errors.Full
   pub any_moment : LeavesOnly disk old.disk new.disk (MayLeave old call)
   pub journal : LeavesJournal disk new

@@ -23,16 +23,16 @@ pub enum Kind {
 
 impl Kind {
     /// The kind of the datagram that says it.
-    pub(crate) fn wire(self) -> c8_wire::Kind
+    pub(crate) fn wire(self) -> c8_wire::DatagramKind
         ensures { result ≡ wire_of self }
     {
         match self {
-            Kind::Hello => c8_wire::Kind::Hello,
-            Kind::Welcome => c8_wire::Kind::Welcome,
-            Kind::Data => c8_wire::Kind::Data,
-            Kind::Freeze(_) => c8_wire::Kind::Freeze,
-            Kind::Frozen(_) => c8_wire::Kind::Frozen,
-            Kind::Cut(_) => c8_wire::Kind::Cut,
+            Kind::Hello => c8_wire::DatagramKind::Hello,
+            Kind::Welcome => c8_wire::DatagramKind::Welcome,
+            Kind::Data => c8_wire::DatagramKind::Data,
+            Kind::Freeze(_) => c8_wire::DatagramKind::Freeze,
+            Kind::Frozen(_) => c8_wire::DatagramKind::Frozen,
+            Kind::Cut(_) => c8_wire::DatagramKind::Cut,
         }
     }
 }

@@ -14,7 +14,7 @@ mod playing;
 #[cfg(test)]
 mod refused;
 #[cfg(test)]
-mod seat;
+mod node;
 #[cfg(test)]
 mod stops;
 #[cfg(test)]

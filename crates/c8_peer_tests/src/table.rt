@@ -1,6 +1,6 @@
 //! All players' peers, and one deed after the other.
 use crate::deed::{Answer, Deed, ROOM, Row, What};
-use crate::seat::{Letter, Seat, Told};
+use crate::node::{Letter, Node, Told};
 use c8_disk::{Disk, LONGEST_WRITE, MemDisk};
 use c8_game::{Game, Player};
 use c8_peer::Kind;
@@ -10,13 +10,13 @@ use std::test::Fail;
 /// The gate after the last slot of a journal at rest.
 const CLOSED: &[u8] = b"\0";
 
-/// The seats of all players, player 1 first, and what was said to be heard later.
+/// The nodes of all players, player 1 first, and what was said to be heard later.
 #[derive(Drop)]
 pub(crate) struct Table<'g> {
     alloc: Global,
     game: &'g Game,
     other: &'g Game,
-    seats: Vec<Seat<'g>>,
+    nodes: Vec<Node<'g>>,
     letters: Vec<Letter>,
 }
 
@@ -50,16 +50,16 @@ pub(crate) fn plays_beside(
 impl<'g> Table<'g> {
     /// A table at which nobody has a peer yet, each an empty disk.
     pub(crate) fn new(alloc: Global, game: &'g Game, other: &'g Game) -> Result<Table<'g>, Fail> {
-        let mut seats = Vec::new(alloc);
+        let mut nodes = Vec::new(alloc);
         for _ in 0..4 {
-            seats.push(Seat::empty())?;
+            nodes.push(Node::empty())?;
         }
         let letters = Vec::new(alloc);
         Ok(Table {
             alloc,
             game,
             other,
-            seats,
+            nodes,
             letters,
         })
     }
@@ -97,15 +97,15 @@ impl<'g> Table<'g> {
             Deed::Hear(number) => self.hear(at, number, 174),
             Deed::HearChanged(number, place) => self.hear(at, number, place),
             Deed::Spells(number, place, bytes) => self.spells(number, place, bytes),
-            _ => match self.seat(at) {
-                Some(seat) => seat.does(deed),
+            _ => match self.node(at) {
+                Some(node) => node.does(deed),
                 None => Answer::Impossible,
             },
         }
     }
 
-    fn seat(&mut self, at: u8) -> Option<&mut Seat<'g>> {
-        self.seats.get_mut(usize::from(at).wrapping_sub(1))
+    fn node(&mut self, at: u8) -> Option<&mut Node<'g>> {
+        self.nodes.get_mut(usize::from(at).wrapping_sub(1))
     }
 
     fn gather(&mut self) -> Answer {
@@ -134,15 +134,15 @@ impl<'g> Table<'g> {
 
     fn open(&mut self, at: u8, other: bool, me: u8, room: u64) -> Answer {
         let (alloc, game) = (self.alloc, if other { self.other } else { self.game });
-        match (self.seat(at), Player::new(me)) {
-            (Some(seat), Some(me)) => seat.open(alloc, game, me, room),
+        match (self.node(at), Player::new(me)) {
+            (Some(node), Some(me)) => node.open(alloc, game, me, room),
             _ => Answer::Impossible,
         }
     }
 
     fn told(&mut self, at: u8) -> Option<Told> {
-        match self.seat(at) {
-            Some(seat) => seat.told(),
+        match self.node(at) {
+            Some(node) => node.told(),
             None => None,
         }
     }
@@ -162,9 +162,9 @@ impl<'g> Table<'g> {
         let Some(disk) = holding(self.alloc, capacity, calls, bytes) else {
             return Answer::Impossible;
         };
-        match self.seat(at) {
-            Some(seat) => {
-                seat.put(disk);
+        match self.node(at) {
+            Some(node) => {
+                node.put(disk);
                 Answer::Done
             }
             None => Answer::Impossible,
@@ -182,19 +182,19 @@ impl<'g> Table<'g> {
         let Some(image) = image(self.alloc, slots, rest) else {
             return Answer::Impossible;
         };
-        match self.seat(at) {
-            Some(seat) => { Answer::Tells(seat.image() == image.as_slice()) }
+        match self.node(at) {
+            Some(node) => { Answer::Tells(node.image() == image.as_slice()) }
             None => Answer::Impossible,
         }
     }
 
     /// What a player says to another.
     fn letter(&mut self, from: u8, to: u8, what: What) -> Result<Letter, Answer> {
-        let (Some(seat), Some(to), Some(kind)) = (self.seat(from), Player::new(to), kind_of(what))
+        let (Some(node), Some(to), Some(kind)) = (self.node(from), Player::new(to), kind_of(what))
         else {
             return Err(Answer::Impossible);
         };
-        seat.say(to, kind)
+        node.say(to, kind)
     }
 
     fn say(&mut self, from: u8, to: u8, what: What) -> Answer {
@@ -230,8 +230,8 @@ impl<'g> Table<'g> {
     }
 
     fn give(&mut self, to: u8, letter: &Letter) -> Answer {
-        match self.seat(to) {
-            Some(seat) => seat.hear(letter.bytes()),
+        match self.node(to) {
+            Some(node) => node.hear(letter.bytes()),
             None => Answer::Impossible,
         }
     }

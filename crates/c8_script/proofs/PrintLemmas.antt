@@ -6,7 +6,7 @@ use Rattle.std.specs.List.{flat_map}
 use Rattle.std.specs.Io.KnownBytes.{Appends}
 use Rattle.c8_world.specs.declared.answer.Answer.{Answer}
 use Rattle.c8_world.specs.declared.ends.Tally.{Tally}
-use Rattle.c8_script.specs.Printed.{AreLines, IsLine, line, count_text, told, tallies_text, tally_text}
+use Rattle.c8_script.specs.Printed.{AreLines, IsLine, line, count_text, answer_text, tallies_text, tally_text}
 
 -- ---- known bytes
 
@@ -85,16 +85,16 @@ counts_next u v w counts i lt before appended =
 -- ---- one answer
 
 -- it is told by a text of its own, whatever the name
-pub told_by : {T E : Type 0} → (u v : Option (List ℕ)) (answer : Answer) (name text : List ℕ) (result : Result T E) → told name answer ≡ text → OnOk result (Appends u v text)
-    → OnOk result ((name : List ℕ) × Appends u v (told name answer))
+pub told_by : {T E : Type 0} → (u v : Option (List ℕ)) (answer : Answer) (name text : List ℕ) (result : Result T E) → answer_text name answer ≡ text → OnOk result (Appends u v text)
+    → OnOk result ((name : List ℕ) × Appends u v (answer_text name answer))
 told_by u v answer name text (Ok done) is appended = (name, subst (λ (t : List ℕ). Appends u v t) (sym is) appended)
 told_by u v answer name text (Err error) is appended = appended
 
 -- the number of its event in front
 pub numbered : {T E : Type 0} → (u v w : Option (List ℕ)) (number : ℕ) (answer : Answer) (result : Result T E) → Appends u v (decimal number ++ codes " ")
-    → OnOk result ((name : List ℕ) × Appends v w (told name answer)) → OnOk result ((text : List ℕ) × IsLine number answer text × Appends u w text)
+    → OnOk result ((name : List ℕ) × Appends v w (answer_text name answer)) → OnOk result ((text : List ℕ) × IsLine number answer text × Appends u w text)
 numbered u v w number answer (Ok done) first rest =
-    (decimal number ++ codes " " ++ told rest.0 answer, (rest.0, refl), appends_then u v w (decimal number ++ codes " ") (told rest.0 answer) first rest.1)
+    (decimal number ++ codes " " ++ answer_text rest.0 answer, (rest.0, refl), appends_then u v w (decimal number ++ codes " ") (answer_text rest.0 answer) first rest.1)
 numbered u v w number answer (Err error) first rest = rest
 
 -- ---- one player

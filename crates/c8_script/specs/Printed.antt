@@ -47,27 +47,27 @@ abbrev pub refusal_text : List ℕ → ℕ → List ℕ → List ℕ
 refusal_text part number name = line (codes "no " ∷ part ∷ codes " " ∷ decimal number ∷ codes " " ∷ name ∷ [])
 
 -- what is told of an answer, where this is the name of its refusal
-abbrev pub told : List ℕ → Answer → List ℕ
-told name (Opened (Ok epoch)) = line (codes "epoch " ∷ decimal epoch ∷ [])
-told name (Opened (Err error)) = refusal_text (codes "open") (open_number_of error) name
-told name Up = line (codes "up" ∷ [])
-told name (Ticked (Ok counts)) = ticked_text counts
-told name (Ticked (Err error)) = refusal_text (codes "tick") (tick_number_of error) name
-told name (Said (Ok posted)) = line (codes "datagram " ∷ decimal posted.number ∷ codes " length " ∷ decimal posted.length ∷ [])
-told name (Said (Err error)) = refusal_text (codes "say") (unsayable_number_of error) name
-told name (Delivered (Ok heard)) = line (heard_word heard ∷ [])
-told name (Delivered (Err error)) = refusal_text (part_word error) (refused_number_of error) name
-told name NoSuch = line (codes "none" ∷ [])
-told name (Left (Ok done)) = line (codes "leaving" ∷ [])
-told name (Left (Err error)) = refusal_text (codes "leave") (leave_number_of error) name
-told name (Decided (Ok count)) = line (codes "cut " ∷ decimal count ∷ [])
-told name (Decided (Err error)) = refusal_text (codes "decide") (decide_number_of error) name
-told name Down = line (codes "down" ∷ [])
-told name Stopped = line (codes "stopped" ∷ [])
+abbrev pub answer_text : List ℕ → Answer → List ℕ
+answer_text name (Opened (Ok epoch)) = line (codes "epoch " ∷ decimal epoch ∷ [])
+answer_text name (Opened (Err error)) = refusal_text (codes "open") (open_number_of error) name
+answer_text name Up = line (codes "up" ∷ [])
+answer_text name (Ticked (Ok counts)) = ticked_text counts
+answer_text name (Ticked (Err error)) = refusal_text (codes "tick") (tick_number_of error) name
+answer_text name (Said (Ok posted)) = line (codes "datagram " ∷ decimal posted.number ∷ codes " length " ∷ decimal posted.length ∷ [])
+answer_text name (Said (Err error)) = refusal_text (codes "say") (unsayable_number_of error) name
+answer_text name (Delivered (Ok heard)) = line (heard_word heard ∷ [])
+answer_text name (Delivered (Err error)) = refusal_text (part_word error) (refused_number_of error) name
+answer_text name NoSuch = line (codes "none" ∷ [])
+answer_text name (Left (Ok done)) = line (codes "leaving" ∷ [])
+answer_text name (Left (Err error)) = refusal_text (codes "leave") (leave_number_of error) name
+answer_text name (Decided (Ok count)) = line (codes "cut " ∷ decimal count ∷ [])
+answer_text name (Decided (Err error)) = refusal_text (codes "decide") (decide_number_of error) name
+answer_text name Down = line (codes "down" ∷ [])
+answer_text name Stopped = line (codes "stopped" ∷ [])
 
 -- The line of an answer: the number of its event, and what is told. Nothing is said of the names of refusals.
 abbrev pub IsLine : ℕ → Answer → List ℕ → Type 0
-IsLine number answer text = (name : List ℕ) × (text ≡ decimal number ++ codes " " ++ told name answer)
+IsLine number answer text = (name : List ℕ) × (text ≡ decimal number ++ codes " " ++ answer_text name answer)
 
 -- the lines of answers, numbered from here on
 abbrev pub AreLines : ℕ → List Answer → List ℕ → Type 0

@@ -15,7 +15,7 @@ use Rattle.c8_world.specs.Agreement.{IsPlayer, Reads}
 use Rattle.c8_world.specs.Disks.{AreArmed, IsNewDisk, arms_in}
 use Rattle.c8_world.specs.Ends.{AreEnds}
 use Rattle.c8_world.specs.Run.{RunsWithMemory, HasRun}
-use Rattle.c8_world.specs.Table.{TableValue, Holds, seat_of}
+use Rattle.c8_world.specs.Table.{TableValue, Holds, node_of}
 use Rattle.c8_script.specs.Errors.{sim_part}
 use Rattle.c8_script.specs.Printed.{AreLines, ends_text}
 use Rattle.c8_script.specs.Script.{SpellsScript, IsFaultOfScript}
@@ -33,7 +33,7 @@ pub record IsNewWorld (rules : Rules) (t : TableValue) : Type 0 where
   pub rules_are : t.rules ≡ rules
   pub room_is : t.room ≡ ROOM
   pub holds : Holds t (start rules)
-  pub disks : (p : ℕ) → IsPlayer t.rules p → IsNewDisk CAPACITY CALLS (seat_of t p)
+  pub disks : (p : ℕ) → IsPlayer t.rules p → IsNewDisk CAPACITY CALLS (node_of t p)
 
 -- All events have been run from a new world on, memory was there, and these are the answers; and so the players stand in what is
 -- held then.

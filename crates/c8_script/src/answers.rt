@@ -3,7 +3,7 @@
 ghost use Rattle.std.specs.Prelude.{◌≡◌, ℕ, List, [], ◌∷◌, OnOk, length};
 ghost use Rattle.std.specs.List.{flat_map};
 ghost use Rattle.std.specs.Io.KnownBytes.{Appends};
-ghost use Rattle.c8_script.specs.Printed.{AreLines, IsLine, told, refusal_text, part_word, heard_word, ticked_text, line, count_text, tallies_text, tally_text, ends_text};
+ghost use Rattle.c8_script.specs.Printed.{AreLines, IsLine, answer_text, refusal_text, part_word, heard_word, ticked_text, line, count_text, tallies_text, tally_text, ends_text};
 
 use c8_peer::{Heard, Refused};
 use c8_world::{Answer, Counts, Ends, Posted, Tally};
@@ -32,7 +32,7 @@ fn write_line<W: Write>(out: &mut W, number: usize, answer: Answer) -> io::Resul
 
 fn write_answer<W: Write>(out: &mut W, answer: Answer) -> io::Result<()>
     ensures { OnOk result ((name : List ℕ)
-        × Appends (W.contents out.old) (W.contents out.new) (told name answer)) }
+        × Appends (W.contents out.old) (W.contents out.new) (answer_text name answer)) }
 {
     match answer {
         Answer::Opened(Ok(epoch)) => writeln!(out, "epoch {epoch}"),

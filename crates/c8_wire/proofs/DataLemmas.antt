@@ -5,7 +5,7 @@ use Rattle.std.proofs.lemmas.Bool.Decides.{nat_tests}
 use Rattle.byteorder.specs.Endian.{big_bytes}
 use Rattle.byteorder.specs.Numbers.{big_number-reads_back}
 use Rattle.c8_game.specs.Rules.{most_inputs}
-use Rattle.c8_wire.specs.declared.kinds.Kind.TheVariants as kinds
+use Rattle.c8_wire.specs.declared.kinds.DatagramKind.TheVariants as kinds
 use Rattle.c8_wire.specs.Packet.{AreBytes, HeadValue, IsHead, DataMessage, IsDataMessage, Data, Fits}
 use Rattle.c8_wire.specs.Spelling.{header_bytes, run_bytes, body_bytes}
 use Rattle.c8_wire.specs.Reading.{number_at, size_at, data_at}

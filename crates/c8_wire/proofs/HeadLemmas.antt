@@ -6,7 +6,7 @@ use Rattle.byteorder.specs.Numbers.{big_number-reads_back}
 use Rattle.std.proofs.lemmas.Bool.Decides.{nat_tests}
 use Rattle.c8_wire.specs.declared.error.WireError.TheVariants as errors
 use Rattle.c8_wire.specs.Refusal.{applies}
-use Rattle.c8_wire.specs.declared.kinds.Kind.{Kind}
+use Rattle.c8_wire.specs.declared.kinds.DatagramKind.{DatagramKind}
 use Rattle.c8_wire.specs.Kinds.{code_of}
 use Rattle.c8_wire.specs.Packet.{AreBytes, HeadValue, IsHead}
 use Rattle.c8_wire.specs.Spelling.{header_bytes}
@@ -22,7 +22,7 @@ pub byte_here : (place next : ℕ) (bytes : List ℕ) → place + 1 ≡ next →
 byte_here place next bytes ends long = drop_more bytes place 0 (omega arith) ∙ ap (λ (k : ℕ). get_or bytes place 0 ∷ drop k bytes) ends
 
 -- a header that begins a datagram's bytes spells what it says
-pub spelled_header : (kind : Kind) (bytes : List ℕ) → AreBytes bytes → 24 ≤ length bytes → number_at 0 2 bytes ≡ 0x4338 → slice_index bytes 2 ≡ 1 → slice_index bytes 3 ≡ code_of kind
+pub spelled_header : (kind : DatagramKind) (bytes : List ℕ) → AreBytes bytes → 24 ≤ length bytes → number_at 0 2 bytes ≡ 0x4338 → slice_index bytes 2 ≡ 1 → slice_index bytes 3 ≡ code_of kind
     → bytes ≡ header_bytes (head_at kind bytes) (size_at bytes) ++ drop 24 bytes
 spelled_header kind bytes fits long magic version code =
     let first : bytes ≡ big_bytes 2 0x4338 ++ drop 2 bytes = spelled_at 0 2 2 bytes refl (omega arith) fits ∙ ap (λ (n : ℕ). big_bytes 2 n ++ drop 2 bytes) magic in
@@ -66,12 +66,12 @@ headed head length body is short =
     }
 
 -- no refusal of the header applies to the spelling
-pub record HasFront (kind : Kind) (bytes : List ℕ) : Type 0 where
+pub record HasFront (kind : DatagramKind) (bytes : List ℕ) : Type 0 where
   pub short : applies errors.Short (Some kind) bytes ≡ false
   pub magic : applies errors.Magic (Some kind) bytes ≡ false
   pub version : applies errors.Version (Some kind) bytes ≡ false
 
-pub front_accepted : (kind : Kind) (bytes : List ℕ) (head : HeadValue) (size : ℕ) → HasHead bytes head size → length bytes ≡ 24 + size → HasFront kind bytes
+pub front_accepted : (kind : DatagramKind) (bytes : List ℕ) (head : HeadValue) (size : ℕ) → HasHead bytes head size → length bytes ≡ 24 + size → HasFront kind bytes
 unfolding applies
 front_accepted kind bytes head size has long =
     record {

@@ -2,8 +2,8 @@
 use Rattle.std.proofs.Common.{◌≡◌, ℕ, ◌+◌, ◌*◌, ◌≤◌, List, ◌++◌, length, drop, slice_index, Some, None, refl, sym, ap, subst, ◌∙◌, arith}
 use Rattle.std.proofs.lemmas.List.{length-drop, length-append}
 use Rattle.std.proofs.lemmas.Bool.Decides.{nat_tests}
-use Rattle.c8_wire.specs.declared.kinds.Kind.{Kind}
-use Rattle.c8_wire.specs.declared.kinds.Kind.TheVariants as kinds
+use Rattle.c8_wire.specs.declared.kinds.DatagramKind.{DatagramKind}
+use Rattle.c8_wire.specs.declared.kinds.DatagramKind.TheVariants as kinds
 use Rattle.c8_wire.specs.Packet.{AreBytes, HeadValue, IsHead, Message, Hello, Welcome, Data, Freeze, Frozen, Cut, Fits, IsMessage, kind_of, Packet}
 use Rattle.c8_wire.specs.Spelling.{header_bytes, leaver_bytes, body_bytes, spelling, Spells}
 use Rattle.c8_wire.specs.Reading.{number_at, kind_at, size_at, head_at, message_at, packet_at}
@@ -20,14 +20,14 @@ use Rattle.c8_wire.proofs.DataLemmas.{data_shaped, spelled_data, is_data, data_a
 -- ---- what is not refused is spelled
 
 -- what the table says of the header of an accepted datagram
-record IsShaped (kind : Kind) (bytes : List ℕ) : Type 0 where
+record IsShaped (kind : DatagramKind) (bytes : List ℕ) : Type 0 where
   long : 24 ≤ length bytes
   magic : number_at 0 2 bytes ≡ 0x4338
   version : slice_index bytes 2 ≡ 1
   sized : length bytes ≡ 24 + size_at bytes
   head : IsHead (head_at kind bytes)
 
-shaped : (kind : Kind) (bytes : List ℕ) → AreBytes bytes → IsAccepted kind bytes → IsShaped kind bytes
+shaped : (kind : DatagramKind) (bytes : List ℕ) → AreBytes bytes → IsAccepted kind bytes → IsShaped kind bytes
 unfolding applies
 shaped kind bytes fits a =
     let short = a.short in
@@ -53,13 +53,13 @@ shaped kind bytes fits a =
     }
 
 -- what the table says of the body of one
-record IsBody (kind : Kind) (bytes : List ℕ) : Type 0 where
+record IsBody (kind : DatagramKind) (bytes : List ℕ) : Type 0 where
   named : kind ≡ kind_of (message_at kind bytes)
   fits : Fits (message_at kind bytes)
   message : IsMessage (message_at kind bytes)
   spelled : drop 24 bytes ≡ body_bytes (message_at kind bytes)
 
-body_found : (kind : Kind) (bytes : List ℕ) → AreBytes bytes → length bytes ≡ 24 + size_at bytes → IsAccepted kind bytes → IsBody kind bytes
+body_found : (kind : DatagramKind) (bytes : List ℕ) → AreBytes bytes → length bytes ≡ 24 + size_at bytes → IsAccepted kind bytes → IsBody kind bytes
 body_found kinds.Hello bytes fits sized a =
     record { named = refl; fits = tt; message = tt; spelled = spelled_hello bytes (length-hello bytes sized a) }
 body_found kinds.Welcome bytes fits sized a =
@@ -79,7 +79,7 @@ body_found kinds.Cut bytes fits sized a =
     let is = cut_shaped bytes sized a in
     record { named = refl; fits = words_of-lt (drop 36 bytes) (AreBytes-drop 36 bytes fits); message = is_leaver bytes is; spelled = spelled_run_of_leaver bytes fits is }
 
-pub found : (kind : Kind) (bytes : List ℕ) → AreBytes bytes → kind_at bytes ≡ Some kind → refusal bytes ≡ None → Spells bytes (packet_at kind bytes)
+pub found : (kind : DatagramKind) (bytes : List ℕ) → AreBytes bytes → kind_at bytes ≡ Some kind → refusal bytes ≡ None → Spells bytes (packet_at kind bytes)
 unfolding spelling
 found kind bytes fits named none =
     let a = accepted kind bytes named none in
@@ -108,8 +108,8 @@ read_again : (bytes : List ℕ) (head : HeadValue) (message : Message) → kind_
 read_again bytes head message named kind values accepted same =
     record {
       kind = named;
-      none = not_refused head.kind bytes named (subst (λ (k : Kind). IsAccepted k bytes) (sym kind) accepted);
-      same = λ i. record { head = values i; message = (ap (λ (k : Kind). message_at k bytes) kind ∙ same) i };
+      none = not_refused head.kind bytes named (subst (λ (k : DatagramKind). IsAccepted k bytes) (sym kind) accepted);
+      same = λ i. record { head = values i; message = (ap (λ (k : DatagramKind). message_at k bytes) kind ∙ same) i };
     }
 
 message_again : (head : HeadValue) (message : Message) → IsHead head → head.kind ≡ kind_of message → Fits message → IsMessage message
@@ -158,11 +158,11 @@ some_is : {A : Type 0} (x y : A) → Some x ≡ Some y → x ≡ y
 some_is x y e = cc
 
 -- the packet of the kind that the bytes name is the one that they spell
-pub same_kind : (kind : Kind) (bytes : List ℕ) (p : Packet) → kind_at bytes ≡ Some kind → Spells bytes p → packet_at kind bytes ≡ p
+pub same_kind : (kind : DatagramKind) (bytes : List ℕ) (p : Packet) → kind_at bytes ≡ Some kind → Spells bytes p → packet_at kind bytes ≡ p
 same_kind kind bytes p named spells =
     let read = again bytes p spells in
     let same : kind ≡ p.head.kind = some_is kind p.head.kind (sym named ∙ read.kind) in
-    ap (λ (k : Kind). packet_at k bytes) same ∙ read.same
+    ap (λ (k : DatagramKind). packet_at k bytes) same ∙ read.same
 
 -- ---- how long an accepted datagram is, by its kind
 

@@ -1,7 +1,7 @@
 -- What bytes say is the packet that they spell, or else their refusal.
 use Rattle.std.proofs.Common.{◌≡◌, ℕ, List, Option, Some, None, Ok, Err, refl, sym, ap, subst, ◌∙◌}
 use Rattle.c8_wire.specs.declared.error.WireError.{WireError}
-use Rattle.c8_wire.specs.declared.kinds.Kind.{Kind}
+use Rattle.c8_wire.specs.declared.kinds.DatagramKind.{DatagramKind}
 use Rattle.c8_wire.specs.Packet.{AreBytes, Packet}
 use Rattle.c8_wire.specs.Spelling.{Spells}
 use Rattle.c8_wire.specs.Reading.{kind_at, packet_at}
@@ -15,10 +15,10 @@ one_packet bytes p q one other =
     let first = again bytes p one in
     sym first.same ∙ same_kind p.head.kind bytes q first.kind other
 
-pub read_accepted : (bytes : List ℕ) (kind : Kind) → kind_at bytes ≡ Some kind → refusal bytes ≡ None → read bytes ≡ Ok (packet_at kind bytes)
+pub read_accepted : (bytes : List ℕ) (kind : DatagramKind) → kind_at bytes ≡ Some kind → refusal bytes ≡ None → read bytes ≡ Ok (packet_at kind bytes)
 unfolding read
 read_accepted bytes kind named none =
-    ap (λ (r : Option WireError). answer r (kind_at bytes) bytes) none ∙ ap (λ (k : Option Kind). answer None k bytes) named
+    ap (λ (r : Option WireError). answer r (kind_at bytes) bytes) none ∙ ap (λ (k : Option DatagramKind). answer None k bytes) named
 
 pub read_refused : (bytes : List ℕ) (error : WireError) → refusal bytes ≡ Some error → read bytes ≡ Err error
 unfolding read
@@ -30,13 +30,13 @@ read_spelled bytes p spells =
     read_accepted bytes p.head.kind is.kind is.none ∙ ap Ok is.same
 
 -- what an answer came from
-record IsRead (refused : Option WireError) (named : Option Kind) (bytes : List ℕ) (p : Packet) : Type 0 where
-  kind : Kind
+record IsRead (refused : Option WireError) (named : Option DatagramKind) (bytes : List ℕ) (p : Packet) : Type 0 where
+  kind : DatagramKind
   none : refused ≡ None
   names : named ≡ Some kind
   packet : packet_at kind bytes ≡ p
 
-read_from : (refused : Option WireError) (named : Option Kind) (bytes : List ℕ) (p : Packet) → answer refused named bytes ≡ Ok p → IsRead refused named bytes p
+read_from : (refused : Option WireError) (named : Option DatagramKind) (bytes : List ℕ) (p : Packet) → answer refused named bytes ≡ Ok p → IsRead refused named bytes p
 read_from (Some error) named bytes p e = absurd cc
 read_from None (Some kind) bytes p e = record { kind = kind; none = refl; names = refl; packet = cc }
 read_from None None bytes p e = absurd cc
@@ -56,7 +56,7 @@ refused_from : (bytes : List ℕ) (refused : Option WireError) (error : WireErro
 refused_from bytes (Some other) error is e = cc
 refused_from bytes None error is e =
     let kind = kind_named bytes is in
-    let read_as : answer None (Some kind.0) bytes ≡ Err error = ap (λ (k : Option Kind). answer None k bytes) (sym kind.1) ∙ e in
+    let read_as : answer None (Some kind.0) bytes ≡ Err error = ap (λ (k : Option DatagramKind). answer None k bytes) (sym kind.1) ∙ e in
     absurd cc
 
 pub refused_unread : (bytes : List ℕ) (error : WireError) → read bytes ≡ Err error → refusal bytes ≡ Some error

@@ -4,8 +4,8 @@ use Rattle.std.specs.Prelude.{◌==◌, find}
 use Rattle.std.proofs.lemmas.Bool.{eqb-true}
 use Rattle.c8_wire.specs.declared.error.WireError.{WireError}
 use Rattle.c8_wire.specs.declared.error.WireError.TheVariants as errors
-use Rattle.c8_wire.specs.declared.kinds.Kind.{Kind}
-use Rattle.c8_wire.specs.declared.kinds.Kind.TheVariants as kinds
+use Rattle.c8_wire.specs.declared.kinds.DatagramKind.{DatagramKind}
+use Rattle.c8_wire.specs.declared.kinds.DatagramKind.TheVariants as kinds
 use Rattle.c8_wire.specs.Kinds.{code_of, all_kinds, kind_of_code}
 use Rattle.c8_wire.specs.Reading.{kind_at}
 use Rattle.c8_wire.specs.Refusal.{applies, first_of, front_refusals, body_refusals, refusal}
@@ -35,11 +35,11 @@ pub refused_or_not : (refused : Option WireError) (error : WireError) → refuse
 refused_or_not refused error none some = cc
 
 -- a number's kind has that number
-pub code_of_found : (code : ℕ) (kind : Kind) → kind_of_code code ≡ Some kind → code ≡ code_of kind
+pub code_of_found : (code : ℕ) (kind : DatagramKind) → kind_of_code code ≡ Some kind → code ≡ code_of kind
 unfolding kind_of_code
 code_of_found code kind e = sym (eqb-true _ _ (find_passes (λ k. code_of k == code) all_kinds kind e))
 
-pub kind_of_its_code : (kind : Kind) → kind_of_code (code_of kind) ≡ Some kind
+pub kind_of_its_code : (kind : DatagramKind) → kind_of_code (code_of kind) ≡ Some kind
 unfolding kind_of_code
 kind_of_its_code kinds.Hello = refl
 kind_of_its_code kinds.Welcome = refl
@@ -49,7 +49,7 @@ kind_of_its_code kinds.Frozen = refl
 kind_of_its_code kinds.Cut = refl
 
 -- no refusal applies to a datagram of this kind
-pub record IsAccepted (kind : Kind) (bytes : List ℕ) : Type 0 where
+pub record IsAccepted (kind : DatagramKind) (bytes : List ℕ) : Type 0 where
   pub short : applies errors.Short (Some kind) bytes ≡ false
   pub magic : applies errors.Magic (Some kind) bytes ≡ false
   pub version : applies errors.Version (Some kind) bytes ≡ false
@@ -59,10 +59,10 @@ pub record IsAccepted (kind : Kind) (bytes : List ℕ) : Type 0 where
   pub count : applies errors.Count (Some kind) bytes ≡ false
   pub beyond : applies errors.Beyond (Some kind) bytes ≡ false
 
-pub accepted : (kind : Kind) (bytes : List ℕ) → kind_at bytes ≡ Some kind → refusal bytes ≡ None → IsAccepted kind bytes
+pub accepted : (kind : DatagramKind) (bytes : List ℕ) → kind_at bytes ≡ Some kind → refusal bytes ≡ None → IsAccepted kind bytes
 unfolding refusal
 accepted kind bytes named none =
-    let found : first_of (front_refusals ++ body_refusals) (Some kind) bytes ≡ None = ap (λ (k : Option Kind). first_of (front_refusals ++ body_refusals) k bytes) (sym named) ∙ none in
+    let found : first_of (front_refusals ++ body_refusals) (Some kind) bytes ≡ None = ap (λ (k : Option DatagramKind). first_of (front_refusals ++ body_refusals) k bytes) (sym named) ∙ none in
     let a = none_in _ _ _ found in
     let b = none_in _ _ _ a.1 in
     let c = none_in _ _ _ b.1 in
@@ -74,7 +74,7 @@ accepted kind bytes named none =
     let i = none_in _ _ _ h.1 in
     record { short = a.0; magic = b.0; version = c.0; length = e.0; player = f.0; reserved = g.0; count = h.0; beyond = i.0 }
 
-names_a_kind : (kind : Kind) (bytes : List ℕ) → applies errors.Kind (Some kind) bytes ≡ false
+names_a_kind : (kind : DatagramKind) (bytes : List ℕ) → applies errors.Kind (Some kind) bytes ≡ false
 unfolding applies
 names_a_kind kind bytes = refl
 
@@ -82,25 +82,25 @@ no_kind : (bytes : List ℕ) → applies errors.Kind None bytes ≡ false → �
 unfolding applies
 no_kind bytes e = absurd cc
 
-kind_there : (bytes : List ℕ) (kind : Option Kind) → applies errors.Kind kind bytes ≡ false → (k : Kind) × (kind ≡ Some k)
+kind_there : (bytes : List ℕ) (kind : Option DatagramKind) → applies errors.Kind kind bytes ≡ false → (k : DatagramKind) × (kind ≡ Some k)
 kind_there bytes (Some k) e = (k, refl)
 kind_there bytes None e = absurd (no_kind bytes e)
 
 -- bytes that nothing refuses name a kind
-pub kind_named : (bytes : List ℕ) → refusal bytes ≡ None → (kind : Kind) × (kind_at bytes ≡ Some kind)
+pub kind_named : (bytes : List ℕ) → refusal bytes ≡ None → (kind : DatagramKind) × (kind_at bytes ≡ Some kind)
 unfolding refusal
 kind_named bytes none =
     kind_there bytes (kind_at bytes) (none_at (λ error. applies error (kind_at bytes) bytes) (errors.Short ∷ errors.Magic ∷ errors.Version ∷ []) body_refusals errors.Kind none)
 
 -- a header that is right leaves the refusals of the body
-pub past_front : (kind : Kind) (bytes : List ℕ) → kind_at bytes ≡ Some kind → applies errors.Short (Some kind) bytes ≡ false → applies errors.Magic (Some kind) bytes ≡ false → applies errors.Version (Some kind) bytes ≡ false
+pub past_front : (kind : DatagramKind) (bytes : List ℕ) → kind_at bytes ≡ Some kind → applies errors.Short (Some kind) bytes ≡ false → applies errors.Magic (Some kind) bytes ≡ false → applies errors.Version (Some kind) bytes ≡ false
     → refusal bytes ≡ first_of body_refusals (Some kind) bytes
 unfolding refusal
 past_front kind bytes named short magic version =
-    ap (λ (k : Option Kind). first_of (front_refusals ++ body_refusals) k bytes) named
+    ap (λ (k : Option DatagramKind). first_of (front_refusals ++ body_refusals) k bytes) named
     ∙ skipped _ _ _ short ∙ skipped _ _ _ magic ∙ skipped _ _ _ version ∙ skipped _ _ _ (names_a_kind kind bytes)
 
-pub not_refused : (kind : Kind) (bytes : List ℕ) → kind_at bytes ≡ Some kind → IsAccepted kind bytes → refusal bytes ≡ None
+pub not_refused : (kind : DatagramKind) (bytes : List ℕ) → kind_at bytes ≡ Some kind → IsAccepted kind bytes → refusal bytes ≡ None
 not_refused kind bytes named a =
     past_front kind bytes named a.short a.magic a.version
     ∙ skipped _ _ _ a.length ∙ skipped _ _ _ a.player ∙ skipped _ _ _ a.reserved ∙ skipped _ _ _ a.count ∙ skipped _ _ _ a.beyond

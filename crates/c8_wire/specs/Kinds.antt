@@ -2,12 +2,12 @@
 use Rattle.std.specs.Prelude.{◌≡◌, ℕ, ◌+◌, ◌==◌, Bool, true, false, List, [], ◌∷◌, Option, Some, None, Result, MatchResult, find}
 use Rattle.c8_wire.specs.declared.error.WireError.{WireError}
 use Rattle.c8_wire.specs.declared.error.WireError.TheVariants as errors
-use Rattle.c8_wire.specs.declared.kinds.Kind.{Kind}
-use Rattle.c8_wire.specs.declared.kinds.Kind.TheVariants as kinds
+use Rattle.c8_wire.specs.declared.kinds.DatagramKind.{DatagramKind}
+use Rattle.c8_wire.specs.declared.kinds.DatagramKind.TheVariants as kinds
 use Rattle.c8_wire.specs.Sizes.{header_length}
 
 -- the number of a kind, byte 3 of its datagrams
-abbrev pub code_of : Kind → ℕ
+abbrev pub code_of : DatagramKind → ℕ
 code_of kinds.Hello = 1
 code_of kinds.Welcome = 2
 code_of kinds.Data = 3
@@ -15,19 +15,19 @@ code_of kinds.Freeze = 4
 code_of kinds.Frozen = 5
 code_of kinds.Cut = 6
 
-abbrev pub all_kinds : List Kind
+abbrev pub all_kinds : List DatagramKind
 all_kinds = kinds.Hello ∷ kinds.Welcome ∷ kinds.Data ∷ kinds.Freeze ∷ kinds.Frozen ∷ kinds.Cut ∷ []
 
 -- the kind of a number, where there is one
-unfoldable pub kind_of_code : ℕ → Option Kind
+unfoldable pub kind_of_code : ℕ → Option DatagramKind
 kind_of_code code = find (λ kind. code_of kind == code) all_kinds
 
 -- the answer to a number that should be a kind's
-abbrev pub IsKindOf : ℕ → Result Kind WireError → Type 0
+abbrev pub IsKindOf : ℕ → Result DatagramKind WireError → Type 0
 IsKindOf code answer = MatchResult answer (λ kind. kind_of_code code ≡ Some kind) (λ error. (kind_of_code code ≡ None) × (error ≡ errors.Kind))
 
 -- how many bytes of the body stand before its run, or in all where it has none
-abbrev pub fixed_size : Kind → ℕ
+abbrev pub fixed_size : DatagramKind → ℕ
 fixed_size kinds.Hello = 0
 fixed_size kinds.Welcome = 4
 fixed_size kinds.Data = 22
@@ -36,7 +36,7 @@ fixed_size kinds.Frozen = 12
 fixed_size kinds.Cut = 12
 
 -- whether the body ends with a run: where it starts, how many key sets it has, and these
-abbrev pub has_run : Kind → Bool
+abbrev pub has_run : DatagramKind → Bool
 has_run kinds.Hello = false
 has_run kinds.Welcome = false
 has_run kinds.Data = true
@@ -45,7 +45,7 @@ has_run kinds.Frozen = true
 has_run kinds.Cut = true
 
 -- whether the body begins with a player who leaves, and a byte 0
-abbrev pub names_leaver : Kind → Bool
+abbrev pub names_leaver : DatagramKind → Bool
 names_leaver kinds.Hello = false
 names_leaver kinds.Welcome = false
 names_leaver kinds.Data = false
@@ -54,5 +54,5 @@ names_leaver kinds.Frozen = true
 names_leaver kinds.Cut = true
 
 -- the place of the key sets of a kind's run
-abbrev pub run_place : Kind → ℕ
+abbrev pub run_place : DatagramKind → ℕ
 run_place kind = header_length + fixed_size kind

@@ -1,7 +1,7 @@
 -- What a caller sees of a datagram that is lent from its bytes.
 use Rattle.std.specs.Prelude.{ℕ, ◌*◌, List, drop}
-use Rattle.c8_wire.specs.declared.kinds.Kind.{Kind}
-use Rattle.c8_wire.specs.declared.kinds.Kind.TheVariants as kinds
+use Rattle.c8_wire.specs.declared.kinds.DatagramKind.{DatagramKind}
+use Rattle.c8_wire.specs.declared.kinds.DatagramKind.TheVariants as kinds
 use Rattle.c8_wire.specs.declared.header.Header.{Header}
 use Rattle.c8_wire.specs.declared.run.Run.{Run}
 use Rattle.c8_wire.specs.declared.run.Words.{Words}
@@ -60,7 +60,7 @@ abbrev pub spelled : Run → List ℕ
 spelled run = run.bytes.now
 
 -- the slice of a datagram's bytes that is its run
-abbrev pub run_slice : Kind → List ℕ → List ℕ
+abbrev pub run_slice : DatagramKind → List ℕ → List ℕ
 run_slice kind bytes = drop (run_place kind) bytes
 
 -- the slice of a run's bytes that is the run from an input on

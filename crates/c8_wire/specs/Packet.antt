@@ -1,14 +1,14 @@
 -- What a datagram says, apart from the bytes that spell it.
 use Rattle.std.specs.Prelude.{◌≡◌, ◌≢◌, ℕ, ◌+◌, ◌^◌, ◌<◌, ◌≤◌, List, length, slice_index}
 use Rattle.c8_game.specs.Rules.{most_inputs}
-use Rattle.c8_wire.specs.declared.kinds.Kind.{Kind}
-use Rattle.c8_wire.specs.declared.kinds.Kind.TheVariants as kinds
+use Rattle.c8_wire.specs.declared.kinds.DatagramKind.{DatagramKind}
+use Rattle.c8_wire.specs.declared.kinds.DatagramKind.TheVariants as kinds
 use Rattle.c8_wire.specs.Sizes.{longest_run}
 
 -- Which kind of datagram who says to whom, in which match, and the epochs of both. Who says it and
 -- who is addressed are seats, the numbers of players 1 to 4.
 pub record HeadValue : Type 0 where
-  pub kind : Kind
+  pub kind : DatagramKind
   pub session : ℕ
   pub from : ℕ
   pub to : ℕ
@@ -49,7 +49,7 @@ pub record Packet : Type 0 where
   pub head : HeadValue
   pub message : Message
 
-abbrev pub kind_of : Message → Kind
+abbrev pub kind_of : Message → DatagramKind
 kind_of Hello = kinds.Hello
 kind_of (Welcome ack) = kinds.Welcome
 kind_of (Data m) = kinds.Data

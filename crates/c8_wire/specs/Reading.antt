@@ -1,8 +1,8 @@
 -- What stands where in a datagram's bytes.
 use Rattle.std.specs.Prelude.{ℕ, ◌+◌, ◌*◌, List, [], ◌∷◌, take, drop, slice_index, Option}
 use Rattle.byteorder.specs.Endian.{big_number}
-use Rattle.c8_wire.specs.declared.kinds.Kind.{Kind}
-use Rattle.c8_wire.specs.declared.kinds.Kind.TheVariants as kinds
+use Rattle.c8_wire.specs.declared.kinds.DatagramKind.{DatagramKind}
+use Rattle.c8_wire.specs.declared.kinds.DatagramKind.TheVariants as kinds
 use Rattle.c8_wire.specs.Kinds.{kind_of_code}
 use Rattle.c8_wire.specs.Packet.{HeadValue, DataMessage, FreezeMessage, LeaverMessage, Message, Hello, Welcome, Data, Freeze, Frozen, Cut, Packet}
 
@@ -11,14 +11,14 @@ unfoldable pub number_at : ℕ → ℕ → List ℕ → ℕ
 number_at place width bytes = big_number width (drop place bytes)
 
 -- the kind that byte 3 names
-abbrev pub kind_at : List ℕ → Option Kind
+abbrev pub kind_at : List ℕ → Option DatagramKind
 kind_at bytes = kind_of_code (slice_index bytes 3)
 
 -- the length of the body, as the header says it
 abbrev pub size_at : List ℕ → ℕ
 size_at bytes = number_at 14 2 bytes
 
-abbrev pub head_at : Kind → List ℕ → HeadValue
+abbrev pub head_at : DatagramKind → List ℕ → HeadValue
 head_at kind bytes = record {
   kind = kind;
   session = number_at 4 8 bytes;
@@ -54,7 +54,7 @@ leaver_at bytes = record {
   words = words_of (drop 36 bytes);
 }
 
-abbrev pub message_at : Kind → List ℕ → Message
+abbrev pub message_at : DatagramKind → List ℕ → Message
 message_at kinds.Hello bytes = Hello
 message_at kinds.Welcome bytes = Welcome (number_at 24 4 bytes)
 message_at kinds.Data bytes = Data (data_at bytes)
@@ -62,5 +62,5 @@ message_at kinds.Freeze bytes = Freeze (freeze_at bytes)
 message_at kinds.Frozen bytes = Frozen (leaver_at bytes)
 message_at kinds.Cut bytes = Cut (leaver_at bytes)
 
-abbrev pub packet_at : Kind → List ℕ → Packet
+abbrev pub packet_at : DatagramKind → List ℕ → Packet
 packet_at kind bytes = record { head = head_at kind bytes; message = message_at kind bytes }

@@ -3,8 +3,8 @@ use Rattle.std.specs.Prelude.{ℕ, ◌+◌, ◌*◌, ◌==◌, ◌||◌, ◌&&�
 use Rattle.c8_game.specs.Rules.{most_inputs}
 use Rattle.c8_wire.specs.declared.error.WireError.{WireError}
 use Rattle.c8_wire.specs.declared.error.WireError.TheVariants as errors
-use Rattle.c8_wire.specs.declared.kinds.Kind.{Kind}
-use Rattle.c8_wire.specs.declared.kinds.Kind.TheVariants as kinds
+use Rattle.c8_wire.specs.declared.kinds.DatagramKind.{DatagramKind}
+use Rattle.c8_wire.specs.declared.kinds.DatagramKind.TheVariants as kinds
 use Rattle.c8_wire.specs.Sizes.{header_length, longest_run}
 use Rattle.c8_wire.specs.Kinds.{fixed_size, has_run, names_leaver}
 use Rattle.c8_wire.specs.Reading.{number_at, kind_at, size_at}
@@ -17,36 +17,36 @@ abbrev pub is_player : ℕ → Bool
 is_player seat = is_within 1 4 seat
 
 -- the body is not as long as the header says, or not as its kind wants
-abbrev pub is_misfit : Kind → List ℕ → Bool
+abbrev pub is_misfit : DatagramKind → List ℕ → Bool
 is_misfit kind bytes = not (length bytes == header_length + size_at bytes)
     || (if has_run kind then nat_lt (size_at bytes) (fixed_size kind) else not (size_at bytes == fixed_size kind))
 
 -- The header does not name two players, or the leaver is none who may leave.
-abbrev pub misnames_players : Kind → List ℕ → Bool
+abbrev pub misnames_players : DatagramKind → List ℕ → Bool
 misnames_players kind bytes = not (is_player (slice_index bytes 12)) || not (is_player (slice_index bytes 13))
     || slice_index bytes 12 == slice_index bytes 13 || (names_leaver kind && not (is_within 2 4 (slice_index bytes 24)))
 
 -- the byte after the leaver is not 0
-abbrev pub fills_reserved : Kind → List ℕ → Bool
+abbrev pub fills_reserved : DatagramKind → List ℕ → Bool
 fills_reserved kind bytes = names_leaver kind && not (slice_index bytes 25 == 0)
 
 -- a run's start and length stand in the last six bytes of the fixed part
-abbrev pub start_at : Kind → List ℕ → ℕ
+abbrev pub start_at : DatagramKind → List ℕ → ℕ
 start_at kind bytes = number_at (18 + fixed_size kind) 4 bytes
 
-abbrev pub count_at : Kind → List ℕ → ℕ
+abbrev pub count_at : DatagramKind → List ℕ → ℕ
 count_at kind bytes = number_at (22 + fixed_size kind) 2 bytes
 
-abbrev pub run_end : Kind → List ℕ → ℕ
+abbrev pub run_end : DatagramKind → List ℕ → ℕ
 run_end kind bytes = start_at kind bytes + count_at kind bytes
 
 -- the run is too long, or not as long as the body has room for
-abbrev pub miscounts : Kind → List ℕ → Bool
+abbrev pub miscounts : DatagramKind → List ℕ → Bool
 miscounts kind bytes = has_run kind
     && (nat_lt longest_run (count_at kind bytes) || not (size_at bytes == fixed_size kind + 2 * count_at kind bytes))
 
 -- a number of inputs is above what a list of inputs may have, or a run goes past its end
-abbrev pub goes_beyond : Kind → List ℕ → Bool
+abbrev pub goes_beyond : DatagramKind → List ℕ → Bool
 goes_beyond kinds.Hello bytes = false
 goes_beyond kinds.Welcome bytes = nat_lt most_inputs (number_at 24 4 bytes)
 goes_beyond kinds.Data bytes = nat_lt most_inputs (number_at 24 4 bytes) || nat_lt most_inputs (number_at 28 4 bytes)
@@ -56,12 +56,12 @@ goes_beyond kinds.Frozen bytes = nat_lt most_inputs (number_at 26 4 bytes) || na
 goes_beyond kinds.Cut bytes = nat_lt most_inputs (number_at 26 4 bytes) || nat_lt (number_at 26 4 bytes) (run_end kinds.Cut bytes)
 
 -- whether there is a kind, and the test holds of it
-abbrev pub is_kind_and : Option Kind → (Kind → Bool) → Bool
+abbrev pub is_kind_and : Option DatagramKind → (DatagramKind → Bool) → Bool
 is_kind_and None test = false
 is_kind_and (Some kind) test = test kind
 
 -- Whether a refusal's condition holds of the bytes; the later ones want the kind.
-unfoldable pub applies : WireError → Option Kind → List ℕ → Bool
+unfoldable pub applies : WireError → Option DatagramKind → List ℕ → Bool
 applies errors.Short kind bytes = nat_lt (length bytes) header_length
 applies errors.Magic kind bytes = not (number_at 0 2 bytes == 0x4338)
 applies errors.Version kind bytes = not (slice_index bytes 2 == 1)
@@ -80,7 +80,7 @@ abbrev pub body_refusals : List WireError
 body_refusals = errors.Length ∷ errors.Player ∷ errors.Reserved ∷ errors.Count ∷ errors.Beyond ∷ []
 
 -- the first of these refusals that applies, None where none does
-abbrev pub first_of : List WireError → Option Kind → List ℕ → Option WireError
+abbrev pub first_of : List WireError → Option DatagramKind → List ℕ → Option WireError
 first_of refusals kind bytes = find (λ error. applies error kind bytes) refusals
 
 -- the refusal of the bytes, None where they are a datagram

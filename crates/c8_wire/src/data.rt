@@ -1,7 +1,7 @@
 //! DATA, lent from its bytes.
 ghost use Rattle.std.specs.Prelude.{◌≡◌, ◌≤◌, ◌+◌, ◌*◌, length};
 ghost use Rattle.std.proofs.Props.{props};
-ghost use Rattle.c8_wire.specs.declared.kinds.Kind.TheVariants as kinds;
+ghost use Rattle.c8_wire.specs.declared.kinds.DatagramKind.TheVariants as kinds;
 ghost use Rattle.c8_wire.specs.Reading.{number_at, packet_at};
 ghost use Rattle.c8_wire.specs.Spelling.{Spells};
 

@@ -4,7 +4,7 @@ ghost use Rattle.std.specs.Prelude.{◌≡◌};
 use crate::data::Data;
 use crate::handshake::{Hello, Welcome};
 use crate::header::Header;
-use crate::kinds::Kind;
+use crate::kinds::DatagramKind;
 use crate::leaving::{Cut, Freeze, Frozen};
 
 /// A datagram that lies in the bytes that came.
@@ -26,27 +26,27 @@ impl<'a> Datagram<'a> {
     {
         match self {
             Datagram::Hello(lent) => Header {
-                kind: Kind::Hello,
+                kind: DatagramKind::Hello,
                 bytes: lent.bytes,
             },
             Datagram::Welcome(lent) => Header {
-                kind: Kind::Welcome,
+                kind: DatagramKind::Welcome,
                 bytes: lent.bytes,
             },
             Datagram::Data(lent) => Header {
-                kind: Kind::Data,
+                kind: DatagramKind::Data,
                 bytes: lent.bytes,
             },
             Datagram::Freeze(lent) => Header {
-                kind: Kind::Freeze,
+                kind: DatagramKind::Freeze,
                 bytes: lent.view.bytes,
             },
             Datagram::Frozen(lent) => Header {
-                kind: Kind::Frozen,
+                kind: DatagramKind::Frozen,
                 bytes: lent.view.bytes,
             },
             Datagram::Cut(lent) => Header {
-                kind: Kind::Cut,
+                kind: DatagramKind::Cut,
                 bytes: lent.view.bytes,
             },
         }

@@ -3,7 +3,7 @@ ghost use Rattle.std.specs.Prelude.{◌≡◌, ◌≢◌, ◌≤◌, ◌<◌, �
 ghost use Rattle.c8_wire.specs.Reading.{kind_at, head_at};
 ghost use Rattle.c8_wire.specs.Packet.{IsHead};
 
-use crate::kinds::Kind;
+use crate::kinds::DatagramKind;
 use crate::layout::{ADDRESSEE_EPOCH_AT, FROM_AT, SENDER_EPOCH_AT, SESSION_AT, TO_AT};
 use crate::numbers::{u32_at, u64_at};
 use c8_game::{MOST_PLAYERS, Player};
@@ -56,7 +56,7 @@ impl From<Player> for Seat {
 /// What a header says, but for the length of the body.
 #[derive(Clone, Copy, Debug, PartialEq, Eq, Hash)]
 pub struct Head {
-    pub kind: Kind,
+    pub kind: DatagramKind,
     /// The match that the datagram belongs to.
     pub session: u64,
     pub from: Seat,
@@ -70,7 +70,7 @@ pub struct Head {
 /// The header of a datagram. A field is read from the bytes when it is asked for.
 #[derive(Clone, Copy, Debug, PartialEq, Eq)]
 pub struct Header<'a> {
-    pub(crate) kind: Kind,
+    pub(crate) kind: DatagramKind,
     pub(crate) bytes: &'a [u8],
     pub(crate) ghost whole: { 24 ≤ length bytes.now },
     pub(crate) ghost valid: { IsHead (head_at kind bytes.now) },
@@ -80,7 +80,7 @@ impl<'a> Header<'a> {
     ghost use Rattle.c8_wire.specs.Lent.{head_of};
     ghost use Rattle.c8_wire.specs.Saying.{head_value};
 
-    pub fn kind(&self) -> Kind
+    pub fn kind(&self) -> DatagramKind
         ensures { result ≡ (head_of self.now).kind }
     {
         self.kind

@@ -7,7 +7,7 @@ use std::fmt;
 
 /// What a datagram is for. Its number is byte 3 of the datagram.
 #[derive(Clone, Copy, Debug, PartialEq, Eq, Hash)]
-pub enum Kind {
+pub enum DatagramKind {
     /// The sender asks for a link.
     Hello = 1,
     /// The sender answers a HELLO, which opens the addressee's link.
@@ -22,21 +22,21 @@ pub enum Kind {
     Cut = 6,
 }
 
-impl Kind {
+impl DatagramKind {
     ghost use Rattle.c8_wire.specs.Kinds.{code_of, kind_of_code, fixed_size, has_run, names_leaver};
 
     /// The kind that has this number, if one has.
     #[tactic(auto, unfolding(crate::specs::Kinds::kind_of_code))]
-    pub(crate) fn from_code(code: u8) -> Option<Kind>
+    pub(crate) fn from_code(code: u8) -> Option<DatagramKind>
         ensures { result ≡ kind_of_code code }
     {
         match code {
-            1 => Some(Kind::Hello),
-            2 => Some(Kind::Welcome),
-            3 => Some(Kind::Data),
-            4 => Some(Kind::Freeze),
-            5 => Some(Kind::Frozen),
-            6 => Some(Kind::Cut),
+            1 => Some(DatagramKind::Hello),
+            2 => Some(DatagramKind::Welcome),
+            3 => Some(DatagramKind::Data),
+            4 => Some(DatagramKind::Freeze),
+            5 => Some(DatagramKind::Frozen),
+            6 => Some(DatagramKind::Cut),
             _ => None,
         }
     }
@@ -51,12 +51,12 @@ impl Kind {
     /// Its name in capital letters, as `HELLO`.
     pub fn name(self) -> &'static str {
         match self {
-            Kind::Hello => "HELLO",
-            Kind::Welcome => "WELCOME",
-            Kind::Data => "DATA",
-            Kind::Freeze => "FREEZE",
-            Kind::Frozen => "FROZEN",
-            Kind::Cut => "CUT",
+            DatagramKind::Hello => "HELLO",
+            DatagramKind::Welcome => "WELCOME",
+            DatagramKind::Data => "DATA",
+            DatagramKind::Freeze => "FREEZE",
+            DatagramKind::Frozen => "FROZEN",
+            DatagramKind::Cut => "CUT",
         }
     }
 
@@ -66,11 +66,11 @@ impl Kind {
         ensures greatest { result ≤ 22 }
     {
         match self {
-            Kind::Hello => 0,
-            Kind::Welcome => 4,
-            Kind::Data => 22,
-            Kind::Freeze => 6,
-            Kind::Frozen | Kind::Cut => 12,
+            DatagramKind::Hello => 0,
+            DatagramKind::Welcome => 4,
+            DatagramKind::Data => 22,
+            DatagramKind::Freeze => 6,
+            DatagramKind::Frozen | DatagramKind::Cut => 12,
         }
     }
 
@@ -80,8 +80,8 @@ impl Kind {
         ensures room { OnTrue result (12 ≤ fixed_size self) }
     {
         match self {
-            Kind::Data | Kind::Frozen | Kind::Cut => true,
-            Kind::Hello | Kind::Welcome | Kind::Freeze => false,
+            DatagramKind::Data | DatagramKind::Frozen | DatagramKind::Cut => true,
+            DatagramKind::Hello | DatagramKind::Welcome | DatagramKind::Freeze => false,
         }
     }
 
@@ -91,13 +91,13 @@ impl Kind {
         ensures room { OnTrue result (6 ≤ fixed_size self) }
     {
         match self {
-            Kind::Freeze | Kind::Frozen | Kind::Cut => true,
-            Kind::Hello | Kind::Welcome | Kind::Data => false,
+            DatagramKind::Freeze | DatagramKind::Frozen | DatagramKind::Cut => true,
+            DatagramKind::Hello | DatagramKind::Welcome | DatagramKind::Data => false,
         }
     }
 }
 
-impl TryFrom<u8> for Kind {
+impl TryFrom<u8> for DatagramKind {
     type Error = WireError;
 
     ghost use Rattle.c8_wire.specs.Kinds.{IsKindOf};
@@ -105,12 +105,12 @@ impl TryFrom<u8> for Kind {
     ghost try_from_gives = { IsKindOf };
 
     /// The kind that has this number; `WireError::Kind` if none has.
-    fn try_from(code: u8) -> Result<Kind, WireError> {
-        Kind::from_code(code).ok_or(WireError::Kind)
+    fn try_from(code: u8) -> Result<DatagramKind, WireError> {
+        DatagramKind::from_code(code).ok_or(WireError::Kind)
     }
 }
 
-impl fmt::Display for Kind {
+impl fmt::Display for DatagramKind {
     fn fmt<W: fmt::Write>(&self, f: &mut fmt::Formatter<W>) -> fmt::Result {
         f.write_str(self.name())
     }

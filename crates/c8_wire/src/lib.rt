@@ -30,7 +30,7 @@ pub use datagram::Datagram;
 pub use error::WireError;
 pub use handshake::{Hello, Welcome};
 pub use header::{Head, Header, Seat};
-pub use kinds::Kind;
+pub use kinds::DatagramKind;
 pub use leaving::{Cut, Freeze, Frozen};
 pub use numbers::{u16_at, u32_at, u64_at};
 pub use reading::view;

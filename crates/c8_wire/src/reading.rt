@@ -13,7 +13,7 @@ use crate::data::Data;
 use crate::datagram::Datagram;
 use crate::error::WireError;
 use crate::handshake::{Hello, Welcome};
-use crate::kinds::Kind;
+use crate::kinds::DatagramKind;
 use crate::layout::{
     ACK_AT, COUNT_PAST_FIXED, FROM_AT, INPUTS_AT, KIND_AT, LEAVER_AT, MAGIC, MAGIC_AT,
     MARK_FRAME_AT, RESERVED, RESERVED_AT, SIZE_AT, START_PAST_FIXED, TO_AT, VERSION, VERSION_AT,
@@ -45,7 +45,7 @@ pub fn view(bytes: &[u8]) -> Result<Datagram<'_>, WireError>
 }
 
 /// The datagram of this kind that the bytes spell.
-fn datagram_of(kind: Kind, bytes: &[u8]) -> Datagram<'_>
+fn datagram_of(kind: DatagramKind, bytes: &[u8]) -> Datagram<'_>
     requires kind { kind_at bytes.now ≡ Some kind }
     requires accepted { refusal bytes.now ≡ None }
     ensures packet { packet_of result ≡ packet_at kind bytes.now }
@@ -53,23 +53,23 @@ fn datagram_of(kind: Kind, bytes: &[u8]) -> Datagram<'_>
     ensures lent { bytes_of result ≡ bytes.now }
 {
     match kind {
-        Kind::Hello => Datagram::Hello(Hello { bytes }),
-        Kind::Welcome => Datagram::Welcome(Welcome { bytes }),
-        Kind::Data => Datagram::Data(Data { bytes }),
-        Kind::Freeze => Datagram::Freeze(Freeze {
+        DatagramKind::Hello => Datagram::Hello(Hello { bytes }),
+        DatagramKind::Welcome => Datagram::Welcome(Welcome { bytes }),
+        DatagramKind::Data => Datagram::Data(Data { bytes }),
+        DatagramKind::Freeze => Datagram::Freeze(Freeze {
             view: Leaving { bytes },
         }),
-        Kind::Frozen => Datagram::Frozen(Frozen {
+        DatagramKind::Frozen => Datagram::Frozen(Frozen {
             view: Leaving { bytes },
         }),
-        Kind::Cut => Datagram::Cut(Cut {
+        DatagramKind::Cut => Datagram::Cut(Cut {
             view: Leaving { bytes },
         }),
     }
 }
 
 /// The kind of the datagram that the bytes spell.
-fn checked_kind(bytes: &[u8]) -> Result<Kind, WireError>
+fn checked_kind(bytes: &[u8]) -> Result<DatagramKind, WireError>
     ensures { MatchResult result
         (λ kind. (kind_at bytes.now ≡ Some kind) × (refusal bytes.now ≡ None))
         (λ error. refusal bytes.now ≡ Some error) }
@@ -83,7 +83,7 @@ fn checked_kind(bytes: &[u8]) -> Result<Kind, WireError>
 
 /// The kind that the header names, if none of the first four refusals applies.
 #[tactic(auto, unfolding(crate::specs::Refusal::refusal, crate::specs::Refusal::applies))]
-fn named_kind(bytes: &[u8]) -> Result<Kind, WireError>
+fn named_kind(bytes: &[u8]) -> Result<DatagramKind, WireError>
     ensures long { OnOk result (HEADER_LENGTH ≤ length bytes.now) }
     ensures kind { IfOk result (λ kind. kind_at bytes.now ≡ Some kind) }
     ensures rest { IfOk result (λ kind.
@@ -99,7 +99,7 @@ fn named_kind(bytes: &[u8]) -> Result<Kind, WireError>
     if bytes[VERSION_AT] != VERSION {
         return Err(WireError::Version);
     }
-    match Kind::from_code(bytes[KIND_AT]) {
+    match DatagramKind::from_code(bytes[KIND_AT]) {
         Some(kind) => Ok(kind),
         None => Err(WireError::Kind),
     }
@@ -107,7 +107,7 @@ fn named_kind(bytes: &[u8]) -> Result<Kind, WireError>
 
 /// The first of the other refusals that applies to a datagram of this kind.
 #[tactic(auto, unfolding(crate::specs::Refusal::applies))]
-fn body_refusal(kind: Kind, bytes: &[u8]) -> Option<WireError>
+fn body_refusal(kind: DatagramKind, bytes: &[u8]) -> Option<WireError>
     requires { HEADER_LENGTH ≤ length bytes.now }
     ensures { result ≡ first_of body_refusals (Some kind) bytes.now }
 {
@@ -130,7 +130,7 @@ fn body_refusal(kind: Kind, bytes: &[u8]) -> Option<WireError>
 }
 
 /// Whether the body is not as long as the header says, or not as its kind wants.
-fn is_misfit(kind: Kind, bytes: &[u8]) -> bool
+fn is_misfit(kind: DatagramKind, bytes: &[u8]) -> bool
     requires { HEADER_LENGTH ≤ length bytes.now }
     ensures value { result ≡ is_misfit kind bytes.now }
     ensures long { OnFalse result (HEADER_LENGTH + fixed_size kind ≤ length bytes.now) }
@@ -143,7 +143,7 @@ fn is_misfit(kind: Kind, bytes: &[u8]) -> bool
 }
 
 /// Whether the header does not name two players, or the leaver is none who may leave.
-fn misnames_players(kind: Kind, bytes: &[u8]) -> bool
+fn misnames_players(kind: DatagramKind, bytes: &[u8]) -> bool
     requires { HEADER_LENGTH + fixed_size kind ≤ length bytes.now }
     ensures { result ≡ misnames_players kind bytes.now }
 {
@@ -155,7 +155,7 @@ fn misnames_players(kind: Kind, bytes: &[u8]) -> bool
 }
 
 /// Whether the byte after the leaver is not 0.
-fn fills_reserved(kind: Kind, bytes: &[u8]) -> bool
+fn fills_reserved(kind: DatagramKind, bytes: &[u8]) -> bool
     requires { HEADER_LENGTH + fixed_size kind ≤ length bytes.now }
     ensures { result ≡ fills_reserved kind bytes.now }
 {
@@ -163,7 +163,7 @@ fn fills_reserved(kind: Kind, bytes: &[u8]) -> bool
 }
 
 /// Whether the run is longer than 64, or not as long as the body has room for.
-fn miscounts(kind: Kind, bytes: &[u8]) -> bool
+fn miscounts(kind: DatagramKind, bytes: &[u8]) -> bool
     requires { HEADER_LENGTH + fixed_size kind ≤ length bytes.now }
     ensures { result ≡ miscounts kind bytes.now }
 {
@@ -175,21 +175,21 @@ fn miscounts(kind: Kind, bytes: &[u8]) -> bool
 }
 
 /// Whether a number of inputs is above what a game may have, or a run goes past its end.
-fn goes_beyond(kind: Kind, bytes: &[u8]) -> bool
+fn goes_beyond(kind: DatagramKind, bytes: &[u8]) -> bool
     requires { HEADER_LENGTH + fixed_size kind ≤ length bytes.now }
     ensures { result ≡ goes_beyond kind bytes.now }
 {
     match kind {
-        Kind::Hello => false,
-        Kind::Welcome => u32_at(bytes, ACK_AT) > MOST_INPUTS,
-        Kind::Data => {
+        DatagramKind::Hello => false,
+        DatagramKind::Welcome => u32_at(bytes, ACK_AT) > MOST_INPUTS,
+        DatagramKind::Data => {
             let mut beyond = u32_at(bytes, ACK_AT) > MOST_INPUTS;
             beyond |= u32_at(bytes, MARK_FRAME_AT) > MOST_INPUTS;
             beyond |= run_end(kind, bytes) > u64::from(MOST_INPUTS);
             beyond
         }
-        Kind::Freeze => u32_at(bytes, INPUTS_AT) > MOST_INPUTS,
-        Kind::Frozen | Kind::Cut => {
+        DatagramKind::Freeze => u32_at(bytes, INPUTS_AT) > MOST_INPUTS,
+        DatagramKind::Frozen | DatagramKind::Cut => {
             let length = u32_at(bytes, INPUTS_AT);
             let mut beyond = length > MOST_INPUTS;
             beyond |= run_end(kind, bytes) > u64::from(length);
@@ -199,7 +199,7 @@ fn goes_beyond(kind: Kind, bytes: &[u8]) -> bool
 }
 
 /// The place after a run's last input.
-fn run_end(kind: Kind, bytes: &[u8]) -> u64
+fn run_end(kind: DatagramKind, bytes: &[u8]) -> u64
     requires { HEADER_LENGTH + fixed_size kind ≤ length bytes.now }
     ensures { result ≡ run_end kind bytes.now }
 {

@@ -4,7 +4,7 @@ ghost use Rattle.std.specs.Prelude.{◌≤◌};
 use crate::datagrams::head_numbers;
 use c8_game::{Game, Player};
 use c8_hand::{HandError, Links};
-use c8_wire::{Kind, view};
+use c8_wire::{DatagramKind, view};
 use std::test::Fail;
 
 const GAME: &[u8] =
@@ -167,7 +167,7 @@ fn head_after_welcome(game: &Game) -> Result<[u64; 6], Fail> {
     if refusal.is_some() || links.me().number != 2 || links.epoch() != 7 {
         return Err(Fail::new("no link of player 2 in epoch 7"));
     }
-    Ok(head_numbers(&links.head(Player { number: 1 }, Kind::Data)))
+    Ok(head_numbers(&links.head(Player { number: 1 }, DatagramKind::Data)))
 }
 
 #[test]

@@ -1,6 +1,6 @@
 //! What each kind and each refusal is called.
 use c8_hand::HandError;
-use c8_wire::{Kind, WireError};
+use c8_wire::{DatagramKind, WireError};
 use std::alloc::Global;
 use std::test::Fail;
 
@@ -23,7 +23,7 @@ fn kinds() -> &'static [(u8, &'static str)] {
 
 /// The number, the name and the printed text of the kind of a number, or the refusal's name.
 fn kind_text(alloc: Global, code: u8) -> Result<String, Fail> {
-    match Kind::try_from(code) {
+    match DatagramKind::try_from(code) {
         Ok(kind) => Ok(format!(in alloc; "{} {} {kind}", kind.code(), kind.name())?),
         Err(error) => Ok(String::from_str(alloc, error.name())?),
     }

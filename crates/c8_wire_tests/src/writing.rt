@@ -5,16 +5,16 @@ ghost use Rattle.c8_wire.specs.Saying.{message_of, MaySay};
 
 use crate::datagrams::{CUT, DATA, FREEZE, FROZEN, HELLO, SESSION, WELCOME, read};
 use c8_game::Player;
-use c8_wire::{Body, Head, Kind, LONGEST_DATAGRAM, Said, Seat, write};
+use c8_wire::{Body, Head, DatagramKind, LONGEST_DATAGRAM, Said, Seat, write};
 use std::test::Fail;
 
-const KINDS: [Kind; 6] = [
-    Kind::Hello,
-    Kind::Welcome,
-    Kind::Data,
-    Kind::Freeze,
-    Kind::Frozen,
-    Kind::Cut,
+const KINDS: [DatagramKind; 6] = [
+    DatagramKind::Hello,
+    DatagramKind::Welcome,
+    DatagramKind::Data,
+    DatagramKind::Freeze,
+    DatagramKind::Frozen,
+    DatagramKind::Cut,
 ];
 
 const WORDS: [u16; 64] = [
@@ -34,7 +34,7 @@ fn words() -> &'static [u16]
     &WORDS
 }
 
-fn head_between(kind: Kind, from: u8, to: u8) -> Head
+fn head_between(kind: DatagramKind, from: u8, to: u8) -> Head
     requires from_one { 1 ≤ from }
     requires from_four { from ≤ 4 }
     requires to_one { 1 ≤ to }
@@ -52,44 +52,44 @@ fn head_between(kind: Kind, from: u8, to: u8) -> Head
     }
 }
 
-fn head(kind: Kind) -> Head
+fn head(kind: DatagramKind) -> Head
     ensures { result.kind ≡ kind }
 {
     match kind {
-        Kind::Hello => head_between(kind, 4, 3),
-        Kind::Welcome => head_between(kind, 2, 4),
-        Kind::Data => head_between(kind, 1, 4),
-        Kind::Freeze => head_between(kind, 1, 2),
-        Kind::Frozen => head_between(kind, 2, 1),
-        Kind::Cut => head_between(kind, 1, 3),
+        DatagramKind::Hello => head_between(kind, 4, 3),
+        DatagramKind::Welcome => head_between(kind, 2, 4),
+        DatagramKind::Data => head_between(kind, 1, 4),
+        DatagramKind::Freeze => head_between(kind, 1, 2),
+        DatagramKind::Frozen => head_between(kind, 2, 1),
+        DatagramKind::Cut => head_between(kind, 1, 3),
     }
 }
 
-fn body(kind: Kind) -> Body<'static>
+fn body(kind: DatagramKind) -> Body<'static>
     ensures kind { kind_of (message_of result) ≡ kind }
     ensures message { IsMessage (message_of result) }
 {
     match kind {
-        Kind::Hello => Body::Hello,
-        Kind::Welcome => Body::Welcome { ack: 66051 },
-        Kind::Data => Body::Data {
+        DatagramKind::Hello => Body::Hello,
+        DatagramKind::Welcome => Body::Welcome { ack: 66051 },
+        DatagramKind::Data => Body::Data {
             ack: 415,
             mark_frame: 384,
             mark: MARK,
             start: 109517,
             run: &[0x00f0, 0xc00d, 0x1eaf],
         },
-        Kind::Freeze => Body::Freeze {
+        DatagramKind::Freeze => Body::Freeze {
             leaver: Player { number: 3 },
             have: 131844,
         },
-        Kind::Frozen => Body::Frozen {
+        DatagramKind::Frozen => Body::Frozen {
             leaver: Player { number: 4 },
             held: 43983,
             start: 43981,
             run: &[0x0b0e, 0xf001],
         },
-        Kind::Cut => Body::Cut {
+        DatagramKind::Cut => Body::Cut {
             leaver: Player { number: 2 },
             length: 3002,
             start: 2999,
@@ -98,19 +98,19 @@ fn body(kind: Kind) -> Body<'static>
     }
 }
 
-fn text_of(kind: Kind) -> &'static str {
+fn text_of(kind: DatagramKind) -> &'static str {
     match kind {
-        Kind::Hello => HELLO,
-        Kind::Welcome => WELCOME,
-        Kind::Data => DATA,
-        Kind::Freeze => FREEZE,
-        Kind::Frozen => FROZEN,
-        Kind::Cut => CUT,
+        DatagramKind::Hello => HELLO,
+        DatagramKind::Welcome => WELCOME,
+        DatagramKind::Data => DATA,
+        DatagramKind::Freeze => FREEZE,
+        DatagramKind::Frozen => FROZEN,
+        DatagramKind::Cut => CUT,
     }
 }
 
 /// Whether a datagram is written as these bytes, and the bytes after it stay.
-fn is_written(kind: Kind, bytes: &[u8]) -> bool {
+fn is_written(kind: DatagramKind, bytes: &[u8]) -> bool {
     let said = Said {
         head: head(kind),
         body: body(kind),
@@ -140,7 +140,7 @@ fn write_longest(out: &mut [u8; LONGEST_DATAGRAM]) -> usize {
         run: words(),
     };
     let said = Said {
-        head: head_between(Kind::Data, 3, 2),
+        head: head_between(DatagramKind::Data, 3, 2),
         body,
     };
     write(&said, out)

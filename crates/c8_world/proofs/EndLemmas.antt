@@ -26,14 +26,14 @@ use Rattle.c8_peer.specs.Opening.{found}
 use Rattle.c8_peer.specs.Peer.{Keeps}
 use Rattle.c8_world.specs.declared.ends.Standing.{Standing}
 use Rattle.c8_world.specs.declared.ends.Tally.{Tally}
-use Rattle.c8_world.specs.declared.seat.Seat.{Seat}
+use Rattle.c8_world.specs.declared.node.Node.{Node}
 use Rattle.c8_world.specs.World.{World, peer_of}
 use Rattle.c8_world.specs.Agreement.{IsPlayer, Reads, read_by, AgreeByReads}
-use Rattle.c8_world.specs.Seats.{IsSeat, Tells}
-use Rattle.c8_world.specs.Table.{TableValue, seat_of, Holds}
+use Rattle.c8_world.specs.Nodes.{IsNode, Tells}
+use Rattle.c8_world.specs.Table.{TableValue, node_of, Holds}
 use Rattle.c8_world.specs.Ends.{known_at, tally_of, tally_at, both, AreSameRows, HasStayedAt, HaveAgreed, IsRead, IsStanding, AreStandings, HasStayed, known_read, AreEnds}
-use Rattle.c8_world.proofs.TableLemmas.{held_at, seat_held}
-use Rattle.c8_world.proofs.SeatLemmas.{found_now}
+use Rattle.c8_world.proofs.TableLemmas.{held_at, node_held}
+use Rattle.c8_world.proofs.NodeLemmas.{found_now}
 
 -- ---- rows
 
@@ -68,34 +68,34 @@ if_ok : {A E : Type 0} (P Q : A → Type 0) (r : Result A E) → ((a : A) → P 
 if_ok P Q (Ok a) each is = each a is
 if_ok P Q (Err e) each is = tt
 
-pub standing_at : {E : Type 0} (t self : TableValue) (place p : ℕ) (x : Option Seat) (seat : Seat) (result : Result Standing E) → t ≡ self → place + 1 ≡ p → place < length t.seats → IsPlayer t.rules p
-    → x ≡ slice_index_or t.seats place x → x ≡ Some seat → ((w : World) → Holds t w → (finds : Bool) → IsJournal t.rules p t.room (found (peer_of w p) finds))
-    → IfOk result (λ standing. (s : State) → IsSeat t.rules t.room p seat s → ((finds : Bool) → IsJournal t.rules p t.room (found s finds)) → IsStanding t.rules p s (Some seat) standing)
-    → IfOk result (λ standing. (w : World) → Holds self w → IsStanding self.rules p (peer_of w p) (seat_of self p) standing)
-standing_at t self place p x seat result view at within plays here is journals =
+pub standing_at : {E : Type 0} (t self : TableValue) (place p : ℕ) (x : Option Node) (node : Node) (result : Result Standing E) → t ≡ self → place + 1 ≡ p → place < length t.nodes → IsPlayer t.rules p
+    → x ≡ slice_index_or t.nodes place x → x ≡ Some node → ((w : World) → Holds t w → (finds : Bool) → IsJournal t.rules p t.room (found (peer_of w p) finds))
+    → IfOk result (λ standing. (s : State) → IsNode t.rules t.room p node s → ((finds : Bool) → IsJournal t.rules p t.room (found s finds)) → IsStanding t.rules p s (Some node) standing)
+    → IfOk result (λ standing. (w : World) → Holds self w → IsStanding self.rules p (peer_of w p) (node_of self p) standing)
+standing_at t self place p x node result view at within plays here is journals =
     if_ok _ _ result (λ standing asked.
-    subst (λ (u : TableValue). (w : World) → Holds u w → IsStanding u.rules p (peer_of w p) (seat_of u p) standing) view
-    (λ w holds. subst (λ (y : Option Seat). IsStanding t.rules p (peer_of w p) y standing) (sym (held_at t place p seat at within x here is))
-    (asked (peer_of w p) (seat_held t place p seat w at within plays x here is holds) (journals w holds))))
+    subst (λ (u : TableValue). (w : World) → Holds u w → IsStanding u.rules p (peer_of w p) (node_of u p) standing) view
+    (λ w holds. subst (λ (y : Option Node). IsStanding t.rules p (peer_of w p) y standing) (sym (held_at t place p node at within x here is))
+    (asked (peer_of w p) (node_held t place p node w at within plays x here is holds) (journals w holds))))
 
 -- ---- all players
 
 -- what is so of the standings so far, and of one more, is so of all of them
 pub standings_more : (t : TableValue) (w : World) (standings now : List Standing) (standing : Standing) (number : ℕ) → length standings + 1 ≡ number → now ≡ standings ++ standing ∷ []
-    → ((p : ℕ) (other : Standing) → 1 ≤ p → p < number → IsStanding t.rules p (peer_of w p) (seat_of t p) (slice_index_or standings (p - 1) other))
-    → IsStanding t.rules number (peer_of w number) (seat_of t number) standing
-    → (p : ℕ) (other : Standing) → 1 ≤ p → p < number + 1 → IsStanding t.rules p (peer_of w p) (seat_of t p) (slice_index_or now (p - 1) other)
+    → ((p : ℕ) (other : Standing) → 1 ≤ p → p < number → IsStanding t.rules p (peer_of w p) (node_of t p) (slice_index_or standings (p - 1) other))
+    → IsStanding t.rules number (peer_of w number) (node_of t number) standing
+    → (p : ℕ) (other : Standing) → 1 ≤ p → p < number + 1 → IsStanding t.rules p (peer_of w p) (node_of t p) (slice_index_or now (p - 1) other)
 standings_more t w standings now standing number count is before one p other from to =
     elim (cases_lt p number) [
       | inl early ↦
           let within : p - 1 < length standings = omega (arith, early, count, from) in
-          subst (λ (x : Standing). IsStanding t.rules p (peer_of w p) (seat_of t p) x) (sym (ap (λ (xs : List Standing). slice_index_or xs (p - 1) other) is ∙ get_or_append_left standings (standing ∷ []) other (p - 1) within))
+          subst (λ (x : Standing). IsStanding t.rules p (peer_of w p) (node_of t p) x) (sym (ap (λ (xs : List Standing). slice_index_or xs (p - 1) other) is ∙ get_or_append_left standings (standing ∷ []) other (p - 1) within))
           (before p other from early)
       | inr late ↦
           let same : p ≡ number = omega (arith, late, to) in
           let at : slice_index_or now (p - 1) other ≡ standing =
           ap (λ (xs : List Standing). slice_index_or xs (p - 1) other) is ∙ ap (λ (i : ℕ). slice_index_or (standings ++ standing ∷ []) i other) (omega (arith, same, count)) ∙ get_or-append_seam standings standing [] other in
-          subst (λ (x : Standing). IsStanding t.rules p (peer_of w p) (seat_of t p) x) (sym at) (subst (λ (q : ℕ). IsStanding t.rules q (peer_of w q) (seat_of t q) standing) (sym same) one)
+          subst (λ (x : Standing). IsStanding t.rules p (peer_of w p) (node_of t p) x) (sym at) (subst (λ (q : ℕ). IsStanding t.rules q (peer_of w q) (node_of t q) standing) (sym same) one)
     ]
 
 -- ---- the reads
@@ -195,7 +195,7 @@ are_ends t w standings players agree some stand players_are agreed =
     let size = stand.size in
     let many : 0 < length standings = omega (arith, some, size) in
     let d : Standing = first_of standings many in
-    let picked = all_picked t.rules.players (λ p finds. ((other : Standing) → known_at (slice_index_or standings (p - 1) other) ≡ known_of t.rules p (found (peer_of w p) finds)) × IsRead (peer_of w p) (seat_of t p) finds)
+    let picked = all_picked t.rules.players (λ p finds. ((other : Standing) → known_at (slice_index_or standings (p - 1) other) ≡ known_of t.rules p (found (peer_of w p) finds)) × IsRead (peer_of w p) (node_of t p) finds)
     (λ p from to.
     let one = stand.each p d (record { from_one = omega (arith, from); in_game = to }) in
     let within : p - 1 < length standings = omega (arith, from, to, size) in

@@ -10,7 +10,7 @@ pub mod Replies
 pub mod Answered
 pub mod Runs
 pub mod Matches
-mod SeatLemmas
+mod NodeLemmas
 mod TableLemmas
 mod SpokenLemmas
 mod OpenedLemmas

@@ -2,10 +2,10 @@
 use Rattle.std.proofs.Common.{◌≡◌, ◌≢◌, inl, inr, ⊎_elim, ℕ, ◌<◌, ◌^◌, List, [], ◌∷◌, ◌++◌, map, length, take, drop, ◌+◌, ◌-◌, slice_index_or, Option, None, Err, refl, sym, ap, subst, ◌∙◌, arith}
 use Rattle.std.proofs.lemmas.List.{length-replicate, append_assoc, append-nil, take_more, drop_more, take-append-drop}
 use Rattle.c8_game.specs.declared.row.Player.{Player}
-use Rattle.c8_world.specs.declared.event.Act.TheVariants as code_acts
+use Rattle.c8_world.specs.declared.event.Act.TheVariants as act_ofs
 use Rattle.std.specs.Prelude.{All}
 use Rattle.std.proofs.lemmas.List.Elements.{All-push}
-use Rattle.c8_world.specs.declared.seat.Seat.{Seat}
+use Rattle.c8_world.specs.declared.node.Node.{Node}
 use Rattle.c8_world.proofs.Worlds.{peer_at_start}
 use Rattle.c8_world.proofs.TableLemmas.{CanDo}
 use Rattle.c8_peer.specs.State.{State}
@@ -17,16 +17,16 @@ use Rattle.c8_world.specs.declared.answer.Answer.TheVariants as answers
 use Rattle.c8_world.specs.declared.event.Act as acts
 use Rattle.c8_world.specs.declared.event.Event as asked
 use Rattle.c8_world.specs.declared.event.Event.TheVariants as happenings
-use Rattle.c8_world.specs.World.{World, never_opened, start, player_of, act_of, Act, Open, Event, Do, Happening, Answer, Told, CanHappen, Chain, IsReached}
-use Rattle.c8_world.specs.Events.{act_of as code_act, event_of}
-use Rattle.c8_world.specs.Table.{TableValue, IsTaken, IsFull, IsUntouched, seat_of, IsSameMatch, Holds, HadMemory, HasHappened, HasNotHappened, act_in, reported}
+use Rattle.c8_world.specs.World.{World, never_opened, start, player_of, act_inside, Act, Open, Event, Do, Happening, Answer, Told, CanHappen, Chain, IsReached}
+use Rattle.c8_world.specs.Events.{act_of, event_of}
+use Rattle.c8_world.specs.Table.{TableValue, IsTaken, IsFull, IsUntouched, node_of, IsSameMatch, Holds, HadMemory, HasHappened, HasNotHappened, reported}
 use Rattle.c8_world.specs.Headline.{IsHeadline}
 use Rattle.c8_world.specs.Run.{IsRefusedMemory, HasLivedOn, RunsBy, Runs, WorldValue, IsLived, HasRun, HasRunOut, AreMoments}
 
 -- ---- runs
 
 pub runs_more : (P : Happening → Type 0) (rules : Rules) (room : ℕ) (u w v : World) (events : List asked.Event) (told : List codes.Answer) (event : asked.Event) (answer : codes.Answer) (reply : Answer)
-    → RunsBy P rules room u events told w → (can : CanHappen rules room w (event_of event) reply v) → P can.happening → answer ≡ reported rules (player_of (act_of (event_of event))) v reply
+    → RunsBy P rules room u events told w → (can : CanHappen rules room w (event_of event) reply v) → P can.happening → answer ≡ reported rules (player_of (act_inside (event_of event))) v reply
     → RunsBy P rules room u (events ++ event ∷ []) (told ++ answer ∷ []) v
 runs_more P rules room u w v [] [] event answer reply runs can good is =
     let moved : (can : CanHappen rules room u (event_of event) reply v) × P can.happening =
@@ -70,11 +70,11 @@ lived_more old new events told event answer events_now told_now lived same happe
     }
 
 pub lived_unopened : (old new : TableValue) (events : List asked.Event) (told : List codes.Answer) (act : acts.Act) (event : asked.Event) (p : ℕ) (events_now : List asked.Event) (told_now : List codes.Answer)
-    → IsLived (life old events told) → IsSameMatch old new → ((w : World) → Holds old w → HasNotHappened old w (act_in event) new) → act_in event ≡ Open p → code_act act ≡ Open p
+    → IsLived (life old events told) → IsSameMatch old new → ((w : World) → Holds old w → HasNotHappened old w (act_inside (event_of event)) new) → act_inside (event_of event) ≡ Open p → act_of act ≡ Open p
     → events_now ≡ events ++ happenings.Do act ∷ [] → told_now ≡ told ++ answers.Opened (Err opens.Memory) ∷ [] → IsLived (life new events_now told_now)
 lived_unopened old new events told act event p events_now told_now lived same happens is also events_are told_are =
     let one = happens lived.now lived.holds in
-    let can : CanHappen old.rules old.room lived.now (Do (code_act act)) (Told (Opened (Err opens.Memory))) one.world =
+    let can : CanHappen old.rules old.room lived.now (Do (act_of act)) (Told (Opened (Err opens.Memory))) one.world =
     subst (λ (a : Act). CanHappen old.rules old.room lived.now (Do a) (Told (Opened (Err opens.Memory))) one.world) (sym also) (one.opens p is) in
     let runs = runs_more (λ h. Unit {0}) old.rules old.room (start old.rules) lived.now one.world events told (happenings.Do act) (answers.Opened (Err opens.Memory)) (Told (Opened (Err opens.Memory))) lived.runs can tt refl in
     record {
@@ -84,7 +84,7 @@ lived_unopened old new events told act event p events_now told_now lived same ha
     }
 
 pub lived_still : (old new : TableValue) (events : List asked.Event) (told : List codes.Answer) (event : asked.Event)
-    → IsLived (life old events told) → IsSameMatch old new → ((w : World) → Holds old w → HasNotHappened old w (act_in event) new) → ((p : ℕ) → act_in event ≢ Open p) → IsLived (life new events told)
+    → IsLived (life old events told) → IsSameMatch old new → ((w : World) → Holds old w → HasNotHappened old w (act_inside (event_of event)) new) → ((p : ℕ) → act_inside (event_of event) ≢ Open p) → IsLived (life new events told)
 lived_still old new events told event lived same happens other =
     let one = happens lived.now lived.holds in
     let still : one.world ≡ lived.now = ⊎_elim (λ is. is) (λ left. absurd (other left.0 left.1)) one.left in
@@ -112,7 +112,7 @@ run_more old mid new w events now told told_now event answer same ran happens is
     }
 
 pub run_out : (old mid new : TableValue) (w : World) (events before after : List asked.Event) (told : List codes.Answer) (event : asked.Event)
-    → HasRun old w before told mid → ((v : World) → Holds mid v → HasNotHappened mid v (act_in event) new) → events ≡ before ++ event ∷ after → HasRunOut old w events told new
+    → HasRun old w before told mid → ((v : World) → Holds mid v → HasNotHappened mid v (act_inside (event_of event)) new) → events ≡ before ++ event ∷ after → HasRunOut old w events told new
 run_out old mid new w events before after told event ran happens at =
     let one = happens ran.world ran.holds in
     record { before = before; event = event; after = after; at = at; takes = inr one.takes; then = ran.world; runs = ran.runs; now = one.world; left = one.left; holds = one.holds }
@@ -131,7 +131,7 @@ run_next old mid new w events i told told_now event answer within is same ran ha
     run_more old mid new w (take i events) (take (i + 1) events) told told_now event answer same ran happens (one_more events i event within is) also
 
 pub run_out_here : (old mid new : TableValue) (w : World) (events : List asked.Event) (i : ℕ) (told : List codes.Answer) (event : asked.Event) → i < length events
-    → event ≡ slice_index_or events i event → HasRun old w (take i events) told mid → ((v : World) → Holds mid v → HasNotHappened mid v (act_in event) new) → HasRunOut old w events told new
+    → event ≡ slice_index_or events i event → HasRun old w (take i events) told mid → ((v : World) → Holds mid v → HasNotHappened mid v (act_inside (event_of event)) new) → HasRunOut old w events told new
 run_out_here old mid new w events i told event within is ran happens =
     run_out old mid new w events (take i events) (drop (i + 1) events) told event ran happens (here_split events i event within is)
 
@@ -142,13 +142,13 @@ lists_more before now xs later x is also = ap (λ ys. ys ++ x ∷ []) is ∙ app
 pub same_match : (old mid new : TableValue) → IsSameMatch old mid → IsSameMatch mid new → IsSameMatch old new
 same_match old mid new first last = record { rules = last.rules ∙ first.rules; room = last.room ∙ first.room }
 
-pub other_act : (a : acts.Act) (p : ℕ) → ((player : Player) → a ≡ code_acts.Open player → ⊥) → code_act a ≢ Open p
-other_act (code_acts.Open player) p other e = other player refl
-other_act (code_acts.Tick player keys) p other e = cc e
-other_act (code_acts.Say player to what) p other e = cc e
-other_act (code_acts.Give number player) p other e = cc e
-other_act (code_acts.Leave leaver) p other e = cc e
-other_act (code_acts.Decide leaver) p other e = cc e
+pub other_act : (a : acts.Act) (p : ℕ) → ((player : Player) → a ≡ act_ofs.Open player → ⊥) → act_of a ≢ Open p
+other_act (act_ofs.Open player) p other e = other player refl
+other_act (act_ofs.Tick player keys) p other e = cc e
+other_act (act_ofs.Say player to what) p other e = cc e
+other_act (act_ofs.Give number player) p other e = cc e
+other_act (act_ofs.Leave leaver) p other e = cc e
+other_act (act_ofs.Decide leaver) p other e = cc e
 
 -- what a run that ran out has lived: the events so far, and then what the event adds
 pub lived_on : (old mid new : WorldValue) (events : List asked.Event) (i : ℕ) (event : asked.Event) (told : List codes.Answer) → i < length events → event ≡ slice_index_or events i event
@@ -207,7 +207,7 @@ of_view P inside self view is = subst P view is
 
 -- ---- a new world
 
-pub start_holds : (t : TableValue) → IsFull t.rules t.room t.seats → All IsUntouched t.seats → t.pool ≡ [] → Holds t (start t.rules)
+pub start_holds : (t : TableValue) → IsFull t.rules t.room t.nodes → All IsUntouched t.nodes → t.pool ≡ [] → Holds t (start t.rules)
 start_holds t full untouched quiet = record {
   reached = record { events = []; answers = []; chain = refl };
   count = length-replicate t.rules.players never_opened;
@@ -215,21 +215,21 @@ start_holds t full untouched quiet = record {
       let from = plays.from_one in
       let to = plays.in_game in
       let size = full.1 in
-      subst (λ (s : State). IsTaken t.rules t.room p (seat_of t p) s) (sym (peer_at_start t.rules p)) (untouched (p - 1) None (omega (arith, from, to, size)) t.rules t.room p);
+      subst (λ (s : State). IsTaken t.rules t.room p (node_of t p) s) (sym (peer_at_start t.rules p)) (untouched (p - 1) None (omega (arith, from, to, size)) t.rules t.room p);
   said = quiet;
 }
 
-pub seat_more : (P : Option Seat → Type 0) (seats now : List (Option Seat)) (seat : Option Seat) → now ≡ seats ++ seat ∷ [] → All P seats → P seat → All P now
-seat_more P seats now seat is all one = subst (λ (xs : List (Option Seat)). All P xs) (sym is) (All-push P seats seat all one)
+pub node_more : (P : Option Node → Type 0) (nodes now : List (Option Node)) (node : Option Node) → now ≡ nodes ++ node ∷ [] → All P nodes → P node → All P now
+node_more P nodes now node is all one = subst (λ (xs : List (Option Node)). All P xs) (sym is) (All-push P nodes node all one)
 
-pub opening_refused : (inside self : WorldValue) (event : asked.Event) (player : Player) (new : WorldValue) → inside ≡ self → act_in event ≡ Open player.number
-    → new.events ≡ inside.events ++ happenings.Do (code_acts.Open player) ∷ [] → new.answers ≡ inside.answers ++ answers.Opened (Err opens.Memory) ∷ [] → IsRefusedMemory event self new
+pub opening_refused : (inside self : WorldValue) (event : asked.Event) (player : Player) (new : WorldValue) → inside ≡ self → act_inside (event_of event) ≡ Open player.number
+    → new.events ≡ inside.events ++ happenings.Do (act_ofs.Open player) ∷ [] → new.answers ≡ inside.answers ++ answers.Opened (Err opens.Memory) ∷ [] → IsRefusedMemory event self new
 opening_refused inside self event player new view opens_it events_are told_are =
     subst (λ (w : WorldValue). IsRefusedMemory event w new) view
-    (record { more = happenings.Do (code_acts.Open player) ∷ []; told = answers.Opened (Err opens.Memory) ∷ []; added = inr (player, opens_it, refl, refl); events_are = events_are; answers_are = told_are })
+    (record { more = happenings.Do (act_ofs.Open player) ∷ []; told = answers.Opened (Err opens.Memory) ∷ []; added = inr (player, opens_it, refl, refl); events_are = events_are; answers_are = told_are })
 
 -- another act adds nothing
-pub nothing_refused : (inside self : WorldValue) (event : asked.Event) (new : WorldValue) → inside ≡ self → ((p : ℕ) → act_in event ≢ Open p) → new.events ≡ inside.events → new.answers ≡ inside.answers
+pub nothing_refused : (inside self : WorldValue) (event : asked.Event) (new : WorldValue) → inside ≡ self → ((p : ℕ) → act_inside (event_of event) ≢ Open p) → new.events ≡ inside.events → new.answers ≡ inside.answers
     → IsRefusedMemory event self new
 nothing_refused inside self event new view other events_are told_are =
     subst (λ (w : WorldValue). IsRefusedMemory event w new) view

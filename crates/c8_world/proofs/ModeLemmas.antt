@@ -11,7 +11,7 @@ use Rattle.c8_peer.specs.Steps.{Luck, Stepped, step}
 use Rattle.c8_peer.specs.Opening.{found, away, opened}
 use Rattle.c8_peer.specs.Replies.{mode_told}
 use Rattle.c8_world.specs.checked.Below.{ArePeersLawful}
-use Rattle.c8_world.specs.World.{World, start, is_player, peer_of, with_peer, Act, Open, Tick, Say, Give, Leave, Decide, player_of, Event, Do, Stop, Happening, Answer, Told, IsUp, IsDown, NoSuch, Stopped, After, said_by, stepped, call_at_mode, call_at, open_at_mode, open_at, give_to, acted, crashed, after, MayAct, act_of, CanHappen, Chain}
+use Rattle.c8_world.specs.World.{World, start, is_player, peer_of, with_peer, Act, Open, Tick, Say, Give, Leave, Decide, player_of, Event, Do, Stop, Happening, Answer, Told, IsUp, IsDown, NoSuch, Stopped, After, said_by, stepped, call_at_mode, call_at, open_at_mode, open_at, give_to, acted, crashed, after, MayAct, act_inside, CanHappen, Chain}
 use Rattle.c8_world.specs.Agreement.{IsPlayer}
 use Rattle.c8_world.specs.declared.answer.Answer as codes
 use Rattle.c8_world.specs.declared.answer.Answer.TheVariants as answers
@@ -40,10 +40,10 @@ module _ (laws : ArePeersLawful) (rules : Rules) (room p : ℕ) (plays : IsPlaye
 
   goes_on : (w : World) (q : ℕ) (t : Stepped) → length w.peers ≡ rules.players → IsPlayer rules q → t.state.mode ≡ mode_told t.reply → Tells w q (stepped w q t)
   unfolding Tells
-  goes_on w q t seats q_plays tells = elim (cases_eq q p) [
+  goes_on w q t nodes q_plays tells = elim (cases_eq q p) [
     | inl same ↦
         let test : (q == p) ≡ true = eq-eqb q p same in
-        let here : peer_of (stepped w q t).world p ≡ t.state = subst (λ (x : ℕ). peer_of (stepped w q t).world x ≡ t.state) same (peer_here rules w q t.state (said_by t.reply) seats q_plays) in
+        let here : peer_of (stepped w q t).world p ≡ t.state = subst (λ (x : ℕ). peer_of (stepped w q t).world x ≡ t.state) same (peer_here rules w q t.state (said_by t.reply) nodes q_plays) in
         rw test (ap (λ (s : State). s.mode) here ∙ tells)
     | inr apart ↦
         let test : (q == p) ≡ false = ne_eqb q p apart in
@@ -52,22 +52,22 @@ module _ (laws : ArePeersLawful) (rules : Rules) (room p : ℕ) (plays : IsPlaye
   ]
 
   mode_tells : (w : World) (q : ℕ) (call : Call) (luck : Luck) (mode : Mode) → length w.peers ≡ rules.players → IsPlayer rules q → (peer_of w q).mode ≡ mode → Tells w q (call_at_mode rules w q call luck mode)
-  mode_tells w q call luck states.Open seats q_plays up = goes_on w q (step rules q (peer_of w q) call luck) seats q_plays (laws.calls_tell rules q (peer_of w q) call luck up)
-  mode_tells w q call luck Down seats q_plays down = stays w q IsDown (λ mode. refl)
-  mode_tells w q call luck Away seats q_plays gone = stays w q IsDown (λ mode. refl)
+  mode_tells w q call luck states.Open nodes q_plays up = goes_on w q (step rules q (peer_of w q) call luck) nodes q_plays (laws.calls_tell rules q (peer_of w q) call luck up)
+  mode_tells w q call luck Down nodes q_plays down = stays w q IsDown (λ mode. refl)
+  mode_tells w q call luck Away nodes q_plays gone = stays w q IsDown (λ mode. refl)
 
   call_tells : (w : World) (q : ℕ) (call : Call) (luck : Luck) → length w.peers ≡ rules.players → Tells w q (call_at rules w q call luck)
-  call_tells w q call luck seats = elim (cases_Bool (is_player rules q)) [
-    | inl in_game ↦ rw in_game (mode_tells w q call luck (peer_of w q).mode seats (plays_if rules q in_game) refl)
+  call_tells w q call luck nodes = elim (cases_Bool (is_player rules q)) [
+    | inl in_game ↦ rw in_game (mode_tells w q call luck (peer_of w q).mode nodes (plays_if rules q in_game) refl)
     | inr absent ↦ rw absent (stays w q IsDown (λ mode. refl))
   ]
 
   open_mode_tells : (w : World) (q : ℕ) (h : Happening) (mode : Mode) → length w.peers ≡ rules.players → IsPlayer rules q → Tells w q (open_at_mode rules room w q h mode)
-  open_mode_tells w q h states.Open seats q_plays = stays w q IsUp (λ mode. refl)
-  open_mode_tells w q h Down seats q_plays =
-      goes_on w q (opened rules room q (peer_of w q) (found (peer_of w q) h.finds) h.opening) seats q_plays (laws.openings_tell rules room q (peer_of w q) (found (peer_of w q) h.finds) h.opening)
-  open_mode_tells w q h Away seats q_plays =
-      goes_on w q (opened rules room q (peer_of w q) (found (peer_of w q) h.finds) h.opening) seats q_plays (laws.openings_tell rules room q (peer_of w q) (found (peer_of w q) h.finds) h.opening)
+  open_mode_tells w q h states.Open nodes q_plays = stays w q IsUp (λ mode. refl)
+  open_mode_tells w q h Down nodes q_plays =
+      goes_on w q (opened rules room q (peer_of w q) (found (peer_of w q) h.finds) h.opening) nodes q_plays (laws.openings_tell rules room q (peer_of w q) (found (peer_of w q) h.finds) h.opening)
+  open_mode_tells w q h Away nodes q_plays =
+      goes_on w q (opened rules room q (peer_of w q) (found (peer_of w q) h.finds) h.opening) nodes q_plays (laws.openings_tell rules room q (peer_of w q) (found (peer_of w q) h.finds) h.opening)
 
   -- a stranger is another player
   stranger : (q : ℕ) → is_player rules q ≡ false → (q == p) ≡ false
@@ -75,35 +75,35 @@ module _ (laws : ArePeersLawful) (rules : Rules) (room p : ℕ) (plays : IsPlaye
 
   open_tells : (w : World) (q : ℕ) (h : Happening) → length w.peers ≡ rules.players → Tells w q (open_at rules room w q h)
   unfolding Tells
-  open_tells w q h seats = elim (cases_Bool (is_player rules q)) [
-    | inl in_game ↦ rw in_game (open_mode_tells w q h (peer_of w q).mode seats (plays_if rules q in_game))
+  open_tells w q h nodes = elim (cases_Bool (is_player rules q)) [
+    | inl in_game ↦ rw in_game (open_mode_tells w q h (peer_of w q).mode nodes (plays_if rules q in_game))
     | inr absent ↦ rw (absent, stranger q absent) refl
   ]
 
   give_tells : (w : World) (q : ℕ) (luck : Luck) (o : Option Packet) → length w.peers ≡ rules.players → Tells w q (give_to rules w q luck o)
-  give_tells w q luck None seats = stays w q NoSuch (λ mode. refl)
-  give_tells w q luck (Some packet) seats = call_tells w q (states.Deliver (Ok packet)) luck seats
+  give_tells w q luck None nodes = stays w q NoSuch (λ mode. refl)
+  give_tells w q luck (Some packet) nodes = call_tells w q (states.Deliver (Ok packet)) luck nodes
 
   acted_tells : (w : World) (act : Act) (h : Happening) → length w.peers ≡ rules.players → Tells w (player_of act) (acted rules room w act h)
   unfolding acted
-  acted_tells w (Open q) h seats = open_tells w q h seats
-  acted_tells w (Tick q keys) h seats = call_tells w q (states.Tick keys) h.luck seats
-  acted_tells w (Say q to what) h seats = call_tells w q (states.Say to what) h.luck seats
-  acted_tells w (Give number q) h seats = give_tells w q h.luck (slice_get w.said number) seats
-  acted_tells w (Leave leaver) h seats = call_tells w 1 (states.Leave leaver) h.luck seats
-  acted_tells w (Decide leaver) h seats = call_tells w 1 (states.Decide leaver) h.luck seats
+  acted_tells w (Open q) h nodes = open_tells w q h nodes
+  acted_tells w (Tick q keys) h nodes = call_tells w q (states.Tick keys) h.luck nodes
+  acted_tells w (Say q to what) h nodes = call_tells w q (states.Say to what) h.luck nodes
+  acted_tells w (Give number q) h nodes = give_tells w q h.luck (slice_get w.said number) nodes
+  acted_tells w (Leave leaver) h nodes = call_tells w 1 (states.Leave leaver) h.luck nodes
+  acted_tells w (Decide leaver) h nodes = call_tells w 1 (states.Decide leaver) h.luck nodes
 
   -- a stop takes its player away, and no other
   crash_tells : (w u : World) (q : ℕ) (leaves : Bool) (answer : Answer) → length u.peers ≡ rules.players → Tells w q (record { answer = answer; world = u })
       → Tells w q (record { answer = Stopped; world = crashed rules u q leaves })
   unfolding Tells
-  crash_tells w u q leaves answer seats acts = elim (cases_Bool (is_player rules q)) [
+  crash_tells w u q leaves answer nodes acts = elim (cases_Bool (is_player rules q)) [
     | inl in_game ↦
         let q_plays = plays_if rules q in_game in
         let s : State = away (peer_of u q) (found (peer_of u q) leaves) None in
         elim (cases_eq q p) [
           | inl same ↦
-              let here : peer_of (with_peer u q s) p ≡ s = subst (λ (x : ℕ). peer_of (with_peer u q s) x ≡ s) same (peer_here rules u q s [] seats q_plays) in
+              let here : peer_of (with_peer u q s) p ≡ s = subst (λ (x : ℕ). peer_of (with_peer u q s) x ≡ s) same (peer_here rules u q s [] nodes q_plays) in
               rw (in_game, eq-eqb q p same) (ap (λ (t : State). t.mode) here)
           | inr apart ↦
               let there : peer_of (with_peer u q s) p ≡ peer_of u p = peer_there rules u q s [] p q_plays plays (λ e. apart (sym e)) in
@@ -116,15 +116,15 @@ module _ (laws : ArePeersLawful) (rules : Rules) (room p : ℕ) (plays : IsPlaye
   ]
 
   module _ (range : AreInRange rules) (few : room < 2 ^ 64) where
-    after_tells : (w : World) (event : Event) (h : Happening) → IsSound rules room w → MayAct rules room w (act_of event) h → Tells w (player_of (act_of event)) (after rules room w event h)
-    after_tells w (Do act) h sound may = acted_tells w act h sound.seats
+    after_tells : (w : World) (event : Event) (h : Happening) → IsSound rules room w → MayAct rules room w (act_inside event) h → Tells w (player_of (act_inside event)) (after rules room w event h)
+    after_tells w (Do act) h sound may = acted_tells w act h sound.nodes
     after_tells w (Stop act calls pick) h sound may =
         let a = acted rules room w act h in
-        crash_tells w a.world (player_of act) h.leaves a.answer (acted_sound laws rules room w act h range few sound may).sound.seats (acted_tells w act h sound.seats)
+        crash_tells w a.world (player_of act) h.leaves a.answer (acted_sound laws rules room w act h range few sound may).sound.nodes (acted_tells w act h sound.nodes)
 
     event_tells : (w v : World) (event : Event) (answer : Answer) → IsSound rules room w → CanHappen rules room w event answer v → (peer_of v p).mode ≡ mode_after p (peer_of w p).mode event answer
     unfolding Tells
-    event_tells w v event answer sound can = subst (Tells w (player_of (act_of event))) can.is (after_tells w event can.happening sound can.may)
+    event_tells w v event answer sound can = subst (Tells w (player_of (act_inside event))) can.is (after_tells w event can.happening sound can.may)
 
     chain_tells : (w v : World) (events : List Event) (answers : List Answer) → IsSound rules room w → Chain rules room w events answers v → (peer_of v p).mode ≡ mode_by p (peer_of w p).mode events answers
     chain_tells w v [] [] sound chain = ap (λ (x : World). (peer_of x p).mode) chain
@@ -170,7 +170,7 @@ module _ (laws : ArePeersLawful) (rules : Rules) (room p : ℕ) (plays : IsPlaye
   runs_tell w v [] (answer ∷ told) sound runs = absurd runs
   runs_tell w v (event ∷ events) [] sound runs = absurd runs
   runs_tell w v (event ∷ events) (answer ∷ told) sound (reply, u, can, fine, is, rest) =
-      let q : ℕ = player_of (act_of (event_of event)) in
+      let q : ℕ = player_of (act_inside (event_of event)) in
       let old : Mode = (peer_of w p).mode in
       let next : (peer_of u p).mode ≡ (if q == p then mode_reported old answer else old) =
       event_tells laws rules room p plays range few w u (event_of event) reply sound can ∙ ap (λ (mode : Mode). if q == p then mode else old) (reported_mode rules q u old reply ∙ ap (mode_reported old) (sym is)) in

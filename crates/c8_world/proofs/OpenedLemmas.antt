@@ -17,13 +17,13 @@ use Rattle.c8_peer.specs.Steps.{Works, Stepped}
 use Rattle.c8_peer.specs.Opening.{Opening, NoPlayer, Stands, NotWritten, NoMemory, NotRead, Unfit, Spent, found, opened, away, MayBecome}
 use Rattle.c8_world.specs.declared.answer.Answer as codes
 use Rattle.c8_world.specs.declared.answer.Answer.TheVariants as answers
-use Rattle.c8_world.specs.declared.seat.Seat.{Seat}
+use Rattle.c8_world.specs.declared.node.Node.{Node}
 use Rattle.c8_world.specs.World.{World, never_opened, peer_of, with_peer, Open, Do, Happening, Told, IsUp, After, said_by, stepped, open_at_mode, acted, CanHappen}
 use Rattle.c8_world.specs.Agreement.{IsPlayer}
-use Rattle.c8_world.specs.Seats.{IsSeat, IsOpening, IsOpenedSeat}
+use Rattle.c8_world.specs.Nodes.{IsNode, IsOpening, IsOpenedNode}
 use Rattle.c8_world.specs.Table.{TableValue, IsTaken, IsOpenedAs, IsUnopened, Holds, HasHappened, HasNotHappened}
 use Rattle.c8_world.proofs.Openings.{plays_so}
-use Rattle.c8_world.proofs.TableLemmas.{CanDo, set_reseated, seated, placed, placed_holds, placed_happens, same_happens, taken_at, no_player, with_seat, reached_more}
+use Rattle.c8_world.proofs.TableLemmas.{CanDo, set_renodeed, nodeed, placed, placed_holds, placed_happens, same_happens, taken_at, no_player, with_node, reached_more}
 
 abbrev with_opening : Bool → Opening → Happening
 with_opening finds opening = record { finds = finds; opening = opening; luck = Works; leaves = false }
@@ -99,8 +99,8 @@ opened_can rules room w p finds opening result plays shut may replies =
 same_open : (p q : ℕ) → Open p ≡ Open q → p ≡ q
 same_open p q e = cc e
 
-module _ (t : TableValue) (place p : ℕ) (seat : Seat) (at : place + 1 ≡ p) (within : place < length t.seats) (plays : IsPlayer t.rules p) (w : World) (holds : Holds t w) where
-  up_happens : IsOpenedSeat t.rules t.room p (peer_of w p) None seat → HasHappened t w (Do (Open p)) answers.Up (with_seat t place seat)
+module _ (t : TableValue) (place p : ℕ) (node : Node) (at : place + 1 ≡ p) (within : place < length t.nodes) (plays : IsPlayer t.rules p) (w : World) (holds : Holds t w) where
+  up_happens : IsOpenedNode t.rules t.room p (peer_of w p) None node → HasHappened t w (Do (Open p)) answers.Up (with_node t place node)
   up_happens up = record {
     told = IsUp;
     world = w;
@@ -110,7 +110,7 @@ module _ (t : TableValue) (place p : ℕ) (seat : Seat) (at : place + 1 ≡ p) (
     holds = record {
       reached = holds.reached;
       count = holds.count;
-      peers = seated t.rules t.room p t.seats (slice_set t.seats place (Some seat)) seat w w (set_reseated t.seats place p seat at within) holds.peers up.1 (λ q q_plays apart. refl);
+      peers = nodeed t.rules t.room p t.nodes (slice_set t.nodes place (Some node)) node w w (set_renodeed t.nodes place p node at within) holds.peers up.1 (λ q q_plays apart. refl);
       said = holds.said;
     };
   }
@@ -119,12 +119,12 @@ module _ (t : TableValue) (place p : ℕ) (seat : Seat) (at : place + 1 ≡ p) (
   had_memory : (s : State) (journal : List Record) (opening : Opening) (result : Result ℕ OpenError) → (opened t.rules t.room p s journal opening).reply ≡ Opened result → result ≢ Err opens.Memory → opening ≢ NoMemory
   had_memory s journal opening result replies other e = other (result_of (sym replies ∙ ap (λ (o : Opening). (opened t.rules t.room p s journal o).reply) e))
 
-  opening_happens : (result : Result ℕ OpenError) → IsOpening t.rules t.room p (peer_of w p) result seat → result ≢ Err opens.Memory → HasHappened t w (Do (Open p)) (answers.Opened result) (with_seat t place seat)
+  opening_happens : (result : Result ℕ OpenError) → IsOpening t.rules t.room p (peer_of w p) result node → result ≢ Err opens.Memory → HasHappened t w (Do (Open p)) (answers.Opened result) (with_node t place node)
   opening_happens result is other =
       let can = opened_can t.rules t.room w p is.finds is.opening result plays is.not_open is.may is.replies in
-      placed_happens t (with_seat t place seat) w p (opened t.rules t.room p (peer_of w p) (found (peer_of w p) is.finds) is.opening).state [] seat (Open p) (Told (Opened result)) (answers.Opened result)
+      placed_happens t (with_node t place node) w p (opened t.rules t.room p (peer_of w p) (found (peer_of w p) is.finds) is.opening).state [] node (Open p) (Told (Opened result)) (answers.Opened result)
       refl refl plays refl holds (can.0, λ e. had_memory (peer_of w p) (found (peer_of w p) is.finds) is.opening result is.replies other (sym can.1 ∙ e))
-      (set_reseated t.seats place p seat at within) is.seat_is
+      (set_renodeed t.nodes place p node at within) is.node_is
       (holds.said ∙ ap (λ (xs : List Packet). map spelling xs) (sym (append-nil w.said)))
       (λ v here said. refl)
 
@@ -146,7 +146,7 @@ module _ (t : TableValue) (place p : ℕ) (seat : Seat) (at : place + 1 ≡ p) (
   away_still : (s : State) → s.mode ≡ Away → away s s.journal s.pending ≡ s
   away_still s is = ap (λ (mode : Mode). record s { mode = mode }) (sym is)
 
-  unopened_at : (mode : Mode) → (peer_of w p).mode ≡ mode → IsOpening t.rules t.room p (peer_of w p) (Err opens.Memory) seat → HasNotHappened t w (Open p) (with_seat t place seat)
+  unopened_at : (mode : Mode) → (peer_of w p).mode ≡ mode → IsOpening t.rules t.room p (peer_of w p) (Err opens.Memory) node → HasNotHappened t w (Open p) (with_node t place node)
   unopened_at states.Open up is = absurd (is.not_open up)
   unopened_at Away gone is =
       let s : State = peer_of w p in
@@ -164,8 +164,8 @@ module _ (t : TableValue) (place p : ℕ) (seat : Seat) (at : place + 1 ≡ p) (
         holds = record {
           reached = holds.reached;
           count = holds.count;
-          peers = seated t.rules t.room p t.seats (slice_set t.seats place (Some seat)) seat w w (set_reseated t.seats place p seat at within) holds.peers
-              (subst (λ (x : State). IsSeat t.rules t.room p seat x) same is.seat_is) (λ q q_plays apart. refl);
+          peers = nodeed t.rules t.room p t.nodes (slice_set t.nodes place (Some node)) node w w (set_renodeed t.nodes place p node at within) holds.peers
+              (subst (λ (x : State). IsNode t.rules t.room p node x) same is.node_is) (λ q q_plays apart. refl);
           said = holds.said;
         };
       }
@@ -175,7 +175,7 @@ module _ (t : TableValue) (place p : ℕ) (seat : Seat) (at : place + 1 ≡ p) (
       let same = unread_state s (found s is.finds) is.opening is.replies in
       let can = (opened_can t.rules t.room w p is.finds is.opening (Err opens.Memory) plays is.not_open is.may is.replies).0 in
       let reached = reached_more t.rules t.room w (placed w p t_is.state []) (Do (Open p)) (Told (Opened (Err opens.Memory))) holds.reached can in
-      let now = placed_holds t (with_seat t place seat) w p t_is.state [] seat refl refl plays holds reached (set_reseated t.seats place p seat at within) is.seat_is
+      let now = placed_holds t (with_node t place node) w p t_is.state [] node refl refl plays holds reached (set_renodeed t.nodes place p node at within) is.node_is
       (holds.said ∙ ap (λ (xs : List Packet). map spelling xs) (sym (append-nil w.said))) in
       let quiet : placed w p t_is.state [] ≡ with_peer w p (away s s.journal s.pending) =
       ap (λ (xs : List Packet). record { peers = slice_set w.peers (p - 1) t_is.state; said = xs }) (append-nil w.said) ∙ ap (λ (x : State). with_peer w p x) same in
@@ -184,7 +184,7 @@ module _ (t : TableValue) (place p : ℕ) (seat : Seat) (at : place + 1 ≡ p) (
         takes = tt;
         left = inr (p, refl, down, refl);
         opens = λ q e. rw (sym (same_open p q e)) (subst (λ (v : World). CanHappen t.rules t.room w (Do (Open p)) (Told (Opened (Err opens.Memory))) v) quiet can);
-        holds = subst (λ (v : World). Holds (with_seat t place seat) v) quiet now;
+        holds = subst (λ (v : World). Holds (with_node t place node) v) quiet now;
       }
 
 -- ---- the call
@@ -197,30 +197,30 @@ if_err : {A E : Type 0} (P Q : E → Type 0) (r : Result A E) → ((e : E) → P
 if_err P Q (Ok a) each is = tt
 if_err P Q (Err e) each is = each e is
 
-abbrev pub with_taken : TableValue → ℕ → Option Seat → TableValue
-with_taken t place x = record t { seats = slice_set t.seats place x }
+abbrev pub with_taken : TableValue → ℕ → Option Node → TableValue
+with_taken t place x = record t { nodes = slice_set t.nodes place x }
 
-opened_by : (t : TableValue) (place p : ℕ) (at : place + 1 ≡ p) (within : place < length t.seats) (plays : IsPlayer t.rules p) (w : World) (holds : Holds t w)
-    (answer : codes.Answer) (x : Option Seat) → IsOpenedAs t.rules t.room p (peer_of w p) answer x → HasHappened t w (Do (Open p)) answer (with_taken t place x)
+opened_by : (t : TableValue) (place p : ℕ) (at : place + 1 ≡ p) (within : place < length t.nodes) (plays : IsPlayer t.rules p) (w : World) (holds : Holds t w)
+    (answer : codes.Answer) (x : Option Node) → IsOpenedAs t.rules t.room p (peer_of w p) answer x → HasHappened t w (Do (Open p)) answer (with_taken t place x)
 opened_by t place p at within plays w holds answer None is = absurd is
-opened_by t place p at within plays w holds answers.Up (Some seat) is = up_happens t place p seat at within plays w holds is
-opened_by t place p at within plays w holds (answers.Opened result) (Some seat) is = opening_happens t place p seat at within plays w holds result is.0 is.1
-opened_by t place p at within plays w holds (answers.Ticked result) (Some seat) is = absurd is
-opened_by t place p at within plays w holds (answers.Said result) (Some seat) is = absurd is
-opened_by t place p at within plays w holds (answers.Delivered result) (Some seat) is = absurd is
-opened_by t place p at within plays w holds answers.NoSuch (Some seat) is = absurd is
-opened_by t place p at within plays w holds (answers.Left result) (Some seat) is = absurd is
-opened_by t place p at within plays w holds (answers.Decided result) (Some seat) is = absurd is
-opened_by t place p at within plays w holds answers.Down (Some seat) is = absurd is
-opened_by t place p at within plays w holds answers.Stopped (Some seat) is = absurd is
+opened_by t place p at within plays w holds answers.Up (Some node) is = up_happens t place p node at within plays w holds is
+opened_by t place p at within plays w holds (answers.Opened result) (Some node) is = opening_happens t place p node at within plays w holds result is.0 is.1
+opened_by t place p at within plays w holds (answers.Ticked result) (Some node) is = absurd is
+opened_by t place p at within plays w holds (answers.Said result) (Some node) is = absurd is
+opened_by t place p at within plays w holds (answers.Delivered result) (Some node) is = absurd is
+opened_by t place p at within plays w holds answers.NoSuch (Some node) is = absurd is
+opened_by t place p at within plays w holds (answers.Left result) (Some node) is = absurd is
+opened_by t place p at within plays w holds (answers.Decided result) (Some node) is = absurd is
+opened_by t place p at within plays w holds answers.Down (Some node) is = absurd is
+opened_by t place p at within plays w holds answers.Stopped (Some node) is = absurd is
 
-unopened_by : (t : TableValue) (place p : ℕ) (at : place + 1 ≡ p) (within : place < length t.seats) (plays : IsPlayer t.rules p) (w : World) (holds : Holds t w)
-    (x : Option Seat) → IsUnopened t.rules t.room p (peer_of w p) x → HasNotHappened t w (Open p) (with_taken t place x)
+unopened_by : (t : TableValue) (place p : ℕ) (at : place + 1 ≡ p) (within : place < length t.nodes) (plays : IsPlayer t.rules p) (w : World) (holds : Holds t w)
+    (x : Option Node) → IsUnopened t.rules t.room p (peer_of w p) x → HasNotHappened t w (Open p) (with_taken t place x)
 unopened_by t place p at within plays w holds None is = absurd is
-unopened_by t place p at within plays w holds (Some seat) is = unopened_at t place p seat at within plays w holds (peer_of w p).mode refl is
+unopened_by t place p at within plays w holds (Some node) is = unopened_at t place p node at within plays w holds (peer_of w p).mode refl is
 
-module _ {E : Type 0} (t self : TableValue) (place p : ℕ) (x y : Option Seat) (result : Result codes.Answer E) (view : t ≡ self) (at : place + 1 ≡ p) (within : place < length t.seats)
-    (plays : IsPlayer t.rules p) (here : x ≡ slice_index_or t.seats place x)
+module _ {E : Type 0} (t self : TableValue) (place p : ℕ) (x y : Option Node) (result : Result codes.Answer E) (view : t ≡ self) (at : place + 1 ≡ p) (within : place < length t.nodes)
+    (plays : IsPlayer t.rules p) (here : x ≡ slice_index_or t.nodes place x)
     (journals : (w : World) → Holds t w → (finds : Bool) → IsJournal t.rules p t.room (found (peer_of w p) finds)) where
   pub opened_happens :
       IfOk result (λ answer. (s : State) → p ≤ t.rules.players → IsTaken t.rules t.room p x s → ((finds : Bool) → IsJournal t.rules p t.room (found s finds)) → IsOpenedAs t.rules t.room p s answer y)

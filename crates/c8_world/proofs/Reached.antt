@@ -103,7 +103,7 @@ other_peer : (rules : Rules) (w : World) (p q : ℕ) (s : State) → IsPlayer ru
 other_peer rules w p q s plays q_plays apart = peer_there rules w p s [] q plays q_plays apart
 
 this_peer : (rules : Rules) (w : World) (p : ℕ) (s : State) → length w.peers ≡ rules.players → IsPlayer rules p → peer_of (with_peer w p s) p ≡ s
-this_peer rules w p s seats plays = peer_here rules w p s [] seats plays
+this_peer rules w p s nodes plays = peer_here rules w p s [] nodes plays
 
 -- players past the n-th have their peer as it was
 adopt_past : (rules : Rules) (room : ℕ) (w : World) (reads : Reads) (n q : ℕ) → n < q → IsPlayer rules q → peer_of (adopt w reads n) q ≡ peer_of w q
@@ -124,7 +124,7 @@ adopt_is rules room w reads (suc n) q range sound within few plays =
       | inl same ↦
           let old : peer_of (adopt w reads n) (suc n) ≡ peer_of w (suc n) = adopt_past rules room w reads n (suc n) (omega arith) here in
           subst (λ (x : ℕ). journal_of (adopt w reads (suc n)) x ≡ read_by w reads x) (sym same)
-          (ap (λ (s : State). s.journal) (this_peer rules (adopt w reads n) (suc n) _ before.seats here) ∙ ap (λ (s : State). found s (reads (suc n))) old)
+          (ap (λ (s : State). s.journal) (this_peer rules (adopt w reads n) (suc n) _ before.nodes here) ∙ ap (λ (s : State). found s (reads (suc n))) old)
       | inr apart ↦
           ap (λ (s : State). s.journal) (other_peer rules (adopt w reads n) (suc n) q _ here plays apart)
           ∙ adopt_is rules room w reads n q range sound (omega (arith, within)) (omega (arith, few, apart)) plays

@@ -27,7 +27,7 @@ use Rattle.c8_peer.specs.Steps.{outcome, Luck, done, at_mode}
 use Rattle.c8_peer.specs.Hearing.{refused, unless_misfit, got, differs_from, is_desync, hear_data, hear_message, unless_hand, deliver}
 use Rattle.c8_peer.specs.Opening.{Opening, NoPlayer, Stands, NotWritten, NoMemory, NotRead, Unfit, Spent, found, MayBecome, last_epoch}
 use Rattle.c8_world.specs.checked.Below.{ArePeersLawful}
-use Rattle.c8_world.specs.World.{World, is_player, peer_of, journal_of, Act, Open, Tick, Say, Give, Leave, Decide, Event, Do, Stop, player_of, Happening, Answer, IsDown, NoSuch, Stopped, After, stepped, call_at_mode, give_to, acted, crashed, after, MayAct, act_of, Chain}
+use Rattle.c8_world.specs.World.{World, is_player, peer_of, journal_of, Act, Open, Tick, Say, Give, Leave, Decide, Event, Do, Stop, player_of, Happening, Answer, IsDown, NoSuch, Stopped, After, stepped, call_at_mode, give_to, acted, crashed, after, MayAct, act_inside, Chain}
 use Rattle.c8_world.specs.Agreement.{IsPlayer}
 use Rattle.c8_world.specs.Matches.{Line, events_of, answers_of, Leads}
 use Rattle.c8_world.proofs.Worlds.{IsSound, plays_if, after_sound}
@@ -205,7 +205,7 @@ acted_is rules room w (Give number p) h same = give_is rules w p h.luck (slice_g
 acted_is rules room w (Leave leaver) h same = refl
 acted_is rules room w (Decide leaver) h same = refl
 
-after_is : (rules : Rules) (room : ℕ) (w : World) (event : Event) (h : Happening) → named_by w (act_of event) ≡ own_by rules w (act_of event)
+after_is : (rules : Rules) (room : ℕ) (w : World) (event : Event) (h : Happening) → named_by w (act_inside event) ≡ own_by rules w (act_inside event)
     → after rules room w event h ≡ after_here rules room w event h
 after_is rules room w (Do act) h same = acted_is rules room w act h same
 after_is rules room w (Stop act calls pick) h same =
@@ -273,9 +273,9 @@ course rules room w (line ∷ lines) =
     let rest : Course = course rules room a.world lines in
     record {
       answers = a.answer ∷ rest.answers;
-      named = named_by w (act_of line.event) ∷ rest.named;
-      own = own_by rules w (act_of line.event) ∷ rest.own;
-      may = may_here w (act_of line.event) line.happening ∷ rest.may;
+      named = named_by w (act_inside line.event) ∷ rest.named;
+      own = own_by rules w (act_inside line.event) ∷ rest.own;
+      may = may_here w (act_inside line.event) line.happening ∷ rest.may;
       world = rest.world;
     }
 
@@ -294,12 +294,12 @@ pub course_is : (laws : ArePeersLawful) (rules : Rules) (room : ℕ) (w : World)
 course_is laws rules room w [] range few sound same may = record { chain = refl; sound = sound }
 course_is laws rules room w (line ∷ lines) range few sound same may =
     let u : World = (after_here rules room w line.event line.happening).world in
-    let here : named_by w (act_of line.event) ≡ own_by rules w (act_of line.event) = cc in
+    let here : named_by w (act_inside line.event) ≡ own_by rules w (act_inside line.event) = cc in
     let there : (course rules room u lines).named ≡ (course rules room u lines).own = cc in
-    let may_now : may_here w (act_of line.event) line.happening ≡ true = cc in
+    let may_now : may_here w (act_inside line.event) line.happening ≡ true = cc in
     let may_then : (course rules room u lines).may ≡ all_true lines = cc in
     let is = after_is rules room w line.event line.happening here in
-    let acts = may_is rules room w (act_of line.event) line.happening sound may_now in
+    let acts = may_is rules room w (act_inside line.event) line.happening sound may_now in
     let after_it = after_sound laws rules room w line.event line.happening range few sound acts in
     let sound_u : IsSound rules room u = subst (λ (a : After). IsSound rules room a.world) is after_it.sound in
     let rest = course_is laws rules room u lines range few sound_u there may_then in

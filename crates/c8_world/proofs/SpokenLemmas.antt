@@ -14,12 +14,12 @@ use Rattle.c8_peer.specs.Steps.{Works, Stepped, step}
 use Rattle.c8_world.specs.declared.answer.Answer as codes
 use Rattle.c8_world.specs.declared.answer.Answer.TheVariants as answers
 use Rattle.c8_world.specs.declared.answer.Posted.{Posted}
-use Rattle.c8_world.specs.declared.seat.Seat.{Seat}
+use Rattle.c8_world.specs.declared.node.Node.{Node}
 use Rattle.c8_world.specs.World.{World, peer_of, Say, Give, Do, Told, NoSuch, give_to, acted}
 use Rattle.c8_world.specs.Agreement.{IsPlayer}
-use Rattle.c8_world.specs.Seats.{IsSeat, IsSaying, IsAsked}
+use Rattle.c8_world.specs.Nodes.{IsNode, IsSaying, IsAsked}
 use Rattle.c8_world.specs.Table.{TableValue, Holds, HasHappened}
-use Rattle.c8_world.proofs.TableLemmas.{CanDo, stands_is_memory, IsCallOf, same_reseated, placed_happens, replied_can, down_can, same_happens, seat_held, held_at, asked_as, absent_can, no_player, with_luck, with_seat}
+use Rattle.c8_world.proofs.TableLemmas.{CanDo, stands_is_memory, IsCallOf, same_renodeed, placed_happens, replied_can, down_can, same_happens, node_held, held_at, asked_as, absent_can, no_player, with_luck, with_node}
 
 -- ---- the pool
 
@@ -43,20 +43,20 @@ say_call p to what rules room w = record { by = refl; is = λ h. refl; may = λ 
 abbrev pub with_said : TableValue → List ℕ → TableValue
 with_said t bytes = record t { pool = t.pool ++ bytes ∷ [] }
 
-module _ (t : TableValue) (p to : ℕ) (what : Saying) (seat : Seat) (plays : IsPlayer t.rules p) (w : World) (holds : Holds t w)
-    (at : slice_index_or t.seats (p - 1) None ≡ Some seat) (is_seat : IsSeat t.rules t.room p seat (peer_of w p)) where
+module _ (t : TableValue) (p to : ℕ) (what : Saying) (node : Node) (plays : IsPlayer t.rules p) (w : World) (holds : Holds t w)
+    (at : slice_index_or t.nodes (p - 1) None ≡ Some node) (is_node : IsNode t.rules t.room p node (peer_of w p)) where
   -- the step of a saying leaves the state
   said_state : (reply : Reply) → step t.rules p (peer_of w p) (states.Say to what) Works ≡ record { reply = reply; state = peer_of w p }
-      → IsSeat t.rules t.room p seat (step t.rules p (peer_of w p) (states.Say to what) Works).state
-  said_state reply is = subst (λ (x : State). IsSeat t.rules t.room p seat x) (sym (ap (λ (x : Stepped). x.state) is)) is_seat
+      → IsNode t.rules t.room p node (step t.rules p (peer_of w p) (states.Say to what) Works).state
+  said_state reply is = subst (λ (x : State). IsNode t.rules t.room p node x) (sym (ap (λ (x : Stepped). x.state) is)) is_node
 
   unsaid_happens : (error : Unsayable) → (peer_of w p).mode ≡ states.Open → step t.rules p (peer_of w p) (states.Say to what) Works ≡ record { reply = Said (Err error); state = peer_of w p }
       → HasHappened t w (Do (Say p to what)) (answers.Said (Err error)) t
   unsaid_happens error up is =
       let call = say_call p to what t.rules t.room w in
-      placed_happens t t w p (step t.rules p (peer_of w p) (states.Say to what) Works).state [] seat (Say p to what) (Told (Said (Err error))) (answers.Said (Err error)) refl refl plays refl holds
+      placed_happens t t w p (step t.rules p (peer_of w p) (states.Say to what) Works).state [] node (Say p to what) (Told (Said (Err error))) (answers.Said (Err error)) refl refl plays refl holds
       (replied_can t.rules t.room w p (Say p to what) (states.Say to what) (Said (Err error)) plays call up (ap (λ (x : Stepped). x.reply) is))
-      (same_reseated t.seats p seat at) (said_state (Said (Err error)) is)
+      (same_renodeed t.nodes p node at) (said_state (Said (Err error)) is)
       (holds.said ∙ ap (λ (xs : List Packet). map spelling xs) (sym (append-nil w.said)))
       (λ v here said. refl)
 
@@ -67,10 +67,10 @@ module _ (t : TableValue) (p to : ℕ) (what : Saying) (seat : Seat) (plays : Is
       let call = say_call p to what t.rules t.room w in
       let same : length t.pool ≡ length w.said = ap (λ (xs : List (List ℕ)). length xs) holds.said ∙ length-map w.said spelling in
       let long : size ≡ length (spelling packet) = sym (length-take-le size bytes fits) ∙ ap (λ (xs : List ℕ). length xs) spells.spelled in
-      placed_happens t (with_said t (take size bytes)) w p (step t.rules p (peer_of w p) (states.Say to what) Works).state (packet ∷ []) seat (Say p to what) (Told (Said (Ok packet)))
+      placed_happens t (with_said t (take size bytes)) w p (step t.rules p (peer_of w p) (states.Say to what) Works).state (packet ∷ []) node (Say p to what) (Told (Said (Ok packet)))
       (answers.Said (Ok (record { number = length t.pool; length = size }))) refl refl plays refl holds
       (replied_can t.rules t.room w p (Say p to what) (states.Say to what) (Said (Ok packet)) plays call up (ap (λ (x : Stepped). x.reply) is))
-      (same_reseated t.seats p seat at) (said_state (Said (Ok packet)) is)
+      (same_renodeed t.nodes p node at) (said_state (Said (Ok packet)) is)
       (ap (λ (xs : List (List ℕ)). xs ++ take size bytes ∷ []) holds.said ∙ ap (λ (x : List ℕ). map spelling w.said ++ x ∷ []) spells.spelled ∙ sym (map-append spelling w.said (packet ∷ [])))
       (λ v here said.
       let count : length t.pool ≡ length v.said - 1 = omega (arith, same, ap (λ (xs : List Packet). length xs) said, length-append w.said (packet ∷ [])) in
@@ -115,18 +115,18 @@ given_absent t self number p bytes view at absent =
     same_happens t w (Give number p) _ answers.Down holds
     (absent_can t.rules t.room w p (Give number p) (states.Deliver (Ok told.0)) (no_player t.rules p absent) (given_call t.rules t.room w number p told.0 told.1)) refl)
 
-pub given_happens : (t self : TableValue) (number place p : ℕ) (bytes : List ℕ) (old new : Seat) (x : Option Seat) (answer : codes.Answer) → t ≡ self → slice_get t.pool number ≡ Some bytes
+pub given_happens : (t self : TableValue) (number place p : ℕ) (bytes : List ℕ) (old new : Node) (x : Option Node) (answer : codes.Answer) → t ≡ self → slice_get t.pool number ≡ Some bytes
     → ((w : World) → Holds t w → AreRead t w)
-    → place + 1 ≡ p → place < length t.seats → IsPlayer t.rules p → x ≡ slice_index_or t.seats place x → x ≡ Some old
-    → ((rules : Rules) (room q : ℕ) (s : State) → IsSeat rules room q old s → IsAsked rules room q s (states.Deliver (read bytes)) answer new)
-    → (w : World) → Holds self w → HasHappened self w (Do (Give number p)) answer (with_seat t place new)
+    → place + 1 ≡ p → place < length t.nodes → IsPlayer t.rules p → x ≡ slice_index_or t.nodes place x → x ≡ Some old
+    → ((rules : Rules) (room q : ℕ) (s : State) → IsNode rules room q old s → IsAsked rules room q s (states.Deliver (read bytes)) answer new)
+    → (w : World) → Holds self w → HasHappened self w (Do (Give number p)) answer (with_node t place new)
 given_happens t self number place p bytes old new x answer view at reads places within plays here old_is asked =
-    subst (λ (u : TableValue). (w : World) → Holds u w → HasHappened u w (Do (Give number p)) answer (with_seat t place new)) view
+    subst (λ (u : TableValue). (w : World) → Holds u w → HasHappened u w (Do (Give number p)) answer (with_node t place new)) view
     (λ w holds.
     let told = said_at w.said number bytes (subst (λ (xs : List (List ℕ)). slice_get xs number ≡ Some bytes) holds.said at) in
     let is_read : read bytes ≡ Ok told.0 = ap read told.2 ∙ reads w holds told.0 number told.1 in
     asked_as t place p new (Give number p) (states.Deliver (Ok told.0)) places within plays w (given_call t.rules t.room w number p told.0 told.1) holds answer
-    (subst (λ (r : _). IsAsked t.rules t.room p (peer_of w p) (states.Deliver r) answer new) is_read (asked t.rules t.room p (peer_of w p) (seat_held t place p old w places within plays x here old_is holds))))
+    (subst (λ (r : _). IsAsked t.rules t.room p (peer_of w p) (states.Deliver r) answer new) is_read (asked t.rules t.room p (peer_of w p) (node_held t place p old w places within plays x here old_is holds))))
 
 -- ---- what a player says
 
@@ -135,35 +135,35 @@ say_absent t self p to what view absent =
     subst (λ (u : TableValue). (w : World) → Holds u w → HasHappened u w (Do (Say p to what)) answers.Down u) view
     (λ w holds. same_happens t w (Say p to what) _ answers.Down holds (absent_can t.rules t.room w p (Say p to what) (states.Say to what) (no_player t.rules p absent) (say_call p to what t.rules t.room w)) refl)
 
--- what is asked of a seat that is looked at
-module _ (t self : TableValue) (place p to : ℕ) (what : Saying) (seat : Seat) (x : Option Seat) (view : t ≡ self) (places : place + 1 ≡ p) (within : place < length t.seats)
-    (plays : IsPlayer t.rules p) (here : x ≡ slice_index_or t.seats place x) (is : x ≡ Some seat) where
-  pub silent_happens : ((rules : Rules) (room q : ℕ) (s : State) → IsSeat rules room q seat s → s.mode ≢ states.Open) → (w : World) → Holds self w → HasHappened self w (Do (Say p to what)) answers.Down self
+-- what is asked of a node that is looked at
+module _ (t self : TableValue) (place p to : ℕ) (what : Saying) (node : Node) (x : Option Node) (view : t ≡ self) (places : place + 1 ≡ p) (within : place < length t.nodes)
+    (plays : IsPlayer t.rules p) (here : x ≡ slice_index_or t.nodes place x) (is : x ≡ Some node) where
+  pub silent_happens : ((rules : Rules) (room q : ℕ) (s : State) → IsNode rules room q node s → s.mode ≢ states.Open) → (w : World) → Holds self w → HasHappened self w (Do (Say p to what)) answers.Down self
   silent_happens down =
       subst (λ (u : TableValue). (w : World) → Holds u w → HasHappened u w (Do (Say p to what)) answers.Down u) view
       (λ w holds. same_happens t w (Say p to what) _ answers.Down holds
-      (down_can t.rules t.room w p (Say p to what) (states.Say to what) plays (say_call p to what t.rules t.room w) (down t.rules t.room p (peer_of w p) (seat_held t place p seat w places within plays x here is holds))) refl)
+      (down_can t.rules t.room w p (Say p to what) (states.Say to what) plays (say_call p to what t.rules t.room w) (down t.rules t.room p (peer_of w p) (node_held t place p node w places within plays x here is holds))) refl)
 
   pub refused_happens : (result : Result ℕ Unsayable) (error : Unsayable) (bytes : List ℕ) → result ≡ Err error
-      → ((rules : Rules) (room q : ℕ) (s : State) → IsSeat rules room q seat s → (s.mode ≡ states.Open) × IsSaying rules q s (states.Say to what) result bytes)
+      → ((rules : Rules) (room q : ℕ) (s : State) → IsNode rules room q node s → (s.mode ≡ states.Open) × IsSaying rules q s (states.Say to what) result bytes)
       → (w : World) → Holds self w → HasHappened self w (Do (Say p to what)) (answers.Said (Err error)) self
   refused_happens result error bytes errs asked =
       subst (λ (u : TableValue). (w : World) → Holds u w → HasHappened u w (Do (Say p to what)) (answers.Said (Err error)) u) view
       (λ w holds.
-      let seated = seat_held t place p seat w places within plays x here is holds in
-      let told = asked t.rules t.room p (peer_of w p) seated in
-      unsaid_happens t p to what seat plays w holds (held_at t place p seat places within x here is) seated error told.0
+      let nodeed = node_held t place p node w places within plays x here is holds in
+      let told = asked t.rules t.room p (peer_of w p) nodeed in
+      unsaid_happens t p to what node plays w holds (held_at t place p node places within x here is) nodeed error told.0
       (subst (λ (r : Result ℕ Unsayable). IsSaying t.rules p (peer_of w p) (states.Say to what) r bytes) errs told.1))
 
   pub spoken_happens : (result : Result ℕ Unsayable) (number size most : ℕ) (bytes : List ℕ) (pool : List (List ℕ)) → result ≡ Ok size → number ≡ length t.pool → pool ≡ t.pool ++ take size bytes ∷ []
       → IfOk result (λ n. n ≤ most) → most ≤ length bytes
-      → ((rules : Rules) (room q : ℕ) (s : State) → IsSeat rules room q seat s → (s.mode ≡ states.Open) × IsSaying rules q s (states.Say to what) result bytes)
+      → ((rules : Rules) (room q : ℕ) (s : State) → IsNode rules room q node s → (s.mode ≡ states.Open) × IsSaying rules q s (states.Say to what) result bytes)
       → (w : World) → Holds self w → HasHappened self w (Do (Say p to what)) (answers.Said (Ok (record { number = number; length = size }))) (record t { pool = pool })
   spoken_happens result number size most bytes pool oks numbered grown few long asked =
       subst (λ (u : TableValue). (w : World) → Holds u w → HasHappened u w (Do (Say p to what)) (answers.Said (Ok (record { number = number; length = size }))) (record t { pool = pool })) view
       (λ w holds.
-      let seated = seat_held t place p seat w places within plays x here is holds in
-      let told = asked t.rules t.room p (peer_of w p) seated in
+      let nodeed = node_held t place p node w places within plays x here is holds in
+      let told = asked t.rules t.room p (peer_of w p) nodeed in
       let saying : IsSaying t.rules p (peer_of w p) (states.Say to what) (Ok size) bytes = subst (λ (r : Result ℕ Unsayable). IsSaying t.rules p (peer_of w p) (states.Say to what) r bytes) oks told.1 in
       let at_most : size ≤ most = subst (λ (r : Result ℕ Unsayable). IfOk r (λ n. n ≤ most)) oks few in
-      rw (numbered, grown) (said_happens t p to what seat plays w holds (held_at t place p seat places within x here is) seated saying.0 size bytes told.0 saying.1 (omega (arith, at_most, long)) saying.2))
+      rw (numbered, grown) (said_happens t p to what node plays w holds (held_at t place p node places within x here is) nodeed saying.0 size bytes told.0 saying.1 (omega (arith, at_most, long)) saying.2))

@@ -8,12 +8,12 @@ use Rattle.c8_peer.specs.Opening.{found, away}
 use Rattle.c8_peer.specs.Runs as runs
 use Rattle.c8_world.specs.declared.answer.Answer as codes
 use Rattle.c8_world.specs.declared.answer.Answer.TheVariants as answers
-use Rattle.c8_world.specs.declared.seat.Seat.{Seat}
+use Rattle.c8_world.specs.declared.node.Node.{Node}
 use Rattle.c8_world.specs.World.{World, never_opened, is_player, peer_of, with_peer, Act, Open, Tick, Say, Give, Leave, Decide, player_of, Event, Do, Stop, Stopped, Happening, After, acted, crashed, MayAct, CanHappen}
 use Rattle.c8_world.specs.Agreement.{IsPlayer}
-use Rattle.c8_world.specs.Table.{TableValue, IsTaken, seat_of, IsSameMatch, Holds, HasHappened, HasNotHappened, HasCrashed}
+use Rattle.c8_world.specs.Table.{TableValue, IsTaken, node_of, IsSameMatch, Holds, HasHappened, HasNotHappened, HasCrashed}
 use Rattle.c8_world.proofs.Openings.{plays_so}
-use Rattle.c8_world.proofs.TableLemmas.{CanDo, set_reseated, seated, taken_at, no_player, reached_more}
+use Rattle.c8_world.proofs.TableLemmas.{CanDo, set_renodeed, nodeed, taken_at, no_player, reached_more}
 use Rattle.c8_world.proofs.OpenedLemmas.{with_taken}
 
 -- ---- a crash
@@ -34,14 +34,14 @@ with_peer_there rules w p s q plays q_plays apart =
     let also = q_plays.from_one in
     get_or-set_other w.peers (p - 1) (q - 1) s never_opened (λ e. apart (omega (arith, e, from, also)))
 
-seated_as : (t : TableValue) (place p : ℕ) (y : Option Seat) (w v : World) → place + 1 ≡ p → place < length t.seats → Holds t w → IsTaken t.rules t.room p y (peer_of v p)
+nodeed_as : (t : TableValue) (place p : ℕ) (y : Option Node) (w v : World) → place + 1 ≡ p → place < length t.nodes → Holds t w → IsTaken t.rules t.room p y (peer_of v p)
     → ((q : ℕ) → IsPlayer t.rules q → q ≢ p → peer_of v q ≡ peer_of w q)
-    → (q : ℕ) → IsPlayer t.rules q → IsTaken t.rules t.room q (seat_of (with_taken t place y) q) (peer_of v q)
-seated_as t place p None w v at within holds here there = absurd here
-seated_as t place p (Some seat) w v at within holds here there =
-    seated t.rules t.room p t.seats (slice_set t.seats place (Some seat)) seat w v (set_reseated t.seats place p seat at within) holds.peers here there
+    → (q : ℕ) → IsPlayer t.rules q → IsTaken t.rules t.room q (node_of (with_taken t place y) q) (peer_of v q)
+nodeed_as t place p None w v at within holds here there = absurd here
+nodeed_as t place p (Some node) w v at within holds here there =
+    nodeed t.rules t.room p t.nodes (slice_set t.nodes place (Some node)) node w v (set_renodeed t.nodes place p node at within) holds.peers here there
 
-pub crash_happens : (t self : TableValue) (place p : ℕ) (x y : Option Seat) → t ≡ self → place + 1 ≡ p → place < length t.seats → IsPlayer t.rules p → x ≡ slice_index_or t.seats place x
+pub crash_happens : (t self : TableValue) (place p : ℕ) (x y : Option Node) → t ≡ self → place + 1 ≡ p → place < length t.nodes → IsPlayer t.rules p → x ≡ slice_index_or t.nodes place x
     → ((rules : Rules) (room q : ℕ) (s : State) → IsTaken rules room q x s → (leaves : Bool) × IsTaken rules room q y (runs.crashed s leaves))
     → (w : World) → Holds self w → HasCrashed self w p (with_taken t place y)
 crash_happens t self place p x y view at within plays here crashes =
@@ -52,8 +52,8 @@ crash_happens t self place p x y view at within plays here crashes =
     let is : crashed t.rules w p left.0 ≡ with_peer w p s = crashed_is t.rules w p left.0 true (plays_so t.rules p plays) in
     record {
       leaves = left.0;
-      peers = subst (λ (v : World). (q : ℕ) → IsPlayer t.rules q → IsTaken t.rules t.room q (seat_of (with_taken t place y) q) (peer_of v q)) (sym is)
-          (seated_as t place p y w (with_peer w p s) at within holds
+      peers = subst (λ (v : World). (q : ℕ) → IsPlayer t.rules q → IsTaken t.rules t.room q (node_of (with_taken t place y) q) (peer_of v q)) (sym is)
+          (nodeed_as t place p y w (with_peer w p s) at within holds
           (subst (λ (z : State). IsTaken t.rules t.room p y z) (sym (with_peer_here t.rules w p s holds.count plays)) left.1)
           (λ q q_plays apart. with_peer_there t.rules w p s q plays q_plays apart));
       pool = refl;
@@ -64,7 +64,7 @@ stranger_crashes t self p view absent =
     subst (λ (u : TableValue). (w : World) → Holds u w → HasCrashed u w p u) view
     (λ w holds. record {
       leaves = false;
-      peers = subst (λ (v : World). (q : ℕ) → IsPlayer t.rules q → IsTaken t.rules t.room q (seat_of t q) (peer_of v q)) (sym (crashed_is t.rules w p false false (no_player t.rules p absent))) holds.peers;
+      peers = subst (λ (v : World). (q : ℕ) → IsPlayer t.rules q → IsTaken t.rules t.room q (node_of t q) (peer_of v q)) (sym (crashed_is t.rules w p false false (no_player t.rules p absent))) holds.peers;
       pool = refl;
     })
 

@@ -1,4 +1,4 @@
--- What becomes of a table when one of its seats, or its pool, changes.
+-- What becomes of a table when one of its nodes, or its pool, changes.
 use Rattle.std.proofs.Common.{◌≡◌, ◌≢◌, inl, inr, ℕ, ◌+◌, ◌-◌, ◌<◌, ◌≤◌, ◌^◌, List, [], ◌∷◌, ◌++◌, length, map, Bool, false, cond, Option, Some, None, Ok, Err, refl, sym, ap, subst, ◌∙◌, arith, slice_set, slice_index_or}
 use Rattle.std.proofs.lemmas.Bool.{cases_eq, and_right, lt-leb}
 use Rattle.std.specs.Prelude.{nat_le}
@@ -14,11 +14,11 @@ use Rattle.c8_peer.specs.Peer.{luck_of}
 use Rattle.c8_world.specs.declared.answer.Answer as codes
 use Rattle.c8_world.specs.declared.answer.Answer.TheVariants as answers
 use Rattle.c8_world.specs.declared.answer.Counts.{Counts}
-use Rattle.c8_world.specs.declared.seat.Seat.{Seat}
+use Rattle.c8_world.specs.declared.node.Node.{Node}
 use Rattle.c8_world.specs.World.{World, never_opened, start, is_player, peer_of, Act, Tick, Leave, Decide, player_of, Event, Do, Happening, Answer, Told, IsDown, said_by, stepped, call_at_mode, call_at, acted, MayAct, CanHappen, Chain, IsReached}
 use Rattle.c8_world.specs.Agreement.{IsPlayer}
-use Rattle.c8_world.specs.Seats.{IsSeat, IsCalled, IsAsked}
-use Rattle.c8_world.specs.Table.{TableValue, IsTaken, seat_of, Holds, HadMemory, HasHappened, reported_reply, reported}
+use Rattle.c8_world.specs.Nodes.{IsNode, IsCalled, IsAsked}
+use Rattle.c8_world.specs.Table.{TableValue, IsTaken, node_of, Holds, HadMemory, HasHappened, reported_reply, reported}
 use Rattle.c8_world.proofs.Openings.{plays_so}
 
 -- ---- one event more
@@ -37,30 +37,30 @@ reached_more rules room w v event answer reached can = record {
   chain = chain_more rules room (start rules) w v reached.events reached.answers event answer reached.chain can;
 }
 
--- ---- one seat
+-- ---- one node
 
--- The seat of one player holds another peer; the others are as they were.
-pub record IsReseated (old new : List (Option Seat)) (p : ℕ) (seat : Seat) : Type 0 where
-  pub here : slice_index_or new (p - 1) None ≡ Some seat
+-- The node of one player holds another peer; the others are as they were.
+pub record IsRenodeed (old new : List (Option Node)) (p : ℕ) (node : Node) : Type 0 where
+  pub here : slice_index_or new (p - 1) None ≡ Some node
   pub there : (q : ℕ) → 1 ≤ q → q ≢ p → slice_index_or new (q - 1) None ≡ slice_index_or old (q - 1) None
 
-pub set_reseated : (seats : List (Option Seat)) (place p : ℕ) (seat : Seat) → place + 1 ≡ p → place < length seats → IsReseated seats (slice_set seats place (Some seat)) p seat
-set_reseated seats place p seat at within = record {
-  here = subst (λ (i : ℕ). slice_index_or (slice_set seats place (Some seat)) i None ≡ Some seat) (omega (arith, at)) (get_or-set_same seats place (Some seat) None within);
-  there = λ q from apart. get_or-set_other seats place (q - 1) (Some seat) None (λ e. apart (omega (arith, at, from, e)));
+pub set_renodeed : (nodes : List (Option Node)) (place p : ℕ) (node : Node) → place + 1 ≡ p → place < length nodes → IsRenodeed nodes (slice_set nodes place (Some node)) p node
+set_renodeed nodes place p node at within = record {
+  here = subst (λ (i : ℕ). slice_index_or (slice_set nodes place (Some node)) i None ≡ Some node) (omega (arith, at)) (get_or-set_same nodes place (Some node) None within);
+  there = λ q from apart. get_or-set_other nodes place (q - 1) (Some node) None (λ e. apart (omega (arith, at, from, e)));
 }
 
-pub same_reseated : (seats : List (Option Seat)) (p : ℕ) (seat : Seat) → slice_index_or seats (p - 1) None ≡ Some seat → IsReseated seats seats p seat
-same_reseated seats p seat at = record { here = at; there = λ q from apart. refl }
+pub same_renodeed : (nodes : List (Option Node)) (p : ℕ) (node : Node) → slice_index_or nodes (p - 1) None ≡ Some node → IsRenodeed nodes nodes p node
+same_renodeed nodes p node at = record { here = at; there = λ q from apart. refl }
 
--- each seat holds its player's peer, where one of them has become another
-pub seated : (rules : Rules) (room p : ℕ) (old new : List (Option Seat)) (seat : Seat) (w v : World) → IsReseated old new p seat
-    → ((q : ℕ) → IsPlayer rules q → IsTaken rules room q (slice_index_or old (q - 1) None) (peer_of w q)) → IsSeat rules room p seat (peer_of v p)
+-- each node holds its player's peer, where one of them has become another
+pub nodeed : (rules : Rules) (room p : ℕ) (old new : List (Option Node)) (node : Node) (w v : World) → IsRenodeed old new p node
+    → ((q : ℕ) → IsPlayer rules q → IsTaken rules room q (slice_index_or old (q - 1) None) (peer_of w q)) → IsNode rules room p node (peer_of v p)
     → ((q : ℕ) → IsPlayer rules q → q ≢ p → peer_of v q ≡ peer_of w q)
     → (q : ℕ) → IsPlayer rules q → IsTaken rules room q (slice_index_or new (q - 1) None) (peer_of v q)
-seated rules room p old new seat w v is each here there q plays =
+nodeed rules room p old new node w v is each here there q plays =
     elim (cases_eq q p) [
-      | inl same ↦ rw same (subst (λ (x : Option Seat). IsTaken rules room p x (peer_of v p)) (sym is.here) here)
+      | inl same ↦ rw same (subst (λ (x : Option Node). IsTaken rules room p x (peer_of v p)) (sym is.here) here)
       | inr apart ↦ rw (is.there q plays.from_one apart, there q plays apart) (each q plays)
     ]
 
@@ -81,19 +81,19 @@ placed_there rules w p s new q plays q_plays apart =
     let also = q_plays.from_one in
     get_or-set_other w.peers (p - 1) (q - 1) s never_opened (λ e. apart (omega (arith, e, from, also)))
 
--- where the seat and the pool tell it, the table holds the world in which one peer has become another and something more is said
-pub placed_holds : (old new : TableValue) (w : World) (p : ℕ) (s : State) (said : List Packet) (seat : Seat)
+-- where the node and the pool tell it, the table holds the world in which one peer has become another and something more is said
+pub placed_holds : (old new : TableValue) (w : World) (p : ℕ) (s : State) (said : List Packet) (node : Node)
     → new.rules ≡ old.rules → new.room ≡ old.room → IsPlayer old.rules p → Holds old w → IsReached old.rules old.room (placed w p s said)
-    → IsReseated old.seats new.seats p seat → IsSeat old.rules old.room p seat s → new.pool ≡ map spelling (w.said ++ said) → Holds new (placed w p s said)
-placed_holds old new w p s said seat rules_same room_same plays holds reached is seat_is pool_is =
+    → IsRenodeed old.nodes new.nodes p node → IsNode old.rules old.room p node s → new.pool ≡ map spelling (w.said ++ said) → Holds new (placed w p s said)
+placed_holds old new w p s said node rules_same room_same plays holds reached is node_is pool_is =
     let v : World = placed w p s said in
     let here = placed_here old.rules w p s said holds.count plays in
     record {
       reached = subst (λ (r : Rules). IsReached r new.room v) (sym rules_same) (subst (λ (n : ℕ). IsReached old.rules n v) (sym room_same) reached);
       count = length-set w.peers (p - 1) s ∙ holds.count ∙ ap (λ (r : Rules). r.players) (sym rules_same);
-      peers = subst (λ (r : Rules). (q : ℕ) → IsPlayer r q → IsTaken r new.room q (seat_of new q) (peer_of v q)) (sym rules_same)
-          (subst (λ (n : ℕ). (q : ℕ) → IsPlayer old.rules q → IsTaken old.rules n q (seat_of new q) (peer_of v q)) (sym room_same)
-          (seated old.rules old.room p old.seats new.seats seat w v is holds.peers (subst (λ (x : State). IsSeat old.rules old.room p seat x) (sym here) seat_is)
+      peers = subst (λ (r : Rules). (q : ℕ) → IsPlayer r q → IsTaken r new.room q (node_of new q) (peer_of v q)) (sym rules_same)
+          (subst (λ (n : ℕ). (q : ℕ) → IsPlayer old.rules q → IsTaken old.rules n q (node_of new q) (peer_of v q)) (sym room_same)
+          (nodeed old.rules old.room p old.nodes new.nodes node w v is holds.peers (subst (λ (x : State). IsNode old.rules old.room p node x) (sym here) node_is)
           (λ q q_plays apart. placed_there old.rules w p s said q plays q_plays apart)));
       said = pool_is;
     }
@@ -102,15 +102,15 @@ placed_holds old new w p s said seat rules_same room_same plays holds reached is
 abbrev pub CanDo : Rules → ℕ → World → Event → Answer → World → Type 0
 CanDo rules room w event told v = (can : CanHappen rules room w event told v) × HadMemory can.happening
 
--- An act that comes to this answer, leaves one peer in this state and says this, has happened, where the seat and the pool tell it.
-pub placed_happens : (old new : TableValue) (w : World) (p : ℕ) (s : State) (said : List Packet) (seat : Seat) (act : Act) (told : Answer) (answer : codes.Answer)
+-- An act that comes to this answer, leaves one peer in this state and says this, has happened, where the node and the pool tell it.
+pub placed_happens : (old new : TableValue) (w : World) (p : ℕ) (s : State) (said : List Packet) (node : Node) (act : Act) (told : Answer) (answer : codes.Answer)
     → new.rules ≡ old.rules → new.room ≡ old.room → IsPlayer old.rules p → player_of act ≡ p → Holds old w
     → CanDo old.rules old.room w (Do act) told (placed w p s said)
-    → IsReseated old.seats new.seats p seat → IsSeat old.rules old.room p seat s
+    → IsRenodeed old.nodes new.nodes p node → IsNode old.rules old.room p node s
     → new.pool ≡ map spelling (w.said ++ said)
     → ((v : World) → peer_of v p ≡ s → v.said ≡ w.said ++ said → answer ≡ reported old.rules p v told)
     → HasHappened old w (Do act) answer new
-placed_happens old new w p s said seat act told answer rules_same room_same plays by holds can is seat_is pool_is reports =
+placed_happens old new w p s said node act told answer rules_same room_same plays by holds can is node_is pool_is reports =
     let v : World = placed w p s said in
     record {
       told = told;
@@ -118,7 +118,7 @@ placed_happens old new w p s said seat act told answer rules_same room_same play
       can = can.0;
       had_memory = can.1;
       reports = subst (λ (q : ℕ). answer ≡ reported old.rules q v told) (sym by) (reports v (placed_here old.rules w p s said holds.count plays) refl);
-      holds = placed_holds old new w p s said seat rules_same room_same plays holds (reached_more old.rules old.room w v (Do act) told holds.reached can.0) is seat_is pool_is;
+      holds = placed_holds old new w p s said node rules_same room_same plays holds (reached_more old.rules old.room w v (Do act) told holds.reached can.0) is node_is pool_is;
     }
 
 -- ---- one call
@@ -197,22 +197,22 @@ absent_happens t self p act call view is absent =
     subst (λ (u : TableValue). (w : World) → Holds u w → HasHappened u w (Do act) answers.Down u) view
     (λ w holds. same_happens t w act IsDown answers.Down holds (absent_can t.rules t.room w p act call (no_player t.rules p absent) (is w)) refl)
 
--- the seats after a call
-abbrev pub with_seat : TableValue → ℕ → Seat → TableValue
-with_seat t place seat = record t { seats = slice_set t.seats place (Some seat) }
+-- the nodes after a call
+abbrev pub with_node : TableValue → ℕ → Node → TableValue
+with_node t place node = record t { nodes = slice_set t.nodes place (Some node) }
 
-module _ (t : TableValue) (place p : ℕ) (seat : Seat) (act : Act) (call : Call) (at : place + 1 ≡ p) (within : place < length t.seats)
+module _ (t : TableValue) (place p : ℕ) (node : Node) (act : Act) (call : Call) (at : place + 1 ≡ p) (within : place < length t.nodes)
     (plays : IsPlayer t.rules p) (w : World) (is : IsCallOf t.rules t.room w act p call) (holds : Holds t w) where
-  replied : (reply : Reply) (answer : codes.Answer) → IsCalled t.rules t.room p (peer_of w p) call (Some reply) seat → said_by reply ≡ []
-      → ((n : ℕ) → answer ≡ reported_reply t.rules p (step t.rules p (peer_of w p) call (luck_of reply)).state n reply) → HasHappened t w (Do act) answer (with_seat t place seat)
+  replied : (reply : Reply) (answer : codes.Answer) → IsCalled t.rules t.room p (peer_of w p) call (Some reply) node → said_by reply ≡ []
+      → ((n : ℕ) → answer ≡ reported_reply t.rules p (step t.rules p (peer_of w p) call (luck_of reply)).state n reply) → HasHappened t w (Do act) answer (with_node t place node)
   replied reply answer called quiet reports =
-      placed_happens t (with_seat t place seat) w p (step t.rules p (peer_of w p) call (luck_of reply)).state (said_by reply) seat act (Told reply) answer
+      placed_happens t (with_node t place node) w p (step t.rules p (peer_of w p) call (luck_of reply)).state (said_by reply) node act (Told reply) answer
       refl refl plays is.by holds (replied_can t.rules t.room w p act call reply plays is called.0 called.1)
-      (set_reseated t.seats place p seat at within) called.2
+      (set_renodeed t.nodes place p node at within) called.2
       (holds.said ∙ ap (λ (xs : List Packet). map spelling xs) (sym (append-nil w.said) ∙ ap (λ (new : List Packet). w.said ++ new) (sym quiet)))
       (λ v here said. subst (λ (x : State). answer ≡ reported_reply t.rules p x (length v.said - 1) reply) (sym here) (reports (length v.said - 1)))
 
-  unasked : IsCalled t.rules t.room p (peer_of w p) call None seat → HasHappened t w (Do act) answers.Down (with_seat t place seat)
+  unasked : IsCalled t.rules t.room p (peer_of w p) call None node → HasHappened t w (Do act) answers.Down (with_node t place node)
   unasked called = record {
     told = IsDown;
     world = w;
@@ -222,12 +222,12 @@ module _ (t : TableValue) (place p : ℕ) (seat : Seat) (act : Act) (call : Call
     holds = record {
       reached = holds.reached;
       count = holds.count;
-      peers = seated t.rules t.room p t.seats (slice_set t.seats place (Some seat)) seat w w (set_reseated t.seats place p seat at within) holds.peers called.1 (λ q q_plays apart. refl);
+      peers = nodeed t.rules t.room p t.nodes (slice_set t.nodes place (Some node)) node w w (set_renodeed t.nodes place p node at within) holds.peers called.1 (λ q q_plays apart. refl);
       said = holds.said;
     };
   }
 
-  pub asked_as : (answer : codes.Answer) → IsAsked t.rules t.room p (peer_of w p) call answer seat → HasHappened t w (Do act) answer (with_seat t place seat)
+  pub asked_as : (answer : codes.Answer) → IsAsked t.rules t.room p (peer_of w p) call answer node → HasHappened t w (Do act) answer (with_node t place node)
   asked_as (answers.Ticked (Ok counts)) asked = replied (Ticked (Ok tt)) (answers.Ticked (Ok counts)) asked.0 refl (λ n. ap (λ (x : Counts). answers.Ticked (Ok x)) asked.1)
   asked_as (answers.Ticked (Err error)) asked = replied (Ticked (Err error)) (answers.Ticked (Err error)) asked refl (λ n. refl)
   asked_as (answers.Delivered result) asked = replied (Delivered result) (answers.Delivered result) asked refl (λ n. refl)
@@ -240,33 +240,33 @@ module _ (t : TableValue) (place p : ℕ) (seat : Seat) (act : Act) (call : Call
   asked_as answers.NoSuch asked = absurd asked
   asked_as answers.Stopped asked = absurd asked
 
-pub taken_at : (t : TableValue) (place p : ℕ) (w : World) → place + 1 ≡ p → place < length t.seats → IsPlayer t.rules p
-    → (x : Option Seat) → x ≡ slice_index_or t.seats place x → Holds t w → IsTaken t.rules t.room p x (peer_of w p)
+pub taken_at : (t : TableValue) (place p : ℕ) (w : World) → place + 1 ≡ p → place < length t.nodes → IsPlayer t.rules p
+    → (x : Option Node) → x ≡ slice_index_or t.nodes place x → Holds t w → IsTaken t.rules t.room p x (peer_of w p)
 taken_at t place p w at within plays x here holds =
     let i : place ≡ p - 1 = omega (arith, at) in
-    let found : slice_index_or t.seats (p - 1) None ≡ x = subst (λ (j : ℕ). slice_index_or t.seats j None ≡ x) i (get_or_default t.seats place None x within ∙ sym here) in
-    subst (λ (y : Option Seat). IsTaken t.rules t.room p y (peer_of w p)) found (holds.peers p plays)
+    let found : slice_index_or t.nodes (p - 1) None ≡ x = subst (λ (j : ℕ). slice_index_or t.nodes j None ≡ x) i (get_or_default t.nodes place None x within ∙ sym here) in
+    subst (λ (y : Option Node). IsTaken t.rules t.room p y (peer_of w p)) found (holds.peers p plays)
 
--- the seat that a table holds at a place
-pub held_at : (t : TableValue) (place p : ℕ) (seat : Seat) → place + 1 ≡ p → place < length t.seats
-    → (x : Option Seat) → x ≡ slice_index_or t.seats place x → x ≡ Some seat → slice_index_or t.seats (p - 1) None ≡ Some seat
-held_at t place p seat at within x here is =
+-- the node that a table holds at a place
+pub held_at : (t : TableValue) (place p : ℕ) (node : Node) → place + 1 ≡ p → place < length t.nodes
+    → (x : Option Node) → x ≡ slice_index_or t.nodes place x → x ≡ Some node → slice_index_or t.nodes (p - 1) None ≡ Some node
+held_at t place p node at within x here is =
     let i : place ≡ p - 1 = omega (arith, at) in
-    subst (λ (j : ℕ). slice_index_or t.seats j None ≡ Some seat) i (get_or_default t.seats place None x within ∙ sym here ∙ is)
+    subst (λ (j : ℕ). slice_index_or t.nodes j None ≡ Some node) i (get_or_default t.nodes place None x within ∙ sym here ∙ is)
 
-pub seat_held : (t : TableValue) (place p : ℕ) (seat : Seat) (w : World) → place + 1 ≡ p → place < length t.seats → IsPlayer t.rules p
-    → (x : Option Seat) → x ≡ slice_index_or t.seats place x → x ≡ Some seat → Holds t w → IsSeat t.rules t.room p seat (peer_of w p)
-seat_held t place p seat w at within plays x here is holds =
-    subst (λ (y : Option Seat). IsTaken t.rules t.room p y (peer_of w p)) (held_at t place p seat at within x here is) (holds.peers p plays)
+pub node_held : (t : TableValue) (place p : ℕ) (node : Node) (w : World) → place + 1 ≡ p → place < length t.nodes → IsPlayer t.rules p
+    → (x : Option Node) → x ≡ slice_index_or t.nodes place x → x ≡ Some node → Holds t w → IsNode t.rules t.room p node (peer_of w p)
+node_held t place p node w at within plays x here is holds =
+    subst (λ (y : Option Node). IsTaken t.rules t.room p y (peer_of w p)) (held_at t place p node at within x here is) (holds.peers p plays)
 
--- A call at a seat has happened.
-pub asked_happens : (t self : TableValue) (place p : ℕ) (old new : Seat) (x : Option Seat) (act : Act) (call : Call) (answer : codes.Answer) → t ≡ self → ((w : World) → IsCallOf t.rules t.room w act p call)
-    → place + 1 ≡ p → place < length t.seats → IsPlayer t.rules p → x ≡ slice_index_or t.seats place x → x ≡ Some old
-    → ((rules : Rules) (room q : ℕ) (s : State) → IsSeat rules room q old s → IsAsked rules room q s call answer new)
-    → (w : World) → Holds self w → HasHappened self w (Do act) answer (with_seat t place new)
+-- A call at a node has happened.
+pub asked_happens : (t self : TableValue) (place p : ℕ) (old new : Node) (x : Option Node) (act : Act) (call : Call) (answer : codes.Answer) → t ≡ self → ((w : World) → IsCallOf t.rules t.room w act p call)
+    → place + 1 ≡ p → place < length t.nodes → IsPlayer t.rules p → x ≡ slice_index_or t.nodes place x → x ≡ Some old
+    → ((rules : Rules) (room q : ℕ) (s : State) → IsNode rules room q old s → IsAsked rules room q s call answer new)
+    → (w : World) → Holds self w → HasHappened self w (Do act) answer (with_node t place new)
 asked_happens t self place p old new x act call answer view is at within plays here old_is asked =
-    subst (λ (u : TableValue). (w : World) → Holds u w → HasHappened u w (Do act) answer (with_seat t place new)) view
-    (λ w holds. asked_as t place p new act call at within plays w (is w) holds answer (asked t.rules t.room p (peer_of w p) (seat_held t place p old w at within plays x here old_is holds)))
+    subst (λ (u : TableValue). (w : World) → Holds u w → HasHappened u w (Do act) answer (with_node t place new)) view
+    (λ w holds. asked_as t place p new act call at within plays w (is w) holds answer (asked t.rules t.room p (peer_of w p) (node_held t place p old w at within plays x here old_is holds)))
 
 -- ---- the calls that acts are
 

@@ -7,9 +7,9 @@ use Rattle.c8_peer.specs.declared.error.OpenError.TheVariants as opens
 use Rattle.c8_peer.specs.Opened.{IsRefusedOpening}
 use Rattle.c8_world.specs.declared.answer.Answer as codes
 use Rattle.c8_world.specs.declared.event.Event as asked
-use Rattle.c8_world.specs.declared.seat.Seat.{Seat}
-use Rattle.c8_world.specs.Table.{TableValue, seat_of}
-use Rattle.c8_world.specs.Turns.{OfSeats, OthersStay, IsMove, IsTurn, IsTurnOut, AreTurns, AreFirstTurns}
+use Rattle.c8_world.specs.declared.node.Node.{Node}
+use Rattle.c8_world.specs.Table.{TableValue, node_of}
+use Rattle.c8_world.specs.Turns.{OfNodes, OthersStay, IsMove, IsTurn, IsTurnOut, AreTurns, AreFirstTurns}
 use Rattle.c8_world.proofs.OpenedLemmas.{with_taken}
 use Rattle.c8_world.proofs.LifeLemmas.{one_more, here_split}
 
@@ -17,43 +17,43 @@ use Rattle.c8_world.proofs.LifeLemmas.{one_more, here_split}
 pub opening_spared : {D : Type 0} (g : Ghosts D) (disk left : D) (rules : Rules) (room me : ℕ) → IsRefusedOpening g disk rules room me opens.Memory left → left ≡ disk
 opening_spared g disk left rules room me refused = ⊎_elim (λ stranger. stranger.2) (λ player. player.1) refused
 
--- ---- one seat of a table
+-- ---- one node of a table
 
-others_set : (t : TableValue) (place p : ℕ) (x : Option Seat) → place + 1 ≡ p → OthersStay p t (with_taken t place x)
+others_set : (t : TableValue) (place p : ℕ) (x : Option Node) → place + 1 ≡ p → OthersStay p t (with_taken t place x)
 others_set t place p x at q plays apart =
     let from = plays.from_one in
-    get_or-set_other t.seats place (q - 1) x None (λ e. apart (omega (arith, at, from, e)))
+    get_or-set_other t.nodes place (q - 1) x None (λ e. apart (omega (arith, at, from, e)))
 
--- a seat that is taken and put back
-pub seat_moves : (P : Seat → Seat → Type 0) (t self : TableValue) (place p : ℕ) (x y : Option Seat) → t ≡ self → place + 1 ≡ p → place < length t.seats → x ≡ slice_index_or t.seats place x
-    → OfSeats P x y → IsMove p P self (with_taken t place y)
-seat_moves P t self place p x y view at within here is =
+-- a node that is taken and put back
+pub node_moves : (P : Node → Node → Type 0) (t self : TableValue) (place p : ℕ) (x y : Option Node) → t ≡ self → place + 1 ≡ p → place < length t.nodes → x ≡ slice_index_or t.nodes place x
+    → OfNodes P x y → IsMove p P self (with_taken t place y)
+node_moves P t self place p x y view at within here is =
     let i : place ≡ p - 1 = omega (arith, at) in
-    let found : x ≡ seat_of t p = sym (subst (λ (j : ℕ). slice_index_or t.seats j None ≡ x) i (get_or_default t.seats place None x within ∙ sym here)) in
-    let made : y ≡ seat_of (with_taken t place y) p = sym (subst (λ (j : ℕ). slice_index_or (slice_set t.seats place y) j None ≡ y) i (get_or-set_same t.seats place y None within)) in
+    let found : x ≡ node_of t p = sym (subst (λ (j : ℕ). slice_index_or t.nodes j None ≡ x) i (get_or_default t.nodes place None x within ∙ sym here)) in
+    let made : y ≡ node_of (with_taken t place y) p = sym (subst (λ (j : ℕ). slice_index_or (slice_set t.nodes place y) j None ≡ y) i (get_or-set_same t.nodes place y None within)) in
     subst (λ (u : TableValue). IsMove p P u (with_taken t place y)) view (record {
       same = record { rules = refl; room = refl };
       others = others_set t place p y at;
-      own = subst (λ (z : Option Seat). OfSeats P (seat_of t p) z) made (subst (λ (z : Option Seat). OfSeats P z y) found is);
+      own = subst (λ (z : Option Node). OfNodes P (node_of t p) z) made (subst (λ (z : Option Node). OfNodes P z y) found is);
     })
 
-of_same : (P : Seat → Seat → Type 0) (x : Option Seat) → ((seat : Seat) → P seat seat) → OfSeats P x x
+of_same : (P : Node → Node → Type 0) (x : Option Node) → ((node : Node) → P node node) → OfNodes P x x
 of_same P None each = tt
-of_same P (Some seat) each = each seat
+of_same P (Some node) each = each node
 
--- no seat changes, whatever the pool does
-pub nobody_moves : (P : Seat → Seat → Type 0) (t self new : TableValue) (p : ℕ) → t ≡ self → new.rules ≡ t.rules → new.room ≡ t.room → new.seats ≡ t.seats → ((seat : Seat) → P seat seat) → IsMove p P self new
+-- no node changes, whatever the pool does
+pub nobody_moves : (P : Node → Node → Type 0) (t self new : TableValue) (p : ℕ) → t ≡ self → new.rules ≡ t.rules → new.room ≡ t.room → new.nodes ≡ t.nodes → ((node : Node) → P node node) → IsMove p P self new
 nobody_moves P t self new p view rules room same each =
     subst (λ (u : TableValue). IsMove p P u new) view (record {
       same = record { rules = rules; room = room };
-      others = λ q plays apart. ap (λ (seats : List (Option Seat)). slice_index_or seats (q - 1) None) same;
-      own = rw same (of_same P (seat_of t p) each);
+      others = λ q plays apart. ap (λ (nodes : List (Option Node)). slice_index_or nodes (q - 1) None) same;
+      own = rw same (of_same P (node_of t p) each);
     })
 
--- a player who is not in the game has no seat
-pub stranger_moves : (P : Seat → Seat → Type 0) (t self : TableValue) (p : ℕ) → t ≡ self → length t.seats ≡ t.rules.players → t.rules.players < p → IsMove p P self self
+-- a player who is not in the game has no node
+pub stranger_moves : (P : Node → Node → Type 0) (t self : TableValue) (p : ℕ) → t ≡ self → length t.nodes ≡ t.rules.players → t.rules.players < p → IsMove p P self self
 stranger_moves P t self p view full absent =
-    let none : seat_of t p ≡ None = get_or_past t.seats (p - 1) None (omega (arith, full, absent)) in
+    let none : node_of t p ≡ None = get_or_past t.nodes (p - 1) None (omega (arith, full, absent)) in
     subst (λ (u : TableValue). IsMove p P u u) view (record {
       same = record { rules = refl; room = refl };
       others = λ q plays apart. refl;

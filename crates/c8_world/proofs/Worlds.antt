@@ -24,7 +24,7 @@ use Rattle.c8_peer.specs.Lawful.{IsMemory, IsCall}
 use Rattle.c8_peer.specs.Truth.{IsTrue}
 use Rattle.c8_peer.specs.checked.TruthLaws.{truth_stays}
 use Rattle.c8_world.specs.checked.Below.{ArePeersLawful}
-use Rattle.c8_world.specs.World.{World, never_opened, start, is_player, peer_of, journal_of, with_peer, Act, Open, Tick, Say, Give, Leave, Decide, Event, Do, Stop, player_of, Happening, Answer, After, said_by, stepped, call_at_mode, call_at, open_at_mode, give_to, acted, crashed, after, MayAct, act_of, CanHappen, Chain}
+use Rattle.c8_world.specs.World.{World, never_opened, start, is_player, peer_of, journal_of, with_peer, Act, Open, Tick, Say, Give, Leave, Decide, Event, Do, Stop, player_of, Happening, Answer, After, said_by, stepped, call_at_mode, call_at, open_at_mode, give_to, acted, crashed, after, MayAct, act_inside, CanHappen, Chain}
 use Rattle.c8_world.specs.Agreement.{IsPlayer, IsAmong}
 use Rattle.c8_world.proofs.Journals.{AreSound, Fits, Grown, HasMore, player_one, more_grown, held_grown, frozen_grown, sound_more, fits_later}
 use Rattle.c8_world.proofs.Records.{fits_head, fits_epoch}
@@ -38,7 +38,7 @@ pub record IsSoundPeer (rules : Rules) (room : ℕ) (J : ℕ → List Record) (s
   pub awake : s.mode ≢ Away → IsAwake rules room J said p s.memory
 
 pub record IsSound (rules : Rules) (room : ℕ) (w : World) : Type 0 where
-  pub seats : length w.peers ≡ rules.players
+  pub nodes : length w.peers ≡ rules.players
   pub journals : AreSound rules room (journal_of w)
   pub said : (packet : Packet) → IsAmong w.said packet → IsSaid rules (journal_of w) packet
   pub peers : (p : ℕ) → IsPlayer rules p → IsSoundPeer rules room (journal_of w) w.said p (peer_of w p)
@@ -115,10 +115,10 @@ abbrev pub placed : World → ℕ → State → List Packet → World
 placed w p s new = record { peers = slice_set w.peers (p - 1) s; said = w.said ++ new }
 
 pub peer_here : (rules : Rules) (w : World) (p : ℕ) (s : State) (new : List Packet) → length w.peers ≡ rules.players → IsPlayer rules p → peer_of (placed w p s new) p ≡ s
-peer_here rules w p s new seats plays =
+peer_here rules w p s new nodes plays =
     let from = plays.from_one in
     let to = plays.in_game in
-    get_or-set_same w.peers (p - 1) s never_opened (omega (arith, from, to, seats))
+    get_or-set_same w.peers (p - 1) s never_opened (omega (arith, from, to, nodes))
 
 pub peer_there : (rules : Rules) (w : World) (p : ℕ) (s : State) (new : List Packet) (q : ℕ) → IsPlayer rules p → IsPlayer rules q → q ≢ p → peer_of (placed w p s new) q ≡ peer_of w q
 peer_there rules w p s new q plays q_plays apart =
@@ -142,7 +142,7 @@ placed_by rules room w p s new range sound plays journals grown peer news =
     let v : World = placed w p s new in
     record {
       sound = record {
-        seats = length-set w.peers (p - 1) s ∙ sound.seats;
+        nodes = length-set w.peers (p - 1) s ∙ sound.nodes;
         journals = journals;
         said = λ packet among. ⊎_elim
             (λ old. said_later rules room (journal_of w) (journal_of v) packet range journals grown (sound.said packet old))
@@ -150,7 +150,7 @@ placed_by rules room w p s new range sound plays journals grown peer news =
             (among_split w.said new packet among);
         peers = λ q q_plays. elim (cases_eq q p) [
           | inl same ↦ subst (λ (x : ℕ). IsSoundPeer rules room (journal_of v) v.said x (peer_of v x)) (sym same)
-              (subst (λ (t : State). IsSoundPeer rules room (journal_of v) v.said p t) (sym (peer_here rules w p s new sound.seats plays)) peer)
+              (subst (λ (t : State). IsSoundPeer rules room (journal_of v) v.said p t) (sym (peer_here rules w p s new sound.nodes plays)) peer)
           | inr apart ↦
               let there : peer_of v q ≡ peer_of w q = peer_there rules w p s new q plays q_plays apart in
               let was = sound.peers q q_plays in
@@ -169,7 +169,7 @@ journal_there : (rules : Rules) (w : World) (p : ℕ) (s : State) (new : List Pa
 journal_there rules w p s new q plays q_plays apart = ap (λ (t : State). t.journal) (peer_there rules w p s new q plays q_plays apart)
 
 journal_here : (rules : Rules) (w : World) (p : ℕ) (s : State) (new : List Packet) → length w.peers ≡ rules.players → IsPlayer rules p → journal_of (placed w p s new) p ≡ s.journal
-journal_here rules w p s new seats plays = ap (λ (t : State). t.journal) (peer_here rules w p s new seats plays)
+journal_here rules w p s new nodes plays = ap (λ (t : State). t.journal) (peer_here rules w p s new nodes plays)
 
 -- the journal stays
 placed_same : (rules : Rules) (room : ℕ) (w : World) (p : ℕ) (s : State) (new : List Packet) → AreInRange rules → IsSound rules room w → IsPlayer rules p → s.journal ≡ journal_of w p
@@ -177,7 +177,7 @@ placed_same : (rules : Rules) (room : ℕ) (w : World) (p : ℕ) (s : State) (ne
 placed_same rules room w p s new range sound plays stays peer news =
     let v : World = placed w p s new in
     let same : (q : ℕ) → IsPlayer rules q → journal_of v q ≡ journal_of w q = λ q q_plays. elim (cases_eq q p) [
-      | inl here ↦ ap (journal_of v) here ∙ journal_here rules w p s new sound.seats plays ∙ stays ∙ ap (journal_of w) (sym here)
+      | inl here ↦ ap (journal_of v) here ∙ journal_here rules w p s new sound.nodes plays ∙ stays ∙ ap (journal_of w) (sym here)
       | inr apart ↦ journal_there rules w p s new q plays q_plays apart
     ] in
     let journals = sound_same rules room (journal_of w) (journal_of v) range sound.journals same in
@@ -197,7 +197,7 @@ placed_more : (rules : Rules) (room : ℕ) (w : World) (p : ℕ) (s : State) (ne
 placed_more rules room w p s new r range sound plays longer fits settled awake news =
     let v : World = placed w p s new in
     let more : HasMore rules (journal_of w) (journal_of v) p r = record {
-      here = journal_here rules w p s new sound.seats plays ∙ longer;
+      here = journal_here rules w p s new sound.nodes plays ∙ longer;
       there = λ q q_plays apart. journal_there rules w p s new q plays q_plays apart;
     } in
     let journals = sound_more rules room (journal_of w) (journal_of v) p r range sound.journals plays fits more in
@@ -422,7 +422,7 @@ opened_sound laws rules room w p s journal Stands range few sound plays is settl
     let allowed : IsAllowed rules p room (journal_of w p) r = subst (λ (j : List Record). IsAllowed rules p room j r) (sym is) (laws.opening_allowed rules p room journal range from to few may.0 may.1) in
     placed_more rules room w p t [] r range sound plays (ap (λ (j : List Record). j ++ r ∷ []) (sym is)) (fits_opening rules room p (journal_of w) journal sound.journals plays allowed) refl
     (λ journals grown mode.
-    let here : journal_of (placed w p t []) p ≡ journal ++ r ∷ [] = journal_here rules w p t [] sound.seats plays in
+    let here : journal_of (placed w p t []) p ≡ journal ++ r ∷ [] = journal_here rules w p t [] sound.nodes plays in
     fresh_awake rules room p (journal_of (placed w p t [])) (w.said ++ []) n
     (subst (λ (j : List Record). IsMemory rules room p j (fresh_memory rules room p n)) (sym here) (laws.opening_memory rules p room journal range from to may.0 may.1)))
     (λ packet among. absurd (no_item packet among))
@@ -459,7 +459,7 @@ settle_open laws rules room w p finds outcome range few sound plays may memory r
     let t : State = away s journal None in
     let u : World = placed w p t [] in
     let one = found_sound rules room w p finds s.pending range sound plays refl in
-    let here : peer_of u p ≡ t = peer_here rules w p t [] sound.seats plays in
+    let here : peer_of u p ≡ t = peer_here rules w p t [] sound.nodes plays in
     let step : Stepped = opened rules room p s journal outcome in
     let two = opened_sound laws rules room u p s journal outcome range few one.sound plays (ap (λ (x : State). x.journal) here) (ap (λ (x : State). x.pending) here) (ap (λ (x : State). x.mode) here) may memory read in
     subst (λ (v : World). Reaches rules room w v) (placed_twice w p t step.state (said_by step.reply))
@@ -499,7 +499,7 @@ acted_sound laws rules room w (Give number p) h range few sound may = given_soun
 acted_sound laws rules room w (Leave leaver) h range few sound may = call_sound laws rules room w 1 (states.Leave leaver) h.luck range sound tt tt
 acted_sound laws rules room w (Decide leaver) h range few sound may = call_sound laws rules room w 1 (states.Decide leaver) h.luck range sound tt tt
 
-pub after_sound : (laws : ArePeersLawful) (rules : Rules) (room : ℕ) (w : World) (event : Event) (h : Happening) → AreInRange rules → room < 2 ^ 64 → IsSound rules room w → MayAct rules room w (act_of event) h → Reaches rules room w (after rules room w event h).world
+pub after_sound : (laws : ArePeersLawful) (rules : Rules) (room : ℕ) (w : World) (event : Event) (h : Happening) → AreInRange rules → room < 2 ^ 64 → IsSound rules room w → MayAct rules room w (act_inside event) h → Reaches rules room w (after rules room w event h).world
 after_sound laws rules room w (Do act) h range few sound may = acted_sound laws rules room w act h range few sound may
 after_sound laws rules room w (Stop act calls pick) h range few sound may =
     let u : World = (acted rules room w act h).world in
@@ -542,7 +542,7 @@ no_middle (x ∷ before) rest r e = cc e
 
 pub start_sound : (rules : Rules) (room : ℕ) → AreInRange rules → IsSound rules room (start rules)
 start_sound rules room range = record {
-  seats = length-replicate rules.players never_opened;
+  nodes = length-replicate rules.players never_opened;
   journals = record {
     valid = λ p plays. rw (journal_at_start rules p) (journal_none rules p room);
     begins = λ p q plays q_plays. rw (journal_at_start rules p, journal_at_start rules q) (begins_same (held rules q []));

@@ -6,12 +6,12 @@ use Rattle.c8_disk.specs.declared.mem_disk.MemDisk.{MemDisk}
 use Rattle.c8_disk.specs.Memory.{room_of, arms_of, value_of, new_value}
 use Rattle.c8_world.specs.declared.event.Event as asked
 use Rattle.c8_world.specs.declared.event.Event.TheVariants as happenings
-use Rattle.c8_world.specs.declared.seat.Seat.{Seat}
-use Rattle.c8_world.specs.declared.seat.Seat.TheVariants as seats
+use Rattle.c8_world.specs.declared.node.Node.{Node}
+use Rattle.c8_world.specs.declared.node.Node.TheVariants as nodes
 use Rattle.c8_world.specs.World.{player_of}
 use Rattle.c8_world.specs.Events.{act_of}
 use Rattle.c8_world.specs.Agreement.{IsPlayer}
-use Rattle.c8_world.specs.Table.{TableValue, seat_of}
+use Rattle.c8_world.specs.Table.{TableValue, node_of}
 
 -- the bytes that a disk has room for, and all that it was told of when its calls fail, the oldest first
 pub record Setting : Type 0 where
@@ -21,13 +21,13 @@ pub record Setting : Type 0 where
 abbrev pub setting_of_disk : MemDisk → Setting
 setting_of_disk disk = record { room = room_of disk; arms = arms_of disk }
 
-abbrev pub setting_of : Option Seat → Setting
+abbrev pub setting_of : Option Node → Setting
 setting_of None = record { room = 0; arms = [] }
-setting_of (Some (seats.Held peer)) = setting_of_disk peer.disk
-setting_of (Some (seats.Away disk)) = setting_of_disk disk
+setting_of (Some (nodes.Held peer)) = setting_of_disk peer.disk
+setting_of (Some (nodes.Away disk)) = setting_of_disk disk
 
 abbrev pub setting_at : TableValue → ℕ → Setting
-setting_at t p = setting_of (seat_of t p)
+setting_at t p = setting_of (node_of t p)
 
 -- The rooms stay, and no disk was told anything.
 abbrev pub KeepSettings : TableValue → TableValue → Type 0
@@ -68,11 +68,11 @@ pub record AreArmedOut (events : List asked.Event) (old new : TableValue) : Type
   pub armed : AreArmed (arms_in before) old new ⊎ ((event : asked.Event) × (rest : List asked.Event) × (after ≡ event ∷ rest) × AreArmed (λ p. arms_in before p ++ arms_taken_back event p) old new)
 
 -- the disk of a peer that was never opened: empty, with room for so many bytes and as many calls to serve
-abbrev pub IsNewDisk : ℕ → ℕ → Option Seat → Type 0
-IsNewDisk capacity calls seat = (disk : MemDisk) × (seat ≡ Some (seats.Away disk)) × (value_of disk ≡ new_value capacity calls)
+abbrev pub IsNewDisk : ℕ → ℕ → Option Node → Type 0
+IsNewDisk capacity calls node = (disk : MemDisk) × (node ≡ Some (nodes.Away disk)) × (value_of disk ≡ new_value capacity calls)
 
--- ---- one seat
+-- ---- one node
 
-abbrev pub disk_in : Seat → MemDisk
-disk_in (seats.Held peer) = peer.disk
-disk_in (seats.Away disk) = disk
+abbrev pub disk_in : Node → MemDisk
+disk_in (nodes.Held peer) = peer.disk
+disk_in (nodes.Away disk) = disk

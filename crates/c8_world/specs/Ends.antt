@@ -12,11 +12,11 @@ use Rattle.c8_peer.specs.Peer.{Keeps, known_by}
 use Rattle.c8_world.specs.declared.ends.Standing.{Standing}
 use Rattle.c8_world.specs.declared.ends.Standing.TheVariants as standings
 use Rattle.c8_world.specs.declared.ends.Tally.{Tally}
-use Rattle.c8_world.specs.declared.seat.Seat.{Seat}
-use Rattle.c8_world.specs.declared.seat.Seat.TheVariants as seats
+use Rattle.c8_world.specs.declared.node.Node.{Node}
+use Rattle.c8_world.specs.declared.node.Node.TheVariants as nodes
 use Rattle.c8_world.specs.World.{World, peer_of}
 use Rattle.c8_world.specs.Agreement.{IsPlayer, Reads, read_by}
-use Rattle.c8_world.specs.Table.{TableValue, seat_of}
+use Rattle.c8_world.specs.Table.{TableValue, node_of}
 
 -- what a player knows
 abbrev pub known_at : Standing → KnownValue
@@ -43,14 +43,14 @@ AreSameRows a b = rows_below a (both a b) ≡ rows_below b (both a b)
 -- ---- the ends of a world
 
 -- Whether the pending record counts: of a peer that is held it does not; of one that is away, where a read of its disk finds it.
-abbrev pub IsRead : State → Option Seat → Bool → Type 0
+abbrev pub IsRead : State → Option Node → Bool → Type 0
 IsRead s None finds = ⊥
-IsRead s (Some (seats.Held peer)) finds = finds ≡ false
-IsRead s (Some (seats.Away disk)) finds = Keeps (found s finds) (bytes_of disk)
+IsRead s (Some (nodes.Held peer)) finds = finds ≡ false
+IsRead s (Some (nodes.Away disk)) finds = Keeps (found s finds) (bytes_of disk)
 
--- What is known of a player at its seat: what its journal says.
-abbrev pub IsStanding : Rules → ℕ → State → Option Seat → Standing → Type 0
-IsStanding rules p s seat standing = (finds : Bool) × (known_at standing ≡ known_of rules p (found s finds)) × IsRead s seat finds
+-- What is known of a player at its node: what its journal says.
+abbrev pub IsStanding : Rules → ℕ → State → Option Node → Standing → Type 0
+IsStanding rules p s node standing = (finds : Bool) × (known_at standing ≡ known_of rules p (found s finds)) × IsRead s node finds
 
 -- the first of them has not let go the player at a place
 abbrev pub HasStayedAt : List Standing → ℕ → Type 0
@@ -59,7 +59,7 @@ HasStayedAt standings place = (first : Standing) → slice_get standings 0 ≡ S
 -- all of them, player 1's first
 pub record AreStandings (t : TableValue) (w : World) (standings : List Standing) : Type 0 where
   pub size : length standings ≡ t.rules.players
-  pub each : (p : ℕ) (other : Standing) → IsPlayer t.rules p → IsStanding t.rules p (peer_of w p) (seat_of t p) (slice_index_or standings (p - 1) other)
+  pub each : (p : ℕ) (other : Standing) → IsPlayer t.rules p → IsStanding t.rules p (peer_of w p) (node_of t p) (slice_index_or standings (p - 1) other)
 
 -- two of them have the same rows, unless the first has let one of them go
 abbrev pub AgreesWith : List Standing → ℕ → ℕ → Type 0
@@ -85,7 +85,7 @@ known_read rules w reads p = known_of rules p (read_by w reads p)
 -- - `players`: what each player has.
 -- - `agree`: whether any two players who were not let go have the same rows, as far as both count frames as confirmed.
 pub record AreEnds (t : TableValue) (w : World) (reads : Reads) (players : List Tally) (agree : Bool) : Type 0 where
-  pub read : (p : ℕ) → IsPlayer t.rules p → IsRead (peer_of w p) (seat_of t p) (reads p)
+  pub read : (p : ℕ) → IsPlayer t.rules p → IsRead (peer_of w p) (node_of t p) (reads p)
   pub players_are : players ≡ map (λ p. tally_of (known_read t.rules w reads p)) (range_with_len 1 t.rules.players)
   pub agree_is : (agree ≡ true) ↔ ((p r : ℕ) → IsPlayer t.rules p → IsPlayer t.rules r → HasStayed t.rules w reads p → HasStayed t.rules w reads r
       → AreSameRows (known_read t.rules w reads p) (known_read t.rules w reads r))

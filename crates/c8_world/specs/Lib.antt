@@ -2,7 +2,7 @@ pub mod World
 pub mod Agreement
 pub mod Matches
 pub mod Events
-pub mod Seats
+pub mod Nodes
 pub mod Table
 pub mod Turns
 pub mod Run

@@ -5,7 +5,7 @@ use Rattle.c8_peer.specs.Replies.{mode_told}
 use Rattle.c8_world.specs.declared.answer.Answer as codes
 use Rattle.c8_world.specs.declared.answer.Answer.TheVariants as answers
 use Rattle.c8_world.specs.declared.event.Event as asked
-use Rattle.c8_world.specs.World.{player_of, Event, act_of, Answer, Told, IsUp, IsDown, NoSuch, Stopped}
+use Rattle.c8_world.specs.World.{player_of, Event, act_inside, Answer, Told, IsUp, IsDown, NoSuch, Stopped}
 use Rattle.c8_world.specs.Events.{event_of}
 
 -- after an answer of its own; who was not asked stands as before, and who was stopped is away
@@ -18,7 +18,7 @@ mode_answered mode Stopped = Away
 
 -- a player's, after an event, which may be another player's
 abbrev pub mode_after : ℕ → Mode → Event → Answer → Mode
-mode_after p mode event answer = if player_of (act_of event) == p then mode_answered mode answer else mode
+mode_after p mode event answer = if player_of (act_inside event) == p then mode_answered mode answer else mode
 
 -- after a list of events
 abbrev pub mode_by : ℕ → Mode → List Event → List Answer → Mode
@@ -48,4 +48,4 @@ abbrev pub reported_by : ℕ → Mode → List asked.Event → List codes.Answer
 reported_by p mode [] [] = mode
 reported_by p mode [] (answer ∷ told) = mode
 reported_by p mode (event ∷ events) [] = mode
-reported_by p mode (event ∷ events) (answer ∷ told) = reported_by p (if player_of (act_of (event_of event)) == p then mode_reported mode answer else mode) events told
+reported_by p mode (event ∷ events) (answer ∷ told) = reported_by p (if player_of (act_inside (event_of event)) == p then mode_reported mode answer else mode) events told

@@ -10,9 +10,9 @@ use Rattle.c8_world.specs.declared.event.Event.TheVariants as happenings
 use Rattle.c8_world.specs.declared.error.RunError.{RunError}
 use Rattle.c8_world.specs.declared.error.RunError.TheVariants as errors
 use Rattle.c8_world.specs.declared.event.Event as asked
-use Rattle.c8_world.specs.World.{World, start, Open, player_of, act_of, Happening, Answer, CanHappen}
+use Rattle.c8_world.specs.World.{World, start, Open, player_of, act_inside, Happening, Answer, CanHappen}
 use Rattle.c8_world.specs.Events.{event_of}
-use Rattle.c8_world.specs.Table.{TableValue, Holds, reported, HadMemory, TakesMemory, act_in, IsLeftBy}
+use Rattle.c8_world.specs.Table.{TableValue, Holds, reported, HadMemory, TakesMemory, IsLeftBy}
 
 -- Events that lead from one world to another, each of which can happen so that it has P, with what is reported of each.
 abbrev pub RunsBy : (Happening → Type 0) → Rules → ℕ → World → List asked.Event → List codes.Answer → World → Type 0
@@ -20,7 +20,7 @@ RunsBy P rules room w [] [] v = v ≡ w
 RunsBy P rules room w [] (answer ∷ answers) v = ⊥
 RunsBy P rules room w (event ∷ events) [] v = ⊥
 RunsBy P rules room w (event ∷ events) (answer ∷ answers) v =
-    (told : Answer) × (u : World) × (can : CanHappen rules room w (event_of event) told u) × P can.happening × (answer ≡ reported rules (player_of (act_of (event_of event))) u told)
+    (told : Answer) × (u : World) × (can : CanHappen rules room w (event_of event) told u) × P can.happening × (answer ≡ reported rules (player_of (act_inside (event_of event))) u told)
     × RunsBy P rules room u events answers v
 
 -- whatever happens in them
@@ -33,7 +33,7 @@ RunsWithMemory = RunsBy HadMemory
 
 -- ---- a world of real peers
 
--- what its seats and its pool hold, and the events of its life, with what was answered; among them each opening that was refused
+-- what its nodes and its pool hold, and the events of its life, with what was answered; among them each opening that was refused
 -- for want of memory, which ended a run
 pub record WorldValue : Type 0 where
   pub table : TableValue
@@ -59,19 +59,19 @@ pub record HasRunOut (old : TableValue) (w : World) (events : List asked.Event) 
   pub event : asked.Event
   pub after : List asked.Event
   pub at : events ≡ before ++ event ∷ after
-  pub takes : (before ≡ []) ⊎ TakesMemory (act_in event)
+  pub takes : (before ≡ []) ⊎ TakesMemory (act_inside (event_of event))
   pub then : World
   pub runs : RunsWithMemory old.rules old.room w before answers then
   pub now : World
-  pub left : IsLeftBy (act_in event) then now
+  pub left : IsLeftBy (act_inside (event_of event)) then now
   pub holds : Holds new now
 
 -- What an event at which memory was refused adds to a life: nothing, unless its act was to be an opening; then an opening that
 -- was refused for want of memory.
 abbrev pub IsAdded : asked.Event → List asked.Event → List codes.Answer → Type 0
 IsAdded event more told =
-    (((p : ℕ) → act_in event ≢ Open p) × (more ≡ []) × (told ≡ []))
-    ⊎ ((player : Player) × (act_in event ≡ Open player.number) × (more ≡ happenings.Do (acts.Open player) ∷ []) × (told ≡ answers.Opened (Err opens.Memory) ∷ []))
+    (((p : ℕ) → act_inside (event_of event) ≢ Open p) × (more ≡ []) × (told ≡ []))
+    ⊎ ((player : Player) × (act_inside (event_of event) ≡ Open player.number) × (more ≡ happenings.Do (acts.Open player) ∷ []) × (told ≡ answers.Opened (Err opens.Memory) ∷ []))
 
 -- Memory was refused at an event of a life.
 pub record IsRefusedMemory (event : asked.Event) (old new : WorldValue) : Type 0 where

@@ -1,4 +1,4 @@
--- What the seats and the pool of a world hold, and what an event makes of them.
+-- What the nodes and the pool of a world hold, and what an event makes of them.
 use Rattle.std.specs.Prelude.{◌≡◌, ◌≢◌, ◌⊎◌, ℕ, ◌-◌, ◌<◌, ◌^◌, List, length, Bool, map, All, slice_index_or, true, Option, Some, None, is_some, Ok, Err}
 use Rattle.c8_game.specs.Rules.{Rules}
 use Rattle.c8_wire.specs.Spelling.{spelling}
@@ -9,73 +9,73 @@ use Rattle.c8_world.specs.declared.answer.Answer as codes
 use Rattle.c8_world.specs.declared.answer.Answer.TheVariants as answers
 use Rattle.c8_world.specs.declared.event.Event as codes_events
 use Rattle.c8_world.specs.declared.event.Event.TheVariants as events
-use Rattle.c8_world.specs.declared.seat.Seat.{Seat}
-use Rattle.c8_world.specs.declared.seat.Seat.TheVariants as seats
+use Rattle.c8_world.specs.declared.node.Node.{Node}
+use Rattle.c8_world.specs.declared.node.Node.TheVariants as nodes
 use Rattle.c8_world.specs.World.{World, never_opened, peer_of, with_peer, Act, Open, Tick, Say, Give, Leave, Decide, player_of, Event, Do, Happening, Answer, Told, IsUp, IsDown, NoSuch, Stopped, crashed, CanHappen, IsReached}
-use Rattle.c8_world.specs.World.{act_of as act_inside}
+use Rattle.c8_world.specs.World.{act_inside}
 use Rattle.c8_world.specs.Events.{act_of}
 use Rattle.c8_world.specs.Agreement.{IsPlayer}
-use Rattle.c8_world.specs.Seats.{IsSeat, IsOpenedSeat, counts_of}
+use Rattle.c8_world.specs.Nodes.{IsNode, IsOpenedNode, counts_of}
 
 -- ---- what is held
 
-abbrev pub IsTaken : Rules → ℕ → ℕ → Option Seat → State → Type 0
+abbrev pub IsTaken : Rules → ℕ → ℕ → Option Node → State → Type 0
 IsTaken rules room p None s = ⊥
-IsTaken rules room p (Some seat) s = IsSeat rules room p seat s
+IsTaken rules room p (Some node) s = IsNode rules room p node s
 
--- what an opening makes of a seat, by its answer, and by want of memory
-abbrev pub IsOpenedAs : Rules → ℕ → ℕ → State → codes.Answer → Option Seat → Type 0
+-- what an opening makes of a node, by its answer, and by want of memory
+abbrev pub IsOpenedAs : Rules → ℕ → ℕ → State → codes.Answer → Option Node → Type 0
 IsOpenedAs rules room p s answer None = ⊥
-IsOpenedAs rules room p s answers.Up (Some seat) = IsOpenedSeat rules room p s None seat
-IsOpenedAs rules room p s (answers.Opened result) (Some seat) = IsOpenedSeat rules room p s (Some result) seat × (result ≢ Err opens.Memory)
-IsOpenedAs rules room p s (answers.Ticked result) (Some seat) = ⊥
-IsOpenedAs rules room p s (answers.Said result) (Some seat) = ⊥
-IsOpenedAs rules room p s (answers.Delivered result) (Some seat) = ⊥
-IsOpenedAs rules room p s answers.NoSuch (Some seat) = ⊥
-IsOpenedAs rules room p s (answers.Left result) (Some seat) = ⊥
-IsOpenedAs rules room p s (answers.Decided result) (Some seat) = ⊥
-IsOpenedAs rules room p s answers.Down (Some seat) = ⊥
-IsOpenedAs rules room p s answers.Stopped (Some seat) = ⊥
+IsOpenedAs rules room p s answers.Up (Some node) = IsOpenedNode rules room p s None node
+IsOpenedAs rules room p s (answers.Opened result) (Some node) = IsOpenedNode rules room p s (Some result) node × (result ≢ Err opens.Memory)
+IsOpenedAs rules room p s (answers.Ticked result) (Some node) = ⊥
+IsOpenedAs rules room p s (answers.Said result) (Some node) = ⊥
+IsOpenedAs rules room p s (answers.Delivered result) (Some node) = ⊥
+IsOpenedAs rules room p s answers.NoSuch (Some node) = ⊥
+IsOpenedAs rules room p s (answers.Left result) (Some node) = ⊥
+IsOpenedAs rules room p s (answers.Decided result) (Some node) = ⊥
+IsOpenedAs rules room p s answers.Down (Some node) = ⊥
+IsOpenedAs rules room p s answers.Stopped (Some node) = ⊥
 
-abbrev pub IsUnopened : Rules → ℕ → ℕ → State → Option Seat → Type 0
+abbrev pub IsUnopened : Rules → ℕ → ℕ → State → Option Node → Type 0
 IsUnopened rules room p s None = ⊥
-IsUnopened rules room p s (Some seat) = IsOpenedSeat rules room p s (Some (Err opens.Memory)) seat
+IsUnopened rules room p s (Some node) = IsOpenedNode rules room p s (Some (Err opens.Memory)) node
 
--- the match, the seats of its players, and the bytes of what was said, in order; a seat is empty only inside a call
+-- the match, the nodes of its players, and the bytes of what was said, in order; a node is empty only inside a call
 pub record TableValue : Type 0 where
   pub rules : Rules
   pub room : ℕ
-  pub seats : List (Option Seat)
+  pub nodes : List (Option Node)
   pub pool : List (List ℕ)
 
-abbrev pub seat_of : TableValue → ℕ → Option Seat
-seat_of t p = slice_index_or t.seats (p - 1) None
+abbrev pub node_of : TableValue → ℕ → Option Node
+node_of t p = slice_index_or t.nodes (p - 1) None
 
 -- the disk of a peer that was never opened
-abbrev pub IsUntouched : Option Seat → Type 0
-IsUntouched seat = (rules : Rules) (room p : ℕ) → IsTaken rules room p seat never_opened
+abbrev pub IsUntouched : Option Node → Type 0
+IsUntouched node = (rules : Rules) (room p : ℕ) → IsTaken rules room p node never_opened
 
--- the seat holds no peer
-abbrev pub IsNotHeld : Option Seat → Type 0
+-- the node holds no peer
+abbrev pub IsNotHeld : Option Node → Type 0
 IsNotHeld None = Unit {0}
-IsNotHeld (Some (seats.Held peer)) = ⊥
-IsNotHeld (Some (seats.Away disk)) = Unit {0}
+IsNotHeld (Some (nodes.Held peer)) = ⊥
+IsNotHeld (Some (nodes.Away disk)) = Unit {0}
 
-abbrev pub IsSeated : Option Seat → Type 0
-IsSeated seat = is_some seat ≡ true
+abbrev pub IsNodeed : Option Node → Type 0
+IsNodeed node = is_some node ≡ true
 
-abbrev pub IsFull : Rules → ℕ → List (Option Seat) → Type 0
-IsFull rules room seats = (room < 2 ^ 64) × (length seats ≡ rules.players) × All IsSeated seats
+abbrev pub IsFull : Rules → ℕ → List (Option Node) → Type 0
+IsFull rules room nodes = (room < 2 ^ 64) × (length nodes ≡ rules.players) × All IsNodeed nodes
 
 pub record IsSameMatch (old new : TableValue) : Type 0 where
   pub rules : new.rules ≡ old.rules
   pub room : new.room ≡ old.room
 
--- The table holds a world that some list of events leads to: each seat its player's peer, and the pool what was said.
+-- The table holds a world that some list of events leads to: each node its player's peer, and the pool what was said.
 pub record Holds (t : TableValue) (w : World) : Type 0 where
   pub reached : IsReached t.rules t.room w
   pub count : length w.peers ≡ t.rules.players
-  pub peers : (p : ℕ) → IsPlayer t.rules p → IsTaken t.rules t.room p (seat_of t p) (peer_of w p)
+  pub peers : (p : ℕ) → IsPlayer t.rules p → IsTaken t.rules t.room p (node_of t p) (peer_of w p)
   pub said : t.pool ≡ map spelling w.said
 
 -- ---- what is reported
@@ -139,12 +139,8 @@ pub record HasNotHappened (old : TableValue) (w : World) (act : Act) (new : Tabl
   pub opens : (p : ℕ) → act ≡ Open p → CanHappen old.rules old.room w (Do (Open p)) (Told (Opened (Err opens.Memory))) world
   pub holds : Holds new world
 
-abbrev pub act_in : codes_events.Event → Act
-act_in (events.Do act) = act_of act
-act_in (events.Stop act calls pick) = act_of act
-
 -- A player has been stopped: what the table holds tells a crash, which left the pending record or did not.
 pub record HasCrashed (old : TableValue) (w : World) (p : ℕ) (new : TableValue) : Type 0 where
   pub leaves : Bool
-  pub peers : (q : ℕ) → IsPlayer old.rules q → IsTaken old.rules old.room q (seat_of new q) (peer_of (crashed old.rules w p leaves) q)
+  pub peers : (q : ℕ) → IsPlayer old.rules q → IsTaken old.rules old.room q (node_of new q) (peer_of (crashed old.rules w p leaves) q)
   pub pool : new.pool ≡ old.pool

@@ -1,4 +1,4 @@
--- What each event of a run makes of the seats and their disks.
+-- What each event of a run makes of the nodes and their disks.
 use Rattle.std.specs.Prelude.{◌≡◌, ◌≢◌, ◌⊎◌, ℕ, List, [], ◌∷◌, ◌++◌, Option, Some, None, Result, Ok, Err}
 use Rattle.std.specs.List.{slice_get}
 use Rattle.c8_game.specs.Rules.{Rules}
@@ -7,7 +7,7 @@ use Rattle.c8_disk.specs.declared.disk.Arm.{Arm}
 use Rattle.c8_disk.specs.declared.disk.Arm.TheVariants as arms
 use Rattle.c8_disk.specs.declared.mem_disk.MemDisk.{MemDisk}
 use Rattle.c8_disk.specs.contracts.mem_disk.MemDiskDisk.TheImpl.{ghosts}
-use Rattle.c8_disk.specs.Memory.{bytes_of, images_of, synced_of, calls_allowed, value_of, told}
+use Rattle.c8_disk.specs.Memory.{bytes_of, images_of, synced_of, calls_allowed, value_of, with_arm}
 use Rattle.c8_known.specs.Journal.{epoch}
 use Rattle.c8_peer.specs.declared.error.OpenError.{OpenError}
 use Rattle.c8_peer.specs.State.{Open as Up, Call, Tick, Deliver, Leave, Decide, Reply, Ticked, Delivered, Left, Decided}
@@ -19,12 +19,12 @@ use Rattle.c8_world.specs.declared.event.Act as code
 use Rattle.c8_world.specs.declared.event.Act.TheVariants as acts
 use Rattle.c8_world.specs.declared.event.Event as asked
 use Rattle.c8_world.specs.declared.event.Event.TheVariants as happenings
-use Rattle.c8_world.specs.declared.seat.Seat.{Seat}
-use Rattle.c8_world.specs.declared.seat.Seat.TheVariants as seats
+use Rattle.c8_world.specs.declared.node.Node.{Node}
+use Rattle.c8_world.specs.declared.node.Node.TheVariants as nodes
 use Rattle.c8_world.specs.World.{World, player_of, Do}
 use Rattle.c8_world.specs.Events.{act_of}
 use Rattle.c8_world.specs.Agreement.{IsPlayer}
-use Rattle.c8_world.specs.Table.{TableValue, seat_of, IsSameMatch, Holds, HasHappened, HasNotHappened, HasCrashed}
+use Rattle.c8_world.specs.Table.{TableValue, node_of, IsSameMatch, Holds, HasHappened, HasNotHappened, HasCrashed}
 use Rattle.c8_world.specs.Disks.{disk_in}
 
 -- A crash leaves an image that it may, by the pick: 0 what was last synced, 1 what a read gives, and any other one of them all.
@@ -35,16 +35,16 @@ pub record IsDiskCrash (pick : ℕ) (old new : MemDisk) : Type 0 where
   pub read : pick ≡ 1 → bytes_of new ≡ bytes_of old
   pub value : value_of new ≡ record (value_of old) { bytes = bytes_of new; first = bytes_of new; calls = []; left = calls_allowed old; arm = arms.Off }
 
--- ---- a seat
+-- ---- a node
 
 -- An open peer answered a call, as the contract of that call has it.
-abbrev pub IsCalledAt : Call → Reply → Seat → Seat → Type 0
-IsCalledAt call reply (seats.Held old) (seats.Held new) = (old.state.mode ≡ Up) × IsSound ghosts old × IsAnswered ghosts old call reply new
-IsCalledAt call reply (seats.Held old) (seats.Away disk) = ⊥
-IsCalledAt call reply (seats.Away disk) new = ⊥
+abbrev pub IsCalledAt : Call → Reply → Node → Node → Type 0
+IsCalledAt call reply (nodes.Held old) (nodes.Held new) = (old.state.mode ≡ Up) × IsSound ghosts old × IsAnswered ghosts old call reply new
+IsCalledAt call reply (nodes.Held old) (nodes.Away disk) = ⊥
+IsCalledAt call reply (nodes.Away disk) new = ⊥
 
--- What a call that is answered so makes of a seat; one whose peer is not open stays as it is.
-abbrev pub IsActedBy : Call → codes.Answer → Seat → Seat → Type 0
+-- What a call that is answered so makes of a node; one whose peer is not open stays as it is.
+abbrev pub IsActedBy : Call → codes.Answer → Node → Node → Type 0
 IsActedBy call (answers.Ticked (Ok counts)) old new = IsCalledAt call (Ticked (Ok tt)) old new
 IsActedBy call (answers.Ticked (Err error)) old new = IsCalledAt call (Ticked (Err error)) old new
 IsActedBy call (answers.Delivered result) old new = IsCalledAt call (Delivered result) old new
@@ -58,7 +58,7 @@ IsActedBy call answers.NoSuch old new = ⊥
 IsActedBy call answers.Stopped old new = ⊥
 
 -- a delivery of a datagram, where there is one of that number
-abbrev pub IsGiven : Option (List ℕ) → codes.Answer → Seat → Seat → Type 0
+abbrev pub IsGiven : Option (List ℕ) → codes.Answer → Node → Node → Type 0
 IsGiven None answer old new = (answer ≡ answers.NoSuch) × (new ≡ old)
 IsGiven (Some bytes) answer old new = IsActedBy (Deliver (read bytes)) answer old new
 
@@ -67,13 +67,13 @@ abbrev pub answer_of : Option (Result ℕ OpenError) → codes.Answer
 answer_of None = answers.Up
 answer_of (Some result) = answers.Opened result
 
--- What an opening that is answered so makes of a seat, as the contract of the opening has it.
-abbrev pub IsOpenedAt : Rules → ℕ → ℕ → codes.Answer → Seat → Seat → Type 0
+-- What an opening that is answered so makes of a node, as the contract of the opening has it.
+abbrev pub IsOpenedAt : Rules → ℕ → ℕ → codes.Answer → Node → Node → Type 0
 IsOpenedAt rules room p answers.Up old new = new ≡ old
-IsOpenedAt rules room p (answers.Opened (Ok number)) old (seats.Held peer) = IsOpened ghosts (disk_in old) rules room p peer × (number ≡ epoch peer.state.journal)
-IsOpenedAt rules room p (answers.Opened (Ok number)) old (seats.Away disk) = ⊥
-IsOpenedAt rules room p (answers.Opened (Err error)) old (seats.Held peer) = ⊥
-IsOpenedAt rules room p (answers.Opened (Err error)) old (seats.Away disk) = IsRefusedOpening ghosts (disk_in old) rules room p error disk
+IsOpenedAt rules room p (answers.Opened (Ok number)) old (nodes.Held peer) = IsOpened ghosts (disk_in old) rules room p peer × (number ≡ epoch peer.state.journal)
+IsOpenedAt rules room p (answers.Opened (Ok number)) old (nodes.Away disk) = ⊥
+IsOpenedAt rules room p (answers.Opened (Err error)) old (nodes.Held peer) = ⊥
+IsOpenedAt rules room p (answers.Opened (Err error)) old (nodes.Away disk) = IsRefusedOpening ghosts (disk_in old) rules room p error disk
 IsOpenedAt rules room p (answers.Ticked result) old new = ⊥
 IsOpenedAt rules room p (answers.Said result) old new = ⊥
 IsOpenedAt rules room p (answers.Delivered result) old new = ⊥
@@ -83,56 +83,56 @@ IsOpenedAt rules room p (answers.Decided result) old new = ⊥
 IsOpenedAt rules room p answers.Down old new = ⊥
 IsOpenedAt rules room p answers.Stopped old new = ⊥
 
-abbrev pub IsSameSeat : Seat → Seat → Type 0
-IsSameSeat old new = new ≡ old
+abbrev pub IsSameNode : Node → Node → Type 0
+IsSameNode old new = new ≡ old
 
--- where memory was refused the seat stays, or its peer is away, and its disk was not touched
-abbrev pub IsSpared : Seat → Seat → Type 0
-IsSpared old new = (new ≡ old) ⊎ (new ≡ seats.Away (disk_in old))
+-- where memory was refused the node stays, or its peer is away, and its disk was not touched
+abbrev pub IsSpared : Node → Node → Type 0
+IsSpared old new = (new ≡ old) ⊎ (new ≡ nodes.Away (disk_in old))
 
 -- its disk is told when its calls fail
-abbrev pub IsTold : Arm → Seat → Seat → Type 0
-IsTold arm old new = value_of (disk_in new) ≡ told arm (value_of (disk_in old))
+abbrev pub IsTold : Arm → Node → Node → Type 0
+IsTold arm old new = value_of (disk_in new) ≡ with_arm arm (value_of (disk_in old))
 
 -- its peer is gone, and its disk has crashed
-abbrev pub IsSeatCrash : ℕ → Seat → Seat → Type 0
-IsSeatCrash pick old new = (disk : MemDisk) × (new ≡ seats.Away disk) × IsDiskCrash pick (disk_in old) disk
+abbrev pub IsNodeCrash : ℕ → Node → Node → Type 0
+IsNodeCrash pick old new = (disk : MemDisk) × (new ≡ nodes.Away disk) × IsDiskCrash pick (disk_in old) disk
 
--- the same of the seat of a player, who has none where the game has no such player
-abbrev pub OfSeats : (Seat → Seat → Type 0) → Option Seat → Option Seat → Type 0
-OfSeats P None None = Unit {0}
-OfSeats P None (Some new) = ⊥
-OfSeats P (Some old) None = ⊥
-OfSeats P (Some old) (Some new) = P old new
+-- the same of the node of a player, who has none where the game has no such player
+abbrev pub OfNodes : (Node → Node → Type 0) → Option Node → Option Node → Type 0
+OfNodes P None None = Unit {0}
+OfNodes P None (Some new) = ⊥
+OfNodes P (Some old) None = ⊥
+OfNodes P (Some old) (Some new) = P old new
 
 -- ---- a table
 
--- the seats of all players but one are as they were
+-- the nodes of all players but one are as they were
 abbrev pub OthersStay : ℕ → TableValue → TableValue → Type 0
-OthersStay player old new = (p : ℕ) → IsPlayer old.rules p → p ≢ player → seat_of new p ≡ seat_of old p
+OthersStay player old new = (p : ℕ) → IsPlayer old.rules p → p ≢ player → node_of new p ≡ node_of old p
 
--- Of one player's seat this is so, and the others stay.
-pub record IsMove (player : ℕ) (P : Seat → Seat → Type 0) (old new : TableValue) : Type 0 where
+-- Of one player's node this is so, and the others stay.
+pub record IsMove (player : ℕ) (P : Node → Node → Type 0) (old new : TableValue) : Type 0 where
   pub same : IsSameMatch old new
   pub others : OthersStay player old new
-  pub own : OfSeats P (seat_of old player) (seat_of new player)
+  pub own : OfNodes P (node_of old player) (node_of new player)
 
--- What an act that is answered so makes of its player's seat; a saying makes nothing of it.
-abbrev pub IsActed : TableValue → code.Act → codes.Answer → Seat → Seat → Type 0
+-- What an act that is answered so makes of its player's node; a saying makes nothing of it.
+abbrev pub IsActed : TableValue → code.Act → codes.Answer → Node → Node → Type 0
 IsActed t (acts.Open player) answer = IsOpenedAt t.rules t.room player.number answer
 IsActed t (acts.Tick player keys) answer = IsActedBy (Tick keys.0) answer
-IsActed t (acts.Say player to what) answer = IsSameSeat
+IsActed t (acts.Say player to what) answer = IsSameNode
 IsActed t (acts.Give number player) answer = IsGiven (slice_get t.pool number) answer
 IsActed t (acts.Leave leaver) answer = IsActedBy (Leave leaver.number) answer
 IsActed t (acts.Decide leaver) answer = IsActedBy (Decide leaver.number) answer
 
 -- An act has happened, with this answer.
-pub record IsDone (act : code.Act) (answer : codes.Answer) (old new : TableValue) : Type 0 where
+pub record IsCarriedOut (act : code.Act) (answer : codes.Answer) (old new : TableValue) : Type 0 where
   pub moves : IsMove (player_of (act_of act)) (IsActed old act answer) old new
   pub happened : (w : World) → Holds old w → HasHappened old w (Do (act_of act)) answer new
 
 -- Memory was refused at an act.
-pub record IsUndone (act : code.Act) (old new : TableValue) : Type 0 where
+pub record IsNotCarriedOut (act : code.Act) (old new : TableValue) : Type 0 where
   pub moves : IsMove (player_of (act_of act)) IsSpared old new
   pub unhappened : (w : World) → Holds old w → HasNotHappened old w (act_of act) new
 
@@ -143,7 +143,7 @@ pub record IsArmed (player : ℕ) (arm : Arm) (old new : TableValue) : Type 0 wh
 
 -- A player was stopped.
 pub record IsCrashed (player pick : ℕ) (old new : TableValue) : Type 0 where
-  pub moves : IsMove player (IsSeatCrash pick) old new
+  pub moves : IsMove player (IsNodeCrash pick) old new
   pub crashed : (w : World) → Holds old w → HasCrashed old w player new
 
 -- A stop: the disk of the player is told to serve so many calls, the act comes to what it comes to with that disk, and then it
@@ -153,7 +153,7 @@ pub record IsStop (act : code.Act) (calls pick : ℕ) (old new : TableValue) : T
   pub acted : TableValue
   pub answer : codes.Answer
   pub begins : IsArmed (player_of (act_of act)) (arms.Stop calls) old armed
-  pub does : IsDone act answer armed acted
+  pub does : IsCarriedOut act answer armed acted
   pub crashes : IsCrashed (player_of (act_of act)) pick acted new
 
 -- A stop at whose act memory was refused: the disk is then told that it does not stop.
@@ -161,18 +161,18 @@ pub record IsUnstopped (act : code.Act) (calls : ℕ) (old new : TableValue) : T
   pub armed : TableValue
   pub undone : TableValue
   pub begins : IsArmed (player_of (act_of act)) (arms.Stop calls) old armed
-  pub does : IsUndone act armed undone
+  pub does : IsNotCarriedOut act armed undone
   pub ends : IsArmed (player_of (act_of act)) arms.Off undone new
 
 -- ---- events
 
 -- an event that is answered so, and one at which memory was refused
 abbrev pub IsTurn : asked.Event → codes.Answer → TableValue → TableValue → Type 0
-IsTurn (happenings.Do act) answer old new = IsDone act answer old new
+IsTurn (happenings.Do act) answer old new = IsCarriedOut act answer old new
 IsTurn (happenings.Stop act calls pick) answer old new = (answer ≡ answers.Stopped) × IsStop act calls pick old new
 
 abbrev pub IsTurnOut : asked.Event → TableValue → TableValue → Type 0
-IsTurnOut (happenings.Do act) old new = IsUndone act old new
+IsTurnOut (happenings.Do act) old new = IsNotCarriedOut act old new
 IsTurnOut (happenings.Stop act calls pick) old new = IsUnstopped act calls old new
 
 -- events one after another

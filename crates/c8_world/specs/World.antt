@@ -168,14 +168,14 @@ MayAct rules room w (Give number p) h = Unit {0}
 MayAct rules room w (Leave leaver) h = Unit {0}
 MayAct rules room w (Decide leaver) h = Unit {0}
 
-abbrev pub act_of : Event → Act
-act_of (Do act) = act
-act_of (Stop act calls pick) = act
+abbrev pub act_inside : Event → Act
+act_inside (Do act) = act
+act_inside (Stop act calls pick) = act
 
 -- an event may be answered so and leave this world
 pub record CanHappen (rules : Rules) (room : ℕ) (w : World) (event : Event) (answer : Answer) (v : World) : Type 0 where
   pub happening : Happening
-  pub may : MayAct rules room w (act_of event) happening
+  pub may : MayAct rules room w (act_inside event) happening
   pub is : after rules room w event happening ≡ record { answer = answer; world = v }
 
 -- a list of events, one answer each

@@ -48,12 +48,12 @@ impl Act {
 }
 
 impl Event {
-    ghost use Rattle.c8_world.specs.Events.{act_of};
-    ghost use Rattle.c8_world.specs.Table.{act_in};
+    ghost use Rattle.c8_world.specs.Events.{act_of, event_of};
+    ghost use Rattle.c8_world.specs.World.{act_inside};
 
     /// What the player does, whether or not it stops inside.
     pub fn act(self) -> Act
-        ensures { act_of result ≡ act_in self }
+        ensures { act_of result ≡ act_inside (event_of self) }
     {
         match self {
             Event::Do(act) | Event::Stop(act, _, _) => act,

@@ -1,4 +1,4 @@
-//! All seats of a match and all that was said, and what an event makes of them.
+//! All nodes of a match and all that was said, and what an event makes of them.
 ghost use Rattle.std.specs.Prelude.{◌≡◌, ◌≤◌, ◌<◌, ◌+◌, ◌^◌, ℕ, [], ◌∷◌, Bool, true, is_some, Some, IfOk, IfErr, vec_len, length, MatchOption};
 ghost use Rattle.std.specs.List.{slice_get};
 ghost use Rattle.c8_game.specs.Rules.{Rules, AreInRange};
@@ -7,25 +7,25 @@ ghost use Rattle.c8_peer.specs.State.{State};
 ghost use Rattle.c8_peer.specs.Opening.{found};
 ghost use Rattle.c8_peer.specs.Runs.{crashed};
 ghost use Rattle.c8_peer.specs.Asked.{saying_of};
-ghost use Rattle.c8_world.specs.World.{World, peer_of, player_of, start, Open, Tick, Say, Give, Leave, Decide, Do, Stop};
+ghost use Rattle.c8_world.specs.World.{World, act_inside, peer_of, player_of, start, Open, Tick, Say, Give, Leave, Decide, Do, Stop};
 ghost use Rattle.c8_world.specs.Events.{act_of, event_of};
 ghost use Rattle.c8_disk.specs.declared.disk.Arm.TheVariants as arms;
 ghost use Rattle.c8_world.specs.Agreement.{IsPlayer};
 ghost use Rattle.c8_world.specs.Disks.{setting_of, KeepSettings, AreArmed, for_player, arms_by, arms_taken_back, IsNewDisk};
 ghost use Rattle.c8_peer.specs.State as calls;
 ghost use Rattle.c8_wire.specs.checked.Read.{read};
-ghost use Rattle.c8_world.specs.Turns.{IsActedBy, IsGiven, IsOpenedAt, IsSameSeat, IsSpared, IsSeatCrash, OfSeats, IsMove, IsDone, IsUndone, IsArmed, IsCrashed, IsUnstopped, IsTurn, IsTurnOut};
+ghost use Rattle.c8_world.specs.Turns.{IsActedBy, IsGiven, IsOpenedAt, IsSameNode, IsSpared, IsNodeCrash, OfNodes, IsMove, IsCarriedOut, IsNotCarriedOut, IsArmed, IsCrashed, IsUnstopped, IsTurn, IsTurnOut};
 ghost use Rattle.c8_world.specs.declared.event.Event.TheVariants as happenings;
 ghost use Rattle.c8_world.specs.Ends.{IsStanding, AreStandings};
-ghost use Rattle.c8_world.specs.declared.seat.Seat.TheVariants.{Held};
-ghost use Rattle.c8_world.specs.Table.{IsTaken, IsUntouched, IsNotHeld, seat_of, IsOpenedAs, IsUnopened, IsSameMatch, Holds, HasHappened, HasNotHappened, HasCrashed, act_in};
+ghost use Rattle.c8_world.specs.declared.node.Node.TheVariants.{Held};
+ghost use Rattle.c8_world.specs.Table.{IsTaken, IsUntouched, IsNotHeld, node_of, IsOpenedAs, IsUnopened, IsSameMatch, Holds, HasHappened, HasNotHappened, HasCrashed};
 
 use crate::answer::{Answer, Posted};
 use crate::ends::Standing;
 use crate::event::{Act, Event};
 use crate::laws::{openings_find_journals, what_was_said_is_true};
 use crate::pool::Pool;
-use crate::seat::Seat;
+use crate::node::Node;
 use c8_disk::{Arm, MemDisk};
 use c8_game::{Game, Keys, Player};
 use c8_peer::{Kind, OpenError, Peer};
@@ -34,12 +34,12 @@ use c8_wire::laws::what_is_spelled_is_read;
 use std::alloc::{AllocError, Global};
 use std::marker::Model;
 
-/// The seats of all players of a match, player 1's first, and all that was said.
+/// The nodes of all players of a match, player 1's first, and all that was said.
 #[derive(Drop)]
 pub(crate) struct Table<'g> {
     game: &'g Game,
     room: u64,
-    seats: Vec<Option<Seat<'g>>>,
+    nodes: Vec<Option<Node<'g>>>,
     pool: Pool,
 }
 
@@ -51,26 +51,26 @@ impl<'g> Model for Table<'g> {
     ghost view = { λ t. record {
       rules = t.game.now;
       room = t.room;
-      seats = t.seats.items;
+      nodes = t.nodes.items;
       pool = t.pool;
     } };
 
-    ghost invariant = { λ t. IsFull t.game.now t.room t.seats.items };
+    ghost invariant = { λ t. IsFull t.game.now t.room t.nodes.items };
 }
 
-/// The seat of a player whose peer was never opened.
-fn new_seat<'g>(alloc: Global, capacity: u32, calls: u32) -> Result<Option<Seat<'g>>, AllocError>
-    ensures full { IfOk result (λ seat. is_some seat ≡ true) }
+/// The node of a player whose peer was never opened.
+fn new_node<'g>(alloc: Global, capacity: u32, calls: u32) -> Result<Option<Node<'g>>, AllocError>
+    ensures full { IfOk result (λ node. is_some node ≡ true) }
     ensures untouched { IfOk result IsUntouched }
     ensures disk { IfOk result (IsNewDisk capacity calls) }
 {
     let disk = MemDisk::new(alloc, capacity, calls)?;
-    Ok(Some(Seat::Away(disk)))
+    Ok(Some(Node::Away(disk)))
 }
 
-/// Opens the peer of a seat, which is empty meanwhile.
-fn open_seat<'g>(
-    place: &mut Option<Seat<'g>>,
+/// Opens the peer of a node, which is empty meanwhile.
+fn open_node<'g>(
+    place: &mut Option<Node<'g>>,
     alloc: Global,
     game: &'g Game,
     player: Player,
@@ -87,15 +87,15 @@ fn open_seat<'g>(
         → ((finds : Bool) → IsJournal game.entry.now player.number room (found s finds))
         → IsUnopened game.entry.now room player.number s place.new) }
     ensures turn { IfOk result (λ answer.
-        OfSeats (IsOpenedAt game.entry.now room player.number answer) place.old place.new) }
-    ensures spared { IfErr result (λ _. OfSeats IsSpared place.old place.new) }
+        OfNodes (IsOpenedAt game.entry.now room player.number answer) place.old place.new) }
+    ensures spared { IfErr result (λ _. OfNodes IsSpared place.old place.new) }
     ensures setting { setting_of place.new ≡ setting_of place.old }
 {
-    let Some(seat) = place.take() else {
+    let Some(node) = place.take() else {
         unreachable!();
     };
-    let (seat, result) = seat.open(alloc, game, player, room);
-    *place = Some(seat);
+    let (node, result) = node.open(alloc, game, player, room);
+    *place = Some(node);
     match result {
         None => Ok(Answer::Up),
         Some(Err(OpenError::Memory)) => Err(AllocError),
@@ -103,19 +103,19 @@ fn open_seat<'g>(
     }
 }
 
-/// Stops the player of a seat, which is empty meanwhile.
-fn crash_seat(place: &mut Option<Seat<'_>>, pick: u64)
+/// Stops the player of a node, which is empty meanwhile.
+fn crash_node(place: &mut Option<Node<'_>>, pick: u64)
     requires { is_some place.old ≡ true }
     ensures full { is_some place.new ≡ true }
     ensures crashed { (rules : Rules) (room p : ℕ) (s : State) → IsTaken rules room p place.old s
         → (leaves : Bool) × IsTaken rules room p place.new (crashed s leaves) }
-    ensures crash { OfSeats (IsSeatCrash pick) place.old place.new }
+    ensures crash { OfNodes (IsNodeCrash pick) place.old place.new }
     ensures setting { setting_of place.new ≡ setting_of place.old }
 {
-    let Some(seat) = place.take() else {
+    let Some(node) = place.take() else {
         unreachable!();
     };
-    *place = Some(seat.crash(pick));
+    *place = Some(node.crash(pick));
 }
 
 /// The player with a number.
@@ -144,18 +144,18 @@ impl<'g> Table<'g> {
         ensures room { IfOk result (λ table. table.room ≡ room) }
         ensures holds { IfOk result (λ table. Holds table (start game.entry.now)) }
         ensures disks { IfOk result (λ table. (p : ℕ) → IsPlayer table.rules p
-            → IsNewDisk capacity calls (seat_of table p)) }
+            → IsNewDisk capacity calls (node_of table p)) }
     {
         let players = usize::from(game.players());
-        let mut seats = Vec::with_capacity(alloc, players)?;
+        let mut nodes = Vec::with_capacity(alloc, players)?;
         for _ in 0..players {
-            let seat = new_seat(alloc, capacity, calls)?;
-            seats.push_reserved(seat);
+            let node = new_node(alloc, capacity, calls)?;
+            nodes.push_reserved(node);
         }
         Ok(Table {
             game,
             room,
-            seats,
+            nodes,
             pool: Pool::new(alloc),
         })
     }
@@ -166,7 +166,7 @@ impl<'g> Table<'g> {
         ensures happened { IfOk result (λ answer. (w : World) → Holds self.old w
             → HasHappened self.old w (event_of event) answer self.new) }
         ensures memory { IfErr result (λ _. (w : World) → Holds self.old w
-            → HasNotHappened self.old w (act_in event) self.new) }
+            → HasNotHappened self.old w (act_inside (event_of event)) self.new) }
         ensures turn { IfOk result (λ answer. IsTurn event answer self.old self.new) }
         ensures turn_out { IfErr result (λ _. IsTurnOut event self.old self.new) }
         ensures disks { IfOk result (λ _. AreArmed (arms_by event) self.old self.new) }
@@ -215,8 +215,8 @@ impl<'g> Table<'g> {
             → HasHappened self.old w (Do (act_of act)) answer self.new) }
         ensures memory { IfErr result (λ _. (w : World) → Holds self.old w
             → HasNotHappened self.old w (act_of act) self.new) }
-        ensures turn { IfOk result (λ answer. IsDone act answer self.old self.new) }
-        ensures turn_out { IfErr result (λ _. IsUndone act self.old self.new) }
+        ensures turn { IfOk result (λ answer. IsCarriedOut act answer self.old self.new) }
+        ensures turn_out { IfErr result (λ _. IsNotCarriedOut act self.old self.new) }
         ensures disks { KeepSettings self.old self.new }
     {
         match act {
@@ -246,8 +246,8 @@ impl<'g> Table<'g> {
         if player.number > self.game.players() {
             return Ok(Answer::Opened(Err(OpenError::WrongPlayer)));
         }
-        let seat = &mut self.seats[player.place()];
-        open_seat(seat, alloc, self.game, player, self.room)
+        let node = &mut self.nodes[player.place()];
+        open_node(node, alloc, self.game, player, self.room)
     }
 
     /// Enters a player's key set.
@@ -262,10 +262,10 @@ impl<'g> Table<'g> {
         if player.number > self.game.players() {
             return Answer::Down;
         }
-        let Some(seat) = &mut self.seats[player.place()] else {
+        let Some(node) = &mut self.nodes[player.place()] else {
             unreachable!();
         };
-        seat.tick(keys)
+        node.tick(keys)
     }
 
     /// A player says something to another one.
@@ -275,18 +275,18 @@ impl<'g> Table<'g> {
             → HasHappened self.old w (Do (Say player.number to.number (saying_of what))) answer self.new) }
         ensures memory { IfErr result (λ _. (w : World) → Holds self.old w
             → HasNotHappened self.old w (Say player.number to.number (saying_of what)) self.new) }
-        ensures turn { IfOk result (λ _. IsMove player.number IsSameSeat self.old self.new) }
+        ensures turn { IfOk result (λ _. IsMove player.number IsSameNode self.old self.new) }
         ensures turn_out { IfErr result (λ _. IsMove player.number IsSpared self.old self.new) }
         ensures disks { KeepSettings self.old self.new }
     {
         if player.number > self.game.players() {
             return Ok(Answer::Down);
         }
-        let Some(seat) = &self.seats[player.place()] else {
+        let Some(node) = &self.nodes[player.place()] else {
             unreachable!();
         };
         let mut bytes = [0; LONGEST_DATAGRAM];
-        match seat.say(to, what, &mut bytes) {
+        match node.say(to, what, &mut bytes) {
             None => Ok(Answer::Down),
             Some(Err(error)) => Ok(Answer::Said(Err(error))),
             Some(Ok(length)) => {
@@ -315,10 +315,10 @@ impl<'g> Table<'g> {
         if player.number > self.game.players() {
             return Answer::Down;
         }
-        let Some(seat) = &mut self.seats[player.place()] else {
+        let Some(node) = &mut self.nodes[player.place()] else {
             unreachable!();
         };
-        seat.deliver(bytes)
+        node.deliver(bytes)
     }
 
     /// Player one lets a player go.
@@ -330,10 +330,10 @@ impl<'g> Table<'g> {
         ensures disks { KeepSettings self.old self.new }
     {
         self.game.in_range();
-        let Some(seat) = &mut self.seats[Player::CHAIR.place()] else {
+        let Some(node) = &mut self.nodes[Player::CHAIR.place()] else {
             unreachable!();
         };
-        seat.leave(leaver)
+        node.leave(leaver)
     }
 
     /// Player one cuts a leaver's list.
@@ -345,10 +345,10 @@ impl<'g> Table<'g> {
         ensures disks { KeepSettings self.old self.new }
     {
         self.game.in_range();
-        let Some(seat) = &mut self.seats[Player::CHAIR.place()] else {
+        let Some(node) = &mut self.nodes[Player::CHAIR.place()] else {
             unreachable!();
         };
-        seat.decide(leaver)
+        node.decide(leaver)
     }
 
     /// Says when the calls of a player's disk fail from now on.
@@ -360,10 +360,10 @@ impl<'g> Table<'g> {
         if player.number > self.game.players() {
             return;
         }
-        let Some(seat) = &mut self.seats[player.place()] else {
+        let Some(node) = &mut self.nodes[player.place()] else {
             unreachable!();
         };
-        seat.arm(arm);
+        node.arm(arm);
     }
 
     /// Stops a player.
@@ -375,7 +375,7 @@ impl<'g> Table<'g> {
         if player.number > self.game.players() {
             return;
         }
-        crash_seat(&mut self.seats[player.place()], pick);
+        crash_node(&mut self.nodes[player.place()], pick);
     }
 
     /// The match is one of a game, in a room of 64 bits.
@@ -403,14 +403,14 @@ impl<'g> Table<'g> {
 
     /// A player's peer, if one is held.
     pub(crate) fn peer(&self, player: Player) -> Option<&Peer<'g, MemDisk>>
-        ensures { MatchOption result (IsNotHeld (seat_of self.now player.number))
-            (λ peer. seat_of self.now player.number ≡ Some (Held peer.now)) }
+        ensures { MatchOption result (IsNotHeld (node_of self.now player.number))
+            (λ peer. node_of self.now player.number ≡ Some (Held peer.now)) }
     {
         if player.number > self.game.players() {
             return None;
         }
-        match &self.seats[player.place()] {
-            Some(Seat::Held(peer)) => Some(peer),
+        match &self.nodes[player.place()] {
+            Some(Node::Held(peer)) => Some(peer),
             _ => None,
         }
     }
@@ -438,13 +438,13 @@ impl<'g> Table<'g> {
         requires { player.number ≤ self.now.rules.players }
         ensures { IfOk result (λ standing. (w : World) → Holds self.entry.now w
             → IsStanding self.entry.now.rules player.number (peer_of w player.number)
-            (seat_of self.entry.now player.number) standing) }
+            (node_of self.entry.now player.number) standing) }
     {
         self.game.in_range();
         openings_find_journals();
-        let Some(seat) = &self.seats[player.place()] else {
+        let Some(node) = &self.nodes[player.place()] else {
             unreachable!();
         };
-        seat.standing(alloc, self.game, player, self.room)
+        node.standing(alloc, self.game, player, self.room)
     }
 }

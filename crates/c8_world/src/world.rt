@@ -2,8 +2,8 @@
 ghost use Rattle.std.specs.Prelude.{◌≡◌, ◌≤◌, ◌<◌, ◌++◌, ◌∷◌, [], ℕ, length, vec_capacity, true, Some, IfOk, IfErr, OnOk, OnErr, MatchOption};
 ghost use Rattle.std.specs.List.{slice_get};
 ghost use Rattle.c8_world.specs.Events.{event_of};
-ghost use Rattle.c8_world.specs.World.{World as Moment, start};
-ghost use Rattle.c8_world.specs.Table.{seat_of, IsNotHeld, Holds, IsSameMatch, HasHappened, HasNotHappened, act_in};
+ghost use Rattle.c8_world.specs.World.{World as Moment, act_inside, start};
+ghost use Rattle.c8_world.specs.Table.{node_of, IsNotHeld, Holds, IsSameMatch, HasHappened, HasNotHappened};
 ghost use Rattle.c8_world.specs.Run.{IsLived, IsRefusedMemory, HasLivedOn, HasRun, HasRunOut, AreMoments, answers_before};
 ghost use Rattle.c8_world.specs.Headline.{IsHeadline};
 ghost use Rattle.c8_world.specs.Agreement.{Reads};
@@ -11,7 +11,7 @@ ghost use Rattle.c8_world.specs.Ends.{AreEnds};
 ghost use Rattle.c8_world.specs.Agreement.{IsPlayer};
 ghost use Rattle.c8_world.specs.Disks.{AreArmed, AreArmedOut, IsNewDisk, arms_by, arms_in, arms_taken_back};
 ghost use Rattle.c8_world.specs.Turns.{IsTurn, IsTurnOut, AreTurns, AreFirstTurns};
-ghost use Rattle.c8_world.specs.declared.seat.Seat.TheVariants.{Held};
+ghost use Rattle.c8_world.specs.declared.node.Node.TheVariants.{Held};
 
 use crate::answer::{Answer, Report};
 use crate::ends::{Ends, all_agree, tallies};
@@ -80,7 +80,7 @@ impl<'g> World<'g> {
         ensures rules { IfOk result (λ world. world.table.rules ≡ game.entry.now) }
         ensures room { IfOk result (λ world. world.table.room ≡ room) }
         ensures disks { IfOk result (λ world. (p : ℕ) → IsPlayer world.table.rules p
-            → IsNewDisk capacity calls (seat_of world.table p)) }
+            → IsNewDisk capacity calls (node_of world.table p)) }
         ensures unlived { IfOk result (λ world. (world.events ≡ []) × (world.answers ≡ [])) }
     {
         Ok(World {
@@ -91,7 +91,7 @@ impl<'g> World<'g> {
     }
 
     /// Runs the events, one after the other, and reports one answer each (`ran`); what each makes of
-    /// the seats and their disks is told event by event (`turns`). Any two peers that were not
+    /// the nodes and their disks is told event by event (`turns`). Any two peers that were not
     /// dropped agree, at any two moments (`headline`). Where memory is refused the run ends: see
     /// [`RunError`].
     pub fn run(&mut self, alloc: Global, events: &[Event]) -> Result<Report, RunError>
@@ -174,8 +174,8 @@ impl<'g> World<'g> {
     /// The peer of a player, if it is held: open, or down. There is none of one that was never
     /// opened, was stopped, or was last refused its opening.
     pub fn peer(&self, player: Player) -> Option<&Peer<'g, MemDisk>>
-        ensures { MatchOption result (IsNotHeld (seat_of self.now.table player.number))
-            (λ peer. seat_of self.now.table player.number ≡ Some (Held peer.now)) }
+        ensures { MatchOption result (IsNotHeld (node_of self.now.table player.number))
+            (λ peer. node_of self.now.table player.number ≡ Some (Held peer.now)) }
     {
         self.table.peer(player)
     }
@@ -225,7 +225,7 @@ impl<'g> World<'g> {
         ensures life { IfOk result (λ answer. (self.new.events ≡ self.old.events ++ event ∷ [])
             × (self.new.answers ≡ self.old.answers ++ answer ∷ [])) }
         ensures memory { IfErr result (λ _. (w : Moment) → Holds self.old.table w
-            → HasNotHappened self.old.table w (act_in event) self.new.table) }
+            → HasNotHappened self.old.table w (act_inside (event_of event)) self.new.table) }
         ensures life_out { IfErr result (λ _. IsRefusedMemory event self.old self.new) }
         ensures turn { IfOk result (λ answer. IsTurn event answer self.old.table self.new.table) }
         ensures turn_out { IfErr result (λ _. IsTurnOut event self.old.table self.new.table) }

@@ -3,8 +3,8 @@ use Rattle.std.proofs.Common.{◌≡◌, ◌≢◌, ℕ, zero, suc, ◌<◌, ◌
 use Rattle.std.specs.Prelude.{◌==◌, not, if◌then◌else◌}
 use Rattle.std.proofs.lemmas.Bool.{cases_lt, cases_eq, ne_eqb, both_ways, lt-ltb, le-ltb}
 use Rattle.std.proofs.lemmas.Bool.Decides.{nat_tests}
-use Rattle.c8_wire.specs.declared.kinds.Kind.{Kind}
-use Rattle.c8_wire.specs.declared.kinds.Kind.TheVariants as kinds
+use Rattle.c8_wire.specs.declared.kinds.DatagramKind.{DatagramKind}
+use Rattle.c8_wire.specs.declared.kinds.DatagramKind.TheVariants as kinds
 use Rattle.c8_wire.specs.Packet.{HeadValue}
 use Rattle.c8_hand.specs.declared.error.HandError.TheVariants as errors
 use Rattle.c8_hand.specs.Links.{LinkValue, LinksValue, no_link, link_to, with_link, is_mine, refusal, refusal_by_kind, refusal_of_welcome, refusal_of_others, link_after, heard, IsForMe, NamesBoth, IsWelcomeOf, OpensByWelcome}
@@ -85,7 +85,7 @@ record IsLinked (link : LinkValue) (own theirs mine : ℕ) : Type 0 where
 linked : (link : LinkValue) (own theirs mine : ℕ) → refusal_of_others link own theirs mine ≡ None → IsLinked link own theirs mine
 linked link own theirs mine none = let judged = none in record { known = grind (arith, nat_tests); own_epoch = grind (arith, nat_tests); is_open = grind (arith, nat_tests) }
 
-linked_by_kind : (kind : Kind) (link : LinkValue) (own theirs mine : ℕ) → refusal_by_kind kind link own theirs mine ≡ None → kind ≢ kinds.Hello → kind ≢ kinds.Welcome → IsLinked link own theirs mine
+linked_by_kind : (kind : DatagramKind) (link : LinkValue) (own theirs mine : ℕ) → refusal_by_kind kind link own theirs mine ≡ None → kind ≢ kinds.Hello → kind ≢ kinds.Welcome → IsLinked link own theirs mine
 linked_by_kind kinds.Hello link own theirs mine none hello welcome = absurd (hello refl)
 linked_by_kind kinds.Welcome link own theirs mine none hello welcome = absurd (welcome refl)
 linked_by_kind kinds.Data link own theirs mine none hello welcome = linked link own theirs mine none
@@ -97,7 +97,7 @@ pub admitted_welcome : (l : LinksValue) (head : HeadValue) → refusal l head �
 admitted_welcome l head none kind =
     let link : LinkValue = link_to l head.from in
     welcomed link l.epoch head.sender_epoch head.addressee_epoch
-    (ap (λ (k : Kind). refusal_by_kind k link l.epoch head.sender_epoch head.addressee_epoch) (sym kind) ∙ (admitted l head none).by_kind)
+    (ap (λ (k : DatagramKind). refusal_by_kind k link l.epoch head.sender_epoch head.addressee_epoch) (sym kind) ∙ (admitted l head none).by_kind)
 
 admitted_linked : (l : LinksValue) (head : HeadValue) → refusal l head ≡ None → head.kind ≢ kinds.Hello → head.kind ≢ kinds.Welcome → IsLinked (link_to l head.from) l.epoch head.sender_epoch head.addressee_epoch
 admitted_linked l head none hello welcome = linked_by_kind head.kind (link_to l head.from) l.epoch head.sender_epoch head.addressee_epoch (admitted l head none).by_kind hello welcome
@@ -119,7 +119,7 @@ pub other_link : (l : LinksValue) (head : HeadValue) (player : ℕ) → player �
 other_link l head player apart = link_other l head.from (link_after head.kind (link_to l head.from) head.sender_epoch) player apart
 
 -- what opens one link
-opened : (kind : Kind) (link : LinkValue) (theirs : ℕ) → (link_after kind link theirs).is_open ≡ true
+opened : (kind : DatagramKind) (link : LinkValue) (theirs : ℕ) → (link_after kind link theirs).is_open ≡ true
     → (link_after kind link theirs ≡ link) ⊎ ((kind ≡ kinds.Welcome) × (theirs ≡ (link_after kind link theirs).known))
 opened kinds.Hello link theirs was =
     elim (cases_lt link.known theirs) [
@@ -166,7 +166,7 @@ opens_by_welcome l head none player was =
 
 -- ---- no known epoch falls
 
-not_below : (kind : Kind) (link : LinkValue) (own theirs mine : ℕ) → refusal_by_kind kind link own theirs mine ≡ None → link.known ≤ (link_after kind link theirs).known
+not_below : (kind : DatagramKind) (link : LinkValue) (own theirs mine : ℕ) → refusal_by_kind kind link own theirs mine ≡ None → link.known ≤ (link_after kind link theirs).known
 not_below kinds.Hello link own theirs mine none =
     elim (cases_lt link.known theirs) [
       | inl later ↦ rw (lt-ltb link.known theirs later) (omega arith)

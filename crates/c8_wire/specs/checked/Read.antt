@@ -3,13 +3,13 @@
 use Rattle.std.specs.Prelude.{ℕ, List, Option, Some, None, Result, Ok, Err}
 use Rattle.c8_wire.specs.declared.error.WireError.{WireError}
 use Rattle.c8_wire.specs.declared.error.WireError.TheVariants as errors
-use Rattle.c8_wire.specs.declared.kinds.Kind.{Kind}
+use Rattle.c8_wire.specs.declared.kinds.DatagramKind.{DatagramKind}
 use Rattle.c8_wire.specs.Packet.{Packet}
 use Rattle.c8_wire.specs.Reading.{kind_at, packet_at}
 use Rattle.c8_wire.specs.Refusal.{refusal}
 
 -- bytes of no kind are refused, so the third line is never met
-abbrev pub answer : Option WireError → Option Kind → List ℕ → Result Packet WireError
+abbrev pub answer : Option WireError → Option DatagramKind → List ℕ → Result Packet WireError
 answer (Some error) kind bytes = Err error
 answer None (Some kind) bytes = Ok (packet_at kind bytes)
 answer None None bytes = Err errors.Kind

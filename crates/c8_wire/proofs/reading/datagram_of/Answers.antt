@@ -1,6 +1,6 @@
 use Rattle.std.proofs.Common.{◌≡◌, Some, ap, ◌∙◌, arith}
 use Rattle.c8_wire.specs.Packet.{AreBytes}
-use Rattle.c8_wire.specs.declared.kinds.Kind.TheVariants as kinds
+use Rattle.c8_wire.specs.declared.kinds.DatagramKind.TheVariants as kinds
 use Rattle.c8_wire.specs.Reading.{kind_at}
 use Rattle.c8_wire.proofs.PacketLemmas.{found, hello_size, welcome_size, data_run, freeze_size, frozen_run, cut_run}
 use Rattle.c8_wire.proofs.reading.datagram_of.Goals as goal

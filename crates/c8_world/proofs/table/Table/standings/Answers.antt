@@ -1,6 +1,6 @@
 use Rattle.std.proofs.Common.{ℕ, subst, arith}
 use Rattle.c8_world.specs.World.{peer_of}
-use Rattle.c8_world.specs.Table.{seat_of}
+use Rattle.c8_world.specs.Table.{node_of}
 use Rattle.c8_world.specs.Ends.{IsStanding}
 use Rattle.c8_world.proofs.EndLemmas.{standings_more}
 use Rattle.c8_world.proofs.table.Table.standings.Goals as goal
@@ -13,5 +13,5 @@ loop-number-preserved c = record {
   known = λ w holds.
       standings_more c.args.self.now w c.loop-number.standings.items c.push_reserved.new.self.items c.in_ok-standing.standing c.loop-number.number (omega arith) c.push_reserved.ensures.items
       (c.loop-number.invariant.known w holds)
-      (subst (λ (p : ℕ). IsStanding c.args.self.now.rules p (peer_of w p) (seat_of c.args.self.now p) c.in_ok-standing.standing) c.player_of-player.ensures (c.in_ok-standing.ensures w holds));
+      (subst (λ (p : ℕ). IsStanding c.args.self.now.rules p (peer_of w p) (node_of c.args.self.now p) c.in_ok-standing.standing) c.player_of-player.ensures (c.in_ok-standing.ensures w holds));
 }

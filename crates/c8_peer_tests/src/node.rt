@@ -60,15 +60,15 @@ fn told_of(peer: &Peer<'_, MemDisk>, number: u8) -> OfPlayer {
 
 /// A player's peer if it is held, else its disk.
 #[derive(Drop)]
-pub(crate) struct Seat<'g> {
+pub(crate) struct Node<'g> {
     peer: Option<Peer<'g, MemDisk>>,
     disk: Option<MemDisk>,
 }
 
-impl<'g> Seat<'g> {
+impl<'g> Node<'g> {
     /// Nothing is there yet.
-    pub(crate) fn empty() -> Seat<'g> {
-        Seat {
+    pub(crate) fn empty() -> Node<'g> {
+        Node {
             peer: None,
             disk: None,
         }
@@ -262,7 +262,7 @@ impl<'g> Seat<'g> {
     }
 }
 
-impl<'g> Seat<'g> {
+impl<'g> Node<'g> {
     /// What a deed is answered that is of no other player.
     pub(crate) fn does(&mut self, deed: Deed) -> Answer {
         match deed {

@@ -7,19 +7,19 @@ use Rattle.c8_record.specs.Body.{records_of}
 use Rattle.c8_peer.specs.State.{Open, Opened}
 use Rattle.c8_peer.specs.Steps.{Stepped}
 use Rattle.c8_peer.specs.Opening.{Stands, found, opened}
-use Rattle.c8_peer.specs.Peer.{told}
+use Rattle.c8_peer.specs.Peer.{stepped}
 use Rattle.c8_peer.specs.Runs.{After}
 use Rattle.c8_peer.specs.declared.error.OpenError.{OpenError}
 use Rattle.c8_peer.specs.declared.error.OpenError.TheVariants as opens
 use Rattle.c8_peer.specs.Opened.{IsOpened, IsRefusedOpening}
 use Rattle.c8_disk.specs.declared.mem_disk.MemDisk.{MemDisk}
 use Rattle.c8_disk.specs.contracts.mem_disk.MemDiskDisk.TheImpl.{ghosts}
-use Rattle.c8_world.specs.declared.seat.Seat.TheVariants as seats
+use Rattle.c8_world.specs.declared.node.Node.TheVariants as nodes
 use Rattle.c8_world.proofs.TurnLemmas.{opening_spared}
-use Rattle.c8_world.proofs.SeatLemmas.{found_now, reply_in, refused_away}
-use Rattle.c8_world.proofs.seat.Seat.open.Goals as goal
+use Rattle.c8_world.proofs.NodeLemmas.{found_now, reply_in, refused_away}
+use Rattle.c8_world.proofs.node.Node.open.Goals as goal
 
--- src/seat.rt:31:5
+-- src/node.rt:31:5
 pub returns-in-Ok-clause-opened : goal.returns-in-Ok-clause-opened
 returns-in-Ok-clause-opened c s plays is journals =
     let rules = c.args.game.now in
@@ -32,17 +32,17 @@ returns-in-Ok-clause-opened c s plays is journals =
     let shut : s.mode ≢ Open = λ up. both_ways c.is_up.result c.if-is_up.false ((c.is_up.ensures rules room p s is).1 up) in
     let is_opened = c.in-Ok.ensures.opened in
     let deed = c.openings_are_deeds.ensures.opened disk rules room p s now.0 peer is_opened shut read in
-    let same = subst (λ (journal : List Record). told (Opened (Ok (epoch peer.state.journal))) peer ≡ opened rules room p s journal Stands) read (is_opened.opening s) in
+    let same = subst (λ (journal : List Record). stepped (Opened (Ok (epoch peer.state.journal))) peer ≡ opened rules room p s journal Stands) read (is_opened.opening s) in
     record {
       not_open = shut;
       finds = now.0;
       opening = Stands;
       may = deed.may.1;
       replies = sym (ap (λ (t : Stepped). t.reply) same) ∙ ap (λ (n : ℕ). Opened (Ok n)) (sym c.epoch-epoch.ensures);
-      seat_is = record { rules_are = is_opened.rules_are; room_is = is_opened.room_is; me_is = is_opened.me_is; state_is = ap (λ (t : Stepped). t.state) same };
+      node_is = record { rules_are = is_opened.rules_are; room_is = is_opened.room_is; me_is = is_opened.me_is; state_is = ap (λ (t : Stepped). t.state) same };
     }
 
--- src/seat.rt:31:5
+-- src/node.rt:31:5
 pub returns-in-Err-clause-opened : goal.returns-in-Err-clause-opened
 returns-in-Err-clause-opened c s plays is journals =
     let rules = c.args.game.now in
@@ -61,7 +61,7 @@ returns-in-Err-clause-opened c s plays is journals =
       opening = refused.opening;
       may = refused.deed.may.1;
       replies = replies;
-      seat_is = (refused_away rules room p s (found s now.0) refused.opening c.in-Err.error replies, refused.tells);
+      node_is = (refused_away rules room p s (found s now.0) refused.opening c.in-Err.error replies, refused.tells);
     }
 
 pub returns-in-Ok-clause-turn : goal.returns-in-Ok-clause-turn
@@ -76,4 +76,4 @@ pub returns-in-Err-clause-spared : goal.returns-in-Err-clause-spared
 returns-in-Err-clause-spared c memory =
     let is : c.in-Err.error ≡ opens.Memory = cc in
     let left = opening_spared ghosts c.into_disk-disk.result c.in-Err.disk c.args.game.now c.args.room c.args.player.number (subst (λ (e : OpenError). IsRefusedOpening ghosts c.into_disk-disk.result c.args.game.now c.args.room c.args.player.number e c.in-Err.disk) is c.in-Err.ensures.refused) in
-    inr (ap seats.Away (left ∙ c.into_disk-disk.ensures.disk))
+    inr (ap nodes.Away (left ∙ c.into_disk-disk.ensures.disk))

@@ -1,7 +1,7 @@
 use Rattle.std.proofs.Common.{refl, subst}
 use Rattle.c8_disk.specs.declared.mem_disk.MemDisk.{MemDisk}
 use Rattle.c8_world.specs.Turns.{IsDiskCrash}
-use Rattle.c8_world.proofs.seat.Seat.crash.Goals as goal
+use Rattle.c8_world.proofs.node.Node.crash.Goals as goal
 
 pub returns-clause-crash : goal.returns-clause-crash
 returns-clause-crash c =

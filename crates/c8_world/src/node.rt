@@ -8,10 +8,10 @@ ghost use Rattle.c8_peer.specs.State.{State};
 ghost use Rattle.c8_peer.specs.Asked.{saying_of};
 ghost use Rattle.c8_peer.specs.Runs.{crashed};
 ghost use Rattle.c8_wire.specs.checked.Read.{read};
-ghost use Rattle.c8_world.specs.Seats.{IsSeat, IsAsked, IsOpenedSeat, IsSaidAt, Tells};
+ghost use Rattle.c8_world.specs.Nodes.{IsNode, IsAsked, IsOpenedNode, IsSaidAt, Tells};
 ghost use Rattle.c8_world.specs.Ends.{IsStanding};
 ghost use Rattle.c8_world.specs.Disks.{setting_of, setting_of_disk, armed, disk_in};
-ghost use Rattle.c8_world.specs.Turns.{answer_of, IsActedBy, IsOpenedAt, IsSpared, IsTold, IsSeatCrash};
+ghost use Rattle.c8_world.specs.Turns.{answer_of, IsActedBy, IsOpenedAt, IsSpared, IsTold, IsNodeCrash};
 
 use crate::answer::{Answer, Counts};
 use crate::ends::Standing;
@@ -27,12 +27,12 @@ use std::alloc::{AllocError, Global};
 
 /// A player's peer, open or down, or the disk of one that is away.
 #[derive(Drop)]
-pub enum Seat<'g> {
+pub enum Node<'g> {
     Held(Peer<'g, MemDisk>),
     Away(MemDisk),
 }
 
-impl<'g> Seat<'g> {
+impl<'g> Node<'g> {
     /// Opens the peer. None is answered where it is open.
     pub(crate) fn open(
         self,
@@ -40,11 +40,11 @@ impl<'g> Seat<'g> {
         game: &'g Game,
         player: Player,
         room: u64,
-    ) -> (Seat<'g>, Option<Result<u32, OpenError>>)
+    ) -> (Node<'g>, Option<Result<u32, OpenError>>)
         ensures opened { (s : State) → player.number ≤ game.entry.now.players
-            → IsSeat game.entry.now room player.number self.entry s
+            → IsNode game.entry.now room player.number self.entry s
             → ((finds : Bool) → IsJournal game.entry.now player.number room (found s finds))
-            → IsOpenedSeat game.entry.now room player.number s result.1 result.0 }
+            → IsOpenedNode game.entry.now room player.number s result.1 result.0 }
         ensures turn { IsOpenedAt game.entry.now room player.number (answer_of result.1)
             self.entry result.0 }
         ensures spared { result.1 ≡ Some (Err OpenError.Memory) → IsSpared self.entry result.0 }
@@ -59,21 +59,21 @@ impl<'g> Seat<'g> {
         match Peer::open(alloc, disk, game, player, room) {
             Ok(peer) => {
                 let epoch = peer.epoch();
-                (Seat::Held(peer), Some(Ok(epoch)))
+                (Node::Held(peer), Some(Ok(epoch)))
             }
-            Err((error, disk)) => (Seat::Away(disk), Some(Err(error))),
+            Err((error, disk)) => (Node::Away(disk), Some(Err(error))),
         }
     }
 
     /// Enters a key set. `Down` is answered where the peer is not open, as in the calls below.
     pub(crate) fn tick(&mut self, keys: Keys) -> Answer
-        ensures asked { (rules : Rules) (room p : ℕ) (s : State) → IsSeat rules room p self.old s
+        ensures asked { (rules : Rules) (room p : ℕ) (s : State) → IsNode rules room p self.old s
             → IsAsked rules room p s (states.Tick keys.0) result self.new }
         ensures turn { IsActedBy (states.Tick keys.0) result self.old self.new }
         ensures setting { setting_of (Some self.new) ≡ setting_of (Some self.old) }
     {
         match self {
-            Seat::Held(peer) => {
+            Node::Held(peer) => {
                 if peer.is_down() {
                     return Answer::Down;
                 }
@@ -85,61 +85,61 @@ impl<'g> Seat<'g> {
                     Err(error) => Answer::Ticked(Err(error)),
                 }
             }
-            Seat::Away(_) => Answer::Down,
+            Node::Away(_) => Answer::Down,
         }
     }
 
     /// Hears bytes.
     pub(crate) fn deliver(&mut self, bytes: &[u8]) -> Answer
-        ensures asked { (rules : Rules) (room p : ℕ) (s : State) → IsSeat rules room p self.old s
+        ensures asked { (rules : Rules) (room p : ℕ) (s : State) → IsNode rules room p self.old s
             → IsAsked rules room p s (states.Deliver (read bytes.now)) result self.new }
         ensures turn { IsActedBy (states.Deliver (read bytes.now)) result self.old self.new }
         ensures setting { setting_of (Some self.new) ≡ setting_of (Some self.old) }
     {
         match self {
-            Seat::Held(peer) => {
+            Node::Held(peer) => {
                 if peer.is_down() {
                     return Answer::Down;
                 }
                 Answer::Delivered(peer.deliver(bytes))
             }
-            Seat::Away(_) => Answer::Down,
+            Node::Away(_) => Answer::Down,
         }
     }
 
     /// Lets a player go.
     pub(crate) fn leave(&mut self, leaver: Player) -> Answer
-        ensures asked { (rules : Rules) (room p : ℕ) (s : State) → IsSeat rules room p self.old s
+        ensures asked { (rules : Rules) (room p : ℕ) (s : State) → IsNode rules room p self.old s
             → IsAsked rules room p s (states.Leave leaver.number) result self.new }
         ensures turn { IsActedBy (states.Leave leaver.number) result self.old self.new }
         ensures setting { setting_of (Some self.new) ≡ setting_of (Some self.old) }
     {
         match self {
-            Seat::Held(peer) => {
+            Node::Held(peer) => {
                 if peer.is_down() {
                     return Answer::Down;
                 }
                 Answer::Left(peer.leave(leaver))
             }
-            Seat::Away(_) => Answer::Down,
+            Node::Away(_) => Answer::Down,
         }
     }
 
     /// Cuts a leaver's list.
     pub(crate) fn decide(&mut self, leaver: Player) -> Answer
-        ensures asked { (rules : Rules) (room p : ℕ) (s : State) → IsSeat rules room p self.old s
+        ensures asked { (rules : Rules) (room p : ℕ) (s : State) → IsNode rules room p self.old s
             → IsAsked rules room p s (states.Decide leaver.number) result self.new }
         ensures turn { IsActedBy (states.Decide leaver.number) result self.old self.new }
         ensures setting { setting_of (Some self.new) ≡ setting_of (Some self.old) }
     {
         match self {
-            Seat::Held(peer) => {
+            Node::Held(peer) => {
                 if peer.is_down() {
                     return Answer::Down;
                 }
                 Answer::Decided(peer.decide(leaver))
             }
-            Seat::Away(_) => Answer::Down,
+            Node::Away(_) => Answer::Down,
         }
     }
 
@@ -150,67 +150,67 @@ impl<'g> Seat<'g> {
         what: Kind,
         out: &mut [u8; LONGEST_DATAGRAM],
     ) -> Option<Result<usize, Unsayable>>
-        ensures said { (rules : Rules) (room p : ℕ) (s : State) → IsSeat rules room p self.now s
+        ensures said { (rules : Rules) (room p : ℕ) (s : State) → IsNode rules room p self.now s
             → IsSaidAt rules room p s (states.Say to.number (saying_of what)) result out.new }
         ensures fits { IfSome result (λ said. IfOk said (λ size. size ≤ LONGEST_DATAGRAM)) }
     {
         match self {
-            Seat::Held(peer) => {
+            Node::Held(peer) => {
                 if peer.is_down() {
                     return None;
                 }
                 Some(peer.say(to, what, out))
             }
-            Seat::Away(_) => None,
+            Node::Away(_) => None,
         }
     }
 
     /// Says when the disk's calls fail from now on.
     pub(crate) fn arm(&mut self, arm: Arm)
-        ensures held { (rules : Rules) (room p : ℕ) (s : State) → IsSeat rules room p self.old s
-            → IsSeat rules room p self.new s }
+        ensures held { (rules : Rules) (room p : ℕ) (s : State) → IsNode rules room p self.old s
+            → IsNode rules room p self.new s }
         ensures told { IsTold arm self.old self.new }
         ensures setting { setting_of (Some self.new)
             ≡ armed (arm ∷ []) (setting_of (Some self.old)) }
     {
         match self {
-            Seat::Held(peer) => peer.arm(arm),
-            Seat::Away(disk) => disk.arm(arm),
+            Node::Held(peer) => peer.arm(arm),
+            Node::Away(disk) => disk.arm(arm),
         }
     }
 
     /// Stops the player: its disk holds what a crash may leave, by the pick.
-    pub(crate) fn crash(self, pick: u64) -> Seat<'g>
-        ensures crashed { (rules : Rules) (room p : ℕ) (s : State) → IsSeat rules room p self.entry s
-            → (leaves : Bool) × IsSeat rules room p result (crashed s leaves) }
-        ensures crash { IsSeatCrash pick self.entry result }
+    pub(crate) fn crash(self, pick: u64) -> Node<'g>
+        ensures crashed { (rules : Rules) (room p : ℕ) (s : State) → IsNode rules room p self.entry s
+            → (leaves : Bool) × IsNode rules room p result (crashed s leaves) }
+        ensures crash { IsNodeCrash pick self.entry result }
         ensures setting { setting_of (Some result) ≡ setting_of (Some self.entry) }
     {
-        Seat::Away(self.into_disk().crash(pick))
+        Node::Away(self.into_disk().crash(pick))
     }
 
     /// Whether the peer is held and open.
     fn is_up(&self) -> bool
-        ensures { (rules : Rules) (room p : ℕ) (s : State) → IsSeat rules room p self.now s
+        ensures { (rules : Rules) (room p : ℕ) (s : State) → IsNode rules room p self.now s
             → (result ≡ true) ↔ (s.mode ≡ states.Open) }
     {
         match self {
-            Seat::Held(peer) => !peer.is_down(),
-            Seat::Away(_) => false,
+            Node::Held(peer) => !peer.is_down(),
+            Node::Away(_) => false,
         }
     }
 
     /// The disk, of which an opening finds the journal.
     fn into_disk(self) -> MemDisk
-        ensures tells { (rules : Rules) (room p : ℕ) (s : State) → IsSeat rules room p self.entry s
+        ensures tells { (rules : Rules) (room p : ℕ) (s : State) → IsNode rules room p self.entry s
             → Tells s result }
         ensures disk { result ≡ disk_in self.entry }
         ensures setting { setting_of_disk result ≡ setting_of (Some self.entry) }
     {
         what_disks_tell::<MemDisk>();
         match self {
-            Seat::Held(peer) => peer.close(),
-            Seat::Away(disk) => disk,
+            Node::Held(peer) => peer.close(),
+            Node::Away(disk) => disk,
         }
     }
 
@@ -224,15 +224,15 @@ impl<'g> Seat<'g> {
     ) -> Result<Standing<'_, 'g>, AllocError>
         requires { player.number ≤ game.now.players }
         ensures { IfOk result (λ standing. (s : State)
-            → IsSeat game.now room player.number self.entry.now s
+            → IsNode game.now room player.number self.entry.now s
             → ((finds : Bool) → IsJournal game.now player.number room (found s finds))
             → IsStanding game.now player.number s (Some self.entry.now) standing) }
     {
         bodies_are_the_spellings();
         journals_are_not_refused();
         match self {
-            Seat::Held(peer) => Ok(Standing::Held(peer)),
-            Seat::Away(disk) => {
+            Node::Held(peer) => Ok(Standing::Held(peer)),
+            Node::Away(disk) => {
                 let mut known = Known::new(alloc, game, player)?;
                 // A journal is refused for nothing.
                 let _ = replay_bytes(disk.bytes(), game, room, &mut known);

@@ -4,13 +4,13 @@ use Rattle.c8_disk.specs.Memory.{images_of}
 use Rattle.c8_peer.specs.State.{State}
 use Rattle.c8_peer.specs.Opening.{found}
 use Rattle.c8_peer.specs.Peer.{Keeps}
-use Rattle.c8_world.specs.declared.seat.Seat.{Seat}
-use Rattle.c8_world.specs.Seats.{IsSeat}
-use Rattle.c8_world.proofs.seat.Seat.into_disk.Goals as goal
+use Rattle.c8_world.specs.declared.node.Node.{Node}
+use Rattle.c8_world.specs.Nodes.{IsNode}
+use Rattle.c8_world.proofs.node.Node.into_disk.Goals as goal
 
--- src/seat.rt:192:5
+-- src/node.rt:192:5
 pub returns-in-Held-clause-tells : goal.returns-in-Held-clause-tells
 returns-in-Held-clause-tells c rules room p s is image left =
-    let held = subst (λ (seat : Seat). IsSeat rules room p seat s) c.in-Held.is is in
+    let held = subst (λ (node : Node). IsNode rules room p node s) c.in-Held.is is in
     let now = subst (λ (disk : MemDisk). images_of disk image) c.close.ensures.disk left in
     subst (λ (x : State). (finds : Bool) × Keeps (found x finds) image) held.state_is (c.what_disks_tell.ensures.bodies c.in-Held.peer image c.close.ensures.sound now)

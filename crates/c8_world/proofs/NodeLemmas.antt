@@ -13,7 +13,7 @@ use Rattle.c8_peer.specs.declared.error.OpenError.TheVariants as opens
 use Rattle.c8_peer.specs.State.{Away, State, Reply, Opened, Ticked, Delivered, Said, Left, Decided}
 use Rattle.c8_peer.specs.Opening.{Opening, NoPlayer, Stands, NotWritten, NoMemory, NotRead, Unfit, Spent, found, opened}
 use Rattle.c8_peer.specs.Peer.{Keeps}
-use Rattle.c8_world.specs.Seats.{Tells}
+use Rattle.c8_world.specs.Nodes.{Tells}
 
 -- a read gives one of the images
 pub found_now : (s : State) (disk : MemDisk) → Tells s disk → (finds : Bool) × Keeps (found s finds) (bytes_of disk)

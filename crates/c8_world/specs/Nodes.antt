@@ -1,4 +1,4 @@
--- What one player's seat holds, and what becomes of it.
+-- What one player's node holds, and what becomes of it.
 use Rattle.std.specs.Prelude.{◌≡◌, ◌≢◌, ℕ, List, take, Bool, Option, Some, None, Result, Ok, Err}
 use Rattle.c8_game.specs.Rules.{Rules}
 use Rattle.c8_disk.specs.declared.mem_disk.MemDisk.{MemDisk}
@@ -17,8 +17,8 @@ use Rattle.c8_peer.specs.Peer.{PeerValue, Keeps, luck_of}
 use Rattle.c8_world.specs.declared.answer.Answer.{Answer}
 use Rattle.c8_world.specs.declared.answer.Answer.TheVariants as answers
 use Rattle.c8_world.specs.declared.answer.Counts.{Counts}
-use Rattle.c8_world.specs.declared.seat.Seat.{Seat}
-use Rattle.c8_world.specs.declared.seat.Seat.TheVariants as seats
+use Rattle.c8_world.specs.declared.node.Node.{Node}
+use Rattle.c8_world.specs.declared.node.Node.TheVariants as nodes
 
 -- the peer of a player in a match, in that state
 pub record IsPeerOf (rules : Rules) (room p : ℕ) (peer : PeerValue MemDisk) (s : State) : Type 0 where
@@ -32,35 +32,35 @@ abbrev pub Tells : State → MemDisk → Type 0
 Tells s disk = (image : List ℕ) → images_of disk image → (finds : Bool) × Keeps (found s finds) image
 
 -- A peer that is held is in that state; the disk of one that is away tells it.
-abbrev pub IsSeat : Rules → ℕ → ℕ → Seat → State → Type 0
-IsSeat rules room p (seats.Held peer) s = IsPeerOf rules room p peer s
-IsSeat rules room p (seats.Away disk) s = (s.mode ≡ Away) × Tells s disk
+abbrev pub IsNode : Rules → ℕ → ℕ → Node → State → Type 0
+IsNode rules room p (nodes.Held peer) s = IsPeerOf rules room p peer s
+IsNode rules room p (nodes.Away disk) s = (s.mode ≡ Away) × Tells s disk
 
--- A call at a seat: an open peer answers, and goes on, by its step; of another nothing is asked.
-abbrev pub IsCalled : Rules → ℕ → ℕ → State → Call → Option Reply → Seat → Type 0
-IsCalled rules room p s call None seat = (s.mode ≢ Open) × IsSeat rules room p seat s
-IsCalled rules room p s call (Some reply) seat =
-    (s.mode ≡ Open) × ((step rules p s call (luck_of reply)).reply ≡ reply) × IsSeat rules room p seat (step rules p s call (luck_of reply)).state
+-- A call at a node: an open peer answers, and goes on, by its step; of another nothing is asked.
+abbrev pub IsCalled : Rules → ℕ → ℕ → State → Call → Option Reply → Node → Type 0
+IsCalled rules room p s call None node = (s.mode ≢ Open) × IsNode rules room p node s
+IsCalled rules room p s call (Some reply) node =
+    (s.mode ≡ Open) × ((step rules p s call (luck_of reply)).reply ≡ reply) × IsNode rules room p node (step rules p s call (luck_of reply)).state
 
 abbrev pub counts_of : Rules → ℕ → State → Counts
 counts_of rules p s = record { now = ticks s.journal; confirmed = confirmed (known_of rules p s.journal) }
 
--- The answer of a call at a seat; after a tick it tells what is counted then.
-abbrev pub IsAsked : Rules → ℕ → ℕ → State → Call → Answer → Seat → Type 0
-IsAsked rules room p s call (answers.Ticked (Ok counts)) seat =
-    IsCalled rules room p s call (Some (Ticked (Ok tt))) seat × (counts ≡ counts_of rules p (step rules p s call Works).state)
-IsAsked rules room p s call (answers.Ticked (Err error)) seat = IsCalled rules room p s call (Some (Ticked (Err error))) seat
-IsAsked rules room p s call (answers.Delivered result) seat = IsCalled rules room p s call (Some (Delivered result)) seat
-IsAsked rules room p s call (answers.Left result) seat = IsCalled rules room p s call (Some (Left result)) seat
-IsAsked rules room p s call (answers.Decided result) seat = IsCalled rules room p s call (Some (Decided result)) seat
-IsAsked rules room p s call answers.Down seat = IsCalled rules room p s call None seat
-IsAsked rules room p s call (answers.Opened result) seat = ⊥
-IsAsked rules room p s call answers.Up seat = ⊥
-IsAsked rules room p s call (answers.Said result) seat = ⊥
-IsAsked rules room p s call answers.NoSuch seat = ⊥
-IsAsked rules room p s call answers.Stopped seat = ⊥
+-- The answer of a call at a node; after a tick it tells what is counted then.
+abbrev pub IsAsked : Rules → ℕ → ℕ → State → Call → Answer → Node → Type 0
+IsAsked rules room p s call (answers.Ticked (Ok counts)) node =
+    IsCalled rules room p s call (Some (Ticked (Ok tt))) node × (counts ≡ counts_of rules p (step rules p s call Works).state)
+IsAsked rules room p s call (answers.Ticked (Err error)) node = IsCalled rules room p s call (Some (Ticked (Err error))) node
+IsAsked rules room p s call (answers.Delivered result) node = IsCalled rules room p s call (Some (Delivered result)) node
+IsAsked rules room p s call (answers.Left result) node = IsCalled rules room p s call (Some (Left result)) node
+IsAsked rules room p s call (answers.Decided result) node = IsCalled rules room p s call (Some (Decided result)) node
+IsAsked rules room p s call answers.Down node = IsCalled rules room p s call None node
+IsAsked rules room p s call (answers.Opened result) node = ⊥
+IsAsked rules room p s call answers.Up node = ⊥
+IsAsked rules room p s call (answers.Said result) node = ⊥
+IsAsked rules room p s call answers.NoSuch node = ⊥
+IsAsked rules room p s call answers.Stopped node = ⊥
 
--- What is said at a seat changes nothing there, and the bytes in front spell it.
+-- What is said at a node changes nothing there, and the bytes in front spell it.
 abbrev pub IsSaying : Rules → ℕ → State → Call → Result ℕ Unsayable → List ℕ → Type 0
 IsSaying rules p s call (Ok size) bytes =
     (packet : Packet) × Spells (take size bytes) packet × (step rules p s call Works ≡ record { reply = Said (Ok packet); state = s })
@@ -70,15 +70,15 @@ abbrev pub IsSaidAt : Rules → ℕ → ℕ → State → Call → Option (Resul
 IsSaidAt rules room p s call None bytes = s.mode ≢ Open
 IsSaidAt rules room p s call (Some result) bytes = (s.mode ≡ Open) × IsSaying rules p s call result bytes
 
--- An opening at a seat: nothing is done where the peer is open; else it comes to something that it may.
-pub record IsOpening (rules : Rules) (room p : ℕ) (s : State) (result : Result ℕ OpenError) (seat : Seat) : Type 0 where
+-- An opening at a node: nothing is done where the peer is open; else it comes to something that it may.
+pub record IsOpening (rules : Rules) (room p : ℕ) (s : State) (result : Result ℕ OpenError) (node : Node) : Type 0 where
   pub not_open : s.mode ≢ Open
   pub finds : Bool
   pub opening : Opening
   pub may : MayBecome rules room p (found s finds) opening
   pub replies : (opened rules room p s (found s finds) opening).reply ≡ Opened result
-  pub seat_is : IsSeat rules room p seat (opened rules room p s (found s finds) opening).state
+  pub node_is : IsNode rules room p node (opened rules room p s (found s finds) opening).state
 
-abbrev pub IsOpenedSeat : Rules → ℕ → ℕ → State → Option (Result ℕ OpenError) → Seat → Type 0
-IsOpenedSeat rules room p s None seat = (s.mode ≡ Open) × IsSeat rules room p seat s
-IsOpenedSeat rules room p s (Some result) seat = IsOpening rules room p s result seat
+abbrev pub IsOpenedNode : Rules → ℕ → ℕ → State → Option (Result ℕ OpenError) → Node → Type 0
+IsOpenedNode rules room p s None node = (s.mode ≡ Open) × IsNode rules room p node s
+IsOpenedNode rules room p s (Some result) node = IsOpening rules room p s result node
