@@ -32,9 +32,10 @@ impl Progress {
     }
 
     /// To be called after each turn: where a second has gone by since the last line, writes one
-    /// more, as `96 frames ticked, 88 confirmed, 3 rollbacks, the longest of 5 frames, player 2 silent
-    /// for 16 ms`. The rollbacks are those since the last line; of each other player it tells for how
-    /// long nothing was taken; and at last `the machines differ`, while the alarm stands.
+    /// more, as `ticked 96, confirmed 88, rollbacks 3, longest 5, player 2 silent for 16 ms`. These
+    /// are frames; the rollbacks are those since the last line, and the longest is that of them; of
+    /// each other player it tells for how long nothing was taken; and at last `the machines differ`,
+    /// while the alarm stands.
     pub fn tell<D: Disk, E: Write>(
         &mut self,
         out: &mut E,
@@ -97,7 +98,7 @@ fn write_counts<D: Disk, E: Write>(
     let Rollbacks { count, longest } = rollbacks;
     write!(
         out,
-        "{ticked} frames ticked, {confirmed} confirmed, {count} rollbacks, the longest of {longest} frames"
+        "ticked {ticked}, confirmed {confirmed}, rollbacks {count}, longest {longest}"
     )
 }
 

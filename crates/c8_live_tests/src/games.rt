@@ -206,9 +206,9 @@ fn told_alone(alloc: Global, game: &Game) -> Result<Vec<u8>, Fail> {
 }
 
 const PROGRESS: &[u8] = b"\
-    4 frames ticked, 0 confirmed, 0 rollbacks, the longest of 0 frames, \
+    ticked 4, confirmed 0, rollbacks 0, longest 0, \
     player 1 silent for 1000 ms, player 3 silent for 1000 ms, player 4 silent for 1000 ms\n\
-    8 frames ticked, 0 confirmed, 0 rollbacks, the longest of 0 frames, \
+    ticked 8, confirmed 0, rollbacks 0, longest 0, \
     player 1 silent for 2000 ms, player 3 silent for 2000 ms, player 4 silent for 2000 ms\n\
     0 of 20 frames after 9 turns\n";
 

@@ -201,15 +201,15 @@ const TOLD: [Told; 9] = [
     Told { first: Some(0x20), second: None, byte: WHOLE, line: "" },
     Told { first: None, second: None, byte: WHOLE, line: "" },
     // the guess was right
-    Told { first: Some(0x20), second: None, byte: WHOLE, line: "5 frames ticked, 2 confirmed, 1 rollbacks, the longest of 2 frames, player 2 silent for 0 ms\n" },
+    Told { first: Some(0x20), second: None, byte: WHOLE, line: "ticked 5, confirmed 2, rollbacks 1, longest 2, player 2 silent for 0 ms\n" },
     // frames 2 to 4 were run with the key
     Told { first: Some(0), second: None, byte: WHOLE, line: "" },
     // frames 4 and 5 were run without it
     Told { first: Some(0), second: Some(0x20), byte: WHOLE, line: "" },
-    Told { first: None, second: None, byte: WHOLE, line: "8 frames ticked, 5 confirmed, 2 rollbacks, the longest of 3 frames, player 2 silent for 400 ms\n" },
+    Told { first: None, second: None, byte: WHOLE, line: "ticked 8, confirmed 5, rollbacks 2, longest 3, player 2 silent for 400 ms\n" },
     Told { first: None, second: None, byte: 32, line: "" },
     Told { first: None, second: None, byte: WHOLE, line: "" },
-    Told { first: None, second: None, byte: WHOLE, line: "11 frames ticked, 5 confirmed, 0 rollbacks, the longest of 0 frames, player 2 silent for 800 ms, the machines differ\n" },
+    Told { first: None, second: None, byte: WHOLE, line: "ticked 11, confirmed 5, rollbacks 0, longest 0, player 2 silent for 800 ms, the machines differ\n" },
 ];
 
 pub(crate) fn told_lines() -> &'static [Told] {

@@ -3,8 +3,8 @@
 //! `view` lends the parts of a datagram from the bytes that came; `write` spells one. What a
 //! datagram says is a `Packet` (`specs/Packet.antt`), its one spelling and the first refusal of
 //! bytes that spell nothing are in `specs/Spelling.antt` and `specs/Refusal.antt`;
-//! `specs/Read.antt` joins both, for callers. `laws` has what else callers may rest on, and
-//! `specs/WordLaws.antt` and `NumberLaws.antt` what their proofs may cite. Nothing here takes
+//! `specs/checked/Read.antt` joins both, for callers. `laws` has what else callers may rest on, and
+//! `specs/checked/WordLaws.antt` and `NumberLaws.antt` what their proofs may cite. Nothing here takes
 //! memory.
 #![tactic(auto)]
 
