@@ -80,7 +80,7 @@ pub enum Operation {
 
 /// The instruction that a code means.
 #[inline(always)]
-#[tactic(auto, unfolding(crate::specs::Decoding::instruction_by))]
+#[tactic(auto, unfolding(crate::specs::checked::Decoding::instruction_by))]
 pub fn decode(code: u16) -> Operation
     ensures value { meaning result ≡ instruction_of code }
     ensures parts { MatchOption (meaning result) (Unit {0}) IsInRange }
@@ -112,7 +112,7 @@ pub fn decode(code: u16) -> Operation
 }
 
 #[inline(always)]
-#[tactic(auto, unfolding(crate::specs::Decoding::system_instruction))]
+#[tactic(auto, unfolding(crate::specs::checked::Decoding::system_instruction))]
 fn decode_system(code: u16) -> Operation
     ensures value { meaning result ≡ system_instruction code }
     ensures parts { MatchOption (meaning result) (Unit {0}) IsInRange }
@@ -125,7 +125,7 @@ fn decode_system(code: u16) -> Operation
 }
 
 #[inline(always)]
-#[tactic(auto, unfolding(crate::specs::Decoding::arithmetic_instruction))]
+#[tactic(auto, unfolding(crate::specs::checked::Decoding::arithmetic_instruction))]
 fn decode_arithmetic(code: u16) -> Operation
     ensures value { meaning result
         ≡ arithmetic_instruction (code / 0x100 % 0x10) (code / 0x10 % 0x10) (code % 0x10) }
@@ -148,7 +148,7 @@ fn decode_arithmetic(code: u16) -> Operation
 }
 
 #[inline(always)]
-#[tactic(auto, unfolding(crate::specs::Decoding::key_instruction))]
+#[tactic(auto, unfolding(crate::specs::checked::Decoding::key_instruction))]
 fn decode_key(code: u16) -> Operation
     ensures value { meaning result
         ≡ key_instruction (code / 0x100 % 0x10) (code % 0x100) }
@@ -163,7 +163,7 @@ fn decode_key(code: u16) -> Operation
 }
 
 #[inline(always)]
-#[tactic(auto, unfolding(crate::specs::Decoding::register_instruction))]
+#[tactic(auto, unfolding(crate::specs::checked::Decoding::register_instruction))]
 fn decode_register(code: u16) -> Operation
     ensures value { meaning result
         ≡ register_instruction (code / 0x100 % 0x10) (code % 0x100) }

@@ -30,7 +30,7 @@ impl<'a> Run<'a> {
     }
 
     /// How many key sets there are.
-    #[tactic(auto, using(crate::specs::WordLaws::length_words_of))]
+    #[tactic(auto, using(crate::specs::checked::WordLaws::length_words_of))]
     pub fn len(&self) -> usize
         ensures count { result ≡ length (words self.now) }
         ensures short { result ≤ LONGEST_RUN }
@@ -38,7 +38,7 @@ impl<'a> Run<'a> {
         self.bytes.len() / 2
     }
 
-    #[tactic(auto, using(crate::specs::WordLaws::length_words_of))]
+    #[tactic(auto, using(crate::specs::checked::WordLaws::length_words_of))]
     pub fn is_empty(&self) -> bool
         ensures { result ≡ (length (words self.now) == 0) }
     {
@@ -46,7 +46,7 @@ impl<'a> Run<'a> {
     }
 
     /// The key set at a place, the first being 0.
-    #[tactic(auto, using(crate::specs::WordLaws::length_words_of, crate::specs::WordLaws::slice_get_words_of))]
+    #[tactic(auto, using(crate::specs::checked::WordLaws::length_words_of, crate::specs::checked::WordLaws::slice_get_words_of))]
     pub fn get(&self, place: usize) -> u16
         requires { place < length (words self.now) }
         ensures { slice_get (words self.now) place ≡ Some result }
@@ -55,7 +55,7 @@ impl<'a> Run<'a> {
     }
 
     /// The key sets from a place on, lent from the same bytes.
-    #[tactic(auto, using(crate::specs::WordLaws::length_words_of, crate::specs::WordLaws::drop_words_of))]
+    #[tactic(auto, using(crate::specs::checked::WordLaws::length_words_of, crate::specs::checked::WordLaws::drop_words_of))]
     pub fn from_place(&self, place: usize) -> Run<'a>
         requires { place ≤ length (words self.now) }
         ensures words { words result ≡ drop place (words self.now) }
@@ -73,7 +73,7 @@ impl<'a> Run<'a> {
     }
 
     /// The bytes that spell the run, as they came.
-    #[tactic(auto, using(crate::specs::WordLaws::length_of_words))]
+    #[tactic(auto, using(crate::specs::checked::WordLaws::length_of_words))]
     pub fn bytes(&self) -> &'a [u8]
         ensures slice { result.now ≡ spelled self.now }
         ensures spells { SpellsWords result.now (words self.now) }
