@@ -1,8 +1,9 @@
 -- How runs of one peer are put together.
-use Rattle.std.proofs.Common.{◌≡◌, ℕ, List, [], ◌∷◌, ◌++◌, Option, Some, refl, sym, subst, ◌∙◌, map}
+use Rattle.std.proofs.Common.{◌≡◌, ℕ, List, [], ◌∷◌, ◌++◌, Option, Some, refl, sym, subst, ◌∙◌, map, arith}
 use Rattle.std.proofs.lemmas.List.{map-append}
 use Rattle.c8_game.specs.Rules.{Rules}
 use Rattle.c8_disk.specs.declared.disk.Disk.{Ghosts}
+use Rattle.c8_disk.specs.checked.RunLaws.{same_then}
 use Rattle.c8_peer.specs.State.{State, Call, Reply}
 use Rattle.c8_peer.specs.Peer.{PeerValue, IsAnswered, luck_of}
 use Rattle.c8_peer.specs.Runs.{Deed, Does, IsDone, IsRun}
@@ -10,8 +11,8 @@ use Rattle.c8_live.specs.declared.error.SessionError.{SessionError}
 use Rattle.c8_live.specs.declared.error.SessionError.TheVariants.{Disk, Wire}
 use Rattle.c8_live.specs.Runs.{does, HasRunOn, IsEnd}
 
-pub still : {D : Type 0} (p : PeerValue D) → HasRunOn p p
-still p = record { rules = refl; room = refl; me = refl; calls = []; answers = []; run = refl }
+pub still : {D : Type 0} (disk : Ghosts D) (p : PeerValue D) → HasRunOn disk p p
+still disk p = record { rules = refl; room = refl; me = refl; calls = []; answers = []; run = refl; disk_is = record { capacity = refl; arms = refl; no_fewer = omega arith } }
 
 -- a run in a match and of a player, told of those that they are
 pub run_of : (rules rules2 : Rules) (room room2 me me2 : ℕ) (s t : State) (deeds : List Deed) (answers : List (Option Reply)) → rules2 ≡ rules → room2 ≡ room → me2 ≡ me
@@ -25,8 +26,8 @@ abbrev pub RunsJoin : Type 0
 RunsJoin = (rules : Rules) (room me : ℕ) (s t u : State) (deeds more : List Deed) (answers others : List (Option Reply)) → IsRun rules room me s deeds answers t → IsRun rules room me t more others u
     → IsRun rules room me s (deeds ++ more) (answers ++ others) u
 
-pub joined : {D : Type 0} → RunsJoin → (first middle last : PeerValue D) → HasRunOn first middle → HasRunOn middle last → HasRunOn first last
-joined join first middle last one two =
+pub joined : {D : Type 0} (disk : Ghosts D) → RunsJoin → (first middle last : PeerValue D) → HasRunOn disk first middle → HasRunOn disk middle last → HasRunOn disk first last
+joined disk join first middle last one two =
     let answers = one.answers ++ two.answers in
     let more = run_of first.rules middle.rules first.room middle.room first.me middle.me middle.state last.state (map does two.calls) two.answers one.rules one.room one.me two.run in
     record {
@@ -38,11 +39,12 @@ joined join first middle last one two =
       run =
           subst (λ (deeds : List Deed). IsRun first.rules first.room first.me first.state deeds answers last.state) (sym (map-append does one.calls two.calls))
           (join first.rules first.room first.me first.state middle.state last.state (map does one.calls) (map does two.calls) one.answers two.answers one.run more);
+      disk_is = same_then disk first.disk middle.disk last.disk one.disk_is two.disk_is;
     }
 
 -- one call
 pub once : {D : Type 0} (disk : Ghosts D) (old new : PeerValue D) (call : Call) (reply : Reply) → IsAnswered disk old call reply new
-    → IsDone old.rules old.room old.me old.state (Does call (luck_of reply)) (Some reply) new.state → HasRunOn old new
+    → IsDone old.rules old.room old.me old.state (Does call (luck_of reply)) (Some reply) new.state → HasRunOn disk old new
 once disk old new call reply is deed = record {
   rules = is.same.rules;
   room = is.same.room;
@@ -50,13 +52,14 @@ once disk old new call reply is deed = record {
   calls = (call, luck_of reply) ∷ [];
   answers = Some reply ∷ [];
   run = (new.state, deed, refl);
+  disk_is = is.same.disk_is;
 }
 
 -- what ends a session after some calls ends it after those before them too
-pub ended : {D : Type 0} (disk : Ghosts D) → RunsJoin → (first middle last : PeerValue D) (error : SessionError) → HasRunOn first middle → IsEnd disk middle last error → IsEnd disk first last error
+pub ended : {D : Type 0} (disk : Ghosts D) → RunsJoin → (first middle last : PeerValue D) (error : SessionError) → HasRunOn disk first middle → IsEnd disk middle last error → IsEnd disk first last error
 ended disk join first middle last (Disk why) ran end = record {
   before = end.before;
-  ran = joined join first middle end.before ran end.ran;
+  ran = joined disk join first middle end.before ran end.ran;
   call = end.call;
   reply = end.reply;
   answered = end.answered;

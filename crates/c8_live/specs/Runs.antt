@@ -2,6 +2,7 @@
 use Rattle.std.specs.Prelude.{◌≡◌, List, map, Option}
 use Rattle.c8_disk.specs.declared.disk.Disk.{Ghosts}
 use Rattle.c8_disk.specs.declared.error.DiskError.{DiskError}
+use Rattle.c8_disk.specs.Runs.{IsSameDisk}
 use Rattle.c8_peer.specs.State.{Call, Reply}
 use Rattle.c8_peer.specs.Steps.{Luck, Refuses}
 use Rattle.c8_peer.specs.Peer.{PeerValue, IsAnswered, luck_of}
@@ -13,19 +14,20 @@ use Rattle.c8_live.specs.declared.error.SessionError.TheVariants.{Disk, Wire}
 abbrev pub does : Call × Luck → Deed
 does call = Does call.0 call.1
 
--- The peer of the same match and player after some calls, each one step of the definitions.
-pub record HasRunOn {D : Type 0} (old new : PeerValue D) : Type 0 where
+-- The peer of the same match and player, on the same disk, after some calls, each one step of the definitions.
+pub record HasRunOn {D : Type 0} (disk : Ghosts D) (old new : PeerValue D) : Type 0 where
   pub rules : new.rules ≡ old.rules
   pub room : new.room ≡ old.room
   pub me : new.me ≡ old.me
   pub calls : List (Call × Luck)
   pub answers : List (Option Reply)
   pub run : IsRun old.rules old.room old.me old.state (map does calls) answers new.state
+  pub disk_is : IsSameDisk disk old.disk new.disk
 
 -- After such a run one call more, which the disk refused: its answer tells so, and is what the peer's contract says.
 pub record IsStopped {D : Type 0} (disk : Ghosts D) (old new : PeerValue D) (why : DiskError) : Type 0 where
   pub before : PeerValue D
-  pub ran : HasRunOn old before
+  pub ran : HasRunOn disk old before
   pub call : Call
   pub reply : Reply
   pub answered : IsAnswered disk before call reply new

@@ -105,7 +105,7 @@ impl<'g, D: Disk> Session<'g, D> {
     /// definitions; then it speaks. The error is that of the disk or of the wire, which ends the
     /// session.
     pub fn turn<W: Wire>(&mut self, wire: &mut W) -> Result<(), SessionError>
-        ensures ran { HasRunOn self.old.peer self.new.peer }
+        ensures ran { HasRunOn D.Disk self.old.peer self.new.peer }
         ensures end { IfErr result (IsEnd D.Disk self.old.peer self.new.peer) }
     {
         peers_run_on::<D>();
@@ -124,7 +124,7 @@ impl<'g, D: Disk> Session<'g, D> {
     /// Delivers the packets that wait, and tells of which players a HELLO was taken, player 1's
     /// place first.
     fn hear<W: Wire>(&mut self, wire: &mut W) -> Result<[bool; MOST_PLAYERS], SessionError>
-        ensures ran { HasRunOn self.old.peer self.new.peer }
+        ensures ran { HasRunOn D.Disk self.old.peer self.new.peer }
         ensures end { IfErr result (IsEnd D.Disk self.old.peer self.new.peer) }
     {
         peers_run_on::<D>();
@@ -145,7 +145,7 @@ impl<'g, D: Disk> Session<'g, D> {
 
     /// Delivers a packet, and answers whose HELLO it was, if it was one and was taken.
     fn deliver(&mut self, packet: &[u8]) -> Result<Option<Player>, SessionError>
-        ensures ran { HasRunOn self.old.peer self.new.peer }
+        ensures ran { HasRunOn D.Disk self.old.peer self.new.peer }
         ensures end { IfErr result (IsEnd D.Disk self.old.peer self.new.peer) }
     {
         peers_run_on::<D>();
@@ -179,7 +179,7 @@ impl<'g, D: Disk> Session<'g, D> {
     /// Enters the next key set, after the last an empty one. One that is refused is entered again in
     /// the next turn.
     fn tick(&mut self) -> Result<(), SessionError>
-        ensures ran { HasRunOn self.old.peer self.new.peer }
+        ensures ran { HasRunOn D.Disk self.old.peer self.new.peer }
         ensures end { IfErr result (IsEnd D.Disk self.old.peer self.new.peer) }
     {
         let (next, is_past) = match self.keys.get(self.entered) {
@@ -199,7 +199,7 @@ impl<'g, D: Disk> Session<'g, D> {
 
     /// Player one lets go of those who have been silent for too long.
     fn let_go(&mut self) -> Result<(), SessionError>
-        ensures ran { HasRunOn self.old.peer self.new.peer }
+        ensures ran { HasRunOn D.Disk self.old.peer self.new.peer }
         ensures end { IfErr result (IsEnd D.Disk self.old.peer self.new.peer) }
     {
         peers_run_on::<D>();
@@ -219,7 +219,7 @@ impl<'g, D: Disk> Session<'g, D> {
 
     /// Player one cuts the leavers whose drop round is ready.
     fn cut(&mut self) -> Result<(), SessionError>
-        ensures ran { HasRunOn self.old.peer self.new.peer }
+        ensures ran { HasRunOn D.Disk self.old.peer self.new.peer }
         ensures end { IfErr result (IsEnd D.Disk self.old.peer self.new.peer) }
     {
         peers_run_on::<D>();

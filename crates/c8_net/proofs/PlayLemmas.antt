@@ -20,11 +20,11 @@ module _ {D : Type 0} (g : Ghosts D) (disk : D) (rules : Rules) (room me : ℕ) 
   session_failed peer first last (sessions.Disk why) opened same end = (first, last, subst (IsOpened g disk rules room me) (sym same) opened, end)
   session_failed peer first last (sessions.Wire failed) opened same end = tt
 
-  pub has_played : (peer first last shown : PeerValue D) (played : Played) → IsOpened g disk rules room me peer → first ≡ peer → HasRunOn first last → shown ≡ last → played.frames ≡ confirmed (known_by shown)
+  pub has_played : (peer first last shown : PeerValue D) (played : Played) → IsOpened g disk rules room me peer → first ≡ peer → HasRunOn g first last → shown ≡ last → played.frames ≡ confirmed (known_by shown)
       → state played.machine ≡ serial shown.rules (confirmed_rows (known_by shown)) → HasPlayed g disk rules room me played
   has_played peer first last shown played opened same ran is frames machine =
       let here = subst (IsOpened g disk rules room me) (sym same) opened in
-      let on = subst (HasRunOn first) (sym is) ran in
+      let on = subst (HasRunOn g first) (sym is) ran in
       record {
         first = first;
         opened = here;

@@ -52,7 +52,7 @@ module _ {D : Type 0} (g : Ghosts D) (disk : D) (rules : Rules) (room me : ℕ) 
     pub first : PeerValue D
     pub opened : IsOpened g disk rules room me first
     pub last : PeerValue D
-    pub ran : HasRunOn first last
+    pub ran : HasRunOn g first last
     pub frames : played.frames ≡ confirmed (known_by last)
     pub machine : state played.machine ≡ serial rules (confirmed_rows (known_by last))
 

@@ -136,7 +136,7 @@ fn play<R: Clock, D: Disk, W: Wire, E: Write>(
     wire: &mut W,
     progress: &mut E,
 ) -> Result<(), SessionError>
-    ensures ran { HasRunOn session.old.peer session.new.peer }
+    ensures ran { HasRunOn D.Disk session.old.peer session.new.peer }
     ensures end { IfErr result (IsEnd D.Disk session.old.peer session.new.peer) }
 {
     peers_run_on::<D>();

@@ -1,5 +1,5 @@
 -- What has been run of a match.
-use Rattle.std.proofs.Common.{◌≡◌, ℕ, List, [], ◌∷◌, refl, sym, subst}
+use Rattle.std.proofs.Common.{◌≡◌, inl, inr, ℕ, List, [], ◌∷◌, refl, sym, subst}
 use Rattle.std.proofs.lemmas.List.{append-nil}
 use Rattle.c8_game.specs.Rules.{Rules}
 use Rattle.c8_world.specs.declared.answer.Answer.{Answer}
@@ -7,6 +7,7 @@ use Rattle.c8_world.specs.declared.event.Event.{Event}
 use Rattle.c8_world.specs.World.{World, start}
 use Rattle.c8_world.specs.Run.{RunsWithMemory, HasRun, HasRunOut}
 use Rattle.c8_world.specs.Table.{TableValue}
+use Rattle.c8_world.specs.Turns.{AreTurns, AreFirstTurns}
 use Rattle.c8_script.specs.Sim.{IsBegun, IsNewWorld}
 use Rattle.c8_script.specs.declared.transcript.TheConstants.{ROOM}
 
@@ -18,6 +19,7 @@ begun_none rules events answers none = record {
   at = refl;
   world = start rules;
   runs = subst (λ (told : List Answer). RunsWithMemory rules ROOM (start rules) [] told (start rules)) (sym none) refl;
+  turned = inl none;
 }
 
 -- a run in the room of a new world
@@ -29,22 +31,24 @@ new_runs rules made events answers world is_new runs =
 
 -- memory ran out at an event
 pub begun_out : (rules : Rules) (made left : TableValue) (events : List Event) (answers : List Answer) → IsNewWorld rules made → HasRunOut made (start rules) events answers left
-    → IsBegun rules events answers
-begun_out rules made left events answers is_new out = record {
+    → AreFirstTurns events answers made left → IsBegun rules events answers
+begun_out rules made left events answers is_new out first = record {
   before = out.before;
   after = out.event ∷ out.after;
   at = out.at;
   world = out.then;
   runs = new_runs rules made out.before answers out.then is_new out.runs;
+  turned = inr (record { before = first.before; after = first.after; at = first.at; made = made; is_new = is_new; left = first.mid; turns = first.turns });
 }
 
 -- all events have
 pub begun_all : (rules : Rules) (made left : TableValue) (events : List Event) (answers : List Answer) → IsNewWorld rules made → HasRun made (start rules) events answers left
-    → IsBegun rules events answers
-begun_all rules made left events answers is_new run = record {
+    → AreTurns events answers made left → IsBegun rules events answers
+begun_all rules made left events answers is_new run turns = record {
   before = events;
   after = [];
   at = sym (append-nil events);
   world = run.world;
   runs = new_runs rules made events answers run.world is_new run.runs;
+  turned = inr (record { before = events; after = []; at = sym (append-nil events); made = made; is_new = is_new; left = left; turns = turns });
 }

@@ -12,10 +12,11 @@ use Rattle.c8_world.specs.declared.answer.Answer.{Answer}
 use Rattle.c8_world.specs.declared.event.Event.{Event}
 use Rattle.c8_world.specs.World.{World, start}
 use Rattle.c8_world.specs.Agreement.{IsPlayer, Reads}
-use Rattle.c8_world.specs.Disks.{AreArmed, IsNewDisk, arms_in}
+use Rattle.c8_world.specs.Disks.{IsNewDisk}
 use Rattle.c8_world.specs.Ends.{AreEnds}
 use Rattle.c8_world.specs.Run.{RunsWithMemory, HasRun}
 use Rattle.c8_world.specs.Table.{TableValue, Holds, node_of}
+use Rattle.c8_world.specs.Turns.{AreTurns}
 use Rattle.c8_script.specs.Errors.{sim_part}
 use Rattle.c8_script.specs.Printed.{AreLines, ends_text}
 use Rattle.c8_script.specs.Script.{SpellsScript, IsFaultOfScript}
@@ -35,25 +36,36 @@ pub record IsNewWorld (rules : Rules) (t : TableValue) : Type 0 where
   pub holds : Holds t (start rules)
   pub disks : (p : ℕ) → IsPlayer t.rules p → IsNewDisk CAPACITY CALLS (node_of t p)
 
--- All events have been run from a new world on, memory was there, and these are the answers; and so the players stand in what is
--- held then.
+-- All events have been run from a new world on, memory was there, and these are the answers; each made of the players and their
+-- disks what it makes; and so the players stand in what is held then.
 pub record IsPlayed (rules : Rules) (events : List Event) (transcript : Transcript) : Type 0 where
   pub made : TableValue
   pub is_new : IsNewWorld rules made
   pub left : TableValue
   pub run : HasRun made (start rules) events transcript.answers.items left
-  pub armed : AreArmed (arms_in events) made left
+  pub turns : AreTurns events transcript.answers.items made left
   pub reads : Reads
   pub ends : AreEnds left run.world reads transcript.ends.players.items transcript.ends.agree
   pub agree : transcript.ends.agree ≡ true
 
--- The first of the events have been run from a new world on, and these are the answers.
+-- The first of the events, with these answers, each made of a new world what it makes.
+pub record HasBegun (rules : Rules) (events : List Event) (answers : List Answer) : Type 0 where
+  pub before : List Event
+  pub after : List Event
+  pub at : events ≡ before ++ after
+  pub made : TableValue
+  pub is_new : IsNewWorld rules made
+  pub left : TableValue
+  pub turns : AreTurns before answers made left
+
+-- The first of the events have been run from a new world on, and these are the answers; there are none where memory ran out at once.
 pub record IsBegun (rules : Rules) (events : List Event) (answers : List Answer) : Type 0 where
   pub before : List Event
   pub after : List Event
   pub at : events ≡ before ++ after
   pub world : World
   pub runs : RunsWithMemory rules ROOM (start rules) before answers world
+  pub turned : (answers ≡ []) ⊎ HasBegun rules events answers
 
 -- Memory ran out, after the first of the events.
 abbrev pub IsCutShort : Rules → List Event → Unfinished → Type 0

@@ -17,7 +17,7 @@ impl<'g, D: Disk> Session<'g, D> {
     /// The peer hears a datagram. What it runs anew by that is a rollback.
     pub(super) fn peer_hears(&mut self, datagram: &Datagram<'_>) -> Result<Heard, Refused>
         requires { IsPacket (packet_of datagram.now) }
-        ensures ran { HasRunOn self.old.peer self.new.peer }
+        ensures ran { HasRunOn D.Disk self.old.peer self.new.peer }
         ensures stopped { (why : DiskError) → result ≡ Err (Refused.Disk why)
             → IsStopped D.Disk self.old.peer self.new.peer why }
     {
@@ -30,7 +30,7 @@ impl<'g, D: Disk> Session<'g, D> {
 
     /// The peer enters a key set.
     pub(super) fn peer_ticks(&mut self, keys: Keys) -> Result<(), TickError>
-        ensures ran { HasRunOn self.old.peer self.new.peer }
+        ensures ran { HasRunOn D.Disk self.old.peer self.new.peer }
         ensures stopped { (why : DiskError) → result ≡ Err (TickError.Disk why)
             → IsStopped D.Disk self.old.peer self.new.peer why }
     {
@@ -40,7 +40,7 @@ impl<'g, D: Disk> Session<'g, D> {
 
     /// The peer lets a player go, if it is player one's.
     pub(super) fn peer_lets_go(&mut self, leaver: Player) -> Result<(), LeaveError>
-        ensures ran { HasRunOn self.old.peer self.new.peer }
+        ensures ran { HasRunOn D.Disk self.old.peer self.new.peer }
         ensures stopped { (why : DiskError) → result ≡ Err (LeaveError.Disk why)
             → IsStopped D.Disk self.old.peer self.new.peer why }
     {
@@ -51,7 +51,7 @@ impl<'g, D: Disk> Session<'g, D> {
     /// The peer cuts a leaver whose drop round is ready, if it is player one's. What it runs anew by
     /// that is a rollback.
     pub(super) fn peer_cuts(&mut self, leaver: Player) -> Result<u32, DecideError>
-        ensures ran { HasRunOn self.old.peer self.new.peer }
+        ensures ran { HasRunOn D.Disk self.old.peer self.new.peer }
         ensures stopped { (why : DiskError) → result ≡ Err (DecideError.Disk why)
             → IsStopped D.Disk self.old.peer self.new.peer why }
     {

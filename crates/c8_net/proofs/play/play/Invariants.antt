@@ -3,5 +3,5 @@ use Rattle.c8_net.proofs.play.play.Given as goal
 
 abbrev pub invariant-loop-turn : goal.invariant-loop-turn
 invariant-loop-turn g l = record {
-  ran : HasRunOn l.initial.session.peer l.session.peer;
+  ran : HasRunOn g.D.Disk l.initial.session.peer l.session.peer;
 }

@@ -15,7 +15,7 @@ returns-in-Err c =
     let out = c.in-Err.ensures.memory (start c.args.game.now) made.holds in (
       c.out_of_memory-in-Err.ensures.error,
       rw (c.out_of_memory-in-Err.ensures.answers, c.answers_before.ensures)
-          (begun_out c.args.game.now c.in-Ok.world.table c.run.new.self.table c.args.events.now (answers_before c.in-Err.error) is_new out),
+          (begun_out c.args.game.now c.in-Ok.world.table c.run.new.self.table c.args.events.now (answers_before c.in-Err.error) is_new out c.in-Err.ensures.turns_out),
     )
 
 pub returns-in-Ok-ends : goal.returns-in-Ok-ends
@@ -29,7 +29,7 @@ returns-in-Ok-ends c =
       is_new = is_new;
       left = c.run.new.self.table;
       run = run;
-      armed = c.in-Ok-run.ensures.disks;
+      turns = c.in-Ok-run.ensures.turns;
       reads = ends.0;
       ends = ends.1;
       agree = c.in-Ok-ends.ensures.agree;

@@ -3,5 +3,5 @@ use Rattle.c8_live.proofs.session.Session.hear.Given as goal
 
 abbrev pub invariant-loop : goal.invariant-loop
 invariant-loop g l = record {
-  ran : HasRunOn l.initial.self.peer l.self.peer;
+  ran : HasRunOn g.D.Disk l.initial.self.peer l.self.peer;
 }
