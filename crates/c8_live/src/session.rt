@@ -169,7 +169,7 @@ impl<'g, D: Disk> Session<'g, D> {
         }
         let sender = header.from().player()?;
         self.silence.heard(sender);
-        if answer.is_ok() && header.kind() == c8_wire::Kind::Hello {
+        if answer.is_ok() && header.kind() == c8_wire::DatagramKind::Hello {
             Some(sender)
         } else {
             None
