@@ -1,7 +1,6 @@
-use Rattle.std.proofs.Common.{◌≡◌, ap, subst}
 use Rattle.c8_world.specs.World.{start}
 use Rattle.c8_world.specs.Run.{answers_before}
-use Rattle.c8_script.specs.Sim.{IsNewWorld, IsBegun}
+use Rattle.c8_script.specs.Sim.{IsNewWorld}
 use Rattle.c8_script.proofs.TranscriptLemmas.{begun_none, begun_out, begun_all}
 use Rattle.c8_script.proofs.transcript.play.Goals as goal
 
@@ -40,10 +39,8 @@ pub returns : goal.returns
 returns c =
     let made = c.in-Ok.ensures in
     let is_new : IsNewWorld c.args.game.now c.in-Ok.world.table = record { rules_are = made.rules; room_is = made.room; holds = made.holds; disks = made.disks } in
-    let run = c.in-Ok-run.ensures.ran (start c.args.game.now) made.holds in
-    let same : c.in-Ok-run.field-0.answers.items ≡ c.in-Ok-run.answers.items = ap (λ answers. answers.items) c.in-Ok-run.answers-is in (
+    let run = c.in-Ok-run.ensures.ran (start c.args.game.now) made.holds in (
       c.out_of_memory-in-Err-ends.ensures.error,
       rw c.out_of_memory-in-Err-ends.ensures.answers
-          (subst (IsBegun c.args.game.now c.args.events.now) same
-          (begun_all c.args.game.now c.in-Ok.world.table c.run.new.self.table c.args.events.now c.in-Ok-run.field-0.answers.items is_new run c.in-Ok-run.ensures.turns)),
+          (begun_all c.args.game.now c.in-Ok.world.table c.run.new.self.table c.args.events.now c.in-Ok-run.field-0.answers.items is_new run c.in-Ok-run.ensures.turns),
     )
