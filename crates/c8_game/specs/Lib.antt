@@ -7,5 +7,6 @@ pub mod Faults
 pub mod FaultLaws
 pub mod GameFaults
 pub mod Lines
+pub mod LineLaws
 pub mod Places
 pub mod Draft
