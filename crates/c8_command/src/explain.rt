@@ -1,5 +1,6 @@
 //! Where a fault is, and the second line of a refusal, which explains it.
 
+use crate::error::TextsError;
 use std::fmt::Display;
 use std::io;
 use std::io::Write;
@@ -46,6 +47,16 @@ impl<'a> Site<'a> {
                 write!(out, "{file}, line {number}: {sentence}: ")?;
                 write_line(bytes, out)
             }
+        }
+    }
+}
+
+impl TextsError {
+    /// Which of the two files of a command is at fault.
+    pub fn site<'a>(self, first: &'a str, second: &'a str) -> Site<'a> {
+        match self {
+            TextsError::FirstFailed | TextsError::FirstMemory => Site::File(first),
+            TextsError::SecondFailed | TextsError::SecondMemory => Site::File(second),
         }
     }
 }
