@@ -42,6 +42,18 @@ pub struct Unprepared {
     pub input: Vec<u8>,
 }
 
+impl Unprepared {
+    /// No line of the key sets is at fault.
+    fn new(alloc: Global, error: PeerError) -> Self
+        ensures { result.error ≡ error }
+    {
+        Unprepared {
+            error,
+            input: Vec::new(alloc),
+        }
+    }
+}
+
 /// What a match takes: the game that a text spells, where the players are, and the key sets of all
 /// that a reader has. Faults are found in this order: the game, how many remotes there are, the
 /// addresses, the reader, its key sets.
@@ -62,11 +74,11 @@ pub fn prepare<I: Read + Drop>(
 {
     let game = match Game::read(alloc, text) {
         Ok(game) => game,
-        Err(error) => return Err(unprepared(alloc, PeerError::Game(error))),
+        Err(error) => return Err(Unprepared::new(alloc, PeerError::Game(error))),
     };
     let addresses = match Addresses::read(game.players(), me, local, remotes) {
         Ok(addresses) => addresses,
-        Err(error) => return Err(unprepared(alloc, PeerError::Socket(error))),
+        Err(error) => return Err(Unprepared::new(alloc, PeerError::Socket(error))),
     };
     match keys_in(alloc, input) {
         Ok(keys) => Ok(Prepared {
@@ -75,16 +87,6 @@ pub fn prepare<I: Read + Drop>(
             keys,
         }),
         Err(error) => Err(error),
-    }
-}
-
-/// Why a match cannot begin, where no line of the key sets is at fault.
-fn unprepared(alloc: Global, error: PeerError) -> Unprepared
-    ensures { result.error ≡ error }
-{
-    Unprepared {
-        error,
-        input: Vec::new(alloc),
     }
 }
 
@@ -102,8 +104,8 @@ fn keys_in<I: Read + Drop>(alloc: Global, input: I) -> Result<Vec<Keys>, Unprepa
                 input: text,
             }),
         },
-        Err(TextError::Failed) => Err(unprepared(alloc, PeerError::Disk(DiskError::Failed))),
-        Err(TextError::Memory) => Err(unprepared(alloc, PeerError::Keys(KeysError::Memory))),
+        Err(TextError::Failed) => Err(Unprepared::new(alloc, PeerError::Disk(DiskError::Failed))),
+        Err(TextError::Memory) => Err(Unprepared::new(alloc, PeerError::Keys(KeysError::Memory))),
     }
 }
 
