@@ -2,7 +2,10 @@
 
 use crate::help::{ENDING, SIM_ENDING};
 use c8_command::Status;
-use c8_front::{run_command, show_command, status_at, tell, with_place, word_of, words_in};
+use c8_front::{
+    is_explained, run_command, show_command, status_at, tell, with_explain, with_place, word_of,
+    words_in,
+};
 use c8_keys::run_files;
 use c8_net::{peer_command, peer_given};
 use c8_script::sim_files;
@@ -78,7 +81,7 @@ fn sim_command<'a>(alloc: Global) -> Result<Command<'a>, AllocError> {
         .after_help(SIM_ENDING);
     let command = with_place(alloc, command, "GAME", "The path of the game's text")?;
     let script = "The path of the script: one event a line";
-    with_place(alloc, command, "SCRIPT", script)
+    with_explain(alloc, with_place(alloc, command, "SCRIPT", script)?)
 }
 
 /// Does what a command line without a mistake asks for.
@@ -96,14 +99,17 @@ where
     match matches.subcommand() {
         Some(("run", given)) => {
             let (game, keys) = (word_of(given, "GAME"), word_of(given, "KEYS"));
-            run_files(rt, game, keys, out, refused)
+            run_files(rt, game, keys, is_explained(given), out, refused)
         }
         Some(("peer", given)) => peer_given(rt, given, input, out, refused),
         Some(("sim", given)) => {
             let (game, script) = (word_of(given, "GAME"), word_of(given, "SCRIPT"));
-            sim_files(rt, game, script, out, refused)
+            sim_files(rt, game, script, is_explained(given), out, refused)
         }
-        Some(("show", given)) => show(rt.alloc(), word_of(given, "HEX"), out, refused),
+        Some(("show", given)) => {
+            let word = word_of(given, "HEX");
+            show(rt.alloc(), word, is_explained(given), out, refused)
+        }
         _ => Ok(Status::CommandLine),
     }
 }

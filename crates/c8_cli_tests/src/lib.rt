@@ -13,6 +13,8 @@ mod arguments;
 #[cfg(test)]
 mod events;
 #[cfg(test)]
+mod explain;
+#[cfg(test)]
 mod refusals;
 #[cfg(test)]
 mod sentences;

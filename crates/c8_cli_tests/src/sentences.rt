@@ -68,7 +68,8 @@ fn each_error_has_its_number_name_and_sentence(rt: HostRuntime) -> Result<(), Fa
 fn tell_texts(out: &mut Vec<u8>) -> io::Result<()> {
     writeln!(out, "{}", TextError::Failed)?;
     writeln!(out, "{}", TextError::Memory)?;
-    writeln!(out, "{}", TextsError::Failed)?;
+    writeln!(out, "{}", TextsError::FirstFailed)?;
+    writeln!(out, "{}", TextsError::SecondFailed)?;
     writeln!(out, "{}", TextsError::FirstMemory)?;
     writeln!(out, "{}", TextsError::SecondMemory)
 }
@@ -94,6 +95,7 @@ fn tell_peer(out: &mut Vec<u8>) -> io::Result<()> {
 
 const UNNUMBERED: &str = "a file that cannot be read, or has more than 16777216 bytes
 out of memory
+a file that cannot be read, or has more than 16777216 bytes
 a file that cannot be read, or has more than 16777216 bytes
 out of memory for the first text
 out of memory for the second text

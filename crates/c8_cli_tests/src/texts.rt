@@ -44,14 +44,14 @@ struct Row {
 #[rattlefmt::skip]
 const ROWS: [Row; 9] = [
     Row { first: Ok(1), second: Ok(2), both: Ok((1, 2)) },
-    Row { first: Ok(1), second: Err(TextError::Failed), both: Err(TextsError::Failed) },
+    Row { first: Ok(1), second: Err(TextError::Failed), both: Err(TextsError::SecondFailed) },
     Row { first: Ok(1), second: Err(TextError::Memory), both: Err(TextsError::SecondMemory) },
-    Row { first: Err(TextError::Failed), second: Ok(2), both: Err(TextsError::Failed) },
+    Row { first: Err(TextError::Failed), second: Ok(2), both: Err(TextsError::FirstFailed) },
     Row { first: Err(TextError::Memory), second: Ok(2), both: Err(TextsError::FirstMemory) },
-    Row { first: Err(TextError::Memory), second: Err(TextError::Failed), both: Err(TextsError::Failed) },
-    Row { first: Err(TextError::Failed), second: Err(TextError::Memory), both: Err(TextsError::Failed) },
+    Row { first: Err(TextError::Memory), second: Err(TextError::Failed), both: Err(TextsError::SecondFailed) },
+    Row { first: Err(TextError::Failed), second: Err(TextError::Memory), both: Err(TextsError::FirstFailed) },
     Row { first: Err(TextError::Memory), second: Err(TextError::Memory), both: Err(TextsError::FirstMemory) },
-    Row { first: Err(TextError::Failed), second: Err(TextError::Failed), both: Err(TextsError::Failed) },
+    Row { first: Err(TextError::Failed), second: Err(TextError::Failed), both: Err(TextsError::FirstFailed) },
 ];
 
 fn rows() -> &'static [Row] {

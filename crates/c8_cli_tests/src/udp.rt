@@ -111,6 +111,7 @@ fn is_socket_fault(rt: &HostRuntime, local: &str, remote: &str) -> Result<bool, 
         turns: 3,
         patience: None,
         progress: false,
+        explain: false,
     };
     let (mut printed, mut refused) = (Vec::new(rt.alloc()), Vec::new(rt.alloc()));
     let status = peer(rt, &asked, b"0000".as_slice(), &mut printed, &mut refused)?;

@@ -1,4 +1,5 @@
 //! Writers that fail, and what the commands make of them.
+use c8_command::Text;
 use c8_keys::run;
 use c8_script::sim;
 use c8_show::show;
@@ -68,13 +69,16 @@ struct Given {
     calls: u32,
 }
 
-/// A game and no keys; a game and a script; and a word of each kind, and one of each refusal.
+/// A game and no keys; a game and a script; a line that each refuses; and a word of each kind, and one
+/// of each refusal.
 #[rattlefmt::skip]
-const COMMANDS: [Given; 12] = [
+const COMMANDS: [Given; 14] = [
     Given { command: "run", first: GAME, second: "", calls: 200 },
     Given { command: "run", first: "", second: "", calls: 20 },
+    Given { command: "run", first: GAME, second: "0000\n", calls: 60 },
     Given { command: "sim", first: GAME, second: "open 1\ntick 1 0000\n", calls: 80 },
     Given { command: "sim", first: "", second: "", calls: 20 },
+    Given { command: "sim", first: GAME, second: "open 5\n", calls: 60 },
     Given { command: "show", first: "4338010301020304050607080102001800000001000000010000000000000000a1a2a3a4a5a6a7a80000000000010020", second: "", calls: 60 },
     Given { command: "show", first: "433801050000cafe0000f00d040100100000000d0000000e020000000bb8000000640002000aff00", second: "", calls: 60 },
     Given { command: "show", first: "433801060000000000000c0d0103000e0000000f00000010040000001388000007d000010e0f", second: "", calls: 60 },
@@ -89,13 +93,20 @@ fn commands() -> &'static [Given] {
     &COMMANDS
 }
 
-/// Whether the command ends well.
+/// A text of no file.
+fn text<'a>(text: &'a str) -> Text<'a> {
+    let bytes = text.as_bytes();
+    Text { file: "a", bytes }
+}
+
+/// Whether the command ends well, where a refusal is to be explained.
 fn ends_well(alloc: Global, given: &Given, to: &mut Writers) -> bool {
-    let (first, second) = (given.first.as_bytes(), given.second.as_bytes());
+    let first = text(given.first);
+    let second = text(given.second);
     let ended = match given.command {
-        "run" => run(alloc, first, second, &mut to.out, &mut to.refused),
-        "sim" => sim(alloc, first, second, &mut to.out, &mut to.refused),
-        _ => show(alloc, given.first, &mut to.out, &mut to.refused),
+        "run" => run(alloc, first, second, true, &mut to.out, &mut to.refused),
+        "sim" => sim(alloc, first, second, true, &mut to.out, &mut to.refused),
+        _ => show(alloc, given.first, true, &mut to.out, &mut to.refused),
     };
     ended.is_ok()
 }

@@ -9,9 +9,9 @@ use Rattle.c8_command.specs.declared.error.TextsError.TheVariants as texts
 -- first before the second
 abbrev pub error_of_texts : Option TextError → Option TextError → Option TextsError
 error_of_texts None None = None
-error_of_texts None (Some Failed) = Some texts.Failed
+error_of_texts None (Some Failed) = Some texts.SecondFailed
 error_of_texts None (Some Memory) = Some texts.SecondMemory
-error_of_texts (Some Failed) second = Some texts.Failed
+error_of_texts (Some Failed) second = Some texts.FirstFailed
 error_of_texts (Some Memory) None = Some texts.FirstMemory
-error_of_texts (Some Memory) (Some Failed) = Some texts.Failed
+error_of_texts (Some Memory) (Some Failed) = Some texts.SecondFailed
 error_of_texts (Some Memory) (Some Memory) = Some texts.FirstMemory

@@ -13,8 +13,12 @@ pub enum TextError {
 /// Why the two texts of a command were not both read.
 #[derive(Clone, Copy, Debug, PartialEq, Eq, Error)]
 pub enum TextsError {
+    /// Of the first text.
     #[error("a file that cannot be read, or has more than 16777216 bytes")]
-    Failed,
+    FirstFailed,
+    /// Of the second text.
+    #[error("a file that cannot be read, or has more than 16777216 bytes")]
+    SecondFailed,
     #[error("out of memory for the first text")]
     FirstMemory,
     #[error("out of memory for the second text")]

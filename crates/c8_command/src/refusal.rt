@@ -3,7 +3,9 @@
 ghost use Rattle.std.specs.Prelude.{◌≡◌, IfOk};
 ghost use Rattle.c8_command.specs.Status.{status_of};
 
+use crate::explain::Site;
 use crate::status::Status;
+use std::fmt::Display;
 use std::io;
 use std::io::Write;
 
@@ -87,5 +89,22 @@ impl Refusal {
         let (part, number, name) = (self.part.name(), self.number, self.name);
         writeln!(out, "refused: {part} {number} {name}")?;
         Ok(self.status())
+    }
+
+    /// The same; and where it is to be explained, by a site and by the sentence of its error, a second
+    /// line does that.
+    pub fn tell_at<W: Write, D: Display>(
+        self,
+        site: Option<Site<'_>>,
+        sentence: &D,
+        out: &mut W,
+    ) -> io::Result<Status>
+        ensures { IfOk result (λ status. status ≡ status_of self.part) }
+    {
+        let status = self.tell(out)?;
+        if let Some(site) = site {
+            site.explain(sentence, out)?;
+        }
+        Ok(status)
     }
 }

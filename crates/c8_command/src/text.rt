@@ -13,6 +13,13 @@ use std::rt::Files;
 /// The most bytes that a text may have.
 pub const LONGEST_TEXT: u64 = 16_777_216;
 
+/// A text, and what the file that it is from is called.
+#[derive(Clone, Copy, Debug, PartialEq, Eq)]
+pub struct Text<'a> {
+    pub file: &'a str,
+    pub bytes: &'a [u8],
+}
+
 /// The bytes of the two files of a command. Both are read, whatever the first one says.
 pub fn read_both<R: Files + AllocGlobal>(
     rt: &R,
@@ -36,7 +43,8 @@ pub fn both<T: Drop>(
 {
     match (first, second) {
         (Ok(first), Ok(second)) => Ok((first, second)),
-        (Err(TextError::Failed), _) | (_, Err(TextError::Failed)) => Err(TextsError::Failed),
+        (Err(TextError::Failed), _) => Err(TextsError::FirstFailed),
+        (_, Err(TextError::Failed)) => Err(TextsError::SecondFailed),
         (Err(TextError::Memory), _) => Err(TextsError::FirstMemory),
         (_, Err(TextError::Memory)) => Err(TextsError::SecondMemory),
     }

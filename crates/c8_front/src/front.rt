@@ -9,7 +9,7 @@ ghost use Rattle.c8_command.specs.declared.status.Status.TheVariants as statuses
 
 use c8_command::{Refusal, Status};
 use clap::error::ErrorKind;
-use clap::{Arg, ArgMatches, Command};
+use clap::{Arg, ArgAction, ArgMatches, Command};
 use std::alloc::{AllocError, Global};
 use std::env::Args;
 use std::io;
@@ -54,6 +54,20 @@ pub fn with_place<'a>(
     help: &'a str,
 ) -> Result<Command<'a>, AllocError> {
     command.arg(Arg::new(alloc, name).help(help).required(true))
+}
+
+/// A command with the option `--explain`.
+pub fn with_explain<'a>(alloc: Global, command: Command<'a>) -> Result<Command<'a>, AllocError> {
+    let explain = Arg::new(alloc, "explain")
+        .long("explain")
+        .help("Says in a line after a refusal what is wrong, and where")
+        .action(ArgAction::SetTrue);
+    command.arg(explain)
+}
+
+/// Whether a command was given `--explain`.
+pub fn is_explained(given: &ArgMatches<'_>) -> bool {
+    given.get_flag("explain")
 }
 
 /// The command line of a program that has one command.

@@ -7,4 +7,6 @@ mod front;
 mod help;
 
 pub use commands::{run_command, show_command};
-pub use front::{line_of, status_at, tell, with_place, word_of, words_in};
+pub use front::{
+    is_explained, line_of, status_at, tell, with_explain, with_place, word_of, words_in,
+};

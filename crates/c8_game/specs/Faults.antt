@@ -16,3 +16,11 @@ pub record IsFirstFault {E : Type 0} (judge : List (List ℕ) → List ℕ → O
   pub place : ℕ
   pub here : fault_at judge text_lines place ≡ Some fault
   pub least : (earlier : ℕ) → earlier < place → fault_at judge text_lines earlier ≡ None
+
+-- the first fault is this one, and stands at this place
+abbrev pub IsFirstFaultAt : {E : Type 0} → (List (List ℕ) → List ℕ → Option E) → List (List ℕ) → E → ℕ → Type 0
+IsFirstFaultAt judge text_lines fault place = (first : IsFirstFault judge text_lines fault) × (first.place ≡ place)
+
+-- some line has a fault, and the first that has one stands at this place
+abbrev pub IsFirstPlace : {E : Type 0} → (List (List ℕ) → List ℕ → Option E) → List (List ℕ) → ℕ → Type 0
+IsFirstPlace {E} judge text_lines place = (fault : E) × IsFirstFaultAt judge text_lines fault place

@@ -1,3 +1,4 @@
 pub mod Draft
 pub mod FaultLaws
+pub mod LineLaws
 pub mod Places

@@ -1,8 +1,11 @@
 //! A game: the program that is played, and the numbers that all its players agree on.
-ghost use Rattle.std.specs.Prelude.{◌≡◌, ◌<◌, ◌≤◌, ◌-◌, ◌++◌, ◌⊎◌, IfOk, IfErr, Some, length, slice_get};
+ghost use Rattle.std.specs.Prelude.{◌≡◌, ◌<◌, ◌≤◌, ◌-◌, ◌++◌, ◌⊎◌, IfOk, IfErr, MatchOption, MatchResult, Some, length, slice_get};
+ghost use Rattle.std.specs.Str.Lines.{lines};
 ghost use Rattle.sha2.specs.Sha256.{sha256};
 ghost use Rattle.c8_game.specs.GameText.{Spells};
-ghost use Rattle.c8_game.specs.GameFaults.{IsRefused};
+ghost use Rattle.c8_game.specs.checked.Draft.{IsDraftOf};
+ghost use Rattle.c8_game.specs.Faults.{AreFaultless, IsFirstFaultAt, IsFirstPlace};
+ghost use Rattle.c8_game.specs.GameFaults.{IsRefused, line_fault};
 ghost use Rattle.c8_game.specs.declared.error.GameError.TheVariants.{Memory};
 ghost use Rattle.c8_game.specs.Rules.{AreInRange, joined, limit_of, number_bytes, id_of, session_of};
 
@@ -12,7 +15,7 @@ use crate::row::{Keys, Player, Row};
 use crate::text::draft::Draft;
 use crate::text::lines::Lines;
 use sha2::{Digest, Sha256};
-use std::alloc::Global;
+use std::alloc::{AllocError, Global};
 use std::fmt;
 use std::marker::Model;
 
@@ -87,11 +90,26 @@ impl Game {
         ensures ranges { IfOk result AreInRange }
         ensures refused { IfErr result (λ e. (e ≡ Memory) ⊎ IsRefused text.now e) }
     {
-        let mut draft = Draft::new(alloc);
-        for line in Lines::new(text) {
-            draft.add(alloc, line)?;
+        match drafted(alloc, text) {
+            Ok(draft) => draft.finish(),
+            Err((error, _)) => Err(error),
         }
-        draft.finish()
+    }
+
+    /// The place of the first line that has a fault, 0 for the text's first line. None where no line
+    /// has one: what `read` refuses then shows after the last line. The error is want of memory.
+    pub fn faulty_line(alloc: Global, text: &[u8]) -> Result<Option<usize>, AllocError>
+        ensures { IfOk result (λ found. MatchOption found
+            (AreFaultless line_fault (lines text.now))
+            (IsFirstPlace line_fault (lines text.now))) }
+    {
+        match drafted(alloc, text) {
+            Ok(_) => Ok(None),
+            Err((error, place)) => match error {
+                GameError::Memory => Err(AllocError),
+                _ => Ok(Some(place)),
+            },
+        }
     }
 
     /// Tells a caller's proof that the rules of every game are in range; at run time it does
@@ -226,6 +244,22 @@ impl Game {
         let [a, b, c, d, e, f, g, h, ..] = digest_of_both(&self.id(), &room.to_be_bytes());
         u64::from_be_bytes([a, b, c, d, e, f, g, h])
     }
+}
+
+/// What all lines of a text say; or the first fault of a line, and its place.
+fn drafted(alloc: Global, text: &[u8]) -> Result<Draft, (GameError, usize)>
+    ensures { MatchResult result (IsDraftOf text.now)
+        (λ e. (e.0 ≡ Memory) ⊎ IsFirstFaultAt line_fault (lines text.now) e.0 e.1) }
+{
+    let mut draft = Draft::new(alloc);
+    let mut place = 0;
+    for line in Lines::new(text) {
+        if let Err(error) = draft.add(alloc, line) {
+            return Err((error, place));
+        }
+        place += 1;
+    }
+    Ok(draft)
 }
 
 /// The digest of two pieces taken as one message.

@@ -1,5 +1,6 @@
 -- One place of a line more, and the first fault of lines.
 use Rattle.std.proofs.Common.{◌≡◌, ℕ, zero, suc, ◌+◌, ◌-◌, ◌*◌, ◌≤◌, ◌<◌, Bool, true, false, ◌&&◌, nat_eq, Option, None, Some, MatchOption, List, [], ◌∷◌, ◌++◌, length, map, replicate, slice_set, refl, ap, sym, ◌∙◌, arith, inl, inr}
+use Rattle.std.specs.Prelude.{is_some}
 use Rattle.std.specs.List.{list_all, range_with_len}
 use Rattle.std.proofs.lemmas.Bool.{cases_lt, le-leb, lt-leb}
 use Rattle.std.proofs.lemmas.List.{append_assoc}
@@ -7,8 +8,8 @@ use Rattle.std.proofs.lemmas.List.Folds.{list_all-append}
 use Rattle.std.proofs.lemmas.List.FromFn.{map-range_with_len_more, length-map-range_with_len}
 use Rattle.std.proofs.Math.Seq.{set-append_seam}
 use Rattle.std.specs.Str.Lines.{lines}
-use Rattle.c8_game.specs.Faults.{AreFaultless}
-use Rattle.c8_game.specs.checked.FaultLaws.{first_found}
+use Rattle.c8_game.specs.Faults.{AreFaultless, IsFirstPlace}
+use Rattle.c8_game.specs.checked.FaultLaws.{first_found, first_placed}
 use Rattle.c8_game.specs.Rules.{Rules}
 use Rattle.c8_game.specs.declared.row.Keys.{Keys}
 use Rattle.c8_game.specs.declared.row.Row.{Row}
@@ -69,7 +70,29 @@ first_bad rules text before line after cut faultless left bad =
     let none : key_line_fault rules before line ≡ Some Line = rw (lt-leb rules.frames (length before) left, bad) refl in
     rw cut (first_found (key_line_fault rules) before line after Line faultless none)
 
+-- the same, with the place of the line
+pub long_here : (rules : Rules) (text : List ℕ) (before : List (List ℕ)) (line : List ℕ) (after : List (List ℕ)) (place : ℕ) → lines text ≡ before ++ line ∷ after → place ≡ length before
+    → AreFaultless (key_line_fault rules) before → rules.frames ≤ length before → IsFirstPlace (key_line_fault rules) (lines text) place
+long_here rules text before line after place cut here faultless past =
+    let long : key_line_fault rules before line ≡ Some Long = rw (le-leb rules.frames (length before) past) refl in
+    rw (cut, here) (Long, first_placed (key_line_fault rules) before line after Long faultless long)
+
+pub bad_here : (rules : Rules) (text : List ℕ) (before : List (List ℕ)) (line : List ℕ) (after : List (List ℕ)) (place : ℕ) → lines text ≡ before ++ line ∷ after → place ≡ length before
+    → AreFaultless (key_line_fault rules) before → length before < rules.frames → is_key_line rules.players line ≡ false → IsFirstPlace (key_line_fault rules) (lines text) place
+bad_here rules text before line after place cut here faultless left bad =
+    let none : key_line_fault rules before line ≡ Some Line = rw (lt-leb rules.frames (length before) left, bad) refl in
+    rw (cut, here) (Line, first_placed (key_line_fault rules) before line after Line faultless none)
+
 -- what is not there is not spelt
 pub unspelt : (found : Option Row) (P : Type 0) (Q : Row → Type 0) → ((row : Row) → found ≡ Some row → ⊥) → MatchOption found P Q → P
 unspelt None P Q nothing why = why
 unspelt (Some row) P Q nothing why = absurd (nothing row refl)
+
+-- what is known of what is there, and where nothing is
+pub found_some : {X : Type 0} (found : Option X) (P : Type 0) (Q : X → Type 0) (R : Type 0) → is_some found ≡ true → MatchOption found P Q → ((x : X) → Q x → R) → R
+found_some None P Q R some what then = absurd (cc)
+found_some (Some x) P Q R some what then = then x what
+
+pub found_none : {X : Type 0} (found : Option X) (P : Type 0) (Q : X → Type 0) → is_some found ≡ false → MatchOption found P Q → P
+found_none None P Q none what = what
+found_none (Some x) P Q none what = absurd (cc)

@@ -1,5 +1,5 @@
 -- What one player holds down: a text of one key set a line.
-use Rattle.std.specs.Prelude.{◌≡◌, ℕ, true, false, List, map}
+use Rattle.std.specs.Prelude.{◌≡◌, ℕ, true, false, List, map, Option, Some, None, if◌then◌else◌}
 use Rattle.std.specs.List.{list_all}
 use Rattle.std.specs.Str.Lines.{lines}
 use Rattle.c8_game.specs.KeysText.{is_keys_text, keys_number}
@@ -21,3 +21,7 @@ abbrev pub IsFaultOfSets : List ℕ → KeysError → Type 0
 IsFaultOfSets text Line = list_all is_keys_text (lines text) ≡ false
 IsFaultOfSets text Memory = Unit {0}
 IsFaultOfSets text Long = ⊥
+
+-- the fault of a line, whatever stands before it
+abbrev pub set_fault : List (List ℕ) → List ℕ → Option KeysError
+set_fault before line = if is_keys_text line then None else Some Line

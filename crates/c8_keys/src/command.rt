@@ -8,9 +8,10 @@ ghost use Rattle.c8_keys.specs.declared.error.RunError.{RunError};
 ghost use Rattle.c8_keys.specs.declared.lines.Played.{Played};
 
 use crate::error::{KeysError, RunError};
+use crate::explain::site_of;
 use crate::lines::{Played, play};
 use crate::report::write_report;
-use c8_command::{Refusal, Status, TextsError, read_both};
+use c8_command::{Refusal, Site, Status, Text, TextsError, read_both};
 use c8_game::{Game, GameError};
 use std::alloc::Global;
 use std::io;
@@ -24,6 +25,7 @@ pub fn run_files<R, W: Write, E: Write>(
     rt: &R,
     game: &str,
     keys: &str,
+    explain: bool,
     out: &mut W,
     refused: &mut E,
 ) -> io::Result<Status>
@@ -31,34 +33,50 @@ where
     R: Files + AllocGlobal,
 {
     match read_both(rt, game, keys) {
-        Ok((game, keys)) => run(rt.alloc(), &game, &keys, out, refused),
-        Err(error) => unread(error).tell(refused),
+        Ok((text, lines)) => {
+            let (file, bytes) = (game, text.as_slice());
+            let game = Text { file, bytes };
+            let (file, bytes) = (keys, lines.as_slice());
+            let keys = Text { file, bytes };
+            run(rt.alloc(), game, keys, explain, out, refused)
+        }
+        Err(error) => {
+            let site = explain.then_some(error.site(game, keys));
+            unread(error).tell_at(site, &error, refused)
+        }
     }
 }
 
 /// Why the texts of two files were not read.
 fn unread(error: TextsError) -> Refusal {
     match error {
-        TextsError::Failed => Refusal::DISK,
+        TextsError::FirstFailed | TextsError::SecondFailed => Refusal::DISK,
         TextsError::FirstMemory => RunError::Game(GameError::Memory).into(),
         TextsError::SecondMemory => RunError::Keys(KeysError::Memory).into(),
     }
 }
 
 /// Plays the game that `game` spells by the key lines of `keys`, and writes the report of its
-/// machine to `out`; or writes the line of a refusal to `refused`, and nothing to `out`. The error
-/// is that of a writer.
+/// machine to `out`; or writes the line of a refusal to `refused`, and nothing to `out`. Where
+/// `explain` is true a second line says where the fault is. The error is that of a writer.
 pub fn run<W: Write, E: Write>(
     alloc: Global,
-    game: &[u8],
-    keys: &[u8],
+    game: Text<'_>,
+    keys: Text<'_>,
+    explain: bool,
     out: &mut W,
     refused: &mut E,
 ) -> io::Result<Status>
     ensures { IfOk result (λ status. (outcome : Result Played RunError)
-        × IsOutcomeOfRun game.now keys.now outcome × (status ≡ status_of_outcome run_part outcome)) }
+        × IsOutcomeOfRun game.entry.bytes.now keys.entry.bytes.now outcome
+        × (status ≡ status_of_outcome run_part outcome)) }
 {
-    tell(played_from(Game::read(alloc, game), keys), out, refused)
+    let outcome = played_from(Game::read(alloc, game.bytes), keys.bytes);
+    let site = match outcome {
+        Err(error) if explain => Some(site_of(alloc, game, keys, error)),
+        _ => None,
+    };
+    tell(outcome, site, out, refused)
 }
 
 /// What is played of a game by the key lines of `keys`, where the game was read; else why it was
@@ -71,9 +89,11 @@ fn played_from(game: Result<Game, GameError>, keys: &[u8]) -> Result<Played, Run
     Ok(played)
 }
 
-/// Writes the report of what was played to `out`, or the line of the refusal to `refused`.
+/// Writes the report of what was played to `out`; or the line of the refusal to `refused`, and the
+/// one that explains it by its site.
 fn tell<W: Write, E: Write>(
     outcome: Result<Played, RunError>,
+    site: Option<Site<'_>>,
     out: &mut W,
     refused: &mut E,
 ) -> io::Result<Status>
@@ -84,6 +104,6 @@ fn tell<W: Write, E: Write>(
             write_report(out, frames, &machine)?;
             Ok(Status::Done)
         }
-        Err(error) => Refusal::from(error).tell(refused),
+        Err(error) => Refusal::from(error).tell_at(site, &error, refused),
     }
 }

@@ -3,17 +3,20 @@
 //! [`play`] plays a game by key lines, which have a key set for each player and stand for one frame
 //! each; [`key_sets`] reads what one player holds down, a key set a line. [`run`] is the command
 //! `run`: it plays the game of a text alone, and writes the report of its machine
-//! ([`write_report`]); [`run_files`] takes both texts from files.
+//! ([`write_report`]); [`run_files`] takes both texts from files. [`faulty_key_line`] and
+//! [`faulty_key_set`] say which line is refused, [`game_site`] and [`key_sets_site`] where that is.
 #![tactic(auto)]
 
 mod command;
 mod error;
+mod explain;
 mod lines;
 mod report;
 mod sets;
 
 pub use command::{run, run_files};
 pub use error::{KeysError, RunError};
-pub use lines::{Played, play};
+pub use explain::{game_site, key_sets_site};
+pub use lines::{Played, faulty_key_line, play};
 pub use report::write_report;
-pub use sets::key_sets;
+pub use sets::{faulty_key_set, key_sets};

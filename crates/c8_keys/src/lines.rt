@@ -1,7 +1,9 @@
 //! Key lines: what the players hold down, one line a frame.
 
 ghost use Rattle.std.specs.Prelude.{◌≡◌, ◌≤◌, ◌+◌, ◌*◌, true, false, Some, MatchOption, MatchResult, length};
-ghost use Rattle.c8_keys.specs.KeyLines.{is_key_line, are_keys_at, keys_at, row_of, IsFaultOf, IsRunOf};
+ghost use Rattle.std.specs.Str.Lines.{lines};
+ghost use Rattle.c8_game.specs.Faults.{AreFaultless, IsFirstPlace};
+ghost use Rattle.c8_keys.specs.KeyLines.{is_key_line, are_keys_at, keys_at, row_of, key_line_fault, IsFaultOf, IsRunOf};
 
 use crate::error::KeysError;
 use c8_game::{Game, Keys, Lines, Row};
@@ -35,6 +37,26 @@ pub fn play(game: &Game, keys: &[u8]) -> Result<Played, KeysError>
         played.frames += 1;
     }
     Ok(played)
+}
+
+/// The place of the first line of `keys` that `play` refuses, 0 for the first line of all; none where
+/// it plays them all.
+pub fn faulty_key_line(game: &Game, keys: &[u8]) -> Option<usize>
+    ensures { MatchOption result
+        (AreFaultless (key_line_fault game.now) (lines keys.now))
+        (IsFirstPlace (key_line_fault game.now) (lines keys.now)) }
+{
+    let mut frames = 0;
+    for line in Lines::new(keys) {
+        if frames == game.frames() {
+            return Some(frames as usize);
+        }
+        if row_in(line, game.players()).is_none() {
+            return Some(frames as usize);
+        }
+        frames += 1;
+    }
+    None
 }
 
 /// The row that a key line spells: four digits for each player, and one space between two.

@@ -1,7 +1,9 @@
 //! What one player holds down, one key set a line.
 
-ghost use Rattle.std.specs.Prelude.{MatchResult};
-ghost use Rattle.c8_keys.specs.KeySets.{AreSetsOf, IsFaultOfSets};
+ghost use Rattle.std.specs.Prelude.{MatchOption, MatchResult};
+ghost use Rattle.std.specs.Str.Lines.{lines};
+ghost use Rattle.c8_game.specs.Faults.{AreFaultless, IsFirstPlace};
+ghost use Rattle.c8_keys.specs.KeySets.{AreSetsOf, IsFaultOfSets, set_fault};
 
 use crate::error::KeysError;
 use c8_game::{Keys, Lines};
@@ -21,4 +23,20 @@ pub fn key_sets(alloc: Global, text: &[u8]) -> Result<Vec<Keys>, KeysError>
         };
     }
     Ok(sets)
+}
+
+/// The place of the first line of a text that is not four hexadecimal digits, 0 for the first line of
+/// all; none where each line is.
+pub fn faulty_key_set(text: &[u8]) -> Option<usize>
+    ensures { MatchOption result
+        (AreFaultless set_fault (lines text.now)) (IsFirstPlace set_fault (lines text.now)) }
+{
+    let mut place = 0;
+    for line in Lines::new(text) {
+        if Keys::from_hex(line).is_none() {
+            return Some(place);
+        }
+        place += 1;
+    }
+    None
 }

@@ -41,6 +41,19 @@ impl Addresses {
     }
 }
 
+/// The first of these words that is no address, if one is not.
+pub(crate) fn no_address<'a>(local: &'a str, remotes: &[&'a str]) -> Option<&'a str> {
+    if address(local).is_err() {
+        return Some(local);
+    }
+    for word in remotes {
+        if address(word).is_err() {
+            return Some(*word);
+        }
+    }
+    None
+}
+
 /// The place among all players, from 0, of the one at a place among the others.
 fn place_of(place: usize, me: Player) -> usize
     requires { place < 3 }

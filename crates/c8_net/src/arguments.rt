@@ -1,7 +1,7 @@
 //! What the command `peer` takes, and what it is asked to play by that.
 
 use crate::help::PEER_ENDING;
-use c8_front::{with_place, word_of};
+use c8_front::{is_explained, with_explain, with_place, word_of};
 use c8_game::Player;
 use clap::{Arg, ArgAction, ArgMatches, Command, value_parser};
 use std::alloc::{AllocError, Global};
@@ -24,6 +24,8 @@ pub struct Asked<'m, 'a> {
     pub patience: Option<u64>,
     /// Whether the peer says where it stands.
     pub progress: bool,
+    /// Whether a second line says where the fault of a refusal is.
+    pub explain: bool,
 }
 
 /// What `peer` takes.
@@ -71,7 +73,7 @@ fn with_options<'a>(alloc: Global, command: Command<'a>) -> Result<Command<'a>, 
         .long("progress")
         .help("Says each second, on standard error, how far the game is, and then how it ended")
         .action(ArgAction::SetTrue);
-    command.arg(progress)
+    with_explain(alloc, command.arg(progress)?)
 }
 
 /// An option with a number.
@@ -97,6 +99,7 @@ pub(crate) fn asked_of<'m, 'a>(given: &'m ArgMatches<'a>) -> Option<Asked<'m, 'a
         turns: number_of(given, "turns").unwrap_or(0),
         patience: number_of(given, "patience"),
         progress: given.get_flag("progress"),
+        explain: is_explained(given),
     })
 }
 

@@ -4,20 +4,21 @@
 //! given, and the report is written.
 
 ghost use Rattle.std.specs.Prelude.{◌≡◌, IfOk, Result};
-ghost use Rattle.c8_command.specs.Status.{status_of_outcome};
+ghost use Rattle.c8_command.specs.Status.{status_of, status_of_outcome};
 ghost use Rattle.c8_keys.specs.declared.lines.Played.{Played};
 ghost use Rattle.c8_net.specs.Errors.{peer_part};
 ghost use Rattle.c8_net.specs.declared.error.PeerError.{PeerError};
 
 use crate::arguments::{Asked, asked_of};
 use crate::error::PeerError;
-use crate::play::{play_on, prepare};
+use crate::fault::{Fault, INPUT};
+use crate::play::{Prepared, Unprepared, play_on, prepare};
 use c8_command::{Refusal, Status, TextError, read_file};
 use c8_disk::{DiskError, FileDisk, FileError};
-use c8_game::GameError;
 use c8_keys::{Played, write_report};
 use c8_peer::OpenError;
 use clap::ArgMatches;
+use std::alloc::Global;
 use std::fs::File;
 use std::io;
 use std::io::{Read, Write};
@@ -49,8 +50,8 @@ where
 }
 
 /// Plays a game with others: the keys are those of the text in `input`, the confirmed machine's
-/// report goes to `out`; the line of a refusal goes to `refused`, and where the peer stands. The
-/// error is that of a writer.
+/// report goes to `out`; the line of a refusal goes to `refused`, with the one that explains it where
+/// that is asked for, and where the peer stands. The error is that of a writer.
 pub fn peer<R, I, W, E>(
     rt: &R,
     asked: &Asked<'_, '_>,
@@ -71,36 +72,87 @@ where
             write_report(out, frames, &machine)?;
             Ok(Status::Done)
         }
-        Err(error) => Refusal::from(error).tell(refused),
+        Err(fault) => refuse(rt.alloc(), asked, &fault, refused),
+    }
+}
+
+/// Writes the line of a refusal, and where that is asked for the one that explains it.
+fn refuse<E: Write>(
+    alloc: Global,
+    asked: &Asked<'_, '_>,
+    fault: &Fault<'_>,
+    refused: &mut E,
+) -> io::Result<Status>
+    ensures { IfOk result (λ status. status ≡ status_of (peer_part fault.now.error)) }
+{
+    let refusal = Refusal::from(fault.error);
+    if !asked.explain {
+        return refusal.tell(refused);
+    }
+    let site = Some(fault.site(alloc, asked));
+    match fault.unread {
+        Some(error) => refusal.tell_at(site, &error, refused),
+        None => refusal.tell_at(site, &fault.error, refused),
     }
 }
 
 /// The confirmed machine at the end. Faults are found in this order: the game's file, all that `prepare`
 /// judges, the journal and its opening, the socket.
-fn played<R, I, E>(
+fn played<'a, R, I, E>(
     rt: &R,
-    asked: &Asked<'_, '_>,
+    asked: &Asked<'_, 'a>,
     input: I,
     progress: &mut E,
-) -> Result<Played, PeerError>
+) -> Result<Played, Fault<'a>>
 where
     R: Files<File = File> + Net + Clock + AllocGlobal,
     I: Read + Drop,
     E: Write,
 {
-    let text = text_at(rt, asked.game)?;
+    let text = match read_file(rt, asked.game) {
+        Ok(text) => text,
+        Err(error) => return Err(Fault::unread(rt.alloc(), error, asked.game)),
+    };
     let remotes = asked.remotes.unwrap_or(&[]);
-    let it = prepare(rt.alloc(), &text, input, asked.player, asked.local, remotes)?;
+    match prepare(rt.alloc(), &text, input, asked.player, asked.local, remotes) {
+        Ok(it) => played_at(rt, asked, it, progress).map_err(|error| Fault::new(
+            rt.alloc(),
+            error,
+            asked.journal,
+        )),
+        Err(it) => Err(at_start(asked.game, text, it)),
+    }
+}
+
+/// What is played on the journal at the path that is asked for.
+fn played_at<R, E>(
+    rt: &R,
+    asked: &Asked<'_, '_>,
+    it: Prepared,
+    progress: &mut E,
+) -> Result<Played, PeerError>
+where
+    R: Files<File = File> + Net + Clock + AllocGlobal,
+    E: Write,
+{
     let disk = journal_at(rt, asked.journal)?;
     play_on(rt, asked, it, disk, progress)
 }
 
-/// The text of a game's file.
-fn text_at<R: Files + AllocGlobal>(rt: &R, path: &str) -> Result<Vec<u8>, PeerError> {
-    read_file(rt, path).map_err(|error| match error {
-        TextError::Failed => PeerError::Disk(DiskError::Failed),
-        TextError::Memory => PeerError::Game(GameError::Memory),
-    })
+/// Why a match cannot begin that would be of the game of a file, with this text.
+fn at_start<'a>(game: &'a str, text: Vec<u8>, it: Unprepared) -> Fault<'a> {
+    let Unprepared { error, input } = it;
+    let (file, text, unread) = match error {
+        PeerError::Game(_) => (game, text, None),
+        PeerError::Disk(_) => (INPUT, input, Some(TextError::Failed)),
+        _ => (INPUT, input, None),
+    };
+    Fault {
+        error,
+        file,
+        text,
+        unread,
+    }
 }
 
 /// The journal at a path, made empty where there is none.

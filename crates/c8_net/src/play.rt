@@ -35,6 +35,25 @@ pub struct Prepared {
     pub keys: Vec<Keys>,
 }
 
+/// Why a match cannot begin, and what the reader of the key sets had, if one of its lines is at fault.
+#[derive(Drop)]
+pub struct Unprepared {
+    pub error: PeerError,
+    pub input: Vec<u8>,
+}
+
+impl Unprepared {
+    /// No line of the key sets is at fault.
+    fn new(alloc: Global, error: PeerError) -> Self
+        ensures { result.error ≡ error }
+    {
+        Unprepared {
+            error,
+            input: Vec::new(alloc),
+        }
+    }
+}
+
 /// What a match takes: the game that a text spells, where the players are, and the key sets of all
 /// that a reader has. Faults are found in this order: the game, how many remotes there are, the
 /// addresses, the reader, its key sets.
@@ -45,21 +64,21 @@ pub fn prepare<I: Read + Drop>(
     me: Player,
     local: &str,
     remotes: &[&str],
-) -> Result<Prepared, PeerError>
+) -> Result<Prepared, Unprepared>
     ensures game { IfOk result (λ it. Spells text.now it.game) }
     ensures remotes { IfOk result (λ it. length remotes.now + 1 ≡ it.game.players) }
     ensures keys { IfOk result (λ it. IfSome (I.remaining input)
         (λ bytes. AreSetsOf bytes it.keys.items)) }
-    ensures refused { IfErr result
-        (IsNoMatch text.now (I.remaining input) (length remotes.now)) }
+    ensures refused { IfErr result (λ it.
+        IsNoMatch text.now (I.remaining input) (length remotes.now) it.error) }
 {
     let game = match Game::read(alloc, text) {
         Ok(game) => game,
-        Err(error) => return Err(PeerError::Game(error)),
+        Err(error) => return Err(Unprepared::new(alloc, PeerError::Game(error))),
     };
     let addresses = match Addresses::read(game.players(), me, local, remotes) {
         Ok(addresses) => addresses,
-        Err(error) => return Err(PeerError::Socket(error)),
+        Err(error) => return Err(Unprepared::new(alloc, PeerError::Socket(error))),
     };
     match keys_in(alloc, input) {
         Ok(keys) => Ok(Prepared {
@@ -72,15 +91,21 @@ pub fn prepare<I: Read + Drop>(
 }
 
 /// The key sets of a reader's whole text.
-fn keys_in<I: Read + Drop>(alloc: Global, input: I) -> Result<Vec<Keys>, PeerError>
+fn keys_in<I: Read + Drop>(alloc: Global, input: I) -> Result<Vec<Keys>, Unprepared>
     ensures sets { IfOk result (λ sets. IfSome (I.remaining input)
         (λ bytes. AreSetsOf bytes sets.items)) }
-    ensures refused { IfErr result (IsNoKeys (I.remaining input)) }
+    ensures refused { IfErr result (λ it. IsNoKeys (I.remaining input) it.error) }
 {
     match text_of(alloc, input) {
-        Ok(text) => key_sets(alloc, &text).map_err(PeerError::Keys),
-        Err(TextError::Failed) => Err(PeerError::Disk(DiskError::Failed)),
-        Err(TextError::Memory) => Err(PeerError::Keys(KeysError::Memory)),
+        Ok(text) => match key_sets(alloc, &text) {
+            Ok(sets) => Ok(sets),
+            Err(error) => Err(Unprepared {
+                error: PeerError::Keys(error),
+                input: text,
+            }),
+        },
+        Err(TextError::Failed) => Err(Unprepared::new(alloc, PeerError::Disk(DiskError::Failed))),
+        Err(TextError::Memory) => Err(Unprepared::new(alloc, PeerError::Keys(KeysError::Memory))),
     }
 }
 

@@ -3,3 +3,4 @@ pub mod PrintLemmas
 pub mod ScriptLemmas
 pub mod ScriptLines
 pub mod TranscriptLemmas
+pub mod FaultyLines

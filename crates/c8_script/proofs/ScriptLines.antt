@@ -112,10 +112,10 @@ cut_again : (words : List (List ℕ)) (event : Event) → WordsSpell words event
 cut_again [] event spelt = absurd (spelt_by_some event spelt)
 cut_again (word ∷ words) event spelt = let none = words_no_space (word ∷ words) event spelt in split_joined word words none.0 none.1
 
-line_read : (line : List ℕ) (event : Event) → SpellsEvent line event → event_of line ≡ Some event
+pub line_read : (line : List ℕ) (event : Event) → SpellsEvent line event → event_of line ≡ Some event
 line_read line event (words, is, spelt) = ap event_of is ∙ ap event_in (cut_again words event spelt) ∙ words_read words event spelt
 
-line_spelt : (line : List ℕ) (event : Event) → event_of line ≡ Some event → SpellsEvent line event
+pub line_spelt : (line : List ℕ) (event : Event) → event_of line ≡ Some event → SpellsEvent line event
 line_spelt line event is = (slice_split (λ byte. byte == 32) line, sym (join_with_byte-slice_split 32 line), words_spelt (slice_split (λ byte. byte == 32) line) event is)
 
 -- ---- scripts

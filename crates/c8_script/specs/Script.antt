@@ -1,6 +1,6 @@
 -- Scripts: the events that a text of them spells, one a line, or the fault that refuses it.
-use Rattle.std.specs.Prelude.{◌≡◌, ℕ, ◌+◌, ◌<◌, ◌^◌, not, true, List, [], ◌∷◌, codes, filter}
-use Rattle.std.specs.List.{AllZip, Any, join_with_byte}
+use Rattle.std.specs.Prelude.{◌≡◌, ℕ, ◌+◌, ◌<◌, ◌^◌, not, true, false, List, [], ◌∷◌, Some, IfSome, codes, filter}
+use Rattle.std.specs.List.{AllZip, Any, join_with_byte, slice_get}
 use Rattle.std.specs.Str.Lines.{lines}
 use Rattle.c8_game.specs.Fields.{is_decimal, decimal_number}
 use Rattle.c8_game.specs.GameText.{is_skipped}
@@ -74,3 +74,18 @@ SpellsScript text events = AllZip SpellsEvent (event_lines text) events
 abbrev pub IsFaultOfScript : List ℕ → ScriptError → Type 0
 IsFaultOfScript text Line = Any (λ line. (event : Event) → SpellsEvent line event → ⊥) (event_lines text)
 IsFaultOfScript text Memory = Unit {0}
+
+-- a line that a script cannot have: it is not skipped, and spells no event
+abbrev pub IsNoEventLine : List ℕ → Type 0
+IsNoEventLine line = (is_skipped line ≡ false) × ((event : Event) → SpellsEvent line event → ⊥)
+
+-- no line of the text is one
+abbrev pub AreEventLines : List ℕ → Type 0
+AreEventLines text = (place : ℕ) → IfSome (slice_get (lines text) place) (λ line. IsNoEventLine line → ⊥)
+
+-- the first one of the text stands at this place, 0 for the text's first line
+pub record IsFirstNoEvent (text : List ℕ) (place : ℕ) : Type 0 where
+  pub line : List ℕ
+  pub here : slice_get (lines text) place ≡ Some line
+  pub no_event : IsNoEventLine line
+  pub least : (earlier : ℕ) → earlier < place → IfSome (slice_get (lines text) earlier) (λ before. IsNoEventLine before → ⊥)

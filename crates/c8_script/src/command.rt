@@ -5,8 +5,9 @@ ghost use Rattle.c8_script.specs.Sim.{HasEnded};
 
 use crate::answers::{write_answers, write_ends};
 use crate::error::{ScriptError, SimError};
+use crate::explain::site_if;
 use crate::transcript::play_script;
-use c8_command::{Refusal, Status, TextsError, read_both};
+use c8_command::{Refusal, Status, Text, TextsError, read_both};
 use c8_game::GameError;
 use std::alloc::Global;
 use std::io;
@@ -20,6 +21,7 @@ pub fn sim_files<R, W: Write, E: Write>(
     rt: &R,
     game: &str,
     script: &str,
+    explain: bool,
     out: &mut W,
     refused: &mut E,
 ) -> io::Result<Status>
@@ -27,15 +29,24 @@ where
     R: Files + AllocGlobal,
 {
     match read_both(rt, game, script) {
-        Ok((game, script)) => sim(rt.alloc(), &game, &script, out, refused),
-        Err(error) => unread(error).tell(refused),
+        Ok((text, lines)) => {
+            let (file, bytes) = (game, text.as_slice());
+            let game = Text { file, bytes };
+            let (file, bytes) = (script, lines.as_slice());
+            let script = Text { file, bytes };
+            sim(rt.alloc(), game, script, explain, out, refused)
+        }
+        Err(error) => {
+            let site = explain.then_some(error.site(game, script));
+            unread(error).tell_at(site, &error, refused)
+        }
     }
 }
 
 /// Why the texts of two files were not read.
 fn unread(error: TextsError) -> Refusal {
     match error {
-        TextsError::Failed => Refusal::DISK,
+        TextsError::FirstFailed | TextsError::SecondFailed => Refusal::DISK,
         TextsError::FirstMemory => SimError::Game(GameError::Memory).into(),
         TextsError::SecondMemory => SimError::Script(ScriptError::Memory).into(),
     }
@@ -44,18 +55,20 @@ fn unread(error: TextsError) -> Refusal {
 /// Lets happen what `script` says, to the players of the game that `game` spells, from no journal
 /// on. Writes the answer to each event and then how the players stand to `out`; or writes the line
 /// of a refusal to `refused`, and nothing to `out`. Where memory runs out after both texts were
-/// read, the answers so far are written too. The error is that of a writer.
+/// read, the answers so far are written too. Where `explain` is true a second line says where the
+/// fault is. The error is that of a writer.
 pub fn sim<W: Write, E: Write>(
     alloc: Global,
-    game: &[u8],
-    script: &[u8],
+    game: Text<'_>,
+    script: Text<'_>,
+    explain: bool,
     out: &mut W,
     refused: &mut E,
 ) -> io::Result<Status>
     ensures { IfOk result (λ status.
-        HasEnded game.now script.now status (W.contents out.old) (W.contents out.new)) }
+        HasEnded game.entry.bytes.now script.entry.bytes.now status (W.contents out.old) (W.contents out.new)) }
 {
-    match play_script(alloc, game, script) {
+    match play_script(alloc, game.bytes, script.bytes) {
         Ok(transcript) => {
             write_answers(out, &transcript.answers)?;
             write_ends(out, &transcript.ends)?;
@@ -63,7 +76,8 @@ pub fn sim<W: Write, E: Write>(
         }
         Err(unfinished) => {
             write_answers(out, &unfinished.answers)?;
-            Refusal::from(unfinished.error).tell(refused)
+            let site = site_if(explain, alloc, game, script, unfinished.error);
+            Refusal::from(unfinished.error).tell_at(site, &unfinished.error, refused)
         }
     }
 }

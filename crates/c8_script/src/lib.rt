@@ -1,16 +1,17 @@
 //! Scripts of whole matches: what happens to the peers of a world, one event a line
-//! ([`read_script`]), what it comes to ([`play_script`]), and the command `sim`, which writes each
-//! answer.
+//! ([`read_script`], [`faulty_event`]), what it comes to ([`play_script`]), and the command `sim`, which
+//! writes each answer.
 #![tactic(auto)]
 
 mod answers;
 mod command;
 mod error;
+mod explain;
 mod script;
 mod transcript;
 
 pub use answers::{write_answers, write_ends};
 pub use command::{sim, sim_files};
 pub use error::{ScriptError, SimError};
-pub use script::read_script;
+pub use script::{faulty_event, read_script};
 pub use transcript::{CALLS, CAPACITY, ROOM, Transcript, Unfinished, play_script};

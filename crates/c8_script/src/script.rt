@@ -1,10 +1,10 @@
 //! Scripts: what happens to the peers of a world, one event a line.
 
-ghost use Rattle.std.specs.Prelude.{◌≡◌, ◌⊎◌, List, IfOk, MatchResult, Some, None};
+ghost use Rattle.std.specs.Prelude.{◌≡◌, ◌⊎◌, List, IfOk, MatchOption, MatchResult, Some, None};
 ghost use Rattle.c8_game.specs.GameText.{is_skipped};
 ghost use Rattle.c8_world.specs.declared.event.Event.{Event};
-ghost use Rattle.c8_script.specs.Script.{SpellsScript, IsFaultOfScript};
-ghost use Rattle.c8_script.specs.checked.ScriptWords.{event_of};
+ghost use Rattle.c8_script.specs.Script.{SpellsScript, IsFaultOfScript, AreEventLines, IsFirstNoEvent};
+ghost use Rattle.c8_script.specs.checked.ScriptWords.{event_of, is_event_line};
 ghost use Rattle.c8_script.specs.declared.error.ScriptError.TheVariants.{Line, Memory};
 
 mod words;
@@ -13,7 +13,7 @@ use crate::error::ScriptError;
 use crate::script::words::event_in;
 use c8_game::Lines;
 use c8_world::Event;
-use std::alloc::Global;
+use std::alloc::{AllocError, Global};
 
 /// The events that a script spells, one a line. Empty lines and lines that begin with `#` are
 /// skipped. A line that spells no event is `Line`; `Memory` comes only where memory was refused.
@@ -34,6 +34,36 @@ pub fn read_script(alloc: Global, text: &[u8]) -> Result<Vec<Event>, ScriptError
         };
     }
     Ok(events)
+}
+
+/// The place of the first line of a script that is not skipped and spells no event, 0 for the first
+/// line of all; none where there is no such line. The error is want of memory.
+pub fn faulty_event(alloc: Global, text: &[u8]) -> Result<Option<usize>, AllocError>
+    ensures { IfOk result (λ found. MatchOption found
+        (AreEventLines text.now) (IsFirstNoEvent text.now)) }
+{
+    let mut place = 0;
+    for line in Lines::new(text) {
+        if !is_event_line(alloc, line)? {
+            return Ok(Some(place));
+        }
+        place += 1;
+    }
+    Ok(None)
+}
+
+/// Whether a line is skipped or spells an event.
+fn is_event_line(alloc: Global, line: &[u8]) -> Result<bool, AllocError>
+    ensures { IfOk result (λ is. is ≡ is_event_line line.now) }
+{
+    if is_skipped(line) {
+        return Ok(true);
+    }
+    match event_of(alloc, line) {
+        Ok(_) => Ok(true),
+        Err(ScriptError::Line) => Ok(false),
+        Err(ScriptError::Memory) => Err(AllocError),
+    }
 }
 
 /// Whether a line is empty or a comment.

@@ -11,7 +11,7 @@ ghost use Rattle.c8_show.specs.Shown.{IsOutcomeOfShow, IsRefusalOfWord, IsRefusa
 ghost use Rattle.c8_show.specs.declared.error.ShowError.{ShowError};
 
 use crate::error::{HexError, ShowError};
-use c8_command::{Refusal, Status};
+use c8_command::{Refusal, Site, Status};
 use c8_wire::{Datagram, view};
 use hex::FromHexError;
 use std::alloc::Global;
@@ -19,10 +19,12 @@ use std::io;
 use std::io::Write;
 
 /// Writes the fields of the datagram that `word` spells in hexadecimal to `out`; or writes the line
-/// of a refusal to `refused`, and nothing to `out`. The error is that of a writer.
+/// of a refusal to `refused`, and nothing to `out`. Where `explain` is true the sentence of its error
+/// is a second line. The error is that of a writer.
 pub fn show<W: Write, E: Write>(
     alloc: Global,
     word: &str,
+    explain: bool,
     out: &mut W,
     refused: &mut E,
 ) -> io::Result<Status>
@@ -30,8 +32,8 @@ pub fn show<W: Write, E: Write>(
         × IsOutcomeOfShow word.now outcome × (status ≡ status_of_outcome show_part outcome)) }
 {
     match bytes_of(alloc, word) {
-        Ok(bytes) => tell(datagram_in(&bytes), out, refused),
-        Err(error) => tell(Err(ShowError::Hex(error)), out, refused),
+        Ok(bytes) => tell(datagram_in(&bytes), explain, out, refused),
+        Err(error) => tell(Err(ShowError::Hex(error)), explain, out, refused),
     }
 }
 
@@ -58,9 +60,11 @@ fn datagram_in(bytes: &[u8]) -> Result<Datagram<'_>, ShowError>
     }
 }
 
-/// Writes the fields of the datagram to `out`, or the line of the refusal to `refused`.
+/// Writes the fields of the datagram to `out`; or the line of the refusal to `refused`, and one that
+/// explains it.
 fn tell<W: Write, E: Write>(
     outcome: Result<Datagram<'_>, ShowError>,
+    explain: bool,
     out: &mut W,
     refused: &mut E,
 ) -> io::Result<Status>
@@ -71,6 +75,9 @@ fn tell<W: Write, E: Write>(
             writeln!(out, "{datagram}")?;
             Ok(Status::Done)
         }
-        Err(error) => Refusal::from(error).tell(refused),
+        Err(error) => {
+            let site = explain.then_some(Site::Nowhere);
+            Refusal::from(error).tell_at(site, &error, refused)
+        }
     }
 }

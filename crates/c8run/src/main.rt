@@ -3,7 +3,7 @@
 #![tactic(auto)]
 
 use c8_command::Status;
-use c8_front::{line_of, run_command, status_at, tell, word_of, words_in};
+use c8_front::{is_explained, line_of, run_command, status_at, tell, word_of, words_in};
 use c8_keys::run_files;
 use std::io::Write;
 use std::process::ExitCode;
@@ -25,7 +25,7 @@ fn obey<W: Write, E: Write>(rt: &HostRuntime, out: &mut W, refused: &mut E) -> i
         Ok(matches) => match matches.subcommand() {
             Some(("run", given)) => {
                 let (game, keys) = (word_of(given, "GAME"), word_of(given, "KEYS"));
-                run_files(rt, game, keys, out, refused)
+                run_files(rt, game, keys, is_explained(given), out, refused)
             }
             _ => Ok(Status::CommandLine),
         },

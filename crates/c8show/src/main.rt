@@ -3,7 +3,7 @@
 #![tactic(auto)]
 
 use c8_command::Status;
-use c8_front::{line_of, show_command, status_at, tell, word_of, words_in};
+use c8_front::{is_explained, line_of, show_command, status_at, tell, word_of, words_in};
 use c8_show::show;
 use std::io::Write;
 use std::process::ExitCode;
@@ -23,7 +23,10 @@ fn obey<W: Write, E: Write>(rt: &HostRuntime, out: &mut W, refused: &mut E) -> i
     let command = line_of(alloc, show_command(alloc)?)?;
     match command.try_get_matches_from(words.as_slice()) {
         Ok(matches) => match matches.subcommand() {
-            Some(("show", given)) => { show(alloc, word_of(given, "HEX"), out, refused) }
+            Some(("show", given)) => {
+                let word = word_of(given, "HEX");
+                show(alloc, word, is_explained(given), out, refused)
+            }
             _ => Ok(Status::CommandLine),
         },
         Err(error) => tell(&error, out, refused),

@@ -2,12 +2,14 @@
 -- believe it.
 use Rattle.std.specs.Prelude.{◌≡◌, ℕ, List, [], ◌∷◌, ◌++◌, ◌⊎◌, Some, None, slice_index, Result, MatchResult}
 use Rattle.std.specs.List.{AllZip}
+use Rattle.std.specs.Str.Lines.{lines}
 use Rattle.c8_game.specs.declared.error.GameError.{GameError}
 use Rattle.c8_game.specs.declared.error.GameError.TheVariants.{Memory}
 use Rattle.c8_game.specs.declared.text.draft.Draft.{Draft}
 use Rattle.c8_game.specs.declared.text.field.Field.{Field}
 use Rattle.c8_game.specs.declared.text.field.Field.TheVariants.{Players, Ipf, Frames, Delay, Window, Seed, Mask1, Mask2, Mask3, Mask4}
 use Rattle.c8_game.specs.GameText.{Item, Says, numbers_for, code_of}
+use Rattle.c8_game.specs.Faults.{AreFaultless}
 use Rattle.c8_game.specs.GameFaults.{line_fault, end_fault}
 use Rattle.c8_game.specs.checked.Places.{number_at, listed}
 use Rattle.c8_game.specs.Rules.{Rules}
@@ -44,3 +46,10 @@ abbrev pub Finishes : Draft → Result Rules GameError → Type 0
 Finishes draft result =
     (items : List Item) → Holds draft items
     → MatchResult result (λ rules. (end_fault items ≡ None) × AreFirst items rules) (λ e. end_fault items ≡ Some e)
+
+-- no line of the text has a fault, and the draft has what they say
+pub record IsDraftOf (text : List ℕ) (draft : Draft) : Type 0 where
+  pub faultless : AreFaultless line_fault (lines text)
+  pub items : List Item
+  pub says : AllZip Says (lines text) items
+  pub holds : Holds draft items

@@ -5,7 +5,7 @@ use Rattle.std.proofs.lemmas.Bool.{cases_lt}
 use Rattle.std.proofs.lemmas.List.{append-nil, take-append-le}
 use Rattle.std.proofs.lemmas.Option.{slice_get_past}
 use Rattle.std.proofs.Math.Seq.{take-append_seam}
-use Rattle.c8_game.specs.Faults.{fault_at, AreFaultless, IsFirstFault}
+use Rattle.c8_game.specs.Faults.{fault_at, AreFaultless, IsFirstFault, IsFirstFaultAt}
 
 slice_get-left : {X : Type 0} (xs ys : List X) (k : ℕ) → k < length xs → slice_get (xs ++ ys) k ≡ slice_get xs k
 slice_get-left [] ys k within = absurd (omega arith)
@@ -51,6 +51,11 @@ module _ {E : Type 0} (judge : List (List ℕ) → List ℕ → Option E) where
     here = fault_at-seam before line after ∙ bad;
     least = λ earlier within. fault_at-left before (line ∷ after) earlier within ∙ faultless earlier;
   }
+
+  -- its place is the number of the lines before it
+  pub first_placed : (before : List (List ℕ)) (line : List ℕ) (after : List (List ℕ)) (fault : E) → AreFaultless judge before → judge before line ≡ Some fault → IsFirstFaultAt judge (before ++ line ∷ after) fault (length before)
+  unfolding first_found
+  first_placed before line after fault faultless bad = (first_found before line after fault faultless bad, refl)
 
   -- of faultless lines each is one, given those before it
   pub faultless_line : (before : List (List ℕ)) (line : List ℕ) (after : List (List ℕ)) → AreFaultless judge (before ++ line ∷ after) → judge before line ≡ None

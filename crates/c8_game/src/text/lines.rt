@@ -1,7 +1,8 @@
 //! The lines of a text.
 ghost use Rattle.std.specs.Prelude.{◌≡◌, ◌<◌, ◌==◌, ◌∷◌, None, IsSome, IfNone, IfSome, length, position};
 ghost use Rattle.std.specs.Iterator.{YieldsFirstRef, item_count};
-ghost use Rattle.std.specs.List.{before_first, after_first};
+ghost use Rattle.std.specs.List.{before_first, after_first, slice_get};
+ghost use Rattle.std.specs.Option.{option_map};
 ghost use Rattle.std.specs.Str.Lines.{lines, strip_carriage_return};
 
 use std::fmt;
@@ -30,6 +31,13 @@ impl<'a> Lines<'a> {
         ensures { lines_left result ≡ lines text.entry.now }
     {
         Lines { rest: text }
+    }
+
+    /// The line of a text at a place, 0 for its first line; none past the last.
+    pub fn at(text: &'a [u8], place: usize) -> Option<&'a [u8]>
+        ensures { option_map (λ line. line.now) result ≡ slice_get (lines text.entry.now) place }
+    {
+        Lines::new(text).nth(place)
     }
 }
 

@@ -1,11 +1,12 @@
 -- How the code reads the words of a script's line. Only contracts of private functions cite this file: no reader has to
 -- believe it.
-use Rattle.std.specs.Prelude.{ℕ, zero, suc, ◌-◌, ◌^◌, ◌==◌, ◌&&◌, nat_lt, List, [], ◌∷◌, codes, Option, Some, None, option_map, if◌then◌else◌}
+use Rattle.std.specs.Prelude.{ℕ, zero, suc, ◌-◌, ◌^◌, ◌==◌, ◌&&◌, ◌||◌, Bool, is_some, nat_lt, List, [], ◌∷◌, codes, Option, Some, None, option_map, if◌then◌else◌}
 use Rattle.std.proofs.Common.{lit≤}
 use Rattle.std.specs.List.{slice_split}
 use Rattle.std.specs.Option.{option_and_then}
 use Rattle.std.specs.Str.{bytes_eq}
 use Rattle.c8_game.specs.Fields.{is_decimal, decimal_number}
+use Rattle.c8_game.specs.GameText.{is_skipped}
 use Rattle.c8_game.specs.KeysText.{is_keys_text, keys_number}
 use Rattle.c8_game.specs.declared.row.Keys.{Keys}
 use Rattle.c8_game.specs.declared.row.Player.{Player}
@@ -92,3 +93,7 @@ event_in words = act_or_stop (act_in words) (stop_in words)
 -- the event of the words between a line's spaces
 abbrev pub event_of : List ℕ → Option Event
 event_of line = event_in (slice_split (λ byte. byte == 32) line)
+
+-- whether the code takes a line
+abbrev pub is_event_line : List ℕ → Bool
+is_event_line line = is_skipped line || is_some (event_of line)

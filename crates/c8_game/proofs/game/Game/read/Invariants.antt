@@ -1,7 +1,0 @@
-use Rattle.std.specs.Str.Lines.{lines}
-use Rattle.c8_game.specs.Lines.{lines_left}
-use Rattle.c8_game.proofs.ReadLemmas.{HasRead}
-use Rattle.c8_game.proofs.game.Game.read.Given as goal
-
-abbrev pub invariant-loop-line : goal.invariant-loop-line
-invariant-loop-line l = HasRead l.draft (lines l.text) (lines_left l.line-iterator)

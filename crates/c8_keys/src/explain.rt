@@ -1,0 +1,46 @@
+//! Where the texts of `run` are at fault.
+
+use crate::error::RunError;
+use crate::lines::faulty_key_line;
+use crate::sets::faulty_key_set;
+use c8_command::{Site, Text};
+use c8_game::{Game, GameError, Lines};
+use std::alloc::Global;
+
+/// Where the fault is by which `run` refuses its two texts.
+pub(crate) fn site_of<'a>(
+    alloc: Global,
+    game: Text<'a>,
+    keys: Text<'a>,
+    error: RunError,
+) -> Site<'a> {
+    match error {
+        RunError::Game(error) => game_site(alloc, game, error),
+        RunError::Keys(_) => match Game::read(alloc, game.bytes) {
+            Ok(rules) => site_at(keys, faulty_key_line(&rules, keys.bytes)),
+            Err(_) => Site::File(keys.file),
+        },
+    }
+}
+
+/// Where a text has the fault by which it is no game: the first line at fault, or the file where no
+/// line is.
+pub fn game_site<'a>(alloc: Global, game: Text<'a>, error: GameError) -> Site<'a> {
+    if error == GameError::Memory {
+        return Site::File(game.file);
+    }
+    site_at(game, Game::faulty_line(alloc, game.bytes).unwrap_or(None))
+}
+
+/// Where a text has a line that is not four hexadecimal digits.
+pub fn key_sets_site(keys: Text<'_>) -> Site<'_> {
+    site_at(keys, faulty_key_set(keys.bytes))
+}
+
+/// The line of a text at a place, if there is one; else the file.
+fn site_at(text: Text<'_>, place: Option<usize>) -> Site<'_> {
+    match place {
+        Some(place) => Site::line(text.file, place, Lines::at(text.bytes, place)),
+        None => Site::File(text.file),
+    }
+}

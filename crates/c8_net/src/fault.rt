@@ -1,0 +1,72 @@
+//! Why nothing was played, and where the fault is.
+
+use crate::addresses::no_address;
+use crate::arguments::Asked;
+use crate::error::{PeerError, SocketError};
+use c8_command::{Site, Text, TextError};
+use c8_disk::DiskError;
+use c8_game::GameError;
+use c8_keys::{KeysError, game_site, key_sets_site};
+use c8_peer::OpenError;
+use std::alloc::Global;
+
+/// What standard input is called.
+pub(crate) const INPUT: &str = "standard input";
+
+/// Why nothing was played, and the file that was at hand then.
+#[derive(Drop)]
+pub(crate) struct Fault<'a> {
+    pub(crate) error: PeerError,
+    pub(crate) file: &'a str,
+    /// What the file has, where a line of it may be at fault.
+    pub(crate) text: Vec<u8>,
+    /// Why the file was not read, if it is a text that was not.
+    pub(crate) unread: Option<TextError>,
+}
+
+impl<'a> Fault<'a> {
+    /// A fault of no line of a file.
+    pub(crate) fn new(alloc: Global, error: PeerError, file: &'a str) -> Self {
+        Fault {
+            error,
+            file,
+            text: Vec::new(alloc),
+            unread: None,
+        }
+    }
+
+    /// A game's file was not read.
+    pub(crate) fn unread(alloc: Global, error: TextError, file: &'a str) -> Self {
+        let why = match error {
+            TextError::Failed => PeerError::Disk(DiskError::Failed),
+            TextError::Memory => PeerError::Game(GameError::Memory),
+        };
+        Fault {
+            error: why,
+            file,
+            text: Vec::new(alloc),
+            unread: Some(error),
+        }
+    }
+
+    /// Where the fault is: its line, where it is in one.
+    pub(crate) fn site<'s>(&'s self, alloc: Global, asked: &Asked<'_, 's>) -> Site<'s> {
+        let (file, bytes) = (self.file, self.text.as_slice());
+        let text = Text { file, bytes };
+        match self.error {
+            PeerError::Game(error) => game_site(alloc, text, error),
+            PeerError::Keys(KeysError::Line) => key_sets_site(text),
+            PeerError::Socket(SocketError::Address) => address_site(asked),
+            PeerError::Socket(_) | PeerError::Open(OpenError::Memory) => Site::Nowhere,
+            PeerError::Keys(_) | PeerError::Open(_) | PeerError::Disk(_) => Site::File(file),
+        }
+    }
+}
+
+/// The address that cannot be read, in place of a file.
+fn address_site<'a>(asked: &Asked<'_, 'a>) -> Site<'a> {
+    match no_address(asked.local, asked.remotes.unwrap_or(&[])) {
+        Some(word) => Site::File(word),
+        None => Site::Nowhere,
+    }
+}

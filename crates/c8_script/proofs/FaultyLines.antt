@@ -1,0 +1,52 @@
+-- The first line of a script that it cannot have.
+use Rattle.std.proofs.Common.{◌≡◌, ℕ, Bool, true, false, ◌||◌, Option, Some, None, IfSome, List, take, refl, subst, if◌then◌else◌}
+use Rattle.std.specs.Prelude.{is_some}
+use Rattle.std.specs.List.{slice_get}
+use Rattle.std.specs.Option.{option_and_then}
+use Rattle.std.specs.Str.Lines.{lines}
+use Rattle.c8_game.specs.Faults.{AreFaultless, IsFirstPlace}
+use Rattle.c8_game.specs.GameText.{is_skipped}
+use Rattle.c8_world.specs.declared.event.Event.{Event}
+use Rattle.c8_script.specs.Script.{IsNoEventLine, AreEventLines, IsFirstNoEvent}
+use Rattle.c8_script.specs.checked.ScriptWords.{event_of, is_event_line}
+use Rattle.c8_script.specs.declared.error.ScriptError.{ScriptError}
+use Rattle.c8_script.specs.declared.error.ScriptError.TheVariants.{Line}
+use Rattle.c8_script.proofs.ScriptLines.{line_read, line_spelt}
+
+abbrev pub fault_if_not : Bool → Option ScriptError
+fault_if_not taken = if taken then None else Some Line
+
+-- a line's fault, whatever stands before it
+abbrev pub event_fault : List (List ℕ) → List ℕ → Option ScriptError
+event_fault before line = fault_if_not (is_event_line line)
+
+without_fault : (line : List ℕ) (skipped : Bool) (event : Option Event) → is_skipped line ≡ skipped → event_of line ≡ event → fault_if_not (skipped || is_some event) ≡ None → IsNoEventLine line → ⊥
+without_fault line true event said read none bad = let same = bad.0 in cc
+without_fault line false (Some event) said read none bad = bad.1 event (line_spelt line event read)
+without_fault line false None said read none bad = cc
+
+with_fault : (line : List ℕ) (skipped : Bool) (event : Option Event) (fault : ScriptError) → is_skipped line ≡ skipped → event_of line ≡ event → fault_if_not (skipped || is_some event) ≡ Some fault → IsNoEventLine line
+with_fault line true event fault said read some = absurd (cc)
+with_fault line false (Some event) fault said read some = absurd (cc)
+with_fault line false None fault said read some = (said, λ event spelt. let is : event_of line ≡ Some event = line_read line event spelt in cc)
+
+fine_there : (found : Option (List ℕ)) (before : List (List ℕ)) → option_and_then (event_fault before) found ≡ None → IfSome found (λ line. IsNoEventLine line → ⊥)
+fine_there None before none = tt
+fine_there (Some line) before none = without_fault line (is_skipped line) (event_of line) refl refl none
+
+bad_there : (found : Option (List ℕ)) (before : List (List ℕ)) (fault : ScriptError) → option_and_then (event_fault before) found ≡ Some fault → (line : List ℕ) × (found ≡ Some line) × IsNoEventLine line
+bad_there None before fault some = absurd (cc)
+bad_there (Some line) before fault some = (line, refl, with_fault line (is_skipped line) (event_of line) fault refl refl some)
+
+pub are_event_lines : (text : List ℕ) → AreFaultless event_fault (lines text) → AreEventLines text
+are_event_lines text faultless place = fine_there (slice_get (lines text) place) (take place (lines text)) (faultless place)
+
+pub first_no_event : (text : List ℕ) (place : ℕ) → IsFirstPlace event_fault (lines text) place → IsFirstNoEvent text place
+first_no_event text place (fault, (first, same)) =
+    let bad = bad_there (slice_get (lines text) first.place) (take first.place (lines text)) fault first.here in
+    subst (IsFirstNoEvent text) same (record {
+      line = bad.0;
+      here = bad.1;
+      no_event = bad.2;
+      least = λ earlier within. fine_there (slice_get (lines text) earlier) (take earlier (lines text)) (first.least earlier within);
+    })
