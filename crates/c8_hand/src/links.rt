@@ -7,7 +7,7 @@ ghost use Rattle.c8_hand.specs.Links.{no_links, link_to, open_epoch, refusal, li
 use crate::error::HandError;
 use crate::link::Link;
 use c8_game::{Game, MOST_PLAYERS, Player};
-use c8_wire::{Datagram, Head, DatagramKind, Seat};
+use c8_wire::{Datagram, DatagramKind, Head, Seat};
 use std::marker::Model;
 
 /// For each other player the newest epoch that is known of it, and whether the link to it is open.
@@ -100,9 +100,8 @@ impl Links {
         match head.kind {
             DatagramKind::Hello => link.refusal_of_hello(self.epoch, head),
             DatagramKind::Welcome => link.refusal_of_welcome(self.epoch, head),
-            DatagramKind::Data | DatagramKind::Freeze | DatagramKind::Frozen | DatagramKind::Cut => {
-                link.refusal_of_others(self.epoch, head)
-            }
+            DatagramKind::Data | DatagramKind::Freeze | DatagramKind::Frozen | DatagramKind::Cut =>
+                { link.refusal_of_others(self.epoch, head) }
         }
     }
 
@@ -135,7 +134,8 @@ impl Links {
                 }
             }
             DatagramKind::Welcome => *link = Link::opened(head.sender_epoch),
-            DatagramKind::Data | DatagramKind::Freeze | DatagramKind::Frozen | DatagramKind::Cut => {}
+            DatagramKind::Data | DatagramKind::Freeze | DatagramKind::Frozen | DatagramKind::Cut =>
+                {}
         }
     }
 

@@ -8,13 +8,13 @@ mod drops;
 #[cfg(test)]
 mod ends;
 #[cfg(test)]
+mod node;
+#[cfg(test)]
 mod opening;
 #[cfg(test)]
 mod playing;
 #[cfg(test)]
 mod refused;
-#[cfg(test)]
-mod node;
 #[cfg(test)]
 mod stops;
 #[cfg(test)]

@@ -5,7 +5,7 @@ ghost use Rattle.c8_wire.specs.Saying.{message_of, MaySay};
 
 use crate::datagrams::{CUT, DATA, FREEZE, FROZEN, HELLO, SESSION, WELCOME, read};
 use c8_game::Player;
-use c8_wire::{Body, Head, DatagramKind, LONGEST_DATAGRAM, Said, Seat, write};
+use c8_wire::{Body, DatagramKind, Head, LONGEST_DATAGRAM, Said, Seat, write};
 use std::test::Fail;
 
 const KINDS: [DatagramKind; 6] = [
