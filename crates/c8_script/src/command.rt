@@ -66,7 +66,8 @@ pub fn sim<W: Write, E: Write>(
     refused: &mut E,
 ) -> io::Result<Status>
     ensures { IfOk result (λ status.
-        HasEnded game.entry.bytes.now script.entry.bytes.now status (W.contents out.old) (W.contents out.new)) }
+        HasEnded game.entry.bytes.now script.entry.bytes.now status
+        (W.contents out.old) (W.contents out.new)) }
 {
     match play_script(alloc, game.bytes, script.bytes) {
         Ok(transcript) => {

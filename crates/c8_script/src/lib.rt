@@ -1,6 +1,6 @@
 //! Scripts of whole matches: what happens to the peers of a world, one event a line
-//! ([`read_script`], [`faulty_event`]), what it comes to ([`play_script`]), and the command `sim`, which
-//! writes each answer.
+//! ([`read_script`], [`faulty_event`]), what it comes to ([`play_script`]), and the command `sim`,
+//! which writes each answer.
 #![tactic(auto)]
 
 mod answers;
