@@ -1,4 +1,5 @@
 mod Asked
+mod Blocks
 mod Crash
 mod Disks
 mod Kept

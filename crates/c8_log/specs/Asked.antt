@@ -1,10 +1,10 @@
 -- Which calls of its disk a log makes.
-use Rattle.std.specs.Prelude.{◌≡◌, ◌⊎◌, ◌<◌, ◌≤◌, ℕ, ◌+◌, ◌*◌, true, false, List, [], ◌∷◌, ◌++◌, Result, Ok, Err}
+use Rattle.std.specs.Prelude.{◌≡◌, ◌⊎◌, ◌<◌, ◌≤◌, ℕ, ◌+◌, ◌*◌, ◌/◌, true, false, List, [], ◌∷◌, ◌++◌, Result, Ok, Err}
 use Rattle.c8_disk.specs.declared.error.DiskError.TheVariants.{Failed as DiskFailed, Full as DiskFull}
 use Rattle.c8_disk.specs.Asks.{Answer, Run, Nothing, Write, Sync, Reads, Then}
 use Rattle.c8_log.specs.declared.error.LogError.{LogError}
 use Rattle.c8_log.specs.declared.error.LogError.TheVariants.{Failed, Full, Down}
-use Rattle.c8_log.specs.Slots.{slot_length, open_gate, closed_gate, kept_count}
+use Rattle.c8_log.specs.Slots.{slot_length, block_slots, open_gate, closed_gate, kept_count}
 use Rattle.c8_log.specs.Log.{has_closed_gate}
 
 -- a write that is put on the disk
@@ -25,9 +25,9 @@ abbrev pub Repair : List ℕ → Run
 Repair image calls answer =
     ((has_closed_gate image ≡ true) × Nothing calls answer) ⊎ ((has_closed_gate image ≡ false) × WriteAndSync (slot_length * kept_count image) (closed_gate ∷ []) calls answer)
 
--- an opening: a sync, a read of each kept slot and of the next gate at most, and the repair
+-- an opening: a sync, at most a read of each block of kept slots and of the block in which the next gate lies, and the repair
 abbrev pub Opening : List ℕ → Run
-Opening image = Then Sync (Then (Reads (kept_count image + 1)) (Repair image))
+Opening image = Then Sync (Then (Reads (kept_count image / block_slots + 1)) (Repair image))
 
 -- what the disk answered, by what the log answers
 abbrev pub told_by : {T : Type 0} → Result T LogError → Answer

@@ -1,11 +1,23 @@
 -- What an image of a disk keeps. Slot n is the bytes from slot_length * n on: a gate, and a body.
-use Rattle.std.specs.Prelude.{◌≡◌, ◌<◌, ℕ, zero, suc, ◌+◌, ◌*◌, nat_le, nat_lt, ◌==◌, ◌&&◌, ◌||◌, not, if◌then◌else◌, Bool, false, true, List, [], ◌∷◌, ◌++◌, length, take, drop, slice_index}
+use Rattle.std.specs.Prelude.{◌≡◌, ◌<◌, ℕ, zero, suc, min, ◌+◌, ◌-◌, ◌*◌, ◌/◌, nat_le, nat_lt, ◌==◌, ◌&&◌, ◌||◌, not, if◌then◌else◌, Bool, false, true, List, [], ◌∷◌, ◌++◌, length, take, drop, slice_index}
 
 abbrev pub slot_length : ℕ
 slot_length = 144
 
 abbrev pub body_length : ℕ
 body_length = 143
+
+-- a block is so many slots, which are read at once
+abbrev pub block_slots : ℕ
+block_slots = 32
+
+-- how many blocks so many slots lie in
+abbrev pub blocks_of : ℕ → ℕ
+blocks_of n = (n + 31) / block_slots
+
+-- how many slots are read from slot n on, of so many
+abbrev pub slots_from : ℕ → ℕ → ℕ
+slots_from n count = min (count - n) block_slots
 
 -- any other gate is closed, and the closed one is written
 abbrev pub open_gate : ℕ

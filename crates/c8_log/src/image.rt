@@ -34,7 +34,7 @@ pub fn kept_body(image: &[u8], n: usize) -> &[u8; BODY_LENGTH]
 }
 
 /// Lends the body of a whole slot.
-fn body_at(image: &[u8], n: usize) -> &[u8; BODY_LENGTH]
+pub(crate) fn body_at(image: &[u8], n: usize) -> &[u8; BODY_LENGTH]
     requires { slot_length * n + slot_length ≤ length image.now }
     ensures { result.now ≡ body_of image.now n }
 {

@@ -1,15 +1,16 @@
 //! The log, over a disk that it owns.
-ghost use Rattle.std.specs.Prelude.{◌≡◌, ◌≢◌, ◌<◌, ◌≤◌, ◌+◌, ◌*◌, ◌^◌, ◌++◌, [], ◌∷◌, ◌↔◌, ◌==◌, true, false, length, slice_get, Some, IfOk, OnOk, IfErr, OnErr, IsErrOf};
+ghost use Rattle.std.specs.Prelude.{◌≡◌, ◌≢◌, ◌<◌, ◌≤◌, ◌+◌, ◌*◌, ◌^◌, ◌++◌, [], ◌∷◌, ◌↔◌, ◌==◌, true, false, ℕ, length, take, drop, slice_get, Some, IfOk, OnOk, IfErr, OnErr, IsErrOf};
 ghost use Rattle.c8_disk.specs.Disk.{AddsNone};
 ghost use Rattle.c8_disk.specs.Runs.{LeavesOnly, IsSameDisk, ReadsOnly};
 ghost use Rattle.c8_disk.specs.Asks.{Asks, Reads};
 ghost use Rattle.c8_log.specs.Asked.{AppendWithin, Opening, told_by, told_by_opening};
-ghost use Rattle.c8_log.specs.Slots.{kept, kept_count, slot_length};
+ghost use Rattle.c8_log.specs.Slots.{body_of, kept, kept_count, slot_length, block_slots, slots_from};
 
 use crate::LogError;
 use crate::append::{add, has_room};
+use crate::block::{BLOCK_SLOTS, Block, Slots};
 use crate::open::settle;
-use crate::slot::{BODY_LENGTH, Block, SLOT, Slot};
+use crate::slot::{BODY_LENGTH, SLOT, SLOT_LENGTH, Slot};
 use c8_disk::{Arm, Disk};
 use std::fmt;
 use std::marker::Model;
@@ -196,13 +197,89 @@ impl<D: Disk> Log<D> {
         ensures err { OnErr result
             (self.new ≡ record self.old { disk = self.new.disk; down = true }) }
     {
+        match self.read_slots(n, 1, block) {
+            Ok(slots) => Ok(slots.get(0)),
+            Err(error) => Err(error),
+        }
+    }
+
+    /// Reads the slots from `n` on into the block, 32 of them or as many as there are, and lends them
+    /// out of it. After an error the log is down.
+    pub fn read_block<'b>(&mut self, n: u32, block: &'b mut Block) -> Result<Slots<'b>, LogError>
+        requires { n < self.old.count }
+
+        ensures bodies { IfOk result (λ slots. (i : ℕ) → i < slots_from n self.old.count
+            → slice_get (kept (D.seen self.old.disk)) (n + i) ≡ Some (body_of slots.bytes.now i)) }
+        ensures bytes { IfOk result (λ slots. slots.bytes.now
+            ≡ take (slot_length * slots_from n self.old.count) (drop (slot_length * n) (D.seen self.old.disk))) }
+        ensures len { IfOk result (λ slots. length slots.bytes.now ≡ slot_length * slots_from n self.old.count) }
+        ensures ok { OnOk result (self.new ≡ record self.old { disk = self.new.disk }) }
+        ensures unfailed { OnOk result (D.failures self.new.disk ≡ D.failures self.old.disk) }
+        ensures at_rest { OnOk result (IsAtRest D.Disk self.new) }
+
+        // Nothing is written, and a crash at any moment of the call leaves what a crash before it
+        // could have left.
+        ensures reads { ReadsOnly D.Disk self.old.disk self.new.disk }
+        ensures asks { self.old.down ≡ false
+            → Asks D.Disk (Reads 1) (told_by result) self.old.disk self.new.disk }
+
+        // When each error comes, and what it leaves.
+        ensures down { IsErrOf result LogError.Down ↔ (self.old.down ≡ true) }
+        ensures down_leaves { IsErrOf result LogError.Down → self.new ≡ self.old }
+        ensures never_full { IsErrOf result LogError.Full → ⊥ }
+        ensures failed { IsErrOf result LogError.Failed
+            → D.failures self.old.disk < D.failures self.new.disk }
+        ensures err { OnErr result
+            (self.new ≡ record self.old { disk = self.new.disk; down = true }) }
+    {
+        let many = (self.count - n).min(BLOCK_SLOTS as u32);
+        self.read_slots(n, many, block)
+    }
+
+    /// Reads so many slots from `n` on into the block, and lends them out of it.
+    fn read_slots<'b>(
+        &mut self,
+        n: u32,
+        many: u32,
+        block: &'b mut Block,
+    ) -> Result<Slots<'b>, LogError>
+        requires within { n + many ≤ self.old.count }
+        requires few { many ≤ block_slots }
+
+        ensures bodies { IfOk result (λ slots. (i : ℕ) → i < many
+            → slice_get (kept (D.seen self.old.disk)) (n + i) ≡ Some (body_of slots.bytes.now i)) }
+        ensures bytes { IfOk result (λ slots. slots.bytes.now
+            ≡ take (slot_length * many) (drop (slot_length * n) (D.seen self.old.disk))) }
+        ensures len { IfOk result (λ slots. length slots.bytes.now ≡ slot_length * many) }
+        ensures ok { OnOk result (self.new ≡ record self.old { disk = self.new.disk }) }
+        ensures unfailed { OnOk result (D.failures self.new.disk ≡ D.failures self.old.disk) }
+        ensures at_rest { OnOk result (IsAtRest D.Disk self.new) }
+
+        // Nothing is written, and a crash at any moment of the call leaves what a crash before it
+        // could have left.
+        ensures reads { ReadsOnly D.Disk self.old.disk self.new.disk }
+        ensures asks { self.old.down ≡ false
+            → Asks D.Disk (Reads 1) (told_by result) self.old.disk self.new.disk }
+
+        // When each error comes, and what it leaves.
+        ensures down { IsErrOf result LogError.Down ↔ (self.old.down ≡ true) }
+        ensures down_leaves { IsErrOf result LogError.Down → self.new ≡ self.old }
+        ensures never_full { IsErrOf result LogError.Full → ⊥ }
+        ensures failed { IsErrOf result LogError.Failed
+            → D.failures self.old.disk < D.failures self.new.disk }
+        ensures err { OnErr result
+            (self.new ≡ record self.old { disk = self.new.disk; down = true }) }
+    {
         if self.down {
             return Err(LogError::Down);
         }
         self.down = true;
-        self.disk.read_at(SLOT * n, &mut block.bytes)?;
+        let size = SLOT_LENGTH * many as usize;
+        self.disk.read_at(SLOT * n, &mut block.bytes[..size])?;
         self.down = false;
-        Ok(Slot { body: block.body() })
+        Ok(Slots {
+            bytes: &block.bytes[..size],
+        })
     }
 
     /// Says when the disk's calls fail from now on.

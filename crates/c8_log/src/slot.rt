@@ -1,5 +1,5 @@
 //! A slot: a gate, and a body after it.
-ghost use Rattle.std.specs.Prelude.{◌≡◌, [], ◌∷◌, ◌++◌, drop};
+ghost use Rattle.std.specs.Prelude.{◌≡◌, [], ◌∷◌, ◌++◌};
 ghost use Rattle.c8_log.specs.Slots.{closed_gate};
 
 /// How many bytes a body has.
@@ -16,37 +16,6 @@ pub const OPEN_GATE: u8 = 0xa5;
 
 /// Any other gate is closed, and this one is written.
 pub const CLOSED_GATE: u8 = 0;
-
-/// Room for what is read of a log.
-#[derive(Drop)]
-pub struct Block {
-    pub(crate) bytes: [u8; SLOT_LENGTH],
-}
-
-impl Default for Block {
-    fn default() -> Block {
-        Block::new()
-    }
-}
-
-impl Block {
-    /// An empty one.
-    pub fn new() -> Block {
-        Block {
-            bytes: [0; SLOT_LENGTH],
-        }
-    }
-
-    /// What stands after the gate.
-    pub(crate) fn body(&self) -> &[u8; BODY_LENGTH]
-        ensures { result.now ≡ drop 1 self.now.bytes }
-    {
-        match self.bytes.split_last_chunk() {
-            Some((_, body)) => body,
-            None => unreachable!(),
-        }
-    }
-}
 
 /// A slot that was read. It lends the body out of the block.
 #[derive(Clone, Copy)]

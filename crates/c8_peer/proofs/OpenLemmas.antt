@@ -10,6 +10,7 @@ use Rattle.c8_disk.specs.Asks.{Answer, Reads, Asks}
 use Rattle.c8_disk.specs.checked.AsksLaws.{asks_then, asks_refused}
 use Rattle.c8_disk.specs.declared.error.DiskError.{DiskError}
 use Rattle.c8_log.specs.Asked.{AppendWithin, Opening as OpenLog}
+use Rattle.c8_log.specs.Slots.{blocks_of}
 use Rattle.c8_log.specs.Log.{AllKeep, KeepsOneOf, LogValue, repaired}
 use Rattle.c8_log.specs.Journal.{JournalValue, AllKeepBodies}
 use Rattle.c8_known.specs.Journal.{Record, Head, Epoch, epoch, epochs}
@@ -48,16 +49,16 @@ nothing_known rules room me (r ∷ rest) k = refl
 
 module _ {D : Type 0} (g : Ghosts D) (disk : D) (rules : Rules) (room me : ℕ) where
   pub read_run : (log : LogValue D) (left : D) (answer : Answer) → Asks g (OpenLog (g.seen disk)) (Ok tt) disk log.disk → log.count ≡ length (bodies_found g log.disk) → bodies_found g log.disk ≡ bodies_found g disk
-      → Asks g (Reads log.count) answer log.disk left → Asks g (ReadRun g disk rules room me) answer disk left
+      → Asks g (Reads (blocks_of log.count)) answer log.disk left → Asks g (ReadRun g disk rules room me) answer disk left
   read_run log left answer opens count same reads =
-      asks_then g (OpenLog (g.seen disk)) (Reads (length (bodies_found g disk))) disk log.disk left answer opens
-      (subst (λ (n : ℕ). Asks g (Reads n) answer log.disk left) (count ∙ ap length same) reads)
+      asks_then g (OpenLog (g.seen disk)) (Reads (blocks_of (length (bodies_found g disk)))) disk log.disk left answer opens
+      (subst (λ (n : ℕ). Asks g (Reads (blocks_of n)) answer log.disk left) (count ∙ ap length same) reads)
 
   -- the log was not opened
   pub open_refused : (left : D) (why : DiskError) → Asks g (OpenLog (g.seen disk)) (Err why) disk left → Asks g (OpenRun g disk rules room me) (Err why) disk left
   open_refused left why asks =
       asks_refused g (ReadRun g disk rules room me) (BeginRun g disk rules room me) disk left why
-      (asks_refused g (OpenLog (g.seen disk)) (Reads (length (bodies_found g disk))) disk left why asks)
+      (asks_refused g (OpenLog (g.seen disk)) (Reads (blocks_of (length (bodies_found g disk)))) disk left why asks)
 
 -- ---- why a journal that was read is refused
 

@@ -7,7 +7,7 @@ use Rattle.c8_disk.specs.declared.error.DiskError.TheVariants as errors
 use Rattle.c8_disk.specs.Runs.{IsSameDisk}
 use Rattle.c8_disk.specs.Asks.{Run, Reads, Then, Asks}
 use Rattle.c8_log.specs.Asked.{AppendWithin, Opening as OpenLog}
-use Rattle.c8_log.specs.Slots.{slot_length, kept}
+use Rattle.c8_log.specs.Slots.{slot_length, blocks_of, kept}
 use Rattle.c8_log.specs.Log.{AllKeep, KeepsOneOf, has_closed_gate, repaired}
 use Rattle.c8_log.specs.Journal.{AllKeepBodies}
 use Rattle.c8_known.specs.Journal.{epoch, ticks}
@@ -65,10 +65,10 @@ module _ {D : Type 0} (g : Ghosts D) (disk : D) where
 -- ---- the opening of a player's peer, in a game and a room
 
 module _ {D : Type 0} (g : Ghosts D) (disk : D) (rules : Rules) (room me : ℕ) where
-  -- which calls of the disk an opening makes: those that open the log, a read of each kept body at most, and the append of its
-  -- record after them
+  -- which calls of the disk an opening makes: those that open the log, a read of each block of kept bodies at most, and the append of
+  -- its record after them
   abbrev pub ReadRun : Run
-  ReadRun = Then (OpenLog (g.seen disk)) (Reads (length (bodies_found g disk)))
+  ReadRun = Then (OpenLog (g.seen disk)) (Reads (blocks_of (length (bodies_found g disk))))
 
   abbrev pub OpenRun : Run
   OpenRun = Then ReadRun (AppendWithin (g.capacity disk) (length (bodies_found g disk)) (opening_body rules room me (bodies_found g disk)))

@@ -157,13 +157,13 @@ const EPOCH: Found = Found {
     ..AN_EPOCH
 };
 
-/// A sync, three reads, and two writes, each with a sync.
+/// A sync, two reads of the block in which the record lies, and two writes, each with a sync.
 const OPENINGS: [Stop; 5] = [
-    (0, 7, 0, 5, NO_EPOCH, NO_EPOCH),
-    (7, 8, 0, 1, NO_EPOCH, NO_EPOCH),
-    (7, 8, 1, 2, AN_EPOCH, AN_EPOCH),
-    (7, 8, 2, 5, NO_EPOCH, AN_EPOCH),
-    (8, 9, 0, 5, EPOCH, EPOCH),
+    (0, 6, 0, 5, NO_EPOCH, NO_EPOCH),
+    (6, 7, 0, 1, NO_EPOCH, NO_EPOCH),
+    (6, 7, 1, 2, AN_EPOCH, AN_EPOCH),
+    (6, 7, 2, 5, NO_EPOCH, AN_EPOCH),
+    (7, 8, 0, 5, EPOCH, EPOCH),
 ];
 
 #[test]
@@ -201,14 +201,14 @@ const EPOCH_AFTER: Found = Found {
     ..EPOCH
 };
 
-/// A sync, the reads of two slots and of the gate after them, those of the two records, and the four
-/// calls of the new one.
+/// A sync, a read of the block with two slots and the gate after them, one of the two slots, and the
+/// four calls of the new record.
 const LATER_OPENINGS: [Stop; 5] = [
-    (0, 9, 0, 4, NO_EPOCH_AFTER, NO_EPOCH_AFTER),
-    (9, 10, 0, 1, NO_EPOCH_AFTER, NO_EPOCH_AFTER),
-    (9, 10, 1, 2, AN_EPOCH_AFTER, AN_EPOCH_AFTER),
-    (9, 10, 2, 4, NO_EPOCH_AFTER, AN_EPOCH_AFTER),
-    (10, 40, 0, 4, EPOCH_AFTER, EPOCH_AFTER),
+    (0, 6, 0, 4, NO_EPOCH_AFTER, NO_EPOCH_AFTER),
+    (6, 7, 0, 1, NO_EPOCH_AFTER, NO_EPOCH_AFTER),
+    (6, 7, 1, 2, AN_EPOCH_AFTER, AN_EPOCH_AFTER),
+    (6, 7, 2, 4, NO_EPOCH_AFTER, AN_EPOCH_AFTER),
+    (7, 40, 0, 4, EPOCH_AFTER, EPOCH_AFTER),
 ];
 
 #[test]

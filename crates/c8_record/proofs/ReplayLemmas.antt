@@ -1,5 +1,5 @@
 -- How far a replay has come, and what it gives.
-use Rattle.std.proofs.Common.{◌≡◌, ◌≤◌, ℕ, zero, suc, ◌+◌, List, [], ◌∷◌, ◌++◌, length, take, Some, Result, Ok, Err, false, refl, sym, ap, subst, ◌∙◌, arith}
+use Rattle.std.proofs.Common.{◌≡◌, ◌<◌, ◌≤◌, ◌*◌, min, ℕ, zero, suc, ◌+◌, List, [], ◌∷◌, ◌++◌, length, take, Some, Result, Ok, Err, false, refl, sym, ap, subst, ◌∙◌, arith}
 use Rattle.std.specs.List.{slice_get, All}
 use Rattle.std.proofs.Math.Seq.{take-length}
 use Rattle.std.proofs.lemmas.List.{map-append, length-map, length-take-le, take_more}
@@ -14,19 +14,12 @@ use Rattle.c8_disk.specs.declared.error.DiskError.TheVariants.{Failed}
 use Rattle.c8_log.specs.declared.error.LogError.{LogError}
 use Rattle.c8_log.specs.declared.error.LogError.TheVariants as logs
 use Rattle.c8_log.specs.Asked.{told_by as told_by_log}
+use Rattle.c8_log.specs.Slots.{kept, body_of}
 use Rattle.c8_record.specs.Body.{Spells, record_of, records_of}
 use Rattle.c8_record.specs.Allowed.{Past, past_of, IsAllowedAfter, IsAllowed, IsJournal}
-use Rattle.c8_record.specs.checked.Taken.{epoch_after, IsOfOtherGame, IsOfOtherPlayer, IsUnfitBody, IsTaken}
+use Rattle.c8_record.specs.checked.Taken.{epoch_after, IsOfOtherGame, IsOfOtherPlayer, IsUnfitBody, IsTaken, IsReadTo, AreNext}
 use Rattle.c8_record.specs.Replay.{AreJournalBodies, IsRefusal, is_failed, told_by, IsReplayed, IsReplayedFromDisk}
 use Rattle.c8_record.specs.checked.JournalLaws.{journal_none, journal_more, epoch_more, known_more, of_game}
-
--- the first n bodies are taken
-pub record IsReadTo (rules : Rules) (me room : ℕ) (bodies : List (List ℕ)) (n : ℕ) (now : KnownValue) (last : ℕ) : Type 0 where
-  pub within : n ≤ length bodies
-  pub whose : now.me ≡ me
-  pub journal : AreJournalBodies rules me room (take n bodies)
-  pub known : now ≡ known_of rules me (records_of (take n bodies))
-  pub epoch : last ≡ epoch (records_of (take n bodies))
 
 one_holds : {X : Type 0} (P : X → Type 0) (x : X) → P x → All P (x ∷ [])
 one_holds P x p zero d within = p
@@ -148,11 +141,23 @@ not_failed rules me room bodies (BadRecord n) now is = refl
 not_failed rules me room bodies (Disk why) now is = absurd is.0
 
 -- a body that is refused was read
-pub unfit_served : (rules : Rules) (room : ℕ) (past : Past) (body : List ℕ) (error : ReplayError) → IsUnfitBody rules room past body error → Ok tt ≡ told_by (Err error)
-unfit_served rules room past body WrongGame unfit = refl
-unfit_served rules room past body WrongPlayer unfit = refl
-unfit_served rules room past body (BadRecord n) unfit = refl
-unfit_served rules room past body (Disk why) unfit = absurd unfit
+pub unfit_served : (rules : Rules) (me room : ℕ) (bodies : List (List ℕ)) (error : ReplayError) (now : KnownValue) → IsReplayed rules me room bodies (Err error) now → Ok tt ≡ told_by (Err error)
+unfit_served rules me room bodies WrongGame now is = refl
+unfit_served rules me room bodies WrongPlayer now is = refl
+unfit_served rules me room bodies (BadRecord n) now is = refl
+unfit_served rules me room bodies (Disk why) now is = absurd is.0
+
+-- the blocks before one are read
+pub read_at_block : (rules : Rules) (me room : ℕ) (bodies : List (List ℕ)) (k count : ℕ) (now : KnownValue) (last : ℕ) → IsReadTo rules me room bodies (min (32 * k) count) now last → 32 * k < count
+    → IsReadTo rules me room bodies (32 * k) now last
+read_at_block rules me room bodies k count now last read less =
+    let here : min (32 * k) count ≡ 32 * k = omega (arith, less) in
+    subst (λ (n : ℕ). IsReadTo rules me room bodies n now last) here read
+
+-- the slots that were read of a log from one on have the bodies from there on
+pub are_next : (image image2 : List ℕ) (n many : ℕ) (bytes : List ℕ) → image2 ≡ image → length bytes ≡ 144 * many
+    → ((i : ℕ) → i < many → slice_get (kept image2) (n + i) ≡ Some (body_of bytes i)) → AreNext (kept image) n bytes
+are_next image image2 n many bytes same long there i lt = subst (λ (l : List ℕ). slice_get (kept l) (n + i) ≡ Some (body_of bytes i)) same (there i (omega (arith, long, lt)))
 
 -- a read of a log that was up is refused where the disk failed
 pub read_failed : (error : LogError) → (error ≡ logs.Full → ⊥) → (error ≡ logs.Down → ⊥) → told_by_log {T = Unit {0}} (Err error) ≡ Err Failed

@@ -1,12 +1,12 @@
 //! What a journal says, read again from its beginning.
-ghost use Rattle.std.specs.Prelude.{◌≡◌, ◌≢◌, ◌<◌, ◌≤◌, ℕ, [], false, true, length, MatchResult, IfOk, IfErr, OnOk, OnErr};
+ghost use Rattle.std.specs.Prelude.{◌≡◌, ◌≢◌, ◌<◌, ◌≤◌, ◌+◌, ◌/◌, ◌^◌, ℕ, List, [], false, true, length, Err, MatchResult, IfOk, IfErr, OnOk, OnErr};
 ghost use Rattle.c8_disk.specs.Runs.{ReadsOnly};
 ghost use Rattle.c8_disk.specs.Asks.{Asks, Reads};
-ghost use Rattle.c8_log.specs.Slots.{kept};
+ghost use Rattle.c8_log.specs.Slots.{kept, blocks_of, slot_length};
 ghost use Rattle.c8_known.specs.Known.{known_of, IsOfGame};
 ghost use Rattle.c8_record.specs.Lent.{value_of};
 ghost use Rattle.c8_record.specs.Replay.{IsReplayed, IsReplayedFromDisk, is_failed, told_by};
-ghost use Rattle.c8_record.specs.checked.Taken.{epoch_after, IsUnfitBody, IsTaken};
+ghost use Rattle.c8_record.specs.checked.Taken.{epoch_after, IsUnfitBody, IsTaken, IsReadTo, AreNext, HasNext};
 
 use crate::allowed::judge;
 use crate::error::ReplayError;
@@ -16,10 +16,10 @@ use crate::record::Record;
 use c8_disk::{Disk, DiskError};
 use c8_game::Game;
 use c8_known::Known;
-use c8_log::{BODY_LENGTH, Block, Log, LogError, kept_body, kept_len};
+use c8_log::{BLOCK_SLOTS, BODY_LENGTH, Block, Log, Slots, kept_body, kept_len};
 
-/// Reads the journal that a log keeps into `known`, which knows nothing yet, one slot after the
-/// other. The answer is the last epoch, 0 if the log keeps no record.
+/// Reads the journal that a log keeps into `known`, which knows nothing yet, one block of slots
+/// after the other. The answer is the last epoch, 0 if the log keeps no record.
 ///
 /// `WrongGame` and `WrongPlayer` are judged first of all, by the first record; `BadRecord` names
 /// the first body that spells no record or one that the rules don't allow there. After an error
@@ -41,16 +41,19 @@ pub fn replay<D: Disk>(
     ensures failed { is_failed result ≡ true → D.failures log.old.disk < D.failures log.new.disk }
     ensures unfailed { is_failed result ≡ false
         → D.failures log.new.disk ≡ D.failures log.old.disk }
-    ensures asks { Asks D.Disk (Reads log.old.count) (told_by result) log.old.disk log.new.disk }
+    ensures asks { Asks D.Disk (Reads (blocks_of log.old.count)) (told_by result)
+        log.old.disk log.new.disk }
 {
     let mut block = Block::new();
     let mut epoch = 0;
-    for n in 0..log.len() {
-        let slot = match log.read(n, &mut block) {
-            Ok(slot) => slot,
+    let count = log.len();
+    for number in 0..count.div_ceil(BLOCK_SLOTS as u32) {
+        let first = BLOCK_SLOTS as u32 * number;
+        let slots = match log.read_block(first, &mut block) {
+            Ok(slots) => slots,
             Err(_) => return Err(ReplayError::Disk(DiskError::Failed)),
         };
-        epoch = take_body(game, room, n as usize, epoch, known, slot.body)?;
+        epoch = take_slots(game, room, first as usize, epoch, known, slots)?;
     }
     Ok(epoch)
 }
@@ -68,6 +71,36 @@ pub fn replay_bytes(
     let mut epoch = 0;
     for n in 0..kept_len(image) {
         epoch = take_body(game, room, n, epoch, known, kept_body(image, n))?;
+    }
+    Ok(epoch)
+}
+
+/// Takes the bodies of slots that were read together, after `count` others, of which `epoch` is the
+/// last epoch, and answers the last epoch then. Of whatever bodies these are the next ones
+/// (`AreNext`), so many more are taken.
+fn take_slots(
+    game: &Game,
+    room: u64,
+    count: usize,
+    epoch: u32,
+    known: &mut Known,
+    slots: Slots<'_>,
+) -> Result<u32, ReplayError>
+    requires next { HasNext game.now room count epoch known.old slots.bytes.now }
+    requires fits { count + length slots.bytes.now / slot_length < 2 ^ 64 }
+    ensures taken { IfOk result (λ last. (me : ℕ) (bodies : List (List ℕ))
+        → IsReadTo game.now me room bodies count known.old epoch
+        → AreNext bodies count slots.entry.bytes.now
+        → IsReadTo game.now me room bodies (count + length slots.entry.bytes.now / slot_length)
+        known.new last) }
+    ensures unfit { IfErr result (λ error. (me : ℕ) (bodies : List (List ℕ))
+        → IsReadTo game.now me room bodies count known.old epoch
+        → AreNext bodies count slots.entry.bytes.now
+        → IsReplayed game.now me room bodies (Err error) known.new) }
+{
+    let mut epoch = epoch;
+    for i in 0..slots.len() {
+        epoch = take_body(game, room, count + i, epoch, known, slots.get(i).body)?;
     }
     Ok(epoch)
 }

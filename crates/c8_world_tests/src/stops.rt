@@ -178,11 +178,11 @@ const STOPS: [Stop; 7] = [
         bare: FRESH,
         kept: SECOND,
     },
-    // A sync, the slot and the gate after it, the slot once more to know its record; then as above.
+    // A sync, the slot with the gate after it, the slot once more to know its record; then as above.
     Stop {
         place: 2,
         player: 1,
-        gate: 7,
+        gate: 6,
         bare: SECOND,
         kept: THIRD,
     },

@@ -1,9 +1,12 @@
 -- Checked, not believed: what one body more gives in a replay. Contracts of private functions cite it, and no other.
-use Rattle.std.specs.Prelude.{ℕ, ◌≡◌, ◌≢◌, ◌⊎◌, List}
+use Rattle.std.specs.Prelude.{ℕ, ◌≡◌, ◌≢◌, ◌⊎◌, ◌<◌, ◌≤◌, ◌+◌, ◌/◌, List, length, take, Some}
+use Rattle.std.specs.List.{slice_get}
+use Rattle.c8_log.specs.Slots.{slot_length, body_of}
 use Rattle.c8_game.specs.Rules.{Rules, id_of}
-use Rattle.c8_known.specs.Journal.{Record, Head, Epoch, Own, Got, Freeze, Leave, Cut}
-use Rattle.c8_known.specs.Known.{KnownValue, with_record, IsKnown}
-use Rattle.c8_record.specs.Body.{Spells, record_of}
+use Rattle.c8_known.specs.Journal.{Record, Head, Epoch, Own, Got, Freeze, Leave, Cut, epoch}
+use Rattle.c8_known.specs.Known.{KnownValue, known_of, with_record, IsKnown}
+use Rattle.c8_record.specs.Body.{Spells, record_of, records_of}
+use Rattle.c8_record.specs.Replay.{AreJournalBodies}
 use Rattle.c8_record.specs.Allowed.{Past, IsHead, IsAllowedAfter}
 use Rattle.c8_record.specs.declared.error.ReplayError.{ReplayError}
 use Rattle.c8_record.specs.declared.error.ReplayError.TheVariants.{WrongGame, WrongPlayer, BadRecord, Disk}
@@ -56,3 +59,22 @@ pub record IsTaken (rules : Rules) (room : ℕ) (past : Past) (body : List ℕ) 
   pub allowed : IsAllowedAfter rules room past (record_of body)
   pub known : new ≡ with_record past.known (record_of body)
   pub last : later ≡ epoch_after past.epoch (record_of body)
+
+-- the first n bodies are taken
+pub record IsReadTo (rules : Rules) (me room : ℕ) (bodies : List (List ℕ)) (n : ℕ) (now : KnownValue) (last : ℕ) : Type 0 where
+  pub within : n ≤ length bodies
+  pub whose : now.me ≡ me
+  pub journal : AreJournalBodies rules me room (take n bodies)
+  pub known : now ≡ known_of rules me (records_of (take n bodies))
+  pub epoch : last ≡ epoch (records_of (take n bodies))
+
+-- the slots of these bytes have the bodies after the first n
+abbrev pub AreNext : List (List ℕ) → ℕ → List ℕ → Type 0
+AreNext bodies n bytes = (i : ℕ) → i < length bytes / slot_length → slice_get bodies (n + i) ≡ Some (body_of bytes i)
+
+-- the first n of some player's bodies are taken, and these slots have the next ones
+pub record HasNext (rules : Rules) (room n last : ℕ) (now : KnownValue) (bytes : List ℕ) : Type 0 where
+  pub me : ℕ
+  pub bodies : List (List ℕ)
+  pub read : IsReadTo rules me room bodies n now last
+  pub next : AreNext bodies n bytes

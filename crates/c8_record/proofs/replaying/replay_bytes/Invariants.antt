@@ -1,6 +1,6 @@
 use Rattle.std.proofs.Common.{◌≡◌, length}
 use Rattle.c8_log.specs.Slots.{kept}
-use Rattle.c8_record.proofs.ReplayLemmas.{IsReadTo}
+use Rattle.c8_record.specs.checked.Taken.{IsReadTo}
 use Rattle.c8_record.proofs.replaying.replay_bytes.Given as goal
 
 abbrev pub invariant-loop-n : goal.invariant-loop-n

@@ -1,0 +1,39 @@
+use Rattle.std.proofs.Common.{◌≡◌, ◌<◌, ◌+◌, ◌/◌, ℕ, List, length, Some, sym, ap, subst, ◌∙◌, arith}
+use Rattle.std.specs.List.{slice_get}
+use Rattle.std.proofs.lemmas.Result.{err_from_is_err_and}
+use Rattle.c8_record.specs.checked.Taken.{IsReadTo}
+use Rattle.c8_record.proofs.ReplayLemmas.{read_of_game, read_more, read_bad}
+use Rattle.c8_record.proofs.replaying.take_slots.Goals as goal
+
+pub overflow_add-count : goal.overflow_add-count
+overflow_add-count c =
+    let end = c.len-i-end.ensures in
+    omega (arith, c.requires.fits, c.loop-i-test.true, end)
+
+pub take_body-requires : goal.take_body-requires
+take_body-requires c =
+    let given = c.requires.next in
+    read_of_game c.args.game.now given.me c.args.room given.bodies (c.args.count + c.loop-i.i) c.loop-i.known c.loop-i.epoch (c.loop-i.invariant.taken given.me given.bodies given.read given.next)
+
+pub loop-i-preserved : goal.loop-i-preserved
+loop-i-preserved c = record {
+  taken = λ me bodies read next.
+      let n = c.args.count + c.loop-i.i in
+      let end = c.len-i-end.ensures in
+      let body : slice_get bodies n ≡ Some c.get.result.body.now = next c.loop-i.i (omega (arith, c.loop-i-test.true, end)) ∙ ap (λ (one : List ℕ). Some one) (sym c.get.ensures) in
+      let place : n + 1 ≡ c.args.count + (c.loop-i.i + 1) = omega arith in
+      subst (λ (m : ℕ). IsReadTo c.args.game.now me c.args.room bodies m c.take_body.new.known c.in_ok-epoch.epoch) place
+      (read_more c.args.game.now me c.args.room bodies n c.loop-i.known c.take_body.new.known c.loop-i.epoch c.in_ok-epoch.epoch c.get.result.body.now
+      (c.loop-i.invariant.taken me bodies read next) body c.in_ok-epoch.ensures.taken);
+}
+
+pub returns-in_err-epoch-clause-unfit : goal.returns-in_err-epoch-clause-unfit
+returns-in_err-epoch-clause-unfit c =
+    let error = err_from_is_err_and c.from_residual.result c.from_residual.ensures.1 in
+    rw (error.1, error.2, c.in_err-epoch.ensures.stays)
+    (λ me bodies read next.
+    let n = c.args.count + c.loop-i.i in
+    let end = c.len-i-end.ensures in
+    let body : slice_get bodies n ≡ Some c.get.result.body.now = next c.loop-i.i (omega (arith, c.loop-i-test.true, end)) ∙ ap (λ (one : List ℕ). Some one) (sym c.get.ensures) in
+    read_bad c.args.game.now me c.args.room bodies n c.loop-i.known c.loop-i.epoch c.get.result.body.now c.in_err-epoch.field-0.0 (c.loop-i.invariant.taken me bodies read next) body
+    c.in_err-epoch.ensures.unfit)
