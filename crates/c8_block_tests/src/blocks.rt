@@ -37,14 +37,16 @@ fn said(answer: Result<u32, ReplayError>, known: &Known) -> Said {
 
 /// Slot by slot, as the bytes have it.
 fn said_by_slots(alloc: Global, game: &Game, image: &[u8]) -> Result<Said, Fail> {
-    let mut known = Known::new(alloc, game, Player::CHAIR)?;
+    game.in_range();
+    let mut known = Known::new(alloc, game, Player { number: 1 })?;
     let answer = replay_bytes(image, game, ROOM, &mut known);
     Ok(said(answer, &known))
 }
 
 /// Block by block, from a disk with these bytes.
 fn said_by_blocks(alloc: Global, game: &Game, log: &mut Log<MemDisk>) -> Result<Said, Fail> {
-    let mut known = Known::new(alloc, game, Player::CHAIR)?;
+    game.in_range();
+    let mut known = Known::new(alloc, game, Player { number: 1 })?;
     if log.is_down() {
         return Err(Fail::from("the log is down"));
     }

@@ -48,9 +48,9 @@ pub fn nth_body(game: &Game, n: u32) -> [u8; BODY_LENGTH] {
         *place = byte;
     }
     body[11] = 1;
-    for (place, byte) in body.iter_mut().skip(12).zip((n as u16).to_be_bytes()) {
-        *place = byte;
-    }
+    let [_, _, high, low] = n.to_be_bytes();
+    body[12] = high;
+    body[13] = low;
     body
 }
 

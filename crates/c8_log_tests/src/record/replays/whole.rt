@@ -226,9 +226,10 @@ fn a_log_is_replayed(rt: HostRuntime) -> Result<(), Fail> {
     assert!(rt; append(&mut log, &game, Rec::Own(1, 75, 1)).is_ok());
     let bad = Err(ReplayError::BadRecord(214));
     assert!(rt; is_replayed(rt.alloc(), &game, &mut log, bad, 72) && !log.is_down());
-    log.arm(Arm::Stop(3));
+    // the first block has the HEAD, ten frames of three records each and an input of player 1
+    log.arm(Arm::Stop(1));
     let failed = Err(ReplayError::Disk(DiskError::Failed));
-    assert!(rt; is_replayed(rt.alloc(), &game, &mut log, failed, 2) && log.is_down());
+    assert!(rt; is_replayed(rt.alloc(), &game, &mut log, failed, 11) && log.is_down());
     assert!(rt; append(&mut log, &game, Rec::Own(1, 72, 1)) == Err(LogError::Down));
     Ok(())
 }
