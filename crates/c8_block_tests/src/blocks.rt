@@ -65,7 +65,7 @@ fn is_read_alike(alloc: Global, game: &Game, count: u32, tail: Tail) -> Result<b
     Ok(
         fast == slow
             && counted == count
-            && kept_len(&image) as u32 == count
+            && kept_len(&image) == count as usize
             && slow.0 == Ok(epoch)
             && slow.1 == count / 2
             && slow.2 == count.saturating_sub(1) / 2,
