@@ -63,10 +63,10 @@ impl<'a> Fault<'a> {
     }
 }
 
-/// The address that cannot be read, in place of a file.
+/// The address that cannot be read, in place of a file; one of no characters names nothing.
 fn address_site<'a>(asked: &Asked<'_, 'a>) -> Site<'a> {
     match no_address(asked.local, asked.remotes.unwrap_or(&[])) {
-        Some(word) => Site::File(word),
-        None => Site::Nowhere,
+        Some(word) if !word.is_empty() => Site::File(word),
+        _ => Site::Nowhere,
     }
 }
