@@ -1,6 +1,6 @@
 -- Which calls a run makes of a disk, and what it comes to. A run is a relation between the list of its calls and what it answers
 -- in the end: Ok, or the refusal of its last call.
-use Rattle.std.specs.Prelude.{◌≡◌, ◌⊎◌, ◌≤◌, ℕ, List, [], ◌∷◌, ◌++◌, length, Result, Ok, Err}
+use Rattle.std.specs.Prelude.{◌≡◌, ◌⊎◌, ℕ, zero, suc, List, [], ◌∷◌, ◌++◌, Result, Ok, Err}
 use Rattle.c8_disk.specs.declared.disk.Disk.{Ghosts}
 use Rattle.c8_disk.specs.declared.error.DiskError.{DiskError}
 use Rattle.c8_disk.specs.Disk.{DiskCall, Reading, Writing, Syncing}
@@ -29,16 +29,13 @@ Write at bytes calls answer = calls ≡ Writing at bytes answer ∷ []
 abbrev pub Sync : Run
 Sync calls answer = calls ≡ Syncing answer ∷ []
 
--- reads, until one of them is refused
-abbrev pub AreReads : Run
-AreReads [] answer = answer ≡ Ok tt
-AreReads (Reading at count result ∷ calls) answer = ((result ≡ Ok tt) × AreReads calls answer) ⊎ ((why : DiskError) × (result ≡ Err why) × (answer ≡ Err why) × (calls ≡ []))
-AreReads (Writing at bytes result ∷ calls) answer = ⊥
-AreReads (Syncing result ∷ calls) answer = ⊥
-
--- at most so many
+-- so many reads, until one of them is refused
 abbrev pub Reads : ℕ → Run
-Reads most calls answer = (length calls ≤ most) × AreReads calls answer
+Reads zero calls answer = Nothing calls answer
+Reads (suc more) [] answer = ⊥
+Reads (suc more) (Reading at count result ∷ calls) answer = ((result ≡ Ok tt) × Reads more calls answer) ⊎ ((why : DiskError) × (result ≡ Err why) × (answer ≡ Err why) × (calls ≡ []))
+Reads (suc more) (Writing at bytes result ∷ calls) answer = ⊥
+Reads (suc more) (Syncing result ∷ calls) answer = ⊥
 
 -- a run, and where it answers Ok another one
 abbrev pub Then : Run → Run → Run

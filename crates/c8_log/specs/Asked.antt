@@ -1,10 +1,10 @@
 -- Which calls of its disk a log makes.
-use Rattle.std.specs.Prelude.{◌≡◌, ◌⊎◌, ◌<◌, ◌≤◌, ℕ, ◌+◌, ◌*◌, ◌/◌, true, false, List, [], ◌∷◌, ◌++◌, Result, Ok, Err}
+use Rattle.std.specs.Prelude.{◌≡◌, ◌⊎◌, ◌<◌, ◌≤◌, ℕ, min, ◌+◌, ◌*◌, ◌/◌, true, false, List, [], ◌∷◌, ◌++◌, length, Result, Ok, Err}
 use Rattle.c8_disk.specs.declared.error.DiskError.TheVariants.{Failed as DiskFailed, Full as DiskFull}
 use Rattle.c8_disk.specs.Asks.{Answer, Run, Nothing, Write, Sync, Reads, Then}
 use Rattle.c8_log.specs.declared.error.LogError.{LogError}
 use Rattle.c8_log.specs.declared.error.LogError.TheVariants.{Failed, Full, Down}
-use Rattle.c8_log.specs.Slots.{slot_length, block_slots, open_gate, closed_gate, kept_count}
+use Rattle.c8_log.specs.Slots.{slot_length, block_length, open_gate, closed_gate, kept_count}
 use Rattle.c8_log.specs.Log.{has_closed_gate}
 
 -- a write that is put on the disk
@@ -25,9 +25,13 @@ abbrev pub Repair : List ℕ → Run
 Repair image calls answer =
     ((has_closed_gate image ≡ true) × Nothing calls answer) ⊎ ((has_closed_gate image ≡ false) × WriteAndSync (slot_length * kept_count image) (closed_gate ∷ []) calls answer)
 
--- an opening: a sync, at most a read of each block of kept slots and of the block in which the next gate lies, and the repair
+-- how many blocks there are up to the gate after the kept slots, or up to the end where that gate is missing
+abbrev pub blocks_to_gate : List ℕ → ℕ
+blocks_to_gate image = (min (slot_length * kept_count image + 1) (length image) + 4607) / block_length
+
+-- an opening: a sync, a read of each of these blocks, and the repair
 abbrev pub Opening : List ℕ → Run
-Opening image = Then Sync (Then (Reads (kept_count image / block_slots + 1)) (Repair image))
+Opening image = Then Sync (Then (Reads (blocks_to_gate image)) (Repair image))
 
 -- what the disk answered, by what the log answers
 abbrev pub told_by : {T : Type 0} → Result T LogError → Answer

@@ -11,6 +11,9 @@ body_length = 143
 abbrev pub block_slots : ℕ
 block_slots = 32
 
+abbrev pub block_length : ℕ
+block_length = 4608
+
 -- how many blocks so many slots lie in
 abbrev pub blocks_of : ℕ → ℕ
 blocks_of n = (n + 31) / block_slots

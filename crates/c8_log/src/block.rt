@@ -4,6 +4,7 @@ ghost use Rattle.c8_log.specs.Slots.{body_of, slot_length};
 
 use crate::image::body_at;
 use crate::slot::{SLOT_LENGTH, Slot};
+use std::fmt;
 
 /// How many slots a block has room for.
 pub const BLOCK_SLOTS: usize = 32;
@@ -26,6 +27,13 @@ impl Default for Block {
     }
 }
 
+/// Its name alone: what it has room for is no value of its own.
+impl fmt::Debug for Block {
+    fn fmt<W: fmt::Write>(&self, f: &mut fmt::Formatter<W>) -> fmt::Result {
+        f.write_str("Block")
+    }
+}
+
 impl Block {
     /// An empty one.
     pub fn new() -> Block {
@@ -39,6 +47,14 @@ impl Block {
 #[derive(Clone, Copy)]
 pub struct Slots<'b> {
     pub bytes: &'b [u8],
+}
+
+/// How many slots there are.
+impl<'b> fmt::Debug for Slots<'b> {
+    fn fmt<W: fmt::Write>(&self, f: &mut fmt::Formatter<W>) -> fmt::Result {
+        let count = self.len();
+        write!(f, "Slots {{ len: {count} }}")
+    }
 }
 
 impl<'b> Slots<'b> {

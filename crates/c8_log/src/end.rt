@@ -3,6 +3,7 @@ ghost use Rattle.std.specs.Prelude.{◌≡◌, ◌<◌, ◌≤◌, ◌+◌, ◌*
 ghost use Rattle.c8_disk.specs.Disk.{HasCause};
 ghost use Rattle.c8_disk.specs.Runs.{ReadsOnly};
 ghost use Rattle.c8_disk.specs.Asks.{Asks, Reads, answer_of};
+ghost use Rattle.c8_log.specs.Asked.{blocks_to_gate};
 ghost use Rattle.c8_log.specs.Slots.{kept_count, slot_length, block_slots};
 ghost use Rattle.c8_log.specs.Log.{has_closed_gate};
 
@@ -24,7 +25,7 @@ pub(crate) fn find_end<D: Disk>(disk: &mut D) -> Result<End, DiskError>
     ensures closed { IfOk result (λ end. end.closed ≡ has_closed_gate (D.seen disk.old)) }
     ensures fits { IfOk result (λ end. slot_length * end.count < 2 ^ 32) }
     ensures reads { ReadsOnly D.Disk disk.old disk.new }
-    ensures asks { Asks D.Disk (Reads (kept_count (D.seen disk.old) / block_slots + 1))
+    ensures asks { Asks D.Disk (Reads (blocks_to_gate (D.seen disk.old)))
         (answer_of result) disk.old disk.new }
     ensures cause { HasCause (D.failures disk.old) (D.failures disk.new) result }
     ensures never_full { IsErrOf result DiskError.Full → ⊥ }

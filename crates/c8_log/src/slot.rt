@@ -18,7 +18,7 @@ pub const OPEN_GATE: u8 = 0xa5;
 pub const CLOSED_GATE: u8 = 0;
 
 /// A slot that was read. It lends the body out of the block.
-#[derive(Clone, Copy)]
+#[derive(Clone, Copy, Debug)]
 pub struct Slot<'b> {
     pub body: &'b [u8; BODY_LENGTH],
 }

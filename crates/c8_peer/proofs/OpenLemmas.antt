@@ -6,17 +6,16 @@ use Rattle.c8_disk.specs.declared.disk.Disk.{Ghosts}
 use Rattle.c8_disk.specs.declared.error.DiskError.TheVariants.{Failed, Full}
 use Rattle.c8_disk.specs.Runs.{LeavesOnly, IsSameDisk, ReadsOnly}
 use Rattle.c8_disk.specs.checked.RunLaws.{then_run, weaker}
-use Rattle.c8_disk.specs.Asks.{Answer, Reads, Asks}
+use Rattle.c8_disk.specs.Asks.{Answer, Asks}
 use Rattle.c8_disk.specs.checked.AsksLaws.{asks_then, asks_refused}
 use Rattle.c8_disk.specs.declared.error.DiskError.{DiskError}
 use Rattle.c8_log.specs.Asked.{AppendWithin, Opening as OpenLog}
-use Rattle.c8_log.specs.Slots.{blocks_of}
 use Rattle.c8_log.specs.Log.{AllKeep, KeepsOneOf, LogValue, repaired}
 use Rattle.c8_log.specs.Journal.{JournalValue, AllKeepBodies}
 use Rattle.c8_known.specs.Journal.{Record, Head, Epoch, epoch, epochs}
 use Rattle.c8_known.specs.Known.{KnownValue, known_of, with_record}
 use Rattle.c8_record.specs.Body.{record_of, records_of}
-use Rattle.c8_record.specs.Replay.{AreJournalBodies, IsRefusal, IsReplayedFromDisk, is_failed, told_by}
+use Rattle.c8_record.specs.Replay.{AreJournalBodies, IsRefusal, IsReplayedFromDisk, ReplayRun, is_failed, told_by}
 use Rattle.c8_record.specs.declared.error.ReplayError.{ReplayError}
 use Rattle.c8_record.specs.declared.error.ReplayError.TheVariants as replays
 use Rattle.c8_record.specs.checked.JournalLaws.{epoch_more, known_more, of_game}
@@ -26,7 +25,7 @@ use Rattle.c8_peer.specs.State.{Memory, Opened, fresh_memory}
 use Rattle.c8_peer.specs.Opening.{last_epoch, unfit, opening_record}
 use Rattle.c8_peer.specs.Peer.{PeerValue, mode_of, IsSound}
 use Rattle.c8_peer.specs.checked.Held.{IsPeer}
-use Rattle.c8_peer.specs.Opened.{opening_body, bodies_found, ReadRun, OpenRun, MayBegin, IsOpened, IsSettled, IsUnread, IsUnfit, IsNotWritten, IsRefusedFor, IsRefusedOpening, OpeningLeaves}
+use Rattle.c8_peer.specs.Opened.{opening_body, bodies_found, ReadRun, AllRead, OpenRun, MayBegin, IsOpened, IsSettled, IsUnread, IsUnfit, IsNotWritten, IsRefusedFor, IsRefusedOpening, OpeningLeaves}
 use Rattle.c8_peer.specs.checked.OpenedParts.{IsRead, BeginRun, IsBegun, IsNotBegun, BeginningLeaves}
 use Rattle.c8_peer.proofs.OpeningLemmas.{opening_allowed, opening_memory}
 use Rattle.c8_peer.proofs.PeerLemmas.{one_body_more, bodies_more, view}
@@ -48,17 +47,16 @@ nothing_known rules room me (r ∷ rest) k = refl
 -- ---- which calls of the disk lead to what was read
 
 module _ {D : Type 0} (g : Ghosts D) (disk : D) (rules : Rules) (room me : ℕ) where
-  pub read_run : (log : LogValue D) (left : D) (answer : Answer) → Asks g (OpenLog (g.seen disk)) (Ok tt) disk log.disk → log.count ≡ length (bodies_found g log.disk) → bodies_found g log.disk ≡ bodies_found g disk
-      → Asks g (Reads (blocks_of log.count)) answer log.disk left → Asks g (ReadRun g disk rules room me) answer disk left
-  read_run log left answer opens count same reads =
-      asks_then g (OpenLog (g.seen disk)) (Reads (blocks_of (length (bodies_found g disk)))) disk log.disk left answer opens
-      (subst (λ (n : ℕ). Asks g (Reads (blocks_of n)) answer log.disk left) (count ∙ ap length same) reads)
+  pub read_run : (mid left : D) (result : Result ℕ ReplayError) (answer : Answer) → Asks g (OpenLog (g.seen disk)) (Ok tt) disk mid → bodies_found g mid ≡ bodies_found g disk
+      → Asks g (ReplayRun rules me room (bodies_found g mid) result) answer mid left → Asks g (ReadRun g disk rules room me result) answer disk left
+  read_run mid left result answer opens same replays =
+      asks_then g (OpenLog (g.seen disk)) (ReplayRun rules me room (bodies_found g disk) result) disk mid left answer opens
+      (subst (λ (bodies : List (List ℕ)). Asks g (ReplayRun rules me room bodies result) answer mid left) same replays)
 
   -- the log was not opened
-  pub open_refused : (left : D) (why : DiskError) → Asks g (OpenLog (g.seen disk)) (Err why) disk left → Asks g (OpenRun g disk rules room me) (Err why) disk left
+  pub open_refused : (left : D) (why : DiskError) → Asks g (OpenLog (g.seen disk)) (Err why) disk left → Asks g (ReadRun g disk rules room me (Err (replays.Disk why))) (Err why) disk left
   open_refused left why asks =
-      asks_refused g (ReadRun g disk rules room me) (BeginRun g disk rules room me) disk left why
-      (asks_refused g (OpenLog (g.seen disk)) (Reads (blocks_of (length (bodies_found g disk)))) disk left why asks)
+      asks_refused g (OpenLog (g.seen disk)) (ReplayRun rules me room (bodies_found g disk) (Err (replays.Disk why))) disk left why asks
 
 -- ---- why a journal that was read is refused
 
@@ -78,18 +76,15 @@ module _ {D : Type 0} (g : Ghosts D) (reads_now : (disk : D) → g.may_leave dis
   module _ (disk mid left : D) (rules : Rules) (room me : ℕ) (k : KnownValue) (same : bodies_found g mid ≡ bodies_found g disk)
       (mended : g.seen mid ≡ repaired (g.seen disk)) (rests : AllKeep (bodies_found g mid) (g.may_leave mid))
       (first : IsSameDisk g disk mid) (reads : ReadsOnly g mid left) where
-    unfit_after : (error : ReplayError) → IsRefusal rules me room (bodies_found g mid) error → Asks g (ReadRun g disk rules room me) (Ok tt) disk left → IsUnfit g disk rules room me error left
+    unfit_after : (error : ReplayError) → IsRefusal rules me room (bodies_found g mid) error → Asks g (ReadRun g disk rules room me (Err error)) (Ok tt) disk left → IsUnfit g disk rules room me error left
     unfit_after error is asks = (subst (λ (bodies : List (List ℕ)). IsRefusal rules me room bodies error) same is, settled_after disk mid left same mended rests reads, asks)
 
-    pub refused_reading : (error : ReplayError) → Asks g (ReadRun g disk rules room me) (told_by (Err error)) disk left → (is_failed (Err error) ≡ true → g.failures mid < g.failures left) → IsReplayedFromDisk rules me room (bodies_found g mid) (Err error) k
+    pub refused_reading : (error : ReplayError) → Asks g (ReadRun g disk rules room me (Err error)) (told_by (Err error)) disk left → (is_failed (Err error) ≡ true → g.failures mid < g.failures left) → IsReplayedFromDisk rules me room (bodies_found g mid) (Err error) k
         → IsRefusedFor g disk rules room me (unfit error) left
     refused_reading replays.WrongGame asks fails is = unfit_after replays.WrongGame is.0 asks
     refused_reading replays.WrongPlayer asks fails is = unfit_after replays.WrongPlayer is.0 asks
     refused_reading (replays.BadRecord n) asks fails is = unfit_after (replays.BadRecord n) is.0 asks
-    refused_reading (replays.Disk Failed) asks fails is = (
-      inl (omega (arith, fails refl, first.no_fewer), settled_unread disk left (settled_after disk mid left same mended rests reads)),
-      asks_refused g (ReadRun g disk rules room me) (BeginRun g disk rules room me) disk left Failed asks,
-    )
+    refused_reading (replays.Disk Failed) asks fails is = inl (omega (arith, fails refl, first.no_fewer), settled_unread disk left (settled_after disk mid left same mended rests reads), asks)
     refused_reading (replays.Disk Full) asks fails is = absurd (let why = is.0 in cc)
 
 -- ---- what the record comes to, on the disk as it was found
@@ -108,7 +103,7 @@ module _ {D : Type 0} (g : Ghosts D) (disk mid : D) (rules : Rules) (room me : �
       subst (λ (c : ℕ). Asks g (AppendWithin c (length (bodies_found g disk)) (opening_body rules room me (bodies_found g disk))) answer mid left) capacity
       (subst (λ (bodies : List (List ℕ)). Asks g (AppendWithin (g.capacity mid) (length bodies) (opening_body rules room me bodies)) answer mid left) same asks)
 
-  pub refused_beginning : (left : D) (error : OpenError) → AreJournalBodies rules me room (bodies_found g disk) → IsSettled g disk mid → IsSameDisk g disk mid → g.failures mid ≡ g.failures disk → Asks g (ReadRun g disk rules room me) (Ok tt) disk mid → IsNotBegun g mid rules room me error left → IsRefusedFor g disk rules room me error left
+  pub refused_beginning : (left : D) (error : OpenError) → AreJournalBodies rules me room (bodies_found g disk) → IsSettled g disk mid → IsSameDisk g disk mid → g.failures mid ≡ g.failures disk → Asks g (AllRead g disk rules room me) (Ok tt) disk mid → IsNotBegun g mid rules room me error left → IsRefusedFor g disk rules room me error left
   refused_beginning left opens.WrongGame are settled first unfailed asks none = absurd none
   refused_beginning left opens.WrongPlayer are settled first unfailed asks none = absurd none
   refused_beginning left (opens.BadRecord n) are settled first unfailed asks none = absurd none
@@ -117,15 +112,17 @@ module _ {D : Type 0} (g : Ghosts D) (disk mid : D) (rules : Rules) (room me : �
     bodies = are;
     spent = subst (λ (bodies : List (List ℕ)). last_epoch ≤ epoch (records_of bodies)) same is.0;
     settled = subst (IsSettled g disk) (sym is.1) settled;
-    asks = subst (Asks g (ReadRun g disk rules room me) (Ok tt) disk) (sym is.1) asks;
+    asks = subst (Asks g (AllRead g disk rules room me) (Ok tt) disk) (sym is.1) asks;
   }
-  refused_beginning left (opens.Disk Failed) are settled first unfailed asks is = (
-    inr ((omega (arith, is.0.0, first.capacity, ap length same), omega (arith, is.0.1, unfailed)), not_written left is.1),
-    asks_then g (ReadRun g disk rules room me) (BeginRun g disk rules room me) disk mid left (Err Failed) asks (begin_run left (Err Failed) first.capacity is.2),
+  refused_beginning left (opens.Disk Failed) are settled first unfailed asks is = inr (
+    (omega (arith, is.0.0, first.capacity, ap length same), omega (arith, is.0.1, unfailed)),
+    not_written left is.1,
+    asks_then g (AllRead g disk rules room me) (BeginRun g disk rules room me) disk mid left (Err Failed) asks (begin_run left (Err Failed) first.capacity is.2),
   )
-  refused_beginning left (opens.Disk Full) are settled first unfailed asks is = (
-    inr ((omega (arith, is.0.0, first.capacity, ap length same), is.0.1 ∙ unfailed), not_written left is.1),
-    asks_then g (ReadRun g disk rules room me) (BeginRun g disk rules room me) disk mid left (Err Full) asks (begin_run left (Err Full) first.capacity is.2),
+  refused_beginning left (opens.Disk Full) are settled first unfailed asks is = inr (
+    (omega (arith, is.0.0, first.capacity, ap length same), is.0.1 ∙ unfailed),
+    not_written left is.1,
+    asks_then g (AllRead g disk rules room me) (BeginRun g disk rules room me) disk mid left (Err Full) asks (begin_run left (Err Full) first.capacity is.2),
   )
 
   pub begun_there : (journal : JournalValue D) (number : ℕ) → IsBegun g mid rules room me journal number → IsBegun g disk rules room me journal number
@@ -195,7 +192,7 @@ module _ {D : Type 0} (g : Ghosts D) (disk : D) (rules : Rules) (room me : ℕ) 
     sound = sound;
     ran = runs ∙ ticks_are (view rules room k.me journal m ran) rules room journal k m refl peer_opened;
     same = same;
-    has_room = had_room_then (ReadRun g disk rules room me) (g.capacity disk) (length (bodies_found g disk)) _ asks.calls asks.is;
+    has_room = had_room_then (AllRead g disk rules room me) (g.capacity disk) (length (bodies_found g disk)) _ asks.calls asks.is;
     asks = asks;
   }
 

@@ -70,7 +70,7 @@ module _ {D : Type 0} (g : Ghosts D) where
     tells = λ image may. tells image (subst (λ (d : D). g.may_leave d image) is may);
   }
   refused_for disk left rules room me s finds (opens.Disk why) within is shut keeps reads tells =
-      elim is.0 [
+      elim is [
         | inl unread ↦ record {
           opening = NotRead why;
           deed = record { may = (shut, within); is = refl };

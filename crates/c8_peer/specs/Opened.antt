@@ -5,14 +5,14 @@ use Rattle.c8_disk.specs.declared.disk.Disk.{Ghosts}
 use Rattle.c8_disk.specs.declared.error.DiskError.{DiskError}
 use Rattle.c8_disk.specs.declared.error.DiskError.TheVariants as errors
 use Rattle.c8_disk.specs.Runs.{IsSameDisk}
-use Rattle.c8_disk.specs.Asks.{Run, Reads, Then, Asks}
+use Rattle.c8_disk.specs.Asks.{Run, Then, Asks}
 use Rattle.c8_log.specs.Asked.{AppendWithin, Opening as OpenLog}
-use Rattle.c8_log.specs.Slots.{slot_length, blocks_of, kept}
+use Rattle.c8_log.specs.Slots.{slot_length, kept}
 use Rattle.c8_log.specs.Log.{AllKeep, KeepsOneOf, has_closed_gate, repaired}
 use Rattle.c8_log.specs.Journal.{AllKeepBodies}
 use Rattle.c8_known.specs.Journal.{epoch, ticks}
 use Rattle.c8_record.specs.Body.{body_of, records_of}
-use Rattle.c8_record.specs.Replay.{AreJournalBodies, IsRefusal}
+use Rattle.c8_record.specs.Replay.{AreJournalBodies, IsRefusal, ReplayRun}
 use Rattle.c8_record.specs.declared.error.ReplayError.{ReplayError}
 use Rattle.c8_record.specs.declared.error.ReplayError.TheVariants as replays
 use Rattle.c8_peer.specs.declared.error.OpenError.{OpenError}
@@ -65,13 +65,16 @@ module _ {D : Type 0} (g : Ghosts D) (disk : D) where
 -- ---- the opening of a player's peer, in a game and a room
 
 module _ {D : Type 0} (g : Ghosts D) (disk : D) (rules : Rules) (room me : ℕ) where
-  -- which calls of the disk an opening makes: those that open the log, a read of each block of kept bodies at most, and the append of
-  -- its record after them
-  abbrev pub ReadRun : Run
-  ReadRun = Then (OpenLog (g.seen disk)) (Reads (blocks_of (length (bodies_found g disk))))
+  -- which calls of the disk an opening makes: those that open the log and replay its journal, with this result, and the append of
+  -- its record after that
+  abbrev pub ReadRun : Result ℕ ReplayError → Run
+  ReadRun result = Then (OpenLog (g.seen disk)) (ReplayRun rules me room (bodies_found g disk) result)
+
+  abbrev pub AllRead : Run
+  AllRead = ReadRun (Ok (epoch (records_of (bodies_found g disk))))
 
   abbrev pub OpenRun : Run
-  OpenRun = Then ReadRun (AppendWithin (g.capacity disk) (length (bodies_found g disk)) (opening_body rules room me (bodies_found g disk)))
+  OpenRun = Then AllRead (AppendWithin (g.capacity disk) (length (bodies_found g disk)) (opening_body rules room me (bodies_found g disk)))
 
   -- What is so of a peer that was opened there.
   --
@@ -99,14 +102,14 @@ module _ {D : Type 0} (g : Ghosts D) (disk : D) (rules : Rules) (room me : ℕ) 
 
   -- what was found is no journal of this match and player
   abbrev pub IsUnfit : ReplayError → D → Type 0
-  IsUnfit error left = IsRefusal rules me room (bodies_found g disk) error × IsSettled g disk left × Asks g ReadRun (Ok tt) disk left
+  IsUnfit error left = IsRefusal rules me room (bodies_found g disk) error × IsSettled g disk left × Asks g (ReadRun (Err error)) (Ok tt) disk left
 
   -- What was found is such a journal, and its epochs are spent.
   pub record IsSpent (left : D) : Type 0 where
     pub bodies : AreJournalBodies rules me room (bodies_found g disk)
     pub spent : last_epoch ≤ epoch (records_of (bodies_found g disk))
     pub settled : IsSettled g disk left
-    pub asks : Asks g ReadRun (Ok tt) disk left
+    pub asks : Asks g AllRead (Ok tt) disk left
 
   -- What was found may be opened, and the opening's record is pending: each image keeps what was found, with it or without.
   pub record IsNotWritten (left : D) : Type 0 where
@@ -123,7 +126,8 @@ module _ {D : Type 0} (g : Ghosts D) (disk : D) (rules : Rules) (room me : ℕ) 
   IsRefusedFor opens.EpochsSpent left = IsSpent left
   IsRefusedFor opens.Memory left = left ≡ disk
   IsRefusedFor (opens.Disk why) left =
-      ((HasReadingCause g disk why left × IsUnread g disk left) ⊎ (HasWritingCause g disk why left × IsNotWritten left)) × Asks g OpenRun (Err why) disk left
+      (HasReadingCause g disk why left × IsUnread g disk left × Asks g (ReadRun (Err (replays.Disk why))) (Err why) disk left)
+      ⊎ (HasWritingCause g disk why left × IsNotWritten left × Asks g OpenRun (Err why) disk left)
 
   -- Why an opening is refused: there is no such player in the game, and the disk is as it was; or else for one of these.
   abbrev pub IsRefusedOpening : OpenError → D → Type 0

@@ -1,5 +1,5 @@
 -- How far a replay has come, and what it gives.
-use Rattle.std.proofs.Common.{◌≡◌, ◌<◌, ◌≤◌, ◌*◌, min, ℕ, zero, suc, ◌+◌, List, [], ◌∷◌, ◌++◌, length, take, Some, Result, Ok, Err, false, refl, sym, ap, subst, ◌∙◌, arith}
+use Rattle.std.proofs.Common.{◌≡◌, ◌<◌, ◌≤◌, ◌*◌, ◌/◌, ◌-◌, min, ℕ, zero, suc, ◌+◌, List, [], ◌∷◌, ◌++◌, length, take, Some, Result, Ok, Err, false, refl, sym, ap, subst, ◌∙◌, arith}
 use Rattle.std.specs.List.{slice_get, All}
 use Rattle.std.proofs.Math.Seq.{take-length}
 use Rattle.std.proofs.lemmas.List.{map-append, length-map, length-take-le, take_more}
@@ -10,15 +10,17 @@ use Rattle.c8_known.specs.Journal.{Record, Head, Epoch, Own, Got, Freeze, Leave,
 use Rattle.c8_known.specs.Known.{KnownValue, known_of, with_record, IsOfGame}
 use Rattle.c8_record.specs.declared.error.ReplayError.{ReplayError}
 use Rattle.c8_record.specs.declared.error.ReplayError.TheVariants.{WrongGame, WrongPlayer, BadRecord, Disk}
+use Rattle.c8_disk.specs.declared.disk.Disk.{Ghosts}
 use Rattle.c8_disk.specs.declared.error.DiskError.TheVariants.{Failed}
+use Rattle.c8_disk.specs.Asks.{Answer, Reads, Asks}
 use Rattle.c8_log.specs.declared.error.LogError.{LogError}
 use Rattle.c8_log.specs.declared.error.LogError.TheVariants as logs
 use Rattle.c8_log.specs.Asked.{told_by as told_by_log}
-use Rattle.c8_log.specs.Slots.{kept, body_of}
+use Rattle.c8_log.specs.Slots.{kept, body_of, blocks_of}
 use Rattle.c8_record.specs.Body.{Spells, record_of, records_of}
 use Rattle.c8_record.specs.Allowed.{Past, past_of, IsAllowedAfter, IsAllowed, IsJournal}
 use Rattle.c8_record.specs.checked.Taken.{epoch_after, IsOfOtherGame, IsOfOtherPlayer, IsUnfitBody, IsTaken, IsReadTo, AreNext}
-use Rattle.c8_record.specs.Replay.{AreJournalBodies, IsRefusal, is_failed, told_by, IsReplayed, IsReplayedFromDisk}
+use Rattle.c8_record.specs.Replay.{AreJournalBodies, IsRefusal, is_failed, taken_before, told_by, IsReplayed, IsReplayedFromDisk, LooksAt, ReplayRun}
 use Rattle.c8_record.specs.checked.JournalLaws.{journal_none, journal_more, epoch_more, known_more, of_game}
 
 one_holds : {X : Type 0} (P : X → Type 0) (x : X) → P x → All P (x ∷ [])
@@ -125,7 +127,40 @@ module _ (rules : Rules) (me room : ℕ) (bodies : List (List ℕ)) where
       )
   read_bad n now last body (Disk why) read is unfit = absurd unfit
 
+-- a body is refused at its own place
+pub refused_there : (rules : Rules) (room : ℕ) (past : Past) (body : List ℕ) (error : ReplayError) → IsUnfitBody rules room past body error → taken_before error ≡ past.count
+refused_there rules room past body WrongGame unfit = sym unfit.0
+refused_there rules room past body WrongPlayer unfit = sym unfit.0
+refused_there rules room past body (BadRecord n) unfit = unfit.0
+refused_there rules room past body (Disk why) unfit = absurd unfit
+
 -- ---- from a disk
+
+module _ {D : Type 0} (g : Ghosts D) (rules : Rules) (me room : ℕ) (bodies : List (List ℕ)) (old new : D) where
+  -- the reads of the blocks of the bodies that were looked at
+  replay_run : (result : Result ℕ ReplayError) (n k : ℕ) (answer : Answer) → LooksAt rules me room bodies result n → k ≡ blocks_of n → Asks g (Reads k) answer old new
+      → Asks g (ReplayRun rules me room bodies result) answer old new
+  replay_run result n k answer looks count reads = record { calls = reads.calls; led = reads.led; is = (n, looks, subst (λ (m : ℕ). Reads m reads.calls answer) count reads.is) }
+
+  -- all were in order
+  pub looked_at_all : (last k : ℕ) → k ≡ blocks_of (length bodies) → Asks g (Reads k) (Ok tt) old new → Asks g (ReplayRun rules me room bodies (Ok last)) (Ok tt) old new
+  looked_at_all last k count reads = replay_run (Ok last) (length bodies) k (Ok tt) refl count reads
+
+  -- one of a block that was read is refused
+  pub looked_at_some : (error : ReplayError) (now : KnownValue) (k : ℕ) → IsReplayed rules me room bodies (Err error) now → 32 * k ≤ taken_before error → taken_before error < 32 * k + 32
+      → Asks g (Reads (k + 1)) (Ok tt) old new → Asks g (ReplayRun rules me room bodies (Err error)) (told_by (Err error)) old new
+  looked_at_some WrongGame now k is le lt reads = replay_run (Err WrongGame) 1 (k + 1) (Ok tt) refl (omega (arith, le, lt)) reads
+  looked_at_some WrongPlayer now k is le lt reads = replay_run (Err WrongPlayer) 1 (k + 1) (Ok tt) refl (omega (arith, le, lt)) reads
+  looked_at_some (BadRecord n) now k is le lt reads = replay_run (Err (BadRecord n)) (n + 1) (k + 1) (Ok tt) refl (omega (arith, le, lt)) reads
+  looked_at_some (Disk why) now k is le lt reads = absurd is.0
+
+  -- a block was refused, after others whose bodies are in order
+  pub looked_until_failed : (now : KnownValue) (last k : ℕ) → IsReadTo rules me room bodies (32 * k) now last → 32 * k < length bodies → Asks g (Reads (k + 1)) (Err Failed) old new
+      → Asks g (ReplayRun rules me room bodies (Err (Disk Failed))) (Err Failed) old new
+  looked_until_failed now last k read less reads =
+      let before : 32 * k ≡ 32 * k + 1 - 1 = omega arith in
+      replay_run (Err (Disk Failed)) (32 * k + 1) (k + 1) (Err Failed)
+      (omega (arith, less), subst (λ (n : ℕ). AreJournalBodies rules me room (take n bodies)) before read.journal) (omega arith) reads
 
 pub from_disk : (rules : Rules) (me room : ℕ) (bodies : List (List ℕ)) (result : Result ℕ ReplayError) (now : KnownValue) → IsReplayed rules me room bodies result now → IsReplayedFromDisk rules me room bodies result now
 from_disk rules me room bodies (Ok last) now is = is
@@ -139,13 +174,6 @@ not_failed rules me room bodies WrongGame now is = refl
 not_failed rules me room bodies WrongPlayer now is = refl
 not_failed rules me room bodies (BadRecord n) now is = refl
 not_failed rules me room bodies (Disk why) now is = absurd is.0
-
--- a body that is refused was read
-pub unfit_served : (rules : Rules) (me room : ℕ) (bodies : List (List ℕ)) (error : ReplayError) (now : KnownValue) → IsReplayed rules me room bodies (Err error) now → Ok tt ≡ told_by (Err error)
-unfit_served rules me room bodies WrongGame now is = refl
-unfit_served rules me room bodies WrongPlayer now is = refl
-unfit_served rules me room bodies (BadRecord n) now is = refl
-unfit_served rules me room bodies (Disk why) now is = absurd is.0
 
 -- the blocks before one are read
 pub read_at_block : (rules : Rules) (me room : ℕ) (bodies : List (List ℕ)) (k count : ℕ) (now : KnownValue) (last : ℕ) → IsReadTo rules me room bodies (min (32 * k) count) now last → 32 * k < count

@@ -1,5 +1,5 @@
 -- What a list of bodies says when it is replayed, or why it is refused.
-use Rattle.std.specs.Prelude.{ℕ, ◌≡◌, ◌≢◌, ◌<◌, ◌⊎◌, List, length, take, Result, Ok, Err, Some, Bool, true, false}
+use Rattle.std.specs.Prelude.{ℕ, ◌+◌, ◌-◌, ◌≡◌, ◌≢◌, ◌<◌, ◌≤◌, ◌⊎◌, List, length, take, Result, Ok, Err, Some, Bool, true, false}
 use Rattle.std.specs.List.{slice_get, All}
 use Rattle.c8_game.specs.Rules.{Rules, id_of}
 use Rattle.c8_known.specs.Journal.{Record, Head, epoch}
@@ -7,7 +7,8 @@ use Rattle.c8_known.specs.Known.{KnownValue, known_of}
 use Rattle.c8_record.specs.Body.{Spells, record_of, records_of}
 use Rattle.c8_record.specs.Allowed.{IsAllowed, IsJournal}
 use Rattle.c8_disk.specs.declared.error.DiskError.TheVariants.{Failed}
-use Rattle.c8_disk.specs.Asks.{Answer}
+use Rattle.c8_disk.specs.Asks.{Answer, Run, Reads}
+use Rattle.c8_log.specs.Slots.{blocks_of}
 use Rattle.c8_record.specs.declared.error.ReplayError.{ReplayError}
 use Rattle.c8_record.specs.declared.error.ReplayError.TheVariants.{WrongGame, WrongPlayer, BadRecord, Disk}
 
@@ -77,3 +78,16 @@ IsReplayedFromDisk rules me room bodies (Err WrongGame) known = IsReplayed rules
 IsReplayedFromDisk rules me room bodies (Err WrongPlayer) known = IsReplayed rules me room bodies (Err WrongPlayer) known
 IsReplayedFromDisk rules me room bodies (Err (BadRecord n)) known = IsReplayed rules me room bodies (Err (BadRecord n)) known
 IsReplayedFromDisk rules me room bodies (Ok last) known = IsReplayed rules me room bodies (Ok last) known
+
+-- How many bodies a replay looks at: all, or those up to the one that it refuses. Where the disk fails, those before the last
+-- of them are in order.
+abbrev pub LooksAt : Rules → ℕ → ℕ → List (List ℕ) → Result ℕ ReplayError → ℕ → Type 0
+LooksAt rules me room bodies (Ok last) n = n ≡ length bodies
+LooksAt rules me room bodies (Err WrongGame) n = n ≡ 1
+LooksAt rules me room bodies (Err WrongPlayer) n = n ≡ 1
+LooksAt rules me room bodies (Err (BadRecord bad)) n = n ≡ bad + 1
+LooksAt rules me room bodies (Err (Disk why)) n = (n ≤ length bodies) × AreJournalBodies rules me room (take (n - 1) bodies)
+
+-- which calls of a disk it makes: a read of each block in which these bodies lie
+abbrev pub ReplayRun : Rules → ℕ → ℕ → List (List ℕ) → Result ℕ ReplayError → Run
+ReplayRun rules me room bodies result calls answer = (n : ℕ) × LooksAt rules me room bodies result n × Reads (blocks_of n) calls answer

@@ -1,11 +1,11 @@
 //! What a journal says, read again from its beginning.
 ghost use Rattle.std.specs.Prelude.{◌≡◌, ◌≢◌, ◌<◌, ◌≤◌, ◌+◌, ◌/◌, ◌^◌, ℕ, List, [], false, true, length, Err, MatchResult, IfOk, IfErr, OnOk, OnErr};
 ghost use Rattle.c8_disk.specs.Runs.{ReadsOnly};
-ghost use Rattle.c8_disk.specs.Asks.{Asks, Reads};
-ghost use Rattle.c8_log.specs.Slots.{kept, blocks_of, slot_length};
+ghost use Rattle.c8_disk.specs.Asks.{Asks};
+ghost use Rattle.c8_log.specs.Slots.{kept, slot_length};
 ghost use Rattle.c8_known.specs.Known.{known_of, IsOfGame};
 ghost use Rattle.c8_record.specs.Lent.{value_of};
-ghost use Rattle.c8_record.specs.Replay.{IsReplayed, IsReplayedFromDisk, is_failed, told_by};
+ghost use Rattle.c8_record.specs.Replay.{IsReplayed, IsReplayedFromDisk, ReplayRun, is_failed, taken_before, told_by};
 ghost use Rattle.c8_record.specs.checked.Taken.{epoch_after, IsUnfitBody, IsTaken, IsReadTo, AreNext, HasNext};
 
 use crate::allowed::judge;
@@ -41,8 +41,8 @@ pub fn replay<D: Disk>(
     ensures failed { is_failed result ≡ true → D.failures log.old.disk < D.failures log.new.disk }
     ensures unfailed { is_failed result ≡ false
         → D.failures log.new.disk ≡ D.failures log.old.disk }
-    ensures asks { Asks D.Disk (Reads (blocks_of log.old.count)) (told_by result)
-        log.old.disk log.new.disk }
+    ensures asks { Asks D.Disk (ReplayRun game.now known.old.me room
+        (kept (D.seen log.old.disk)) result) (told_by result) log.old.disk log.new.disk }
 {
     let mut block = Block::new();
     let mut epoch = 0;
@@ -97,6 +97,8 @@ fn take_slots(
         → IsReadTo game.now me room bodies count known.old epoch
         → AreNext bodies count slots.entry.bytes.now
         → IsReplayed game.now me room bodies (Err error) known.new) }
+    ensures among { IfErr result (λ error. (count ≤ taken_before error)
+        × (taken_before error < count + length slots.entry.bytes.now / slot_length)) }
 {
     let mut epoch = epoch;
     for i in 0..slots.len() {

@@ -1,22 +1,38 @@
 -- Checked, not believed: how runs of known calls join. Crates above may cite these.
-use Rattle.std.proofs.Common.{◌≡◌, inl, inr, ◌≤◌, ℕ, ◌+◌, List, [], ◌∷◌, ◌++◌, length, Ok, Err, refl, ap, subst, ◌∙◌, arith, length-append}
+use Rattle.std.proofs.Common.{◌≡◌, inl, inr, ◌≤◌, ℕ, zero, suc, ◌+◌, List, [], ◌∷◌, ◌++◌, Ok, Err, refl, sym, ap, subst, arith}
 use Rattle.c8_disk.specs.declared.disk.Disk.{Ghosts}
 use Rattle.c8_disk.specs.declared.error.DiskError.{DiskError}
 use Rattle.c8_disk.specs.Disk.{DiskCall, Reading, Writing, Syncing}
 use Rattle.c8_disk.specs.Runs.{Leads}
 use Rattle.c8_disk.specs.checked.RunLaws.{leads_then}
-use Rattle.c8_disk.specs.Asks.{Answer, Run, Nothing, Write, Sync, AreReads, Reads, Then, Asks}
+use Rattle.c8_disk.specs.Asks.{Answer, Run, Nothing, Write, Sync, Reads, Then, Asks}
 
 -- reads that were all served, and more of them
-reads_join : (first rest : List DiskCall) (answer : Answer) → AreReads first (Ok tt) → AreReads rest answer → AreReads (first ++ rest) answer
-reads_join [] rest answer served reads = reads
-reads_join (Reading at count result ∷ first) rest answer (inl (ok, served)) reads = inl (ok, reads_join first rest answer served reads)
-reads_join (Reading at count result ∷ first) rest answer (inr (why, refused, never, none)) reads = absurd (cc never)
-reads_join (Writing at bytes result ∷ first) rest answer served reads = absurd served
-reads_join (Syncing result ∷ first) rest answer served reads = absurd served
+reads_join : (some more : ℕ) (first rest : List DiskCall) (answer : Answer) → Reads some first (Ok tt) → Reads more rest answer → Reads (some + more) (first ++ rest) answer
+reads_join zero more first rest answer none reads =
+    let many : more ≡ zero + more = omega arith in
+    let calls : rest ≡ first ++ rest = ap (λ (l : List DiskCall). l ++ rest) (sym none.0) in
+    subst (λ (n : ℕ). Reads n (first ++ rest) answer) many (subst (λ (l : List DiskCall). Reads more l answer) calls reads)
+reads_join (suc some) more [] rest answer served reads = absurd served
+reads_join (suc some) more (Reading at count result ∷ first) rest answer (inl (ok, served)) reads =
+    let many : suc (some + more) ≡ suc some + more = omega arith in
+    subst (λ (n : ℕ). Reads n (Reading at count result ∷ first ++ rest) answer) many (inl (ok, reads_join some more first rest answer served reads))
+reads_join (suc some) more (Reading at count result ∷ first) rest answer (inr (why, refused, never, none)) reads = absurd (cc never)
+reads_join (suc some) more (Writing at bytes result ∷ first) rest answer served reads = absurd served
+reads_join (suc some) more (Syncing result ∷ first) rest answer served reads = absurd served
 
-one_read : (at count : ℕ) (answer : Answer) → AreReads (Reading at count answer ∷ []) answer
-one_read at count (Ok tt) = inl (refl, refl)
+-- where one of them is refused, as many more were to come
+reads_cut : (few most : ℕ) (calls : List DiskCall) (why : DiskError) → few ≤ most → Reads few calls (Err why) → Reads most calls (Err why)
+reads_cut zero most calls why le none = absurd (cc none.1)
+reads_cut (suc few) zero calls why le reads = absurd (omega (arith, le))
+reads_cut (suc few) (suc most) [] why le reads = absurd reads
+reads_cut (suc few) (suc most) (Reading at count result ∷ calls) why le (inl (ok, served)) = inl (ok, reads_cut few most calls why (omega (arith, le)) served)
+reads_cut (suc few) (suc most) (Reading at count result ∷ calls) why le (inr refused) = inr refused
+reads_cut (suc few) (suc most) (Writing at bytes result ∷ calls) why le reads = absurd reads
+reads_cut (suc few) (suc most) (Syncing result ∷ calls) why le reads = absurd reads
+
+one_read : (at count : ℕ) (answer : Answer) → Reads 1 (Reading at count answer ∷ []) answer
+one_read at count (Ok found) = inl (refl, (refl, refl))
 one_read at count (Err why) = inr (why, refl, refl, refl)
 
 module _ {D : Type 0} (g : Ghosts D) where
@@ -31,21 +47,21 @@ module _ {D : Type 0} (g : Ghosts D) where
   asks_sync old new told answer same does = record { calls = Syncing told ∷ []; led = (new, does, refl); is = ap (λ (a : Answer). Syncing a ∷ []) same }
 
   -- no read, one, and more of them
-  pub asks_no_read : (disk : D) (most : ℕ) → Asks g (Reads most) (Ok tt) disk disk
-  asks_no_read disk most = record { calls = []; led = refl; is = (omega arith, refl) }
+  pub asks_no_read : (disk : D) → Asks g (Reads 0) (Ok tt) disk disk
+  asks_no_read disk = record { calls = []; led = refl; is = (refl, refl) }
 
   pub asks_read : (old new : D) (at count : ℕ) (told answer : Answer) → told ≡ answer → g.does old (Reading at count told) new → Asks g (Reads 1) answer old new
-  asks_read old new at count told answer same does = record { calls = Reading at count told ∷ []; led = (new, does, refl); is = (omega arith, subst (λ (a : Answer). AreReads (Reading at count told ∷ []) a) same (one_read at count told)) }
+  asks_read old new at count told answer same does = record { calls = Reading at count told ∷ []; led = (new, does, refl); is = subst (λ (a : Answer). Reads 1 (Reading at count told ∷ []) a) same (one_read at count told) }
 
   pub asks_reads : (old mid new : D) (some more : ℕ) (answer : Answer) → Asks g (Reads some) (Ok tt) old mid → Asks g (Reads more) answer mid new → Asks g (Reads (some + more)) answer old new
   asks_reads old mid new some more answer first second = record {
     calls = first.calls ++ second.calls;
     led = leads_then g old mid new first.calls second.calls first.led second.led;
-    is = (let few = first.is.0 in let others = second.is.0 in omega (arith, few, others, length-append first.calls second.calls), reads_join first.calls second.calls answer first.is.1 second.is.1);
+    is = reads_join some more first.calls second.calls answer first.is second.is;
   }
 
-  pub asks_fewer : (old new : D) (few most : ℕ) (answer : Answer) → few ≤ most → Asks g (Reads few) answer old new → Asks g (Reads most) answer old new
-  asks_fewer old new few most answer le reads = record { calls = reads.calls; led = reads.led; is = (let less = reads.is.0 in omega (arith, le, less), reads.is.1) }
+  pub asks_cut : (old new : D) (few most : ℕ) (why : DiskError) → few ≤ most → Asks g (Reads few) (Err why) old new → Asks g (Reads most) (Err why) old new
+  asks_cut old new few most why le reads = record { calls = reads.calls; led = reads.led; is = reads_cut few most reads.calls why le reads.is }
 
   -- one run after another, and one that is refused before the other
   pub asks_then : (P Q : Run) (old mid new : D) (answer : Answer) → Asks g P (Ok tt) old mid → Asks g Q answer mid new → Asks g (Then P Q) answer old new

@@ -14,7 +14,7 @@ use Rattle.c8_peer.specs.declared.error.OpenError.TheVariants as opens
 use Rattle.c8_peer.specs.Opening.{last_epoch, opening_record}
 use Rattle.c8_disk.specs.Asks.{Run, Asks}
 use Rattle.c8_log.specs.Asked.{AppendWithin}
-use Rattle.c8_peer.specs.Opened.{opening_body, bodies_found, ReadRun, IsSettled, MayBegin, HasWritingCause, IsNotWritten}
+use Rattle.c8_peer.specs.Opened.{opening_body, bodies_found, AllRead, IsSettled, MayBegin, HasWritingCause, IsNotWritten}
 
 -- the disk after a journal was read, or was to be
 abbrev pub disk_read : {D : Type 0} → Result (LogValue D × ℕ) (OpenError × D) → D
@@ -36,7 +36,7 @@ module _ {D : Type 0} (g : Ghosts D) (disk : D) (rules : Rules) (room me : ℕ) 
     pub same : kept (g.seen log.disk) ≡ bodies_found g disk
     pub settled : IsSettled g disk log.disk
     pub unfailed : g.failures log.disk ≡ g.failures disk
-    pub asks : Asks g (ReadRun g disk rules room me) (Ok tt) disk log.disk
+    pub asks : Asks g (AllRead g disk rules room me) (Ok tt) disk log.disk
 
   -- which calls the record takes
   abbrev pub BeginRun : Run

@@ -3,12 +3,11 @@ use Rattle.std.proofs.lemmas.Result.{err_from_is_err_and}
 use Rattle.c8_disk.specs.checked.RunLaws.{reads_then}
 use Rattle.c8_disk.specs.Asks.{Reads, Asks}
 use Rattle.c8_disk.specs.declared.error.DiskError.TheVariants.{Failed}
-use Rattle.c8_disk.specs.checked.AsksLaws.{asks_no_read, asks_reads, asks_fewer, asks_as}
+use Rattle.c8_disk.specs.checked.AsksLaws.{asks_no_read, asks_reads, asks_as}
 use Rattle.std.proofs.lemmas.Bool.{true≢false}
-use Rattle.c8_record.specs.Replay.{told_by}
 use Rattle.c8_record.specs.checked.Taken.{IsReadTo}
-use Rattle.c8_log.specs.Slots.{kept, slots_from, blocks_of}
-use Rattle.c8_record.proofs.ReplayLemmas.{read_none, read_all, from_disk, unfit_served, read_failed, read_at_block, are_next}
+use Rattle.c8_log.specs.Slots.{kept, slots_from}
+use Rattle.c8_record.proofs.ReplayLemmas.{read_none, read_all, from_disk, looked_at_all, looked_at_some, looked_until_failed, read_failed, read_at_block, are_next}
 use Rattle.c8_record.proofs.replaying.replay.Goals as goal
 
 pub loop-number-init : goal.loop-number-init
@@ -28,7 +27,7 @@ loop-number-init g c =
         changes = refl;
         same = search rules;
       };
-      asks = asks_no_read g.D.Disk c.args.log.now.disk 0;
+      asks = asks_no_read g.D.Disk c.args.log.now.disk;
       unfailed = refl;
     }
 
@@ -81,17 +80,21 @@ returns-clause-replayed g c =
 pub returns-clause-asks : goal.returns-clause-asks
 returns-clause-asks g c =
     let blocks = c.div_ceil-number-end.ensures in
-    let counted = c.loop-number.invariant.counted in
-    asks_fewer g.D.Disk c.args.log.now.disk c.loop-number.log.disk c.loop-number.number (blocks_of c.args.log.now.count) (Ok tt) (omega (arith, c.loop-number.auto.number-end, blocks, counted)) c.loop-number.invariant.asks
+    let all = c.loop-number.invariant.all in
+    looked_at_all g.D.Disk c.args.game.now c.args.known.now.me c.args.room (kept (g.D.Disk.seen c.args.log.now.disk)) c.args.log.now.disk c.loop-number.log.disk c.loop-number.epoch c.loop-number.number
+    (omega (arith, c.loop-number.auto.number-end, c.loop-number-test.false, blocks, all)) c.loop-number.invariant.asks
 
 pub returns-in-Err-clause-reads : goal.returns-in-Err-clause-reads
 returns-in-Err-clause-reads g c = reads_then g.D.Disk c.args.log.now.disk c.loop-number.log.disk c.read_block.new.self.disk c.loop-number.invariant.reads c.in-Err.ensures.reads
 
 pub returns-in-Err-clause-asks : goal.returns-in-Err-clause-asks
 returns-in-Err-clause-asks g c =
+    let bodies : List (List ℕ) = kept (g.D.Disk.seen c.args.log.now.disk) in
     let blocks = c.div_ceil-number-end.ensures in
-    let counted = c.loop-number.invariant.counted in
-    asks_fewer g.D.Disk c.args.log.now.disk c.read_block.new.self.disk (c.loop-number.number + 1) (blocks_of c.args.log.now.count) (Err Failed) (omega (arith, c.loop-number-test.true, blocks, counted))
+    let all = c.loop-number.invariant.all in
+    looked_until_failed g.D.Disk c.args.game.now c.args.known.now.me c.args.room bodies c.args.log.now.disk c.read_block.new.self.disk c.loop-number.known c.loop-number.epoch c.loop-number.number
+    (read_at_block c.args.game.now c.args.known.now.me c.args.room bodies c.loop-number.number c.len-count.result c.loop-number.known c.loop-number.epoch c.loop-number.invariant.taken (omega (arith, c.loop-number-test.true, blocks)))
+    (omega (arith, c.loop-number-test.true, blocks, all))
     (asks_reads g.D.Disk c.args.log.now.disk c.loop-number.log.disk c.read_block.new.self.disk c.loop-number.number 1 (Err Failed) c.loop-number.invariant.asks
     (asks_as g.D.Disk (Reads 1) c.loop-number.log.disk c.read_block.new.self.disk _ (Err Failed)
     (read_failed c.in-Err.field-0 (λ is. c.in-Err.ensures.never_full (ap Err is)) (λ is. true≢false (sym (c.in-Err.ensures.down.0 (ap Err is)) ∙ c.loop-number.invariant.up)))
@@ -114,14 +117,15 @@ pub returns-in_err-epoch-clause-asks : goal.returns-in_err-epoch-clause-asks
 returns-in_err-epoch-clause-asks g c =
     let bodies : List (List ℕ) = kept (g.D.Disk.seen c.args.log.now.disk) in
     let error = err_from_is_err_and c.from_residual.result c.from_residual.ensures.1 in
-    let unfit = c.in_err-epoch.field-0.0 in
+    let k = c.loop-number.number in
     let blocks = c.div_ceil-number-end.ensures in
-    let counted = c.loop-number.invariant.counted in
+    let long = c.in-Ok.ensures.len in
+    let among = c.in_err-epoch.ensures.among in
     rw (error.1, error.2)
-    (asks_as g.D.Disk (Reads (blocks_of c.args.log.now.count)) c.args.log.now.disk c.read_block.new.self.disk (Ok tt) (told_by (Err unfit))
-    (unfit_served c.args.game.now c.args.known.now.me c.args.room bodies unfit c.take_slots.new.known (c.in_err-epoch.ensures.unfit c.args.known.now.me bodies
-    (read_at_block c.args.game.now c.args.known.now.me c.args.room (kept (g.D.Disk.seen c.args.log.now.disk)) c.loop-number.number c.len-count.result c.loop-number.known c.loop-number.epoch c.loop-number.invariant.taken (omega (arith, c.loop-number-test.true, blocks)))
-    (are_next (g.D.Disk.seen c.args.log.now.disk) (g.D.Disk.seen c.loop-number.log.disk) (32 * c.loop-number.number) (slots_from (32 * c.loop-number.number) c.loop-number.log.count) c.in-Ok.slots.bytes.now c.loop-number.invariant.reads.seen c.in-Ok.ensures.len c.in-Ok.ensures.bodies)))
-    (asks_fewer g.D.Disk c.args.log.now.disk c.read_block.new.self.disk (c.loop-number.number + 1) (blocks_of c.args.log.now.count) (Ok tt) (omega (arith, c.loop-number-test.true, blocks, counted))
-    (asks_reads g.D.Disk c.args.log.now.disk c.loop-number.log.disk c.read_block.new.self.disk c.loop-number.number 1 (Ok tt) c.loop-number.invariant.asks
-    (c.in-Ok.ensures.asks c.loop-number.invariant.up))))
+    (looked_at_some g.D.Disk c.args.game.now c.args.known.now.me c.args.room bodies c.args.log.now.disk c.read_block.new.self.disk c.in_err-epoch.field-0.0 c.take_slots.new.known k
+    (c.in_err-epoch.ensures.unfit c.args.known.now.me bodies
+    (read_at_block c.args.game.now c.args.known.now.me c.args.room bodies k c.len-count.result c.loop-number.known c.loop-number.epoch c.loop-number.invariant.taken (omega (arith, c.loop-number-test.true, blocks)))
+    (are_next (g.D.Disk.seen c.args.log.now.disk) (g.D.Disk.seen c.loop-number.log.disk) (32 * k) (slots_from (32 * k) c.loop-number.log.count) c.in-Ok.slots.bytes.now c.loop-number.invariant.reads.seen c.in-Ok.ensures.len c.in-Ok.ensures.bodies))
+    (omega (arith, among.0)) (omega (arith, among.1, long))
+    (asks_reads g.D.Disk c.args.log.now.disk c.loop-number.log.disk c.read_block.new.self.disk k 1 (Ok tt) c.loop-number.invariant.asks
+    (c.in-Ok.ensures.asks c.loop-number.invariant.up)))

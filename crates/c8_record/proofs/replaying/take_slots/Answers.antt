@@ -2,7 +2,7 @@ use Rattle.std.proofs.Common.{◌≡◌, ◌<◌, ◌+◌, ◌/◌, ℕ, List, l
 use Rattle.std.specs.List.{slice_get}
 use Rattle.std.proofs.lemmas.Result.{err_from_is_err_and}
 use Rattle.c8_record.specs.checked.Taken.{IsReadTo}
-use Rattle.c8_record.proofs.ReplayLemmas.{read_of_game, read_more, read_bad}
+use Rattle.c8_record.proofs.ReplayLemmas.{read_of_game, read_more, read_bad, refused_there}
 use Rattle.c8_record.proofs.replaying.take_slots.Goals as goal
 
 pub overflow_add-count : goal.overflow_add-count
@@ -37,3 +37,10 @@ returns-in_err-epoch-clause-unfit c =
     let body : slice_get bodies n ≡ Some c.get.result.body.now = next c.loop-i.i (omega (arith, c.loop-i-test.true, end)) ∙ ap (λ (one : List ℕ). Some one) (sym c.get.ensures) in
     read_bad c.args.game.now me c.args.room bodies n c.loop-i.known c.loop-i.epoch c.get.result.body.now c.in_err-epoch.field-0.0 (c.loop-i.invariant.taken me bodies read next) body
     c.in_err-epoch.ensures.unfit)
+
+pub returns-in_err-epoch-clause-among : goal.returns-in_err-epoch-clause-among
+returns-in_err-epoch-clause-among c =
+    let error = err_from_is_err_and c.from_residual.result c.from_residual.ensures.1 in
+    let end = c.len-i-end.ensures in
+    let there = refused_there c.args.game.now c.args.room _ c.get.result.body.now c.in_err-epoch.field-0.0 c.in_err-epoch.ensures.unfit in
+    rw (error.1, error.2) (omega (arith, there), omega (arith, there, c.loop-i-test.true, end))

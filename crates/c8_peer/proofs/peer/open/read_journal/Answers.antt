@@ -1,9 +1,13 @@
-use Rattle.std.proofs.Common.{Ok, Err, rules, ap}
+use Rattle.std.proofs.Common.{ℕ, List, Ok, Err, inl, rules, ap, subst, ◌∙◌}
 use Rattle.c8_disk.specs.checked.AsksLaws.{asks_as}
 use Rattle.c8_log.specs.declared.error.LogError.{LogError}
 use Rattle.c8_log.specs.Asked.{Opening as OpenLog, told_by as told_by_log}
 use Rattle.c8_disk.specs.declared.error.DiskError.TheVariants.{Failed, Full}
+use Rattle.c8_disk.specs.Asks.{Asks}
+use Rattle.c8_known.specs.Journal.{epoch}
+use Rattle.c8_record.specs.Body.{records_of}
 use Rattle.c8_record.specs.Replay.{told_by}
+use Rattle.c8_peer.specs.Opened.{ReadRun}
 use Rattle.c8_peer.proofs.OpenLemmas.{refused_reading, read_run, open_refused}
 use Rattle.c8_peer.proofs.peer.open.read_journal.Goals as goal
 
@@ -14,11 +18,12 @@ returns-in-Err-clause-refused g c =
     rw (c.from.ensures, c.close.ensures)
     (refused_reading g.D.Disk g.met.D.Disk.reads_now c.args.disk c.in-Ok.log.disk c.replay.new.log.disk rules c.args.room me c.replay.new.known
     c.in-Ok.ensures.kept c.in-Ok.ensures.repaired (c.in-Ok.ensures.at_rest).durable c.in-Ok.ensures.same c.replay.ensures.reads c.in-Err.error
-    (read_run g.D.Disk c.args.disk rules c.args.room me c.in-Ok.log c.replay.new.log.disk (told_by (Err c.in-Err.error)) c.in-Ok.ensures.asks (c.in-Ok.ensures.at_rest).count c.in-Ok.ensures.kept c.in-Err.ensures.asks)
+    (read_run g.D.Disk c.args.disk rules c.args.room me c.in-Ok.log.disk c.replay.new.log.disk (Err c.in-Err.error) (told_by (Err c.in-Err.error)) c.in-Ok.ensures.asks c.in-Ok.ensures.kept c.in-Err.ensures.asks)
     c.in-Err.ensures.failed c.in-Err.ensures.replayed)
 
 pub returns-in-Err-Failed-default-clause-refused : goal.returns-in-Err-Failed-default-clause-refused
-returns-in-Err-Failed-default-clause-refused g c = (
+returns-in-Err-Failed-default-clause-refused g c = inl (
+  search rules,
   search rules,
   open_refused g.D.Disk c.args.disk c.args.game.now c.args.room c.args.known.now.me c.in-Err-Failed-default.disk Failed
       (asks_as g.D.Disk (OpenLog (g.D.Disk.seen c.args.disk)) c.args.disk c.in-Err-Failed-default.disk _ (Err Failed) (ap (λ (e : LogError). told_by_log {T = Unit {0}} (Err e)) c.in-Err-Failed-default.field-0-0-is)
@@ -26,7 +31,8 @@ returns-in-Err-Failed-default-clause-refused g c = (
 )
 
 pub returns-in-Err-Full-default-clause-refused : goal.returns-in-Err-Full-default-clause-refused
-returns-in-Err-Full-default-clause-refused g c = (
+returns-in-Err-Full-default-clause-refused g c = inl (
+  search rules,
   search rules,
   open_refused g.D.Disk c.args.disk c.args.game.now c.args.room c.args.known.now.me c.in-Err-Full-default.disk Full
       (asks_as g.D.Disk (OpenLog (g.D.Disk.seen c.args.disk)) c.args.disk c.in-Err-Full-default.disk _ (Err Full) (ap (λ (e : LogError). told_by_log {T = Unit {0}} (Err e)) c.in-Err-Full-default.field-0-0-is)
@@ -42,6 +48,8 @@ returns-in-Ok-replay-clause-read g c = record {
   same = search rules;
   settled = search rules;
   unfailed = search rules;
-  asks = read_run g.D.Disk c.args.disk c.args.game.now c.args.room c.args.known.now.me c.in-Ok.log c.replay.new.log.disk (Ok tt) c.in-Ok.ensures.asks (c.in-Ok.ensures.at_rest).count c.in-Ok.ensures.kept
-      c.in-Ok-replay.ensures.asks;
+  asks = subst (λ (n : ℕ). Asks g.D.Disk (ReadRun g.D.Disk c.args.disk c.args.game.now c.args.room c.args.known.now.me (Ok n)) (Ok tt) c.args.disk c.replay.new.log.disk)
+      (c.in-Ok-replay.ensures.replayed.2 ∙ ap (λ (bodies : List (List ℕ)). epoch (records_of bodies)) c.in-Ok.ensures.kept)
+      (read_run g.D.Disk c.args.disk c.args.game.now c.args.room c.args.known.now.me c.in-Ok.log.disk c.replay.new.log.disk (Ok c.in-Ok-replay.last) (Ok tt) c.in-Ok.ensures.asks c.in-Ok.ensures.kept
+      c.in-Ok-replay.ensures.asks);
 }
