@@ -1,0 +1,9 @@
+use Rattle.std.proofs.Common.{◌≡◌, length}
+use Rattle.std.specs.List.{All}
+use Rattle.c8_board.specs.Tokens.{new_viewer}
+use Rattle.c8_board.proofs.board.Board.open.Given as goal
+
+abbrev pub invariant-loop : goal.invariant-loop
+invariant-loop l =
+    (l.pen ≡ l.initial.pen) × (l.board-inside.table.shared.table_id ≡ l.pen.board) × (l.board-inside.table.shared.table_id.words ≡ 2)
+    × (length l.seated.items ≡ l.counter) × All (λ v. v ≡ new_viewer l.pen.board l.pen.game) l.seated.items

@@ -1,0 +1,4 @@
+use Rattle.c8_board.proofs.board.Board.publish.Given as goal
+
+abbrev pub ghosts-store : goal.ghosts-store
+ghosts-store g a = record { rows = g.rows }

@@ -1,0 +1,3 @@
+pub mod Words
+pub mod Tokens
+pub mod checked

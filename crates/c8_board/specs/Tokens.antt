@@ -1,0 +1,39 @@
+-- What clauses see of a pen and of a viewer.
+use Rattle.std.specs.Prelude.{◌≡◌, ℕ, ◌+◌, Bool, false, List, [], ◌++◌}
+use Rattle.atomic_table.specs.Seated.{TableId}
+use Rattle.c8_game.specs.Rules.{Rules}
+use Rattle.c8_game.specs.declared.row.Row.{Row}
+use Rattle.c8_board.specs.Words.{LookValue, look_of}
+
+-- the later rows begin with the early ones
+pub record Begins (early late : List Row) : Type 0 where
+  pub rest : List Row
+  pub is : late ≡ early ++ rest
+
+-- a pen: which board it is of, the game, and the rows that it published last
+pub record PenValue : Type 0 where
+  pub board : TableId
+  pub game : Rules
+  pub rows : List Row
+
+-- a viewer: which board it is of, the game, the rows that it saw last, whether it has asked for the match's end, and how often it
+-- has loaded what the pen publishes
+pub record ViewerValue : Type 0 where
+  pub board : TableId
+  pub game : Rules
+  pub seen : List Row
+  pub asked : Bool
+  pub loads : ℕ
+
+-- a viewer that has done nothing yet
+abbrev pub new_viewer : TableId → Rules → ViewerValue
+new_viewer board game = record { board = board; game = game; seen = []; asked = false; loads = 0 }
+
+-- One load by a viewer: it has seen rows that begin with all that it saw before, and the look is at these.
+pub record SeesMore (old : ViewerValue) (found : LookValue) (new : ViewerValue) : Type 0 where
+  pub begins : Begins old.seen new.seen
+  pub finds : found ≡ look_of old.game new.seen
+  pub one_more : new.loads ≡ old.loads + 1
+  pub same_board : new.board ≡ old.board
+  pub same_game : new.game ≡ old.game
+  pub same_asked : new.asked ≡ old.asked

@@ -1,0 +1,29 @@
+-- What a board shows: how many frames are confirmed, and a few bits of the machine after them.
+use Rattle.std.specs.Prelude.{ℕ, ◌+◌, ◌*◌, ◌^◌, List, length, fold, take}
+use Rattle.sha2.specs.Sha256.{sha256}
+use Rattle.c8_game.specs.Rules.{Rules}
+use Rattle.c8_game.specs.declared.row.Row.{Row}
+use Rattle.c8_machine.specs.State.{State}
+use Rattle.c8_machine.specs.Serial.{serial}
+use Rattle.c8_digest.specs.StateBytes.{state_bytes}
+
+-- the number that bytes spell, the most significant first
+abbrev pub number_spelled : List ℕ → ℕ
+number_spelled bytes = fold (λ n byte. n * 2 ^ 8 + byte) 0 bytes
+
+-- the first 40 bits of the digest of a state's bytes
+unfoldable pub bits_of : State → ℕ
+bits_of s = number_spelled (take 5 (sha256 (state_bytes s)))
+
+-- the rows as one word: their number times 2 ^ 40, and the bits of the machine after them
+abbrev pub word : Rules → List Row → ℕ
+word game rows = length rows * 2 ^ 40 + bits_of (serial game rows)
+
+-- what a look finds
+pub record LookValue : Type 0 where
+  pub count : ℕ
+  pub bits : ℕ
+
+-- the look at the word of rows
+abbrev pub look_of : Rules → List Row → LookValue
+look_of game rows = record { count = length rows; bits = bits_of (serial game rows) }

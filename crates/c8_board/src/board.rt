@@ -1,0 +1,211 @@
+//! A board, its pen and its viewers.
+ghost use Rattle.std.specs.Prelude.{◌≡◌, ◌≤◌, ◌<◌, true, false, List, [], length, vec_len, IfOk};
+ghost use Rattle.std.specs.List.{All};
+ghost use Rattle.c8_game.specs.Rules.{most_frames};
+ghost use Rattle.c8_game.specs.declared.row.Row.{Row};
+ghost use Rattle.c8_machine.specs.State.{state};
+ghost use Rattle.c8_machine.specs.Serial.{serial};
+ghost use Rattle.c8_board.specs.Words.{word, look_of};
+ghost use Rattle.c8_board.specs.Tokens.{Begins, new_viewer, SeesMore};
+
+use crate::look::{Look, word};
+use crate::views::{Ask, Compare, Enlist, Order, Pair, Publish, Rows, See, View, Wish};
+use atomic_table::{Seat, Table};
+use c8_game::Game;
+use c8_machine::Machine;
+use std::alloc::{AllocError, Global};
+use std::marker::{Brand, Model};
+
+/// Which word has the count and the bits.
+const SHOWN: usize = 0;
+
+/// Which word is 1 once a viewer has asked for the match's end, and 0 before.
+const STOP: usize = 1;
+
+/// Two words that threads share. Contracts see which board it is.
+#[derive(Drop)]
+pub struct Board {
+    table: Table<(), View, Game, Order, Global>,
+}
+
+impl Model for Board {
+    ghost use Rattle.std.specs.Prelude.{◌≡◌};
+    ghost use Rattle.atomic_table.specs.Seated.{TableId, table_id_coded};
+
+    ghost Value = { TableId };
+
+    ghost coded = { table_id_coded };
+
+    ghost view = { λ b. b.table.shared.table_id };
+
+    ghost invariant = { λ b. b.table.shared.table_id.words ≡ 2 };
+}
+
+/// The right to publish on a board; it has one. Contracts see the game and the rows that were
+/// published last.
+#[derive(Drop)]
+pub struct Pen {
+    seat: Seat<(), View>,
+}
+
+impl Model for Pen {
+    ghost use Rattle.c8_board.specs.Tokens.{PenValue};
+    ghost use Rattle.c8_board.specs.checked.Views.{pen_value, IsPen};
+
+    ghost Value = { PenValue };
+
+    ghost view = { λ p. pen_value p.seat.table_id p.seat.me.0 };
+
+    ghost invariant = { λ p. IsPen p.seat.me };
+}
+
+/// The right to look at a board. Contracts see the game, the rows that the viewer saw last, whether
+/// it has asked for the end, and how often it has looked.
+#[derive(Drop)]
+pub struct Viewer {
+    seat: Seat<(), View>,
+}
+
+impl Model for Viewer {
+    ghost use Rattle.c8_board.specs.Tokens.{ViewerValue};
+    ghost use Rattle.c8_board.specs.checked.Views.{viewer_value, IsViewer};
+
+    ghost Value = { ViewerValue };
+
+    ghost view = { λ v. viewer_value v.seat.table_id v.seat.me.0 };
+
+    ghost invariant = { λ v. IsViewer v.seat.me };
+}
+
+impl Board {
+    /// A board of a game, on which no frame is confirmed, with its pen and 1 to 4 viewers. The error
+    /// is want of memory; no other call takes any.
+    pub fn open(
+        alloc: Global,
+        game: &Game,
+        viewers: usize,
+    ) -> Result<(Board, Pen, Vec<Viewer>), AllocError>
+        requires some { 1 ≤ viewers }
+        requires few { viewers ≤ 4 }
+        ensures pen { IfOk result (λ r.
+            r.1 ≡ record { board = r.0; game = game.now; rows = [] }) }
+        ensures viewers { IfOk result (λ r.
+            All (λ v. v ≡ new_viewer r.0 game.now) r.2.items) }
+        ensures count { IfOk result (λ r. vec_len r.2 ≡ viewers) }
+    {
+        let first = word(0, &Machine::start(game));
+        let (table, seat) = Table::of_words(alloc, &[first, 0], game)?;
+        let board = Board { table };
+        let mut pen = Pen { seat };
+        let mut seated = Vec::with_capacity(alloc, viewers)?;
+        for _ in 0..viewers {
+            seated.push(board.enlist(&mut pen))?;
+        }
+        Ok((board, pen, seated))
+    }
+
+    /// A viewer that has seen what the pen has published.
+    fn enlist(&self, pen: &mut Pen) -> Viewer
+        requires board { pen.old.board ≡ self.now }
+        ensures pen { pen.new ≡ pen.old }
+        ensures viewer { result ≡ record {
+          board = pen.old.board;
+          game = pen.old.game;
+          seen = pen.old.rows;
+          asked = false;
+          loads = 0;
+        } }
+    {
+        Viewer {
+            seat: self.table.shared.split_seat::<Enlist>(&mut pen.seat),
+        }
+    }
+
+    /// Publishes the machine after so many confirmed frames: the serial run of rows that begin with
+    /// those that were published last. The rows are the caller's proof's to pick; no run has them.
+    pub fn publish(&self, pen: &mut Pen, count: u32, confirmed: &Machine)
+        ghost rows: { List Row }
+        requires board { pen.old.board ≡ self.now }
+        requires later { Begins pen.old.rows rows }
+        requires count { count ≡ length rows }
+        requires few { count ≤ most_frames }
+        requires machine { state confirmed.now ≡ serial pen.old.game rows }
+        ensures { pen.new
+            ≡ record { board = pen.old.board; game = pen.old.game; rows = rows } }
+    {
+        self.store::<Brand>(pen, word(count, confirmed));
+    }
+
+    /// Stores the word of rows.
+    fn store<R: Rows>(&self, pen: &mut Pen, found: u64)
+        requires board { pen.old.board ≡ self.now }
+        requires later { Begins pen.old.rows R.rows }
+        requires word { found ≡ word pen.old.game R.rows }
+        ensures { pen.new
+            ≡ record { board = pen.old.board; game = pen.old.game; rows = R.rows } }
+    {
+        self.table
+            .shared
+            .store::<Publish<R>>(&mut pen.seat, SHOWN, found);
+    }
+
+    /// Looks at the board: one load.
+    pub fn look(&self, viewer: &mut Viewer) -> Look
+        requires { viewer.old.board ≡ self.now }
+        ensures { SeesMore viewer.old result viewer.new }
+    {
+        Look::of(self.table.shared.load::<See>(&mut viewer.seat, SHOWN))
+    }
+
+    /// Looks with the pen and a viewer in one hand: the look is at what the pen published, which
+    /// begins with all that the viewer saw, and which the viewer has seen from then on.
+    pub fn look_with(&self, pen: Pen, viewer: Viewer) -> (Look, Pen, Viewer)
+        requires pen { pen.board ≡ self.now }
+        requires viewer { viewer.board ≡ self.now }
+        ensures look { result.0 ≡ look_of pen.game pen.rows }
+        ensures begins { Begins viewer.seen pen.rows }
+        ensures pen { result.1 ≡ pen }
+        ensures viewer { result.2 ≡ record {
+          board = viewer.board;
+          game = pen.game;
+          seen = pen.rows;
+          asked = viewer.asked;
+          loads = viewer.loads;
+        } }
+        ensures game { viewer.game ≡ pen.game }
+    {
+        let Pen { seat: mut joined } = pen;
+        let Viewer { seat: other } = viewer;
+        self.table.shared.join_seat::<Pair>(&mut joined, other);
+        let found = self.table.shared.load::<Compare>(&mut joined, SHOWN);
+        let apart = self.table.shared.split_seat::<Pair>(&mut joined);
+        (
+            Look::of(found),
+            Pen { seat: joined },
+            Viewer { seat: apart },
+        )
+    }
+
+    /// Asks for the match's end. The wish stands for good.
+    pub fn ask_stop(&self, viewer: &mut Viewer)
+        requires { viewer.old.board ≡ self.now }
+        ensures { viewer.new ≡ record {
+          board = viewer.old.board;
+          game = viewer.old.game;
+          seen = viewer.old.seen;
+          asked = true;
+          loads = viewer.old.loads;
+        } }
+    {
+        let _found = self.table.shared.fetch_or::<Ask>(&mut viewer.seat, STOP, 1);
+    }
+
+    /// Whether a viewer has asked for the match's end. No clause says what the answer is, since a
+    /// viewer may ask at any moment.
+    pub fn stop_asked(&self, pen: &mut Pen) -> bool
+        requires { pen.old.board ≡ self.now }
+        ensures { pen.new ≡ pen.old }
+    {
+        self.table.shared.load::<Wish>(&mut pen.seat, STOP) == 1
+    }
+}

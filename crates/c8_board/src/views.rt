@@ -1,0 +1,133 @@
+//! What the pen and the viewers know, and the steps in which it changes. Proofs alone have values of
+//! these types.
+
+use atomic_table::{Join, Play, Split, TableRule};
+use c8_game::{Game, Row};
+use std::collections::LinkedList;
+use std::marker::{Brand, PhantomData};
+
+/// What a viewer knows: the game, the rows that it saw, whether it has asked for the match's end,
+/// and how often it has looked.
+pub struct Watch {
+    pub game: Game,
+    pub seen: LinkedList<Row>,
+    pub asked: bool,
+    pub loads: u64,
+}
+
+/// What a token of a board knows.
+pub enum View {
+    /// The pen: the game, and the rows that it published last.
+    Alone(Game, LinkedList<Row>),
+    /// The pen, with a viewer's view beside its own.
+    Joined(Game, LinkedList<Row>, Watch),
+    /// A viewer.
+    Watching(Watch),
+    /// A viewer whose view went to the pen.
+    Spent,
+}
+
+/// The rows of a step. The caller's proof picks them.
+pub trait Rows {
+    ghost use Rattle.std.specs.Prelude.{List};
+    ghost use Rattle.c8_game.specs.declared.row.Row.{Row};
+
+    ghost rows: { List Row };
+}
+
+impl Rows for Brand {
+    ghost use Rattle.std.specs.Prelude.{[]};
+
+    ghost rows = { [] };
+}
+
+/// The rule of a board.
+pub struct Order;
+
+impl TableRule<(), View, Game> for Order {
+    ghost use Rattle.std.specs.Prelude.{[]};
+    ghost use Rattle.c8_board.specs.declared.views.View.TheVariants.{Alone};
+    ghost use Rattle.c8_board.specs.checked.Rule.{Keeps};
+
+    ghost holds = { λ game s. Keeps s };
+
+    ghost first = { λ game. Alone game [] };
+}
+
+/// The pen stores the word of the rows.
+pub struct Publish<R: Rows>(PhantomData<R>);
+
+impl<R: Rows> Play<(), View> for Publish<R> {
+    ghost use Rattle.std.specs.Prelude.{◌≡◌};
+    ghost use Rattle.c8_board.specs.checked.Rule.{publish_view};
+
+    ghost then = { λ step before found after. after ≡ (publish_view R.rows before.0, before.1) };
+}
+
+/// A viewer loads the pen's word.
+pub struct See;
+
+impl Play<(), View> for See {
+    ghost use Rattle.c8_board.specs.checked.Rule.{Looks};
+
+    ghost then = { λ step before found after. Looks before found after };
+}
+
+/// The joined pen loads its own word.
+pub struct Compare;
+
+impl Play<(), View> for Compare {
+    ghost use Rattle.c8_board.specs.checked.Rule.{Compares};
+
+    ghost then = { λ step before found after. Compares before found after };
+}
+
+/// A viewer sets the stop word to 1.
+pub struct Ask;
+
+impl Play<(), View> for Ask {
+    ghost use Rattle.std.specs.Prelude.{◌≡◌};
+    ghost use Rattle.c8_board.specs.checked.Rule.{ask_view};
+
+    ghost then = { λ step before found after. after ≡ (ask_view before.0, before.1) };
+}
+
+/// The pen loads the stop word, which tells it nothing for sure.
+pub struct Wish;
+
+impl Play<(), View> for Wish {
+    ghost use Rattle.std.specs.Prelude.{◌≡◌};
+
+    ghost then = { λ step before found after. after ≡ before };
+}
+
+/// A new viewer is cut from the pen.
+pub struct Enlist;
+
+impl Split<View> for Enlist {
+    ghost use Rattle.c8_board.specs.checked.Rule.{newcomer_of};
+
+    ghost left = { λ view. view };
+
+    ghost right = { newcomer_of };
+}
+
+/// The pen takes a viewer's view in, or gives it back.
+pub struct Pair;
+
+impl Join<View> for Pair {
+    ghost use Rattle.c8_board.specs.declared.views.View.TheVariants.{Spent};
+    ghost use Rattle.c8_board.specs.checked.Rule.{join_views};
+
+    ghost both = { join_views };
+
+    ghost spent = { Spent };
+}
+
+impl Split<View> for Pair {
+    ghost use Rattle.c8_board.specs.checked.Rule.{pen_of, viewer_of};
+
+    ghost left = { pen_of };
+
+    ghost right = { viewer_of };
+}

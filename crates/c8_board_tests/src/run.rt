@@ -1,0 +1,103 @@
+//! A run of rows that hold no key, and its publishing.
+ghost use Rattle.std.specs.Prelude.{◌≡◌, ◌≤◌, []};
+ghost use Rattle.c8_board_tests.specs.Idle.{IsIdleRun, idle_rows};
+
+use c8_board::{Board, Pen};
+use c8_digest::mark;
+use c8_game::{Game, Keys, MOST_FRAMES, Row};
+use c8_machine::Machine;
+use std::alloc::Global;
+use std::test::Fail;
+
+/// A machine after so many frames in which no key was down.
+#[derive(Drop)]
+pub(crate) struct Run<'g> {
+    game: &'g Game,
+    machine: Machine,
+    count: u32,
+    ghost ran: { IsIdleRun game.now machine count },
+}
+
+impl<'g> Run<'g> {
+    pub(crate) fn start(game: &'g Game) -> Run<'g>
+        ensures game { result.game.now ≡ game.entry.now }
+        ensures count { result.count ≡ 0 }
+    {
+        Run {
+            game,
+            machine: Machine::start(game),
+            count: 0,
+        }
+    }
+
+    /// One frame more; of a game that has ended, none.
+    pub(crate) fn step(&mut self)
+        ensures game { self.new.game.now ≡ self.old.game.now }
+        ensures count { self.old.count ≤ self.new.count }
+    {
+        if self.count < MOST_FRAMES {
+            let keys = self.game.joined(&Row::default());
+            self.machine.frame(self.game, keys);
+            self.count += 1;
+        }
+    }
+
+    /// The first five bytes of the machine's mark, as a number.
+    pub(crate) fn bits(&self) -> u64 {
+        mark(&self.machine)
+            .iter()
+            .take(5)
+            .fold(0, |bits, byte| bits << 8 | u64::from(*byte))
+    }
+}
+
+/// A pen that publishes a run.
+#[derive(Drop)]
+pub(crate) struct Publisher<'g> {
+    pub(crate) run: Run<'g>,
+    pub(crate) pen: Pen,
+    published: u32,
+    ghost game_is: { pen.game ≡ run.game.now },
+    ghost rows: { pen.rows ≡ idle_rows published },
+    ghost earlier: { published ≤ run.count },
+}
+
+impl<'g> Publisher<'g> {
+    pub(crate) fn start(game: &'g Game, pen: Pen) -> Publisher<'g>
+        requires game { pen.game ≡ game.now }
+        requires rows { pen.rows ≡ [] }
+        ensures { result.pen ≡ pen }
+    {
+        Publisher {
+            run: Run::start(game),
+            pen,
+            published: 0,
+        }
+    }
+
+    /// Runs some frames more.
+    pub(crate) fn go_on(&mut self, frames: u32)
+        ensures { self.new.pen ≡ self.old.pen }
+    {
+        for _ in 0..frames {
+            self.run.step();
+        }
+    }
+
+    /// Publishes the machine.
+    pub(crate) fn publish(&mut self, board: &Board)
+        requires { self.old.pen.board ≡ board.now }
+        ensures { self.new.pen.board ≡ self.old.pen.board }
+    {
+        let Run { machine, count, .. } = self.run;
+        board.publish(&mut self.pen, count, &machine);
+        self.published = count;
+    }
+}
+
+/// A game whose machine does one instruction a frame: V0, V1 and V2 grow in turn.
+pub(crate) fn counting(alloc: Global) -> Result<Game, Fail> {
+    let text =
+        "players 2\nipf 1\nframes 262144\ndelay 0\nwindow 8\nseed 0\nmask1 000f\nmask2 fff0\ncode 7001710372051200\n";
+    Ok(Game::read(alloc, text.as_bytes())?)
+}

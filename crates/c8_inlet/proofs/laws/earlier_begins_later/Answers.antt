@@ -1,0 +1,5 @@
+use Rattle.c8_inlet.specs.checked.Beginnings.{prefix_of_longer}
+use Rattle.c8_inlet.proofs.laws.earlier_begins_later.Goals as goal
+
+pub returns : goal.returns
+returns c = prefix_of_longer

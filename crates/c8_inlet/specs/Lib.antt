@@ -1,0 +1,3 @@
+pub mod Inlet
+pub mod Seen
+pub mod checked

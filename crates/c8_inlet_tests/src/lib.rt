@@ -1,0 +1,7 @@
+//! The tests of c8_inlet.
+#![tactic(auto)]
+
+#[cfg(test)]
+mod calls;
+#[cfg(test)]
+mod threads;
