@@ -1,17 +1,24 @@
 -- How runs of one peer are put together.
-use Rattle.std.proofs.Common.{◌≡◌, ℕ, List, [], ◌∷◌, ◌++◌, Option, Some, refl, sym, subst, ◌∙◌, map, arith}
+use Rattle.std.proofs.Common.{◌≡◌, ℕ, List, [], ◌∷◌, ◌++◌, Option, Some, refl, sym, ap, subst, ◌∙◌, map, append_assoc, arith}
 use Rattle.std.proofs.lemmas.List.{map-append}
 use Rattle.c8_game.specs.Rules.{Rules}
 use Rattle.c8_disk.specs.declared.disk.Disk.{Ghosts}
 use Rattle.c8_disk.specs.checked.RunLaws.{same_then}
 use Rattle.c8_peer.specs.State.{State, Call, Reply}
-use Rattle.c8_peer.specs.Peer.{PeerValue, IsAnswered, luck_of}
+use Rattle.c8_peer.specs.Steps.{Works}
+use Rattle.c8_peer.specs.Peer.{PeerValue, IsAnswered, known_by, luck_of}
 use Rattle.c8_peer.specs.Runs.{Deed, Does, IsDone, IsRun}
+use Rattle.c8_game.specs.declared.row.Row.{Row}
+use Rattle.c8_known.specs.Journal.{Record}
+use Rattle.c8_known.specs.Known.{known_of}
+use Rattle.c8_known.specs.Confirmed.{confirmed_rows}
+use Rattle.c8_known.specs.Growth.{Begins as BeginsKnown}
+use Rattle.c8_board.specs.Tokens.{Begins}
 use Rattle.c8_live.specs.declared.error.SessionError.{SessionError}
 use Rattle.c8_live.specs.declared.error.SessionError.TheVariants.{Disk, Wire}
 use Rattle.c8_live.specs.Runs.{does, HasRunOn, IsEnd}
 
-pub still : {D : Type 0} (disk : Ghosts D) (p : PeerValue D) → HasRunOn disk p p
+abbrev pub still : {D : Type 0} (disk : Ghosts D) (p : PeerValue D) → HasRunOn disk p p
 still disk p = record { rules = refl; room = refl; me = refl; calls = []; answers = []; run = refl; disk_is = record { capacity = refl; arms = refl; no_fewer = omega arith } }
 
 -- a run in a match and of a player, told of those that they are
@@ -26,7 +33,7 @@ abbrev pub RunsJoin : Type 0
 RunsJoin = (rules : Rules) (room me : ℕ) (s t u : State) (deeds more : List Deed) (answers others : List (Option Reply)) → IsRun rules room me s deeds answers t → IsRun rules room me t more others u
     → IsRun rules room me s (deeds ++ more) (answers ++ others) u
 
-pub joined : {D : Type 0} (disk : Ghosts D) → RunsJoin → (first middle last : PeerValue D) → HasRunOn disk first middle → HasRunOn disk middle last → HasRunOn disk first last
+abbrev pub joined : {D : Type 0} (disk : Ghosts D) → RunsJoin → (first middle last : PeerValue D) → HasRunOn disk first middle → HasRunOn disk middle last → HasRunOn disk first last
 joined disk join first middle last one two =
     let answers = one.answers ++ two.answers in
     let more = run_of first.rules middle.rules first.room middle.room first.me middle.me middle.state last.state (map does two.calls) two.answers one.rules one.room one.me two.run in
@@ -43,7 +50,7 @@ joined disk join first middle last one two =
     }
 
 -- one call
-pub once : {D : Type 0} (disk : Ghosts D) (old new : PeerValue D) (call : Call) (reply : Reply) → IsAnswered disk old call reply new
+abbrev pub once : {D : Type 0} (disk : Ghosts D) (old new : PeerValue D) (call : Call) (reply : Reply) → IsAnswered disk old call reply new
     → IsDone old.rules old.room old.me old.state (Does call (luck_of reply)) (Some reply) new.state → HasRunOn disk old new
 once disk old new call reply is deed = record {
   rules = is.same.rules;
@@ -53,6 +60,18 @@ once disk old new call reply is deed = record {
   answers = Some reply ∷ [];
   run = (new.state, deed, refl);
   disk_is = is.same.disk_is;
+}
+
+-- a saying, which leaves the peer as it is
+abbrev pub says : {D : Type 0} (disk : Ghosts D) (p : PeerValue D) (call : Call) (reply : Reply) → IsDone p.rules p.room p.me p.state (Does call Works) (Some reply) p.state → HasRunOn disk p p
+says disk p call reply deed = record {
+  rules = refl;
+  room = refl;
+  me = refl;
+  calls = (call, Works) ∷ [];
+  answers = Some reply ∷ [];
+  run = (p.state, deed, refl);
+  disk_is = record { capacity = refl; arms = refl; no_fewer = omega arith };
 }
 
 -- what ends a session after some calls ends it after those before them too
@@ -66,3 +85,22 @@ ended disk join first middle last (Disk why) ran end = record {
   refused = end.refused;
 }
 ended disk join first middle last (Wire failed) ran end = tt
+
+-- ---- rows
+
+pub begins_then : (early middle late : List Row) → Begins early middle → Begins middle late → Begins early late
+begins_then early middle late first second = record {
+  rest = first.rest ++ second.rest;
+  is = second.is ∙ ap (λ (rows : List Row). rows ++ second.rest) first.is ∙ append_assoc early first.rest second.rest;
+}
+
+-- the rows that were confirmed before begin those of the journal that has grown
+pub grown_rows : {D : Type 0} (disk : Ghosts D) (old new : PeerValue D) → HasRunOn disk old new → (rest : List Record) → new.state.journal ≡ old.state.journal ++ rest
+    → BeginsKnown (confirmed_rows (known_of old.rules old.me old.state.journal)) (confirmed_rows (known_of old.rules old.me (old.state.journal ++ rest)))
+    → Begins (confirmed_rows (known_by old)) (confirmed_rows (known_by new))
+grown_rows disk old new ran rest grows begins = record {
+  rest = begins.rest;
+  is = ap (λ (rules : Rules). confirmed_rows (known_of rules new.me new.state.journal)) ran.rules
+      ∙ ap (λ (me : ℕ). confirmed_rows (known_of old.rules me new.state.journal)) ran.me
+      ∙ ap (λ (journal : List Record). confirmed_rows (known_of old.rules old.me journal)) grows ∙ begins.is;
+}

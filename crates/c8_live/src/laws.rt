@@ -1,12 +1,22 @@
 //! What callers may rest on that is no single call's.
+ghost use Rattle.std.specs.Prelude.{◌≡◌, ℕ, ◌+◌, List, [], ◌∷◌, ◌++◌, length};
 ghost use Rattle.c8_peer.specs.Lawful.{IsCall};
-ghost use Rattle.c8_peer.specs.Peer.{PeerValue, IsAnswered};
+ghost use Rattle.c8_peer.specs.Peer.{PeerValue, IsAnswered, IsSaid, IsSound, known_by};
+ghost use Rattle.c8_board.specs.Tokens.{Begins};
+ghost use Rattle.c8_known.specs.Confirmed.{confirmed_rows};
 ghost use Rattle.c8_peer.specs.State.{Call, Reply};
 ghost use Rattle.c8_live.specs.declared.error.SessionError.{SessionError};
+ghost use Rattle.c8_live.specs.Parts.{IsHandedOn};
 ghost use Rattle.c8_live.specs.Runs.{HasRunOn, IsEnd};
+ghost use Rattle.c8_live.specs.Turns.{Doing, Speaks, doing, HasDone, HasSpoken, IsTurn, AreTurns};
+ghost use Rattle.c8_live.specs.Wire.{MayTake};
 
+use crate::wire::Wire;
 use c8_disk::Disk;
-use c8_peer::laws::{calls_are_deeds, runs_join};
+use c8_peer::laws::{
+    a_peers_word_stands, a_word_stands_from_any_journal, calls_are_deeds, runs_join,
+};
+use c8_record::laws::what_a_journal_says_stays;
 
 /// How a peer runs on: by no call (`still`), by one call more (`call`), and by what it runs on by
 /// after that (`joined`). What ends a session then ends it after all of it (`ended`).
@@ -24,3 +34,73 @@ pub fn peers_run_on<D: Disk>()
     runs_join();
     calls_are_deeds::<D>();
 }
+
+/// Calls that do the same, joined: none (`still`), one (`once`), and some after others (`joined`).
+pub fn doings_join<D: Disk>()
+    ensures still { (what : Doing) (p : PeerValue D) → HasDone D.Disk what p p }
+    ensures once { (old new : PeerValue D) (call : Call) (reply : Reply)
+        → IsCall call → IsAnswered D.Disk old call reply new
+        → (done : HasDone D.Disk (doing call) old new) × (length done.ran.calls ≡ 1) }
+    ensures joined { (what : Doing) (first middle last : PeerValue D)
+        → HasDone D.Disk what first middle → HasDone D.Disk what middle last
+        → HasDone D.Disk what first last }
+{
+    runs_join();
+    calls_are_deeds::<D>();
+}
+
+/// What a peer says, joined: nothing (`silent`), a packet that a wire takes or loses (`once`), and
+/// some after others (`joined`).
+pub fn sayings_join<D: Disk, W: Wire>()
+    ensures silent { (p : PeerValue D) (before after : W) → W.sent after ≡ W.sent before
+        → HasSpoken D.Disk W.Wire p before after }
+    ensures once { (p : PeerValue D) (before after : W) (call : Call) (bytes : List ℕ)
+        → IsCall call → doing call ≡ Speaks → IsSaid p call bytes
+        → MayTake (W.sent before) bytes (W.sent after) → HasSpoken D.Disk W.Wire p before after }
+    ensures joined { (p : PeerValue D) (before between after : W)
+        → HasSpoken D.Disk W.Wire p before between → HasSpoken D.Disk W.Wire p between after
+        → HasSpoken D.Disk W.Wire p before after }
+{
+    runs_join();
+    calls_are_deeds::<D>();
+}
+
+/// Turns, joined: none, and one more after some.
+pub fn turns_join<D: Disk, W: Wire>()
+    ensures none { (p : PeerValue D) (before : W) → AreTurns D.Disk W.Wire 0 p p before before }
+    ensures more { (n : ℕ) (old middle new : PeerValue D) (before between after : W)
+        → AreTurns D.Disk W.Wire n old middle before between
+        → IsTurn D.Disk W.Wire middle new between after
+        → AreTurns D.Disk W.Wire (n + 1) old new before after }
+{}
+
+/// The frames that are confirmed at a peer stay so, with the same rows, however it runs on.
+pub fn confirmed_rows_grow<D: Disk>()
+    ensures { (old new : PeerValue D) → IsSound D.Disk old → HasRunOn D.Disk old new
+        → Begins (confirmed_rows (known_by old)) (confirmed_rows (known_by new)) }
+{
+    a_peers_word_stands();
+    a_word_stands_from_any_journal::<D>();
+    what_a_journal_says_stays();
+}
+
+/// By a turn a peer runs on.
+pub fn turns_run_on<D: Disk, W: Wire>()
+    ensures { (old new : PeerValue D) (before after : W)
+        → IsTurn D.Disk W.Wire old new before after → HasRunOn D.Disk old new }
+{
+    runs_join();
+}
+
+/// What is handed on, joined: nothing (`none`), one that may be lost (`once`), and more after it
+/// (`joined`).
+pub fn handings_on_join()
+    ensures none { (from from_now to to_now : List (List ℕ)) → from_now ≡ from → to_now ≡ to
+        → IsHandedOn from from_now to to_now }
+    ensures once { (from from_now to to_now : List (List ℕ)) (one : List ℕ)
+        → from_now ≡ from ++ one ∷ [] → MayTake to one to_now
+        → IsHandedOn from from_now to to_now }
+    ensures joined { (from between from_now to among to_now : List (List ℕ))
+        → IsHandedOn from between to among → IsHandedOn between from_now among to_now
+        → IsHandedOn from from_now to to_now }
+{}

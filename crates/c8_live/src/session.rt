@@ -2,11 +2,12 @@
 
 ghost use Rattle.std.specs.Prelude.{◌≡◌, ◌≤◌, IfSome, IfErr};
 ghost use Rattle.c8_live.specs.Runs.{HasRunOn, IsEnd};
+ghost use Rattle.c8_live.specs.Turns.{Hears, LetsGo, Cuts, HasDone, HasTicked, HasSpoken, IsTurn};
 
 mod calls;
 
 use crate::error::{SessionError, WireFailed};
-use crate::laws::peers_run_on;
+use crate::laws::{doings_join, peers_run_on, sayings_join, turns_run_on};
 use crate::rollbacks::Rollbacks;
 use crate::silence::Silence;
 use crate::wire::{LONGEST_PACKET, Wire};
@@ -102,13 +103,15 @@ impl<'g, D: Disk> Session<'g, D> {
     }
 
     /// One turn: the peer hears, ticks, and as player one lets go and cuts, each a step of the
-    /// definitions; then it speaks. The error is that of the disk or of the wire, which ends the
-    /// session.
+    /// definitions; then it speaks, and what the wire takes is what it said. The error is that of the
+    /// disk or of the wire, which ends the session.
     pub fn turn<W: Wire>(&mut self, wire: &mut W) -> Result<(), SessionError>
+        ensures turn { IsTurn D.Disk W.Wire self.old.peer self.new.peer wire.old wire.new }
         ensures ran { HasRunOn D.Disk self.old.peer self.new.peer }
         ensures end { IfErr result (IsEnd D.Disk self.old.peer self.new.peer) }
     {
         peers_run_on::<D>();
+        turns_run_on::<D, W>();
         self.silence.begin();
         let greeters = self.hear(wire)?;
         self.tick()?;
@@ -124,10 +127,12 @@ impl<'g, D: Disk> Session<'g, D> {
     /// Delivers the packets that wait, and tells of which players a HELLO was taken, player 1's
     /// place first.
     fn hear<W: Wire>(&mut self, wire: &mut W) -> Result<[bool; MOST_PLAYERS], SessionError>
-        ensures ran { HasRunOn D.Disk self.old.peer self.new.peer }
+        ensures ran { HasDone D.Disk Hears self.old.peer self.new.peer }
         ensures end { IfErr result (IsEnd D.Disk self.old.peer self.new.peer) }
+        ensures sent { W.sent wire.new ≡ W.sent wire.old }
     {
         peers_run_on::<D>();
+        doings_join::<D>();
         let mut greeters = [false; MOST_PLAYERS];
         let mut packet = [0; LONGEST_PACKET];
         for _ in 0..MOST_PACKETS {
@@ -145,10 +150,10 @@ impl<'g, D: Disk> Session<'g, D> {
 
     /// Delivers a packet, and answers whose HELLO it was, if it was one and was taken.
     fn deliver(&mut self, packet: &[u8]) -> Result<Option<Player>, SessionError>
-        ensures ran { HasRunOn D.Disk self.old.peer self.new.peer }
+        ensures ran { HasDone D.Disk Hears self.old.peer self.new.peer }
         ensures end { IfErr result (IsEnd D.Disk self.old.peer self.new.peer) }
     {
-        peers_run_on::<D>();
+        doings_join::<D>();
         // A peer takes nothing of what is no datagram.
         let Ok(datagram) = view(packet) else {
             return Ok(None);
@@ -179,7 +184,7 @@ impl<'g, D: Disk> Session<'g, D> {
     /// Enters the next key set, after the last an empty one. One that is refused is entered again in
     /// the next turn.
     fn tick(&mut self) -> Result<(), SessionError>
-        ensures ran { HasRunOn D.Disk self.old.peer self.new.peer }
+        ensures ran { HasTicked D.Disk self.old.peer self.new.peer }
         ensures end { IfErr result (IsEnd D.Disk self.old.peer self.new.peer) }
     {
         let (next, is_past) = match self.keys.get(self.entered) {
@@ -199,10 +204,11 @@ impl<'g, D: Disk> Session<'g, D> {
 
     /// Player one lets go of those who have been silent for too long.
     fn let_go(&mut self) -> Result<(), SessionError>
-        ensures ran { HasRunOn D.Disk self.old.peer self.new.peer }
+        ensures ran { HasDone D.Disk LetsGo self.old.peer self.new.peer }
         ensures end { IfErr result (IsEnd D.Disk self.old.peer self.new.peer) }
     {
         peers_run_on::<D>();
+        doings_join::<D>();
         let Some(patience) = self.patience else {
             return Ok(());
         };
@@ -219,10 +225,11 @@ impl<'g, D: Disk> Session<'g, D> {
 
     /// Player one cuts the leavers whose drop round is ready.
     fn cut(&mut self) -> Result<(), SessionError>
-        ensures ran { HasRunOn D.Disk self.old.peer self.new.peer }
+        ensures ran { HasDone D.Disk Cuts self.old.peer self.new.peer }
         ensures end { IfErr result (IsEnd D.Disk self.old.peer self.new.peer) }
     {
         peers_run_on::<D>();
+        doings_join::<D>();
         for number in 1..self.peer.players() + 1 {
             if let Some(player) = self.other(number)
                 && let Err(DecideError::Disk(error)) = self.peer_cuts(player)
@@ -234,11 +241,10 @@ impl<'g, D: Disk> Session<'g, D> {
     }
 
     /// Says to each other player what there is to say.
-    fn speak<W: Wire>(
-        &self,
-        wire: &mut W,
-        greeters: [bool; MOST_PLAYERS],
-    ) -> Result<(), WireFailed> {
+    fn speak<W: Wire>(&self, wire: &mut W, greeters: [bool; MOST_PLAYERS]) -> Result<(), WireFailed>
+        ensures spoke { HasSpoken D.Disk W.Wire self.now.peer wire.old wire.new }
+    {
+        sayings_join::<D, W>();
         for number in 1..self.peer.players() + 1 {
             if let Some(to) = self.other(number) {
                 let has_greeted = greeters[to.place()];
@@ -256,22 +262,21 @@ impl<'g, D: Disk> Session<'g, D> {
         wire: &mut W,
         to: Player,
         has_greeted: bool,
-    ) -> Result<(), WireFailed> {
+    ) -> Result<(), WireFailed>
+        ensures spoke { HasSpoken D.Disk W.Wire self.now.peer wire.old wire.new }
+    {
+        sayings_join::<D, W>();
         let is_linked = self.peer.is_linked(to);
-        if !is_linked {
-            self.say(wire, to, Kind::Hello)?;
-        }
-        if has_greeted {
-            self.say(wire, to, Kind::Welcome)?;
-        }
-        if is_linked && !has_greeted {
-            self.say(wire, to, Kind::Data)?;
-        }
-        Ok(())
+        self.say_if(!is_linked, wire, to, Kind::Hello)?;
+        self.say_if(has_greeted, wire, to, Kind::Welcome)?;
+        self.say_if(is_linked && !has_greeted, wire, to, Kind::Data)
     }
 
     /// What the drop rounds want said to a player.
-    fn speak_of_leavers<W: Wire>(&self, wire: &mut W, to: Player) -> Result<(), WireFailed> {
+    fn speak_of_leavers<W: Wire>(&self, wire: &mut W, to: Player) -> Result<(), WireFailed>
+        ensures spoke { HasSpoken D.Disk W.Wire self.now.peer wire.old wire.new }
+    {
+        sayings_join::<D, W>();
         for number in 1..self.peer.players() + 1 {
             if let Some(leaver) = Player::new(number)
                 && let Some(kind) = self.round(to, leaver)
@@ -305,8 +310,29 @@ impl<'g, D: Disk> Session<'g, D> {
         }
     }
 
+    /// Says one datagram where it is wanted.
+    fn say_if<W: Wire>(
+        &self,
+        is_wanted: bool,
+        wire: &mut W,
+        to: Player,
+        kind: Kind,
+    ) -> Result<(), WireFailed>
+        ensures spoke { HasSpoken D.Disk W.Wire self.now.peer wire.old wire.new }
+    {
+        sayings_join::<D, W>();
+        if is_wanted {
+            self.say(wire, to, kind)
+        } else {
+            Ok(())
+        }
+    }
+
     /// Says one datagram, if it can be said.
-    fn say<W: Wire>(&self, wire: &mut W, to: Player, kind: Kind) -> Result<(), WireFailed> {
+    fn say<W: Wire>(&self, wire: &mut W, to: Player, kind: Kind) -> Result<(), WireFailed>
+        ensures spoke { HasSpoken D.Disk W.Wire self.now.peer wire.old wire.new }
+    {
+        sayings_join::<D, W>();
         let mut datagram = [0; LONGEST_DATAGRAM];
         match self.peer.say(to, kind, &mut datagram) {
             Ok(size) => wire.send(to, &datagram[..size]),

@@ -1,6 +1,7 @@
 //! How datagrams leave a peer and come to it.
 
-ghost use Rattle.std.specs.Prelude.{◌≤◌, IfOk, IfSome};
+ghost use Rattle.std.specs.Prelude.{◌≡◌, ◌≤◌, ℕ, List, length, IfOk, IfSome};
+ghost use Rattle.c8_live.specs.Wire.{MayTake, Gives};
 
 use crate::error::WireFailed;
 use c8_game::Player;
@@ -13,11 +14,22 @@ pub const LONGEST_PACKET: usize = LONGEST_DATAGRAM + 1;
 /// The way to the other players. A datagram may be lost on it, come twice or late, and no call
 /// waits for anything.
 pub trait Wire {
+    /// The datagrams that it took to send, and did not lose at once, the oldest first.
+    ghost sent: { Self → List (List ℕ) };
+
+    /// The packets that it gave, the oldest first.
+    ghost received: { Self → List (List ℕ) };
+
     /// Sends a datagram to a player. `Ok` says nothing of whether it comes.
-    fn send(&mut self, to: Player, datagram: &[u8]) -> Result<(), WireFailed>;
+    fn send(&mut self, to: Player, datagram: &[u8]) -> Result<(), WireFailed>
+        requires { length datagram.now ≤ LONGEST_DATAGRAM }
+        ensures sent { MayTake (sent self.old) datagram.now (sent self.new) }
+        ensures received { received self.new ≡ received self.old };
 
     /// Takes the next packet that has come, whoever sent it, and answers its length; of a longer
     /// one the first `LONGEST_PACKET` bytes. `None` if none has.
     fn receive(&mut self, packet: &mut [u8; LONGEST_PACKET]) -> Result<Option<usize>, WireFailed>
-        ensures within { IfOk result (λ next. IfSome next (λ size. size ≤ LONGEST_PACKET)) };
+        ensures within { IfOk result (λ next. IfSome next (λ size. size ≤ LONGEST_PACKET)) }
+        ensures received { Gives (received self.old) packet.new result (received self.new) }
+        ensures sent { sent self.new ≡ sent self.old };
 }

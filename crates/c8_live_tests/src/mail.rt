@@ -1,9 +1,9 @@
 //! Mailboxes in memory, and the ways to them.
-ghost use Rattle.std.specs.Prelude.{◌≤◌, IfOk, IfSome};
+ghost use Rattle.std.specs.Prelude.{[]};
 
 use crate::letter::{Letter, letter_of};
 use c8_game::Player;
-use c8_live::{LONGEST_PACKET, Wire, WireFailed};
+use c8_live::{LONGEST_PACKET, Traffic, Wire, WireFailed};
 use std::alloc::Global;
 
 /// What has been said to each player and has not come yet, player 1's first. Of the packets from
@@ -66,21 +66,27 @@ impl Mail {
 pub(crate) struct Door<'m> {
     pub(crate) mail: &'m mut Mail,
     pub(crate) me: Player,
+    pub(crate) traffic: Traffic,
 }
 
 impl Wire for Door<'_> {
+    ghost sent = { λ door. door.traffic.sent.items };
+
+    ghost received = { λ door. door.traffic.received.items };
+
     fn send(&mut self, to: Player, datagram: &[u8]) -> Result<(), WireFailed> {
+        self.traffic.took(datagram);
         self.mail.post(self.me, to, datagram)
     }
 
-    fn receive(&mut self, packet: &mut [u8; LONGEST_PACKET]) -> Result<Option<usize>, WireFailed>
-        ensures within { IfOk result (λ next. IfSome next (λ size. size ≤ LONGEST_PACKET)) }
-    {
+    fn receive(&mut self, packet: &mut [u8; LONGEST_PACKET]) -> Result<Option<usize>, WireFailed> {
         let Some(letter) = self.mail.take(self.me) else {
             return Ok(None);
         };
         packet.copy_from_slice(&letter.bytes);
-        Ok(Some(letter.size.min(LONGEST_PACKET)))
+        let size = letter.size.min(LONGEST_PACKET);
+        self.traffic.gave(&packet[..size]);
+        Ok(Some(size))
     }
 }
 
@@ -92,6 +98,10 @@ pub(crate) struct Lossy {
 }
 
 impl Wire for Lossy {
+    ghost sent = { λ _. [] };
+
+    ghost received = { λ _. [] };
+
     fn send(&mut self, _: Player, _: &[u8]) -> Result<(), WireFailed> {
         if self.fails_to_send {
             Err(WireFailed)

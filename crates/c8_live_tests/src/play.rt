@@ -3,7 +3,7 @@ use crate::mail::{Door, Mail};
 use c8_disk::{Arm, MemDisk};
 use c8_game::{Game, Player};
 use c8_keys::{key_sets, play, write_report};
-use c8_live::{Session, SessionError};
+use c8_live::{Session, SessionError, Traffic};
 use c8_peer::Peer;
 use std::alloc::Global;
 use std::test::Fail;
@@ -90,7 +90,11 @@ fn take_turns(
     for session in sessions.iter_mut() {
         let me = session.peer().me();
         if !session.is_over() && !silent.contains(&me.number) {
-            session.turn(&mut Door { mail, me })?;
+            session.turn(&mut Door {
+                mail,
+                me,
+                traffic: Traffic::new(),
+            })?;
         }
     }
     Ok(())

@@ -1,6 +1,5 @@
 //! A session whose turns are written down, and peers of the other players, whose datagrams are
 //! carried by hand.
-ghost use Rattle.std.specs.Prelude.{◌≤◌, IfOk, IfSome};
 
 use crate::letter::{Letter, letter_of};
 use crate::play::opened;
@@ -8,7 +7,7 @@ use crate::rows::{Comes, DATA, FREEZE, FROZEN, HELLO, WELCOME};
 use c8_disk::MemDisk;
 use c8_game::{Game, Keys, Player};
 use c8_keys::key_sets;
-use c8_live::{LONGEST_PACKET, Session, Wire, WireFailed};
+use c8_live::{LONGEST_PACKET, Session, Traffic, Wire, WireFailed};
 use c8_peer::{Kind, Peer, Refused};
 use c8_wire::{Datagram, LONGEST_DATAGRAM, view};
 use std::alloc::{AllocError, Global};
@@ -21,25 +20,32 @@ struct Recorder {
     /// How many of them have been taken.
     taken: usize,
     sent: Vec<(Player, Letter)>,
+    traffic: Traffic,
 }
 
 impl Wire for Recorder {
+    ghost sent = { λ wire. wire.traffic.sent.items };
+
+    ghost received = { λ wire. wire.traffic.received.items };
+
     fn send(&mut self, to: Player, datagram: &[u8]) -> Result<(), WireFailed> {
         match self.sent.push((to, letter_of(datagram))) {
-            Ok(()) => Ok(()),
+            Ok(()) => {
+                self.traffic.took(datagram);
+                Ok(())
+            }
             Err(_) => Err(WireFailed),
         }
     }
 
-    fn receive(&mut self, packet: &mut [u8; LONGEST_PACKET]) -> Result<Option<usize>, WireFailed>
-        ensures within { IfOk result (λ next. IfSome next (λ size. size ≤ LONGEST_PACKET)) }
-    {
+    fn receive(&mut self, packet: &mut [u8; LONGEST_PACKET]) -> Result<Option<usize>, WireFailed> {
         let Some(letter) = self.waiting.get(self.taken) else {
             return Ok(None);
         };
         packet.copy_from_slice(&letter.bytes);
         let size = letter.size.min(LONGEST_PACKET);
         self.taken = self.taken.saturating_add(1);
+        self.traffic.gave(&packet[..size]);
         Ok(Some(size))
     }
 }
@@ -150,6 +156,7 @@ impl<'g> Table<'g> {
             waiting: Vec::new(alloc),
             taken: 0,
             sent: Vec::new(alloc),
+            traffic: Traffic::new(),
         };
         Ok(Table {
             alloc,

@@ -1,11 +1,11 @@
 //! The way to the other players over one UDP socket.
 
-ghost use Rattle.std.specs.Prelude.{◌≡◌, ◌≤◌, IfOk, IfErr, IfSome};
+ghost use Rattle.std.specs.Prelude.{◌≡◌, IfErr};
 
 use crate::addresses::Addresses;
 use crate::error::SocketError;
 use c8_game::{MOST_PLAYERS, Player};
-use c8_live::{LONGEST_PACKET, Wire, WireFailed};
+use c8_live::{LONGEST_PACKET, Traffic, Wire, WireFailed};
 use mio::net::UdpSocket;
 use std::io;
 use std::io::ErrorKind;
@@ -23,6 +23,7 @@ const MOST_UNHEARD: u8 = 16;
 pub struct Udp {
     socket: UdpSocket,
     others: [Option<SocketAddr>; MOST_PLAYERS],
+    traffic: Traffic,
 }
 
 impl Udp {
@@ -39,28 +40,40 @@ impl Udp {
     /// The way over a socket that is open already, to where the other players are, player 1's place
     /// first.
     pub fn over(socket: UdpSocket, others: [Option<SocketAddr>; MOST_PLAYERS]) -> Udp {
-        Udp { socket, others }
+        Udp {
+            socket,
+            others,
+            traffic: Traffic::new(),
+        }
     }
 }
 
 impl Wire for Udp {
+    ghost sent = { λ udp. udp.traffic.sent.items };
+
+    ghost received = { λ udp. udp.traffic.received.items };
+
     fn send(&mut self, to: Player, datagram: &[u8]) -> Result<(), WireFailed> {
         let Some(address) = self.others[to.place()] else {
             return Ok(());
         };
         match self.socket.send_to(datagram, address) {
-            Ok(_) => Ok(()),
+            Ok(_) => {
+                self.traffic.took(datagram);
+                Ok(())
+            }
             Err(error) if was_unheard(&error) || would_wait(&error) => Ok(()),
             Err(_) => Err(WireFailed),
         }
     }
 
-    fn receive(&mut self, packet: &mut [u8; LONGEST_PACKET]) -> Result<Option<usize>, WireFailed>
-        ensures within { IfOk result (λ next. IfSome next (λ size. size ≤ LONGEST_PACKET)) }
-    {
+    fn receive(&mut self, packet: &mut [u8; LONGEST_PACKET]) -> Result<Option<usize>, WireFailed> {
         for _ in 0..MOST_UNHEARD {
             match self.socket.recv_from(packet) {
-                Ok((size, _)) => return Ok(Some(size)),
+                Ok((size, _)) => {
+                    self.traffic.gave(&packet[..size]);
+                    return Ok(Some(size));
+                }
                 // a datagram that is lost says nothing of the packets that wait
                 Err(error) if was_unheard(&error) => {}
                 Err(error) if would_wait(&error) => return Ok(None),

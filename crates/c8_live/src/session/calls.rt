@@ -4,10 +4,11 @@ ghost use Rattle.std.specs.Prelude.{◌≡◌, Err};
 ghost use Rattle.c8_disk.specs.declared.error.DiskError.{DiskError};
 ghost use Rattle.c8_wire.specs.Packet.{IsPacket};
 ghost use Rattle.c8_wire.specs.Lent.{packet_of};
-ghost use Rattle.c8_live.specs.Runs.{HasRunOn, IsStopped};
+ghost use Rattle.c8_live.specs.Runs.{IsStopped};
+ghost use Rattle.c8_live.specs.Turns.{Hears, LetsGo, Cuts, HasDone, HasTicked};
 
 use super::Session;
-use crate::laws::peers_run_on;
+use crate::laws::{doings_join, peers_run_on};
 use c8_disk::Disk;
 use c8_game::{Keys, Player};
 use c8_peer::{DecideError, Heard, LeaveError, Refused, TickError};
@@ -17,11 +18,12 @@ impl<'g, D: Disk> Session<'g, D> {
     /// The peer hears a datagram. What it runs anew by that is a rollback.
     pub(super) fn peer_hears(&mut self, datagram: &Datagram<'_>) -> Result<Heard, Refused>
         requires { IsPacket (packet_of datagram.now) }
-        ensures ran { HasRunOn D.Disk self.old.peer self.new.peer }
+        ensures ran { HasDone D.Disk Hears self.old.peer self.new.peer }
         ensures stopped { (why : DiskError) → result ≡ Err (Refused.Disk why)
             → IsStopped D.Disk self.old.peer self.new.peer why }
     {
         peers_run_on::<D>();
+        doings_join::<D>();
         let answer = self.peer.deliver_datagram(datagram);
         let frames = frames_of(answer, self.peer.last_run());
         self.rollbacks.note(frames);
@@ -30,32 +32,35 @@ impl<'g, D: Disk> Session<'g, D> {
 
     /// The peer enters a key set.
     pub(super) fn peer_ticks(&mut self, keys: Keys) -> Result<(), TickError>
-        ensures ran { HasRunOn D.Disk self.old.peer self.new.peer }
+        ensures ran { HasTicked D.Disk self.old.peer self.new.peer }
         ensures stopped { (why : DiskError) → result ≡ Err (TickError.Disk why)
             → IsStopped D.Disk self.old.peer self.new.peer why }
     {
         peers_run_on::<D>();
+        doings_join::<D>();
         self.peer.tick(keys)
     }
 
     /// The peer lets a player go, if it is player one's.
     pub(super) fn peer_lets_go(&mut self, leaver: Player) -> Result<(), LeaveError>
-        ensures ran { HasRunOn D.Disk self.old.peer self.new.peer }
+        ensures ran { HasDone D.Disk LetsGo self.old.peer self.new.peer }
         ensures stopped { (why : DiskError) → result ≡ Err (LeaveError.Disk why)
             → IsStopped D.Disk self.old.peer self.new.peer why }
     {
         peers_run_on::<D>();
+        doings_join::<D>();
         self.peer.leave(leaver)
     }
 
     /// The peer cuts a leaver whose drop round is ready, if it is player one's. What it runs anew by
     /// that is a rollback.
     pub(super) fn peer_cuts(&mut self, leaver: Player) -> Result<u32, DecideError>
-        ensures ran { HasRunOn D.Disk self.old.peer self.new.peer }
+        ensures ran { HasDone D.Disk Cuts self.old.peer self.new.peer }
         ensures stopped { (why : DiskError) → result ≡ Err (DecideError.Disk why)
             → IsStopped D.Disk self.old.peer self.new.peer why }
     {
         peers_run_on::<D>();
+        doings_join::<D>();
         let answer = self.peer.decide(leaver);
         let frames = if answer.is_ok() {
             self.peer.last_run()

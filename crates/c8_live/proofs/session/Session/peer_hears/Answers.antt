@@ -9,8 +9,7 @@ use Rattle.c8_live.proofs.session.Session.peer_hears.Goals as goal
 pub returns-clause-ran : goal.returns-clause-ran
 returns-clause-ran g c =
     let peer = c.args.self.now.peer in
-    c.peers_run_on.ensures.call peer peer c.deliver_datagram-answer.new.self (Deliver (Ok (packet_of c.args.datagram.now))) (Delivered c.deliver_datagram-answer.result)
-    (c.peers_run_on.ensures.still peer) c.requires c.deliver_datagram-answer.ensures
+    (c.doings_join.ensures.once peer c.deliver_datagram-answer.new.self (Deliver (Ok (packet_of c.args.datagram.now))) (Delivered c.deliver_datagram-answer.result) c.requires c.deliver_datagram-answer.ensures).0
 
 pub returns-clause-stopped : goal.returns-clause-stopped
 returns-clause-stopped g c why is =

@@ -7,7 +7,7 @@ use Rattle.c8_live.proofs.session.Session.peer_lets_go.Goals as goal
 pub returns-clause-ran : goal.returns-clause-ran
 returns-clause-ran g c =
     let peer = c.args.self.now.peer in
-    c.peers_run_on.ensures.call peer peer c.leave.new.self (Leave c.args.leaver.number) (Left c.leave.result) (c.peers_run_on.ensures.still peer) tt c.leave.ensures
+    (c.doings_join.ensures.once peer c.leave.new.self (Leave c.args.leaver.number) (Left c.leave.result) tt c.leave.ensures).0
 
 pub returns-clause-stopped : goal.returns-clause-stopped
 returns-clause-stopped g c why is =

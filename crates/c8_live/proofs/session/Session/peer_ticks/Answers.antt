@@ -7,7 +7,8 @@ use Rattle.c8_live.proofs.session.Session.peer_ticks.Goals as goal
 pub returns-clause-ran : goal.returns-clause-ran
 returns-clause-ran g c =
     let peer = c.args.self.now.peer in
-    c.peers_run_on.ensures.call peer peer c.tick.new.self (Tick c.args.keys.0) (Ticked c.tick.result) (c.peers_run_on.ensures.still peer) (omega arith) c.tick.ensures
+    let one = c.doings_join.ensures.once peer c.tick.new.self (Tick c.args.keys.0) (Ticked c.tick.result) (omega arith) c.tick.ensures in
+    (one.0, omega (arith, one.1))
 
 pub returns-clause-stopped : goal.returns-clause-stopped
 returns-clause-stopped g c why is =

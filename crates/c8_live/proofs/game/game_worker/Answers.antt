@@ -1,0 +1,68 @@
+use Rattle.std.proofs.Common.{◌≡◌, ◌+◌, List, ap, subst, sym, ◌∙◌}
+use Rattle.std.proofs.lemmas.Result.{err_from_is_err_and}
+use Rattle.c8_game.specs.declared.row.Row.{Row}
+use Rattle.c8_board.specs.Tokens.{PenValue, Begins}
+use Rattle.c8_known.specs.Confirmed.{confirmed_rows}
+use Rattle.c8_peer.specs.Peer.{PeerValue, known_by, IsSound}
+use Rattle.c8_live.specs.Published.{IsShown}
+use Rattle.c8_live.proofs.RunLemmas.{begins_then}
+use Rattle.c8_live.proofs.game.game_worker.Goals as goal
+use Rattle.c8_live.proofs.game.game_worker.Goals.{then-is_over-via-then-is_over, then-is_over-via-else-is_over+then-stop_asked, then-is_over-via-else-is_over+else-stop_asked+then-not-before}
+
+-- the rows of a pen that shows these
+shown_rows : (pen : PenValue) (rows : List Row) (early : List Row) → pen.rows ≡ rows → Begins early rows → Begins early pen.rows
+shown_rows pen rows early is begins = subst (λ (l : List Row). Begins early l) (sym is) begins
+
+-- a pen that shows these rows after others
+show_again : (first old new : PenValue) (one two : List Row) → old ≡ record first { rows = one } → new ≡ record old { rows = two } → new ≡ record first { rows = two }
+show_again first old new one two shown again = again ∙ ap (λ (pen : PenValue). record pen { rows = two }) shown
+
+pub returns-in_err-turn-clause-turns : goal.returns-in_err-turn-clause-turns
+returns-in_err-turn-clause-turns g c = (
+  c.loop-turn.turn + 1,
+  c.turns_join.ensures.more c.loop-turn.turn c.args.session.now.peer c.loop-turn.session.peer c.turn.new.self.peer c.args.wire.now c.loop-turn.wire c.turn.new.wire c.loop-turn.invariant.turns c.in_err-turn.ensures.turn,
+)
+
+pub returns-in_err-turn-clause-end : goal.returns-in_err-turn-clause-end
+returns-in_err-turn-clause-end g c =
+    let error = err_from_is_err_and c.from_residual.result c.from_residual.ensures.1 in
+    rw (error.1, error.2)
+    (c.peers_run_on.ensures.ended c.args.session.now.peer c.loop-turn.session.peer c.turn.new.self.peer c.in_err-turn.field-0.0 c.loop-turn.invariant.ran c.in_err-turn.ensures.end)
+
+pub returns-in_err-turn-clause-begins : goal.returns-in_err-turn-clause-begins
+returns-in_err-turn-clause-begins g c =
+    shown_rows c.stop_asked.new.pen (confirmed_rows (known_by c.loop-turn.session.peer)) c.args.pen.now.rows
+    (ap (λ (pen : PenValue). pen.rows) (c.stop_asked.ensures ∙ c.loop-turn.invariant.shown)) c.loop-turn.invariant.begins
+
+pub publish-requires-in-loop-turn-clause-rows : goal.publish-requires-in-loop-turn-clause-rows
+publish-requires-in-loop-turn-clause-rows g c =
+    subst (λ (peer : PeerValue g.row.D.Denot). Begins c.stop_asked.new.pen.rows (confirmed_rows (known_by peer))) (sym c.peer-in-loop-turn.ensures)
+    (subst (λ (rows : List Row). Begins rows (confirmed_rows (known_by c.turn.new.self.peer)))
+    (sym (ap (λ (pen : PenValue). pen.rows) (c.stop_asked.ensures ∙ c.loop-turn.invariant.shown)))
+    (c.confirmed_rows_grow.ensures c.loop-turn.session.peer c.turn.new.self.peer c.loop-turn.invariant.sound c.in_ok-turn.ensures.ran))
+
+pub loop-turn-preserved : goal.loop-turn-preserved
+loop-turn-preserved g c = record {
+  turns = c.turns_join.ensures.more c.loop-turn.turn c.args.session.now.peer c.loop-turn.session.peer c.turn.new.self.peer c.args.wire.now c.loop-turn.wire c.turn.new.wire c.loop-turn.invariant.turns c.in_ok-turn.ensures.turn;
+  ran = c.peers_run_on.ensures.joined c.args.session.now.peer c.loop-turn.session.peer c.turn.new.self.peer c.loop-turn.invariant.ran c.in_ok-turn.ensures.ran;
+  sound = subst (IsSound g.D.Disk) c.peer-in-loop-turn.ensures c.publish-in-loop-turn.ensures.sound;
+  shown = subst (λ (peer : PeerValue g.row.D.Denot). IsShown peer c.args.pen.now c.publish-in-loop-turn.new.pen) c.peer-in-loop-turn.ensures
+      (show_again c.args.pen.now c.stop_asked.new.pen c.publish-in-loop-turn.new.pen (confirmed_rows (known_by c.loop-turn.session.peer)) (confirmed_rows (known_by c.peer-in-loop-turn.result.now))
+      (c.stop_asked.ensures ∙ c.loop-turn.invariant.shown) c.publish-in-loop-turn.ensures.shown);
+  begins = begins_then c.args.pen.now.rows (confirmed_rows (known_by c.loop-turn.session.peer)) (confirmed_rows (known_by c.turn.new.self.peer)) c.loop-turn.invariant.begins
+      (c.confirmed_rows_grow.ensures c.loop-turn.session.peer c.turn.new.self.peer c.loop-turn.invariant.sound c.in_ok-turn.ensures.ran);
+}
+
+pub returns-after-loop-turn-clause-begins : goal.returns-after-loop-turn-clause-begins
+returns-after-loop-turn-clause-begins g c =
+    shown_rows c.loop-turn.pen (confirmed_rows (known_by c.loop-turn.session.peer)) c.args.pen.now.rows (ap (λ (pen : PenValue). pen.rows) c.loop-turn.invariant.shown) c.loop-turn.invariant.begins
+
+pub returns-then-is_over-clause-begins : goal.returns-then-is_over-clause-begins
+returns-then-is_over-clause-begins g c =
+    shown_rows c.then-is_over.pen (confirmed_rows (known_by c.loop-turn.session.peer)) c.args.pen.now.rows
+    (elim c.then-is_over.branch [
+      | then-is_over-via-then-is_over w ↦ ap (λ (pen : PenValue). pen.rows) (w.pen-is ∙ c.loop-turn.invariant.shown)
+      | then-is_over-via-else-is_over+then-stop_asked w ↦ ap (λ (pen : PenValue). pen.rows) (w.pen-is ∙ w.stop_asked.ensures ∙ c.loop-turn.invariant.shown)
+      | then-is_over-via-else-is_over+else-stop_asked+then-not-before w ↦ ap (λ (pen : PenValue). pen.rows) (w.pen-is ∙ w.stop_asked.ensures ∙ c.loop-turn.invariant.shown)
+    ])
+    c.loop-turn.invariant.begins

@@ -1,0 +1,16 @@
+-- What is handed on of a list, in its order, where some of it may be lost.
+use Rattle.std.specs.Prelude.{◌≡◌, ◌⊎◌, ℕ, List, [], ◌∷◌, ◌++◌}
+
+-- the first list is the second one with some left out
+abbrev pub IsPart : List (List ℕ) → List (List ℕ) → Type 0
+IsPart [] whole = Unit {0}
+IsPart (one ∷ part) [] = ⊥
+IsPart (one ∷ part) (first ∷ whole) = ((one ≡ first) × IsPart part whole) ⊎ IsPart (one ∷ part) whole
+
+-- One list has grown, and another one by a part of that.
+pub record IsHandedOn (from from_now to to_now : List (List ℕ)) : Type 0 where
+  pub came : List (List ℕ)
+  pub went : List (List ℕ)
+  pub from_is : from_now ≡ from ++ came
+  pub to_is : to_now ≡ to ++ went
+  pub part : IsPart went came

@@ -1,0 +1,73 @@
+-- What a turn of a session is: which calls of its peer it makes, in which order, and what of that its wire takes.
+use Rattle.std.specs.Prelude.{◌≡◌, ◌⊎◌, ◌≤◌, ℕ, zero, suc, List, [], ◌∷◌, ◌++◌, length, Option, Some, Ok}
+use Rattle.std.specs.List.{All}
+use Rattle.c8_disk.specs.declared.disk.Disk.{Ghosts as DiskGhosts}
+use Rattle.c8_wire.specs.Packet.{Packet}
+use Rattle.c8_wire.specs.Spelling.{Spells}
+use Rattle.c8_peer.specs.State.{Call, Reply, Tick, Deliver, Say, Leave, Decide, Said}
+use Rattle.c8_peer.specs.Steps.{Luck}
+use Rattle.c8_peer.specs.Peer.{PeerValue}
+use Rattle.c8_live.specs.declared.wire.Wire.{Ghosts as WireGhosts}
+use Rattle.c8_live.specs.Runs.{HasRunOn}
+
+-- ---- which calls
+
+pub data Doing : Type 0 where
+  Hears : Doing
+  Ticks : Doing
+  LetsGo : Doing
+  Cuts : Doing
+  Speaks : Doing
+
+abbrev pub doing : Call → Doing
+doing (Deliver told) = Hears
+doing (Tick keys) = Ticks
+doing (Leave leaver) = LetsGo
+doing (Decide leaver) = Cuts
+doing (Say to what) = Speaks
+
+-- a run of calls that all do the same
+pub record HasDone {D : Type 0} (disk : DiskGhosts D) (what : Doing) (old new : PeerValue D) : Type 0 where
+  pub ran : HasRunOn disk old new
+  pub alike : All (λ (call : Call × Luck). doing call.0 ≡ what) ran.calls
+
+abbrev pub HasTicked : {D : Type 0} → DiskGhosts D → PeerValue D → PeerValue D → Type 0
+HasTicked disk old new = (done : HasDone disk Ticks old new) × (length done.ran.calls ≤ 1)
+
+-- ---- what is said
+
+-- these bytes spell the packet that was said
+abbrev pub SpellsAnswer : List ℕ → Option Reply → Type 0
+SpellsAnswer bytes answer = (packet : Packet) × (answer ≡ Some (Said (Ok packet))) × Spells bytes packet
+
+-- each of these was said, in this order; of what was said there may be more, which was lost
+abbrev pub WereSaid : List (List ℕ) → List (Option Reply) → Type 0
+WereSaid [] answers = Unit {0}
+WereSaid (bytes ∷ rest) [] = ⊥
+WereSaid (bytes ∷ rest) (answer ∷ answers) = (SpellsAnswer bytes answer × WereSaid rest answers) ⊎ WereSaid (bytes ∷ rest) answers
+
+-- The peer has spoken, which leaves it as it is, and what the wire took was said then.
+pub record HasSpoken {D W : Type 0} (disk : DiskGhosts D) (wire : WireGhosts W) (peer : PeerValue D) (before after : W) : Type 0 where
+  pub done : HasDone disk Speaks peer peer
+  pub taken : List (List ℕ)
+  pub sent : wire.sent after ≡ wire.sent before ++ taken
+  pub said : WereSaid taken done.ran.answers
+
+-- ---- turns
+
+-- A turn: the peer hears, ticks at most once, lets go, cuts and speaks. Where the disk or the wire ends it, nothing follows.
+pub record IsTurn {D W : Type 0} (disk : DiskGhosts D) (wire : WireGhosts W) (old new : PeerValue D) (before after : W) : Type 0 where
+  pub heard : PeerValue D
+  pub ticked : PeerValue D
+  pub let_go : PeerValue D
+  pub hears : HasDone disk Hears old heard
+  pub ticks : HasTicked disk heard ticked
+  pub lets_go : HasDone disk LetsGo ticked let_go
+  pub cuts : HasDone disk Cuts let_go new
+  pub speaks : HasSpoken disk wire new before after
+
+-- so many turns, one after another; between two of them nothing is sent
+abbrev pub AreTurns : {D W : Type 0} → DiskGhosts D → WireGhosts W → ℕ → PeerValue D → PeerValue D → W → W → Type 0
+AreTurns disk wire zero old new before after = (new ≡ old) × (wire.sent after ≡ wire.sent before)
+AreTurns {D} {W} disk wire (suc fewer) old new before after =
+    (middle : PeerValue D) × (between : W) × AreTurns disk wire fewer old middle before between × IsTurn disk wire middle new between after

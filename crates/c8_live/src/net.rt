@@ -1,0 +1,119 @@
+//! The thread that moves packets, so that the network never waits for the machine.
+ghost use Rattle.std.specs.Prelude.{◌≡◌, ◌≤◌, length};
+ghost use Rattle.c8_live.specs.Parts.{IsHandedOn};
+ghost use Rattle.c8_live.specs.Wire.{MayTake};
+
+use crate::error::WireFailed;
+use crate::gate::{Gate, Worker};
+use crate::laws::handings_on_join;
+use crate::wire::{LONGEST_PACKET, Wire};
+use c8_game::Player;
+use c8_inlet::{Packet, Putter, Taker};
+use c8_wire::{LONGEST_DATAGRAM, view};
+use std::sync::Wait;
+
+/// How many packets an inlet between the two workers has places for.
+pub const PLACES: usize = 64;
+
+/// Moves packets until the gate ends it: those that the wire gives into the inbox, and those of the
+/// outbox to the wire. A packet that finds no place in the inbox is lost; it answers how many were.
+/// The error is the wire's; all that was moved before has been.
+pub fn net_worker<R: Wait, W: Wire, G: Gate>(
+    rt: &R,
+    wire: &mut W,
+    outbox: &mut Taker,
+    inbox: &mut Putter,
+    gate: &G,
+) -> Result<u64, WireFailed>
+    ensures sent { IsHandedOn outbox.old.taken outbox.new.taken
+        (W.sent wire.old) (W.sent wire.new) }
+    ensures received { IsHandedOn (W.received wire.old) (W.received wire.new)
+        inbox.old.put inbox.new.put }
+    ensures outbox { outbox.new.inlet ≡ outbox.old.inlet }
+    ensures inbox { inbox.new.inlet ≡ inbox.old.inlet }
+{
+    handings_on_join();
+    let mut turn: u64 = 0;
+    let mut lost: u64 = 0;
+    for _ in rt.forever() {
+        if !gate.before(Worker::Net, turn) {
+            break;
+        }
+        lost = lost.saturating_add(take_in(wire, inbox)?);
+        send_out(wire, outbox)?;
+        gate.after(Worker::Net, turn);
+        turn = turn.saturating_add(1);
+    }
+    Ok(lost)
+}
+
+/// Puts packets that have come into the inbox, as many as it has places at most, and answers how
+/// many were lost.
+fn take_in<W: Wire>(wire: &mut W, inbox: &mut Putter) -> Result<u64, WireFailed>
+    ensures received { IsHandedOn (W.received wire.old) (W.received wire.new)
+        inbox.old.put inbox.new.put }
+    ensures sent { W.sent wire.new ≡ W.sent wire.old }
+    ensures inbox { inbox.new.inlet ≡ inbox.old.inlet }
+{
+    handings_on_join();
+    let mut buffer = [0; LONGEST_PACKET];
+    let mut lost: u64 = 0;
+    for _ in 0..PLACES {
+        match wire.receive(&mut buffer)? {
+            Some(size) => {
+                if !put(inbox, &buffer[..size]) {
+                    lost = lost.saturating_add(1);
+                }
+            }
+            None => break,
+        }
+    }
+    Ok(lost)
+}
+
+/// Puts a packet in, and answers whether there was a place for it.
+fn put(inbox: &mut Putter, bytes: &[u8]) -> bool
+    ensures taken { MayTake inbox.old.put bytes.now inbox.new.put }
+    ensures inbox { inbox.new.inlet ≡ inbox.old.inlet }
+{
+    match Packet::try_from(bytes) {
+        Ok(packet) => inbox.put(packet).is_ok(),
+        Err(_) => false,
+    }
+}
+
+/// Sends the packets of the outbox, as many as it has places at most.
+fn send_out<W: Wire>(wire: &mut W, outbox: &mut Taker) -> Result<(), WireFailed>
+    ensures sent { IsHandedOn outbox.old.taken outbox.new.taken
+        (W.sent wire.old) (W.sent wire.new) }
+    ensures received { W.received wire.new ≡ W.received wire.old }
+    ensures outbox { outbox.new.inlet ≡ outbox.old.inlet }
+{
+    handings_on_join();
+    for _ in 0..PLACES {
+        match outbox.take() {
+            Some(packet) => send(wire, packet.as_bytes())?,
+            None => break,
+        }
+    }
+    Ok(())
+}
+
+/// Sends a datagram to the player whom it names. What is none is lost.
+fn send<W: Wire>(wire: &mut W, bytes: &[u8]) -> Result<(), WireFailed>
+    ensures sent { MayTake (W.sent wire.old) bytes.now (W.sent wire.new) }
+    ensures received { W.received wire.new ≡ W.received wire.old }
+{
+    match addressee(bytes) {
+        Some(to) if bytes.len() <= LONGEST_DATAGRAM => wire.send(to, bytes),
+        _ => Ok(()),
+    }
+}
+
+/// Whom a datagram is for.
+fn addressee(bytes: &[u8]) -> Option<Player> {
+    match view(bytes) {
+        Ok(datagram) => datagram.header().to().player(),
+        Err(_) => None,
+    }
+}

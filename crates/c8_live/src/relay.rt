@@ -1,0 +1,67 @@
+//! The game thread's way to the net thread.
+ghost use Rattle.std.specs.Prelude.{◌≡◌};
+
+use crate::error::WireFailed;
+use crate::wire::{LONGEST_PACKET, Wire};
+use c8_game::Player;
+use c8_inlet::{Packet, Putter, Taker};
+use c8_wire::LONGEST_DATAGRAM;
+
+/// A wire of two inlets: what is sent is put into the one, and what has come is taken out of the
+/// other. Where no place is free a datagram is lost, and counted. It never fails.
+#[derive(Drop)]
+pub struct Relay {
+    outbox: Putter,
+    inbox: Taker,
+    lost: u64,
+}
+
+impl Relay {
+    /// Over the end of an inlet to put into, and that of another one to take from.
+    pub fn new(outbox: Putter, inbox: Taker) -> Relay
+        ensures outbox { result.outbox ≡ outbox }
+        ensures inbox { result.inbox ≡ inbox }
+    {
+        Relay {
+            outbox,
+            inbox,
+            lost: 0,
+        }
+    }
+
+    /// How many datagrams found no place.
+    pub fn lost(&self) -> u64 {
+        self.lost
+    }
+
+    /// The two ends again.
+    pub fn into_ends(self) -> (Putter, Taker)
+        ensures { (result.0 ≡ self.outbox) × (result.1 ≡ self.inbox) }
+    {
+        (self.outbox, self.inbox)
+    }
+}
+
+impl Wire for Relay {
+    ghost sent = { λ relay. relay.outbox.put };
+
+    ghost received = { λ relay. relay.inbox.taken };
+
+    fn send(&mut self, _to: Player, datagram: &[u8]) -> Result<(), WireFailed> {
+        if let Ok(packet) = Packet::try_from(datagram)
+            && self.outbox.put(packet).is_err()
+        {
+            self.lost = self.lost.saturating_add(1);
+        }
+        Ok(())
+    }
+
+    fn receive(&mut self, packet: &mut [u8; LONGEST_PACKET]) -> Result<Option<usize>, WireFailed> {
+        let Some(taken) = self.inbox.take() else {
+            return Ok(None);
+        };
+        let bytes = taken.as_bytes();
+        packet[..bytes.len()].copy_from_slice(bytes);
+        Ok(Some(bytes.len()))
+    }
+}

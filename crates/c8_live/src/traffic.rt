@@ -1,0 +1,55 @@
+//! What goes over a wire, for those who reason about it.
+ghost use Rattle.std.specs.Prelude.{◌≡◌, ◌≤◌, [], ◌∷◌, ◌++◌, length};
+
+use crate::wire::LONGEST_PACKET;
+use c8_disk::GhostList;
+use c8_inlet::Packet;
+
+/// The packets that a wire took to send and those that it gave, the oldest first. It takes no room:
+/// a wire that keeps none of them has one, and its `sent` and `received` are read of it.
+#[derive(Debug, Drop)]
+pub struct Traffic {
+    pub sent: GhostList<Packet>,
+    pub received: GhostList<Packet>,
+}
+
+impl Default for Traffic {
+    fn default() -> Traffic {
+        Traffic::new()
+    }
+}
+
+impl Traffic {
+    /// None yet.
+    pub fn new() -> Traffic
+        ensures sent { result.sent.items ≡ [] }
+        ensures received { result.received.items ≡ [] }
+    {
+        Traffic {
+            sent: GhostList::new(),
+            received: GhostList::new(),
+        }
+    }
+
+    /// One more was taken to send.
+    pub fn took(&mut self, packet: &[u8])
+        requires { length packet.now ≤ LONGEST_PACKET }
+        ensures sent { self.new.sent.items ≡ self.old.sent.items ++ packet.now ∷ [] }
+        ensures received { self.new.received.items ≡ self.old.received.items }
+    {
+        if let Ok(packet) = Packet::try_from(packet) {
+            self.sent = self.sent.and(&packet);
+        }
+    }
+
+    /// One more was given.
+    pub fn gave(&mut self, packet: &[u8])
+        requires { length packet.now ≤ LONGEST_PACKET }
+        ensures sent { self.new.sent.items ≡ self.old.sent.items }
+        ensures received { self.new.received.items ≡ self.old.received.items ++ packet.now ∷ [] }
+    {
+        if let Ok(packet) = Packet::try_from(packet) {
+            self.received = self.received.and(&packet);
+        }
+    }
+}

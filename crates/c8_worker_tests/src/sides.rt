@@ -1,0 +1,127 @@
+//! The players of a game of two, each with what its worker takes.
+ghost use Rattle.std.specs.Prelude.{◌≡◌, [], IfOk};
+ghost use Rattle.c8_board.specs.Tokens.{new_viewer};
+
+use crate::gates::Turns;
+use c8_board::{Board, Look, Pen, Viewer};
+use c8_disk::MemDisk;
+use c8_game::{Game, Player};
+use c8_inlet::inlet;
+use c8_keys::key_sets;
+use c8_live::{PLACES, Relay, Session, game_worker};
+use c8_peer::Peer;
+use std::alloc::{AllocError, Global};
+use std::test::Fail;
+
+/// A game of two players and 20 frames. V0 counts the loops, V1 those in which key 5 is down.
+const GAME: &str =
+    "players 2\nipf 10\nframes 20\ndelay 0\nwindow 8\nseed 0\nmask1 ffff\nmask2 ffff\ncode 6205e2a1710170011202\n";
+
+/// A session, its way to the other one, and a board with its pen and a viewer.
+#[derive(Drop)]
+pub(crate) struct Side<'g> {
+    session: Session<'g, MemDisk>,
+    relay: Relay,
+    board: Board,
+    pen: Pen,
+    viewer: Viewer,
+    ghost writes: { pen.board ≡ board },
+    ghost watches: { viewer.board ≡ board },
+    ghost plays: { pen.game ≡ session.peer.rules },
+    ghost fresh: { pen.rows ≡ [] },
+}
+
+/// What a worker came to: how many turns it made if it did not fail, how many frames are confirmed
+/// at its peer, and what its board shows.
+#[derive(Drop)]
+pub(crate) struct Outcome {
+    pub(crate) made: Option<u64>,
+    pub(crate) confirmed: u32,
+    pub(crate) shown: Look,
+}
+
+pub(crate) fn game_of(alloc: Global) -> Result<Game, Fail> {
+    Ok(Game::read(alloc, GAME.as_bytes())?)
+}
+
+/// Two relays, each of which takes what the other one sends.
+pub(crate) fn relays(alloc: Global) -> Result<(Relay, Relay), AllocError> {
+    let (to_two, from_one) = inlet(alloc, PLACES)?;
+    let (to_one, from_two) = inlet(alloc, PLACES)?;
+    Ok((Relay::new(to_two, from_two), Relay::new(to_one, from_one)))
+}
+
+/// A player's session on a new disk.
+fn session_of<'g>(
+    alloc: Global,
+    game: &'g Game,
+    number: u8,
+    keys: &str,
+) -> Result<Session<'g, MemDisk>, Fail>
+    ensures { IfOk result (λ session. session.peer.rules ≡ game.entry.now) }
+{
+    let disk = MemDisk::new(alloc, 100_000, 4000)?;
+    let Some(me) = Player::new(number) else {
+        return Err(Fail::new("no player"));
+    };
+    match Peer::open(alloc, disk, game, me, 7) {
+        Ok(peer) => Ok(Session::new(peer, game, key_sets(alloc, keys.as_bytes())?, None)),
+        Err((error, _disk)) => Err(Fail::new(error)),
+    }
+}
+
+/// A board with its pen and a viewer.
+fn opened(alloc: Global, game: &Game) -> Result<(Board, Pen, Viewer), Fail>
+    ensures pen { IfOk result (λ r.
+        r.1 ≡ record { board = r.0; game = game.now; rows = [] }) }
+    ensures viewer { IfOk result (λ r. r.2 ≡ new_viewer r.0 game.now) }
+{
+    let (board, pen, mut viewers) = Board::open(alloc, game, 1)?;
+    match viewers.pop() {
+        Some(viewer) => Ok((board, pen, viewer)),
+        None => Err(Fail::new("no viewer")),
+    }
+}
+
+impl<'g> Side<'g> {
+    pub(crate) fn new(
+        alloc: Global,
+        game: &'g Game,
+        number: u8,
+        keys: &str,
+        relay: Relay,
+    ) -> Result<Side<'g>, Fail> {
+        let session = session_of(alloc, game, number, keys)?;
+        let (board, pen, viewer) = opened(alloc, game)?;
+        Ok(Side {
+            session,
+            relay,
+            board,
+            pen,
+            viewer,
+        })
+    }
+
+    /// Its viewer asks for the end.
+    pub(crate) fn ask_stop(&mut self) {
+        self.board.ask_stop(&mut self.viewer);
+    }
+
+    /// Its worker runs, at most so many turns, while the gate lets it.
+    pub(crate) fn work(self, turns: u64, gate: &Turns) -> Outcome {
+        let Side {
+            mut session,
+            mut relay,
+            board,
+            mut pen,
+            viewer,
+        } = self;
+        let made = game_worker(&mut session, &mut relay, &board, &mut pen, turns, gate);
+        let (shown, _, _) = board.look_with(pen, viewer);
+        Outcome {
+            made: made.ok(),
+            confirmed: session.peer().confirmed(),
+            shown,
+        }
+    }
+}
