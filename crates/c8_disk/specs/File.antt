@@ -59,12 +59,13 @@ module _ {S : Type 0} where
   abbrev pub file_arms : FileDisk S → List Arm
   file_arms disk = disk.arms.items
 
-  -- after a call that is answered so: it is still the file that was opened, and it is down where the call failed, and only there
+  -- after a call that is answered so: it is still the file that was opened, and it is down where the call failed, and only
+  -- there; a read takes no disk down
   abbrev pub IsFileAfter : FileDisk S → Result (Unit {0}) DiskError → FileDisk S → Type 0
   IsFileAfter old result new = (file_first new ≡ file_first old) × (IsErrOf result Failed ↔ (file_is_down new ≡ true))
 
   abbrev pub IsFileCall : FileDisk S → DiskCall → FileDisk S → Type 0
-  IsFileCall old (Reading at count result) new = IsFileAfter old result new
+  IsFileCall old (Reading at count result) new = IsFileAfter old result new × (file_is_down new ≡ file_is_down old)
   IsFileCall old (Writing at bytes result) new = IsFileAfter old result new
   IsFileCall old (Syncing result) new = IsFileAfter old result new
 

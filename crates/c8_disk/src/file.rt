@@ -1,5 +1,5 @@
 //! A disk in a file of the operating system.
-ghost use Rattle.std.specs.Prelude.{◌≡◌, ◌≤◌, ◌<◌, ◌+◌, ◌↔◌, [], ◌∷◌, ◌++◌, true, false, length, take, drop, vec_len, vec_capacity, IfOk, IfErr, OnOk, OnErr, IsErrOf, IsTrue};
+ghost use Rattle.std.specs.Prelude.{◌≡◌, ◌≤◌, ◌<◌, ◌+◌, ◌↔◌, [], ◌∷◌, ◌++◌, true, false, length, take, drop, vec_len, vec_capacity, IfOk, IfErr, OnOk, OnErr, IsErrOf};
 ghost use Rattle.c8_disk.specs.Disk.{Reading, Writing, Syncing, Only, AddsNone, Writes, WritesImages, Elapses, HasCause, longest_write};
 ghost use Rattle.c8_disk.specs.Past.{IsImage, LeftSince, AddsWrite};
 ghost use Rattle.c8_disk.specs.checked.PastLaws.{reads_image, counts, only};
@@ -18,11 +18,11 @@ use std::fs::File;
 use std::rt::Files;
 pub use system::{OpenedFile, SystemFile};
 
-/// A disk in a file. What the file holds is kept in memory too, and each read is compared with it:
-/// what a read gives is what the file held when it was opened, with what was written since. After a
-/// call that failed every call fails, until the file is opened anew. No call takes memory: room for
-/// the whole capacity is reserved at the opening, as address space, of which as much becomes
-/// resident as the file is long.
+/// A disk in a file. What the file holds is kept in memory too, and a read is of that: what the file
+/// held when it was opened, with what was written since. Nobody else writes it meanwhile, since it is
+/// locked. After a write or a sync that failed every call fails, until the file is opened anew. No
+/// call takes memory: room for the whole capacity is reserved at the opening, as address space, of
+/// which as much becomes resident as the file is long.
 ///
 /// That a crash leaves in the file what the model of a disk says is a premise. So the device has to
 /// spare the other bytes of a sector of which one byte is written.
@@ -78,13 +78,6 @@ fn read_durable<S: SystemFile>(
     bytes.resize(length as usize, 0)?;
     file.read_exact_at(bytes, 0)?;
     Ok(())
-}
-
-/// Reads from a file, and says whether what came is what is known to be there.
-fn reads_known<S: SystemFile>(file: &S, at: u32, buffer: &mut [u8], known: &[u8]) -> bool
-    ensures { IsTrue result → buffer.new ≡ known.now }
-{
-    file.read_exact_at(buffer, u64::from(at)).is_ok() && &buffer[..] == known
 }
 
 impl FileDisk {
@@ -208,19 +201,18 @@ impl<S: SystemFile> Disk for FileDisk<S> {
         ensures arms { file_arms self.new ≡ file_arms self.old }
         ensures does { IsFileCall self.old (Reading at (length buffer.old) result) self.new }
 
-        // A call that fails takes the disk down, and a disk that is down fails each call.
-        ensures down { IsErrOf result DiskError.Failed ↔ (file_is_down self.new ≡ true) }
-        ensures stays_down { file_is_down self.old ≡ true → IsErrOf result DiskError.Failed }
+        // A disk that is down fails each read, and one that is up none.
+        ensures down { IsErrOf result DiskError.Failed ↔ (file_is_down self.old ≡ true) }
+        ensures stays { file_is_down self.new ≡ file_is_down self.old }
         ensures first { file_first self.new ≡ file_first self.old }
         ensures calls { file_calls self.new ≡ file_calls self.old }
     {
-        let place = at as usize;
-        let held = &self.held;
-        let known = &held.bytes[place..place + buffer.len()];
-        if self.health.is_down || !reads_known(&self.file, at, buffer, known) {
+        if self.health.is_down {
             self.health.fail();
             return Err(DiskError::Failed);
         }
+        let place = at as usize;
+        buffer.copy_from_slice(&self.held.bytes[place..place + buffer.len()]);
         Ok(())
     }
 

@@ -1,3 +1,4 @@
 pub mod TakenLemmas
 pub mod ReplayLemmas
 mod WindowLemmas
+mod FieldLemmas

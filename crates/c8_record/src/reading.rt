@@ -8,7 +8,7 @@ ghost use Rattle.c8_record.specs.Lent.{value_of, IsSliceOf, HasInputs};
 ghost use Rattle.c8_wire.specs.Sizes.{longest_run};
 
 use crate::record::{RUN_PLACE, Record};
-use crate::writing::body_of;
+use crate::writing::is_body_of;
 use c8_game::{Keys, Player};
 use c8_log::BODY_LENGTH;
 use c8_wire::{LONGEST_RUN, Run, u16_at, u32_at, u64_at};
@@ -20,7 +20,7 @@ pub fn view(body: &[u8; BODY_LENGTH]) -> Option<Record<'_>>
     ensures slice { IfSome result (λ lent. IsSliceOf body.now lent) }
 {
     let lent = read(body)?;
-    if lacks_inputs(&lent) || body_of(&lent) != *body {
+    if lacks_inputs(&lent) || !is_body_of(body, &lent) {
         return None;
     }
     Some(lent)

@@ -1,5 +1,5 @@
 //! The body that spells a record.
-ghost use Rattle.std.specs.Prelude.{◌≡◌, ◌≤◌, ◌*◌, ◌++◌, length};
+ghost use Rattle.std.specs.Prelude.{◌≡◌, ◌≤◌, ◌*◌, ◌/◌, ◌↔◌, ◌∷◌, ◌++◌, true, length, replicate};
 ghost use Rattle.c8_known.specs.Journal.{Head, Own, Got, Cut};
 ghost use Rattle.c8_wire.specs.Lent.{words};
 ghost use Rattle.byteorder.specs.Endian.{big_bytes};
@@ -11,6 +11,9 @@ use crate::record::{RUN_PLACE, Record};
 use c8_game::{Keys, Player};
 use c8_log::BODY_LENGTH;
 use c8_wire::Run;
+
+/// What stands after the run.
+const ZEROS: [u8; BODY_LENGTH] = [0; BODY_LENGTH];
 
 /// The body that spells a record. The body of a `Got` without inputs spells
 /// no record.
@@ -37,6 +40,73 @@ pub fn body_of(lent: &Record<'_>) -> [u8; BODY_LENGTH]
             run,
         } => cut_body(player, length, start, run),
     }
+}
+
+/// Whether this is the body that spells a record.
+#[tactic(auto, unfolding(crate::specs::Body::body_of))]
+pub(crate) fn is_body_of(body: &[u8; BODY_LENGTH], lent: &Record<'_>) -> bool
+    ensures is { (result ≡ true) ↔ (body.now ≡ body_of (value_of lent.now)) }
+    ensures spells { result ≡ true → HasInputs lent.now → Spells body.now (value_of lent.now) }
+{
+    match *lent {
+        Record::Head { player, id, room } => is_head_body(body, player, id, room),
+        Record::Epoch { player, number } => has_fields(body, 2, player, number, 0, &[]),
+        Record::Own {
+            player,
+            start,
+            keys,
+        } => is_own_body(body, player, start, keys),
+        Record::Got { player, start, run } => is_got_body(body, player, start, run),
+        Record::Freeze { player } => has_fields(body, 5, player, 0, 0, &[]),
+        Record::Leave { player } => has_fields(body, 6, player, 0, 0, &[]),
+        Record::Cut {
+            player,
+            length,
+            start,
+            run,
+        } => is_cut_body(body, player, length, start, run),
+    }
+}
+
+#[tactic(auto, unfolding(crate::specs::Body::body_of))]
+fn is_head_body(body: &[u8; BODY_LENGTH], player: Player, id: &[u8; 32], room: u64) -> bool
+    ensures is { (result ≡ true) ↔ (body.now ≡ body_of (Head player.number id.now room)) }
+    ensures spells { result ≡ true → Spells body.now (Head player.number id.now room) }
+{
+    has_fields(body, 1, player, 1, 0, &match_run(id, room))
+}
+
+#[tactic(auto, unfolding(crate::specs::Body::body_of))]
+fn is_own_body(body: &[u8; BODY_LENGTH], player: Player, start: u32, keys: Keys) -> bool
+    ensures is { (result ≡ true) ↔ (body.now ≡ body_of (Own player.number start keys.0)) }
+    ensures spells { result ≡ true → Spells body.now (Own player.number start keys.0) }
+{
+    has_fields(body, 3, player, 0, start, &keys.0.to_be_bytes())
+}
+
+#[tactic(auto, unfolding(crate::specs::Body::body_of))]
+fn is_got_body(body: &[u8; BODY_LENGTH], player: Player, start: u32, run: Run<'_>) -> bool
+    ensures is { (result ≡ true) ↔ (body.now ≡ body_of (Got player.number start (words run.entry))) }
+    ensures spells { result ≡ true → 1 ≤ length (words run.entry)
+        → Spells body.now (Got player.number start (words run.entry)) }
+{
+    has_fields(body, 4, player, 0, start, run.bytes())
+}
+
+#[tactic(auto, unfolding(crate::specs::Body::body_of))]
+fn is_cut_body(
+    body: &[u8; BODY_LENGTH],
+    player: Player,
+    length: u32,
+    start: u32,
+    run: Run<'_>,
+) -> bool
+    ensures is { (result ≡ true)
+        ↔ (body.now ≡ body_of (Cut player.number length start (words run.entry))) }
+    ensures spells { result ≡ true
+        → Spells body.now (Cut player.number length start (words run.entry)) }
+{
+    has_fields(body, 7, player, length, start, run.bytes())
 }
 
 #[tactic(auto, unfolding(crate::specs::Body::body_of))]
@@ -94,12 +164,64 @@ fn spell(kind: u8, player: Player, number: u32, start: u32, run: &[u8]) -> [u8; 
       run = run.now;
     }) }
 {
-    let [n0, n1, n2, n3] = number.to_be_bytes();
-    let [s0, s1, s2, s3] = start.to_be_bytes();
-    let [c0, c1] = ((run.len() / 2) as u16).to_be_bytes();
     let mut body = [0; BODY_LENGTH];
     let (head, rest) = body.split_at_mut(RUN_PLACE);
-    head.copy_from_slice(&[kind, player.number, n0, n1, n2, n3, s0, s1, s2, s3, c0, c1]);
+    head.copy_from_slice(&head_of(kind, player, number, start, run.len()));
     rest[..run.len()].copy_from_slice(run);
     body
+}
+
+/// Whether a body has these fields, and zeros after its run.
+fn has_fields(
+    body: &[u8; BODY_LENGTH],
+    kind: u8,
+    player: Player,
+    number: u32,
+    start: u32,
+    run: &[u8],
+) -> bool
+    requires { length run.now ≤ 2 * longest_run }
+    ensures { (result ≡ true) ↔ (body.now ≡ field_bytes (record {
+      kind = kind;
+      player = player.number;
+      number = number;
+      start = start;
+      run = run.now;
+    })) }
+{
+    let (head, rest) = body.split_at(RUN_PLACE);
+    let (words, zeros) = rest.split_at(run.len());
+    if !is_same(head, &head_of(kind, player, number, start, run.len())) {
+        return false;
+    }
+    if !is_same(words, run) {
+        return false;
+    }
+    are_zeros(zeros)
+}
+
+/// What stands before the run: the other fields, and how many words the run has.
+fn head_of(kind: u8, player: Player, number: u32, start: u32, length: usize) -> [u8; RUN_PLACE]
+    requires { length ≤ 2 * longest_run }
+    ensures { result ≡ kind ∷ player.number ∷ big_bytes 4 number ++ big_bytes 4 start
+        ++ big_bytes 2 (length / 2) }
+{
+    let [n0, n1, n2, n3] = number.to_be_bytes();
+    let [s0, s1, s2, s3] = start.to_be_bytes();
+    let [c0, c1] = ((length / 2) as u16).to_be_bytes();
+    [kind, player.number, n0, n1, n2, n3, s0, s1, s2, s3, c0, c1]
+}
+
+fn is_same(bytes: &[u8], others: &[u8]) -> bool
+    ensures { (result ≡ true) ↔ (bytes.now ≡ others.now) }
+{
+    bytes == others
+}
+
+/// Whether each byte is 0.
+fn are_zeros(bytes: &[u8]) -> bool
+    requires { length bytes.now ≤ 143 }
+    ensures { (result ≡ true) ↔ (bytes.now ≡ replicate (length bytes.now) 0) }
+{
+    is_same(bytes, &ZEROS[..bytes.len()])
 }

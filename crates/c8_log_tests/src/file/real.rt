@@ -1,6 +1,6 @@
 //! A disk in a real file, by steps.
 use crate::calls::{self, Call};
-use c8_disk::{DiskError, FileDisk, FileError};
+use c8_disk::{FileDisk, FileError};
 use std::fs::{self, File, Permissions};
 use std::os::unix::fs::{PermissionsExt, symlink};
 use std::test::Fail;
@@ -34,9 +34,7 @@ enum Step {
     Do(Call),
 }
 
-const FAILED: Option<DiskError> = Some(DiskError::Failed);
-
-const STEPS: [Step; 34] = [
+const STEPS: [Step; 36] = [
     Step::Case("a file keeps what was written"),
     Step::Open(FILE, 8),
     Step::Do(Call::Write(0, "abcde", None)),
@@ -48,13 +46,14 @@ const STEPS: [Step; 34] = [
     Step::Open(FILE, 8),
     Step::Do(Call::Stop(0)),
     Step::Do(Call::Read(1, "bcd", None)),
-    // Other bytes than were written: another hand is on the file.
-    Step::Case("another hand on the file is a failure"),
+    Step::Case("what another hand writes is found by the next opening"),
     Step::Put(FILE, "abcde"),
     Step::Open(FILE, 8),
     Step::Put(FILE, "aBcde"),
-    Step::Do(Call::Read(1, "Bcd", FAILED)),
-    Step::Do(Call::Sync(FAILED)),
+    Step::Do(Call::Read(1, "bcd", None)),
+    Step::Do(Call::Sync(None)),
+    Step::Open(FILE, 8),
+    Step::Do(Call::Read(1, "Bcd", None)),
     Step::Close,
     Step::Refused(FILE, 4, FileError::Full),
     Step::Holds(FILE, "aBcde"),

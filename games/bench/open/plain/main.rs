@@ -1,5 +1,7 @@
 //! A plain Rust opening of a journal in a file, to measure `Log::open` and `replay` against: the slots and records of
-//! docs/FORMATS.md, read once, 32 slots a call, and judged where they were read.
+//! docs/FORMATS.md, read 32 slots a call and judged where they were read. With the word `twice` it makes the reads that an
+//! opening is defined to make: it finds the end first, as `Log::open` does, and then reads the records, as `replay` does; else
+//! it does both at once.
 
 use std::fs::File;
 use std::io::{self, Read};
@@ -195,29 +197,54 @@ impl<'g> Known<'g> {
     }
 }
 
-/// Opens the journal that a file keeps, and reads it into `known`.
-#[inline(never)]
-fn open(file: &File, known: &mut Known) -> Result<(), Refusal> {
-    file.sync_data()?;
+/// Reads the slots of a file, a block at a time, and hands each body to `take` until a gate is not open. The number of
+/// bodies, and whether the gate after them is closed.
+fn read_slots(file: &File, mut take: impl FnMut(&[u8; BODY]) -> Result<(), Refusal>) -> Result<(usize, bool), Refusal> {
     let length = file.metadata()?.len() as usize;
     let mut block = [0; BLOCK];
+    let mut count = 0;
     for at in (0..length).step_by(BLOCK) {
         let part = &mut block[..BLOCK.min(length - at)];
         file.read_exact_at(part, at as u64)?;
         let (slots, rest) = part.as_chunks::<SLOT>();
         for [gate, body @ ..] in slots {
             if *gate != OPEN_GATE {
-                return Ok(());
+                return Ok((count, true));
             }
-            known.take(body)?;
+            take(body)?;
+            count += 1;
         }
         if rest.first().is_some_and(|gate| *gate != OPEN_GATE) {
-            return Ok(());
+            return Ok((count, true));
         }
     }
-    // the gate after the last record is missing, or was left open
-    file.write_all_at(&[CLOSED_GATE], (SLOT * known.records) as u64)?;
+    Ok((count, false))
+}
+
+/// Closes the gate after the last record, where it is missing or was left open.
+fn close_gate(file: &File, (count, is_closed): (usize, bool)) -> Result<(), Refusal> {
+    if !is_closed {
+        file.write_all_at(&[CLOSED_GATE], (SLOT * count) as u64)?;
+        file.sync_data()?;
+    }
+    Ok(())
+}
+
+/// Opens the journal that a file keeps, and reads it into `known`, at once.
+#[inline(never)]
+fn open(file: &File, known: &mut Known) -> Result<(), Refusal> {
     file.sync_data()?;
+    let end = read_slots(file, |body| known.take(body))?;
+    close_gate(file, end)
+}
+
+/// The same, one after the other.
+#[inline(never)]
+fn open_twice(file: &File, known: &mut Known) -> Result<(), Refusal> {
+    file.sync_data()?;
+    let end = read_slots(file, |_| Ok(()))?;
+    close_gate(file, end)?;
+    read_slots(file, |body| known.take(body))?;
     Ok(())
 }
 
@@ -228,10 +255,15 @@ fn main() {
     let (path, id) = (args.next().unwrap(), args.next().unwrap());
     let game = Game::read(&text, &id);
     let mut known = Known::new(&game, 1);
+    let is_twice = args.next().as_deref() == Some("twice");
     let file = File::options().read(true).write(true).open(path).unwrap();
     let start = Instant::now();
-    open(&file, &mut known).unwrap();
-    println!("plain {}", start.elapsed().as_nanos());
+    if is_twice {
+        open_twice(&file, &mut known).unwrap();
+    } else {
+        open(&file, &mut known).unwrap();
+    }
+    println!("{} {}", if is_twice { "plain_twice" } else { "plain" }, start.elapsed().as_nanos());
     println!("records {}", known.records);
     for (place, table) in known.tables.iter().enumerate() {
         let sum = table.inputs.iter().fold(0u64, |sum, input| sum.wrapping_mul(31).wrapping_add(u64::from(*input)));

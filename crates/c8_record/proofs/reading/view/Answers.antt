@@ -1,8 +1,7 @@
-use Rattle.std.proofs.Common.{◌∙◌, List, ℕ, not, nat_eq, ap, sym, rules}
-use Rattle.std.specs.Cmp.Lexicographic.{pointwise, nat_list_eq_equiv}
+use Rattle.std.proofs.Common.{rules}
 use Rattle.c8_record.specs.checked.BodyLaws.{has_inputs, spells_lent}
 use Rattle.c8_record.proofs.reading.view.Goals as goal
-use Rattle.c8_record.proofs.reading.view.Goals.{then-lacks_inputs-via-then-lacks_inputs, then-lacks_inputs-via-else-lacks_inputs+then-ne}
+use Rattle.c8_record.proofs.reading.view.Goals.{then-lacks_inputs-via-then-lacks_inputs, then-lacks_inputs-via-else-lacks_inputs+then-not-is_body_of}
 
 pub returns-then-lacks_inputs-clause-value : goal.returns-then-lacks_inputs-clause-value
 returns-then-lacks_inputs-clause-value c = λ r spells.
@@ -11,10 +10,8 @@ returns-then-lacks_inputs-clause-value c = λ r spells.
     elim c.then-lacks_inputs.branch [
       | then-lacks_inputs-via-then-lacks_inputs w ↦
           let has = c.lacks_inputs.ensures.1 (has_inputs lent found.has) in absurd cc
-      | then-lacks_inputs-via-else-lacks_inputs+then-ne w ↦
-          let same = w.body_of.ensures.body ∙ sym found.is in
-          let no = w.if-ne.ensures ∙ ap (λ (bytes : List ℕ). not (pointwise nat_eq bytes c.args.body.now)) same ∙ ap not (nat_list_eq_equiv.refl c.args.body.now) in
-          absurd cc
+      | then-lacks_inputs-via-else-lacks_inputs+then-not-is_body_of w ↦
+          let is = w.is_body_of.ensures.is.1 found.is in absurd cc
     ]
 
 pub returns-clause-value : goal.returns-clause-value

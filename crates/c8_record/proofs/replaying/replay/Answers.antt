@@ -1,7 +1,7 @@
-use Rattle.std.proofs.Common.{◌≡◌, ◌<◌, ◌∙◌, ◌+◌, ◌*◌, ◌/◌, min, ℕ, List, length, Some, Ok, Err, refl, sym, ap, subst, rules, arith}
+use Rattle.std.proofs.Common.{◌≡◌, ◌∙◌, ◌+◌, ◌*◌, ◌/◌, min, ℕ, List, length, Ok, Err, refl, sym, ap, subst, rules, arith}
 use Rattle.std.proofs.lemmas.Result.{err_from_is_err_and}
 use Rattle.c8_disk.specs.checked.RunLaws.{reads_then}
-use Rattle.c8_disk.specs.Asks.{Reads, Asks}
+use Rattle.c8_disk.specs.Asks.{Reads}
 use Rattle.c8_disk.specs.declared.error.DiskError.TheVariants.{Failed}
 use Rattle.c8_disk.specs.checked.AsksLaws.{asks_no_read, asks_reads, asks_as}
 use Rattle.std.proofs.lemmas.Bool.{true≢false}

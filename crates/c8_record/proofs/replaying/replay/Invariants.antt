@@ -1,4 +1,4 @@
-use Rattle.std.proofs.Common.{◌≡◌, ◌*◌, min, ℕ, length, Ok, false}
+use Rattle.std.proofs.Common.{◌≡◌, ◌*◌, min, length, Ok, false}
 use Rattle.c8_disk.specs.Runs.{ReadsOnly}
 use Rattle.c8_disk.specs.Asks.{Asks, Reads}
 use Rattle.c8_log.specs.Slots.{kept}
