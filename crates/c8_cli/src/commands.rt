@@ -18,11 +18,13 @@ use std::io;
 use std::io::{Read, Write};
 use std::net::Net;
 use std::rt::Files;
+use std::sync::Wait;
+use std::thread::Threads;
 use std::time::Clock;
 
 /// Does what the program's arguments ask for, and answers how it ended. `input` is its standard
 /// input; what is printed goes to `out`, why something is refused to `refused`.
-pub fn answer<R, I, W: Write, E: Write>(
+pub fn answer<R, I, W: Write, E: Write + Send>(
     rt: &R,
     args: io::Result<Args>,
     input: I,
@@ -30,7 +32,7 @@ pub fn answer<R, I, W: Write, E: Write>(
     refused: &mut E,
 ) -> Status
 where
-    R: Files<File = File> + Net + Clock + AllocGlobal,
+    R: Files<File = File> + Net + Clock + Threads + Wait + Sync + AllocGlobal,
     I: Read + Drop,
 {
     let ended = obey(rt, args, input, out, refused);
@@ -38,7 +40,7 @@ where
 }
 
 /// Does what the arguments ask for. The error is that of a writer, or want of memory.
-fn obey<R, I, W: Write, E: Write>(
+fn obey<R, I, W: Write, E: Write + Send>(
     rt: &R,
     args: io::Result<Args>,
     input: I,
@@ -46,7 +48,7 @@ fn obey<R, I, W: Write, E: Write>(
     refused: &mut E,
 ) -> io::Result<Status>
 where
-    R: Files<File = File> + Net + Clock + AllocGlobal,
+    R: Files<File = File> + Net + Clock + Threads + Wait + Sync + AllocGlobal,
     I: Read + Drop,
 {
     let Some(words) = words_in(rt.alloc(), args, refused)? else {
@@ -85,7 +87,7 @@ fn sim_command<'a>(alloc: Global) -> Result<Command<'a>, AllocError> {
 }
 
 /// Does what a command line without a mistake asks for.
-fn carry_out<R, I, W: Write, E: Write>(
+fn carry_out<R, I, W: Write, E: Write + Send>(
     rt: &R,
     matches: &ArgMatches,
     input: I,
@@ -93,7 +95,7 @@ fn carry_out<R, I, W: Write, E: Write>(
     refused: &mut E,
 ) -> io::Result<Status>
 where
-    R: Files<File = File> + Net + Clock + AllocGlobal,
+    R: Files<File = File> + Net + Clock + Threads + Wait + Sync + AllocGlobal,
     I: Read + Drop,
 {
     match matches.subcommand() {

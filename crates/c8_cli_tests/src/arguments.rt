@@ -3,8 +3,14 @@ use crate::writers::Short;
 use c8_cli::answer;
 use std::alloc::Global;
 use std::env::Args;
+use std::fs::File;
 use std::io;
+use std::net::Net;
+use std::rt::Files;
+use std::sync::Wait;
 use std::test::Fail;
+use std::thread::Threads;
+use std::time::Clock;
 
 const WORD: &str = "433801010102030405060708020100000000000200000000";
 
@@ -41,7 +47,10 @@ fn words(alloc: Global, first: &str, second: &str) -> Result<Args, Fail> {
 }
 
 /// The status where the arguments are such an error, and whether nothing is printed.
-fn ends_unread(rt: &HostRuntime, number: u8, refused: &mut Vec<u8>) -> (u8, bool) {
+fn ends_unread<R>(rt: &R, number: u8, refused: &mut Vec<u8>) -> (u8, bool)
+where
+    R: Files<File = File> + Net + Clock + Threads + Wait + Sync + AllocGlobal,
+{
     let mut printed = Vec::new(rt.alloc());
     let (args, input) = (Err(kind_of(number).into()), b"".as_slice());
     let status = answer(rt, args, input, &mut printed, refused);
@@ -75,13 +84,19 @@ fn unwritten() -> &'static [(&'static str, &'static str, bool)] {
 }
 
 /// The status where standard output takes five bytes.
-fn ends_unprinted(rt: &HostRuntime, args: Args, refused: &mut Vec<u8>) -> u8 {
+fn ends_unprinted<R>(rt: &R, args: Args, refused: &mut Vec<u8>) -> u8
+where
+    R: Files<File = File> + Net + Clock + Threads + Wait + Sync + AllocGlobal,
+{
     let input = b"".as_slice();
     answer(rt, Ok(args), input, &mut Short { room: 5 }, refused).code()
 }
 
 /// The status where standard error takes five bytes.
-fn ends_untold(rt: &HostRuntime, args: Args) -> u8 {
+fn ends_untold<R>(rt: &R, args: Args) -> u8
+where
+    R: Files<File = File> + Net + Clock + Threads + Wait + Sync + AllocGlobal,
+{
     let mut printed = Vec::new(rt.alloc());
     let input = b"".as_slice();
     answer(rt, Ok(args), input, &mut printed, &mut Short { room: 5 }).code()

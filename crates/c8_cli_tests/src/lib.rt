@@ -15,6 +15,8 @@ mod events;
 #[cfg(test)]
 mod explain;
 #[cfg(test)]
+mod pair;
+#[cfg(test)]
 mod refusals;
 #[cfg(test)]
 mod sentences;

@@ -3,8 +3,13 @@ use c8_game::Player;
 use c8_live::{LONGEST_PACKET, Wire, WireFailed};
 use c8_net::{Addresses, Asked, SocketError, Udp, peer};
 use std::fs;
-use std::net::{Ipv4Addr, SocketAddr, UdpSocket};
+use std::fs::File;
+use std::net::{Ipv4Addr, Net, SocketAddr, UdpSocket};
+use std::rt::Files;
+use std::sync::Wait;
 use std::test::Fail;
+use std::thread::Threads;
+use std::time::Clock;
 
 const TWO: Player = Player { number: 2 };
 
@@ -100,7 +105,10 @@ const GAME: &str =
 
 /// Whether the command `peer` tells of a socket that failed, where all else that it is given is
 /// right.
-fn is_socket_fault(rt: &HostRuntime, local: &str, remote: &str) -> Result<bool, Fail> {
+fn is_socket_fault<R>(rt: &R, local: &str, remote: &str) -> Result<bool, Fail>
+where
+    R: Files<File = File> + Net + Clock + Threads + Wait + Sync + AllocGlobal,
+{
     let asked = Asked {
         game: "cli_socket.game",
         player: Player { number: 1 },
@@ -110,6 +118,7 @@ fn is_socket_fault(rt: &HostRuntime, local: &str, remote: &str) -> Result<bool, 
         room: 3,
         turns: 3,
         patience: None,
+        stop: None,
         progress: false,
         explain: false,
     };

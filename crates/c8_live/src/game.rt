@@ -11,6 +11,7 @@ ghost use Rattle.c8_live.specs.Published.{IsShown};
 ghost use Rattle.c8_live.specs.Runs.{HasRunOn, IsEnd};
 ghost use Rattle.c8_live.specs.Turns.{AreTurns};
 
+use crate::counters::Counters;
 use crate::error::SessionError;
 use crate::gate::{Gate, Worker};
 use crate::laws::{confirmed_rows_grow, peers_run_on, turns_join};
@@ -23,13 +24,14 @@ use c8_peer::Peer;
 
 /// Makes turns of a session, at most so many, until it is over, a viewer of the board asks for the
 /// end, or the gate ends it; answers how many it made. Before the first one and after each the pen
-/// publishes what is confirmed. The error is that of the disk or of the wire; the pen shows what was
+/// publishes what is confirmed, and after each the counters note it. The error is that of the disk or of the wire; the pen shows what was
 /// confirmed before that turn then.
 pub fn game_worker<D: Disk, W: Wire, G: Gate>(
     session: &mut Session<'_, D>,
     wire: &mut W,
     board: &Board,
     pen: &mut Pen,
+    counters: &Counters,
     turns: u64,
     gate: &G,
 ) -> Result<u64, SessionError>
@@ -55,6 +57,7 @@ pub fn game_worker<D: Disk, W: Wire, G: Gate>(
         }
         session.turn(wire)?;
         publish(session.peer(), board, pen);
+        counters.note(session, wire.lost());
         gate.after(Worker::Game, turn);
         made = turn + 1;
     }

@@ -9,9 +9,11 @@
 //!
 //! A peer may run in two threads: [`game_worker`] makes the turns of a session and shows on a board
 //! what is confirmed, [`net_worker`] moves packets between a wire and the inlets of a [`Relay`], the
-//! game thread's own wire. A [`Gate`] holds both back, and ends them.
+//! game thread's own wire. A [`Gate`] holds both back, and ends them; [`Counters`] are what they tell whoever
+//! watches them.
 #![tactic(auto)]
 
+mod counters;
 mod error;
 mod game;
 mod gate;
@@ -25,6 +27,7 @@ mod silence;
 mod traffic;
 mod wire;
 
+pub use counters::{Counters, Standing};
 pub use error::{SessionError, WireFailed};
 pub use game::game_worker;
 pub use gate::{Gate, Worker};

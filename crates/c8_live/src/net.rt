@@ -3,6 +3,7 @@ ghost use Rattle.std.specs.Prelude.{◌≡◌, ◌≤◌, length};
 ghost use Rattle.c8_live.specs.Parts.{IsHandedOn};
 ghost use Rattle.c8_live.specs.Wire.{MayTake};
 
+use crate::counters::Counters;
 use crate::error::WireFailed;
 use crate::gate::{Gate, Worker};
 use crate::laws::handings_on_join;
@@ -16,15 +17,16 @@ use std::sync::Wait;
 pub const PLACES: usize = 64;
 
 /// Moves packets until the gate ends it: those that the wire gives into the inbox, and those of the
-/// outbox to the wire. A packet that finds no place in the inbox is lost; it answers how many were.
-/// The error is the wire's; all that was moved before has been.
+/// outbox to the wire. A packet that finds no place in the inbox is lost, and counted. The error is
+/// the wire's; all that was moved before has been.
 pub fn net_worker<R: Wait, W: Wire, G: Gate>(
     rt: &R,
     wire: &mut W,
     outbox: &mut Taker,
     inbox: &mut Putter,
+    counters: &Counters,
     gate: &G,
-) -> Result<u64, WireFailed>
+) -> Result<(), WireFailed>
     ensures sent { IsHandedOn outbox.old.taken outbox.new.taken
         (W.sent wire.old) (W.sent wire.new) }
     ensures received { IsHandedOn (W.received wire.old) (W.received wire.new)
@@ -34,17 +36,16 @@ pub fn net_worker<R: Wait, W: Wire, G: Gate>(
 {
     handings_on_join();
     let mut turn: u64 = 0;
-    let mut lost: u64 = 0;
     for _ in rt.forever() {
         if !gate.before(Worker::Net, turn) {
             break;
         }
-        lost = lost.saturating_add(take_in(wire, inbox)?);
+        counters.lose(take_in(wire, inbox)?);
         send_out(wire, outbox)?;
         gate.after(Worker::Net, turn);
         turn = turn.saturating_add(1);
     }
-    Ok(lost)
+    Ok(())
 }
 
 /// Puts packets that have come into the inbox, as many as it has places at most, and answers how

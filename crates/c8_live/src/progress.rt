@@ -1,8 +1,6 @@
 //! What a person who waits is told of a session.
 
-ghost use Rattle.std.specs.Prelude.{◌≡◌};
-
-use crate::rollbacks::Rollbacks;
+use crate::counters::Standing;
 use crate::session::Session;
 use c8_disk::Disk;
 use c8_game::{MOST_PLAYERS, Player};
@@ -13,93 +11,105 @@ use std::time::Duration;
 /// How many seconds lie between two lines.
 const EVERY: u64 = 1;
 
-/// Where a session stands, told once a second. All times are those of one clock.
+/// Where a peer stands, told once a second. All times are those of one clock.
 #[derive(Clone, Copy)]
 pub struct Progress {
+    me: Player,
+    players: u8,
     /// When the next line is due.
     due: Duration,
-    /// When each player was last heard, player 1's place first; at first when it began.
+    /// When each player was last heard, player 1's place first; at first when it began. And in how
+    /// many turns it had been heard then.
     heard: [Duration; MOST_PLAYERS],
+    turns: [u64; MOST_PLAYERS],
+    /// The rollbacks that have been told, and the longest that has not.
+    rollbacks: u64,
+    longest: u64,
 }
 
 impl Progress {
-    /// It begins now.
-    pub fn new(now: Duration) -> Progress {
+    /// It begins now, with a player of a game of so many.
+    pub fn new(now: Duration, me: Player, players: u8) -> Progress {
         Progress {
+            me,
+            players,
             due: now.saturating_add(Duration::from_secs(EVERY)),
             heard: [now; MOST_PLAYERS],
+            turns: [0; MOST_PLAYERS],
+            rollbacks: 0,
+            longest: 0,
         }
     }
 
-    /// To be called after each turn: where a second has gone by since the last line, writes one
-    /// more, as `ticked 96, confirmed 88, rollbacks 3, longest 5, player 2 silent for 16 ms`. These
-    /// are frames; the rollbacks are those since the last line, and the longest is that of them; of
-    /// each other player it tells for how long nothing was taken; and at last `the machines differ`,
-    /// while the alarm stands.
-    pub fn tell<D: Disk, E: Write>(
+    /// To be told often, with how many frames are confirmed: where a second has gone by since the
+    /// last line, writes one more, as `ticked 96, confirmed 88, rollbacks 3, longest 5, player 2
+    /// silent for 16 ms`. These are frames; the rollbacks are those since the last line, and the
+    /// longest is that of them; of each other player it tells for how long nothing was taken; then
+    /// `2 packets lost` if any was since the start, and `the machines differ` while the alarm
+    /// stands.
+    pub fn tell<E: Write>(
         &mut self,
         out: &mut E,
         now: Duration,
-        session: &mut Session<'_, D>,
-    ) -> io::Result<()>
-        ensures { session.new.peer ≡ session.old.peer }
-    {
-        self.hear(now, session);
+        confirmed: u32,
+        standing: &Standing,
+    ) -> io::Result<()> {
+        self.note(now, standing);
         if now < self.due {
             return Ok(());
         }
         self.due = now.saturating_add(Duration::from_secs(EVERY));
-        let rollbacks = session.take_rollbacks();
-        write_counts(out, session, rollbacks)?;
-        self.write_silence(out, now, session)?;
-        if session.peer().alarm() {
+        self.write_counts(out, confirmed, standing)?;
+        self.write_silence(out, now)?;
+        let lost = standing.lost;
+        if lost > 0 {
+            write!(out, ", {lost} packets lost")?;
+        }
+        if standing.is_alarmed {
             write!(out, ", the machines differ")?;
         }
         writeln!(out)
     }
 
-    /// Notes who was heard in the turn that has just ended.
-    fn hear<D: Disk>(&mut self, now: Duration, session: &Session<'_, D>) {
-        for number in 1..session.peer().players() + 1 {
-            if let Some(player) = Player::new(number)
-                && session.silent(player) == 0
-            {
-                self.heard[player.place()] = now;
+    /// Notes who was heard since it was told last, and the longest rollback.
+    fn note(&mut self, now: Duration, standing: &Standing) {
+        self.longest = self.longest.max(standing.longest);
+        for place in 0..MOST_PLAYERS {
+            if self.turns[place] != standing.heard[place] {
+                self.turns[place] = standing.heard[place];
+                self.heard[place] = now;
             }
         }
     }
 
-    /// Writes for how long each other player has been silent.
-    fn write_silence<D: Disk, E: Write>(
-        &self,
+    /// Writes how far the peer is, and the rollbacks since the last line.
+    fn write_counts<E: Write>(
+        &mut self,
         out: &mut E,
-        now: Duration,
-        session: &Session<'_, D>,
+        confirmed: u32,
+        standing: &Standing,
     ) -> io::Result<()> {
-        for number in 1..session.peer().players() + 1 {
-            if let Some(player) = Player::new(number)
-                && number != session.peer().me().number
-            {
-                let heard = self.heard[player.place()];
-                let silence = now.saturating_sub(heard).as_millis();
+        let (ticked, longest) = (standing.ticked, self.longest);
+        let count = standing.rollbacks.saturating_sub(self.rollbacks);
+        self.rollbacks = standing.rollbacks;
+        self.longest = 0;
+        write!(
+            out,
+            "ticked {ticked}, confirmed {confirmed}, rollbacks {count}, longest {longest}"
+        )
+    }
+
+    /// Writes for how long each other player has been silent.
+    fn write_silence<E: Write>(&self, out: &mut E, now: Duration) -> io::Result<()> {
+        for place in 0..MOST_PLAYERS {
+            let number = place + 1;
+            if number <= usize::from(self.players) && number != usize::from(self.me.number) {
+                let silence = now.saturating_sub(self.heard[place]).as_millis();
                 write!(out, ", player {number} silent for {silence} ms")?;
             }
         }
         Ok(())
     }
-}
-
-fn write_counts<D: Disk, E: Write>(
-    out: &mut E,
-    session: &Session<'_, D>,
-    rollbacks: Rollbacks,
-) -> io::Result<()> {
-    let (ticked, confirmed) = (session.peer().now(), session.peer().confirmed());
-    let Rollbacks { count, longest } = rollbacks;
-    write!(
-        out,
-        "ticked {ticked}, confirmed {confirmed}, rollbacks {count}, longest {longest}"
-    )
 }
 
 /// Writes the line of a session that made so many turns and makes no more: `dropped by player 1`,

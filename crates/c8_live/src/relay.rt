@@ -29,11 +29,6 @@ impl Relay {
         }
     }
 
-    /// How many datagrams found no place.
-    pub fn lost(&self) -> u64 {
-        self.lost
-    }
-
     /// The two ends again.
     pub fn into_ends(self) -> (Putter, Taker)
         ensures { (result.0 ≡ self.outbox) × (result.1 ≡ self.inbox) }
@@ -63,5 +58,9 @@ impl Wire for Relay {
         let bytes = taken.as_bytes();
         packet[..bytes.len()].copy_from_slice(bytes);
         Ok(Some(bytes.len()))
+    }
+
+    fn lost(&self) -> u64 {
+        self.lost
     }
 }

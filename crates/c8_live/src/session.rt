@@ -15,7 +15,7 @@ use c8_disk::Disk;
 use c8_game::{Game, Keys, MOST_PLAYERS, Player};
 use c8_peer::{DecideError, Heard, Kind, LeaveError, Peer, Refused, TickError};
 use c8_wire::{Header, LONGEST_DATAGRAM, view};
-use std::{fmt, mem};
+use std::fmt;
 
 /// The most packets that are delivered in one turn.
 const MOST_PACKETS: u16 = 256;
@@ -36,7 +36,7 @@ pub struct Session<'g, D: Disk> {
     /// After how many turns of silence player one lets a player go.
     patience: Option<u64>,
     silence: Silence,
-    /// The rollbacks that have not been taken.
+    /// The rollbacks of the turn made last.
     rollbacks: Rollbacks,
     /// The turns since all was confirmed and acknowledged, that one included.
     rested: u32,
@@ -85,11 +85,9 @@ impl<'g, D: Disk> Session<'g, D> {
         self.frames
     }
 
-    /// The rollbacks since they were last taken, or since the start.
-    pub fn take_rollbacks(&mut self) -> Rollbacks
-        ensures { self.new.peer ≡ self.old.peer }
-    {
-        mem::take(&mut self.rollbacks)
+    /// The rollbacks of the turn that was made last.
+    pub fn rollbacks(&self) -> Rollbacks {
+        self.rollbacks
     }
 
     /// For how many turns a player has been silent.
@@ -113,6 +111,7 @@ impl<'g, D: Disk> Session<'g, D> {
         peers_run_on::<D>();
         turns_run_on::<D, W>();
         self.silence.begin();
+        self.rollbacks = Rollbacks::default();
         let greeters = self.hear(wire)?;
         self.tick()?;
         self.let_go()?;

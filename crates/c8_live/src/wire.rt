@@ -32,4 +32,9 @@ pub trait Wire {
         ensures within { IfOk result (λ next. IfSome next (λ size. size ≤ LONGEST_PACKET)) }
         ensures received { Gives (received self.old) packet.new result (received self.new) }
         ensures sent { sent self.new ≡ sent self.old };
+
+    /// How many datagrams it has lost for want of a place, as far as it counts them.
+    fn lost(&self) -> u64 {
+        0
+    }
 }

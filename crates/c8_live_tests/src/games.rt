@@ -6,7 +6,7 @@ use crate::play::{
 };
 use c8_disk::{Arm, MemDisk};
 use c8_game::{Game, Player};
-use c8_live::{Progress, Session, tell_end};
+use c8_live::{Counters, Progress, Session, tell_end};
 use std::alloc::Global;
 use std::process::Abort;
 use std::test::Fail;
@@ -192,14 +192,14 @@ fn told_alone(alloc: Global, game: &Game) -> Result<Vec<u8>, Fail> {
         fails_to_receive: false,
     };
     let mut told = Vec::new(alloc);
-    let mut progress = Progress::new(Duration::from_millis(500));
+    let counters = Counters::new();
+    let mut progress = Progress::new(Duration::from_millis(500), Player { number: 2 }, 4);
     for turn in 1..10 {
         session.turn(&mut wire)?;
-        progress.tell(
-            &mut told,
-            Duration::from_millis(500 + 250 * turn),
-            &mut session,
-        )?;
+        counters.note(&session, 0);
+        let now = Duration::from_millis(500 + 250 * turn);
+        let confirmed = session.peer().confirmed();
+        progress.tell(&mut told, now, confirmed, &counters.take())?;
     }
     tell_end(&mut told, 9, &session)?;
     Ok(told)

@@ -1,5 +1,5 @@
 -- What `peer` comes to: by the text of a game and what standard input has, and then on a journal.
-use Rattle.std.specs.Prelude.{◌≡◌, ◌≢◌, ◌⊎◌, ℕ, ◌+◌, List, Option, IfSome}
+use Rattle.std.specs.Prelude.{◌≡◌, ◌≢◌, ◌⊎◌, ℕ, ◌+◌, List, Option, IfSome, Result, IfErr}
 use Rattle.c8_game.specs.GameFaults.{IsRefused}
 use Rattle.c8_game.specs.GameText.{Spells}
 use Rattle.c8_game.specs.Rules.{Rules}
@@ -13,7 +13,8 @@ use Rattle.c8_peer.specs.Opened.{IsOpened, IsRefusedOpening}
 use Rattle.c8_peer.specs.Peer.{PeerValue, known_by}
 use Rattle.c8_keys.specs.KeySets.{IsFaultOfSets}
 use Rattle.c8_keys.specs.declared.lines.Played.{Played}
-use Rattle.c8_live.specs.Runs.{HasRunOn, IsStopped}
+use Rattle.c8_live.specs.declared.error.SessionError.{SessionError}
+use Rattle.c8_live.specs.Runs.{HasRunOn, IsStopped, IsEnd}
 use Rattle.c8_net.specs.declared.error.PeerError.{PeerError}
 use Rattle.c8_net.specs.declared.error.PeerError.TheVariants.{Game, Keys, Open, Disk, Socket}
 use Rattle.c8_net.specs.declared.error.SocketError.TheVariants as sockets
@@ -42,6 +43,13 @@ IsNoMatch game input remotes (Socket sockets.Address) = IsGameFor game remotes
 IsNoMatch game input remotes (Keys error) = IsGameFor game remotes × IsNoKeys input (Keys error)
 IsNoMatch game input remotes (Disk why) = IsGameFor game remotes × IsNoKeys input (Disk why)
 IsNoMatch game input remotes (Open error) = ⊥
+
+-- ---- in threads
+
+-- A session ended: its peer ran on, each of its calls one step of the definitions, and where no more turns could be made it is told why.
+pub record HasEnded {D : Type 0} (disk : Ghosts D) (first last : PeerValue D) (turns : Result ℕ SessionError) : Type 0 where
+  pub ran : HasRunOn disk first last
+  pub end : IfErr turns (IsEnd disk first last)
 
 -- ---- on a journal
 

@@ -22,6 +22,8 @@ pub struct Asked<'m, 'a> {
     pub turns: u64,
     /// After how many turns of silence player one lets a player go, if it does.
     pub patience: Option<u64>,
+    /// How many confirmed frames are enough to end, if any are.
+    pub stop: Option<u64>,
     /// Whether the peer says where it stands.
     pub progress: bool,
     /// Whether a second line says where the fault of a refusal is.
@@ -69,6 +71,8 @@ fn with_options<'a>(alloc: Global, command: Command<'a>) -> Result<Command<'a>, 
     let command = command.arg(turns.default_value("100000"))?;
     let patience = "The turns of silence after which player 1 drops a player [default: never]";
     let command = command.arg(number(alloc, "patience", patience))?;
+    let stop = "Ends once so many frames are confirmed [default: never]";
+    let command = command.arg(number(alloc, "stop", stop))?;
     let progress = Arg::new(alloc, "progress")
         .long("progress")
         .help("Says each second, on standard error, how far the game is, and then how it ended")
@@ -98,6 +102,7 @@ pub(crate) fn asked_of<'m, 'a>(given: &'m ArgMatches<'a>) -> Option<Asked<'m, 'a
         room: number_of(given, "room").unwrap_or(0),
         turns: number_of(given, "turns").unwrap_or(0),
         patience: number_of(given, "patience"),
+        stop: number_of(given, "stop"),
         progress: given.get_flag("progress"),
         explain: is_explained(given),
     })

@@ -24,6 +24,8 @@ use std::io;
 use std::io::{Read, Write};
 use std::net::Net;
 use std::rt::Files;
+use std::sync::Wait;
+use std::thread::Threads;
 use std::time::Clock;
 
 /// How many bytes a journal may have.
@@ -38,10 +40,10 @@ pub fn peer_given<R, I, W, E>(
     refused: &mut E,
 ) -> io::Result<Status>
 where
-    R: Files<File = File> + Net + Clock + AllocGlobal,
+    R: Files<File = File> + Net + Clock + Threads + Wait + Sync + AllocGlobal,
     I: Read + Drop,
     W: Write,
-    E: Write,
+    E: Write + Send,
 {
     match asked_of(given) {
         Some(asked) => peer(rt, &asked, input, out, refused),
@@ -60,10 +62,10 @@ pub fn peer<R, I, W, E>(
     refused: &mut E,
 ) -> io::Result<Status>
 where
-    R: Files<File = File> + Net + Clock + AllocGlobal,
+    R: Files<File = File> + Net + Clock + Threads + Wait + Sync + AllocGlobal,
     I: Read + Drop,
     W: Write,
-    E: Write,
+    E: Write + Send,
     ensures { IfOk result (λ status. (outcome : Result Played PeerError)
         × (status ≡ status_of_outcome peer_part outcome)) }
 {
@@ -105,9 +107,9 @@ fn played<'a, R, I, E>(
     progress: &mut E,
 ) -> Result<Played, Fault<'a>>
 where
-    R: Files<File = File> + Net + Clock + AllocGlobal,
+    R: Files<File = File> + Net + Clock + Threads + Wait + Sync + AllocGlobal,
     I: Read + Drop,
-    E: Write,
+    E: Write + Send,
 {
     let text = match read_file(rt, asked.game) {
         Ok(text) => text,
@@ -132,8 +134,8 @@ fn played_at<R, E>(
     progress: &mut E,
 ) -> Result<Played, PeerError>
 where
-    R: Files<File = File> + Net + Clock + AllocGlobal,
-    E: Write,
+    R: Files<File = File> + Net + Clock + Threads + Wait + Sync + AllocGlobal,
+    E: Write + Send,
 {
     let disk = journal_at(rt, asked.journal)?;
     play_on(rt, asked, it, disk, progress)

@@ -1,8 +1,8 @@
 //! The command `peer`: a game that is played with others over UDP.
 //!
 //! `arguments` says what the command takes; `command` reads that and opens the files; `play` begins the
-//! match and gives turns to a session of c8_live ([`prepare`], [`play_on`]); `udp` is the session's way
-//! to the others, who are where `addresses` says.
+//! match ([`prepare`], [`play_on`]), and `stage` has the threads that play it: the workers of c8_live, which
+//! go on as `pace` says, and a viewer. `udp` is the way to the others, who are where `addresses` says.
 #![tactic(auto)]
 
 mod addresses;
@@ -11,7 +11,9 @@ mod command;
 mod error;
 mod fault;
 mod help;
+mod pace;
 mod play;
+mod stage;
 mod udp;
 
 pub use addresses::Addresses;

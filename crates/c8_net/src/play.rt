@@ -1,30 +1,27 @@
 //! A match over UDP: what it takes to begin, and what is played of it on a journal.
 
-ghost use Rattle.std.specs.Prelude.{◌≡◌, ◌+◌, length, IfOk, IfErr, IfSome};
+ghost use Rattle.std.specs.Prelude.{◌≡◌, ◌⊎◌, ◌<◌, ◌≤◌, ◌+◌, length, IfOk, IfErr, IfSome};
 ghost use Rattle.c8_game.specs.GameText.{Spells};
 ghost use Rattle.c8_keys.specs.KeySets.{AreSetsOf};
-ghost use Rattle.c8_live.specs.Runs.{HasRunOn, IsEnd};
 ghost use Rattle.c8_net.specs.Match.{IsNoKeys, IsNoMatch, HasPlayed, HasFailed};
 
 use crate::addresses::Addresses;
 use crate::arguments::Asked;
-use crate::error::PeerError;
+use crate::error::{PeerError, SocketError};
+use crate::stage::{Ended, Stage};
 use crate::udp::Udp;
 use c8_command::{TextError, text_of};
 use c8_disk::{Disk, DiskError};
 use c8_game::{Game, Keys, Player};
 use c8_keys::{KeysError, Played, key_sets};
-use c8_live::laws::peers_run_on;
-use c8_live::{Progress, Session, SessionError, Wire, tell_end};
-use c8_peer::Peer;
+use c8_live::{Session, tell_end};
+use c8_peer::{OpenError, Peer};
 use std::alloc::Global;
 use std::io::{Read, Write};
 use std::net::Net;
-use std::thread;
-use std::time::{Clock, Duration};
-
-/// How many milliseconds a peer sleeps after a turn.
-const PAUSE: u64 = 1;
+use std::sync::Wait;
+use std::thread::Threads;
+use std::time::Clock;
 
 /// What a match takes before its journal is opened.
 #[derive(Drop)]
@@ -110,9 +107,9 @@ fn keys_in<I: Read + Drop>(alloc: Global, input: I) -> Result<Vec<Keys>, Unprepa
 }
 
 /// Plays a match on the disk that holds the own journal: opens that first, then the socket, and makes
-/// turns until the session is over or as many were made as are asked for. Answers the confirmed
-/// machine.
-pub fn play_on<R, D: Disk + Drop, E: Write>(
+/// turns until the session is over, as many were made as are asked for, or as many frames are confirmed
+/// as are enough. The caller's thread makes the turns, one moves packets, and one watches. Answers the confirmed machine.
+pub fn play_on<R, D, E>(
     rt: &R,
     asked: &Asked<'_, '_>,
     it: Prepared,
@@ -120,7 +117,9 @@ pub fn play_on<R, D: Disk + Drop, E: Write>(
     progress: &mut E,
 ) -> Result<Played, PeerError>
 where
-    R: Net + Clock + AllocGlobal,
+    R: Net + Clock + Threads + Wait + Sync + AllocGlobal,
+    D: Disk + Drop,
+    E: Write + Send,
     ensures played { IfOk result
         (HasPlayed D.Disk disk it.game asked.now.room asked.now.player.number) }
     ensures refused { IfErr result
@@ -131,18 +130,29 @@ where
         addresses,
         keys,
     } = it;
+    let Ok(stage) = Stage::open(rt.alloc(), &game) else {
+        return Err(PeerError::Open(without_room(&game, asked.player)));
+    };
     let peer = match Peer::open(rt.alloc(), disk, &game, asked.player, asked.room) {
         Ok(peer) => peer,
         Err((error, _disk)) => return Err(PeerError::Open(error)),
     };
-    let mut wire = match Udp::open(rt, &addresses) {
+    let wire = match Udp::open(rt, &addresses) {
         Ok(wire) => wire,
         Err(error) => return Err(PeerError::Socket(error)),
     };
-    let mut session = Session::new(peer, &game, keys, asked.patience);
-    match play(rt, asked, &mut session, &mut wire, progress) {
-        Ok(()) => {}
+    let session = Session::new(peer, &game, keys, asked.patience);
+    let (ended, moved) = stage.play(rt, asked, session, wire, progress);
+    let Ended { session, turns } = ended;
+    let made = match turns {
+        Ok(made) => made,
         Err(error) => return Err(PeerError::from(error)),
+    };
+    if moved.is_err() {
+        return Err(PeerError::Socket(SocketError::Failed));
+    }
+    if asked.progress {
+        let _ = tell_end(progress, made, &session);
     }
     let (frames, machine) = session.peer().base();
     Ok(Played {
@@ -151,53 +161,14 @@ where
     })
 }
 
-/// Makes turns until there are no more or the session is over, and sleeps after each. Where it is
-/// asked for, says how far the session is, and how it ended: a game goes on where that cannot be
-/// written.
-fn play<R: Clock, D: Disk, W: Wire, E: Write>(
-    rt: &R,
-    asked: &Asked<'_, '_>,
-    session: &mut Session<'_, D>,
-    wire: &mut W,
-    progress: &mut E,
-) -> Result<(), SessionError>
-    ensures ran { HasRunOn D.Disk session.old.peer session.new.peer }
-    ensures end { IfErr result (IsEnd D.Disk session.old.peer session.new.peer) }
+/// Why a peer is not opened for which there is no memory: a player of another game is refused first.
+fn without_room(game: &Game, me: Player) -> OpenError
+    ensures { ((game.now.players < me.number) × (result ≡ OpenError.WrongPlayer))
+        ⊎ ((me.number ≤ game.now.players) × (result ≡ OpenError.Memory)) }
 {
-    peers_run_on::<D>();
-    let mut told = Progress::new(now(rt));
-    let mut made: u64 = 0;
-    for turn in 0..asked.turns {
-        if session.is_over() {
-            break;
-        }
-        session.turn(wire)?;
-        made = turn + 1;
-        tell_if(asked.progress, &mut told, progress, now(rt), session);
-        thread::sleep(rt, Duration::from_millis(PAUSE));
+    if me.number > game.players() {
+        OpenError::WrongPlayer
+    } else {
+        OpenError::Memory
     }
-    if asked.progress {
-        let _ = tell_end(progress, made, session);
-    }
-    Ok(())
-}
-
-/// Says how far a session is, where that is asked for and due.
-fn tell_if<D: Disk, E: Write>(
-    is_asked: bool,
-    told: &mut Progress,
-    progress: &mut E,
-    now: Duration,
-    session: &mut Session<'_, D>,
-)
-    ensures { session.new.peer ≡ session.old.peer }
-{
-    if is_asked {
-        let _ = told.tell(progress, now, session);
-    }
-}
-
-/// What the clock says; where it cannot be read, that no time has gone by.
-fn now<R: Clock>(rt: &R) -> Duration {
-    rt.monotonic().unwrap_or(Duration::from_secs(0))
 }

@@ -1,5 +1,6 @@
 //! Gates.
 use c8_live::{Gate, Worker};
+use std::sync::atomic::{AtomicBool, AtomicU64, Ordering};
 
 /// Lets a worker make so many turns.
 #[derive(Drop)]
@@ -13,4 +14,63 @@ impl Gate for Turns {
     }
 
     fn after(&self, _: Worker, _: u64) {}
+}
+
+/// How often a worker looks whether the other one has made its first turn.
+const LOOKS: u32 = 1_000_000;
+
+/// Lets each worker make two turns, the second one once the other has made its first.
+#[derive(Drop)]
+pub(crate) struct Meeting {
+    net_has_begun: AtomicBool,
+    game_has_begun: AtomicBool,
+    turns: AtomicU64,
+}
+
+impl Meeting {
+    pub(crate) fn new() -> Meeting {
+        Meeting {
+            net_has_begun: AtomicBool::new(false),
+            game_has_begun: AtomicBool::new(false),
+            turns: AtomicU64::new(0),
+        }
+    }
+
+    /// How many turns both have made.
+    pub(crate) fn turns(&self) -> u64 {
+        self.turns.load(Ordering::SeqCst)
+    }
+
+    /// What says whether a worker has made its first turn.
+    fn begun(&self, worker: Worker) -> &AtomicBool {
+        match worker {
+            Worker::Net => &self.net_has_begun,
+            Worker::Game => &self.game_has_begun,
+        }
+    }
+
+    /// Whether the other one has made its first turn, by then.
+    fn is_joined(&self, worker: Worker) -> bool {
+        let other = match worker {
+            Worker::Net => Worker::Game,
+            Worker::Game => Worker::Net,
+        };
+        for _ in 0..LOOKS {
+            if self.begun(other).load(Ordering::SeqCst) {
+                return true;
+            }
+        }
+        false
+    }
+}
+
+impl Gate for Meeting {
+    fn before(&self, worker: Worker, turn: u64) -> bool {
+        turn == 0 || turn == 1 && self.is_joined(worker)
+    }
+
+    fn after(&self, worker: Worker, _: u64) {
+        self.begun(worker).store(true, Ordering::SeqCst);
+        self.turns.fetch_add(1, Ordering::SeqCst);
+    }
 }

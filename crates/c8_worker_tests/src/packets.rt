@@ -6,7 +6,7 @@ use crate::sides::game_of;
 use c8_disk::MemDisk;
 use c8_game::{Game, Player};
 use c8_inlet::{Packet, Putter, inlet};
-use c8_live::{LONGEST_PACKET, Relay, Traffic, Wire, WireFailed, net_worker};
+use c8_live::{Counters, LONGEST_PACKET, Relay, Traffic, Wire, WireFailed, net_worker};
 use c8_peer::{Kind, Peer};
 use c8_wire::LONGEST_DATAGRAM;
 use std::alloc::Global;
@@ -91,15 +91,17 @@ fn a_net_worker_moves_packets(rt: HostRuntime) -> Result<(), Fail> {
         sent: 0,
         traffic: Traffic::new(),
     };
-    let lost = net_worker(
+    let counters = Counters::new();
+    net_worker(
         &rt,
         &mut wire,
         &mut to_wire,
         &mut from_wire,
+        &counters,
         &Turns { most: 1 },
     )?;
     // the third one that waited found no place, and a byte is no datagram
-    assert!(rt; lost == 1);
+    assert!(rt; counters.take().lost == 1);
     assert!(rt; wire.sent == 1);
     assert!(rt; wire.sent_to_two == 1);
     assert!(rt; is_packet(inbox.take(), &[3]));

@@ -2,13 +2,12 @@
 ghost use Rattle.std.specs.Prelude.{◌≡◌, [], IfOk};
 ghost use Rattle.c8_board.specs.Tokens.{new_viewer};
 
-use crate::gates::Turns;
 use c8_board::{Board, Look, Pen, Viewer};
 use c8_disk::MemDisk;
 use c8_game::{Game, Player};
 use c8_inlet::inlet;
 use c8_keys::key_sets;
-use c8_live::{PLACES, Relay, Session, game_worker};
+use c8_live::{Counters, Gate, PLACES, Relay, Session, Standing, game_worker};
 use c8_peer::Peer;
 use std::alloc::{AllocError, Global};
 use std::test::Fail;
@@ -32,11 +31,12 @@ pub(crate) struct Side<'g> {
 }
 
 /// What a worker came to: how many turns it made if it did not fail, how many frames are confirmed
-/// at its peer, and what its board shows.
+/// at its peer, what its counters tell, and what its board shows.
 #[derive(Drop)]
 pub(crate) struct Outcome {
     pub(crate) made: Option<u64>,
     pub(crate) confirmed: u32,
+    pub(crate) counted: Standing,
     pub(crate) shown: Look,
 }
 
@@ -108,7 +108,7 @@ impl<'g> Side<'g> {
     }
 
     /// Its worker runs, at most so many turns, while the gate lets it.
-    pub(crate) fn work(self, turns: u64, gate: &Turns) -> Outcome {
+    pub(crate) fn work<G: Gate>(self, turns: u64, gate: &G) -> Outcome {
         let Side {
             mut session,
             mut relay,
@@ -116,11 +116,21 @@ impl<'g> Side<'g> {
             mut pen,
             viewer,
         } = self;
-        let made = game_worker(&mut session, &mut relay, &board, &mut pen, turns, gate);
+        let counters = Counters::new();
+        let made = game_worker(
+            &mut session,
+            &mut relay,
+            &board,
+            &mut pen,
+            &counters,
+            turns,
+            gate,
+        );
         let (shown, _, _) = board.look_with(pen, viewer);
         Outcome {
             made: made.ok(),
             confirmed: session.peer().confirmed(),
+            counted: counters.take(),
             shown,
         }
     }

@@ -5,25 +5,43 @@
 use c8_command::Status;
 use c8_front::{line_of, status_at, tell, words_in};
 use c8_net::{peer_command, peer_given};
-use std::io::Write;
+use std::env::Args;
+use std::fs::File;
+use std::io::{Read, Write};
+use std::net::Net;
 use std::process::ExitCode;
+use std::rt::Files;
+use std::sync::Wait;
+use std::thread::Threads;
+use std::time::Clock;
 use std::{env, io};
 
 fn main(rt: HostRuntime) -> ExitCode {
-    let ended = obey(&rt, &mut rt.stdout(), &mut rt.stderr());
+    let args = env::args(&rt);
+    let ended = obey(&rt, args, rt.reader(), &mut rt.stdout(), &mut rt.stderr());
     status_at(ended, &mut rt.stderr()).into()
 }
 
 /// Does what the arguments ask for. The error is that of a writer, or want of memory.
-fn obey<W: Write, E: Write>(rt: &HostRuntime, out: &mut W, refused: &mut E) -> io::Result<Status> {
+fn obey<R, I, W: Write, E: Write + Send>(
+    rt: &R,
+    args: io::Result<Args>,
+    input: I,
+    out: &mut W,
+    refused: &mut E,
+) -> io::Result<Status>
+where
+    R: Files<File = File> + Net + Clock + Threads + Wait + Sync + AllocGlobal,
+    I: Read + Drop,
+{
     let alloc = rt.alloc();
-    let Some(words) = words_in(alloc, env::args(rt), refused)? else {
+    let Some(words) = words_in(alloc, args, refused)? else {
         return Ok(Status::CommandLine);
     };
     let command = line_of(alloc, peer_command(alloc)?)?;
     match command.try_get_matches_from(words.as_slice()) {
         Ok(matches) => match matches.subcommand() {
-            Some(("peer", given)) => { peer_given(rt, given, rt.reader(), out, refused) }
+            Some(("peer", given)) => peer_given(rt, given, input, out, refused),
             _ => Ok(Status::CommandLine),
         },
         Err(error) => tell(&error, out, refused),

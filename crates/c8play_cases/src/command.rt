@@ -1,7 +1,13 @@
 //! A command of a case: what it is given, what is wanted of it, and what differs from that.
 
 use std::alloc::{AllocError, Global};
+use std::fs::File;
 use std::io::Write;
+use std::net::Net;
+use std::rt::Files;
+use std::sync::Wait;
+use std::thread::Threads;
+use std::time::Clock;
 use std::{fs, io};
 
 /// What a command is given, and what is wanted of it.
@@ -52,7 +58,10 @@ impl Command {
 }
 
 /// Runs a command, and tells what differs.
-pub fn differences(rt: &HostRuntime, command: Command) -> io::Result<Vec<u8>> {
+pub fn differences<R>(rt: &R, command: Command) -> io::Result<Vec<u8>>
+where
+    R: Files<File = File> + Net + Clock + Threads + Wait + Sync + AllocGlobal,
+{
     for (name, text) in &command.files {
         fs::write(rt, name.as_str(), text.as_slice())?;
     }

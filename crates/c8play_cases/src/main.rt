@@ -12,28 +12,42 @@ mod command;
 mod folder;
 
 use crate::case::commands_in;
-use crate::command::differences;
+use crate::command::{Command, differences};
 use crate::folder::{clear, names_here};
+use std::fs::File;
 use std::io::Write;
+use std::net::Net;
+use std::rt::Files;
+use std::sync::Wait;
+use std::thread::Threads;
+use std::time::Clock;
 use std::{fs, io};
 
 fn main(rt: HostRuntime) -> io::Result<()> {
     let given = names_here(&rt)?;
     for file in &given {
         if let Some(name) = file.strip_suffix(".case") {
-            tell(&rt, name, differences_at(&rt, file.as_str(), &given))?;
+            let commands = commands_at(&rt, file.as_str(), &given);
+            tell(&rt, name, differences_of(&rt, commands))?;
             clear(&rt, &given)?;
         }
     }
     Ok(())
 }
 
-/// What differs in the case of a file, one command after the other. The error is that of a file that
-/// is no case.
-fn differences_at(rt: &HostRuntime, file: &str, given: &[String]) -> io::Result<Vec<u8>> {
+/// The commands of the case in a file. The error is that of a file that is no case.
+fn commands_at(rt: &HostRuntime, file: &str, given: &[String]) -> io::Result<Vec<Command>> {
     let text = fs::read(rt, file)?;
+    commands_in(rt, &text, given)
+}
+
+/// What differs in a case, one command after the other.
+fn differences_of<R>(rt: &R, commands: io::Result<Vec<Command>>) -> io::Result<Vec<u8>>
+where
+    R: Files<File = File> + Net + Clock + Threads + Wait + Sync + AllocGlobal,
+{
     let mut told = Vec::new(rt.alloc());
-    for (place, command) in commands_in(rt, &text, given)?.into_iter().enumerate() {
+    for (place, command) in commands?.into_iter().enumerate() {
         let found = differences(rt, command)?;
         if !found.is_empty() {
             writeln!(told, "command {}", place.saturating_add(1))?;

@@ -34,7 +34,7 @@ enum Step {
     Do(Call),
 }
 
-const STEPS: [Step; 36] = [
+const STEPS: [Step; 37] = [
     Step::Case("a file keeps what was written"),
     Step::Open(FILE, 8),
     Step::Do(Call::Write(0, "abcde", None)),
@@ -52,6 +52,7 @@ const STEPS: [Step; 36] = [
     Step::Put(FILE, "aBcde"),
     Step::Do(Call::Read(1, "bcd", None)),
     Step::Do(Call::Sync(None)),
+    Step::Close,
     Step::Open(FILE, 8),
     Step::Do(Call::Read(1, "Bcd", None)),
     Step::Close,

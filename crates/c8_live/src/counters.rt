@@ -1,0 +1,108 @@
+//! What the threads of a peer count, for those who watch them.
+use crate::session::Session;
+use c8_disk::Disk;
+use c8_game::{MOST_PLAYERS, Player};
+use std::sync::atomic::{AtomicBool, AtomicU64, Ordering};
+
+/// Where a peer stands, beside what is confirmed, which its board shows.
+#[derive(Clone, Copy, Debug, PartialEq, Eq)]
+pub struct Standing {
+    /// How many frames it has ticked.
+    pub ticked: u64,
+    /// How often it went back since it began, and how many frames it ran anew then, at most, since
+    /// this was taken last.
+    pub rollbacks: u64,
+    pub longest: u64,
+    /// In how many turns each player was heard, player 1's place first.
+    pub heard: [u64; MOST_PLAYERS],
+    /// A datagram told of another machine than its own.
+    pub is_alarmed: bool,
+    /// How many packets found no place in an inlet.
+    pub lost: u64,
+}
+
+/// Counters that the threads of a peer share. What is read of them while a turn is made may be of
+/// that turn or of the one before; nothing rests on them.
+#[derive(Drop)]
+pub struct Counters {
+    ticked: AtomicU64,
+    rollbacks: AtomicU64,
+    longest: AtomicU64,
+    heard: [AtomicU64; MOST_PLAYERS],
+    is_alarmed: AtomicBool,
+    /// Of the outbox and of the inbox.
+    lost_out: AtomicU64,
+    lost_in: AtomicU64,
+}
+
+impl Counters {
+    /// Nothing has happened.
+    pub fn new() -> Counters {
+        Counters {
+            ticked: AtomicU64::new(0),
+            rollbacks: AtomicU64::new(0),
+            longest: AtomicU64::new(0),
+            heard: [
+                AtomicU64::new(0),
+                AtomicU64::new(0),
+                AtomicU64::new(0),
+                AtomicU64::new(0),
+            ],
+            is_alarmed: AtomicBool::new(false),
+            lost_out: AtomicU64::new(0),
+            lost_in: AtomicU64::new(0),
+        }
+    }
+
+    /// Notes the turn that a session has just made, and how many packets its wire has lost by now.
+    pub fn note<D: Disk>(&self, session: &Session<'_, D>, lost: u64) {
+        let peer = session.peer();
+        let rollbacks = session.rollbacks();
+        self.ticked.store(u64::from(peer.now()), Ordering::SeqCst);
+        self.is_alarmed.store(peer.alarm(), Ordering::SeqCst);
+        self.lost_out.store(lost, Ordering::SeqCst);
+        self.rollbacks
+            .fetch_add(u64::from(rollbacks.count), Ordering::SeqCst);
+        if self.longest.load(Ordering::SeqCst) < u64::from(rollbacks.longest) {
+            self.longest
+                .store(u64::from(rollbacks.longest), Ordering::SeqCst);
+        }
+        for number in 1..peer.players() + 1 {
+            if let Some(player) = Player::new(number)
+                && session.silent(player) == 0
+            {
+                self.heard[player.place()].fetch_add(1, Ordering::SeqCst);
+            }
+        }
+    }
+
+    /// Notes that so many packets have found no place in the inbox.
+    pub fn lose(&self, packets: u64) {
+        self.lost_in.fetch_add(packets, Ordering::SeqCst);
+    }
+
+    /// Where the peer stands. The longest rollback is told once.
+    pub fn take(&self) -> Standing {
+        let [one, two, three, four] = &self.heard;
+        let lost_out = self.lost_out.load(Ordering::SeqCst);
+        Standing {
+            ticked: self.ticked.load(Ordering::SeqCst),
+            rollbacks: self.rollbacks.load(Ordering::SeqCst),
+            longest: self.longest.swap(0, Ordering::SeqCst),
+            heard: [
+                one.load(Ordering::SeqCst),
+                two.load(Ordering::SeqCst),
+                three.load(Ordering::SeqCst),
+                four.load(Ordering::SeqCst),
+            ],
+            is_alarmed: self.is_alarmed.load(Ordering::SeqCst),
+            lost: lost_out.saturating_add(self.lost_in.load(Ordering::SeqCst)),
+        }
+    }
+}
+
+impl Default for Counters {
+    fn default() -> Counters {
+        Counters::new()
+    }
+}

@@ -1,7 +1,0 @@
-use Rattle.c8_live.specs.Runs.{HasRunOn}
-use Rattle.c8_net.proofs.play.play.Given as goal
-
-abbrev pub invariant-loop-turn : goal.invariant-loop-turn
-invariant-loop-turn g l = record {
-  ran : HasRunOn g.D.Disk l.initial.session.peer l.session.peer;
-}

@@ -1,0 +1,261 @@
+//! The threads of a peer, and what they share.
+ghost use Rattle.std.specs.Prelude.{◌≡◌, [], IfOk};
+ghost use Rattle.c8_net.specs.Match.{HasEnded};
+
+use crate::arguments::Asked;
+use crate::pace::Pace;
+use c8_board::{Board, Pen, Viewer};
+use c8_disk::Disk;
+use c8_game::Game;
+use c8_inlet::{Putter, Taker, inlet};
+use c8_live::{
+    Counters, PLACES, Progress, Relay, Session, SessionError, Wire, WireFailed, Worker,
+    game_worker, net_worker,
+};
+use std::alloc::{AllocError, Global};
+use std::io::Write;
+use std::sync::Wait;
+use std::thread;
+use std::thread::Threads;
+use std::time::{Clock, Duration};
+
+/// How many milliseconds the viewer sleeps between two looks.
+const VIEWER_PAUSE: u64 = 5;
+
+/// What it takes to play a session in threads: the ends of two inlets and of a board.
+#[derive(Drop)]
+pub(crate) struct Stage {
+    relay: Relay,
+    outbox: Taker,
+    inbox: Putter,
+    board: Board,
+    pen: Pen,
+    viewer: Viewer,
+    ghost writes: { pen.board ≡ board },
+    ghost fresh: { pen.rows ≡ [] },
+    ghost watches: { viewer.board ≡ board },
+}
+
+/// What the threads share.
+#[derive(Drop)]
+struct Shared<'r, R> {
+    board: Board,
+    counters: Counters,
+    pace: Pace<'r, R>,
+}
+
+/// What the net thread has: the wire, and its ends of the inlets.
+#[derive(Drop)]
+struct Post<W> {
+    wire: W,
+    outbox: Taker,
+    inbox: Putter,
+}
+
+/// A viewer, and the board that it is of.
+#[derive(Drop)]
+struct Watcher<'b> {
+    board: &'b Board,
+    viewer: Viewer,
+    ghost watches: { viewer.board ≡ board.now },
+}
+
+/// A session whose turns are over, and how many were made, or why there are no more.
+#[derive(Drop)]
+pub(crate) struct Ended<'g, D: Disk> {
+    pub(crate) session: Session<'g, D>,
+    pub(crate) turns: Result<u64, SessionError>,
+}
+
+impl Stage {
+    /// The inlets, and a board of the game with one viewer.
+    pub(crate) fn open(alloc: Global, game: &Game) -> Result<Stage, AllocError>
+        ensures { IfOk result (λ stage. stage.pen.game ≡ game.now) }
+    {
+        let (to_net, outbox) = inlet(alloc, PLACES)?;
+        let (inbox, from_net) = inlet(alloc, PLACES)?;
+        let relay = Relay::new(to_net, from_net);
+        let (board, pen, mut viewers) = Board::open(alloc, game, 1)?;
+        let Some(viewer) = viewers.pop() else {
+            unreachable!();
+        };
+        Ok(Stage {
+            relay,
+            outbox,
+            inbox,
+            board,
+            pen,
+            viewer,
+        })
+    }
+
+    /// Plays a session over a wire: the caller's thread makes its turns, one moves its packets, and one
+    /// watches, until the session is over, its turns are made, the viewer has asked for the end, or
+    /// the wire fails. All threads are joined then. Answers how the session ended, and whether the net
+    /// thread could use the wire to the end.
+    pub(crate) fn play<'g, R, D, W, E>(
+        self,
+        rt: &R,
+        asked: &Asked<'_, '_>,
+        session: Session<'g, D>,
+        wire: W,
+        progress: &mut E,
+    ) -> (Ended<'g, D>, Result<(), WireFailed>)
+    where
+        R: Clock + Threads + Wait + Sync,
+        D: Disk + Drop,
+        W: Wire + Drop + Send,
+        E: Write + Send,
+        requires { self.pen.game ≡ session.peer.rules }
+        ensures { HasEnded D.Disk session.entry.peer result.0.session.peer result.0.turns }
+    {
+        let Stage {
+            relay,
+            outbox,
+            inbox,
+            board,
+            pen,
+            viewer,
+        } = self;
+        let shared = Shared {
+            board,
+            counters: Counters::new(),
+            pace: Pace::new(rt),
+        };
+        let post = Post {
+            wire,
+            outbox,
+            inbox,
+        };
+        let told = Progress::new(now(rt), asked.player, session.peer().players());
+        let watcher = Watcher {
+            board: &shared.board,
+            viewer,
+        };
+        let (moved, ended) = thread::join(
+            rt,
+            || move_and_watch(rt, asked, post, watcher, told, progress, &shared),
+            || make_turns(session, relay, pen, asked.turns, &shared),
+        );
+        (ended, moved)
+    }
+}
+
+/// The game thread, which is the caller's.
+fn make_turns<'g, R: Clock, D: Disk>(
+    session: Session<'g, D>,
+    relay: Relay,
+    pen: Pen,
+    turns: u64,
+    shared: &Shared<'_, R>,
+) -> Ended<'g, D>
+    requires board { pen.board ≡ shared.now.board }
+    requires game { pen.game ≡ session.peer.rules }
+    requires fresh { pen.rows ≡ [] }
+    ensures { HasEnded D.Disk session.entry.peer result.session.peer result.turns }
+{
+    let Shared {
+        board,
+        counters,
+        pace,
+    } = shared;
+    let (mut session, mut relay, mut pen) = (session, relay, pen);
+    let turns = game_worker(
+        &mut session,
+        &mut relay,
+        board,
+        &mut pen,
+        counters,
+        turns,
+        pace,
+    );
+    pace.end(Worker::Game);
+    Ended { session, turns }
+}
+
+/// The net thread and the viewer's.
+fn move_and_watch<R, W, E>(
+    rt: &R,
+    asked: &Asked<'_, '_>,
+    post: Post<W>,
+    watcher: Watcher<'_>,
+    told: Progress,
+    progress: &mut E,
+    shared: &Shared<'_, R>,
+) -> Result<(), WireFailed>
+where
+    R: Clock + Threads + Wait + Sync,
+    W: Wire + Drop + Send,
+    E: Write,
+{
+    let (moved, ()) = thread::join(
+        rt,
+        || move_packets(rt, post, shared),
+        || watch(rt, asked, watcher, told, progress, shared),
+    );
+    moved
+}
+
+/// The net thread.
+fn move_packets<R: Clock + Wait, W: Wire + Drop>(
+    rt: &R,
+    post: Post<W>,
+    shared: &Shared<'_, R>,
+) -> Result<(), WireFailed> {
+    let Post {
+        mut wire,
+        mut outbox,
+        mut inbox,
+    } = post;
+    let moved = net_worker(
+        rt,
+        &mut wire,
+        &mut outbox,
+        &mut inbox,
+        &shared.counters,
+        &shared.pace,
+    );
+    shared.pace.end(Worker::Net);
+    moved
+}
+
+/// The viewer's thread: asks for the end once as many frames are confirmed as are asked for, and says
+/// how far the peer is where that is asked for, until the game thread has ended.
+fn watch<R: Clock + Wait, E: Write>(
+    rt: &R,
+    asked: &Asked<'_, '_>,
+    watcher: Watcher<'_>,
+    told: Progress,
+    progress: &mut E,
+    shared: &Shared<'_, R>,
+) {
+    let (mut watcher, mut told) = (watcher, told);
+    for _ in rt.forever() {
+        if shared.pace.is_game_over() {
+            break;
+        }
+        let confirmed = watcher.look(asked.stop);
+        if asked.progress {
+            let _ = told.tell(progress, now(rt), confirmed, &shared.counters.take());
+        }
+        thread::sleep(rt, Duration::from_millis(VIEWER_PAUSE));
+    }
+}
+
+impl<'b> Watcher<'b> {
+    /// How many frames are confirmed, by one look. Asks for the end where these are enough.
+    fn look(&mut self, enough: Option<u64>) -> u32 {
+        let confirmed = self.board.look(&mut self.viewer).count();
+        if let Some(enough) = enough
+            && u64::from(confirmed) >= enough
+        {
+            self.board.ask_stop(&mut self.viewer);
+        }
+        confirmed
+    }
+}
+
+/// What the clock says; where it cannot be read, that no time has gone by.
+fn now<R: Clock>(rt: &R) -> Duration {
+    rt.monotonic().unwrap_or(Duration::from_secs(0))
+}
