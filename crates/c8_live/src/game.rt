@@ -24,8 +24,8 @@ use c8_peer::Peer;
 
 /// Makes turns of a session, at most so many, until it is over, a viewer of the board asks for the
 /// end, or the gate ends it; answers how many it made. Before the first one and after each the pen
-/// publishes what is confirmed, and after each the counters note it. The error is that of the disk or of the wire; the pen shows what was
-/// confirmed before that turn then.
+/// publishes what is confirmed, and after each the counters note it. The error is that of the disk or
+/// of the wire; the pen shows what was confirmed before that turn then.
 pub fn game_worker<D: Disk, W: Wire, G: Gate>(
     session: &mut Session<'_, D>,
     wire: &mut W,

@@ -9,8 +9,8 @@
 //!
 //! A peer may run in two threads: [`game_worker`] makes the turns of a session and shows on a board
 //! what is confirmed, [`net_worker`] moves packets between a wire and the inlets of a [`Relay`], the
-//! game thread's own wire. A [`Gate`] holds both back, and ends them; [`Counters`] are what they tell whoever
-//! watches them.
+//! game thread's own wire. A [`Gate`] holds both back, and ends them; [`Counters`] are what they tell
+//! whoever watches them.
 #![tactic(auto)]
 
 mod counters;
