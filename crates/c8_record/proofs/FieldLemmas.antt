@@ -1,5 +1,5 @@
 -- A list in three parts, as a body is: what stands before the run, the run, and what stands after it.
-use Rattle.std.proofs.Common.{ℕ, ◌≡◌, List, ◌++◌, length, take, drop, ap, sym, ◌∙◌}
+use Rattle.std.proofs.Common.{ℕ, ◌≡◌, List, ◌++◌, length, drop, ap, sym, ◌∙◌}
 use Rattle.std.proofs.Math.Seq.{drop-append_seam}
 
 pub joined : {body head rest words zeros wanted run after : List ℕ} → body ≡ head ++ rest → rest ≡ words ++ zeros

@@ -2,3 +2,5 @@ pub mod TakenLemmas
 pub mod ReplayLemmas
 mod WindowLemmas
 mod FieldLemmas
+mod ZeroLemmas
+mod HeadLemmas

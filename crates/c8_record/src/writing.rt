@@ -4,16 +4,13 @@ ghost use Rattle.c8_known.specs.Journal.{Head, Own, Got, Cut};
 ghost use Rattle.c8_wire.specs.Lent.{words};
 ghost use Rattle.byteorder.specs.Endian.{big_bytes};
 ghost use Rattle.c8_wire.specs.Sizes.{longest_run};
-ghost use Rattle.c8_record.specs.Body.{field_bytes, body_of, Spells};
+ghost use Rattle.c8_record.specs.Body.{field_bytes, body_of, Spells, run_place};
 ghost use Rattle.c8_record.specs.Lent.{value_of, HasInputs};
 
 use crate::record::{RUN_PLACE, Record};
 use c8_game::{Keys, Player};
 use c8_log::BODY_LENGTH;
-use c8_wire::Run;
-
-/// What stands after the run.
-const ZEROS: [u8; BODY_LENGTH] = [0; BODY_LENGTH];
+use c8_wire::{Run, u16_at, u32_at};
 
 /// The body that spells a record. The body of a `Got` without inputs spells
 /// no record.
@@ -191,7 +188,7 @@ fn has_fields(
 {
     let (head, rest) = body.split_at(RUN_PLACE);
     let (words, zeros) = rest.split_at(run.len());
-    if !is_same(head, &head_of(kind, player, number, start, run.len())) {
+    if !is_head(head, kind, player, number, start, run.len()) {
         return false;
     }
     if !is_same(words, run) {
@@ -212,16 +209,36 @@ fn head_of(kind: u8, player: Player, number: u32, start: u32, length: usize) -> 
     [kind, player.number, n0, n1, n2, n3, s0, s1, s2, s3, c0, c1]
 }
 
+/// Whether these bytes are what stands before the run.
+fn is_head(head: &[u8], kind: u8, player: Player, number: u32, start: u32, size: usize) -> bool
+    requires whole { length head.now ≡ run_place }
+    requires short { size ≤ 2 * longest_run }
+    ensures { (result ≡ true) ↔ (head.now ≡ kind ∷ player.number ∷ big_bytes 4 number
+        ++ big_bytes 4 start ++ big_bytes 2 (size / 2)) }
+{
+    let found = (
+        head[0],
+        head[1],
+        u32_at(head, 2),
+        u32_at(head, 6),
+        u16_at(head, 10),
+    );
+    found == (kind, player.number, number, start, (size / 2) as u16)
+}
+
 fn is_same(bytes: &[u8], others: &[u8]) -> bool
     ensures { (result ≡ true) ↔ (bytes.now ≡ others.now) }
 {
     bytes == others
 }
 
-/// Whether each byte is 0.
+/// Whether each byte is 0. The loop has no way out, so that many bytes are tested at once.
 fn are_zeros(bytes: &[u8]) -> bool
-    requires { length bytes.now ≤ 143 }
     ensures { (result ≡ true) ↔ (bytes.now ≡ replicate (length bytes.now) 0) }
 {
-    is_same(bytes, &ZEROS[..bytes.len()])
+    let mut found = 0;
+    for byte in bytes {
+        found |= *byte;
+    }
+    found == 0
 }
