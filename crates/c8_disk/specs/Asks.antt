@@ -1,5 +1,5 @@
 -- Which calls a run makes of a disk, and what it comes to. A run is a relation between the list of its calls and what it answers
--- in the end: Ok, or the refusal of its last call.
+-- in the end: Ok, or why it goes no further.
 use Rattle.std.specs.Prelude.{◌≡◌, ◌⊎◌, ℕ, zero, suc, List, [], ◌∷◌, ◌++◌, Result, Ok, Err}
 use Rattle.c8_disk.specs.declared.disk.Disk.{Ghosts}
 use Rattle.c8_disk.specs.declared.error.DiskError.{DiskError}
@@ -37,10 +37,13 @@ Reads (suc more) (Reading at count result ∷ calls) answer = ((result ≡ Ok tt
 Reads (suc more) (Writing at bytes result ∷ calls) answer = ⊥
 Reads (suc more) (Syncing result ∷ calls) answer = ⊥
 
+-- a run that answers Ok, and after it another one
+abbrev pub After : Run → Run → Run
+After P Q calls answer = (first : List DiskCall) × (rest : List DiskCall) × (calls ≡ first ++ rest) × P first (Ok tt) × Q rest answer
+
 -- a run, and where it answers Ok another one
 abbrev pub Then : Run → Run → Run
-Then P Q calls answer =
-    ((first : List DiskCall) × (rest : List DiskCall) × (calls ≡ first ++ rest) × P first (Ok tt) × Q rest answer) ⊎ ((why : DiskError) × (answer ≡ Err why) × P calls (Err why))
+Then P Q calls answer = After P Q calls answer ⊎ ((why : DiskError) × (answer ≡ Err why) × P calls (Err why))
 
 -- Such a run, with this answer, leads from the one disk to the other.
 pub record Asks {D : Type 0} (disk : Ghosts D) (P : Run) (answer : Answer) (old new : D) : Type 0 where

@@ -9,7 +9,7 @@ use Rattle.c8_disk.specs.declared.call.Call.{Call}
 use Rattle.c8_disk.specs.declared.disk.Arm.{Arm}
 use Rattle.c8_disk.specs.declared.mem_disk.MemDisk.{MemDisk}
 use Rattle.c8_disk.specs.Past.{IsImage, LeftSince, IsWriteOf, synced}
-use Rattle.c8_disk.specs.Budget.{stops_now, is_spent, stepped}
+use Rattle.c8_disk.specs.Budget.{fails_now, refuses_call, stepped, after_failure}
 
 -- what a read gives
 abbrev pub bytes_of : MemDisk → List ℕ
@@ -62,9 +62,9 @@ failures_of disk = length disk.budget.failures.items
 abbrev pub changes_of : MemDisk → ℕ
 changes_of disk = length disk.asked.items
 
--- its calls are spent, or it is stopped
-abbrev pub is_stopped : MemDisk → Bool
-is_stopped disk = is_spent disk.budget
+-- its calls are spent, or it was told to fail now
+abbrev pub refuses_next : MemDisk → Bool
+refuses_next disk = refuses_call disk.budget
 
 -- all of this as one value
 pub record MemValue : Type 0 where
@@ -103,7 +103,7 @@ abbrev pub served : MemValue → MemValue
 served v = record v { left = v.left - 1; arm = stepped v.arm }
 
 abbrev pub failed : MemValue → MemValue
-failed v = record v { failures = v.failures + 1 }
+failed v = record v { failures = v.failures + 1; arm = after_failure v.arm }
 
 -- one call more that was to write or sync
 abbrev pub asked : MemValue → MemValue
@@ -124,18 +124,18 @@ after_sync (Ok _) v = record (served (asked v)) { calls = v.calls ++ Sync ∷ []
 after_sync (Err Failed) v = failed (asked v)
 after_sync (Err Full) v = asked v
 
--- its calls are spent, or it is stopped, by its value
-abbrev pub has_stopped : MemValue → Bool
-has_stopped v = v.left == 0 || stops_now v.arm
+-- the same of its value
+abbrev pub is_refusing : MemValue → Bool
+is_refusing v = v.left == 0 || fails_now v.arm
 
--- What a call makes of it. It fails where the disk has stopped, and only there; a write is refused for want of room where it
+-- What a call makes of it. It fails where the disk refuses the next call, and only there; a write is refused for want of room where it
 -- has not.
 abbrev pub IsMemoryCall : MemValue → DiskCall → MemValue → Type 0
-IsMemoryCall v (Reading at count result) w = (IsErrOf result Failed ↔ (has_stopped v ≡ true)) × (IsErrOf result Full → ⊥) × (w ≡ after_read result v)
+IsMemoryCall v (Reading at count result) w = (IsErrOf result Failed ↔ (is_refusing v ≡ true)) × (IsErrOf result Full → ⊥) × (w ≡ after_read result v)
 IsMemoryCall v (Writing at bytes result) w =
     (at ≤ length v.bytes) × (length bytes ≤ longest_write)
-    × (IsErrOf result Failed ↔ (has_stopped v ≡ true)) × (IsErrOf result Full ↔ ((has_stopped v ≡ false) × (v.room < at + length bytes))) × IsWritten at bytes result v w
-IsMemoryCall v (Syncing result) w = (IsErrOf result Failed ↔ (has_stopped v ≡ true)) × (IsErrOf result Full → ⊥) × (w ≡ after_sync result v)
+    × (IsErrOf result Failed ↔ (is_refusing v ≡ true)) × (IsErrOf result Full ↔ ((is_refusing v ≡ false) × (v.room < at + length bytes))) × IsWritten at bytes result v w
+IsMemoryCall v (Syncing result) w = (IsErrOf result Failed ↔ (is_refusing v ≡ true)) × (IsErrOf result Full → ⊥) × (w ≡ after_sync result v)
 
 -- told when its calls fail from now on
 abbrev pub with_arm : Arm → MemValue → MemValue

@@ -4,7 +4,7 @@ ghost use Rattle.std.specs.Prelude.{◌≡◌, ◌+◌, ◌-◌, true, false, le
 use crate::Arm;
 use crate::ghost_list::GhostList;
 
-/// The calls that it still serves, and when it stops before that.
+/// The calls that it still serves, and when it fails before that.
 #[derive(Drop)]
 pub(crate) struct Budget {
     pub(crate) calls: u32,
@@ -13,33 +13,40 @@ pub(crate) struct Budget {
 }
 
 impl Budget {
-    ghost use Rattle.c8_disk.specs.Budget.{is_spent, stepped};
+    ghost use Rattle.c8_disk.specs.Budget.{refuses_call, stepped, after_failure};
 
-    /// Whether the next call is refused. One that is counts as a failure.
+    /// Whether this call is refused. One that is counts as a failure, and is the only one where only
+    /// one is to fail.
     pub(crate) fn refuses(&mut self) -> bool
-        ensures spent { result ≡ is_spent self.old }
+        ensures spent { result ≡ refuses_call self.old }
         ensures yes { result ≡ true
-            → (self.new.calls ≡ self.old.calls) × (self.new.arm ≡ self.old.arm)
+            → (self.new.calls ≡ self.old.calls) × (self.new.arm ≡ after_failure self.old.arm)
             × (length self.new.failures.items ≡ length self.old.failures.items + 1) }
         ensures no { result ≡ false → self.new ≡ self.old }
     {
-        if self.calls == 0 || self.arm == Arm::Stop(0) {
-            self.failures = self.failures.and(&());
-            return true;
+        let is_to_fail = matches!(self.arm, Arm::Stop(0) | Arm::Once(0));
+        if self.calls > 0 && !is_to_fail {
+            return false;
         }
-        false
+        if self.arm == Arm::Once(0) {
+            self.arm = Arm::Off;
+        }
+        self.failures = self.failures.and(&());
+        true
     }
 
     /// Counts a call that is served.
     pub(crate) fn spend(&mut self)
-        requires { is_spent self.old ≡ false }
+        requires { refuses_call self.old ≡ false }
         ensures calls { self.new.calls ≡ self.old.calls - 1 }
         ensures arm { self.new.arm ≡ stepped self.old.arm }
         ensures failures { self.new.failures ≡ self.old.failures }
     {
         self.calls -= 1;
-        if let Arm::Stop(left) = self.arm {
-            self.arm = Arm::Stop(left - 1);
-        }
+        self.arm = match self.arm {
+            Arm::Off => Arm::Off,
+            Arm::Stop(left) => Arm::Stop(left - 1),
+            Arm::Once(left) => Arm::Once(left - 1),
+        };
     }
 }

@@ -1,4 +1,4 @@
-//! A disk in memory that can stop and crash.
+//! A disk in memory that can fail, stop and crash.
 ghost use Rattle.std.specs.Prelude.{◌≡◌, ◌≤◌, ◌<◌, ◌+◌, ◌^◌, ◌↔◌, true, [], ◌∷◌, ◌++◌, length, vec_len, vec_capacity, take, drop, IfOk, OnOk, OnErr, IsErrOf, refl, false};
 ghost use Rattle.c8_disk.specs.AtOnce.{IsBetweenSyncs};
 ghost use Rattle.c8_disk.specs.Disk.{Reading, Writing, Syncing, Only, AddsNone, Writes, WritesImages, Elapses, HasCause, longest_write};
@@ -102,7 +102,7 @@ impl MemDisk {
     }
 
     /// A disk that holds an image which a crash at this moment may leave. It serves all its calls
-    /// anew, and has no stop. Pick 0 is what was last synced, pick 1 what a read gives, and any
+    /// anew, and none is to fail. Pick 0 is what was last synced, pick 1 what a read gives, and any
     /// other pick is chosen by a generator seeded with it.
     pub fn crash(self, pick: u64) -> MemDisk
         ensures image { images_of self (bytes_of result) }
@@ -175,7 +175,7 @@ fn leave_image(first: &mut Vec<u8>, bytes: &mut Vec<u8>, calls: &[Call], pick: u
 }
 
 impl Disk for MemDisk {
-    ghost use Rattle.c8_disk.specs.Memory.{bytes_of, images_of, moment_of, left_since, room_of, arms_of, failures_of, changes_of, is_stopped, value_of, after_read, IsWritten, after_sync, IsMemoryCall, with_arm};
+    ghost use Rattle.c8_disk.specs.Memory.{bytes_of, images_of, moment_of, left_since, room_of, arms_of, failures_of, changes_of, refuses_next, value_of, after_read, IsWritten, after_sync, IsMemoryCall, with_arm};
 
     ghost seen = { λ d. d.bytes.items };
 
@@ -226,9 +226,9 @@ impl Disk for MemDisk {
         ensures capacity { room_of self.new ≡ room_of self.old }
         ensures arms { arms_of self.new ≡ arms_of self.old }
 
-        // It fails once its calls are spent or it is stopped, and only then. A call that was
-        // refused is not served.
-        ensures failed { IsErrOf result DiskError.Failed ↔ (is_stopped self.old ≡ true) }
+        // It fails where its calls are spent or it was told to fail, and only there. A call that
+        // was refused is not served.
+        ensures failed { IsErrOf result DiskError.Failed ↔ (refuses_next self.old ≡ true) }
         ensures value { value_of self.new ≡ after_read result (value_of self.old) }
         ensures does { IsMemoryCall (value_of self.old) (Reading at (length buffer.old) result) (value_of self.new) }
     {
@@ -251,14 +251,14 @@ impl Disk for MemDisk {
             (left_since self.old) (left_since self.new) (images_of self.new) }
         ensures cause { HasCause (failures_of self.old) (failures_of self.new) result }
         ensures full { IsErrOf result DiskError.Full
-            ↔ ((is_stopped self.old ≡ false) × (room_of self.old < at + length bytes.now)) }
+            ↔ ((refuses_next self.old ≡ false) × (room_of self.old < at + length bytes.now)) }
         ensures changes { changes_of self.new ≡ changes_of self.old + 1 }
         ensures capacity { room_of self.new ≡ room_of self.old }
         ensures arms { arms_of self.new ≡ arms_of self.old }
 
-        // It fails once its calls are spent or it is stopped, and only then. A call that was
-        // refused is not served.
-        ensures failed { IsErrOf result DiskError.Failed ↔ (is_stopped self.old ≡ true) }
+        // It fails where its calls are spent or it was told to fail, and only there. A call that
+        // was refused is not served.
+        ensures failed { IsErrOf result DiskError.Failed ↔ (refuses_next self.old ≡ true) }
         ensures value { IsWritten at bytes.now result (value_of self.old) (value_of self.new) }
         ensures does { IsMemoryCall (value_of self.old) (Writing at bytes.now result) (value_of self.new) }
     {
@@ -287,9 +287,9 @@ impl Disk for MemDisk {
         ensures capacity { room_of self.new ≡ room_of self.old }
         ensures arms { arms_of self.new ≡ arms_of self.old }
 
-        // It fails once its calls are spent or it is stopped, and only then. A call that was
-        // refused is not served.
-        ensures failed { IsErrOf result DiskError.Failed ↔ (is_stopped self.old ≡ true) }
+        // It fails where its calls are spent or it was told to fail, and only there. A call that
+        // was refused is not served.
+        ensures failed { IsErrOf result DiskError.Failed ↔ (refuses_next self.old ≡ true) }
         ensures value { value_of self.new ≡ after_sync result (value_of self.old) }
         ensures does { IsMemoryCall (value_of self.old) (Syncing result) (value_of self.new) }
     {

@@ -16,6 +16,8 @@ pub enum Call {
     Capacity(u32),
     /// It is to fail after so many more calls.
     Stop(u64),
+    /// One call is to fail, after so many more.
+    Once(u64),
     /// It is not to fail.
     Off,
 }
@@ -62,6 +64,7 @@ pub fn holds<D: Disk>(disk: &mut D, call: Call) -> bool {
         Call::Len(length) => disk.len() == length,
         Call::Capacity(capacity) => disk.capacity() == capacity,
         Call::Stop(calls) => arm(disk, Arm::Stop(calls)),
+        Call::Once(calls) => arm(disk, Arm::Once(calls)),
         Call::Off => arm(disk, Arm::Off),
     }
 }

@@ -37,6 +37,32 @@ const STOPS: [Call; 9] = [
     Call::Sync(Some(DiskError::Failed)),
 ];
 
+/// One call fails in its turn, of whatever kind it is, and does nothing; those after it are served. One that is
+/// refused for want of room is no turn.
+const FAILS: [Call; 21] = [
+    Call::Write(0, "abc", None),
+    Call::Once(1),
+    Call::Sync(None),
+    Call::Write(1, "XY", Some(DiskError::Failed)),
+    Call::Read(0, "abc", None),
+    Call::Write(1, "XY", None),
+    Call::Once(0),
+    Call::Read(0, "aXY", Some(DiskError::Failed)),
+    Call::Read(0, "aXY", None),
+    Call::Once(0),
+    Call::Sync(Some(DiskError::Failed)),
+    Call::Sync(None),
+    Call::Once(1),
+    Call::Write(3, "too long", Some(DiskError::Full)),
+    Call::Sync(None),
+    Call::Write(3, "Z", Some(DiskError::Failed)),
+    Call::Len(3),
+    Call::Once(0),
+    Call::Off,
+    Call::Write(3, "Z", None),
+    Call::Read(0, "aXYZ", None),
+];
+
 /// Whether each call is answered as it says.
 fn hold(disk: &mut MemDisk, calls: &[Call]) -> bool {
     for call in calls {
@@ -91,12 +117,15 @@ fn a_crash_leaves_what_was_synced_or_read_or_some_of_each(rt: HostRuntime) -> Re
 }
 
 #[test]
-fn a_disk_stops(rt: HostRuntime) -> Result<(), Fail> {
+fn a_disk_stops_or_fails_once(rt: HostRuntime) -> Result<(), Fail> {
     let mut disk = written(rt.alloc())?;
     assert!(rt; hold(&mut disk, &FULL));
     disk.stop_after(1);
     assert!(rt; hold(&mut disk, &STOPS));
     assert!(rt; crashed(disk, 0).bytes() == b"aXYdeZ".as_slice());
+    let mut disk = new_disk(rt.alloc(), 8, 100)?;
+    assert!(rt; hold(&mut disk, &FAILS));
+    assert!(rt; crashed(disk, 0).bytes() == b"aXY".as_slice());
     Ok(())
 }
 

@@ -7,7 +7,7 @@ use Rattle.c8_disk.specs.declared.error.DiskError.TheVariants.{Failed, Full}
 use Rattle.c8_disk.specs.Runs.{LeavesOnly, IsSameDisk, ReadsOnly}
 use Rattle.c8_disk.specs.checked.RunLaws.{then_run, weaker}
 use Rattle.c8_disk.specs.Asks.{Answer, Asks}
-use Rattle.c8_disk.specs.checked.AsksLaws.{asks_then, asks_refused}
+use Rattle.c8_disk.specs.checked.AsksLaws.{asks_after, asks_then, asks_refused}
 use Rattle.c8_disk.specs.declared.error.DiskError.{DiskError}
 use Rattle.c8_log.specs.Asked.{AppendWithin, Opening as OpenLog}
 use Rattle.c8_log.specs.Log.{AllKeep, KeepsOneOf, LogValue, repaired}
@@ -30,7 +30,7 @@ use Rattle.c8_peer.specs.checked.OpenedParts.{IsRead, BeginRun, IsBegun, IsNotBe
 use Rattle.c8_peer.proofs.OpeningLemmas.{opening_allowed, opening_memory}
 use Rattle.c8_peer.proofs.PeerLemmas.{one_body_more, bodies_more, view}
 use Rattle.c8_peer.proofs.ReaderLemmas.{ticks_are}
-use Rattle.c8_peer.proofs.RoomLemmas.{had_room_then}
+use Rattle.c8_peer.proofs.RoomLemmas.{had_room_after}
 
 -- ---- the record that is added
 
@@ -117,12 +117,12 @@ module _ {D : Type 0} (g : Ghosts D) (disk mid : D) (rules : Rules) (room me : �
   refused_beginning left (opens.Disk Failed) are settled first unfailed asks is = inr (
     (omega (arith, is.0.0, first.capacity, ap length same), omega (arith, is.0.1, unfailed)),
     not_written left is.1,
-    asks_then g (AllRead g disk rules room me) (BeginRun g disk rules room me) disk mid left (Err Failed) asks (begin_run left (Err Failed) first.capacity is.2),
+    asks_after g (AllRead g disk rules room me) (BeginRun g disk rules room me) disk mid left (Err Failed) asks (begin_run left (Err Failed) first.capacity is.2),
   )
   refused_beginning left (opens.Disk Full) are settled first unfailed asks is = inr (
     (omega (arith, is.0.0, first.capacity, ap length same), is.0.1 ∙ unfailed),
     not_written left is.1,
-    asks_then g (AllRead g disk rules room me) (BeginRun g disk rules room me) disk mid left (Err Full) asks (begin_run left (Err Full) first.capacity is.2),
+    asks_after g (AllRead g disk rules room me) (BeginRun g disk rules room me) disk mid left (Err Full) asks (begin_run left (Err Full) first.capacity is.2),
   )
 
   pub begun_there : (journal : JournalValue D) (number : ℕ) → IsBegun g mid rules room me journal number → IsBegun g disk rules room me journal number
@@ -192,7 +192,7 @@ module _ {D : Type 0} (g : Ghosts D) (disk : D) (rules : Rules) (room me : ℕ) 
     sound = sound;
     ran = runs ∙ ticks_are (view rules room k.me journal m ran) rules room journal k m refl peer_opened;
     same = same;
-    has_room = had_room_then (AllRead g disk rules room me) (g.capacity disk) (length (bodies_found g disk)) _ asks.calls asks.is;
+    has_room = had_room_after (AllRead g disk rules room me) (g.capacity disk) (length (bodies_found g disk)) _ asks.calls asks.is;
     asks = asks;
   }
 

@@ -5,7 +5,7 @@ use Rattle.c8_disk.specs.declared.disk.Disk.{Ghosts}
 use Rattle.c8_disk.specs.declared.error.DiskError.{DiskError}
 use Rattle.c8_disk.specs.declared.error.DiskError.TheVariants as errors
 use Rattle.c8_disk.specs.Runs.{IsSameDisk}
-use Rattle.c8_disk.specs.Asks.{Run, Then, Asks}
+use Rattle.c8_disk.specs.Asks.{Run, After, Then, Asks}
 use Rattle.c8_log.specs.Asked.{AppendWithin, Opening as OpenLog}
 use Rattle.c8_log.specs.Slots.{slot_length, kept}
 use Rattle.c8_log.specs.Log.{AllKeep, KeepsOneOf, has_closed_gate, repaired}
@@ -73,8 +73,11 @@ module _ {D : Type 0} (g : Ghosts D) (disk : D) (rules : Rules) (room me : ℕ) 
   abbrev pub AllRead : Run
   AllRead = ReadRun (Ok (epoch (records_of (bodies_found g disk))))
 
+  abbrev pub WriteRun : Run
+  WriteRun = AppendWithin (g.capacity disk) (length (bodies_found g disk)) (opening_body rules room me (bodies_found g disk))
+
   abbrev pub OpenRun : Run
-  OpenRun = Then AllRead (AppendWithin (g.capacity disk) (length (bodies_found g disk)) (opening_body rules room me (bodies_found g disk)))
+  OpenRun = After AllRead WriteRun
 
   -- What is so of a peer that was opened there.
   --
@@ -118,7 +121,7 @@ module _ {D : Type 0} (g : Ghosts D) (disk : D) (rules : Rules) (room me : ℕ) 
     pub leaves : AllKeepBodies (bodies_found g disk) (Some (opening_body rules room me (bodies_found g disk))) (g.may_leave left)
 
   -- Why a player of the game is refused, and what is left of the disk then. Memory is refused before the disk is touched, and
-  -- what is wrong with the journal is told before anything is added to it.
+  -- what is wrong with the journal is told before anything is added to it. The disk refuses before all is read, or after that.
   abbrev pub IsRefusedFor : OpenError → D → Type 0
   IsRefusedFor opens.WrongGame left = IsUnfit replays.WrongGame left
   IsRefusedFor opens.WrongPlayer left = IsUnfit replays.WrongPlayer left

@@ -3,9 +3,8 @@ use Rattle.std.proofs.Common.{◌≡◌, inl, inr, ◌≤◌, ℕ, zero, suc, �
 use Rattle.c8_disk.specs.declared.disk.Disk.{Ghosts}
 use Rattle.c8_disk.specs.declared.error.DiskError.{DiskError}
 use Rattle.c8_disk.specs.Disk.{DiskCall, Reading, Writing, Syncing}
-use Rattle.c8_disk.specs.Runs.{Leads}
 use Rattle.c8_disk.specs.checked.RunLaws.{leads_then}
-use Rattle.c8_disk.specs.Asks.{Answer, Run, Nothing, Write, Sync, Reads, Then, Asks}
+use Rattle.c8_disk.specs.Asks.{Answer, Run, Nothing, Write, Sync, Reads, After, Then, Asks}
 
 -- reads that were all served, and more of them
 reads_join : (some more : ℕ) (first rest : List DiskCall) (answer : Answer) → Reads some first (Ok tt) → Reads more rest answer → Reads (some + more) (first ++ rest) answer
@@ -64,12 +63,16 @@ module _ {D : Type 0} (g : Ghosts D) where
   asks_cut old new few most why le reads = record { calls = reads.calls; led = reads.led; is = reads_cut few most reads.calls why le reads.is }
 
   -- one run after another, and one that is refused before the other
-  pub asks_then : (P Q : Run) (old mid new : D) (answer : Answer) → Asks g P (Ok tt) old mid → Asks g Q answer mid new → Asks g (Then P Q) answer old new
-  asks_then P Q old mid new answer first second = record {
+  pub asks_after : (P Q : Run) (old mid new : D) (answer : Answer) → Asks g P (Ok tt) old mid → Asks g Q answer mid new → Asks g (After P Q) answer old new
+  asks_after P Q old mid new answer first second = record {
     calls = first.calls ++ second.calls;
     led = leads_then g old mid new first.calls second.calls first.led second.led;
-    is = inl (first.calls, second.calls, refl, first.is, second.is);
+    is = (first.calls, second.calls, refl, first.is, second.is);
   }
+
+  pub asks_then : (P Q : Run) (old mid new : D) (answer : Answer) → Asks g P (Ok tt) old mid → Asks g Q answer mid new → Asks g (Then P Q) answer old new
+  asks_then P Q old mid new answer first second =
+      let both = asks_after P Q old mid new answer first second in record { calls = both.calls; led = both.led; is = inl both.is }
 
   pub asks_refused : (P Q : Run) (old new : D) (why : DiskError) → Asks g P (Err why) old new → Asks g (Then P Q) (Err why) old new
   asks_refused P Q old new why first = record { calls = first.calls; led = first.led; is = inr (why, refl, first.is) }

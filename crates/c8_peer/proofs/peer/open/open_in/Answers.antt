@@ -3,7 +3,7 @@ use Rattle.std.proofs.lemmas.Result.{err_from_is_err_and}
 use Rattle.c8_disk.specs.Runs.{LeavesOnly}
 use Rattle.c8_disk.specs.checked.RunLaws.{same_then}
 use Rattle.c8_disk.specs.Asks.{Asks}
-use Rattle.c8_disk.specs.checked.AsksLaws.{asks_then}
+use Rattle.c8_disk.specs.checked.AsksLaws.{asks_after}
 use Rattle.c8_peer.specs.Opened.{AllRead}
 use Rattle.c8_roll.specs.Seen.{last_run_of}
 use Rattle.c8_peer.specs.State.{fresh_memory}
@@ -57,7 +57,7 @@ returns-clause-opened g c =
     (last_run_of c.over-roll.result) c.over-roll.ensures.ran
     c.is_down-down.ensures.sound
     (same_then g.D.Disk c.args.disk c.in_ok-log.log.disk c.in_ok-journal.journal.disk c.in_ok-log.ensures.same c.in_ok-journal.ensures.same)
-    (asks_then g.D.Disk (AllRead g.D.Disk c.args.disk rules c.args.room me) (BeginRun g.D.Disk c.args.disk rules c.args.room me) c.args.disk c.in_ok-log.log.disk c.in_ok-journal.journal.disk (Ok tt) read.asks
+    (asks_after g.D.Disk (AllRead g.D.Disk c.args.disk rules c.args.room me) (BeginRun g.D.Disk c.args.disk rules c.args.room me) c.args.disk c.in_ok-log.log.disk c.in_ok-journal.journal.disk (Ok tt) read.asks
     (begin_run g.D.Disk c.args.disk c.in_ok-log.log.disk rules c.args.room me read.same c.in_ok-journal.journal.disk (Ok tt) c.in_ok-log.ensures.same.capacity
     (subst (λ (m : ℕ). Asks g.D.Disk (BeginRun g.D.Disk c.in_ok-log.log.disk rules c.args.room m) (Ok tt) c.in_ok-log.log.disk c.in_ok-journal.journal.disk) own c.in_ok-journal.ensures.asks)))
 
