@@ -15,9 +15,9 @@ use Rattle.c8_peer.specs.declared.kind.Kind.TheVariants.{Hello, Welcome, Data, F
 use Rattle.c8_world.specs.declared.event.Act.{Act}
 use Rattle.c8_world.specs.declared.event.Act.TheVariants.{Open, Tick, Say, Give, Leave, Decide}
 use Rattle.c8_world.specs.declared.event.Event.{Event}
-use Rattle.c8_world.specs.declared.event.Event.TheVariants.{Do, Stop}
+use Rattle.c8_world.specs.declared.event.Event.TheVariants.{Do, Stop, Fail}
 use Rattle.c8_script.specs.Script.{player_word, SpellsKeys, SpellsNumber, kind_words, SpellsAct, WordsSpell}
-use Rattle.c8_script.specs.checked.ScriptWords.{player_in, player_of, keys_in, number_in, kind_in, act_of, said_of, act_in, stop_of, stop_in, act_or_stop, event_in}
+use Rattle.c8_script.specs.checked.ScriptWords.{player_in, player_of, keys_in, number_in, kind_in, act_of, said_of, act_in, stop_of, stop_in, fail_of, fail_in, stop_or_fail, act_or_other, event_in}
 
 -- ---- choices
 
@@ -245,17 +245,60 @@ stop_spelt (verb ∷ calls ∷ pick ∷ act) event is =
       | inr none ↦ absurd (cc)
     ]
 
-either_spelt : (words : List (List ℕ)) (act : Option Act) (event : Event) → act_in words ≡ act → act_or_stop act (stop_in words) ≡ Some event → WordsSpell words event
-either_spelt words None event act_is is = stop_spelt words event is
+-- a failure is no act, and no stop
+no_act_fails : (calls : List ℕ) (act : List (List ℕ)) → act_in (codes "fail" ∷ calls ∷ act) ≡ None
+no_act_fails calls [] = refl
+no_act_fails calls (word ∷ []) = refl
+no_act_fails calls (word ∷ next ∷ more) = refl
+
+no_stop : (calls : List ℕ) (act : List (List ℕ)) → stop_in (codes "fail" ∷ calls ∷ act) ≡ None
+no_stop calls [] = refl
+no_stop calls (word ∷ more) = refl
+
+fail_spelt : (words : List (List ℕ)) (event : Event) → fail_in words ≡ Some event → WordsSpell words event
+fail_spelt [] event is = absurd (cc)
+fail_spelt (verb ∷ []) event is = absurd (cc)
+fail_spelt (verb ∷ calls ∷ act) event is =
+    elim (chosen (bytes_eq verb (codes "fail")) _ _ event is) [
+      | inl here ↦ let inside = chained (λ a. option_map (Fail a) (number_in calls)) (act_in act) event here.1 in
+          let k = mapped (Fail inside.0) (number_in calls) event inside.2 in
+          let verb_is : verb ≡ codes "fail" = keyword verb (codes "fail") here.0 in
+          subst (WordsSpell (verb ∷ calls ∷ act)) k.2
+          (calls, act, ap (λ v. v ∷ calls ∷ act) verb_is, number_spelt calls k.0 k.1, act_spelt act inside.0 inside.1)
+      | inr none ↦ absurd (cc)
+    ]
+
+other_spelt : (words : List (List ℕ)) (stop : Option Event) (event : Event) → stop_in words ≡ stop → stop_or_fail stop (fail_in words) ≡ Some event → WordsSpell words event
+other_spelt words None event stop_is is = fail_spelt words event is
+other_spelt words (Some stop) event stop_is is = stop_spelt words event (stop_is ∙ is)
+
+either_spelt : (words : List (List ℕ)) (act : Option Act) (event : Event) → act_in words ≡ act → act_or_other act (stop_or_fail (stop_in words) (fail_in words)) ≡ Some event → WordsSpell words event
+either_spelt words None event act_is is = other_spelt words (stop_in words) event refl is
 either_spelt words (Some act) event act_is is = subst (WordsSpell words) (same_Some (Do act) event is) (act_spelt words act act_is)
 
 pub words_spelt : (words : List (List ℕ)) (event : Event) → event_in words ≡ Some event → WordsSpell words event
 words_spelt words event is = either_spelt words (act_in words) event refl is
 
-pub words_read : (words : List (List ℕ)) (event : Event) → WordsSpell words event → event_in words ≡ Some event
-words_read words (Do act) spelt = ap (λ a. act_or_stop a (stop_in words)) (act_read words act spelt)
-words_read words (Stop act calls pick) (of_calls, of_pick, of_act, words_are, calls_are, pick_is, act_is) =
-    ap event_in words_are ∙ ap (λ a. act_or_stop a (stop_of (act_in of_act) (number_in of_calls) (number_in of_pick))) (no_act of_calls of_pick of_act)
-    ∙ ap (λ a. stop_of a (number_in of_calls) (number_in of_pick)) (act_read of_act act act_is)
+stop_read : (act : Act) (calls pick : ℕ) (of_calls of_pick : List ℕ) (of_act : List (List ℕ)) → SpellsNumber of_calls calls → SpellsNumber of_pick pick → SpellsAct of_act act
+    → stop_in (codes "stop" ∷ of_calls ∷ of_pick ∷ of_act) ≡ Some (Stop act calls pick)
+stop_read act calls pick of_calls of_pick of_act calls_are pick_is act_is =
+    ap (λ a. stop_of a (number_in of_calls) (number_in of_pick)) (act_read of_act act act_is)
     ∙ ap (λ k. option_and_then (λ k. option_map (Stop act k) (number_in of_pick)) k) (number_read of_calls calls calls_are)
     ∙ ap (option_map (Stop act calls)) (number_read of_pick pick pick_is)
+
+fail_read : (act : Act) (calls : ℕ) (of_calls : List ℕ) (of_act : List (List ℕ)) → SpellsNumber of_calls calls → SpellsAct of_act act
+    → fail_in (codes "fail" ∷ of_calls ∷ of_act) ≡ Some (Fail act calls)
+fail_read act calls of_calls of_act calls_are act_is =
+    ap (λ a. fail_of a (number_in of_calls)) (act_read of_act act act_is) ∙ ap (option_map (Fail act)) (number_read of_calls calls calls_are)
+
+pub words_read : (words : List (List ℕ)) (event : Event) → WordsSpell words event → event_in words ≡ Some event
+words_read words (Do act) spelt = ap (λ a. act_or_other a (stop_or_fail (stop_in words) (fail_in words))) (act_read words act spelt)
+words_read words (Stop act calls pick) (of_calls, of_pick, of_act, words_are, calls_are, pick_is, act_is) =
+    ap event_in words_are
+    ∙ ap (λ a. act_or_other a (stop_or_fail (stop_in (codes "stop" ∷ of_calls ∷ of_pick ∷ of_act)) (fail_in (codes "stop" ∷ of_calls ∷ of_pick ∷ of_act)))) (no_act of_calls of_pick of_act)
+    ∙ ap (λ e. stop_or_fail e (fail_in (codes "stop" ∷ of_calls ∷ of_pick ∷ of_act))) (stop_read act calls pick of_calls of_pick of_act calls_are pick_is act_is)
+words_read words (Fail act calls) (of_calls, of_act, words_are, calls_are, act_is) =
+    ap event_in words_are
+    ∙ ap (λ a. act_or_other a (stop_or_fail (stop_in (codes "fail" ∷ of_calls ∷ of_act)) (fail_in (codes "fail" ∷ of_calls ∷ of_act)))) (no_act_fails of_calls of_act)
+    ∙ ap (λ e. stop_or_fail e (fail_in (codes "fail" ∷ of_calls ∷ of_act))) (no_stop of_calls of_act)
+    ∙ fail_read act calls of_calls of_act calls_are act_is

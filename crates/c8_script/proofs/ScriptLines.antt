@@ -19,7 +19,7 @@ use Rattle.c8_peer.specs.declared.kind.Kind.TheVariants.{Hello, Welcome, Data, F
 use Rattle.c8_world.specs.declared.event.Act.{Act}
 use Rattle.c8_world.specs.declared.event.Act.TheVariants.{Open, Tick, Say, Give, Leave, Decide}
 use Rattle.c8_world.specs.declared.event.Event.{Event}
-use Rattle.c8_world.specs.declared.event.Event.TheVariants.{Do, Stop}
+use Rattle.c8_world.specs.declared.event.Event.TheVariants.{Do, Stop, Fail}
 use Rattle.c8_script.specs.Script.{player_word, SpellsNumber, kind_words, SpellsAct, WordsSpell, SpellsEvent, not_skipped, event_lines, IsFaultOfScript}
 use Rattle.c8_script.specs.checked.ScriptWords.{event_in, event_of}
 use Rattle.c8_script.specs.declared.error.ScriptError.{ScriptError}
@@ -97,6 +97,8 @@ words_no_space : (words : List (List ℕ)) (event : Event) → WordsSpell words 
 words_no_space words (Do act) spelt = act_no_space words act spelt
 words_no_space words (Stop act calls pick) (of_calls, of_pick, of_act, words_are, calls_are, pick_is, act_is) =
     rw words_are (refl, (number_no_space of_calls calls calls_are, (number_no_space of_pick pick pick_is, act_no_space of_act act act_is)))
+words_no_space words (Fail act calls) (of_calls, of_act, words_are, calls_are, act_is) =
+    rw words_are (refl, (number_no_space of_calls calls calls_are, act_no_space of_act act act_is))
 
 -- no event is spelt by no word
 spelt_by_some : (event : Event) → WordsSpell [] event → ⊥
@@ -107,6 +109,7 @@ spelt_by_some (Do (Tick player keys)) spelt = let none = spelt.1 in cc
 spelt_by_some (Do (Give number player)) spelt = let none = spelt.1 in cc
 spelt_by_some (Do (Say player to kind)) spelt = cc
 spelt_by_some (Stop act calls pick) (of_calls, of_pick, of_act, words_are, calls_are, pick_is, act_is) = cc
+spelt_by_some (Fail act calls) (of_calls, of_act, words_are, calls_are, act_is) = cc
 
 cut_again : (words : List (List ℕ)) (event : Event) → WordsSpell words event → slice_split (λ byte. byte == 32) (join_with_byte 32 words) ≡ words
 cut_again [] event spelt = absurd (spelt_by_some event spelt)

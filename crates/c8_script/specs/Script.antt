@@ -12,7 +12,7 @@ use Rattle.c8_peer.specs.declared.kind.Kind.TheVariants.{Hello, Welcome, Data, F
 use Rattle.c8_world.specs.declared.event.Act.{Act}
 use Rattle.c8_world.specs.declared.event.Act.TheVariants.{Open, Tick, Say, Give, Leave, Decide}
 use Rattle.c8_world.specs.declared.event.Event.{Event}
-use Rattle.c8_world.specs.declared.event.Event.TheVariants.{Do, Stop}
+use Rattle.c8_world.specs.declared.event.Event.TheVariants.{Do, Stop, Fail}
 use Rattle.c8_script.specs.declared.error.ScriptError.{ScriptError}
 use Rattle.c8_script.specs.declared.error.ScriptError.TheVariants.{Line, Memory}
 
@@ -48,12 +48,15 @@ SpellsAct words (Give number player) =
 SpellsAct words (Leave leaver) = words ≡ codes "leave" ∷ player_word leaver ∷ []
 SpellsAct words (Decide leaver) = words ≡ codes "decide" ∷ player_word leaver ∷ []
 
--- the words spell the event: an act, or a stop with its two numbers and the words of the act inside it
+-- the words spell the event: an act, a stop with its two numbers and the words of the act inside it, or a failure with its one
+-- number and those words
 abbrev pub WordsSpell : List (List ℕ) → Event → Type 0
 WordsSpell words (Do act) = SpellsAct words act
 WordsSpell words (Stop act calls pick) =
     (of_calls of_pick : List ℕ) × (of_act : List (List ℕ)) × (words ≡ codes "stop" ∷ of_calls ∷ of_pick ∷ of_act)
     × SpellsNumber of_calls calls × SpellsNumber of_pick pick × SpellsAct of_act act
+WordsSpell words (Fail act calls) =
+    (of_calls : List ℕ) × (of_act : List (List ℕ)) × (words ≡ codes "fail" ∷ of_calls ∷ of_act) × SpellsNumber of_calls calls × SpellsAct of_act act
 
 -- a line is the words of an event, with one space between two and nothing else
 abbrev pub SpellsEvent : List ℕ → Event → Type 0

@@ -1,11 +1,12 @@
 -- What the disks were told in many events, one event more at a time.
-use Rattle.std.proofs.Common.{◌≡◌, inl, inr, ℕ, ◌<◌, List, [], ◌∷◌, ◌++◌, length, take, drop, ◌+◌, slice_index_or, refl, sym, ap, ◌∙◌}
+use Rattle.std.proofs.Common.{◌≡◌, inl, inr, ℕ, ◌<◌, Bool, true, false, nat_eq, List, [], ◌∷◌, ◌++◌, length, take, drop, ◌+◌, slice_index_or, refl, sym, ap, ◌∙◌}
+use Rattle.std.specs.Prelude.{if◌then◌else◌}
 use Rattle.std.proofs.lemmas.List.{append_assoc, append-nil}
 use Rattle.c8_disk.specs.declared.disk.Arm.{Arm}
 use Rattle.c8_world.specs.declared.event.Event as asked
 use Rattle.c8_world.specs.Agreement.{IsPlayer}
 use Rattle.c8_world.specs.Table.{TableValue, IsSameMatch}
-use Rattle.c8_world.specs.Disks.{Setting, setting_at, armed, AreArmed, arms_by, arms_in, arms_taken_back, AreArmedOut}
+use Rattle.c8_world.specs.Disks.{Setting, setting_at, armed, KeepSettings, AreArmed, for_player, arms_by, arms_in, arms_taken_back, AreArmedOut}
 use Rattle.c8_world.proofs.LifeLemmas.{one_more, here_split}
 
 pub armed_none : (s : Setting) → s ≡ armed [] s
@@ -25,6 +26,20 @@ are_armed_more old mid new a b same first last p plays =
 pub arms_more : (events : List asked.Event) (event : asked.Event) (p : ℕ) → arms_in (events ++ event ∷ []) p ≡ arms_in events p ++ arms_by event p
 arms_more [] event p = append-nil (arms_by event p)
 arms_more (first ∷ events) event p = ap (λ (xs : List Arm). arms_by first p ++ xs) (arms_more events event p) ∙ sym (append_assoc (arms_by first p) (arms_in events p) (arms_by event p))
+
+-- one disk is told something, an act keeps what all were told, and then that disk is told something else
+told_both : (a b : Arm) (x : Bool) → (if x then a ∷ [] else []) ++ (if x then b ∷ [] else []) ≡ (if x then a ∷ b ∷ [] else [])
+told_both a b true = refl
+told_both a b false = refl
+
+pub are_armed_round : (old armed acted new : TableValue) (player : ℕ) (a b : Arm) → IsSameMatch old armed → IsSameMatch armed acted → AreArmed (for_player player (a ∷ [])) old armed → KeepSettings armed acted
+    → AreArmed (for_player player (b ∷ [])) acted new → AreArmed (for_player player (a ∷ b ∷ [])) old new
+are_armed_round old mid acted new player a b first last begins keeps ends p plays =
+    let then_plays : IsPlayer mid.rules p = rw first.rules plays in
+    let still_plays : IsPlayer acted.rules p = rw last.rules then_plays in
+    ends p still_plays ∙ ap (λ (s : Setting). armed (for_player player (b ∷ []) p) s) (keeps p then_plays ∙ begins p plays)
+    ∙ armed_twice (for_player player (a ∷ []) p) (for_player player (b ∷ []) p) (setting_at old p)
+    ∙ ap (λ (xs : List Arm). armed xs (setting_at old p)) (told_both a b (nat_eq p player))
 
 -- one event more of those that are run
 pub are_armed_next : (old mid new : TableValue) (events : List asked.Event) (i : ℕ) (event : asked.Event) → i < length events → event ≡ slice_index_or events i event → IsSameMatch old mid

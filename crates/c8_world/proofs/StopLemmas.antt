@@ -1,5 +1,6 @@
 -- What a stop makes of a table.
-use Rattle.std.proofs.Common.{◌≡◌, ◌≢◌, ℕ, ◌+◌, ◌-◌, ◌<◌, length, map, Bool, true, false, cond, Option, Some, None, refl, sym, ap, subst, ◌∙◌, arith, slice_set, slice_index_or}
+use Rattle.std.proofs.Common.{◌≡◌, ◌≢◌, ℕ, ◌+◌, ◌-◌, ◌<◌, length, map, Bool, true, false, cond, Option, Some, None, Result, Ok, Err, refl, sym, ap, subst, ◌∙◌, arith, slice_set, slice_index_or}
+use Rattle.std.specs.Prelude.{IfOk, IfErr}
 use Rattle.std.proofs.lemmas.List.{length-set, get_or-set_same, get_or-set_other}
 use Rattle.c8_game.specs.Rules.{Rules}
 use Rattle.c8_wire.specs.Spelling.{spelling}
@@ -143,5 +144,26 @@ unhappened_from first old mid new w act same is later = record {
   takes = is.takes;
   left = is.left;
   opens = λ p e. rw (sym same.rules, sym same.room) (is.opens p e);
+  holds = later is.world is.holds;
+}
+
+-- ---- an act after which the disk is told not to fail
+
+pub with_ok : {T E : Type 0} (P Q : T → Type 0) (result : Result T E) → ((x : T) → P x → Q x) → IfOk result P → IfOk result Q
+with_ok P Q (Ok x) goes is = goes x is
+with_ok P Q (Err error) goes is = tt
+
+pub with_err : {T E : Type 0} (P Q : E → Type 0) (result : Result T E) → ((error : E) → P error → Q error) → IfErr result P → IfErr result Q
+with_err P Q (Ok x) goes is = tt
+with_err P Q (Err error) goes is = goes error is
+
+-- what has happened has, also where the table holds the same after it was changed
+pub happened_till : (old mid new : TableValue) (w : World) (event : Event) (answer : codes.Answer) → HasHappened old w event answer mid → ((v : World) → Holds mid v → Holds new v) → HasHappened old w event answer new
+happened_till old mid new w event answer is later = record {
+  told = is.told;
+  world = is.world;
+  can = is.can;
+  had_memory = is.had_memory;
+  reports = is.reports;
   holds = later is.world is.holds;
 }

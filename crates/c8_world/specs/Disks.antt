@@ -45,19 +45,22 @@ AreArmed more old new = (p : ℕ) → IsPlayer old.rules p → setting_at new p 
 abbrev pub for_player : ℕ → List Arm → ℕ → List Arm
 for_player player more p = if nat_eq p player then more else []
 
--- What an event tells the disks: nothing; but inside a stop the player's own fails after so many calls.
+-- What an event tells the disks: nothing; but inside a stop the player's own fails after so many calls, and inside a failure once
+-- after so many.
 abbrev pub arms_by : asked.Event → ℕ → List Arm
 arms_by (happenings.Do act) = λ p. []
 arms_by (happenings.Stop act calls pick) = for_player (player_of (act_of act)) (arms.Stop calls ∷ [])
+arms_by (happenings.Fail act calls) = for_player (player_of (act_of act)) (arms.Once calls ∷ arms.Off ∷ [])
 
 abbrev pub arms_in : List asked.Event → ℕ → List Arm
 arms_in [] p = []
 arms_in (event ∷ events) p = arms_by event p ++ arms_in events p
 
--- what an event tells them at which memory was refused: a stop is taken back
+-- what an event tells them at which memory was refused: a stop is taken back, and a failure too
 abbrev pub arms_taken_back : asked.Event → ℕ → List Arm
 arms_taken_back (happenings.Do act) = λ p. []
 arms_taken_back (happenings.Stop act calls pick) = for_player (player_of (act_of act)) (arms.Stop calls ∷ arms.Off ∷ [])
+arms_taken_back (happenings.Fail act calls) = for_player (player_of (act_of act)) (arms.Once calls ∷ arms.Off ∷ [])
 
 -- What the disks were told in a run that ran out of memory: what the events before tell them, and, where memory was refused at an
 -- event and not for the report, what that one does.

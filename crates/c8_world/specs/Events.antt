@@ -18,6 +18,8 @@ act_of (acts.Decide leaver) = Decide leaver.number
 abbrev pub event_of : codes.Event → Event
 event_of (events.Do act) = Do (act_of act)
 event_of (events.Stop act calls pick) = Stop (act_of act) calls pick
+-- what the disk does in an act is not the event's to say
+event_of (events.Fail act calls) = Do (act_of act)
 
 abbrev pub events_of : List codes.Event → List Event
 events_of events = map event_of events

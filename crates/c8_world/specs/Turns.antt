@@ -156,11 +156,20 @@ pub record IsStop (act : code.Act) (calls pick : ℕ) (old new : TableValue) : T
   pub does : IsCarriedOut act answer armed acted
   pub crashes : IsCrashed (player_of (act_of act)) pick acted new
 
--- A stop at whose act memory was refused: the disk is then told that it does not stop.
-pub record IsUnstopped (act : code.Act) (calls : ℕ) (old new : TableValue) : Type 0 where
+-- An act inside which the disk fails once: it is told to serve so many calls and to fail the next one, the act comes to what it
+-- comes to with that disk, and then the disk is told not to fail.
+pub record IsFailure (act : code.Act) (calls : ℕ) (answer : codes.Answer) (old new : TableValue) : Type 0 where
+  pub armed : TableValue
+  pub acted : TableValue
+  pub begins : IsArmed (player_of (act_of act)) (arms.Once calls) old armed
+  pub does : IsCarriedOut act answer armed acted
+  pub ends : IsArmed (player_of (act_of act)) arms.Off acted new
+
+-- A stop or a failure at whose act memory was refused: the disk is then told not to fail.
+pub record IsTakenBack (act : code.Act) (arm : Arm) (old new : TableValue) : Type 0 where
   pub armed : TableValue
   pub undone : TableValue
-  pub begins : IsArmed (player_of (act_of act)) (arms.Stop calls) old armed
+  pub begins : IsArmed (player_of (act_of act)) arm old armed
   pub does : IsNotCarriedOut act armed undone
   pub ends : IsArmed (player_of (act_of act)) arms.Off undone new
 
@@ -170,10 +179,12 @@ pub record IsUnstopped (act : code.Act) (calls : ℕ) (old new : TableValue) : T
 abbrev pub IsTurn : asked.Event → codes.Answer → TableValue → TableValue → Type 0
 IsTurn (happenings.Do act) answer old new = IsCarriedOut act answer old new
 IsTurn (happenings.Stop act calls pick) answer old new = (answer ≡ answers.Stopped) × IsStop act calls pick old new
+IsTurn (happenings.Fail act calls) answer old new = IsFailure act calls answer old new
 
 abbrev pub IsTurnOut : asked.Event → TableValue → TableValue → Type 0
 IsTurnOut (happenings.Do act) old new = IsNotCarriedOut act old new
-IsTurnOut (happenings.Stop act calls pick) old new = IsUnstopped act calls old new
+IsTurnOut (happenings.Stop act calls pick) old new = IsTakenBack act (arms.Stop calls) old new
+IsTurnOut (happenings.Fail act calls) old new = IsTakenBack act (arms.Once calls) old new
 
 -- events one after another
 abbrev pub AreTurns : List asked.Event → List codes.Answer → TableValue → TableValue → Type 0

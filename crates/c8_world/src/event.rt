@@ -21,7 +21,7 @@ pub enum Act {
     Decide(Player),
 }
 
-/// An act, or one inside which its player stops.
+/// An act, one inside which its player stops, or one inside which its disk fails once.
 #[derive(Clone, Copy, Debug, PartialEq, Eq, Hash)]
 pub enum Event {
     Do(Act),
@@ -29,6 +29,9 @@ pub enum Event {
     /// and its disk holds an image that a crash may leave, picked by the last number: 0 for what was
     /// last synced, 1 for what a read gives, any other for a seed.
     Stop(Act, u64, u64),
+    /// The disk serves so many calls more, fails the next one, with no effect, and serves those after
+    /// it. The answer is the act's own. Where the act makes no such call nothing fails, then or later.
+    Fail(Act, u64),
 }
 
 impl Act {
@@ -51,12 +54,12 @@ impl Event {
     ghost use Rattle.c8_world.specs.Events.{act_of, event_of};
     ghost use Rattle.c8_world.specs.World.{act_inside};
 
-    /// What the player does, whether or not it stops inside.
+    /// What the player does, whether or not it stops inside or its disk fails.
     pub fn act(self) -> Act
         ensures { act_of result ≡ act_inside (event_of self) }
     {
         match self {
-            Event::Do(act) | Event::Stop(act, _, _) => act,
+            Event::Do(act) | Event::Stop(act, _, _) | Event::Fail(act, _) => act,
         }
     }
 }

@@ -14,7 +14,7 @@ ghost use Rattle.c8_world.specs.Agreement.{IsPlayer};
 ghost use Rattle.c8_world.specs.Disks.{setting_of, KeepSettings, AreArmed, for_player, arms_by, arms_taken_back, IsNewDisk};
 ghost use Rattle.c8_peer.specs.State as calls;
 ghost use Rattle.c8_wire.specs.checked.Read.{read};
-ghost use Rattle.c8_world.specs.Turns.{IsActedBy, IsGiven, IsOpenedAt, IsSameNode, IsSpared, IsNodeCrash, OfNodes, IsMove, IsCarriedOut, IsNotCarriedOut, IsArmed, IsCrashed, IsUnstopped, IsTurn, IsTurnOut};
+ghost use Rattle.c8_world.specs.Turns.{IsActedBy, IsGiven, IsOpenedAt, IsSameNode, IsSpared, IsNodeCrash, OfNodes, IsMove, IsCarriedOut, IsNotCarriedOut, IsArmed, IsCrashed, IsFailure, IsTakenBack, IsTurn, IsTurnOut};
 ghost use Rattle.c8_world.specs.declared.event.Event.TheVariants as happenings;
 ghost use Rattle.c8_world.specs.Ends.{IsStanding, AreStandings};
 ghost use Rattle.c8_world.specs.declared.node.Node.TheVariants.{Held};
@@ -175,6 +175,7 @@ impl<'g> Table<'g> {
         match event {
             Event::Do(act) => self.act(alloc, act),
             Event::Stop(act, calls, pick) => self.stop(alloc, act, calls, pick),
+            Event::Fail(act, calls) => self.fail(alloc, act, calls),
         }
     }
 
@@ -187,7 +188,8 @@ impl<'g> Table<'g> {
             → HasNotHappened self.old w (act_of act) self.new) }
         ensures turn { IfOk result (λ answer.
             IsTurn (happenings.Stop act calls pick) answer self.old self.new) }
-        ensures turn_out { IfErr result (λ _. IsUnstopped act calls self.old self.new) }
+        ensures turn_out { IfErr result (λ _.
+            IsTakenBack act (arms.Stop calls) self.old self.new) }
         ensures disks { IfOk result (λ _. AreArmed
             (for_player (player_of (act_of act)) (arms.Stop calls ∷ [])) self.old self.new) }
         ensures disks_out { IfErr result (λ _. AreArmed
@@ -206,6 +208,27 @@ impl<'g> Table<'g> {
                 Err(error)
             }
         }
+    }
+
+    /// An act inside which its player's disk fails once.
+    fn fail(&mut self, alloc: Global, act: Act, calls: u64) -> Result<Answer, AllocError>
+        ensures same { IsSameMatch self.old self.new }
+        ensures happened { IfOk result (λ answer. (w : World) → Holds self.old w
+            → HasHappened self.old w (Do (act_of act)) answer self.new) }
+        ensures memory { IfErr result (λ _. (w : World) → Holds self.old w
+            → HasNotHappened self.old w (act_of act) self.new) }
+        ensures turn { IfOk result (λ answer. IsFailure act calls answer self.old self.new) }
+        ensures turn_out { IfErr result (λ _.
+            IsTakenBack act (arms.Once calls) self.old self.new) }
+        ensures disks { AreArmed
+            (for_player (player_of (act_of act)) (arms.Once calls ∷ arms.Off ∷ []))
+            self.old self.new }
+    {
+        let player = act.player();
+        self.arm(player, Arm::Once(calls));
+        let result = self.act(alloc, act);
+        self.arm(player, Arm::Off);
+        result
     }
 
     /// An act of one player.

@@ -15,7 +15,7 @@ use Rattle.c8_peer.specs.declared.kind.Kind.TheVariants.{Hello, Welcome, Data, F
 use Rattle.c8_world.specs.declared.event.Act.{Act}
 use Rattle.c8_world.specs.declared.event.Act.TheVariants.{Open, Tick, Say, Give, Leave, Decide}
 use Rattle.c8_world.specs.declared.event.Event.{Event}
-use Rattle.c8_world.specs.declared.event.Event.TheVariants.{Do, Stop}
+use Rattle.c8_world.specs.declared.event.Event.TheVariants.{Do, Stop, Fail}
 
 -- the player of a number
 abbrev pub player_of : ℕ → Option Player
@@ -83,12 +83,24 @@ stop_in (verb ∷ calls ∷ []) = None
 stop_in (verb ∷ calls ∷ pick ∷ act) =
     if bytes_eq verb (codes "stop") then stop_of (act_in act) (number_in calls) (number_in pick) else None
 
-abbrev pub act_or_stop : Option Act → Option Event → Option Event
-act_or_stop None stop = stop
-act_or_stop (Some act) stop = Some (Do act)
+abbrev pub fail_of : Option Act → Option ℕ → Option Event
+fail_of act calls = option_and_then (λ a. option_map (Fail a) calls) act
+
+abbrev pub fail_in : List (List ℕ) → Option Event
+fail_in [] = None
+fail_in (verb ∷ []) = None
+fail_in (verb ∷ calls ∷ act) = if bytes_eq verb (codes "fail") then fail_of (act_in act) (number_in calls) else None
+
+abbrev pub stop_or_fail : Option Event → Option Event → Option Event
+stop_or_fail None fail = fail
+stop_or_fail (Some stop) fail = Some stop
+
+abbrev pub act_or_other : Option Act → Option Event → Option Event
+act_or_other None other = other
+act_or_other (Some act) other = Some (Do act)
 
 abbrev pub event_in : List (List ℕ) → Option Event
-event_in words = act_or_stop (act_in words) (stop_in words)
+event_in words = act_or_other (act_in words) (stop_or_fail (stop_in words) (fail_in words))
 
 -- the event of the words between a line's spaces
 abbrev pub event_of : List ℕ → Option Event

@@ -1,7 +1,7 @@
 //! The words of a script's line, each shape in one arm.
 
 ghost use Rattle.std.specs.Prelude.{◌≡◌, map};
-ghost use Rattle.c8_script.specs.checked.ScriptWords.{event_in, stop_in, act_in, kind_in, player_in, number_in};
+ghost use Rattle.c8_script.specs.checked.ScriptWords.{event_in, stop_in, fail_in, act_in, kind_in, player_in, number_in};
 
 use c8_game::{Keys, Player};
 use c8_peer::Kind;
@@ -13,7 +13,10 @@ pub fn event_in(words: &[&[u8]]) -> Option<Event>
 {
     match act_in(words) {
         Some(act) => Some(Event::Do(act)),
-        None => stop_in(words),
+        None => match stop_in(words) {
+            Some(stop) => Some(stop),
+            None => fail_in(words),
+        },
     }
 }
 
@@ -28,6 +31,19 @@ fn stop_in(words: &[&[u8]]) -> Option<Event>
         return None;
     }
     Some(Event::Stop(act_in(act)?, number_in(calls)?, number_in(pick)?))
+}
+
+/// The failure that these words spell: its number, and then the act inside it.
+fn fail_in(words: &[&[u8]]) -> Option<Event>
+    ensures { result ≡ fail_in (map (λ word. word.now) words.now) }
+{
+    let [verb, calls, act @ ..] = words else {
+        return None;
+    };
+    if *verb != b"fail".as_slice() {
+        return None;
+    }
+    Some(Event::Fail(act_in(act)?, number_in(calls)?))
 }
 
 /// The act that these words spell.
