@@ -1,10 +1,17 @@
 //! Whole games by game workers.
-use crate::gates::{Meeting, Turns};
-use crate::sides::{Side, game_of, relays};
+ghost use Rattle.std.specs.Prelude.{◌≤◌};
+
+use crate::gates::{Meeting, Paced, Turns};
+use crate::routes::{Routes, routes_of};
+use crate::sides::{Outcome, Side, game_of, relays};
+use c8_game::{Game, MOST_PLAYERS};
 use c8_inlet::inlet;
+use c8_keys::{Played, play};
 use c8_live::{Counters, PLACES, Relay, net_worker};
+use std::alloc::Global;
 use std::test::Fail;
-use std::thread::join;
+use std::thread::{Threads, join};
+use std::time::Clock;
 
 /// What player 1 enters. Player 2 enters one line, and then nothing.
 const KEYS: &str = "0020\n0000\n0020\n0020\n0000\n0000\n0000\n0000\n0020\n0020\n0020\n0020\n";
@@ -12,10 +19,13 @@ const KEYS: &str = "0020\n0000\n0020\n0020\n0000\n0000\n0000\n0000\n0020\n0020\n
 /// A bound on the turns of a worker, which never waits for the other one.
 const TURNS: u64 = 20_000_000;
 
+/// So where a worker sleeps after each turn.
+const PACED_TURNS: u64 = 10_000;
+
 #[test]
 fn two_workers_play_a_game(rt: HostRuntime) -> Result<(), Fail> {
-    let game = game_of(rt.alloc())?;
-    let (first, second) = relays(rt.alloc())?;
+    let game = game_of(rt.alloc(), 2)?;
+    let (first, second) = relays(rt.alloc(), PLACES)?;
     let one = Side::new(rt.alloc(), &game, 1, KEYS, first)?;
     let two = Side::new(rt.alloc(), &game, 2, "0020\n", second)?;
     let gate = Turns { most: u64::MAX };
@@ -35,8 +45,8 @@ fn two_workers_play_a_game(rt: HostRuntime) -> Result<(), Fail> {
 
 #[test]
 fn a_worker_ends_when_it_is_to(rt: HostRuntime) -> Result<(), Fail> {
-    let game = game_of(rt.alloc())?;
-    let (first, second) = relays(rt.alloc())?;
+    let game = game_of(rt.alloc(), 2)?;
+    let (first, second) = relays(rt.alloc(), PLACES)?;
     let one = Side::new(rt.alloc(), &game, 1, KEYS, first)?;
     let held = one.work(100, &Turns { most: 3 });
     assert!(rt; held.made == Some(3));
@@ -49,15 +59,27 @@ fn a_worker_ends_when_it_is_to(rt: HostRuntime) -> Result<(), Fail> {
     Ok(())
 }
 
+/// A worker over an inlet of one place says HELLO in each of its turns, of which only the first finds a
+/// place.
+#[test]
+fn a_worker_counts_what_its_relay_loses(rt: HostRuntime) -> Result<(), Fail> {
+    let game = game_of(rt.alloc(), 2)?;
+    let (narrow, _other) = relays(rt.alloc(), 1)?;
+    let side = Side::new(rt.alloc(), &game, 1, KEYS, narrow)?;
+    let ended = side.work(100, &Turns { most: 6 });
+    assert!(rt; ended.counted.lost == 5);
+    Ok(())
+}
+
 /// A net worker and a game worker of one peer: neither makes its second turn before the other has made
 /// its first, and both do.
 #[test]
 fn workers_overlap(rt: HostRuntime) -> Result<(), Fail> {
-    let game = game_of(rt.alloc())?;
+    let game = game_of(rt.alloc(), 2)?;
     let (to_net, mut outbox) = inlet(rt.alloc(), PLACES)?;
     let (mut inbox, from_net) = inlet(rt.alloc(), PLACES)?;
     let side = Side::new(rt.alloc(), &game, 1, KEYS, Relay::new(to_net, from_net))?;
-    let (mut wire, _other) = relays(rt.alloc())?;
+    let (mut wire, _other) = relays(rt.alloc(), PLACES)?;
     let (counters, gate) = (Counters::new(), Meeting::new());
     let (ended, moved) = join(
         &rt,
@@ -67,5 +89,131 @@ fn workers_overlap(rt: HostRuntime) -> Result<(), Fail> {
     assert!(rt; ended.made == Some(2));
     assert!(rt; moved.is_ok());
     assert!(rt; gate.turns() == 4);
+    Ok(())
+}
+
+/// How many players play, and which packets are lost.
+const GAMES: [(u8, u32); 5] = [(2, 3), (3, 0), (3, 3), (4, 0), (4, 3)];
+
+fn games() -> &'static [(u8, u32)] {
+    &GAMES
+}
+
+/// What each player holds down, as its own text has it. The second ends before the game does.
+const ENTERED: [&str; MOST_PLAYERS] = [
+    KEYS,
+    "0000\n0020\n0000\n",
+    "0000\n0000\n0000\n0000\n0020\n0000\n0000\n0000\n0000\n0000\n0000\n0000\n0000\n0020\n0000\n0000\n0000\n0000\n0000\n0000\n",
+    "0020\n0020\n",
+];
+
+/// The frames that one plays alone who enters what these players do.
+fn played_alone(alloc: Global, game: &Game) -> Result<Played, Fail> {
+    let mut lines = String::new(alloc);
+    for frame in 0..20 {
+        push_line(&mut lines, game.players(), frame)?;
+    }
+    Ok(play(game, lines.as_bytes())?)
+}
+
+/// Adds what these players enter for a frame.
+fn push_line(lines: &mut String, players: u8, frame: usize) -> Result<(), Fail> {
+    for place in 0..usize::from(players.min(4)) {
+        if place > 0 {
+            lines.push_str(" ")?;
+        }
+        lines.push_str(ENTERED[place].lines().nth(frame).unwrap_or("0000"))?;
+    }
+    Ok(lines.push_str("\n")?)
+}
+
+/// A player of a game, or nobody where the game has fewer.
+fn side_of<'g>(
+    alloc: Global,
+    game: &'g Game,
+    number: u8,
+    routes: Routes,
+) -> Result<Option<Side<'g, Routes>>, Fail>
+    requires least { 1 ≤ number }
+    requires most { number ≤ 4 }
+{
+    if number > game.players() {
+        return Ok(None);
+    }
+    let keys = ENTERED[usize::from(number) - 1];
+    Ok(Some(Side::new(alloc, game, number, keys, routes)?))
+}
+
+/// All players of a game, player 1 first.
+fn sides_of<'g>(
+    alloc: Global,
+    game: &'g Game,
+    lost: u32,
+) -> Result<[Option<Side<'g, Routes>>; MOST_PLAYERS], Fail> {
+    let [one, two, three, four] = routes_of(alloc, game.players(), lost)?;
+    Ok([
+        side_of(alloc, game, 1, one)?,
+        side_of(alloc, game, 2, two)?,
+        side_of(alloc, game, 3, three)?,
+        side_of(alloc, game, 4, four)?,
+    ])
+}
+
+/// What a player comes to, if there is one.
+fn work<R: Clock>(side: Option<Side<'_, Routes>>, gate: &Paced<'_, R>) -> Option<Outcome<Routes>> {
+    Some(side?.work(PACED_TURNS, gate))
+}
+
+/// What all come to, each of whom works in a thread of its own.
+fn work_all<R: Clock + Threads + Sync>(
+    rt: &R,
+    sides: [Option<Side<'_, Routes>>; MOST_PLAYERS],
+) -> [Option<Outcome<Routes>>; MOST_PLAYERS] {
+    let gate = Paced { rt };
+    let [one, two, three, four] = sides;
+    let ((one, two), (three, four)) = join(
+        rt,
+        || join(rt, || work(one, &gate), || work(two, &gate)),
+        || join(rt, || work(three, &gate), || work(four, &gate)),
+    );
+    [one, two, three, four]
+}
+
+/// Of how many players all frames are confirmed, with the machine of their rows, and shown as
+/// player 1's are.
+fn ended_well(ended: &[Option<Outcome<Routes>>; MOST_PLAYERS], alone: &Played) -> u8 {
+    let [Some(first), ..] = ended else {
+        return 0;
+    };
+    let mut well: u8 = 0;
+    for outcome in ended {
+        if let Some(outcome) = outcome
+            && outcome.made.is_some()
+            && outcome.confirmed == 20
+            && outcome.machine == alone.machine
+            && outcome.shown == first.shown
+            && outcome.shown.count() == 20
+            && !outcome.counted.is_alarmed
+        {
+            well = well.saturating_add(1);
+        }
+    }
+    well
+}
+
+/// Two, three and four workers in threads of their own play to the end that their rows have, whatever is
+/// lost between them.
+#[test]
+fn all_workers_end_with_the_machine_of_all_rows(rt: HostRuntime) -> Result<(), Fail> {
+    for (players, lost) in games() {
+        let game = game_of(rt.alloc(), *players)?;
+        let sides = sides_of(rt.alloc(), &game, *lost)?;
+        let ended = work_all(&rt, sides);
+        let alone = played_alone(rt.alloc(), &game)?;
+        assert!(rt;
+            ended_well(&ended, &alone) == *players,
+            "{players} players, lost {lost}"
+        );
+    }
     Ok(())
 }

@@ -12,9 +12,9 @@ use c8_wire::LONGEST_DATAGRAM;
 use std::alloc::Global;
 use std::test::Fail;
 
-const ONE: Player = Player { number: 1 };
+pub(crate) const ONE: Player = Player { number: 1 };
 
-const TWO: Player = Player { number: 2 };
+pub(crate) const TWO: Player = Player { number: 2 };
 
 /// A wire on which so many packets wait, each one byte, and which keeps whom it sent to.
 #[derive(Drop)]
@@ -50,15 +50,15 @@ impl Wire for Counter {
     }
 }
 
-/// What player 1's peer says first to player 2.
-fn hello(alloc: Global, game: &Game) -> Result<Packet, Fail> {
+/// What one player's peer says first to another.
+pub(crate) fn hello(alloc: Global, game: &Game, from: Player, to: Player) -> Result<Packet, Fail> {
     let disk = MemDisk::new(alloc, 100_000, 4000)?;
-    let peer = match Peer::open(alloc, disk, game, ONE, 7) {
+    let peer = match Peer::open(alloc, disk, game, from, 7) {
         Ok(peer) => peer,
         Err((error, _disk)) => return Err(Fail::new(error)),
     };
     let mut datagram = [0; LONGEST_DATAGRAM];
-    let size = peer.say(TWO, Kind::Hello, &mut datagram)?;
+    let size = peer.say(to, Kind::Hello, &mut datagram)?;
     Ok(Packet::try_from(&datagram[..size])?)
 }
 
@@ -80,10 +80,10 @@ fn put(putter: &mut Putter, byte: u8) -> bool {
 
 #[test]
 fn a_net_worker_moves_packets(rt: HostRuntime) -> Result<(), Fail> {
-    let game = game_of(rt.alloc())?;
+    let game = game_of(rt.alloc(), 2)?;
     let (mut outbox, mut to_wire) = inlet(rt.alloc(), 3)?;
     let (mut from_wire, mut inbox) = inlet(rt.alloc(), 2)?;
-    assert!(rt; outbox.put(hello(rt.alloc(), &game)?).is_ok());
+    assert!(rt; outbox.put(hello(rt.alloc(), &game, ONE, TWO)?).is_ok());
     assert!(rt; put(&mut outbox, 7));
     let mut wire = Counter {
         waiting: 3,

@@ -1,4 +1,4 @@
-//! The players of a game of two, each with what its worker takes.
+//! The players of a game, each with what its worker takes.
 ghost use Rattle.std.specs.Prelude.{◌≡◌, [], IfOk};
 ghost use Rattle.c8_board.specs.Tokens.{new_viewer};
 
@@ -7,20 +7,25 @@ use c8_disk::MemDisk;
 use c8_game::{Game, Player};
 use c8_inlet::inlet;
 use c8_keys::key_sets;
-use c8_live::{Counters, Gate, PLACES, Relay, Session, Standing, game_worker};
+use c8_live::{Counters, Gate, Relay, Session, Standing, Wire, game_worker};
+use c8_machine::Machine;
 use c8_peer::Peer;
 use std::alloc::{AllocError, Global};
 use std::test::Fail;
 
-/// A game of two players and 20 frames. V0 counts the loops, V1 those in which key 5 is down.
-const GAME: &str =
-    "players 2\nipf 10\nframes 20\ndelay 0\nwindow 8\nseed 0\nmask1 ffff\nmask2 ffff\ncode 6205e2a1710170011202\n";
+/// The games of two, three and four players, of 20 frames. V0 counts the loops, V1 those in which key 5
+/// is down.
+const GAMES: [&str; 3] = [
+    "players 2\nipf 10\nframes 20\ndelay 0\nwindow 8\nseed 0\nmask1 ffff\nmask2 ffff\ncode 6205e2a1710170011202\n",
+    "players 3\nipf 10\nframes 20\ndelay 0\nwindow 8\nseed 0\nmask1 ffff\nmask2 ffff\nmask3 ffff\ncode 6205e2a1710170011202\n",
+    "players 4\nipf 10\nframes 20\ndelay 0\nwindow 8\nseed 0\nmask1 ffff\nmask2 ffff\nmask3 ffff\nmask4 ffff\ncode 6205e2a1710170011202\n",
+];
 
-/// A session, its way to the other one, and a board with its pen and a viewer.
+/// A session, its way to the others, and a board with its pen and a viewer.
 #[derive(Drop)]
-pub(crate) struct Side<'g> {
+pub(crate) struct Side<'g, W> {
     session: Session<'g, MemDisk>,
-    relay: Relay,
+    wire: W,
     board: Board,
     pen: Pen,
     viewer: Viewer,
@@ -31,23 +36,30 @@ pub(crate) struct Side<'g> {
 }
 
 /// What a worker came to: how many turns it made if it did not fail, how many frames are confirmed
-/// at its peer, what its counters tell, and what its board shows.
+/// at its peer, and with which machine, what its counters tell, and what its board shows.
 #[derive(Drop)]
-pub(crate) struct Outcome {
+pub(crate) struct Outcome<W> {
     pub(crate) made: Option<u64>,
+    pub(crate) wire: W,
     pub(crate) confirmed: u32,
+    pub(crate) machine: Machine,
     pub(crate) counted: Standing,
     pub(crate) shown: Look,
 }
 
-pub(crate) fn game_of(alloc: Global) -> Result<Game, Fail> {
-    Ok(Game::read(alloc, GAME.as_bytes())?)
+pub(crate) fn game_of(alloc: Global, players: u8) -> Result<Game, Fail> {
+    let text = match players {
+        2 => GAMES[0],
+        3 => GAMES[1],
+        _ => GAMES[2],
+    };
+    Ok(Game::read(alloc, text.as_bytes())?)
 }
 
-/// Two relays, each of which takes what the other one sends.
-pub(crate) fn relays(alloc: Global) -> Result<(Relay, Relay), AllocError> {
-    let (to_two, from_one) = inlet(alloc, PLACES)?;
-    let (to_one, from_two) = inlet(alloc, PLACES)?;
+/// Two relays of so many places, each of which takes what the other one sends.
+pub(crate) fn relays(alloc: Global, places: usize) -> Result<(Relay, Relay), AllocError> {
+    let (to_two, from_one) = inlet(alloc, places)?;
+    let (to_one, from_two) = inlet(alloc, places)?;
     Ok((Relay::new(to_two, from_two), Relay::new(to_one, from_one)))
 }
 
@@ -83,19 +95,19 @@ fn opened(alloc: Global, game: &Game) -> Result<(Board, Pen, Viewer), Fail>
     }
 }
 
-impl<'g> Side<'g> {
+impl<'g, W: Wire + Drop> Side<'g, W> {
     pub(crate) fn new(
         alloc: Global,
         game: &'g Game,
         number: u8,
         keys: &str,
-        relay: Relay,
-    ) -> Result<Side<'g>, Fail> {
+        wire: W,
+    ) -> Result<Side<'g, W>, Fail> {
         let session = session_of(alloc, game, number, keys)?;
         let (board, pen, viewer) = opened(alloc, game)?;
         Ok(Side {
             session,
-            relay,
+            wire,
             board,
             pen,
             viewer,
@@ -108,10 +120,10 @@ impl<'g> Side<'g> {
     }
 
     /// Its worker runs, at most so many turns, while the gate lets it.
-    pub(crate) fn work<G: Gate>(self, turns: u64, gate: &G) -> Outcome {
+    pub(crate) fn work<G: Gate>(self, turns: u64, gate: &G) -> Outcome<W> {
         let Side {
             mut session,
-            mut relay,
+            mut wire,
             board,
             mut pen,
             viewer,
@@ -119,7 +131,7 @@ impl<'g> Side<'g> {
         let counters = Counters::new();
         let made = game_worker(
             &mut session,
-            &mut relay,
+            &mut wire,
             &board,
             &mut pen,
             &counters,
@@ -127,9 +139,12 @@ impl<'g> Side<'g> {
             gate,
         );
         let (shown, _, _) = board.look_with(pen, viewer);
+        let (confirmed, machine) = session.peer().base();
         Outcome {
             made: made.ok(),
-            confirmed: session.peer().confirmed(),
+            wire,
+            confirmed,
+            machine: *machine,
             counted: counters.take(),
             shown,
         }
