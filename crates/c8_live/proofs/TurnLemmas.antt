@@ -1,5 +1,6 @@
 -- How what a session does is put together.
 use Rattle.std.proofs.Common.{◌≡◌, inl, inr, ℕ, suc, List, [], ◌∷◌, ◌++◌, Option, Some, Ok, refl, sym, ap, subst, ◌+◌, ◌∙◌, arith, append-nil, append_assoc}
+use Rattle.std.proofs.lemmas.List.{length-append}
 use Rattle.std.proofs.lemmas.List.Elements.{All-nil, All-cons, All-append}
 use Rattle.c8_disk.specs.declared.disk.Disk.{Ghosts as DiskGhosts}
 use Rattle.c8_peer.specs.State.{Call, Reply, Said}
@@ -8,7 +9,7 @@ use Rattle.c8_peer.specs.Peer.{PeerValue, IsAnswered, IsSaid, luck_of}
 use Rattle.c8_peer.specs.Runs.{Does, IsDone}
 use Rattle.c8_live.specs.declared.wire.Wire.{Ghosts as WireGhosts}
 use Rattle.c8_live.specs.Runs.{HasRunOn}
-use Rattle.c8_live.specs.Turns.{Doing, Hears, Ticks, LetsGo, Cuts, Speaks, doing, HasDone, HasTicked, WereSaid, HasSpoken, IsTurn, AreTurns}
+use Rattle.c8_live.specs.Turns.{Doing, Ticks, LetsGo, Cuts, Speaks, doing, HasDone, HasDoneAtMost, HasHeard, HasTicked, WereSaid, HasSpoken, IsTurn, AreTurns}
 use Rattle.c8_live.specs.Wire.{MayTake}
 use Rattle.c8_live.proofs.RunLemmas.{RunsJoin, still, joined, once, says}
 
@@ -30,6 +31,12 @@ module _ {D : Type 0} (disk : DiskGhosts D) where
     ran = once disk old new call reply is deed;
     alike = All-cons (λ (c : Call × Luck). doing c.0 ≡ doing call) (call, luck_of reply) [] refl (All-nil (λ (c : Call × Luck). doing c.0 ≡ doing call));
   }
+
+  abbrev pub done_counted : RunsJoin → (what : Doing) (most more : ℕ) (first middle last : PeerValue D) → HasDoneAtMost disk most what first middle → HasDoneAtMost disk more what middle last
+      → HasDoneAtMost disk (most + more) what first last
+  done_counted join what most more first middle last one two =
+      let counted = length-append one.0.ran.calls two.0.ran.calls in
+      (done_joined join what first middle last one.0 two.0, omega (arith, counted, one.1, two.1))
 
 -- ---- what was said
 
@@ -82,7 +89,7 @@ module _ {D W : Type 0} (disk : DiskGhosts D) (wire : WireGhosts W) where
 
   -- ---- turns
 
-  abbrev pub turn_of : (old heard ticked let_go new : PeerValue D) (before after : W) → HasDone disk Hears old heard → HasTicked disk heard ticked → HasDone disk LetsGo ticked let_go
+  abbrev pub turn_of : (old heard ticked let_go new : PeerValue D) (before after : W) → HasHeard disk old heard → HasTicked disk heard ticked → HasDone disk LetsGo ticked let_go
       → HasDone disk Cuts let_go new → HasSpoken disk wire new before after → IsTurn disk wire old new before after
   turn_of old heard ticked let_go new before after hears ticks lets_go cuts speaks =
       record { heard = heard; ticked = ticked; let_go = let_go; hears = hears; ticks = ticks; lets_go = lets_go; cuts = cuts; speaks = speaks }
@@ -92,7 +99,7 @@ module _ {D W : Type 0} (disk : DiskGhosts D) (wire : WireGhosts W) where
 
   pub turn_ran : RunsJoin → (old new : PeerValue D) (before after : W) → IsTurn disk wire old new before after → HasRunOn disk old new
   turn_ran join old new before after turn =
-      joined disk join old turn.heard new turn.hears.ran
+      joined disk join old turn.heard new turn.hears.0.ran
       (joined disk join turn.heard turn.ticked new turn.ticks.0.ran
       (joined disk join turn.ticked turn.let_go new turn.lets_go.ran
       (joined disk join turn.let_go new new turn.cuts.ran turn.speaks.done.ran)))

@@ -31,8 +31,19 @@ pub record HasDone {D : Type 0} (disk : DiskGhosts D) (what : Doing) (old new : 
   pub ran : HasRunOn disk old new
   pub alike : All (λ (call : Call × Luck). doing call.0 ≡ what) ran.calls
 
+-- and of so many calls at most
+abbrev pub HasDoneAtMost : {D : Type 0} → DiskGhosts D → ℕ → Doing → PeerValue D → PeerValue D → Type 0
+HasDoneAtMost disk most what old new = (done : HasDone disk what old new) × (length done.ran.calls ≤ most)
+
+-- how many packets a turn hears at most, so that however many wait it comes to its tick
+abbrev pub most_packets : ℕ
+most_packets = 256
+
+abbrev pub HasHeard : {D : Type 0} → DiskGhosts D → PeerValue D → PeerValue D → Type 0
+HasHeard disk old new = HasDoneAtMost disk most_packets Hears old new
+
 abbrev pub HasTicked : {D : Type 0} → DiskGhosts D → PeerValue D → PeerValue D → Type 0
-HasTicked disk old new = (done : HasDone disk Ticks old new) × (length done.ran.calls ≤ 1)
+HasTicked disk old new = HasDoneAtMost disk 1 Ticks old new
 
 -- ---- what is said
 
@@ -55,12 +66,12 @@ pub record HasSpoken {D W : Type 0} (disk : DiskGhosts D) (wire : WireGhosts W) 
 
 -- ---- turns
 
--- A turn: the peer hears, ticks at most once, lets go, cuts and speaks. Where the disk or the wire ends it, nothing follows.
+-- A turn: the peer hears so many packets at most, ticks at most once, lets go, cuts and speaks. Where the disk or the wire ends it, nothing follows.
 pub record IsTurn {D W : Type 0} (disk : DiskGhosts D) (wire : WireGhosts W) (old new : PeerValue D) (before after : W) : Type 0 where
   pub heard : PeerValue D
   pub ticked : PeerValue D
   pub let_go : PeerValue D
-  pub hears : HasDone disk Hears old heard
+  pub hears : HasHeard disk old heard
   pub ticks : HasTicked disk heard ticked
   pub lets_go : HasDone disk LetsGo ticked let_go
   pub cuts : HasDone disk Cuts let_go new

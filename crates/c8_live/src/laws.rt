@@ -8,7 +8,7 @@ ghost use Rattle.c8_peer.specs.State.{Call, Reply};
 ghost use Rattle.c8_live.specs.declared.error.SessionError.{SessionError};
 ghost use Rattle.c8_live.specs.Parts.{IsHandedOn};
 ghost use Rattle.c8_live.specs.Runs.{HasRunOn, IsEnd};
-ghost use Rattle.c8_live.specs.Turns.{Doing, Speaks, doing, HasDone, HasSpoken, IsTurn, AreTurns};
+ghost use Rattle.c8_live.specs.Turns.{Doing, Speaks, doing, HasDone, HasDoneAtMost, HasSpoken, IsTurn, AreTurns};
 ghost use Rattle.c8_live.specs.Wire.{MayTake};
 
 use crate::wire::Wire;
@@ -35,7 +35,8 @@ pub fn peers_run_on<D: Disk>()
     calls_are_deeds::<D>();
 }
 
-/// Calls that do the same, joined: none (`still`), one (`once`), and some after others (`joined`).
+/// Calls that do the same, joined: none (`still`), one (`once`), and some after others (`joined`); so
+/// with how many they are at most (`none`, `counted`).
 pub fn doings_join<D: Disk>()
     ensures still { (what : Doing) (p : PeerValue D) → HasDone D.Disk what p p }
     ensures once { (old new : PeerValue D) (call : Call) (reply : Reply)
@@ -44,6 +45,10 @@ pub fn doings_join<D: Disk>()
     ensures joined { (what : Doing) (first middle last : PeerValue D)
         → HasDone D.Disk what first middle → HasDone D.Disk what middle last
         → HasDone D.Disk what first last }
+    ensures none { (what : Doing) (p : PeerValue D) → HasDoneAtMost D.Disk 0 what p p }
+    ensures counted { (what : Doing) (most more : ℕ) (first middle last : PeerValue D)
+        → HasDoneAtMost D.Disk most what first middle → HasDoneAtMost D.Disk more what middle last
+        → HasDoneAtMost D.Disk (most + more) what first last }
 {
     runs_join();
     calls_are_deeds::<D>();

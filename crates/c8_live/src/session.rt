@@ -2,7 +2,7 @@
 
 ghost use Rattle.std.specs.Prelude.{◌≡◌, ◌≤◌, IfSome, IfErr};
 ghost use Rattle.c8_live.specs.Runs.{HasRunOn, IsEnd};
-ghost use Rattle.c8_live.specs.Turns.{Hears, LetsGo, Cuts, HasDone, HasTicked, HasSpoken, IsTurn};
+ghost use Rattle.c8_live.specs.Turns.{Hears, LetsGo, Cuts, HasDone, HasDoneAtMost, HasHeard, HasTicked, HasSpoken, IsTurn};
 
 mod calls;
 
@@ -100,9 +100,9 @@ impl<'g, D: Disk> Session<'g, D> {
         self.peer.dropped() || self.rested > REST
     }
 
-    /// One turn: the peer hears, ticks, and as player one lets go and cuts, each a step of the
-    /// definitions; then it speaks, and what the wire takes is what it said. The error is that of the
-    /// disk or of the wire, which ends the session.
+    /// One turn: the peer hears so many packets at most, ticks, and as player one lets go and cuts, each
+    /// a step of the definitions; then it speaks, and what the wire takes is what it said. The error is
+    /// that of the disk or of the wire, which ends the session.
     pub fn turn<W: Wire>(&mut self, wire: &mut W) -> Result<(), SessionError>
         ensures turn { IsTurn D.Disk W.Wire self.old.peer self.new.peer wire.old wire.new }
         ensures ran { HasRunOn D.Disk self.old.peer self.new.peer }
@@ -126,7 +126,7 @@ impl<'g, D: Disk> Session<'g, D> {
     /// Delivers the packets that wait, and tells of which players a HELLO was taken, player 1's
     /// place first.
     fn hear<W: Wire>(&mut self, wire: &mut W) -> Result<[bool; MOST_PLAYERS], SessionError>
-        ensures ran { HasDone D.Disk Hears self.old.peer self.new.peer }
+        ensures ran { HasHeard D.Disk self.old.peer self.new.peer }
         ensures end { IfErr result (IsEnd D.Disk self.old.peer self.new.peer) }
         ensures sent { W.sent wire.new ≡ W.sent wire.old }
     {
@@ -149,7 +149,7 @@ impl<'g, D: Disk> Session<'g, D> {
 
     /// Delivers a packet, and answers whose HELLO it was, if it was one and was taken.
     fn deliver(&mut self, packet: &[u8]) -> Result<Option<Player>, SessionError>
-        ensures ran { HasDone D.Disk Hears self.old.peer self.new.peer }
+        ensures ran { HasDoneAtMost D.Disk 1 Hears self.old.peer self.new.peer }
         ensures end { IfErr result (IsEnd D.Disk self.old.peer self.new.peer) }
     {
         doings_join::<D>();

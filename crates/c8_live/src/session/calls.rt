@@ -5,7 +5,7 @@ ghost use Rattle.c8_disk.specs.declared.error.DiskError.{DiskError};
 ghost use Rattle.c8_wire.specs.Packet.{IsPacket};
 ghost use Rattle.c8_wire.specs.Lent.{packet_of};
 ghost use Rattle.c8_live.specs.Runs.{IsStopped};
-ghost use Rattle.c8_live.specs.Turns.{Hears, LetsGo, Cuts, HasDone, HasTicked};
+ghost use Rattle.c8_live.specs.Turns.{Hears, LetsGo, Cuts, HasDone, HasDoneAtMost, HasTicked};
 
 use super::Session;
 use crate::laws::{doings_join, peers_run_on};
@@ -18,7 +18,7 @@ impl<'g, D: Disk> Session<'g, D> {
     /// The peer hears a datagram. What it runs anew by that is a rollback.
     pub(super) fn peer_hears(&mut self, datagram: &Datagram<'_>) -> Result<Heard, Refused>
         requires { IsPacket (packet_of datagram.now) }
-        ensures ran { HasDone D.Disk Hears self.old.peer self.new.peer }
+        ensures ran { HasDoneAtMost D.Disk 1 Hears self.old.peer self.new.peer }
         ensures stopped { (why : DiskError) → result ≡ Err (Refused.Disk why)
             → IsStopped D.Disk self.old.peer self.new.peer why }
     {

@@ -25,7 +25,7 @@ pub returns-in_err-tick-clause-end : goal.returns-in_err-tick-clause-end
 returns-in_err-tick-clause-end g c =
     let error = err_from_is_err_and c.from_residual-in_err-tick.result c.from_residual-in_err-tick.ensures.1 in
     rw (error.1, error.2)
-    (c.peers_run_on.ensures.ended c.args.self.now.peer c.hear.new.self.peer c.tick.new.self.peer c.in_err-tick.field-0.0 c.in_ok-greeters.ensures.ran.ran c.in_err-tick.ensures.end)
+    (c.peers_run_on.ensures.ended c.args.self.now.peer c.hear.new.self.peer c.tick.new.self.peer c.in_err-tick.field-0.0 c.in_ok-greeters.ensures.ran.0.ran c.in_err-tick.ensures.end)
 
 pub returns-in_err-let_go-clause-turn : goal.returns-in_err-let_go-clause-turn
 returns-in_err-let_go-clause-turn g c =
@@ -41,7 +41,7 @@ returns-in_err-let_go-clause-end g c =
     let error = err_from_is_err_and c.from_residual-in_err-let_go.result c.from_residual-in_err-let_go.ensures.1 in
     rw (error.1, error.2)
     (c.peers_run_on.ensures.ended c.args.self.now.peer c.tick.new.self.peer c.let_go.new.self.peer c.in_err-let_go.field-0.0
-    (c.peers_run_on.ensures.joined c.args.self.now.peer c.hear.new.self.peer c.tick.new.self.peer c.in_ok-greeters.ensures.ran.ran c.in_ok-tick.ensures.ran.0.ran)
+    (c.peers_run_on.ensures.joined c.args.self.now.peer c.hear.new.self.peer c.tick.new.self.peer c.in_ok-greeters.ensures.ran.0.ran c.in_ok-tick.ensures.ran.0.ran)
     c.in_err-let_go.ensures.end)
 
 pub returns-in_err-cut-clause-turn : goal.returns-in_err-cut-clause-turn
@@ -59,7 +59,7 @@ returns-in_err-cut-clause-end g c =
     rw (error.1, error.2)
     (c.peers_run_on.ensures.ended c.args.self.now.peer c.let_go.new.self.peer c.cut.new.self.peer c.in_err-cut.field-0.0
     (c.peers_run_on.ensures.joined c.args.self.now.peer c.tick.new.self.peer c.let_go.new.self.peer
-    (c.peers_run_on.ensures.joined c.args.self.now.peer c.hear.new.self.peer c.tick.new.self.peer c.in_ok-greeters.ensures.ran.ran c.in_ok-tick.ensures.ran.0.ran) c.in_ok-let_go.ensures.ran.ran)
+    (c.peers_run_on.ensures.joined c.args.self.now.peer c.hear.new.self.peer c.tick.new.self.peer c.in_ok-greeters.ensures.ran.0.ran c.in_ok-tick.ensures.ran.0.ran) c.in_ok-let_go.ensures.ran.ran)
     c.in_err-cut.ensures.end)
 
 pub returns-in_err-speak-clause-turn : goal.returns-in_err-speak-clause-turn
