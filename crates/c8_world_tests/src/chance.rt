@@ -1,7 +1,9 @@
 //! Thousands of events drawn by chance: whatever they are, who was not let go agrees.
+use crate::rest::go_on;
 use crate::walk::answers;
+use c8_disk::DiskError;
 use c8_game::{Game, Keys, Player};
-use c8_peer::{Heard, Kind};
+use c8_peer::{DecideError, Heard, Kind, LeaveError, OpenError, Refused, TickError};
 use c8_world::{Act, Answer, Event, World};
 use rand_pcg::Pcg32;
 use rand_pcg::rand_core::SeedableRng;
@@ -9,38 +11,77 @@ use rand_pcg::rand_core::utils::NextWord;
 use std::alloc::Global;
 use std::test::Fail;
 
-/// Four players, a window of 8 frames and two frames of delay.
-const GAME: &[u8] =
-    b"players 4\nipf 10\nframes 300\ndelay 2\nwindow 8\nseed 1\nmask1 000f\nmask2 00f0\nmask3 0f00\nmask4 f000\ncode 6205e2a1710170011202\n";
+/// Games of two, three and four players, each with a window of 8 frames and two frames of delay.
+const GAMES: [&[u8]; 3] = [
+    b"players 2\nipf 10\nframes 300\ndelay 2\nwindow 8\nseed 1\nmask1 000f\nmask2 f0f0\ncode 6205e2a1710170011202\n",
+    b"players 3\nipf 10\nframes 300\ndelay 2\nwindow 8\nseed 1\nmask1 000f\nmask2 00f0\nmask3 ff00\ncode 6205e2a1710170011202\n",
+    b"players 4\nipf 10\nframes 300\ndelay 2\nwindow 8\nseed 1\nmask1 000f\nmask2 00f0\nmask3 0f00\nmask4 f000\ncode 6205e2a1710170011202\n",
+];
+
+/// A seed of each match of a game.
+const SEEDS: [u64; 4] = [2026, 7, 65537, 19];
+
+/// How many draws a match has.
+const DRAWS: u32 = 1200;
 
 const ONE: Player = Player { number: 1 };
 
-/// Who is let go.
-const FOUR: Player = Player { number: 4 };
+/// What has come of events.
+#[derive(Clone, Copy, Debug, PartialEq, Eq)]
+struct Counted {
+    kept: u32,
+    stopped: u32,
+    /// Events inside which a call of the disk was to fail.
+    fails: u32,
+    /// Those of them that were answered that it did: at openings, ticks, deliveries, and leaves and
+    /// decisions.
+    opening: u32,
+    tick: u32,
+    delivery: u32,
+    round: u32,
+    cut: u32,
+    /// Matches in which somebody confirmed more than 20 frames.
+    far: u32,
+}
 
-/// Where events come from, and what has come of them.
+const NOTHING: Counted = Counted {
+    kept: 0,
+    stopped: 0,
+    fails: 0,
+    opening: 0,
+    tick: 0,
+    delivery: 0,
+    round: 0,
+    cut: 0,
+    far: 0,
+};
+
+/// One more.
+fn count(number: &mut u32) {
+    *number = number.saturating_add(1);
+}
+
+/// Where the events of a match come from, and what has come of them.
 #[derive(Drop)]
 struct Chance {
     numbers: Pcg32,
+    players: u8,
     said: u64,
     /// To whom the last datagram is.
     to: Player,
-    kept: u32,
-    stopped: u32,
-    cut: u32,
+    counted: Counted,
     /// Memory was refused.
     refused: bool,
 }
 
 impl Chance {
-    fn new(seed: u64) -> Chance {
+    fn new(seed: u64, players: u8, counted: Counted) -> Chance {
         Chance {
             numbers: Pcg32::seed_from_u64(seed),
+            players,
             said: 0,
-            to: FOUR,
-            kept: 0,
-            stopped: 0,
-            cut: 0,
+            to: ONE,
+            counted,
             refused: false,
         }
     }
@@ -54,20 +95,35 @@ impl Chance {
         }
     }
 
+    /// A number of disk calls.
+    fn calls(&mut self) -> u64 {
+        u64::from(self.below(6))
+    }
+
     fn player(&mut self) -> Player {
-        match self.below(4) {
+        match self.below(u32::from(self.players)) {
             0 => ONE,
             1 => Player { number: 2 },
             2 => Player { number: 3 },
-            _ => FOUR,
+            _ => Player { number: 4 },
+        }
+    }
+
+    /// Who is let go.
+    fn leaver(&self) -> Player {
+        match self.players {
+            2 => Player { number: 2 },
+            3 => Player { number: 3 },
+            _ => Player { number: 4 },
         }
     }
 
     fn kind(&mut self) -> Kind {
+        let leaver = self.leaver();
         match self.below(8) {
-            0 => Kind::Freeze(FOUR),
-            1 => Kind::Frozen(FOUR),
-            2 => Kind::Cut(FOUR),
+            0 => Kind::Freeze(leaver),
+            1 => Kind::Frozen(leaver),
+            2 => Kind::Cut(leaver),
             _ => Kind::Data,
         }
     }
@@ -78,24 +134,39 @@ impl Chance {
         self.said.saturating_sub(1 + u64::from(self.below(back)))
     }
 
+    fn last(&self) -> Act {
+        Act::Give(self.said.saturating_sub(1), self.to)
+    }
+
     fn act(&mut self) -> Act {
         match self.below(40) {
             0 | 1 | 2 => Act::Open(self.player()),
-            3 => Act::Leave(FOUR),
-            4 | 5 => Act::Decide(FOUR),
-            6..12 => Act::Tick(self.player(), Keys(0x2000)),
+            3 => self.rare(),
+            4 | 5 => Act::Decide(self.leaver()),
+            6..12 => Act::Tick(self.player(), Keys(0x2020)),
             12..18 => Act::Say(self.player(), self.player(), self.kind()),
-            18..34 => Act::Give(self.said.saturating_sub(1), self.to),
+            18..34 => self.last(),
             _ => Act::Give(self.number(), self.player()),
         }
     }
 
+    /// A leave, and that late in a match of two: nobody else is there afterwards.
+    fn rare(&mut self) -> Act {
+        if self.players == 2 && self.said < 500 {
+            Act::Tick(self.player(), Keys(0x0010))
+        } else {
+            Act::Leave(self.leaver())
+        }
+    }
+
+    /// An act of a drop round is rare, so more of these fail.
     fn event(&mut self) -> Event {
         let act = self.act();
-        if self.below(400) == 0 {
-            Event::Stop(act, u64::from(self.below(6)), u64::from(self.below(5)))
-        } else {
-            Event::Do(act)
+        let is_rare = matches!(act, Act::Leave(_) | Act::Decide(_));
+        match self.below(if is_rare { 40 } else { 400 }) {
+            0 => Event::Stop(act, self.calls(), u64::from(self.below(5))),
+            1..20 => Event::Fail(act, self.calls()),
+            _ => Event::Do(act),
         }
     }
 
@@ -103,11 +174,12 @@ impl Chance {
     /// some events in a row.
     fn go_on(&mut self, alloc: Global, world: &mut World<'_>) {
         let (one, other) = (self.player(), self.player());
+        let leaver = self.leaver();
         match self.below(20) {
             0 => self.meet(alloc, world, one, other),
             1 => {
-                self.bring(alloc, world, ONE, other, Kind::Freeze(FOUR));
-                self.bring(alloc, world, other, ONE, Kind::Frozen(FOUR));
+                self.bring(alloc, world, ONE, other, Kind::Freeze(leaver));
+                self.bring(alloc, world, other, ONE, Kind::Frozen(leaver));
             }
             _ => {
                 let event = self.event();
@@ -133,7 +205,7 @@ impl Chance {
         what: Kind,
     ) {
         self.happen(alloc, world, Event::Do(Act::Say(from, to, what)));
-        let last = Act::Give(self.said.saturating_sub(1), self.to);
+        let last = self.last();
         self.happen(alloc, world, Event::Do(last));
     }
 
@@ -147,6 +219,10 @@ impl Chance {
 
     /// Counts what an event was answered.
     fn note(&mut self, event: Event, answer: Option<Answer>) {
+        if let Event::Fail(_, _) = event {
+            count(&mut self.counted.fails);
+            self.counted.note_failure(answer);
+        }
         match answer {
             Some(Answer::Said(Ok(_))) => {
                 self.said = self.said.saturating_add(1);
@@ -154,29 +230,90 @@ impl Chance {
                     self.to = to;
                 }
             }
-            Some(Answer::Delivered(Ok(Heard::Kept))) => self.kept = self.kept.saturating_add(1),
-            Some(Answer::Stopped) => self.stopped = self.stopped.saturating_add(1),
-            Some(Answer::Decided(Ok(_))) => self.cut = self.cut.saturating_add(1),
+            Some(Answer::Delivered(Ok(Heard::Kept))) => count(&mut self.counted.kept),
+            Some(Answer::Stopped) => count(&mut self.counted.stopped),
+            Some(Answer::Decided(Ok(_))) => count(&mut self.counted.cut),
             _ => {}
         }
     }
 }
 
+impl Counted {
+    /// Counts an answer that a call of the disk failed.
+    fn note_failure(&mut self, answer: Option<Answer>) {
+        let failed = DiskError::Failed;
+        if answer == Some(Answer::Opened(Err(OpenError::Disk(failed)))) {
+            count(&mut self.opening);
+        } else if answer == Some(Answer::Ticked(Err(TickError::Disk(failed)))) {
+            count(&mut self.tick);
+        } else if answer == Some(Answer::Delivered(Err(Refused::Disk(failed)))) {
+            count(&mut self.delivery);
+        } else if answer == Some(Answer::Left(Err(LeaveError::Disk(failed))))
+            || answer == Some(Answer::Decided(Err(DecideError::Disk(failed))))
+        {
+            count(&mut self.round);
+        }
+    }
+}
+
+/// A match of one seed: its events, and then the rest of it. Those who stay agree after each hundred
+/// draws and in the end. None where they don't, or where memory was refused.
+fn play(alloc: Global, game: &Game, seed: u64, counted: Counted) -> Option<Counted> {
+    let mut world = World::new(alloc, game, 7, 300000, 16384).ok()?;
+    let mut chance = Chance::new(seed, game.players(), counted);
+    for draw in 0..DRAWS {
+        chance.go_on(alloc, &mut world);
+        if draw % 100 == 0 && agrees(alloc, &world).is_none() {
+            return None;
+        }
+    }
+    let leaver = chance.leaver();
+    go_on(alloc, &mut world, leaver.number);
+    let confirmed = agrees(alloc, &world)?;
+    let mut counted = chance.counted;
+    if confirmed > 20 {
+        count(&mut counted.far);
+    }
+    if chance.refused { None } else { Some(counted) }
+}
+
+/// How many frames are confirmed where most are, if those who stay agree.
+fn agrees(alloc: Global, world: &World<'_>) -> Option<u32> {
+    let ends = world.ends(alloc).ok()?;
+    if !ends.agree {
+        return None;
+    }
+    let mut most = 0;
+    for tally in &ends.players {
+        most = tally.confirmed.max(most);
+    }
+    Some(most)
+}
+
+/// All matches of all games, one after the other.
+fn play_all(alloc: Global) -> Result<Counted, Fail> {
+    let mut counted = NOTHING;
+    for text in &GAMES {
+        let game = Game::read(alloc, text)?;
+        for seed in &SEEDS {
+            counted = match play(alloc, &game, *seed, counted) {
+                Some(counted) => counted,
+                None => return Err(Fail::new("no agreement, or no memory")),
+            };
+        }
+    }
+    Ok(counted)
+}
+
+/// Two, three and four players, four matches each, with stops, failures of disks, restarts and a drop
+/// round in them. That each kind was met is asked of all together.
 #[test]
 fn who_stays_agrees(rt: HostRuntime) -> Result<(), Fail> {
-    let alloc = rt.alloc();
-    let game = Game::read(alloc, GAME)?;
-    let mut world = World::new(alloc, &game, 7, 589825, 65536)?;
-    let mut chance = Chance::new(2026);
-    for _ in 0..5000 {
-        chance.go_on(alloc, &mut world);
-    }
-    let ends = world.ends(alloc)?;
-    assert!(rt; ends.agree);
-    assert!(rt; !chance.refused);
-    assert!(rt; chance.kept > 0);
-    assert!(rt; chance.stopped > 0);
-    assert!(rt; chance.cut > 0);
-    assert!(rt; ends.players.iter().any(|tally| tally.confirmed > 20));
+    let counted = play_all(rt.alloc())?;
+    assert!(rt; counted.kept > 0 && counted.stopped > 0 && counted.cut > 0);
+    assert!(rt; counted.fails > 0);
+    assert!(rt; counted.opening > 0 && counted.tick > 0);
+    assert!(rt; counted.delivery > 0 && counted.round > 0);
+    assert!(rt; counted.far > 0);
     Ok(())
 }

@@ -9,10 +9,16 @@ mod chance;
 #[cfg(test)]
 mod disks;
 #[cfg(test)]
+mod rest;
+#[cfg(test)]
+mod round;
+#[cfg(test)]
 mod said;
 #[cfg(test)]
 mod step;
 #[cfg(test)]
 mod stops;
+#[cfg(test)]
+mod trial;
 #[cfg(test)]
 mod walk;

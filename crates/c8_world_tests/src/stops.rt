@@ -1,17 +1,18 @@
-//! Stops inside calls that write: after each number of the disk's calls, with each kind of image.
+//! Stops and failures inside calls that write, of two players: after each number of the disk's calls,
+//! with each kind of image.
 use crate::step::Outcome::Is;
 use crate::step::What::{Data, Hello, Welcome};
 use crate::step::{Deed, Outcome, Row, Step};
-use crate::walk::{first_wrong, step_on};
-use c8_game::{Game, Player};
+use crate::trial::{Found, Match, Trial};
+use c8_game::Game;
 use c8_peer::Heard;
-use c8_world::{Answer, Counts, Posted, Tally, World};
-use std::alloc::Global;
+use c8_world::{Answer, Counts, Posted, Tally};
 use std::test::Fail;
 
-/// Two players, a window of 8 frames and one frame of delay.
+/// Two players, a window of 8 frames and one frame of delay. The program counts the frames with key 5
+/// down.
 const GAME: &[u8] =
-    b"players 2\nipf 10\nframes 100\ndelay 1\nwindow 8\nseed 0\nmask1 000f\nmask2 fff0\ncode 1200\n";
+    b"players 2\nipf 3\nframes 100\ndelay 1\nwindow 8\nseed 0\nmask1 000f\nmask2 fff0\ncode 6005e09e120272011202\n";
 
 const NOTHING: Outcome = Is(Answer::Delivered(Ok(Heard::Nothing)));
 
@@ -76,28 +77,6 @@ const HISTORY: [Row; 19] = [
     (Step::Do(Deed::Decide(2)), Is(Answer::Decided(Ok(4)))),
 ];
 
-/// What an opening finds: its epoch, what the player has, and whether player 2 was let go, and cut.
-#[derive(Clone, Copy, Debug, PartialEq, Eq)]
-struct Found {
-    epoch: u32,
-    tally: Tally,
-    leaving: bool,
-    cut: Option<u32>,
-}
-
-/// A call of the history, at its place there, and what a stop in it may have left: `bare` is without
-/// its record, `kept` with it. Where fewer calls are served than `gate`, the gate of the record is not
-/// written; where more are, it is synced. Between the two pick 0 leaves what was synced, pick 1 what
-/// was written, and any other pick one of these.
-#[derive(Clone, Copy)]
-struct Stop {
-    place: usize,
-    player: u8,
-    gate: u64,
-    bare: Found,
-    kept: Found,
-}
-
 /// What is found in an epoch where player 2 has not been let go.
 const FRESH: Found = Found {
     epoch: 1,
@@ -106,6 +85,8 @@ const FRESH: Found = Found {
         confirmed: 0,
         held: [1, 1, 0, 0],
     },
+    dropped: false,
+    frozen: false,
     leaving: false,
     cut: None,
 };
@@ -160,6 +141,7 @@ const HEARD: Found = Found {
 };
 
 const LEFT: Found = Found {
+    frozen: true,
     leaving: true,
     ..HEARD
 };
@@ -169,165 +151,90 @@ const CUT: Found = Found {
     ..LEFT
 };
 
-const STOPS: [Stop; 7] = [
+/// Where both come to if player 2 was not let go.
+const BOTH: Tally = Tally {
+    now: 6,
+    confirmed: 6,
+    held: [7, 7, 0, 0],
+};
+
+/// Where player 1 comes to if it was.
+const ALONE: Tally = Tally {
+    held: [7, 4, 0, 0],
+    ..BOTH
+};
+
+const TRIALS: [Trial; 7] = [
     // A sync, the first closed gate and a sync; then the record, its gate, and a sync after each.
-    Stop {
+    Trial {
         place: 0,
         player: 1,
         gate: 6,
         bare: FRESH,
         kept: SECOND,
+        level: BOTH,
     },
     // A sync, the slot with the gate after it, the slot once more to know its record; then as above.
-    Stop {
+    Trial {
         place: 2,
         player: 1,
         gate: 6,
         bare: SECOND,
         kept: THIRD,
+        level: BOTH,
     },
-    Stop {
+    Trial {
         place: 11,
         player: 1,
         gate: 3,
         bare: ONE_TICK,
         kept: TWO_TICKS,
+        level: BOTH,
     },
-    Stop {
+    Trial {
         place: 14,
         player: 2,
         gate: 3,
         bare: TWO_TICKS_OF_TWO,
         kept: THREE_TICKS_OF_TWO,
+        level: BOTH,
     },
-    Stop {
+    Trial {
         place: 16,
         player: 1,
         gate: 3,
         bare: TWO_TICKS,
         kept: HEARD,
+        level: BOTH,
     },
-    Stop {
+    Trial {
         place: 17,
         player: 1,
         gate: 3,
         bare: HEARD,
         kept: LEFT,
+        level: ALONE,
     },
-    Stop {
+    Trial {
         place: 18,
         player: 1,
         gate: 3,
         bare: LEFT,
         kept: CUT,
+        level: ALONE,
     },
 ];
 
-/// A stop after which something else is found, or nothing.
-#[derive(Debug, Drop)]
-struct Wrong {
-    place: usize,
-    calls: u64,
-    pick: u64,
-    found: Option<Found>,
-}
-
-impl Stop {
-    /// What may be found.
-    fn allows(&self, calls: u64, pick: u64, found: Found) -> bool {
-        if calls < self.gate || calls == self.gate && pick == 0 {
-            found == self.bare
-        } else if calls > self.gate || pick == 1 {
-            found == self.kept
-        } else {
-            found == self.bare || found == self.kept
-        }
-    }
-
-    /// Each number of calls, with some picks.
-    fn holds(&self, alloc: Global, game: &Game) -> Result<(), Fail> {
-        for calls in 0..9 {
-            self.holds_after(alloc, game, calls)?;
-        }
-        Ok(())
-    }
-
-    fn holds_after(&self, alloc: Global, game: &Game, calls: u64) -> Result<(), Fail> {
-        let picks = if calls == self.gate { 21 } else { 6 };
-        for pick in 0..picks {
-            let found = self.found(alloc, game, calls, pick);
-            let allowed = match found {
-                Some(found) => self.allows(calls, pick, found),
-                None => false,
-            };
-            if !allowed {
-                return Err(Fail::from(Wrong {
-                    place: self.place,
-                    calls,
-                    pick,
-                    found,
-                }));
-            }
-        }
-        Ok(())
-    }
-
-    /// What is found after the call was stopped.
-    fn found(&self, alloc: Global, game: &Game, calls: u64, pick: u64) -> Option<Found> {
-        let mut world = World::new(alloc, game, 7, 20000, 400).ok()?;
-        if first_wrong(alloc, &mut world, HISTORY.get(..self.place)?).is_some() {
-            return None;
-        }
-        let (Step::Do(deed), _) = HISTORY.get(self.place)? else {
-            return None;
-        };
-        let stopped = step_on(alloc, &mut world, Step::Stop(*deed, calls, pick));
-        let down = step_on(alloc, &mut world, Step::Do(Deed::Tick(self.player, 8)));
-        if stopped != Is(Answer::Stopped) || down != Is(Answer::Down) {
-            return None;
-        }
-        self.reopened(alloc, &mut world)
-    }
-
-    /// What the opening of the player finds, who is away; a read of its disk finds the same.
-    fn reopened(&self, alloc: Global, world: &mut World<'_>) -> Option<Found> {
-        let away = step_on(alloc, world, Step::Held(self.player));
-        let read = self.tally(alloc, world)?;
-        let opened = step_on(alloc, world, Step::Do(Deed::Open(self.player)));
-        let tally = self.tally(alloc, world)?;
-        let peer = world.peer(Player::new(self.player)?)?;
-        let leaver = Player::new(2)?;
-        match opened {
-            Is(Answer::Opened(Ok(epoch))) if away == Outcome::Held(false) && read == tally => {
-                Some(Found {
-                    epoch,
-                    tally,
-                    leaving: peer.leaving(leaver),
-                    cut: peer.cut_of(leaver),
-                })
-            }
-            _ => None,
-        }
-    }
-
-    /// Where the player stands.
-    fn tally(&self, alloc: Global, world: &mut World<'_>) -> Option<Tally> {
-        let Outcome::Stand(tallies) = step_on(alloc, world, Step::Ends) else {
-            return None;
-        };
-        match tallies.get(usize::from(self.player).wrapping_sub(1)) {
-            Some(tally) => *tally,
-            None => None,
-        }
-    }
-}
-
-/// An opening, a tick, a delivery, a leave or a cut that is stopped has left its record or not.
+/// An opening, a tick, a delivery, a leave or a cut that is stopped, or one of whose disk's calls fails,
+/// has left its record or not, and the match goes on to one end.
 #[test]
-fn a_stopped_call_is_kept_or_not(rt: HostRuntime) -> Result<(), Fail> {
+fn a_stopped_or_failed_call_is_kept_or_not(rt: HostRuntime) -> Result<(), Fail> {
     let game = Game::read(rt.alloc(), GAME)?;
-    for stop in &STOPS {
-        stop.holds(rt.alloc(), &game)?;
-    }
-    Ok(())
+    let all = Match {
+        alloc: rt.alloc(),
+        game: &game,
+        history: &HISTORY,
+        leaver: 2,
+    };
+    all.holds(&TRIALS)
 }

@@ -1,5 +1,6 @@
 //! One world, and one step after the other.
-use crate::step::{Outcome, Row, Step};
+use crate::rest::meet;
+use crate::step::{Deed, Outcome, Row, Step, What};
 use c8_game::{Game, Player};
 use c8_world::{Answer, Event, RunError, Tally, World};
 use std::alloc::Global;
@@ -49,10 +50,39 @@ pub(crate) fn step_on(alloc: Global, world: &mut World<'_>, step: Step) -> Outco
         },
         Step::Ends => ends(alloc, world),
         Step::Said => Outcome::Said(world.said()),
-        Step::Do(_) | Step::Stop(_, _, _) => match step.event() {
-            Some(event) => happens(alloc, world, event),
-            None => Outcome::Impossible,
-        },
+        Step::Meet => {
+            meet(alloc, world);
+            Outcome::Done
+        }
+        Step::Do(Deed::Tell(from, to, what))
+        | Step::Stop(Deed::Tell(from, to, what), _, _)
+        | Step::Fail(Deed::Tell(from, to, what), _) => tells(alloc, world, step, from, to, what),
+        Step::Do(_) | Step::Stop(_, _, _) | Step::Fail(_, _) => does(alloc, world, step),
+    }
+}
+
+/// What comes of a step in which a player tells another something: what is said is given inside it.
+fn tells(
+    alloc: Global,
+    world: &mut World<'_>,
+    step: Step,
+    from: u8,
+    to: u8,
+    what: What,
+) -> Outcome {
+    let number = world.said();
+    let said = does(alloc, world, Step::Do(Deed::Say(from, to, what)));
+    if world.said() == number {
+        return said;
+    }
+    does(alloc, world, step.with(Deed::Give(number, to)))
+}
+
+/// What comes of a step that is one event.
+fn does(alloc: Global, world: &mut World<'_>, step: Step) -> Outcome {
+    match step.event() {
+        Some(event) => happens(alloc, world, event),
+        None => Outcome::Impossible,
     }
 }
 
