@@ -9,6 +9,8 @@ mod chance;
 #[cfg(test)]
 mod disks;
 #[cfg(test)]
+mod memory;
+#[cfg(test)]
 mod rest;
 #[cfg(test)]
 mod round;
