@@ -1,0 +1,216 @@
+//! Datagrams and journals, spelled as docs/FORMATS.md has them.
+use crate::scene::{
+    Body, DELAY, EPOCH, GAME_ID, Made, ROOM, SESSION, Said, Scene, inputs_of, keys,
+};
+use c8_disk::{Disk, MemDisk};
+use std::alloc::{AllocError, Global};
+
+/// Bytes in the place of a datagram.
+#[derive(Clone, Copy)]
+pub(crate) struct Letter {
+    bytes: [u8; 200],
+    size: usize,
+}
+
+impl Letter {
+    fn new() -> Letter {
+        Letter {
+            bytes: [0; 200],
+            size: 0,
+        }
+    }
+
+    pub(crate) fn bytes(&self) -> &[u8] {
+        self.bytes.get(..self.size).unwrap_or(&[])
+    }
+
+    /// So many bytes from the front, zeros after those that were put.
+    pub(crate) fn first(&self, size: usize) -> &[u8] {
+        self.bytes.get(..size).unwrap_or(&[])
+    }
+
+    pub(crate) fn len(&self) -> usize {
+        self.size
+    }
+
+    pub(crate) fn byte(&self, place: usize) -> u8 {
+        self.bytes.get(place).copied().unwrap_or(0)
+    }
+
+    pub(crate) fn set(&mut self, place: usize, value: u8) {
+        if let Some(byte) = self.bytes.get_mut(place) {
+            *byte = value;
+        }
+    }
+
+    /// Puts a number of so many bytes behind the others.
+    fn put(&mut self, number: u64, size: usize) {
+        for byte in number
+            .to_be_bytes()
+            .iter()
+            .skip(8usize.saturating_sub(size))
+        {
+            self.set(self.size, *byte);
+            self.size = self.size.saturating_add(1);
+        }
+    }
+
+    /// Puts the key sets of a player from a frame on.
+    fn put_keys(&mut self, player: u64, start: u64, count: u64) {
+        for n in 0..count {
+            self.put(u64::from(keys(player, start.wrapping_add(n))), 2);
+        }
+    }
+
+    /// Puts a start, a count and these key sets.
+    fn put_run(&mut self, player: u64, start: u64, count: u64) {
+        self.put(start, 4);
+        self.put(count, 2);
+        self.put_keys(player, start, count);
+    }
+}
+
+/// The kind of a datagram, and how many bytes follow its header.
+fn shape(body: Body) -> (u64, u64) {
+    match body {
+        Body::Hello => (1, 0),
+        Body::Welcome(_) => (2, 4),
+        Body::Data(_, _, _, _, count) => (3, count.wrapping_mul(2).wrapping_add(22)),
+        Body::Freeze(_, _) => (4, 6),
+        Body::Frozen(_, _, _, count) => (5, count.wrapping_mul(2).wrapping_add(12)),
+        Body::Cut(_, _, _, count) => (6, count.wrapping_mul(2).wrapping_add(12)),
+    }
+}
+
+/// The bytes of a datagram to a player.
+pub(crate) fn spelled(me: u64, said: Said) -> Letter {
+    let (from, epoch, body) = said;
+    let (kind, length) = shape(body);
+    let mut letter = Letter::new();
+    letter.put(0x433801, 3);
+    letter.put(kind, 1);
+    letter.put(SESSION, 8);
+    letter.put(from, 1);
+    letter.put(me, 1);
+    letter.put(length, 2);
+    letter.put(epoch, 4);
+    letter.put(EPOCH, 4);
+    match body {
+        Body::Hello => {}
+        Body::Welcome(ack) => letter.put(ack, 4),
+        Body::Data(ack, frame, mark, start, count) => {
+            letter.put(ack, 4);
+            letter.put(frame, 4);
+            letter.put(mark, 8);
+            letter.put_run(from, start, count);
+        }
+        Body::Freeze(leaver, have) => {
+            letter.put(leaver, 1);
+            letter.put(0, 1);
+            letter.put(have, 4);
+        }
+        Body::Frozen(leaver, held, start, count) | Body::Cut(leaver, held, start, count) => {
+            letter.put(leaver, 1);
+            letter.put(0, 1);
+            letter.put(held, 4);
+            letter.put_run(leaver, start, count);
+        }
+    }
+    letter
+}
+
+/// The front of a slot: an open gate and the fields of a record, before its words.
+fn slot_with(kind: u64, player: u64, number: u64, start: u64, count: u64) -> Letter {
+    let mut slot = Letter::new();
+    slot.put(0xa5, 1);
+    slot.put(kind, 1);
+    slot.put(player, 1);
+    slot.put(number, 4);
+    slot.put(start, 4);
+    slot.put(count, 2);
+    slot
+}
+
+/// A slot with key sets of a player.
+fn slot_of(kind: u64, player: u64, start: u64, count: u64) -> Letter {
+    let mut slot = slot_with(kind, player, 0, start, count);
+    slot.put_keys(player, start, count);
+    slot
+}
+
+fn head(me: u64) -> Letter {
+    let mut slot = slot_with(1, me, 1, 0, 20);
+    for byte in GAME_ID {
+        slot.put(u64::from(byte), 1);
+    }
+    slot.put(ROOM, 8);
+    slot
+}
+
+/// Adds a slot to an image, whole.
+fn add(image: &mut Vec<u8>, slot: &Letter) -> Result<(), AllocError> {
+    image.extend_from_slice(slot.first(144))?;
+    Ok(())
+}
+
+/// Adds the slots of some records, where a player's list has come to a length before.
+fn add_made(image: &mut Vec<u8>, me: u64, made: Made, before: u64) -> Result<(), AllocError> {
+    match made {
+        Made::Own(count) => {
+            for n in 0..count {
+                add(image, &slot_of(3, me, before.wrapping_add(n), 1))?;
+            }
+            Ok(())
+        }
+        Made::Got(player, count) => add(image, &slot_of(4, player, before, count)),
+        Made::Freeze(player) => add(image, &slot_with(5, player, 0, 0, 0)),
+        Made::Leave(player) => add(image, &slot_with(6, player, 0, 0, 0)),
+        Made::Cut(player) => add(image, &slot_with(7, player, before, before, 0)),
+    }
+}
+
+/// Of whom some records are.
+fn player_of(me: u64, made: Made) -> u64 {
+    match made {
+        Made::Own(_) => me,
+        Made::Got(player, _) | Made::Freeze(player) | Made::Leave(player) | Made::Cut(player) =>
+            player,
+    }
+}
+
+/// The journal of a scene, with a closed gate after its slots.
+pub(crate) fn image_of(alloc: Global, scene: &Scene) -> Result<Vec<u8>, AllocError> {
+    let mut image = Vec::new(alloc);
+    let mut counts = [DELAY; 5];
+    add(&mut image, &head(scene.me))?;
+    for made in scene.journal {
+        let player = player_of(scene.me, *made);
+        let before = counts.get(player as usize).copied().unwrap_or(0);
+        add_made(&mut image, scene.me, *made, before)?;
+        if let Some(count) = counts.get_mut(player as usize) {
+            *count = before.wrapping_add(inputs_of(scene.me, player, *made));
+        }
+    }
+    image.push(0)?;
+    Ok(image)
+}
+
+/// Writes behind the end. Whether it could.
+fn extend(disk: &mut MemDisk, piece: &[u8]) -> bool {
+    let end = disk.len();
+    piece.len() <= 144 && disk.write_at(end, piece).is_ok()
+}
+
+/// A disk that holds these bytes, all of them synced.
+pub(crate) fn holding(alloc: Global, bytes: &[u8]) -> Option<MemDisk> {
+    let mut disk = MemDisk::new(alloc, 10_000, 400).ok()?;
+    for piece in bytes.chunks(144) {
+        if !extend(&mut disk, piece) {
+            return None;
+        }
+    }
+    if disk.sync().is_err() {
+        return None;
+    }
+    Some(disk)
+}

@@ -1,0 +1,263 @@
+//! What the peer of a scene answers to bytes, by the tables of docs/FORMATS.md and docs/PROTOCOL.md
+//! alone, line by line. Slow, and over the bytes as they are.
+use crate::scene::{EPOCH, LIMIT, MARKS, Made, PLAYERS, SESSION, Scene, keys};
+use c8_hand::HandError;
+use c8_known::KnownError;
+use c8_peer::Refused;
+use c8_wire::WireError;
+
+/// The number of so many bytes at a place, the most significant first.
+fn number(bytes: &[u8], at: usize, size: usize) -> u64 {
+    let mut number: u64 = 0;
+    for byte in bytes.iter().skip(at).take(size) {
+        number = number.wrapping_mul(256).wrapping_add(u64::from(*byte));
+    }
+    number
+}
+
+fn kind(bytes: &[u8]) -> u64 {
+    number(bytes, 3, 1)
+}
+
+fn from(bytes: &[u8]) -> u64 {
+    number(bytes, 12, 1)
+}
+
+/// The first refusal, or none: then the datagram is taken.
+pub(crate) fn judge(scene: &Scene, bytes: &[u8]) -> Option<Refused> {
+    if let Some(error) = wire(bytes) {
+        return Some(Refused::Wire(error));
+    }
+    if let Some(error) = hand(scene, bytes) {
+        return Some(Refused::Hand(error));
+    }
+    match kind(bytes) {
+        2 => bad_ack(scene, bytes),
+        3 => of_data(scene, bytes),
+        4 => of_freeze(scene, bytes),
+        5 => of_frozen(scene, bytes),
+        6 => of_cut(scene, bytes),
+        _ => None,
+    }
+}
+
+/// The table of what spells no datagram.
+fn wire(bytes: &[u8]) -> Option<WireError> {
+    let size = bytes.len();
+    if size < 24 {
+        return Some(WireError::Short);
+    }
+    if number(bytes, 0, 2) != 0x4338 {
+        return Some(WireError::Magic);
+    }
+    if number(bytes, 2, 1) != 1 {
+        return Some(WireError::Version);
+    }
+    let (fixed, has_run) = match kind(bytes) {
+        1 => (0, false),
+        2 => (4, false),
+        3 => (22, true),
+        4 => (6, false),
+        5 | 6 => (12, true),
+        _ => return Some(WireError::Kind),
+    };
+    let length = number(bytes, 14, 2);
+    if size as u64 != length.wrapping_add(24) {
+        return Some(WireError::Length);
+    }
+    if length < fixed || (length != fixed && !has_run) {
+        return Some(WireError::Length);
+    }
+    if !are_players(bytes) {
+        return Some(WireError::Player);
+    }
+    let is_leaving = kind(bytes) >= 4;
+    if is_leaving && number(bytes, 25, 1) != 0 {
+        return Some(WireError::Reserved);
+    }
+    if has_run && !is_counted(bytes, length, fixed) {
+        return Some(WireError::Count);
+    }
+    if is_beyond(bytes) {
+        return Some(WireError::Beyond);
+    }
+    None
+}
+
+/// From and to are players, and not one; the leaver is one who can leave.
+fn are_players(bytes: &[u8]) -> bool {
+    let (one, other, leaver) = (from(bytes), number(bytes, 13, 1), number(bytes, 24, 1));
+    if one < 1 || one > 4 || other < 1 || other > 4 || one == other {
+        return false;
+    }
+    kind(bytes) < 4 || (leaver >= 2 && leaver <= 4)
+}
+
+/// The start and the count of a run.
+fn run(bytes: &[u8]) -> (u64, u64) {
+    if kind(bytes) == 3 {
+        (number(bytes, 40, 4), number(bytes, 44, 2))
+    } else {
+        (number(bytes, 30, 4), number(bytes, 34, 2))
+    }
+}
+
+fn is_counted(bytes: &[u8], length: u64, fixed: u64) -> bool {
+    let (_, count) = run(bytes);
+    count <= 64 && length == count.wrapping_mul(2).wrapping_add(fixed)
+}
+
+fn is_beyond(bytes: &[u8]) -> bool {
+    let most = 262148;
+    let (start, count) = run(bytes);
+    let end = start.wrapping_add(count);
+    let held = number(bytes, 26, 4);
+    match kind(bytes) {
+        2 => number(bytes, 24, 4) > most,
+        3 => number(bytes, 24, 4) > most || number(bytes, 28, 4) > most || end > most,
+        4 => held > most,
+        5 | 6 => held > most || end > held,
+        _ => false,
+    }
+}
+
+/// The tables of what the links do not admit.
+fn hand(scene: &Scene, bytes: &[u8]) -> Option<HandError> {
+    if number(bytes, 4, 8) != SESSION {
+        return Some(HandError::Session);
+    }
+    let q = from(bytes);
+    if number(bytes, 13, 1) != scene.me || q == scene.me || q > PLAYERS {
+        return Some(HandError::NotMine);
+    }
+    let (b, a) = (number(bytes, 16, 4), number(bytes, 20, 4));
+    let (known, is_open) = scene.link(q);
+    let (stale, ahead, closed) = match kind(bytes) {
+        1 => (b == 0 || b < known, a > EPOCH, false),
+        2 => (b == 0 || b < known || a < EPOCH, a > EPOCH, false),
+        _ => (b < known || a < EPOCH, b > known || a > EPOCH, !is_open),
+    };
+    if stale {
+        Some(HandError::Stale)
+    } else if ahead {
+        Some(HandError::Ahead)
+    } else if closed {
+        Some(HandError::NotOpen)
+    } else {
+        None
+    }
+}
+
+fn bad_ack(scene: &Scene, bytes: &[u8]) -> Option<Refused> {
+    if number(bytes, 24, 4) > scene.count(scene.me) {
+        return Some(Refused::BadAck);
+    }
+    None
+}
+
+fn of_data(scene: &Scene, bytes: &[u8]) -> Option<Refused> {
+    let q = from(bytes);
+    if scene.has(Made::Freeze(q)) || scene.has(Made::Leave(q)) {
+        return Some(Refused::Known(KnownError::FromLeaver));
+    }
+    if let Some(error) = bad_ack(scene, bytes) {
+        return Some(error);
+    }
+    if let Some(error) = misfit(scene, bytes, q, 46) {
+        return Some(Refused::Known(error));
+    }
+    let (frame, mark) = (number(bytes, 28, 4), number(bytes, 32, 8));
+    for (own_frame, own_mark) in MARKS {
+        if own_frame <= scene.confirmed && own_frame == frame && own_mark != mark {
+            return Some(Refused::Desync);
+        }
+    }
+    None
+}
+
+/// Why the run of inputs of a player, whose words stand at a place, does not fit what is held.
+fn misfit(scene: &Scene, bytes: &[u8], player: u64, words: usize) -> Option<KnownError> {
+    let (start, count) = run(bytes);
+    let held = scene.count(player);
+    if start.wrapping_add(count) > LIMIT {
+        return Some(KnownError::Full);
+    }
+    if start > held {
+        return Some(KnownError::Gap);
+    }
+    let mut frame = start;
+    for word in bytes.chunks(2).skip(words / 2) {
+        if frame < held && number(word, 0, 2) != u64::from(keys(player, frame)) {
+            return Some(KnownError::Differs);
+        }
+        frame = frame.wrapping_add(1);
+    }
+    None
+}
+
+fn leaver(bytes: &[u8]) -> u64 {
+    number(bytes, 24, 1)
+}
+
+fn of_freeze(scene: &Scene, bytes: &[u8]) -> Option<Refused> {
+    if from(bytes) != 1 {
+        return Some(Refused::NotChair);
+    }
+    if leaver(bytes) == scene.me || leaver(bytes) > PLAYERS {
+        return Some(Refused::WrongLeaver);
+    }
+    None
+}
+
+fn of_frozen(scene: &Scene, bytes: &[u8]) -> Option<Refused> {
+    let leaver = leaver(bytes);
+    if scene.me != 1 {
+        return Some(Refused::NotChair);
+    }
+    if leaver == from(bytes) || leaver > PLAYERS {
+        return Some(Refused::WrongLeaver);
+    }
+    if !scene.has(Made::Leave(leaver)) {
+        return Some(Refused::NotFrozen);
+    }
+    if scene.has(Made::Cut(leaver)) {
+        return None;
+    }
+    if number(bytes, 26, 4) > LIMIT {
+        return Some(Refused::Known(KnownError::Full));
+    }
+    match misfit(scene, bytes, leaver, 36) {
+        Some(error) => Some(Refused::Known(error)),
+        None => None,
+    }
+}
+
+fn of_cut(scene: &Scene, bytes: &[u8]) -> Option<Refused> {
+    let (leaver, length) = (leaver(bytes), number(bytes, 26, 4));
+    if from(bytes) != 1 {
+        return Some(Refused::NotChair);
+    }
+    if leaver == scene.me {
+        return None;
+    }
+    if leaver > PLAYERS {
+        return Some(Refused::WrongLeaver);
+    }
+    if !scene.has(Made::Freeze(leaver)) {
+        return Some(Refused::NotFrozen);
+    }
+    let held = scene.count(leaver);
+    if scene.has(Made::Cut(leaver)) {
+        if length != held {
+            return Some(Refused::Known(KnownError::Differs));
+        }
+        return None;
+    }
+    if held > length {
+        return Some(Refused::Known(KnownError::Differs));
+    }
+    match misfit(scene, bytes, leaver, 36) {
+        Some(error) => Some(Refused::Known(error)),
+        None => None,
+    }
+}

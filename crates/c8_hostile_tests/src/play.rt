@@ -1,0 +1,235 @@
+//! A scene is played: its datagram is changed in each way, and each change is heard.
+use crate::bytes::{Letter, holding, image_of, spelled};
+use crate::judge::judge;
+use crate::scene::{Body, EPOCH, GAME, ROOM, Said, Scene};
+use crate::scenes::SCENES;
+use crate::told::{Known, Machines, Tells, Told, known_by, machines_of, telling, told_by};
+use c8_disk::MemDisk;
+use c8_game::{Game, Player};
+use c8_peer::{Heard, Peer, Refused};
+use std::alloc::Global;
+use std::test::Fail;
+
+/// What a scene is played with.
+#[derive(Clone, Copy)]
+struct Stage<'a> {
+    alloc: Global,
+    game: &'a Game,
+    scene: &'a Scene,
+    image: &'a [u8],
+}
+
+/// What is seen as a scene begins, and where its datagrams came as they are and no other.
+#[derive(Drop)]
+struct Course {
+    begin: Told,
+    end: Told,
+    disk: MemDisk,
+}
+
+fn hears(peer: &mut Peer<'_, MemDisk>, me: u64, said: Said) -> Result<Heard, Refused> {
+    peer.deliver(spelled(me, said).bytes())
+}
+
+impl<'a> Stage<'a> {
+    /// The peer of the journal, on a disk that holds just that, with no link.
+    fn opened(self, image: &[u8]) -> Option<Peer<'a, MemDisk>> {
+        let disk = holding(self.alloc, image)?;
+        let me = Player::new(u8::try_from(self.scene.me).ok()?)?;
+        Peer::open(self.alloc, disk, self.game, me, ROOM).ok()
+    }
+
+    /// The same with the links of the scene.
+    fn ready(self) -> Option<Peer<'a, MemDisk>> {
+        let mut peer = self.opened(self.image)?;
+        for player in 1..5 {
+            let (epoch, is_open) = self.scene.link(player);
+            let _hello = hears(&mut peer, self.scene.me, (player, epoch, Body::Hello));
+            if is_open {
+                let welcome = (player, epoch, Body::Welcome(2));
+                let _welcome = hears(&mut peer, self.scene.me, welcome);
+            }
+        }
+        Some(peer)
+    }
+
+    fn letter(self) -> Letter {
+        spelled(self.scene.me, self.scene.said)
+    }
+
+    /// The datagram as it is, and the one after it: whether they are answered as the scene says.
+    fn goes_on(self, peer: &mut Peer<'a, MemDisk>) -> bool {
+        let me = self.scene.me;
+        hears(peer, me, self.scene.said) == self.scene.answer
+            && hears(peer, me, self.scene.then) == self.scene.then_answer
+    }
+
+    fn course(self) -> Option<Course> {
+        let mut peer = self.ready()?;
+        let begin = told_by(&mut peer);
+        if !self.is_set(&begin.tells) || !self.goes_on(&mut peer) {
+            return None;
+        }
+        let end = told_by(&mut peer);
+        if end.decided != self.scene.decided {
+            return None;
+        }
+        let disk = peer.close();
+        Some(Course { begin, end, disk })
+    }
+
+    /// Whether the peer is as the scene says before anything comes.
+    fn is_set(self, tells: &Tells) -> bool {
+        for (player, of_player) in (1..5).zip(&tells.known.players) {
+            if u64::from(of_player.0) != self.scene.count(player) {
+                return false;
+            }
+        }
+        u64::from(tells.known.confirmed) == self.scene.confirmed && u64::from(tells.epoch) == EPOCH
+    }
+
+    /// Whether a datagram that is well formed and taken leaves a peer whose journal says what it
+    /// tells: with one record more where something is kept, else as it was.
+    fn is_taken(self, bytes: &[u8], before: &Known) -> bool {
+        let Some(mut peer) = self.ready() else {
+            return false;
+        };
+        let Ok(heard) = peer.deliver(bytes) else {
+            return false;
+        };
+        let (known, machines) = (known_by(&peer), machines_of(&peer));
+        if peer.is_down() || peer.alarm() || known.is_dropped != (heard == Heard::Out) {
+            return false;
+        }
+        let is_kept = heard != Heard::Nothing;
+        let records = if is_kept { 2 } else { 1 };
+        let disk = peer.close();
+        disk.bytes().len() == self.image.len().saturating_add(144 * records)
+            && (known != *before) == is_kept
+            && self.is_found(disk.bytes(), &known, &machines)
+    }
+
+    /// Whether an opening of these bytes finds this.
+    fn is_found(self, image: &[u8], known: &Known, machines: &Machines) -> bool {
+        match self.opened(image) {
+            Some(peer) => known_by(&peer) == *known && machines_of(&peer) == *machines,
+            None => false,
+        }
+    }
+}
+
+/// A peer that hears changed datagrams, all of which it refuses, and what it tells.
+#[derive(Drop)]
+struct Play<'a> {
+    stage: Stage<'a>,
+    course: &'a Course,
+    peer: Peer<'a, MemDisk>,
+    tells: Tells,
+}
+
+impl<'a> Play<'a> {
+    /// Whether bytes are answered as the documents say, and nothing that the peer tells changes where
+    /// they are refused.
+    fn holds(&mut self, bytes: &[u8]) -> bool {
+        let Some(error) = judge(self.stage.scene, bytes) else {
+            return self.stage.is_taken(bytes, &self.tells.known);
+        };
+        if error == Refused::Desync {
+            self.tells.alarm = true;
+        }
+        self.peer.deliver(bytes) == Err(error) && telling(&self.peer) == self.tells
+    }
+
+    /// Each other value of a byte.
+    fn holds_at(&mut self, place: usize) -> bool {
+        let mut letter = self.stage.letter();
+        let value = letter.byte(place);
+        for change in 1..=255 {
+            letter.set(place, value ^ change);
+            if !self.holds(letter.bytes()) {
+                return false;
+            }
+        }
+        true
+    }
+
+    /// Each front, and one byte more.
+    fn holds_at_each_length(&mut self) -> bool {
+        let letter = self.stage.letter();
+        for size in 0..letter.len() {
+            if !self.holds(letter.first(size)) {
+                return false;
+            }
+        }
+        self.holds(letter.first(letter.len().saturating_add(1)))
+    }
+
+    /// Whether all is as before them, but for the alarm, and the datagrams as they are do then what
+    /// they do where no other came, to the last byte of the disk.
+    fn ends(mut self) -> bool {
+        is_but_for_alarm(
+            self.tells.alarm,
+            &told_by(&mut self.peer),
+            &self.course.begin,
+        ) && self.stage.goes_on(&mut self.peer)
+            && is_but_for_alarm(self.tells.alarm, &told_by(&mut self.peer), &self.course.end)
+            && self.peer.close().bytes() == self.course.disk.bytes()
+    }
+}
+
+fn is_but_for_alarm(alarm: bool, told: &Told, wanted: &Told) -> bool {
+    let mut wanted = *wanted;
+    wanted.tells.alarm = alarm;
+    *told == wanted
+}
+
+/// Whether each other value of a byte of the datagram is answered as it is to be; at the place after
+/// the last one, each other length.
+fn holds_at<'a>(stage: Stage<'a>, course: &'a Course, place: usize) -> bool {
+    let Some(peer) = stage.ready() else {
+        return false;
+    };
+    let mut play = Play {
+        stage,
+        course,
+        peer,
+        tells: course.begin.tells,
+    };
+    let holds = if place < stage.letter().len() {
+        play.holds_at(place)
+    } else {
+        play.holds_at_each_length()
+    };
+    holds && play.ends()
+}
+
+/// The first place at which a change is answered otherwise.
+fn fault(stage: Stage<'_>, course: &Course) -> Option<usize> {
+    for place in 0..=stage.letter().len() {
+        if !holds_at(stage, course, place) {
+            return Some(place);
+        }
+    }
+    None
+}
+
+#[test]
+fn a_changed_datagram_is_survived(rt: HostRuntime) -> Result<(), Fail> {
+    let game = Game::read(rt.alloc(), GAME)?;
+    for (n, scene) in SCENES.iter().enumerate() {
+        let image = image_of(rt.alloc(), scene)?;
+        let stage = Stage {
+            alloc: rt.alloc(),
+            game: &game,
+            scene,
+            image: &image,
+        };
+        let course = stage.course();
+        assert!(rt; course.is_some(), "scene {n}");
+        if let Some(course) = course {
+            let fault = fault(stage, &course);
+            assert!(rt; fault.is_none(), "scene {n}, byte {fault:?}");
+        }
+    }
+    Ok(())
+}

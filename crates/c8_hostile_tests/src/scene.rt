@@ -1,0 +1,122 @@
+//! What stands before a datagram comes: whose peer hears it, what its journal says, and its links.
+//!
+//! All is of one game, of four players and two frames of delay, in which player p enters the key set
+//! 256p + n for frame n.
+use c8_peer::{DecideError, Heard, Refused};
+
+pub(crate) const GAME: &[u8] =
+    b"players 4\nipf 1\nframes 300\ndelay 2\nwindow 12\nseed 0\nmask1 000f\nmask2 00f0\nmask3 0f00\nmask4 f000\ncode 1200\n";
+
+pub(crate) const ROOM: u64 = 0x0102030405060708;
+
+pub(crate) const PLAYERS: u64 = 4;
+
+pub(crate) const DELAY: u64 = 2;
+
+/// Frames and delay together.
+pub(crate) const LIMIT: u64 = 302;
+
+/// SHA-256 of the game as docs/FORMATS.md has it, by another program.
+pub(crate) const GAME_ID: [u8; 32] =
+    *b"\x86\x70\xa0\x68\xa7\x33\x34\x5d\x33\x3c\x5e\x79\x5a\xc7\xcf\x3b\
+    \xfa\xa6\xb0\x6a\x50\x56\x32\xdd\x72\xa4\x25\x32\x01\x1c\xa7\x97";
+
+/// Of the id and the room, by the same.
+pub(crate) const SESSION: u64 = 0x397f25f58b8823c8;
+
+/// The marks of frames 0 and 32, by the same.
+pub(crate) const MARKS: [(u64, u64); 2] = [(0, 0x040d1a00552be44e), (32, 0x9aa31bb0b5bf1491)];
+
+/// The epoch that begins with the opening of the journal of a scene.
+pub(crate) const EPOCH: u64 = 2;
+
+/// Records of a journal, after its HEAD.
+#[derive(Clone, Copy, PartialEq, Eq)]
+pub(crate) enum Made {
+    /// So many records OWN.
+    Own(u64),
+    /// One GOT, of a player and so many inputs.
+    Got(u64, u64),
+    Freeze(u64),
+    Leave(u64),
+    /// The list of a player is cut where it ends.
+    Cut(u64),
+}
+
+/// What a datagram says after its header, each of a run by its start and count.
+#[derive(Clone, Copy)]
+pub(crate) enum Body {
+    Hello,
+    Welcome(u64),
+    /// The acknowledgement, the frame of the mark, the mark.
+    Data(u64, u64, u64, u64, u64),
+    /// The leaver, and how many player one has.
+    Freeze(u64, u64),
+    /// The leaver, and how many are held.
+    Frozen(u64, u64, u64, u64),
+    /// The leaver, and the length.
+    Cut(u64, u64, u64, u64),
+}
+
+/// A datagram to the peer of a scene: from whom, in which epoch, and what it says.
+pub(crate) type Said = (u64, u64, Body);
+
+/// A link to a player: the epoch that is known, and whether it is open.
+pub(crate) type Link = (u64, bool);
+
+#[derive(Clone, Copy)]
+pub(crate) struct Scene {
+    pub(crate) me: u64,
+    pub(crate) journal: &'static [Made],
+    /// How many frames are confirmed by it.
+    pub(crate) confirmed: u64,
+    pub(crate) links: [Link; 4],
+    /// The datagram, and what it is answered as it is.
+    pub(crate) said: Said,
+    pub(crate) answer: Result<Heard, Refused>,
+    /// What comes after it, and what it is answered.
+    pub(crate) then: Said,
+    pub(crate) then_answer: Result<Heard, Refused>,
+    /// What player one is answered that decides of player 3 after both.
+    pub(crate) decided: Result<u32, DecideError>,
+}
+
+/// The key set that a player enters for a frame.
+pub(crate) fn keys(player: u64, frame: u64) -> u16 {
+    if frame < DELAY {
+        return 0;
+    }
+    (player.wrapping_mul(256).wrapping_add(frame) & 0xffff) as u16
+}
+
+/// How many inputs some records of a journal say of a player, the delay's not counted.
+pub(crate) fn inputs_of(me: u64, player: u64, made: Made) -> u64 {
+    match made {
+        Made::Own(count) if player == me => count,
+        Made::Got(of, count) if player == of => count,
+        _ => 0,
+    }
+}
+
+impl Scene {
+    /// How many inputs of a player the journal says.
+    pub(crate) fn count(&self, player: u64) -> u64 {
+        let mut count = DELAY;
+        for made in self.journal {
+            count = count.wrapping_add(inputs_of(self.me, player, *made));
+        }
+        count
+    }
+
+    /// Whether such a record stands.
+    pub(crate) fn has(&self, made: Made) -> bool {
+        self.journal.contains(&made)
+    }
+
+    pub(crate) fn link(&self, player: u64) -> Link {
+        match self.links.get(player.wrapping_sub(1) as usize) {
+            Some(link) => *link,
+            None => (0, false),
+        }
+    }
+}

@@ -1,0 +1,229 @@
+//! The scenes: each kind of datagram, to a peer that is to take it, and some that it refuses.
+use crate::scene::{Body, Link, MARKS, Made, Said, Scene};
+use c8_hand::HandError;
+use c8_known::KnownError;
+use c8_peer::{DecideError, Heard, Refused};
+
+/// Players 1 and 3 have a link to player 2, who has heard player 4 and has none to it. Player 3 is in
+/// the same epoch as player 1.
+const TO_TWO: [Link; 4] = [(5, true), (0, false), (5, true), (7, false)];
+
+/// The same of player 1.
+const TO_ONE: [Link; 4] = [(0, false), (5, true), (5, true), (7, false)];
+
+/// Player 2 holds 64 inputs of player 1, 34 of player 3, 36 of player 4 and five of its own.
+const HELD: [Made; 4] = [
+    Made::Got(1, 62),
+    Made::Got(3, 32),
+    Made::Got(4, 34),
+    Made::Own(3),
+];
+
+/// The same with 37 of its own.
+const LONG: [Made; 4] = [
+    Made::Got(1, 62),
+    Made::Got(3, 32),
+    Made::Got(4, 34),
+    Made::Own(35),
+];
+
+const FROZEN: [Made; 5] = [
+    Made::Got(1, 33),
+    Made::Got(3, 62),
+    Made::Got(4, 34),
+    Made::Own(3),
+    Made::Freeze(3),
+];
+
+const CUT: [Made; 6] = [
+    Made::Got(1, 33),
+    Made::Got(3, 62),
+    Made::Got(4, 34),
+    Made::Own(3),
+    Made::Freeze(3),
+    Made::Cut(3),
+];
+
+/// Player 1 holds 64 inputs of player 3, whom it lets go, as it did player 4.
+const LET_GO: [Made; 6] = [
+    Made::Got(2, 35),
+    Made::Got(3, 62),
+    Made::Got(4, 32),
+    Made::Own(3),
+    Made::Leave(3),
+    Made::Leave(4),
+];
+
+/// Player 3 plays on.
+const LET_ONE_GO: [Made; 5] = [
+    Made::Got(2, 35),
+    Made::Got(3, 62),
+    Made::Got(4, 32),
+    Made::Own(3),
+    Made::Leave(4),
+];
+
+const DECIDED: [Made; 7] = [
+    Made::Got(2, 35),
+    Made::Got(3, 62),
+    Made::Got(4, 32),
+    Made::Own(3),
+    Made::Leave(3),
+    Made::Leave(4),
+    Made::Cut(3),
+];
+
+const NOTHING: Result<Heard, Refused> = Ok(Heard::Nothing);
+
+const KEPT: Result<Heard, Refused> = Ok(Heard::Kept);
+
+/// The mark of frame 0.
+const MARK: u64 = MARKS[0].1;
+
+/// 64 inputs, of which player 2 holds all but one.
+const DATA: Body = Body::Data(4, 0, MARK, 1, 64);
+
+/// The same with the mark of frame 32.
+const LATER: Body = Body::Data(36, 32, MARKS[1].1, 1, 64);
+
+const HELLO: Said = (1, 5, Body::Hello);
+
+/// At player 2, with another HELLO in the end.
+const TWO: Scene = Scene {
+    me: 2,
+    journal: &HELD,
+    confirmed: 3,
+    links: TO_TWO,
+    said: HELLO,
+    answer: NOTHING,
+    then: HELLO,
+    then_answer: NOTHING,
+    decided: Err(DecideError::NotLeaving),
+};
+
+/// At player 1, likewise.
+const ONE: Scene = Scene {
+    me: 1,
+    journal: &LET_GO,
+    confirmed: 3,
+    links: TO_ONE,
+    said: (2, 5, Body::Hello),
+    answer: NOTHING,
+    then: (2, 5, Body::Hello),
+    then_answer: NOTHING,
+    decided: Err(DecideError::NotReady),
+};
+
+pub(crate) const SCENES: [Scene; 19] = [
+    TWO,
+    Scene {
+        said: (1, 6, Body::Hello),
+        then: (1, 5, DATA),
+        then_answer: Err(Refused::Hand(HandError::Stale)),
+        ..TWO
+    },
+    Scene {
+        said: (1, 5, Body::Welcome(4)),
+        ..TWO
+    },
+    Scene {
+        said: (1, 6, Body::Welcome(4)),
+        then: (1, 6, DATA),
+        then_answer: KEPT,
+        ..TWO
+    },
+    Scene {
+        journal: &LONG,
+        confirmed: 34,
+        said: (1, 5, LATER),
+        answer: KEPT,
+        then: (1, 5, LATER),
+        ..TWO
+    },
+    Scene {
+        journal: &FROZEN,
+        said: (3, 5, Body::Data(4, 0, MARK, 60, 6)),
+        answer: Err(Refused::Known(KnownError::FromLeaver)),
+        ..TWO
+    },
+    Scene {
+        said: (1, 5, Body::Data(4, 64, 0x0102030405060708, 64, 1)),
+        answer: KEPT,
+        ..TWO
+    },
+    Scene {
+        said: (1, 5, Body::Freeze(3, 33)),
+        answer: KEPT,
+        then: (1, 5, Body::Freeze(3, 33)),
+        ..TWO
+    },
+    Scene {
+        journal: &FROZEN,
+        said: (1, 5, Body::Freeze(3, 62)),
+        ..TWO
+    },
+    Scene {
+        said: (3, 5, Body::Freeze(4, 35)),
+        answer: Err(Refused::NotChair),
+        then: (1, 5, Body::Freeze(4, 33)),
+        then_answer: KEPT,
+        ..TWO
+    },
+    Scene {
+        said: (2, 5, Body::Frozen(3, 65, 1, 64)),
+        answer: KEPT,
+        then: (2, 5, Body::Frozen(3, 65, 1, 64)),
+        decided: Ok(65),
+        ..ONE
+    },
+    Scene {
+        said: (2, 5, Body::Frozen(3, 64, 60, 4)),
+        decided: Ok(64),
+        ..ONE
+    },
+    Scene {
+        journal: &DECIDED,
+        said: (2, 5, Body::Frozen(3, 64, 63, 1)),
+        decided: Err(DecideError::Already),
+        ..ONE
+    },
+    Scene {
+        journal: &LET_ONE_GO,
+        said: (2, 5, Body::Frozen(3, 66, 62, 4)),
+        answer: Err(Refused::NotFrozen),
+        decided: Err(DecideError::NotLeaving),
+        ..ONE
+    },
+    Scene {
+        journal: &FROZEN,
+        said: (1, 5, Body::Cut(3, 65, 1, 64)),
+        answer: KEPT,
+        then: (1, 5, Body::Cut(3, 65, 1, 64)),
+        ..TWO
+    },
+    Scene {
+        journal: &FROZEN,
+        said: (1, 5, Body::Cut(3, 100, 60, 5)),
+        answer: KEPT,
+        then: (1, 5, Body::Cut(3, 100, 60, 5)),
+        ..TWO
+    },
+    Scene {
+        journal: &CUT,
+        said: (1, 5, Body::Cut(3, 64, 63, 1)),
+        ..TWO
+    },
+    Scene {
+        said: (1, 5, Body::Cut(2, 5, 4, 1)),
+        answer: Ok(Heard::Out),
+        then_answer: Err(Refused::Dropped),
+        ..TWO
+    },
+    Scene {
+        said: (1, 5, Body::Cut(3, 36, 33, 3)),
+        answer: Err(Refused::NotFrozen),
+        then: (1, 5, Body::Freeze(3, 33)),
+        then_answer: KEPT,
+        ..TWO
+    },
+];
