@@ -106,12 +106,19 @@ fn read_stopped(alloc: Global, line: &str) -> Result<Option<Event>, Fail> {
     read_one(alloc, stop.as_str())
 }
 
-/// Each shape stands alone, and inside a stop too.
+/// The one event of a line inside a failure.
+fn read_failed(alloc: Global, line: &str) -> Result<Option<Event>, Fail> {
+    let failure = format!(in alloc; "fail 18446744073709551615 {line}")?;
+    read_one(alloc, failure.as_str())
+}
+
+/// Each shape stands alone, and inside a stop and a failure too.
 #[test]
 fn reads_each_shape(rt: HostRuntime) -> Result<(), Fail> {
     for (line, deed) in acts() {
         let act = act_of(*deed);
         let stopped = act.map(|act| Event::Stop(act, 3, 18_446_744_073_709_551_615));
+        let failed = act.map(|act| Event::Fail(act, 18_446_744_073_709_551_615));
         assert!(rt; act.is_some(), "{line}");
         assert!(rt;
             read_one(rt.alloc(), line)? == act.map(|act| Event::Do(act)),
@@ -120,6 +127,10 @@ fn reads_each_shape(rt: HostRuntime) -> Result<(), Fail> {
         assert!(rt;
             read_stopped(rt.alloc(), line)? == stopped,
             "{line} in a stop"
+        );
+        assert!(rt;
+            read_failed(rt.alloc(), line)? == failed,
+            "{line} in a failure"
         );
     }
     Ok(())
