@@ -1,7 +1,7 @@
 //! The rest of a match, whatever came before: whoever is not open is opened, all meet, a drop round
 //! that has begun is ended, and all enter key sets and hear of each other's.
 use crate::step::{Deed, Step, What};
-use crate::walk::step_on;
+use crate::walk::act_on;
 use c8_game::Player;
 use c8_world::{Tally, World};
 use std::alloc::Global;
@@ -14,7 +14,7 @@ const MOST: u8 = 4;
 
 /// Does something, whatever is answered.
 fn does(alloc: Global, world: &mut World<'_>, deed: Deed) {
-    let _answer = step_on(alloc, world, Step::Do(deed));
+    let _answer = act_on(alloc, world, Step::Do(deed));
 }
 
 /// Whoever is not open is opened, and any two players have a link.

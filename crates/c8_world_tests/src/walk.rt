@@ -54,10 +54,17 @@ pub(crate) fn step_on(alloc: Global, world: &mut World<'_>, step: Step) -> Outco
             meet(alloc, world);
             Outcome::Done
         }
+        Step::Do(_) | Step::Stop(_, _, _) | Step::Fail(_, _) => act_on(alloc, world, step),
+    }
+}
+
+/// What comes of a step in which a player does something.
+pub(crate) fn act_on(alloc: Global, world: &mut World<'_>, step: Step) -> Outcome {
+    match step {
         Step::Do(Deed::Tell(from, to, what))
         | Step::Stop(Deed::Tell(from, to, what), _, _)
         | Step::Fail(Deed::Tell(from, to, what), _) => tells(alloc, world, step, from, to, what),
-        Step::Do(_) | Step::Stop(_, _, _) | Step::Fail(_, _) => does(alloc, world, step),
+        _ => does(alloc, world, step),
     }
 }
 
