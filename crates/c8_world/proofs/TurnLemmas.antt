@@ -1,6 +1,6 @@
 -- Each event is a turn of its player.
 use Rattle.std.proofs.Common.{◌≡◌, inl, inr, ◌<◌, ⊎_elim, ℕ, ◌+◌, ◌-◌, List, [], ◌∷◌, ◌++◌, length, take, drop, slice_set, slice_index_or, Option, None, Some, refl, sym, ap, subst, ◌∙◌, arith}
-use Rattle.std.proofs.lemmas.List.{append-nil, get_or-set_same, get_or-set_other, get_or_default, get_or_past}
+use Rattle.std.proofs.lemmas.List.{get_or-set_same, get_or-set_other, get_or_default, get_or_past}
 use Rattle.c8_disk.specs.declared.disk.Disk.{Ghosts}
 use Rattle.c8_game.specs.Rules.{Rules}
 use Rattle.c8_peer.specs.declared.error.OpenError.TheVariants as opens

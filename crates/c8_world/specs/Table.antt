@@ -7,13 +7,10 @@ use Rattle.c8_peer.specs.State.{Down, State, Reply, Opened, Ticked, Delivered, S
 use Rattle.c8_peer.specs.Opening.{NoMemory, away}
 use Rattle.c8_world.specs.declared.answer.Answer as codes
 use Rattle.c8_world.specs.declared.answer.Answer.TheVariants as answers
-use Rattle.c8_world.specs.declared.event.Event as codes_events
-use Rattle.c8_world.specs.declared.event.Event.TheVariants as events
 use Rattle.c8_world.specs.declared.node.Node.{Node}
 use Rattle.c8_world.specs.declared.node.Node.TheVariants as nodes
 use Rattle.c8_world.specs.World.{World, never_opened, peer_of, with_peer, Act, Open, Tick, Say, Give, Leave, Decide, player_of, Event, Do, Happening, Answer, Told, IsUp, IsDown, NoSuch, Stopped, crashed, CanHappen, IsReached}
 use Rattle.c8_world.specs.World.{act_inside}
-use Rattle.c8_world.specs.Events.{act_of}
 use Rattle.c8_world.specs.Agreement.{IsPlayer}
 use Rattle.c8_world.specs.Nodes.{IsNode, IsOpenedNode, counts_of}
 

@@ -1,4 +1,4 @@
-use Rattle.std.proofs.Common.{refl, arith}
+use Rattle.std.proofs.Common.{arith}
 use Rattle.c8_world.specs.Agreement.{IsPlayer}
 use Rattle.c8_world.specs.Turns.{IsNodeCrash}
 use Rattle.c8_world.proofs.StopLemmas.{crash_happens, stranger_crashes}
