@@ -1,6 +1,4 @@
 //! Whole games by game workers.
-ghost use Rattle.std.specs.Prelude.{◌≤◌};
-
 use crate::gates::{Meeting, Paced, Turns};
 use crate::routes::{Routes, routes_of};
 use crate::sides::{Outcome, Side, game_of, relays};
@@ -127,36 +125,23 @@ fn push_line(lines: &mut String, players: u8, frame: usize) -> Result<(), Fail> 
     Ok(lines.push_str("\n")?)
 }
 
-/// A player of a game, or nobody where the game has fewer.
-fn side_of<'g>(
-    alloc: Global,
-    game: &'g Game,
-    number: u8,
-    routes: Routes,
-) -> Result<Option<Side<'g, Routes>>, Fail>
-    requires least { 1 ≤ number }
-    requires most { number ≤ 4 }
-{
-    if number > game.players() {
-        return Ok(None);
+/// All players of a game, player 1 last.
+fn sides_of<'g>(alloc: Global, game: &'g Game, lost: u32) -> Result<Vec<Side<'g, Routes>>, Fail> {
+    let mut all = routes_of(alloc, game.players(), lost)?;
+    let mut sides = Vec::new(alloc);
+    for number in (1..game.players() + 1).rev() {
+        let Some(routes) = all.pop() else {
+            return Err(Fail::new("no routes"));
+        };
+        let keys = entered(number);
+        sides.push(Side::new(alloc, game, number, keys, routes)?)?;
     }
-    let keys = ENTERED[usize::from(number) - 1];
-    Ok(Some(Side::new(alloc, game, number, keys, routes)?))
+    Ok(sides)
 }
 
-/// All players of a game, player 1 first.
-fn sides_of<'g>(
-    alloc: Global,
-    game: &'g Game,
-    lost: u32,
-) -> Result<[Option<Side<'g, Routes>>; MOST_PLAYERS], Fail> {
-    let [one, two, three, four] = routes_of(alloc, game.players(), lost)?;
-    Ok([
-        side_of(alloc, game, 1, one)?,
-        side_of(alloc, game, 2, two)?,
-        side_of(alloc, game, 3, three)?,
-        side_of(alloc, game, 4, four)?,
-    ])
+/// What a player holds down.
+fn entered(number: u8) -> &'static str {
+    ENTERED[usize::from(number.clamp(1, 4)) - 1]
 }
 
 /// What a player comes to, if there is one.
@@ -164,13 +149,15 @@ fn work<R: Clock>(side: Option<Side<'_, Routes>>, gate: &Paced<'_, R>) -> Option
     Some(side?.work(PACED_TURNS, gate))
 }
 
-/// What all come to, each of whom works in a thread of its own.
+/// What all come to, player 1 first, each of whom works in a thread of its own.
 fn work_all<R: Clock + Threads + Sync>(
     rt: &R,
-    sides: [Option<Side<'_, Routes>>; MOST_PLAYERS],
+    sides: Vec<Side<'_, Routes>>,
 ) -> [Option<Outcome<Routes>>; MOST_PLAYERS] {
     let gate = Paced { rt };
-    let [one, two, three, four] = sides;
+    let mut sides = sides;
+    let (one, two) = (sides.pop(), sides.pop());
+    let (three, four) = (sides.pop(), sides.pop());
     let ((one, two), (three, four)) = join(
         rt,
         || join(rt, || work(one, &gate), || work(two, &gate)),

@@ -32,12 +32,20 @@ impl Routes {
         }
     }
 
-    /// Counts a packet to a player, and says whether it is lost.
-    fn count(&mut self, to: Player) -> bool {
-        let number = self.sent[to.place()].saturating_add(1);
-        self.sent[to.place()] = number;
-        self.lost > 0 && number % self.lost == 0
+    /// Leads to a player, at whose place nothing led yet.
+    fn lead(&mut self, place: usize, relay: Relay)
+        requires { place < 4 }
+    {
+        let slot = &mut self.relays[place];
+        *slot = Some(relay);
     }
+}
+
+/// Counts a packet to a player, and says whether it is lost.
+fn is_lost(sent: &mut [u32; MOST_PLAYERS], to: Player, lost: u32) -> bool {
+    let number = sent[to.place()].saturating_add(1);
+    sent[to.place()] = number;
+    lost > 0 && number % lost == 0
 }
 
 impl Wire for Routes {
@@ -47,7 +55,7 @@ impl Wire for Routes {
 
     fn send(&mut self, to: Player, datagram: &[u8]) -> Result<(), WireFailed> {
         self.traffic.took(datagram);
-        if self.count(to) {
+        if is_lost(&mut self.sent, to, self.lost) {
             return Ok(());
         }
         match &mut self.relays[to.place()] {
@@ -82,19 +90,11 @@ fn received(
     None
 }
 
-/// The routes of so many players to one another, player 1's first. What the others have leads nowhere.
-pub(crate) fn routes_of(
-    alloc: Global,
-    players: u8,
-    lost: u32,
-) -> Result<[Routes; MOST_PLAYERS], AllocError> {
-    let mut all = [
-        Routes::new(lost),
-        Routes::new(lost),
-        Routes::new(lost),
-        Routes::new(lost),
-    ];
+/// The routes of so many players to one another, player 1's first.
+pub(crate) fn routes_of(alloc: Global, players: u8, lost: u32) -> Result<Vec<Routes>, AllocError> {
+    let mut all = Vec::new(alloc);
     for place in 0..usize::from(players.min(4)) {
+        all.push(Routes::new(lost))?;
         join_to_those_before(alloc, &mut all, place)?;
     }
     Ok(all)
@@ -103,15 +103,24 @@ pub(crate) fn routes_of(
 /// Joins the player at a place and each one before it.
 fn join_to_those_before(
     alloc: Global,
-    all: &mut [Routes; MOST_PLAYERS],
+    all: &mut Vec<Routes>,
     place: usize,
 ) -> Result<(), AllocError>
     requires { place < 4 }
 {
     for before in 0..place {
         let (there, back) = relays(alloc, PLACES)?;
-        all[place].relays[before] = Some(there);
-        all[before].relays[place] = Some(back);
+        lead(all, place, before, there);
+        lead(all, before, place, back);
     }
     Ok(())
+}
+
+/// Leads from one place to another.
+fn lead(all: &mut Vec<Routes>, from: usize, to: usize, relay: Relay)
+    requires { to < 4 }
+{
+    if let Some(routes) = all.get_mut(from) {
+        routes.lead(to, relay);
+    }
 }
