@@ -1,5 +1,6 @@
 //! A disk in a file of a system that stands in for the operating system's, by steps.
 mod fake;
+mod faults;
 mod real;
 mod system;
 

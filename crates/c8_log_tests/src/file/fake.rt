@@ -32,6 +32,15 @@ impl Content {
     }
 }
 
+/// What becomes of one call.
+#[derive(Clone, Copy, PartialEq, Eq)]
+pub enum Fault {
+    /// It fails, with this error of the system.
+    Error(i32),
+    /// It reads or writes at most so many bytes.
+    Moves(usize),
+}
+
 /// What the device holds, and the copy of it in the system's memory, which each read and write is
 /// of.
 #[derive(Drop)]
@@ -42,9 +51,10 @@ pub struct FakeSystem {
     pub is_dirty: Cell<bool>,
     /// The file's name is on the device too.
     pub is_named: Cell<bool>,
-    /// How many calls there were, and which of them fails, from 0.
+    /// How many calls there were, and which of them fails, from 0, and how.
     pub calls: Cell<u32>,
     pub failing: Cell<Option<u32>>,
+    pub fault: Cell<Fault>,
     /// Each read and each write is of one byte.
     pub is_short: Cell<bool>,
 }
@@ -59,6 +69,7 @@ impl FakeSystem {
             is_named: Cell::new(false),
             calls: Cell::new(0),
             failing: Cell::new(None),
+            fault: Cell::new(Fault::Error(libc::EIO)),
             is_short: Cell::new(false),
         }
     }
@@ -76,7 +87,13 @@ impl FakeSystem {
 
     /// Lets so many more calls pass, and fails the next one.
     pub fn fail_after(&self, calls: u32) {
+        self.fail_with(calls, Fault::Error(libc::EIO));
+    }
+
+    /// The same with what becomes of that call.
+    pub fn fail_with(&self, calls: u32, fault: Fault) {
         self.failing.set(Some(self.calls.get().wrapping_add(calls)));
+        self.fault.set(fault);
     }
 
     /// The power goes: what is only in memory is lost.
@@ -88,29 +105,29 @@ impl FakeSystem {
         self.is_dirty.set(false);
     }
 
-    fn pass(&self) -> io::Result<()> {
+    /// How many bytes a call may move, if it does not fail.
+    fn pass(&self) -> io::Result<usize> {
         let number = self.calls.get();
         self.calls.set(number.wrapping_add(1));
-        if self.failing.get() == Some(number) {
-            return Err(io::ErrorKind::Other.into());
+        let most = if self.is_short.get() { 1 } else { ROOM };
+        if self.failing.get() != Some(number) {
+            return Ok(most);
         }
-        Ok(())
+        match self.fault.get() {
+            Fault::Error(error) => Err(io::Error::from_raw_os_error(error)),
+            Fault::Moves(count) => Ok(count),
+        }
     }
+}
 
-    /// Copies what there is room for, one byte where reads and writes are short.
-    fn copy_some(&self, from: &[u8], to: &mut [u8]) -> usize
-        ensures from { result ≤ length from.now }
-        ensures to { result ≤ length to.new }
-    {
-        let both = from.len().min(to.len());
-        let count = if self.is_short.get() {
-            both.min(1)
-        } else {
-            both
-        };
-        to[..count].copy_from_slice(&from[..count]);
-        count
-    }
+/// Copies what there is room for, at most so many bytes.
+fn copy_some(from: &[u8], to: &mut [u8], most: usize) -> usize
+    ensures from { result ≤ length from.now }
+    ensures to { result ≤ length to.new }
+{
+    let count = from.len().min(to.len()).min(most);
+    to[..count].copy_from_slice(&from[..count]);
+    count
 }
 
 /// The file, as one process has it open.
@@ -121,23 +138,22 @@ pub struct FakeFile<'a> {
 
 impl FileExt for FakeFile<'_> {
     fn read_at(&self, buffer: &mut [u8], at: u64) -> io::Result<usize> {
-        self.system.pass()?;
+        let most = self.system.pass()?;
         let copy = self.system.copy.get();
         let left = copy.bytes().get(at as usize..).unwrap_or(&[]);
-        Ok(self.system.copy_some(left, buffer))
+        Ok(copy_some(left, buffer, most))
     }
 
     /// One that fails writes its first byte.
     fn write_at(&self, bytes: &[u8], at: u64) -> io::Result<usize> {
         let passed = self.system.pass();
         let mut copy = self.system.copy.get();
-        let tried = if passed.is_ok() {
-            bytes
-        } else {
-            bytes.get(..1).unwrap_or(&[])
+        let most = match &passed {
+            Ok(most) => *most,
+            Err(_) => 1,
         };
         let room = copy.bytes.get_mut(at as usize..).unwrap_or(&mut []);
-        let count = self.system.copy_some(tried, room);
+        let count = copy_some(bytes, room, most);
         copy.length = copy.length.max((at as usize).saturating_add(count));
         self.system.copy.set(copy);
         self.system.is_dirty.set(true);
@@ -153,7 +169,8 @@ impl SystemFile for FakeFile<'_> {
     }
 
     fn try_lock(&self) -> io::Result<()> {
-        self.system.pass()
+        self.system.pass()?;
+        Ok(())
     }
 
     fn sync_all(&self) -> io::Result<()> {
