@@ -21,8 +21,9 @@ pub const SIM_ENDING: &str =
   stop K PICK EVENT  the event's player stops inside the event: its disk fails after K more calls,
                      and then keeps what a crash leaves: with PICK 0 what was synced, with 1 what
                      was written, with any other a choice that the number makes
-  fail K EVENT       the event happens, and inside it one call of its player's disk fails: the one after
-                     K calls; those after it are served, and so is the next open P
+  fail K EVENT       the event happens, and inside it one call of its player's disk fails, after K more
+                     calls; those after it are served. Where it makes no more than K, none fails. A
+                     player whose call failed is down until open P
 P, TO and L are 1 to 4; I, K and PICK are decimals. Datagrams that no line gives are lost.
 
 Each event prints its number and what is answered: epoch N, now N confirmed N, datagram I length N,

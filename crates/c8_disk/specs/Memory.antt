@@ -124,12 +124,12 @@ after_sync (Ok _) v = record (served (asked v)) { calls = v.calls ++ Sync ∷ []
 after_sync (Err Failed) v = failed (asked v)
 after_sync (Err Full) v = asked v
 
--- the same of its value
+-- the next call is refused, by its value
 abbrev pub is_refusing : MemValue → Bool
 is_refusing v = v.left == 0 || fails_now v.arm
 
--- What a call makes of it. It fails where the disk refuses the next call, and only there; a write is refused for want of room where it
--- has not.
+-- What a call makes of it. It fails where the disk refuses the next call, and only there; elsewhere a write that has no room is
+-- refused as full.
 abbrev pub IsMemoryCall : MemValue → DiskCall → MemValue → Type 0
 IsMemoryCall v (Reading at count result) w = (IsErrOf result Failed ↔ (is_refusing v ≡ true)) × (IsErrOf result Full → ⊥) × (w ≡ after_read result v)
 IsMemoryCall v (Writing at bytes result) w =

@@ -15,10 +15,10 @@ pub(crate) struct Budget {
 impl Budget {
     ghost use Rattle.c8_disk.specs.Budget.{refuses_call, stepped, after_failure};
 
-    /// Whether this call is refused. One that is counts as a failure, and is the only one where only
-    /// one is to fail.
+    /// Whether this call is refused. A refused call counts as a failure; where one call alone was to
+    /// fail, none is to after it.
     pub(crate) fn refuses(&mut self) -> bool
-        ensures spent { result ≡ refuses_call self.old }
+        ensures refused { result ≡ refuses_call self.old }
         ensures yes { result ≡ true
             → (self.new.calls ≡ self.old.calls) × (self.new.arm ≡ after_failure self.old.arm)
             × (length self.new.failures.items ≡ length self.old.failures.items + 1) }

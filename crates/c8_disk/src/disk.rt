@@ -12,13 +12,13 @@ pub const LONGEST_WRITE: usize = 144;
 /// only notes what it was told, and fails when it fails.
 #[derive(Clone, Copy, Debug, PartialEq, Eq, Hash)]
 pub enum Arm {
-    /// None is to.
+    /// No call is to fail.
     Off,
     /// Once this many more calls that read, write or sync are served: each one from then on fails,
     /// with no effect. A call that is refused is not served, and doesn't count.
     Stop(u64),
-    /// Once this many more calls are served: the next one fails, with no effect, and those after it
-    /// are served as before.
+    /// After this many more calls that were served the next one fails, with no effect; those after it
+    /// are served. A call that is refused as full isn't counted.
     Once(u64),
 }
 

@@ -28,7 +28,7 @@ use Rattle.c8_world.specs.Table.{TableValue, node_of, IsSameMatch, Holds, HasHap
 use Rattle.c8_world.specs.Disks.{disk_in}
 
 -- A crash leaves an image that it may, by the pick: 0 what was last synced, 1 what a read gives, and any other one of them all.
--- All calls are served anew then, and no stop is set.
+-- All calls are served anew then, and none is to fail.
 pub record IsDiskCrash (pick : ℕ) (old new : MemDisk) : Type 0 where
   pub image : images_of old (bytes_of new)
   pub synced : pick ≡ 0 → bytes_of new ≡ synced_of old

@@ -29,8 +29,8 @@ pub enum Event {
     /// and its disk holds an image that a crash may leave, picked by the last number: 0 for what was
     /// last synced, 1 for what a read gives, any other for a seed.
     Stop(Act, u64, u64),
-    /// The disk serves so many calls more, fails the next one, with no effect, and serves those after
-    /// it. The answer is the act's own. Where the act makes no such call nothing fails, then or later.
+    /// The player's disk serves so many calls more, fails the next one, with no effect, and serves
+    /// those after it. The answer is the act's own. Where the act makes no such call nothing fails, then or later.
     Fail(Act, u64),
 }
 
