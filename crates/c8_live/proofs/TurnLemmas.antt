@@ -1,5 +1,5 @@
 -- How what a session does is put together.
-use Rattle.std.proofs.Common.{◌≡◌, inl, inr, ℕ, suc, List, [], ◌∷◌, ◌++◌, Option, Some, Ok, refl, sym, ap, subst, ◌+◌, ◌∙◌, arith, append-nil, append_assoc}
+use Rattle.std.proofs.Common.{◌≡◌, ◌≤◌, inl, inr, ℕ, suc, List, [], ◌∷◌, ◌++◌, Option, Some, Ok, refl, sym, ap, subst, ◌+◌, ◌∙◌, arith, append-nil, append_assoc}
 use Rattle.std.proofs.lemmas.List.{length-append}
 use Rattle.std.proofs.lemmas.List.Elements.{All-nil, All-cons, All-append}
 use Rattle.c8_disk.specs.declared.disk.Disk.{Ghosts as DiskGhosts}
@@ -9,7 +9,7 @@ use Rattle.c8_peer.specs.Peer.{PeerValue, IsAnswered, IsSaid, luck_of}
 use Rattle.c8_peer.specs.Runs.{Does, IsDone}
 use Rattle.c8_live.specs.declared.wire.Wire.{Ghosts as WireGhosts}
 use Rattle.c8_live.specs.Runs.{HasRunOn}
-use Rattle.c8_live.specs.Turns.{Doing, Ticks, LetsGo, Cuts, Speaks, doing, HasDone, HasDoneAtMost, HasHeard, HasTicked, WereSaid, HasSpoken, IsTurn, AreTurns}
+use Rattle.c8_live.specs.Turns.{Doing, Hears, Ticks, LetsGo, Cuts, Speaks, doing, HasDone, HasTicked, AreDeliveriesOf, HasHeardOf, HasHeard, most_packets, WereSaid, HasSpoken, IsTurn, AreTurns}
 use Rattle.c8_live.specs.Wire.{MayTake}
 use Rattle.c8_live.proofs.RunLemmas.{RunsJoin, still, joined, once, says}
 
@@ -32,11 +32,53 @@ module _ {D : Type 0} (disk : DiskGhosts D) where
     alike = All-cons (λ (c : Call × Luck). doing c.0 ≡ doing call) (call, luck_of reply) [] refl (All-nil (λ (c : Call × Luck). doing c.0 ≡ doing call));
   }
 
-  abbrev pub done_counted : RunsJoin → (what : Doing) (most more : ℕ) (first middle last : PeerValue D) → HasDoneAtMost disk most what first middle → HasDoneAtMost disk more what middle last
-      → HasDoneAtMost disk (most + more) what first last
-  done_counted join what most more first middle last one two =
-      let counted = length-append one.0.ran.calls two.0.ran.calls in
-      (done_joined join what first middle last one.0 two.0, omega (arith, counted, one.1, two.1))
+-- ---- what was heard
+
+-- of more packets, these too
+heard_after : (given : List (List ℕ)) (calls : List (Call × Luck)) (bytes : List ℕ) → AreDeliveriesOf given calls → AreDeliveriesOf (bytes ∷ given) calls
+heard_after given [] bytes heard = tt
+heard_after given (call ∷ calls) bytes heard = inr heard
+
+heard_of_more : (given more : List (List ℕ)) (calls : List (Call × Luck)) → AreDeliveriesOf more calls → AreDeliveriesOf (given ++ more) calls
+heard_of_more [] more calls heard = heard
+heard_of_more (bytes ∷ given) more calls heard = heard_after (given ++ more) calls bytes (heard_of_more given more calls heard)
+
+pub heard_append : (given more : List (List ℕ)) (calls others : List (Call × Luck)) → AreDeliveriesOf given calls → AreDeliveriesOf more others → AreDeliveriesOf (given ++ more) (calls ++ others)
+heard_append given more [] others heard rest = heard_of_more given more others rest
+heard_append [] more (call ∷ calls) others heard rest = absurd heard
+heard_append (bytes ∷ given) more (call ∷ calls) others (inl (delivers, heard)) rest = inl (delivers, heard_append given more calls others heard rest)
+heard_append (bytes ∷ given) more (call ∷ calls) others (inr heard) rest = inr (heard_append given more (call ∷ calls) others heard rest)
+
+module _ {D W : Type 0} (disk : DiskGhosts D) (wire : WireGhosts W) where
+  abbrev pub heard_none : (p : PeerValue D) (before after : W) → wire.received after ≡ wire.received before → wire.sent after ≡ wire.sent before → HasHeard disk wire 0 p p before after
+  heard_none p before after same sent = record {
+    given = [];
+    received = same ∙ sym (append-nil (wire.received before));
+    few = omega arith;
+    heard = (done_still disk Hears p, tt);
+    sent = sent;
+  }
+
+  abbrev pub heard_given : (old new : PeerValue D) (before after : W) (bytes : List ℕ) → HasHeardOf disk (bytes ∷ []) old new
+      → wire.received after ≡ wire.received before ++ bytes ∷ [] → wire.sent after ≡ wire.sent before → HasHeard disk wire 1 old new before after
+  heard_given old new before after bytes heard received sent =
+      record { given = bytes ∷ []; received = received; few = omega arith; heard = heard; sent = sent }
+
+  abbrev pub heard_up_to : (few most : ℕ) (old new : PeerValue D) (before after : W) → few ≤ most → HasHeard disk wire few old new before after → HasHeard disk wire most old new before after
+  heard_up_to few most old new before after within heard =
+      record { given = heard.given; received = heard.received; few = omega (arith, heard.few, within); heard = heard.heard; sent = heard.sent }
+
+  abbrev pub heard_joined : RunsJoin → (most more : ℕ) (first middle last : PeerValue D) (before between after : W) → HasHeard disk wire most first middle before between
+      → HasHeard disk wire more middle last between after → HasHeard disk wire (most + more) first last before after
+  heard_joined join most more first middle last before between after one two =
+      let counted = length-append one.given two.given in
+      record {
+        given = one.given ++ two.given;
+        received = two.received ∙ ap (λ (l : List (List ℕ)). l ++ two.given) one.received ∙ append_assoc (wire.received before) one.given two.given;
+        few = omega (arith, counted, one.few, two.few);
+        heard = (done_joined disk join Hears first middle last one.heard.0 two.heard.0, heard_append one.given two.given one.heard.0.ran.calls two.heard.0.ran.calls one.heard.1 two.heard.1);
+        sent = two.sent ∙ one.sent;
+      }
 
 -- ---- what was said
 
@@ -53,8 +95,8 @@ said_append (one ∷ bytes) more (answer ∷ answers) others (inl (spells, said)
 said_append (one ∷ bytes) more (answer ∷ answers) others (inr said) rest = inr (said_append (one ∷ bytes) more answers others said rest)
 
 module _ {D W : Type 0} (disk : DiskGhosts D) (wire : WireGhosts W) where
-  abbrev pub spoken_still : (p : PeerValue D) (before after : W) → wire.sent after ≡ wire.sent before → HasSpoken disk wire p before after
-  spoken_still p before after same = record { done = done_still disk Speaks p; taken = []; sent = same ∙ sym (append-nil (wire.sent before)); said = tt }
+  abbrev pub spoken_still : (p : PeerValue D) (before after : W) → wire.sent after ≡ wire.sent before → wire.received after ≡ wire.received before → HasSpoken disk wire p before after
+  spoken_still p before after same received = record { done = done_still disk Speaks p; taken = []; sent = same ∙ sym (append-nil (wire.sent before)); said = tt; received = received }
 
   abbrev pub spoken_joined : RunsJoin → (p : PeerValue D) (before between after : W) → HasSpoken disk wire p before between → HasSpoken disk wire p between after → HasSpoken disk wire p before after
   spoken_joined join p before between after one two = record {
@@ -62,44 +104,40 @@ module _ {D W : Type 0} (disk : DiskGhosts D) (wire : WireGhosts W) where
     taken = one.taken ++ two.taken;
     sent = two.sent ∙ ap (λ (l : List (List ℕ)). l ++ two.taken) one.sent ∙ append_assoc (wire.sent before) one.taken two.taken;
     said = said_append one.taken two.taken one.done.ran.answers two.done.ran.answers one.said two.said;
+    received = two.received ∙ one.received;
   }
 
   pub spoken_once : (p : PeerValue D) (before after : W) (call : Call) (bytes : List ℕ) → doing call ≡ Speaks → (is : IsSaid p call bytes)
-      → IsDone p.rules p.room p.me p.state (Does call Works) (Some (Said (Ok is.packet))) p.state → MayTake (wire.sent before) bytes (wire.sent after) → HasSpoken disk wire p before after
-  spoken_once p before after call bytes speaks is deed (inl lost) = record {
+      → IsDone p.rules p.room p.me p.state (Does call Works) (Some (Said (Ok is.packet))) p.state → MayTake (wire.sent before) bytes (wire.sent after)
+      → wire.received after ≡ wire.received before → HasSpoken disk wire p before after
+  spoken_once p before after call bytes speaks is deed (inl lost) received = record {
     done = record { ran = says disk p call (Said (Ok is.packet)) deed; alike = All-cons (λ (c : Call × Luck). doing c.0 ≡ Speaks) (call, Works) [] speaks (All-nil (λ (c : Call × Luck). doing c.0 ≡ Speaks)) };
     taken = [];
     sent = lost ∙ sym (append-nil (wire.sent before));
     said = tt;
+    received = received;
   }
-  spoken_once p before after call bytes speaks is deed (inr took) = record {
+  spoken_once p before after call bytes speaks is deed (inr took) received = record {
     done = record { ran = says disk p call (Said (Ok is.packet)) deed; alike = All-cons (λ (c : Call × Luck). doing c.0 ≡ Speaks) (call, Works) [] speaks (All-nil (λ (c : Call × Luck). doing c.0 ≡ Speaks)) };
     taken = bytes ∷ [];
     sent = took;
     said = inl ((is.packet, refl, is.spelled), tt);
-  }
-
-  abbrev pub spoken_from : (p : PeerValue D) (before between after : W) → wire.sent between ≡ wire.sent before → HasSpoken disk wire p between after → HasSpoken disk wire p before after
-  spoken_from p before between after same spoken = record {
-    done = spoken.done;
-    taken = spoken.taken;
-    sent = spoken.sent ∙ ap (λ (l : List (List ℕ)). l ++ spoken.taken) same;
-    said = spoken.said;
+    received = received;
   }
 
   -- ---- turns
 
-  abbrev pub turn_of : (old heard ticked let_go new : PeerValue D) (before after : W) → HasHeard disk old heard → HasTicked disk heard ticked → HasDone disk LetsGo ticked let_go
-      → HasDone disk Cuts let_go new → HasSpoken disk wire new before after → IsTurn disk wire old new before after
-  turn_of old heard ticked let_go new before after hears ticks lets_go cuts speaks =
-      record { heard = heard; ticked = ticked; let_go = let_go; hears = hears; ticks = ticks; lets_go = lets_go; cuts = cuts; speaks = speaks }
+  abbrev pub turn_of : (old heard ticked let_go new : PeerValue D) (before between after : W) → HasHeard disk wire most_packets old heard before between → HasTicked disk heard ticked → HasDone disk LetsGo ticked let_go
+      → HasDone disk Cuts let_go new → HasSpoken disk wire new between after → IsTurn disk wire old new before after
+  turn_of old heard ticked let_go new before between after hears ticks lets_go cuts speaks =
+      record { heard = heard; ticked = ticked; let_go = let_go; between = between; hears = hears; ticks = ticks; lets_go = lets_go; cuts = cuts; speaks = speaks }
 
   abbrev pub no_tick : (p : PeerValue D) → HasTicked disk p p
   no_tick p = (done_still disk Ticks p, omega arith)
 
   pub turn_ran : RunsJoin → (old new : PeerValue D) (before after : W) → IsTurn disk wire old new before after → HasRunOn disk old new
   turn_ran join old new before after turn =
-      joined disk join old turn.heard new turn.hears.0.ran
+      joined disk join old turn.heard new turn.hears.heard.0.ran
       (joined disk join turn.heard turn.ticked new turn.ticks.0.ran
       (joined disk join turn.ticked turn.let_go new turn.lets_go.ran
       (joined disk join turn.let_go new new turn.cuts.ran turn.speaks.done.ran)))

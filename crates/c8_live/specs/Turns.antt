@@ -31,19 +31,32 @@ pub record HasDone {D : Type 0} (disk : DiskGhosts D) (what : Doing) (old new : 
   pub ran : HasRunOn disk old new
   pub alike : All (λ (call : Call × Luck). doing call.0 ≡ what) ran.calls
 
--- and of so many calls at most
-abbrev pub HasDoneAtMost : {D : Type 0} → DiskGhosts D → ℕ → Doing → PeerValue D → PeerValue D → Type 0
-HasDoneAtMost disk most what old new = (done : HasDone disk what old new) × (length done.ran.calls ≤ most)
-
--- how many packets a turn hears at most, so that however many wait it comes to its tick
-abbrev pub most_packets : ℕ
-most_packets = 256
-
-abbrev pub HasHeard : {D : Type 0} → DiskGhosts D → PeerValue D → PeerValue D → Type 0
-HasHeard disk old new = HasDoneAtMost disk most_packets Hears old new
-
+-- and once at most
 abbrev pub HasTicked : {D : Type 0} → DiskGhosts D → PeerValue D → PeerValue D → Type 0
-HasTicked disk old new = HasDoneAtMost disk 1 Ticks old new
+HasTicked disk old new = (done : HasDone disk Ticks old new) × (length done.ran.calls ≤ 1)
+
+-- ---- what is heard
+
+-- the call delivers the packet that these bytes spell
+abbrev pub DeliversBytes : List ℕ → Call → Type 0
+DeliversBytes bytes call = (packet : Packet) × (call ≡ Deliver (Ok packet)) × Spells bytes packet
+
+-- each call delivers one of these, in this order; of these there may be more, such as spell no packet
+abbrev pub AreDeliveriesOf : List (List ℕ) → List (Call × Luck) → Type 0
+AreDeliveriesOf given [] = Unit {0}
+AreDeliveriesOf [] (call ∷ calls) = ⊥
+AreDeliveriesOf (bytes ∷ given) (call ∷ calls) = (DeliversBytes bytes call.0 × AreDeliveriesOf given calls) ⊎ AreDeliveriesOf given (call ∷ calls)
+
+abbrev pub HasHeardOf : {D : Type 0} → DiskGhosts D → List (List ℕ) → PeerValue D → PeerValue D → Type 0
+HasHeardOf disk given old new = (done : HasDone disk Hears old new) × AreDeliveriesOf given done.ran.calls
+
+-- The wire gave so many packets at most, whatever they spell, and took none to send; the peer has heard of these alone.
+pub record HasHeard {D W : Type 0} (disk : DiskGhosts D) (wire : WireGhosts W) (most : ℕ) (old new : PeerValue D) (before after : W) : Type 0 where
+  pub given : List (List ℕ)
+  pub received : wire.received after ≡ wire.received before ++ given
+  pub few : length given ≤ most
+  pub heard : HasHeardOf disk given old new
+  pub sent : wire.sent after ≡ wire.sent before
 
 -- ---- what is said
 
@@ -57,28 +70,35 @@ WereSaid [] answers = Unit {0}
 WereSaid (bytes ∷ rest) [] = ⊥
 WereSaid (bytes ∷ rest) (answer ∷ answers) = (SpellsAnswer bytes answer × WereSaid rest answers) ⊎ WereSaid (bytes ∷ rest) answers
 
--- The peer has spoken, which leaves it as it is, and what the wire took was said then.
+-- The peer has spoken, which leaves it as it is; what the wire took was said then, and it gave nothing.
 pub record HasSpoken {D W : Type 0} (disk : DiskGhosts D) (wire : WireGhosts W) (peer : PeerValue D) (before after : W) : Type 0 where
   pub done : HasDone disk Speaks peer peer
   pub taken : List (List ℕ)
   pub sent : wire.sent after ≡ wire.sent before ++ taken
   pub said : WereSaid taken done.ran.answers
+  pub received : wire.received after ≡ wire.received before
 
 -- ---- turns
 
--- A turn: the peer hears so many packets at most, ticks at most once, lets go, cuts and speaks. Where the disk or the wire ends it, nothing follows.
+-- how many packets a turn takes from its wire at most, so that however many wait it comes to its tick
+abbrev pub most_packets : ℕ
+most_packets = 256
+
+-- A turn: the peer hears what the wire gives, at most `most_packets` packets, ticks at most once, lets go, cuts and speaks. Where the
+-- disk or the wire ends it, nothing follows.
 pub record IsTurn {D W : Type 0} (disk : DiskGhosts D) (wire : WireGhosts W) (old new : PeerValue D) (before after : W) : Type 0 where
   pub heard : PeerValue D
   pub ticked : PeerValue D
   pub let_go : PeerValue D
-  pub hears : HasHeard disk old heard
+  pub between : W
+  pub hears : HasHeard disk wire most_packets old heard before between
   pub ticks : HasTicked disk heard ticked
   pub lets_go : HasDone disk LetsGo ticked let_go
   pub cuts : HasDone disk Cuts let_go new
-  pub speaks : HasSpoken disk wire new before after
+  pub speaks : HasSpoken disk wire new between after
 
--- so many turns, one after another; between two of them nothing is sent
+-- so many turns, one after another; between two of them nothing is given or sent
 abbrev pub AreTurns : {D W : Type 0} → DiskGhosts D → WireGhosts W → ℕ → PeerValue D → PeerValue D → W → W → Type 0
-AreTurns disk wire zero old new before after = (new ≡ old) × (wire.sent after ≡ wire.sent before)
+AreTurns disk wire zero old new before after = (new ≡ old) × (wire.received after ≡ wire.received before) × (wire.sent after ≡ wire.sent before)
 AreTurns {D} {W} disk wire (suc fewer) old new before after =
     (middle : PeerValue D) × (between : W) × AreTurns disk wire fewer old middle before between × IsTurn disk wire middle new between after

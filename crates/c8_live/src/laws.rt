@@ -1,14 +1,16 @@
 //! What callers may rest on that is no single call's.
-ghost use Rattle.std.specs.Prelude.{◌≡◌, ℕ, ◌+◌, List, [], ◌∷◌, ◌++◌, length};
+ghost use Rattle.std.specs.Prelude.{◌≡◌, ℕ, ◌+◌, List, [], ◌∷◌, ◌++◌, length, Ok};
 ghost use Rattle.c8_peer.specs.Lawful.{IsCall};
 ghost use Rattle.c8_peer.specs.Peer.{PeerValue, IsAnswered, IsSaid, IsSound, known_by};
 ghost use Rattle.c8_board.specs.Tokens.{Begins};
 ghost use Rattle.c8_known.specs.Confirmed.{confirmed_rows};
-ghost use Rattle.c8_peer.specs.State.{Call, Reply};
+ghost use Rattle.c8_peer.specs.State.{Call, Reply, Deliver};
+ghost use Rattle.c8_wire.specs.Packet.{Packet};
+ghost use Rattle.c8_wire.specs.Spelling.{Spells};
 ghost use Rattle.c8_live.specs.declared.error.SessionError.{SessionError};
 ghost use Rattle.c8_live.specs.Parts.{IsHandedOn};
 ghost use Rattle.c8_live.specs.Runs.{HasRunOn, IsEnd};
-ghost use Rattle.c8_live.specs.Turns.{Doing, Speaks, doing, HasDone, HasDoneAtMost, HasSpoken, IsTurn, AreTurns};
+ghost use Rattle.c8_live.specs.Turns.{Doing, Speaks, doing, HasDone, HasHeardOf, HasHeard, HasSpoken, IsTurn, AreTurns};
 ghost use Rattle.c8_live.specs.Wire.{MayTake};
 
 use crate::wire::Wire;
@@ -35,8 +37,7 @@ pub fn peers_run_on<D: Disk>()
     calls_are_deeds::<D>();
 }
 
-/// Calls that do the same, joined: none (`still`), one (`once`), and some after others (`joined`); so
-/// with how many they are at most (`none`, `counted`).
+/// Calls that do the same, joined: none (`still`), one (`once`), and some after others (`joined`).
 pub fn doings_join<D: Disk>()
     ensures still { (what : Doing) (p : PeerValue D) → HasDone D.Disk what p p }
     ensures once { (old new : PeerValue D) (call : Call) (reply : Reply)
@@ -45,23 +46,49 @@ pub fn doings_join<D: Disk>()
     ensures joined { (what : Doing) (first middle last : PeerValue D)
         → HasDone D.Disk what first middle → HasDone D.Disk what middle last
         → HasDone D.Disk what first last }
-    ensures none { (what : Doing) (p : PeerValue D) → HasDoneAtMost D.Disk 0 what p p }
-    ensures counted { (what : Doing) (most more : ℕ) (first middle last : PeerValue D)
-        → HasDoneAtMost D.Disk most what first middle → HasDoneAtMost D.Disk more what middle last
-        → HasDoneAtMost D.Disk (most + more) what first last }
 {
     runs_join();
     calls_are_deeds::<D>();
 }
 
+/// What a peer hears of one packet: nothing (`none`), or what its bytes spell (`once`).
+pub fn a_packet_is_heard<D: Disk>()
+    ensures none { (p : PeerValue D) (bytes : List ℕ) → HasHeardOf D.Disk (bytes ∷ []) p p }
+    ensures once { (old new : PeerValue D) (bytes : List ℕ) (packet : Packet) (reply : Reply)
+        → Spells bytes packet → IsAnswered D.Disk old (Deliver (Ok packet)) reply new
+        → HasHeardOf D.Disk (bytes ∷ []) old new }
+{
+    calls_are_deeds::<D>();
+}
+
+/// What a peer hears, joined: nothing (`silent`), what there is of one packet (`once`), and more
+/// after it (`joined`).
+pub fn hearings_join<D: Disk, W: Wire>()
+    ensures silent { (p : PeerValue D) (before after : W)
+        → W.received after ≡ W.received before → W.sent after ≡ W.sent before
+        → HasHeard D.Disk W.Wire 0 p p before after }
+    ensures once { (old new : PeerValue D) (before after : W) (bytes : List ℕ)
+        → HasHeardOf D.Disk (bytes ∷ []) old new
+        → W.received after ≡ W.received before ++ bytes ∷ [] → W.sent after ≡ W.sent before
+        → HasHeard D.Disk W.Wire 1 old new before after }
+    ensures joined { (most more : ℕ) (first middle last : PeerValue D) (before between after : W)
+        → HasHeard D.Disk W.Wire most first middle before between
+        → HasHeard D.Disk W.Wire more middle last between after
+        → HasHeard D.Disk W.Wire (most + more) first last before after }
+{
+    runs_join();
+}
+
 /// What a peer says, joined: nothing (`silent`), a packet that a wire takes or loses (`once`), and
 /// some after others (`joined`).
 pub fn sayings_join<D: Disk, W: Wire>()
-    ensures silent { (p : PeerValue D) (before after : W) → W.sent after ≡ W.sent before
+    ensures silent { (p : PeerValue D) (before after : W)
+        → W.sent after ≡ W.sent before → W.received after ≡ W.received before
         → HasSpoken D.Disk W.Wire p before after }
     ensures once { (p : PeerValue D) (before after : W) (call : Call) (bytes : List ℕ)
         → IsCall call → doing call ≡ Speaks → IsSaid p call bytes
-        → MayTake (W.sent before) bytes (W.sent after) → HasSpoken D.Disk W.Wire p before after }
+        → MayTake (W.sent before) bytes (W.sent after) → W.received after ≡ W.received before
+        → HasSpoken D.Disk W.Wire p before after }
     ensures joined { (p : PeerValue D) (before between after : W)
         → HasSpoken D.Disk W.Wire p before between → HasSpoken D.Disk W.Wire p between after
         → HasSpoken D.Disk W.Wire p before after }

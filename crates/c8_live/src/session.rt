@@ -1,13 +1,15 @@
 //! The loop of one peer, turn by turn: it hears, ticks, lets go, cuts and speaks.
 
-ghost use Rattle.std.specs.Prelude.{◌≡◌, ◌≤◌, IfSome, IfErr};
+ghost use Rattle.std.specs.Prelude.{◌≡◌, ◌≤◌, [], ◌∷◌, IfSome, IfErr};
 ghost use Rattle.c8_live.specs.Runs.{HasRunOn, IsEnd};
-ghost use Rattle.c8_live.specs.Turns.{Hears, LetsGo, Cuts, HasDone, HasDoneAtMost, HasHeard, HasTicked, HasSpoken, IsTurn};
+ghost use Rattle.c8_live.specs.Turns.{LetsGo, Cuts, HasDone, HasHeardOf, HasHeard, HasTicked, HasSpoken, most_packets, IsTurn};
 
 mod calls;
 
 use crate::error::{SessionError, WireFailed};
-use crate::laws::{doings_join, peers_run_on, sayings_join, turns_run_on};
+use crate::laws::{
+    a_packet_is_heard, doings_join, hearings_join, peers_run_on, sayings_join, turns_run_on,
+};
 use crate::rollbacks::Rollbacks;
 use crate::silence::Silence;
 use crate::wire::{LONGEST_PACKET, Wire};
@@ -17,7 +19,7 @@ use c8_peer::{DecideError, Heard, Kind, LeaveError, Peer, Refused, TickError};
 use c8_wire::{Header, LONGEST_DATAGRAM, view};
 use std::fmt;
 
-/// The most packets that are delivered in one turn.
+/// The most packets that are taken from the wire in one turn.
 const MOST_PACKETS: u16 = 256;
 
 /// How many turns a peer goes on after all is confirmed and acknowledged, so that the others hear
@@ -100,9 +102,9 @@ impl<'g, D: Disk> Session<'g, D> {
         self.peer.dropped() || self.rested > REST
     }
 
-    /// One turn: the peer hears so many packets at most, ticks, and as player one lets go and cuts, each
-    /// a step of the definitions; then it speaks, and what the wire takes is what it said. The error is
-    /// that of the disk or of the wire, which ends the session.
+    /// One turn: the peer hears what the wire gives, at most `MOST_PACKETS` packets, ticks, and as player
+    /// one lets go and cuts, each a step of the definitions; then it speaks, and what the wire takes is
+    /// what it said. The error is that of the disk or of the wire, which ends the session.
     pub fn turn<W: Wire>(&mut self, wire: &mut W) -> Result<(), SessionError>
         ensures turn { IsTurn D.Disk W.Wire self.old.peer self.new.peer wire.old wire.new }
         ensures ran { HasRunOn D.Disk self.old.peer self.new.peer }
@@ -126,12 +128,11 @@ impl<'g, D: Disk> Session<'g, D> {
     /// Delivers the packets that wait, and tells of which players a HELLO was taken, player 1's
     /// place first.
     fn hear<W: Wire>(&mut self, wire: &mut W) -> Result<[bool; MOST_PLAYERS], SessionError>
-        ensures ran { HasHeard D.Disk self.old.peer self.new.peer }
+        ensures heard { HasHeard D.Disk W.Wire most_packets self.old.peer self.new.peer wire.old wire.new }
         ensures end { IfErr result (IsEnd D.Disk self.old.peer self.new.peer) }
-        ensures sent { W.sent wire.new ≡ W.sent wire.old }
     {
         peers_run_on::<D>();
-        doings_join::<D>();
+        hearings_join::<D, W>();
         let mut greeters = [false; MOST_PLAYERS];
         let mut packet = [0; LONGEST_PACKET];
         for _ in 0..MOST_PACKETS {
@@ -149,10 +150,10 @@ impl<'g, D: Disk> Session<'g, D> {
 
     /// Delivers a packet, and answers whose HELLO it was, if it was one and was taken.
     fn deliver(&mut self, packet: &[u8]) -> Result<Option<Player>, SessionError>
-        ensures ran { HasDoneAtMost D.Disk 1 Hears self.old.peer self.new.peer }
+        ensures ran { HasHeardOf D.Disk (packet.now ∷ []) self.old.peer self.new.peer }
         ensures end { IfErr result (IsEnd D.Disk self.old.peer self.new.peer) }
     {
-        doings_join::<D>();
+        a_packet_is_heard::<D>();
         // A peer takes nothing of what is no datagram.
         let Ok(datagram) = view(packet) else {
             return Ok(None);

@@ -1,14 +1,15 @@
 //! The calls of its peer that a session makes, and what becomes of the peer by each.
 
-ghost use Rattle.std.specs.Prelude.{◌≡◌, Err};
+ghost use Rattle.std.specs.Prelude.{◌≡◌, List, ℕ, [], ◌∷◌, Err};
 ghost use Rattle.c8_disk.specs.declared.error.DiskError.{DiskError};
 ghost use Rattle.c8_wire.specs.Packet.{IsPacket};
 ghost use Rattle.c8_wire.specs.Lent.{packet_of};
+ghost use Rattle.c8_wire.specs.Spelling.{Spells};
 ghost use Rattle.c8_live.specs.Runs.{IsStopped};
-ghost use Rattle.c8_live.specs.Turns.{Hears, LetsGo, Cuts, HasDone, HasDoneAtMost, HasTicked};
+ghost use Rattle.c8_live.specs.Turns.{LetsGo, Cuts, HasDone, HasTicked, HasHeardOf};
 
 use super::Session;
-use crate::laws::{doings_join, peers_run_on};
+use crate::laws::{a_packet_is_heard, doings_join, peers_run_on};
 use c8_disk::Disk;
 use c8_game::{Keys, Player};
 use c8_peer::{DecideError, Heard, LeaveError, Refused, TickError};
@@ -18,12 +19,13 @@ impl<'g, D: Disk> Session<'g, D> {
     /// The peer hears a datagram. What it runs anew by that is a rollback.
     pub(super) fn peer_hears(&mut self, datagram: &Datagram<'_>) -> Result<Heard, Refused>
         requires { IsPacket (packet_of datagram.now) }
-        ensures ran { HasDoneAtMost D.Disk 1 Hears self.old.peer self.new.peer }
+        ensures ran { (bytes : List ℕ) → Spells bytes (packet_of datagram.now)
+            → HasHeardOf D.Disk (bytes ∷ []) self.old.peer self.new.peer }
         ensures stopped { (why : DiskError) → result ≡ Err (Refused.Disk why)
             → IsStopped D.Disk self.old.peer self.new.peer why }
     {
         peers_run_on::<D>();
-        doings_join::<D>();
+        a_packet_is_heard::<D>();
         let answer = self.peer.deliver_datagram(datagram);
         let frames = frames_of(answer, self.peer.last_run());
         self.rollbacks.note(frames);

@@ -1,5 +1,5 @@
-use Rattle.std.proofs.Common.{refl, arith}
-use Rattle.c8_live.proofs.TurnLemmas.{done_still, done_once, done_joined, done_counted}
+use Rattle.std.proofs.Common.{refl}
+use Rattle.c8_live.proofs.TurnLemmas.{done_still, done_once, done_joined}
 use Rattle.c8_live.proofs.laws.doings_join.Goals as goal
 
 pub returns-clause-still : goal.returns-clause-still
@@ -10,9 +10,3 @@ returns-clause-once g c old new call reply is answered = (done_once g.D.Disk old
 
 pub returns-clause-joined : goal.returns-clause-joined
 returns-clause-joined g c what first middle last one two = done_joined g.D.Disk c.runs_join.ensures.run what first middle last one two
-
-pub returns-clause-none : goal.returns-clause-none
-returns-clause-none g c what p = (done_still g.D.Disk what p, omega arith)
-
-pub returns-clause-counted : goal.returns-clause-counted
-returns-clause-counted g c what most more first middle last one two = done_counted g.D.Disk c.runs_join.ensures.run what most more first middle last one two

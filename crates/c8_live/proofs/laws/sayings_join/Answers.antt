@@ -2,11 +2,11 @@ use Rattle.c8_live.proofs.TurnLemmas.{spoken_still, spoken_once, spoken_joined}
 use Rattle.c8_live.proofs.laws.sayings_join.Goals as goal
 
 pub returns-clause-silent : goal.returns-clause-silent
-returns-clause-silent g c p before after same = spoken_still g.D.Disk g.W.Wire p before after same
+returns-clause-silent g c p before after same received = spoken_still g.D.Disk g.W.Wire p before after same received
 
 pub returns-clause-once : goal.returns-clause-once
-returns-clause-once g c p before after call bytes may speaks is takes =
-    spoken_once g.D.Disk g.W.Wire p before after call bytes speaks is (c.calls_are_deeds.ensures.said p call bytes may is) takes
+returns-clause-once g c p before after call bytes may speaks is takes received =
+    spoken_once g.D.Disk g.W.Wire p before after call bytes speaks is (c.calls_are_deeds.ensures.said p call bytes may is) takes received
 
 pub returns-clause-joined : goal.returns-clause-joined
 returns-clause-joined g c p before between after one two = spoken_joined g.D.Disk g.W.Wire c.runs_join.ensures.run p before between after one two

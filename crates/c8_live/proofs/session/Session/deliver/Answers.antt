@@ -1,6 +1,5 @@
-use Rattle.std.proofs.Common.{◌≡◌, Err, arith}
+use Rattle.std.proofs.Common.{◌≡◌, Err}
 use Rattle.c8_peer.specs.declared.error.Refused.TheVariants as refusals
-use Rattle.c8_live.specs.Turns.{Hears}
 use Rattle.c8_live.proofs.session.Session.deliver.Goals as goal
 
 pub returns-in-Err-Disk-clause-end : goal.returns-in-Err-Disk-clause-end
@@ -9,9 +8,10 @@ returns-in-Err-Disk-clause-end g c =
     c.peer_hears.ensures.stopped c.in-Err-Disk.error is
 
 pub returns-in_default-clause-ran : goal.returns-in_default-clause-ran
-returns-in_default-clause-ran g c =
-    let none = c.doings_join.ensures.none Hears c.args.self.now.peer in
-    (none.0, omega (arith, none.1))
+returns-in_default-clause-ran g c = c.a_packet_is_heard.ensures.none c.args.self.now.peer c.args.packet.now
+
+pub returns-in-Err-Disk-clause-ran : goal.returns-in-Err-Disk-clause-ran
+returns-in-Err-Disk-clause-ran g c = c.peer_hears.ensures.ran c.args.packet.now c.in-Ok.ensures.found
 
 pub returns-in_default-peer_hears-clause-ran : goal.returns-in_default-peer_hears-clause-ran
-returns-in_default-peer_hears-clause-ran g c = rw c.greeter.ensures c.peer_hears.ensures.ran
+returns-in_default-peer_hears-clause-ran g c = rw c.greeter.ensures (c.peer_hears.ensures.ran c.args.packet.now c.in-Ok.ensures.found)

@@ -1,4 +1,4 @@
-use Rattle.std.proofs.Common.{Result, Ok, ap, arith}
+use Rattle.std.proofs.Common.{Result, Ok, ap}
 use Rattle.c8_wire.specs.Lent.{packet_of}
 use Rattle.c8_peer.specs.declared.error.Refused.{Refused}
 use Rattle.c8_peer.specs.declared.heard.Heard.{Heard}
@@ -7,10 +7,9 @@ use Rattle.c8_peer.specs.State.{Deliver, Delivered}
 use Rattle.c8_live.proofs.session.Session.peer_hears.Goals as goal
 
 pub returns-clause-ran : goal.returns-clause-ran
-returns-clause-ran g c =
-    let peer = c.args.self.now.peer in
-    let one = c.doings_join.ensures.once peer c.deliver_datagram-answer.new.self (Deliver (Ok (packet_of c.args.datagram.now))) (Delivered c.deliver_datagram-answer.result) c.requires c.deliver_datagram-answer.ensures in
-    (one.0, omega (arith, one.1))
+returns-clause-ran g c bytes spells =
+    c.a_packet_is_heard.ensures.once c.args.self.now.peer c.deliver_datagram-answer.new.self bytes (packet_of c.args.datagram.now) (Delivered c.deliver_datagram-answer.result) spells
+    c.deliver_datagram-answer.ensures
 
 pub returns-clause-stopped : goal.returns-clause-stopped
 returns-clause-stopped g c why is =

@@ -1,0 +1,13 @@
+use Rattle.std.proofs.Common.{inl, Ok, refl}
+use Rattle.c8_peer.specs.State.{Deliver}
+use Rattle.c8_live.specs.Turns.{Hears}
+use Rattle.c8_live.proofs.TurnLemmas.{done_still, done_once}
+use Rattle.c8_live.proofs.laws.a_packet_is_heard.Goals as goal
+
+pub returns-clause-none : goal.returns-clause-none
+returns-clause-none g c p bytes = (done_still g.D.Disk Hears p, tt)
+
+pub returns-clause-once : goal.returns-clause-once
+returns-clause-once g c old new bytes packet reply spells answered =
+    let call = Deliver (Ok packet) in
+    (done_once g.D.Disk old new call reply answered (c.calls_are_deeds.ensures.answered old new call reply spells.packet answered), inl ((packet, refl, spells), tt))

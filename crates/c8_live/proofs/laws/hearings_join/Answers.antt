@@ -1,0 +1,12 @@
+use Rattle.c8_live.proofs.TurnLemmas.{heard_none, heard_given, heard_joined}
+use Rattle.c8_live.proofs.laws.hearings_join.Goals as goal
+
+pub returns-clause-silent : goal.returns-clause-silent
+returns-clause-silent g c p before after received sent = heard_none g.D.Disk g.W.Wire p before after received sent
+
+pub returns-clause-once : goal.returns-clause-once
+returns-clause-once g c old new before after bytes heard received sent = heard_given g.D.Disk g.W.Wire old new before after bytes heard received sent
+
+pub returns-clause-joined : goal.returns-clause-joined
+returns-clause-joined g c most more first middle last before between after one two =
+    heard_joined g.D.Disk g.W.Wire c.runs_join.ensures.run most more first middle last before between after one two
