@@ -1,23 +1,30 @@
 //! Datagrams and journals, spelled as docs/FORMATS.md has them.
-use crate::scene::{
-    Body, DELAY, EPOCH, GAME_ID, Made, ROOM, SESSION, Said, Scene, inputs_of, keys,
-};
+use crate::scene::{Body, DELAY, EPOCH, Made, ROOM, Said, Scene, inputs_of, keys};
 use c8_disk::{Disk, MemDisk};
 use std::alloc::{AllocError, Global};
 
 /// Bytes in the place of a datagram.
-#[derive(Clone, Copy)]
+#[derive(Clone, Copy, PartialEq, Eq)]
 pub(crate) struct Letter {
     bytes: [u8; 200],
     size: usize,
 }
 
 impl Letter {
-    fn new() -> Letter {
+    pub(crate) fn new() -> Letter {
         Letter {
             bytes: [0; 200],
             size: 0,
         }
+    }
+
+    /// So many bytes from the front of some.
+    pub(crate) fn of(bytes: &[u8], size: usize) -> Letter {
+        let mut letter = Letter::new();
+        for byte in bytes.iter().take(size) {
+            letter.put(u64::from(*byte), 1);
+        }
+        letter
     }
 
     pub(crate) fn bytes(&self) -> &[u8] {
@@ -55,6 +62,13 @@ impl Letter {
         }
     }
 
+    /// Puts bytes behind the others, those from a place on.
+    pub(crate) fn put_from(&mut self, bytes: &[u8], place: usize) {
+        for byte in bytes.iter().skip(place) {
+            self.put(u64::from(*byte), 1);
+        }
+    }
+
     /// Puts the key sets of a player from a frame on.
     fn put_keys(&mut self, player: u64, start: u64, count: u64) {
         for n in 0..count {
@@ -82,16 +96,16 @@ fn shape(body: Body) -> (u64, u64) {
     }
 }
 
-/// The bytes of a datagram to a player.
-pub(crate) fn spelled(me: u64, said: Said) -> Letter {
+/// The bytes of a datagram to the peer of a scene.
+pub(crate) fn spelled(scene: &Scene, said: Said) -> Letter {
     let (from, epoch, body) = said;
     let (kind, length) = shape(body);
     let mut letter = Letter::new();
     letter.put(0x433801, 3);
     letter.put(kind, 1);
-    letter.put(SESSION, 8);
+    letter.put(scene.table.session, 8);
     letter.put(from, 1);
-    letter.put(me, 1);
+    letter.put(scene.me, 1);
     letter.put(length, 2);
     letter.put(epoch, 4);
     letter.put(EPOCH, 4);
@@ -120,7 +134,7 @@ pub(crate) fn spelled(me: u64, said: Said) -> Letter {
 }
 
 /// The front of a slot: an open gate and the fields of a record, before its words.
-fn slot_with(kind: u64, player: u64, number: u64, start: u64, count: u64) -> Letter {
+pub(crate) fn slot_with(kind: u64, player: u64, number: u64, start: u64, count: u64) -> Letter {
     let mut slot = Letter::new();
     slot.put(0xa5, 1);
     slot.put(kind, 1);
@@ -138,9 +152,9 @@ fn slot_of(kind: u64, player: u64, start: u64, count: u64) -> Letter {
     slot
 }
 
-fn head(me: u64) -> Letter {
-    let mut slot = slot_with(1, me, 1, 0, 20);
-    for byte in GAME_ID {
+fn head(scene: &Scene) -> Letter {
+    let mut slot = slot_with(1, scene.me, 1, 0, 20);
+    for byte in scene.table.id {
         slot.put(u64::from(byte), 1);
     }
     slot.put(ROOM, 8);
@@ -182,7 +196,7 @@ fn player_of(me: u64, made: Made) -> u64 {
 pub(crate) fn image_of(alloc: Global, scene: &Scene) -> Result<Vec<u8>, AllocError> {
     let mut image = Vec::new(alloc);
     let mut counts = [DELAY; 5];
-    add(&mut image, &head(scene.me))?;
+    add(&mut image, &head(scene))?;
     for made in scene.journal {
         let player = player_of(scene.me, *made);
         let before = counts.get(player as usize).copied().unwrap_or(0);

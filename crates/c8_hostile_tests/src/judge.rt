@@ -1,13 +1,13 @@
 //! What the peer of a scene answers to bytes, by the tables of docs/FORMATS.md and docs/PROTOCOL.md
 //! alone, line by line. Slow, and over the bytes as they are.
-use crate::scene::{EPOCH, LIMIT, MARKS, Made, PLAYERS, SESSION, Scene, keys};
+use crate::scene::{EPOCH, LIMIT, MARKS, Made, Scene, keys};
 use c8_hand::HandError;
 use c8_known::KnownError;
 use c8_peer::Refused;
 use c8_wire::WireError;
 
 /// The number of so many bytes at a place, the most significant first.
-fn number(bytes: &[u8], at: usize, size: usize) -> u64 {
+pub(crate) fn number(bytes: &[u8], at: usize, size: usize) -> u64 {
     let mut number: u64 = 0;
     for byte in bytes.iter().skip(at).take(size) {
         number = number.wrapping_mul(256).wrapping_add(u64::from(*byte));
@@ -15,15 +15,15 @@ fn number(bytes: &[u8], at: usize, size: usize) -> u64 {
     number
 }
 
-fn kind(bytes: &[u8]) -> u64 {
+pub(crate) fn kind(bytes: &[u8]) -> u64 {
     number(bytes, 3, 1)
 }
 
-fn from(bytes: &[u8]) -> u64 {
+pub(crate) fn from(bytes: &[u8]) -> u64 {
     number(bytes, 12, 1)
 }
 
-/// The first refusal, or none: then the datagram is taken.
+/// The first refusal, or none: then the datagram is taken, and leaves what `left_by` has.
 pub(crate) fn judge(scene: &Scene, bytes: &[u8]) -> Option<Refused> {
     if let Some(error) = wire(bytes) {
         return Some(Refused::Wire(error));
@@ -94,7 +94,7 @@ fn are_players(bytes: &[u8]) -> bool {
 }
 
 /// The start and the count of a run.
-fn run(bytes: &[u8]) -> (u64, u64) {
+pub(crate) fn run(bytes: &[u8]) -> (u64, u64) {
     if kind(bytes) == 3 {
         (number(bytes, 40, 4), number(bytes, 44, 2))
     } else {
@@ -123,11 +123,11 @@ fn is_beyond(bytes: &[u8]) -> bool {
 
 /// The tables of what the links do not admit.
 fn hand(scene: &Scene, bytes: &[u8]) -> Option<HandError> {
-    if number(bytes, 4, 8) != SESSION {
+    if number(bytes, 4, 8) != scene.table.session {
         return Some(HandError::Session);
     }
     let q = from(bytes);
-    if number(bytes, 13, 1) != scene.me || q == scene.me || q > PLAYERS {
+    if number(bytes, 13, 1) != scene.me || q == scene.me || q > scene.table.players {
         return Some(HandError::NotMine);
     }
     let (b, a) = (number(bytes, 16, 4), number(bytes, 20, 4));
@@ -195,7 +195,7 @@ fn misfit(scene: &Scene, bytes: &[u8], player: u64, words: usize) -> Option<Know
     None
 }
 
-fn leaver(bytes: &[u8]) -> u64 {
+pub(crate) fn leaver(bytes: &[u8]) -> u64 {
     number(bytes, 24, 1)
 }
 
@@ -203,7 +203,7 @@ fn of_freeze(scene: &Scene, bytes: &[u8]) -> Option<Refused> {
     if from(bytes) != 1 {
         return Some(Refused::NotChair);
     }
-    if leaver(bytes) == scene.me || leaver(bytes) > PLAYERS {
+    if leaver(bytes) == scene.me || leaver(bytes) > scene.table.players {
         return Some(Refused::WrongLeaver);
     }
     None
@@ -214,7 +214,7 @@ fn of_frozen(scene: &Scene, bytes: &[u8]) -> Option<Refused> {
     if scene.me != 1 {
         return Some(Refused::NotChair);
     }
-    if leaver == from(bytes) || leaver > PLAYERS {
+    if leaver == from(bytes) || leaver > scene.table.players {
         return Some(Refused::WrongLeaver);
     }
     if !scene.has(Made::Leave(leaver)) {
@@ -240,7 +240,7 @@ fn of_cut(scene: &Scene, bytes: &[u8]) -> Option<Refused> {
     if leaver == scene.me {
         return None;
     }
-    if leaver > PLAYERS {
+    if leaver > scene.table.players {
         return Some(Refused::WrongLeaver);
     }
     if !scene.has(Made::Freeze(leaver)) {

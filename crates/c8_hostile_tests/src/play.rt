@@ -1,8 +1,9 @@
 //! A scene is played: its datagram is changed in each way, and each change is heard.
-use crate::bytes::{Letter, holding, image_of, spelled};
+use crate::bytes::{Letter, holding, image_of, slot_with, spelled};
 use crate::judge::judge;
-use crate::scene::{Body, EPOCH, GAME, ROOM, Said, Scene};
+use crate::scene::{Body, EPOCH, ROOM, Said, Scene};
 use crate::scenes::SCENES;
+use crate::taken::left_by;
 use crate::told::{Known, Machines, Tells, Told, known_by, machines_of, telling, told_by};
 use c8_disk::MemDisk;
 use c8_game::{Game, Player};
@@ -27,8 +28,13 @@ struct Course {
     disk: MemDisk,
 }
 
-fn hears(peer: &mut Peer<'_, MemDisk>, me: u64, said: Said) -> Result<Heard, Refused> {
-    peer.deliver(spelled(me, said).bytes())
+fn hears(peer: &mut Peer<'_, MemDisk>, scene: &Scene, said: Said) -> Result<Heard, Refused> {
+    peer.deliver(spelled(scene, said).bytes())
+}
+
+/// Whether a slot stands at a place of a disk's bytes.
+fn has_slot(bytes: &[u8], place: usize, slot: &Letter) -> bool {
+    bytes.get(place..place.saturating_add(144)) == Some(slot.first(144))
 }
 
 impl<'a> Stage<'a> {
@@ -44,24 +50,24 @@ impl<'a> Stage<'a> {
         let mut peer = self.opened(self.image)?;
         for player in 1..5 {
             let (epoch, is_open) = self.scene.link(player);
-            let _hello = hears(&mut peer, self.scene.me, (player, epoch, Body::Hello));
+            let _hello = hears(&mut peer, self.scene, (player, epoch, Body::Hello));
             if is_open {
                 let welcome = (player, epoch, Body::Welcome(2));
-                let _welcome = hears(&mut peer, self.scene.me, welcome);
+                let _welcome = hears(&mut peer, self.scene, welcome);
             }
         }
         Some(peer)
     }
 
     fn letter(self) -> Letter {
-        spelled(self.scene.me, self.scene.said)
+        spelled(self.scene, self.scene.said)
     }
 
     /// The datagram as it is, and the one after it: whether they are answered as the scene says.
     fn goes_on(self, peer: &mut Peer<'a, MemDisk>) -> bool {
-        let me = self.scene.me;
-        hears(peer, me, self.scene.said) == self.scene.answer
-            && hears(peer, me, self.scene.then) == self.scene.then_answer
+        let scene = self.scene;
+        hears(peer, scene, scene.said) == scene.answer
+            && hears(peer, scene, scene.then) == scene.then_answer
     }
 
     fn course(self) -> Option<Course> {
@@ -88,25 +94,38 @@ impl<'a> Stage<'a> {
         u64::from(tells.known.confirmed) == self.scene.confirmed && u64::from(tells.epoch) == EPOCH
     }
 
-    /// Whether a datagram that is well formed and taken leaves a peer whose journal says what it
-    /// tells: with one record more where something is kept, else as it was.
-    fn is_taken(self, bytes: &[u8], before: &Known) -> bool {
+    /// Whether a datagram that is well formed and taken leaves what the documents say: what the peer
+    /// tells, what its disk holds, and what an opening of that finds.
+    fn is_taken(self, bytes: &[u8], before: &Tells) -> bool {
         let Some(mut peer) = self.ready() else {
             return false;
         };
-        let Ok(heard) = peer.deliver(bytes) else {
-            return false;
-        };
-        let (known, machines) = (known_by(&peer), machines_of(&peer));
-        if peer.is_down() || peer.alarm() || known.is_dropped != (heard == Heard::Out) {
+        let mut wanted = left_by(self.scene, before, bytes);
+        if peer.deliver(bytes) != Ok(wanted.heard) {
             return false;
         }
-        let is_kept = heard != Heard::Nothing;
-        let records = if is_kept { 2 } else { 1 };
+        // How far a peer runs anew has a clause of its own.
+        wanted.tells.last_run = peer.last_run();
+        let (tells, machines) = (telling(&peer), machines_of(&peer));
         let disk = peer.close();
-        disk.bytes().len() == self.image.len().saturating_add(144 * records)
-            && (known != *before) == is_kept
-            && self.is_found(disk.bytes(), &known, &machines)
+        tells == wanted.tells
+            && self.is_recorded(disk.bytes(), &wanted.slot)
+            && self.is_found(disk.bytes(), &tells.known, &machines)
+    }
+
+    /// Whether a disk holds the journal, the epoch that began, this slot, and a closed gate.
+    fn is_recorded(self, bytes: &[u8], slot: &Option<Letter>) -> bool {
+        let epoch = slot_with(2, self.scene.me, EPOCH, 0, 0);
+        let held = self.image.len().saturating_sub(1);
+        let (count, is_slot) = match slot {
+            Some(slot) => (2, has_slot(bytes, held.saturating_add(144), slot)),
+            None => (1, true),
+        };
+        bytes.len() == self.image.len().saturating_add(144 * count)
+            && bytes.get(..held) == self.image.get(..held)
+            && has_slot(bytes, held, &epoch)
+            && is_slot
+            && bytes.last() == Some(&0)
     }
 
     /// Whether an opening of these bytes finds this.
@@ -132,7 +151,7 @@ impl<'a> Play<'a> {
     /// they are refused.
     fn holds(&mut self, bytes: &[u8]) -> bool {
         let Some(error) = judge(self.stage.scene, bytes) else {
-            return self.stage.is_taken(bytes, &self.tells.known);
+            return self.stage.is_taken(bytes, &self.course.begin.tells);
         };
         if error == Refused::Desync {
             self.tells.alarm = true;
@@ -215,8 +234,8 @@ fn fault(stage: Stage<'_>, course: &Course) -> Option<usize> {
 
 #[test]
 fn a_changed_datagram_is_survived(rt: HostRuntime) -> Result<(), Fail> {
-    let game = Game::read(rt.alloc(), GAME)?;
     for (n, scene) in SCENES.iter().enumerate() {
+        let game = Game::read(rt.alloc(), scene.table.game)?;
         let image = image_of(rt.alloc(), scene)?;
         let stage = Stage {
             alloc: rt.alloc(),

@@ -1,30 +1,43 @@
 //! What stands before a datagram comes: whose peer hears it, what its journal says, and its links.
 //!
-//! All is of one game, of four players and two frames of delay, in which player p enters the key set
-//! 256p + n for frame n.
+//! All is of two games, of four players and of three, with two frames of delay, in which player p
+//! enters the key set 256p + n for frame n.
 use c8_peer::{DecideError, Heard, Refused};
 
-pub(crate) const GAME: &[u8] =
-    b"players 4\nipf 1\nframes 300\ndelay 2\nwindow 12\nseed 0\nmask1 000f\nmask2 00f0\nmask3 0f00\nmask4 f000\ncode 1200\n";
+/// A game, and what docs/FORMATS.md makes of it by another program: its id, SHA-256, and the session
+/// of its room.
+#[derive(Clone, Copy)]
+pub(crate) struct Table {
+    pub(crate) players: u64,
+    pub(crate) game: &'static [u8],
+    pub(crate) id: [u8; 32],
+    pub(crate) session: u64,
+}
+
+pub(crate) const FOUR: Table = Table {
+    players: 4,
+    game: b"players 4\nipf 1\nframes 300\ndelay 2\nwindow 12\nseed 0\nmask1 000f\nmask2 00f0\nmask3 0f00\nmask4 f000\ncode 1200\n",
+    id: *b"\x86\x70\xa0\x68\xa7\x33\x34\x5d\x33\x3c\x5e\x79\x5a\xc7\xcf\x3b\
+        \xfa\xa6\xb0\x6a\x50\x56\x32\xdd\x72\xa4\x25\x32\x01\x1c\xa7\x97",
+    session: 0x397f25f58b8823c8,
+};
+
+pub(crate) const THREE: Table = Table {
+    players: 3,
+    game: b"players 3\nipf 1\nframes 300\ndelay 2\nwindow 12\nseed 0\nmask1 000f\nmask2 00f0\nmask3 0f00\ncode 1200\n",
+    id: *b"\x48\xd6\x6b\x4f\xe8\xd0\xe3\x60\xb7\xfd\xf0\x90\x3e\x59\xaa\x11\
+        \xb5\x89\x95\xd5\x7a\xad\xaa\x9e\xff\xf9\x26\xc8\xe8\xb4\x84\x40",
+    session: 0x104023b9c4743fd7,
+};
 
 pub(crate) const ROOM: u64 = 0x0102030405060708;
-
-pub(crate) const PLAYERS: u64 = 4;
 
 pub(crate) const DELAY: u64 = 2;
 
 /// Frames and delay together.
 pub(crate) const LIMIT: u64 = 302;
 
-/// SHA-256 of the game as docs/FORMATS.md has it, by another program.
-pub(crate) const GAME_ID: [u8; 32] =
-    *b"\x86\x70\xa0\x68\xa7\x33\x34\x5d\x33\x3c\x5e\x79\x5a\xc7\xcf\x3b\
-    \xfa\xa6\xb0\x6a\x50\x56\x32\xdd\x72\xa4\x25\x32\x01\x1c\xa7\x97";
-
-/// Of the id and the room, by the same.
-pub(crate) const SESSION: u64 = 0x397f25f58b8823c8;
-
-/// The marks of frames 0 and 32, by the same.
+/// The marks of frames 0 and 32 in both games, by the same.
 pub(crate) const MARKS: [(u64, u64); 2] = [(0, 0x040d1a00552be44e), (32, 0x9aa31bb0b5bf1491)];
 
 /// The epoch that begins with the opening of the journal of a scene.
@@ -66,6 +79,7 @@ pub(crate) type Link = (u64, bool);
 
 #[derive(Clone, Copy)]
 pub(crate) struct Scene {
+    pub(crate) table: &'static Table,
     pub(crate) me: u64,
     pub(crate) journal: &'static [Made],
     /// How many frames are confirmed by it.
@@ -101,6 +115,9 @@ pub(crate) fn inputs_of(me: u64, player: u64, made: Made) -> u64 {
 impl Scene {
     /// How many inputs of a player the journal says.
     pub(crate) fn count(&self, player: u64) -> u64 {
+        if player > self.table.players {
+            return 0;
+        }
         let mut count = DELAY;
         for made in self.journal {
             count = count.wrapping_add(inputs_of(self.me, player, *made));

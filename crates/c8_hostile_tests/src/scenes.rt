@@ -1,5 +1,5 @@
 //! The scenes: each kind of datagram, to a peer that is to take it, and some that it refuses.
-use crate::scene::{Body, Link, MARKS, Made, Said, Scene};
+use crate::scene::{Body, FOUR, Link, MARKS, Made, Said, Scene, THREE};
 use c8_hand::HandError;
 use c8_known::KnownError;
 use c8_peer::{DecideError, Heard, Refused};
@@ -90,6 +90,7 @@ const HELLO: Said = (1, 5, Body::Hello);
 
 /// At player 2, with another HELLO in the end.
 const TWO: Scene = Scene {
+    table: &FOUR,
     me: 2,
     journal: &HELD,
     confirmed: 3,
@@ -103,6 +104,7 @@ const TWO: Scene = Scene {
 
 /// At player 1, likewise.
 const ONE: Scene = Scene {
+    table: &FOUR,
     me: 1,
     journal: &LET_GO,
     confirmed: 3,
@@ -114,7 +116,20 @@ const ONE: Scene = Scene {
     decided: Err(DecideError::NotReady),
 };
 
-pub(crate) const SCENES: [Scene; 19] = [
+/// Of three players: players 1 and 3 have a link to player 2.
+const TO_TWO_OF_THREE: [Link; 4] = [(5, true), (0, false), (6, true), (0, false)];
+
+/// Players 2 and 3 have one to player 1.
+const TO_ONE_OF_THREE: [Link; 4] = [(0, false), (5, true), (6, true), (0, false)];
+
+const TWO_OF_THREE: Scene = Scene {
+    table: &THREE,
+    journal: &[Made::Got(1, 62), Made::Got(3, 32), Made::Own(3)],
+    links: TO_TWO_OF_THREE,
+    ..TWO
+};
+
+pub(crate) const SCENES: [Scene; 23] = [
     TWO,
     Scene {
         said: (1, 6, Body::Hello),
@@ -225,5 +240,46 @@ pub(crate) const SCENES: [Scene; 19] = [
         then: (1, 5, Body::Freeze(3, 33)),
         then_answer: KEPT,
         ..TWO
+    },
+    Scene {
+        said: (1, 5, DATA),
+        answer: KEPT,
+        then: (3, 6, Body::Data(4, 0, MARK, 33, 2)),
+        then_answer: KEPT,
+        ..TWO_OF_THREE
+    },
+    Scene {
+        said: (1, 5, Body::Freeze(3, 33)),
+        answer: KEPT,
+        then: (1, 5, Body::Cut(3, 35, 33, 2)),
+        then_answer: KEPT,
+        ..TWO_OF_THREE
+    },
+    Scene {
+        journal: &[
+            Made::Got(1, 62),
+            Made::Got(3, 32),
+            Made::Own(3),
+            Made::Freeze(3),
+        ],
+        said: (1, 5, Body::Cut(3, 35, 33, 2)),
+        answer: KEPT,
+        then: (1, 5, Body::Freeze(3, 33)),
+        ..TWO_OF_THREE
+    },
+    Scene {
+        journal: &[
+            Made::Got(2, 35),
+            Made::Got(3, 62),
+            Made::Own(3),
+            Made::Leave(3),
+        ],
+        links: TO_ONE_OF_THREE,
+        table: &THREE,
+        said: (2, 5, Body::Frozen(3, 65, 63, 2)),
+        answer: KEPT,
+        then: (2, 5, Body::Frozen(3, 65, 65, 0)),
+        decided: Ok(65),
+        ..ONE
     },
 ];

@@ -36,7 +36,7 @@ pub(crate) struct Tells {
     pub(crate) last_run: u32,
     pub(crate) is_down: bool,
     pub(crate) alarm: bool,
-    links: [OfLink; 4],
+    pub(crate) links: [OfLink; 4],
 }
 
 /// What is said to a player, or why it is not.
