@@ -1,4 +1,4 @@
-//! The tests of c8_disk, c8_log and c8_record.
+//! The tests of c8_disk and c8_log.
 #![tactic(auto)]
 
 #[cfg(test)]
@@ -9,5 +9,3 @@ mod disk;
 mod file;
 #[cfg(test)]
 mod log;
-#[cfg(test)]
-mod record;

@@ -1,13 +1,13 @@
 //! How each record is spelled, and which bytes spell none.
-use crate::calls::prints;
-use crate::record::parts::{Rec, spelled};
-use crate::record::replays::{game, short_game};
+use crate::parts::{Rec, spelled};
+use crate::replays::{game, short_game};
 use c8_disk::DiskError;
 use c8_game::{Keys, Player};
 use c8_log::BODY_LENGTH;
 use c8_record::{Record, ReplayError, body_of, view};
 use c8_wire::Run;
 use std::alloc::Global;
+use std::fmt::Display;
 use std::test::Fail;
 
 /// Whether the record is spelled by these bytes and zeros behind them.
@@ -146,6 +146,14 @@ fn bytes_that_spell_nothing(rt: HostRuntime) -> Result<(), Fail> {
         assert!(rt; is_none_with(body, *place, *byte), "change {n}");
     }
     Ok(())
+}
+
+/// Whether a value prints a text.
+fn prints<T: Display + Drop>(alloc: Global, value: T, text: &str) -> bool {
+    match format!(in alloc; "{value}") {
+        Ok(told) => told.as_str() == text,
+        Err(_) => false,
+    }
 }
 
 /// Whether a refusal has this number, this name and this text.

@@ -1,6 +1,6 @@
 //! A whole match, read again from the bytes of a disk and from a log.
-use crate::record::parts::{ROOM, Rec, spelled};
-use crate::record::replays::{add, game, replayed};
+use crate::parts::{ROOM, Rec, spelled};
+use crate::replays::{add, game, replayed};
 use c8_disk::{Arm, DiskError, MemDisk};
 use c8_game::{Game, Player};
 use c8_known::Known;

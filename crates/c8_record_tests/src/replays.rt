@@ -1,7 +1,7 @@
 //! What a replay of a journal answers, by steps.
 mod whole;
 
-use crate::record::parts::{ROOM, Rec, spelled};
+use crate::parts::{ROOM, Rec, spelled};
 use c8_game::{Game, Player};
 use c8_known::Known;
 use c8_record::{ReplayError, replay_bytes};
