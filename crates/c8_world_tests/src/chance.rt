@@ -27,7 +27,7 @@ const DRAWS: u32 = 1200;
 const ONE: Player = Player { number: 1 };
 
 /// What has come of events.
-#[derive(Clone, Copy, Debug, PartialEq, Eq)]
+#[derive(Clone, Copy)]
 struct Counted {
     kept: u32,
     stopped: u32,

@@ -51,7 +51,7 @@ pub(crate) enum What {
 }
 
 /// What comes of a step.
-#[derive(Clone, Copy, Debug, PartialEq, Eq)]
+#[derive(Clone, Copy, PartialEq, Eq)]
 pub(crate) enum Outcome {
     Is(Answer),
     Held(bool),

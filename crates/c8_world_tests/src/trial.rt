@@ -13,7 +13,7 @@ use std::test::Fail;
 
 /// What an opening finds: its epoch, what the player has, whether it was dropped, and what stands of
 /// the one whom player 1 lets go. Whoever leaves is frozen too.
-#[derive(Clone, Copy, Debug, PartialEq, Eq)]
+#[derive(Clone, Copy, PartialEq, Eq)]
 pub(crate) struct Found {
     pub(crate) epoch: u32,
     pub(crate) tally: Tally,
@@ -48,7 +48,7 @@ pub(crate) struct Match<'a> {
 }
 
 /// What comes of a trial.
-#[derive(Clone, Copy, Debug, PartialEq, Eq)]
+#[derive(Clone, Copy, PartialEq, Eq)]
 struct Came {
     answer: Outcome,
     /// Whether a tick is answered that the peer is down, and where the player stands then.
@@ -64,7 +64,6 @@ struct Wrong {
     place: usize,
     calls: u64,
     pick: Option<u64>,
-    came: Option<Came>,
 }
 
 impl Trial {
@@ -153,7 +152,7 @@ impl<'a> Match<'a> {
         };
         let came = self.comes(trial, Step::Fail(*deed, calls));
         if came != trial.failed(*deed, calls, *answer) {
-            return Err(otherwise(trial, calls, None, came));
+            return Err(otherwise(trial, calls, None));
         }
         Ok(())
     }
@@ -167,7 +166,7 @@ impl<'a> Match<'a> {
         for pick in 0..picks {
             let came = self.comes(trial, Step::Stop(*deed, calls, pick));
             if !trial.allows(calls, pick, came) {
-                return Err(otherwise(trial, calls, Some(pick), came));
+                return Err(otherwise(trial, calls, Some(pick)));
             }
         }
         Ok(())
@@ -273,11 +272,10 @@ fn found_at(peer: &Peer<'_, MemDisk>, epoch: u32, tally: Tally, leaver: Player) 
     })
 }
 
-fn otherwise(trial: &Trial, calls: u64, pick: Option<u64>, came: Option<Came>) -> Fail {
+fn otherwise(trial: &Trial, calls: u64, pick: Option<u64>) -> Fail {
     Fail::from(Wrong {
         place: trial.place,
         calls,
         pick,
-        came,
     })
 }

@@ -10,15 +10,13 @@ use std::test::Fail;
 #[derive(Debug, Drop)]
 pub(crate) struct Wrong {
     row: usize,
-    outcome: Outcome,
 }
 
 /// The first row whose step comes to something else than it says.
 pub(crate) fn first_wrong(alloc: Global, world: &mut World<'_>, rows: &[Row]) -> Option<Wrong> {
     for (row, (step, wanted)) in rows.iter().enumerate() {
-        let outcome = step_on(alloc, world, *step);
-        if outcome != *wanted {
-            return Some(Wrong { row, outcome });
+        if step_on(alloc, world, *step) != *wanted {
+            return Some(Wrong { row });
         }
     }
     None
