@@ -18,7 +18,7 @@ impl Gate for Turns {
     fn after(&self, _: Worker, _: u64) {}
 }
 
-/// For how many microseconds a worker sleeps after a turn.
+/// For how many microseconds a worker sleeps after a turn, or between two looks.
 const PAUSE: u64 = 100;
 
 /// Lets a worker sleep after each turn, so that all come to theirs on few processors.
@@ -37,20 +37,23 @@ impl<R: Clock> Gate for Paced<'_, R> {
     }
 }
 
-/// How often a worker looks whether the other one has made its first turn.
-const LOOKS: u32 = 1_000_000;
+/// How often a worker looks whether the other one has made its first turn, with a sleep between looks:
+/// some seconds in all, for a machine whose processors are busy.
+const LOOKS: u32 = 100_000;
 
 /// Lets each worker make two turns, the second one once the other has made its first.
 #[derive(Drop)]
-pub(crate) struct Meeting {
+pub(crate) struct Meeting<'r, R> {
+    rt: &'r R,
     net_has_begun: AtomicBool,
     game_has_begun: AtomicBool,
     turns: AtomicU64,
 }
 
-impl Meeting {
-    pub(crate) fn new() -> Meeting {
+impl<'r, R: Clock> Meeting<'r, R> {
+    pub(crate) fn new(rt: &'r R) -> Meeting<'r, R> {
         Meeting {
+            rt,
             net_has_begun: AtomicBool::new(false),
             game_has_begun: AtomicBool::new(false),
             turns: AtomicU64::new(0),
@@ -80,12 +83,13 @@ impl Meeting {
             if self.begun(other).load(Ordering::SeqCst) {
                 return true;
             }
+            sleep(self.rt, Duration::from_micros(PAUSE));
         }
         false
     }
 }
 
-impl Gate for Meeting {
+impl<R: Clock> Gate for Meeting<'_, R> {
     fn before(&self, worker: Worker, turn: u64) -> bool {
         turn == 0 || turn == 1 && self.is_joined(worker)
     }

@@ -78,7 +78,7 @@ fn workers_overlap(rt: HostRuntime) -> Result<(), Fail> {
     let (mut inbox, from_net) = inlet(rt.alloc(), PLACES)?;
     let side = Side::new(rt.alloc(), &game, 1, KEYS, Relay::new(to_net, from_net))?;
     let (mut wire, _other) = relays(rt.alloc(), PLACES)?;
-    let (counters, gate) = (Counters::new(), Meeting::new());
+    let (counters, gate) = (Counters::new(), Meeting::new(&rt));
     let (ended, moved) = join(
         &rt,
         || side.work(TURNS, &gate),
@@ -144,16 +144,16 @@ fn entered(number: u8) -> &'static str {
     ENTERED[usize::from(number.clamp(1, 4)) - 1]
 }
 
-/// What a player comes to, if there is one.
-fn work<R: Clock>(side: Option<Side<'_, Routes>>, gate: &Paced<'_, R>) -> Option<Outcome<Routes>> {
-    Some(side?.work(PACED_TURNS, gate))
+/// What a player comes to, if there is one, without its wire.
+fn work<R: Clock>(side: Option<Side<'_, Routes>>, gate: &Paced<'_, R>) -> Option<Outcome<()>> {
+    Some(side?.work(PACED_TURNS, gate).without_wire())
 }
 
 /// What all come to, player 1 first, each of whom works in a thread of its own.
 fn work_all<R: Clock + Threads + Sync>(
     rt: &R,
     sides: Vec<Side<'_, Routes>>,
-) -> [Option<Outcome<Routes>>; MOST_PLAYERS] {
+) -> [Option<Outcome<()>>; MOST_PLAYERS] {
     let gate = Paced { rt };
     let mut sides = sides;
     let (one, two) = (sides.pop(), sides.pop());
@@ -168,7 +168,7 @@ fn work_all<R: Clock + Threads + Sync>(
 
 /// Of how many players all frames are confirmed, with the machine of their rows, and shown as
 /// player 1's are.
-fn ended_well(ended: &[Option<Outcome<Routes>>; MOST_PLAYERS], alone: &Played) -> u8 {
+fn ended_well(ended: &[Option<Outcome<()>>; MOST_PLAYERS], alone: &Played) -> u8 {
     let [Some(first), ..] = ended else {
         return 0;
     };

@@ -53,10 +53,13 @@ impl Wire for Counter {
 /// What one player's peer says first to another.
 pub(crate) fn hello(alloc: Global, game: &Game, from: Player, to: Player) -> Result<Packet, Fail> {
     let disk = MemDisk::new(alloc, 100_000, 4000)?;
-    let peer = match Peer::open(alloc, disk, game, from, 7) {
-        Ok(peer) => peer,
-        Err((error, _disk)) => return Err(Fail::new(error)),
-    };
+    match Peer::open(alloc, disk, game, from, 7) {
+        Ok(peer) => said(&peer, to),
+        Err((error, _disk)) => Err(Fail::new(error)),
+    }
+}
+
+fn said(peer: &Peer<'_, MemDisk>, to: Player) -> Result<Packet, Fail> {
     let mut datagram = [0; LONGEST_DATAGRAM];
     let size = peer.say(to, Kind::Hello, &mut datagram)?;
     Ok(Packet::try_from(&datagram[..size])?)

@@ -47,6 +47,19 @@ pub(crate) struct Outcome<W> {
     pub(crate) shown: Look,
 }
 
+impl<W: Drop> Outcome<W> {
+    pub(crate) fn without_wire(self) -> Outcome<()> {
+        Outcome {
+            made: self.made,
+            wire: (),
+            confirmed: self.confirmed,
+            machine: self.machine,
+            counted: self.counted,
+            shown: self.shown,
+        }
+    }
+}
+
 pub(crate) fn game_of(alloc: Global, players: u8) -> Result<Game, Fail> {
     let text = match players {
         2 => GAMES[0],
@@ -72,12 +85,13 @@ fn session_of<'g>(
 ) -> Result<Session<'g, MemDisk>, Fail>
     ensures { IfOk result (λ session. session.peer.rules ≡ game.entry.now) }
 {
-    let disk = MemDisk::new(alloc, 100_000, 4000)?;
     let Some(me) = Player::new(number) else {
         return Err(Fail::new("no player"));
     };
+    let keys = key_sets(alloc, keys.as_bytes())?;
+    let disk = MemDisk::new(alloc, 100_000, 4000)?;
     match Peer::open(alloc, disk, game, me, 7) {
-        Ok(peer) => Ok(Session::new(peer, game, key_sets(alloc, keys.as_bytes())?, None)),
+        Ok(peer) => Ok(Session::new(peer, game, keys, None)),
         Err((error, _disk)) => Err(Fail::new(error)),
     }
 }
