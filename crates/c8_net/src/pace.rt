@@ -8,7 +8,7 @@ use std::time::{Clock, Duration};
 const GAME_PAUSE: u64 = 1000;
 
 /// How many the net thread does, by which a packet comes later at most.
-const NET_PAUSE: u64 = 200;
+const NET_PAUSE: u64 = 50;
 
 /// Both threads sleep after each turn. The game thread ends with the net thread, and the net thread
 /// one turn after the game thread, which sends what was said last.
