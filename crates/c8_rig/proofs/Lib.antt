@@ -1,0 +1,2 @@
+pub mod Silent
+pub mod Logs

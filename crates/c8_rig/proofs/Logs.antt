@@ -1,0 +1,290 @@
+-- A lawful log is a list of events of a world: note by note, what follows at a peer follows in the world.
+use Rattle.std.proofs.Common.{◌≡◌, ◌≢◌, ◌<◌, ◌^◌, ◌⊎◌, inl, inr, ℕ, zero, suc, ◌-◌, append-nil, append_assoc, length-set, List, [], ◌∷◌, ◌++◌, length, map, Bool, true, false, Option, Some, None, Ok, refl, sym, ap, subst, ◌∙◌, arith}
+use Rattle.std.specs.Prelude.{◌==◌, slice_set, if◌then◌else◌}
+use Rattle.std.specs.List.{slice_get, filter}
+use Rattle.std.proofs.lemmas.List.{length-replicate}
+use Rattle.std.proofs.lemmas.Bool.{cases_eq, eq-eqb, ne_eqb}
+use Rattle.c8_game.specs.Rules.{Rules, AreInRange}
+use Rattle.c8_wire.specs.declared.error.WireError.{WireError}
+use Rattle.c8_wire.specs.Packet.{Packet}
+use Rattle.c8_wire.specs.Spelling.{Spells}
+use Rattle.c8_wire.specs.checked.Read.{read}
+use Rattle.c8_known.specs.Known.{known_of}
+use Rattle.c8_peer.specs.State as calls
+use Rattle.c8_peer.specs.State.{Mode, Down, Away, State, Call, Reply, Said}
+use Rattle.c8_peer.specs.Steps.{Luck, Works, Stepped, outcome, when_down, at_mode, step}
+use Rattle.c8_peer.specs.Opening.{Opening, NoMemory, found, opened}
+use Rattle.c8_peer.specs.Runs.{Does, Opens, IsDone, as_answered}
+use Rattle.c8_world.specs.World.{World, start, never_opened, peer_of, is_player, Act, Open, Tick, Say, Give, Leave, Decide, player_of, Event, Do, Answer, IsDown, After, Happening, said_by as said_in_reply, stepped, call_at_mode, call_at, open_at_mode, open_at, give_to, acted, after, CanHappen, Chain, IsReached}
+use Rattle.c8_world.specs.Agreement.{IsPlayer}
+use Rattle.c8_world.specs.Headline.{IsHeadline}
+use Rattle.c8_world.proofs.Worlds.{placed, peer_here, peer_there, peer_at_start}
+use Rattle.c8_world.proofs.Openings.{plays_so}
+use Rattle.c8_rig.specs.Log.{Note, said_in, said_by, WasSaid, MayFollow, IsLawful, part_of, IsCalled, IsOpenedAnew, IsAnything, IsSpelled, Follows, Leads, AreLed, event_of, AreSpelled, GoesOn, IsWorld, AreMoments}
+use Rattle.c8_rig.proofs.Silent.{IsNoSaying, step_silent, down_silent, opened_silent}
+
+-- ---- what an act makes of a world
+
+-- One player's peer is this now, the others are as they were, and this was said.
+record Becomes (rules : Rules) (w : World) (p : ℕ) (t : Stepped) (v : World) : Type 0 where
+  size : length v.peers ≡ length w.peers
+  here : peer_of v p ≡ t.state
+  there : (q : ℕ) → IsPlayer rules q → q ≢ p → peer_of v q ≡ peer_of w q
+  said : v.said ≡ w.said ++ said_in_reply t.reply
+
+stepped_becomes : (rules : Rules) (w : World) (p : ℕ) (t : Stepped) → length w.peers ≡ rules.players → IsPlayer rules p → Becomes rules w p t (stepped w p t).world
+stepped_becomes rules w p t size plays = record {
+  size = length-set w.peers (p - 1) t.state;
+  here = peer_here rules w p t.state (said_in_reply t.reply) size plays;
+  there = λ q also apart. peer_there rules w p t.state (said_in_reply t.reply) q plays also apart;
+  said = refl;
+}
+
+-- where nothing is said and the peer stays as it is
+stays_becomes : (rules : Rules) (w : World) (p : ℕ) (t : Stepped) → t.state ≡ peer_of w p → said_in_reply t.reply ≡ [] → Becomes rules w p t w
+stays_becomes rules w p t same silent = record {
+  size = refl;
+  here = sym same;
+  there = λ q also apart. refl;
+  said = sym (ap (λ (new : List Packet). w.said ++ new) silent ∙ append-nil w.said);
+}
+
+mode_becomes : (rules : Rules) (w : World) (p : ℕ) (call : Call) (luck : Luck) (mode : Mode) → length w.peers ≡ rules.players → IsPlayer rules p → (peer_of w p).mode ≡ mode
+    → Becomes rules w p (step rules p (peer_of w p) call luck) (call_at_mode rules w p call luck mode).world
+mode_becomes rules w p call luck calls.Open size plays is = stepped_becomes rules w p (step rules p (peer_of w p) call luck) size plays
+mode_becomes rules w p call luck Down size plays is =
+    let at : step rules p (peer_of w p) call luck ≡ record { reply = when_down call; state = peer_of w p } =
+      ap (λ (mode : Mode). at_mode (peer_of w p) call (outcome rules (known_of rules p (peer_of w p).journal) (peer_of w p).memory call) mode luck) is in
+    stays_becomes rules w p (step rules p (peer_of w p) call luck) (ap (λ (t : Stepped). t.state) at) (ap (λ (t : Stepped). said_in_reply t.reply) at ∙ down_silent call)
+mode_becomes rules w p call luck Away size plays is =
+    let at : step rules p (peer_of w p) call luck ≡ record { reply = when_down call; state = peer_of w p } =
+      ap (λ (mode : Mode). at_mode (peer_of w p) call (outcome rules (known_of rules p (peer_of w p).journal) (peer_of w p).memory call) mode luck) is in
+    stays_becomes rules w p (step rules p (peer_of w p) call luck) (ap (λ (t : Stepped). t.state) at) (ap (λ (t : Stepped). said_in_reply t.reply) at ∙ down_silent call)
+
+call_becomes : (rules : Rules) (w : World) (p : ℕ) (call : Call) (luck : Luck) → length w.peers ≡ rules.players → IsPlayer rules p
+    → Becomes rules w p (step rules p (peer_of w p) call luck) (call_at rules w p call luck).world
+call_becomes rules w p call luck size plays = rw (plays_so rules p plays) (mode_becomes rules w p call luck (peer_of w p).mode size plays refl)
+
+mode_opens : (rules : Rules) (room : ℕ) (w : World) (p : ℕ) (h : Happening) (mode : Mode) → length w.peers ≡ rules.players → IsPlayer rules p → mode ≢ calls.Open
+    → Becomes rules w p (opened rules room p (peer_of w p) (found (peer_of w p) h.finds) h.opening) (open_at_mode rules room w p h mode).world
+mode_opens rules room w p h calls.Open size plays other = absurd (other refl)
+mode_opens rules room w p h Down size plays other = stepped_becomes rules w p (opened rules room p (peer_of w p) (found (peer_of w p) h.finds) h.opening) size plays
+mode_opens rules room w p h Away size plays other = stepped_becomes rules w p (opened rules room p (peer_of w p) (found (peer_of w p) h.finds) h.opening) size plays
+
+open_becomes : (rules : Rules) (room : ℕ) (w : World) (p : ℕ) (h : Happening) → length w.peers ≡ rules.players → IsPlayer rules p → (peer_of w p).mode ≢ calls.Open
+    → Becomes rules w p (opened rules room p (peer_of w p) (found (peer_of w p) h.finds) h.opening) (open_at rules room w p h).world
+open_becomes rules room w p h size plays other = rw (plays_so rules p plays) (mode_opens rules room w p h (peer_of w p).mode size plays other)
+
+-- ---- a note's turn
+
+-- An event of a note: the peer becomes this, the others stay, and what is said is what the note has.
+record Turns (rules : Rules) (room : ℕ) (w : World) (n : Note) (t : State) : Type 0 where
+  world : World
+  answer : Answer
+  can : CanHappen rules room w (event_of n) answer world
+  size : length world.peers ≡ length w.peers
+  here : peer_of world (player_of n.act) ≡ t
+  there : (q : ℕ) → IsPlayer rules q → q ≢ player_of n.act → peer_of world q ≡ peer_of w q
+  new : List Packet
+  said : world.said ≡ w.said ++ new
+  spelled : AreSpelled (said_in n.act n.bytes) new
+
+-- what a call at a peer makes of the world, where its note says nothing
+silent_turns : (rules : Rules) (room : ℕ) (w : World) (n : Note) (t : State) (call : Call) → length w.peers ≡ rules.players → IsPlayer rules (player_of n.act)
+    → IsNoSaying call → said_in n.act n.bytes ≡ []
+    → ((luck : Luck) → (answer : Answer) × CanHappen rules room w (event_of n) answer (call_at rules w (player_of n.act) call luck).world)
+    → IsCalled rules room (player_of n.act) (peer_of w (player_of n.act)) call IsAnything t → Turns rules room w n t
+silent_turns rules room w n t call size plays other quiet can is =
+    let p : ℕ = player_of n.act in
+    let becomes = call_becomes rules w p call is.luck size plays in
+    let happens = can is.luck in
+    let state : (step rules p (peer_of w p) call is.luck).state ≡ t = ap (λ a. a.state) is.done.is in
+    record {
+      world = (call_at rules w p call is.luck).world;
+      answer = happens.0;
+      can = happens.1;
+      size = becomes.size;
+      here = becomes.here ∙ state;
+      there = becomes.there;
+      new = [];
+      said = becomes.said ∙ ap (λ (new : List Packet). w.said ++ new) (step_silent rules p (peer_of w p) call is.luck other);
+      spelled = rw quiet tt;
+    }
+
+abbrev with_luck : Luck → Happening
+with_luck luck = record { finds = false; opening = NoMemory; luck = luck; leaves = false }
+
+-- what is said under a number is spelled by the bytes there
+spelled_at : (bytes : List (List ℕ)) (packets : List Packet) (number : ℕ) (these : List ℕ) → AreSpelled bytes packets → slice_get bytes number ≡ Some these
+    → (packet : Packet) × (slice_get packets number ≡ Some packet) × Spells these packet
+spelled_at [] packets number these are is = absurd cc
+spelled_at (first ∷ rest) [] number these are is = absurd are
+spelled_at (first ∷ rest) (packet ∷ packets) zero these are is = (packet, refl, subst (λ (x : List ℕ). Spells x packet) (let same : Some first ≡ Some these = is in cc) are.0)
+spelled_at (first ∷ rest) (packet ∷ packets) (suc number) these are is = spelled_at rest packets number these are.1 is
+
+abbrev AreRead : Type 0
+AreRead = (bytes : List ℕ) (p : Packet) → Spells bytes p → read bytes ≡ Ok p
+
+-- bytes that were said are heard as the packet that they spell
+gives : AreRead → (rules : Rules) (room : ℕ) (w : World) (number p : ℕ) (bytes : List ℕ) (said : List (List ℕ)) (t : State) → length w.peers ≡ rules.players → IsPlayer rules p
+    → AreSpelled said w.said → slice_get said number ≡ Some bytes → IsCalled rules room p (peer_of w p) (calls.Deliver (read bytes)) IsAnything t
+    → Turns rules room w (record { act = Give number p; bytes = bytes }) t
+unfolding acted
+gives reads rules room w number p bytes said t size plays are was is =
+    let at = spelled_at said w.said number bytes are was in
+    let same : read bytes ≡ Ok at.0 = reads bytes at.0 at.2 in
+    silent_turns rules room w (record { act = Give number p; bytes = bytes }) t (calls.Deliver (read bytes)) size plays tt refl
+    (λ luck. (
+      (call_at rules w p (calls.Deliver (read bytes)) luck).answer,
+      record {
+        happening = with_luck luck;
+        may = tt;
+        is = ap (give_to rules w p luck) at.1 ∙ ap (λ told. call_at rules w p (calls.Deliver told) luck) (sym same);
+      },
+    ))
+    is
+
+says : (rules : Rules) (room : ℕ) (w : World) (p to : ℕ) (what : calls.Saying) (bytes : List ℕ) (t : State) → length w.peers ≡ rules.players → IsPlayer rules p
+    → IsCalled rules room p (peer_of w p) (calls.Say to what) (IsSpelled bytes) t → Turns rules room w (record { act = Say p to what; bytes = bytes }) t
+unfolding acted
+says rules room w p to what bytes t size plays is =
+    let becomes = call_becomes rules w p (calls.Say to what) is.luck size plays in
+    let replied : Some (step rules p (peer_of w p) (calls.Say to what) is.luck).reply ≡ Some (Said (Ok is.tells.0)) = ap (λ a. a.answer) is.done.is ∙ is.tells.1 in
+    let reply : (step rules p (peer_of w p) (calls.Say to what) is.luck).reply ≡ Said (Ok is.tells.0) = cc in
+    record {
+      world = (call_at rules w p (calls.Say to what) is.luck).world;
+      answer = (call_at rules w p (calls.Say to what) is.luck).answer;
+      can = record { happening = with_luck is.luck; may = tt; is = refl };
+      size = becomes.size;
+      here = becomes.here ∙ ap (λ a. a.state) is.done.is;
+      there = becomes.there;
+      new = is.tells.0 ∷ [];
+      said = becomes.said ∙ ap (λ (r : Reply). w.said ++ said_in_reply r) reply;
+      spelled = (is.tells.2, tt);
+    }
+
+opens : (rules : Rules) (room : ℕ) (w : World) (p : ℕ) (bytes : List ℕ) (t : State) → length w.peers ≡ rules.players → IsPlayer rules p
+    → IsOpenedAnew rules room p (peer_of w p) t → Turns rules room w (record { act = Open p; bytes = bytes }) t
+unfolding acted
+opens rules room w p bytes t size plays is =
+    let h : Happening = record { finds = is.finds; opening = is.opening; luck = Works; leaves = false } in
+    let becomes = open_becomes rules room w p h size plays is.done.may.0 in
+    record {
+      world = (open_at rules room w p h).world;
+      answer = (open_at rules room w p h).answer;
+      can = record { happening = h; may = λ here. is.done.may.1; is = refl };
+      size = becomes.size;
+      here = becomes.here ∙ ap (λ a. a.state) is.done.is;
+      there = becomes.there;
+      new = [];
+      said = becomes.said ∙ ap (λ (new : List Packet). w.said ++ new) (opened_silent rules room p (peer_of w p) (found (peer_of w p) is.finds) is.opening);
+      spelled = tt;
+    }
+
+turn : AreRead → (rules : Rules) (room : ℕ) (w : World) (act : Act) (bytes : List ℕ) (said : List (List ℕ)) (t : State) → length w.peers ≡ rules.players → IsPlayer rules (player_of act)
+    → AreSpelled said w.said → WasSaid said act bytes → Follows rules room (player_of act) (peer_of w (player_of act)) act bytes t → Turns rules room w (record { act = act; bytes = bytes }) t
+unfolding acted
+turn reads rules room w (Open p) bytes said t size plays are was follows = opens rules room w p bytes t size plays follows
+turn reads rules room w (Tick p keys) bytes said t size plays are was follows =
+    silent_turns rules room w (record { act = Tick p keys; bytes = bytes }) t (calls.Tick keys) size plays tt refl
+    (λ luck. ((call_at rules w p (calls.Tick keys) luck).answer, record { happening = with_luck luck; may = follows.done.may; is = refl })) follows
+turn reads rules room w (Say p to what) bytes said t size plays are was follows = says rules room w p to what bytes t size plays follows
+turn reads rules room w (Give number p) bytes said t size plays are was follows = gives reads rules room w number p bytes said t size plays are was follows
+turn reads rules room w (Leave leaver) bytes said t size plays are was follows =
+    silent_turns rules room w (record { act = Leave leaver; bytes = bytes }) t (calls.Leave leaver) size plays tt refl
+    (λ luck. ((call_at rules w 1 (calls.Leave leaver) luck).answer, record { happening = with_luck luck; may = tt; is = refl })) follows
+turn reads rules room w (Decide leaver) bytes said t size plays are was follows =
+    silent_turns rules room w (record { act = Decide leaver; bytes = bytes }) t (calls.Decide leaver) size plays tt refl
+    (λ luck. ((call_at rules w 1 (calls.Decide leaver) luck).answer, record { happening = with_luck luck; may = tt; is = refl })) follows
+
+-- ---- a log, note by note
+
+part_mine : (n : Note) (log : List Note) → part_of (player_of n.act) (n ∷ log) ≡ n ∷ part_of (player_of n.act) log
+part_mine n log = rw (eq-eqb (player_of n.act) (player_of n.act) refl) refl
+
+part_other : (q : ℕ) (n : Note) (log : List Note) → q ≢ player_of n.act → part_of q (n ∷ log) ≡ part_of q log
+part_other q n log apart = rw (ne_eqb (player_of n.act) q (λ e. apart (sym e))) refl
+
+said_joined : (front rest : List Note) → said_by (front ++ rest) ≡ said_by front ++ said_by rest
+said_joined [] rest = refl
+said_joined (n ∷ front) rest = ap (λ (said : List (List ℕ)). said_in n.act n.bytes ++ said) (said_joined front rest) ∙ sym (append_assoc (said_in n.act n.bytes) (said_by front) (said_by rest))
+
+said_with : (front : List Note) (n : Note) → said_by (front ++ n ∷ []) ≡ said_by front ++ said_in n.act n.bytes
+said_with front n = said_joined front (n ∷ []) ∙ ap (λ (said : List (List ℕ)). said_by front ++ said) (append-nil (said_in n.act n.bytes))
+
+spelled_joined : (bytes more : List (List ℕ)) (packets others : List Packet) → AreSpelled bytes packets → AreSpelled more others → AreSpelled (bytes ++ more) (packets ++ others)
+spelled_joined [] more [] others are also = also
+spelled_joined [] more (packet ∷ packets) others are also = absurd are
+spelled_joined (first ∷ rest) more [] others are also = absurd are
+spelled_joined (first ∷ rest) more (packet ∷ packets) others are also = (are.0, spelled_joined rest more packets others are.1 also)
+
+-- Some notes have passed: what is left of each peer's part leads on from where it is.
+record Passes (rules : Rules) (room : ℕ) (states : ℕ → State) (w : World) (rest more : List Note) (said : List (List ℕ)) : Type 0 where
+  world : World
+  goes : GoesOn rules room w rest said world
+  size : length world.peers ≡ rules.players
+  left : (p : ℕ) → IsPlayer rules p → Leads rules room p (peer_of world p) (part_of p more) (states p)
+
+pass : AreRead → (rules : Rules) (room : ℕ) (states : ℕ → State) (front rest more : List Note) (w : World) → length w.peers ≡ rules.players
+    → IsLawful rules (front ++ (rest ++ more)) → AreSpelled (said_by front) w.said
+    → ((p : ℕ) → IsPlayer rules p → Leads rules room p (peer_of w p) (part_of p (rest ++ more)) (states p))
+    → Passes rules room states w rest more (said_by (front ++ rest))
+pass reads rules room states front [] more w size lawful are leads = record {
+  world = w;
+  goes = record { answers = []; chain = refl; spelled = rw (append-nil front) are };
+  size = size;
+  left = leads;
+}
+pass reads rules room states front (n ∷ rest) more w size lawful are leads =
+    let p : ℕ = player_of n.act in
+    let may : MayFollow rules front n = lawful front (rest ++ more) n refl in
+    let mine : Leads rules room p (peer_of w p) (n ∷ part_of p (rest ++ more)) (states p) =
+      subst (λ (notes : List Note). Leads rules room p (peer_of w p) notes (states p)) (part_mine n (rest ++ more)) (leads p may.plays) in
+    let turns = turn reads rules room w n.act n.bytes (said_by front) mine.0 size may.plays are may.was_said mine.1 in
+    let joins : (xs : List Note) → (front ++ n ∷ []) ++ xs ≡ front ++ n ∷ xs = λ xs. append_assoc front (n ∷ []) xs in
+    let next = pass reads rules room states (front ++ n ∷ []) rest more turns.world (turns.size ∙ size)
+        (subst (λ (log : List Note). IsLawful rules log) (sym (joins (rest ++ more))) lawful)
+        (rw (said_with front n, turns.said) (spelled_joined (said_by front) (said_in n.act n.bytes) w.said turns.new are turns.spelled))
+        (λ q plays. elim (cases_eq q p) [
+          | inl same ↦ subst (λ (x : ℕ). Leads rules room x (peer_of turns.world x) (part_of x (rest ++ more)) (states x)) (sym same)
+              (subst (λ (s : State). Leads rules room p s (part_of p (rest ++ more)) (states p)) (sym turns.here) mine.2)
+          | inr apart ↦ subst (λ (s : State). Leads rules room q s (part_of q (rest ++ more)) (states q)) (sym (turns.there q plays apart))
+              (subst (λ (notes : List Note). Leads rules room q (peer_of w q) notes (states q)) (part_other q n (rest ++ more) apart) (leads q plays))
+        ]) in
+    record {
+      world = next.world;
+      goes = record {
+        answers = turns.answer ∷ next.goes.answers;
+        chain = (turns.world, turns.can, next.goes.chain);
+        spelled = subst (λ (log : List Note). AreSpelled (said_by log) next.world.said) (joins rest) next.goes.spelled;
+      };
+      size = next.size;
+      left = next.left;
+    }
+
+-- ---- the laws
+
+pub log_world : AreRead → (rules : Rules) (room : ℕ) (log : List Note) (states : ℕ → State) → IsLawful rules log → AreLed rules room log states → IsWorld rules room log states
+log_world reads rules room log states lawful led =
+    let passes = pass reads rules room states [] log [] (start rules) (length-replicate rules.players never_opened) (rw (append-nil log) lawful) tt
+        (λ p plays. rw (peer_at_start rules p, append-nil log) (led p plays)) in
+    record { world = passes.world; goes = passes.goes; peers = λ p plays. sym (passes.left p plays) }
+
+abbrev AreHeadlines : Type 0
+AreHeadlines = (rules : Rules) (room : ℕ) (w v : World) (events : List Event) (answers : List Answer) → AreInRange rules → room < 2 ^ 64
+    → IsReached rules room w → Chain rules room w events answers v → IsHeadline rules room w v
+
+pub moments_of_log : AreRead → AreHeadlines → (rules : Rules) (room : ℕ) (front rest : List Note) (states : ℕ → State) → AreInRange rules → room < 2 ^ 64
+    → IsLawful rules (front ++ rest) → AreLed rules room (front ++ rest) states → AreMoments rules room front rest states
+moments_of_log reads agree rules room front rest states range few lawful led =
+    let first = pass reads rules room states [] front rest (start rules) (length-replicate rules.players never_opened) lawful tt (λ p plays. rw (peer_at_start rules p) (led p plays)) in
+    let second = pass reads rules room states front rest [] first.world first.size (rw (append-nil rest) lawful) first.goes.spelled (λ p plays. rw (append-nil rest) (first.left p plays)) in
+    record {
+      earlier = first.world;
+      later = second.world;
+      begins = first.goes;
+      goes = second.goes;
+      peers = λ p plays. sym (second.left p plays);
+      headline = agree rules room first.world second.world (map event_of rest) second.goes.answers range few
+          (record { events = map event_of front; answers = first.goes.answers; chain = first.goes.chain }) second.goes.chain;
+    }

@@ -1,0 +1,131 @@
+-- The log of peers that run in threads of their own: what each of them did, noted one after the other.
+use Rattle.std.specs.Prelude.{◌≡◌, ◌==◌, ℕ, List, [], ◌∷◌, ◌++◌, map, Bool, Option, Some, Ok}
+use Rattle.std.specs.List.{slice_get, filter}
+use Rattle.c8_game.specs.Rules.{Rules}
+use Rattle.c8_wire.specs.Packet.{Packet}
+use Rattle.c8_wire.specs.Spelling.{Spells}
+use Rattle.c8_wire.specs.checked.Read.{read}
+use Rattle.c8_peer.specs.State as calls
+use Rattle.c8_peer.specs.State.{State, Call, Reply, Said}
+use Rattle.c8_peer.specs.Steps.{Luck}
+use Rattle.c8_peer.specs.Opening.{Opening}
+use Rattle.c8_peer.specs.Runs.{Does, Opens, IsDone}
+use Rattle.c8_world.specs.World.{World, start, never_opened, peer_of, Act, Open, Tick, Say, Give, Leave, Decide, player_of, Event, Do, Answer, Chain}
+use Rattle.c8_world.specs.Agreement.{IsPlayer}
+use Rattle.c8_world.specs.Headline.{IsHeadline}
+
+-- what a player's peer did, and the bytes that it said or heard in that; none in any other act
+pub record Note : Type 0 where
+  pub act : Act
+  pub bytes : List ℕ
+
+-- ---- a log
+
+abbrev pub said_in : Act → List ℕ → List (List ℕ)
+said_in (Open p) bytes = []
+said_in (Tick p keys) bytes = []
+said_in (Say p to what) bytes = bytes ∷ []
+said_in (Give number p) bytes = []
+said_in (Leave leaver) bytes = []
+said_in (Decide leaver) bytes = []
+
+-- all that was said, the first with the number 0
+abbrev pub said_by : List Note → List (List ℕ)
+said_by [] = []
+said_by (n ∷ log) = said_in n.act n.bytes ++ said_by log
+
+-- what is delivered is what was said under this number
+abbrev pub WasSaid : List (List ℕ) → Act → List ℕ → Type 0
+WasSaid said (Open p) bytes = Unit {0}
+WasSaid said (Tick p keys) bytes = Unit {0}
+WasSaid said (Say p to what) bytes = Unit {0}
+WasSaid said (Give number p) bytes = slice_get said number ≡ Some bytes
+WasSaid said (Leave leaver) bytes = Unit {0}
+WasSaid said (Decide leaver) bytes = Unit {0}
+
+-- A note may follow those of a log: its peer is a player of the game, and what it delivers was said before.
+pub record MayFollow (rules : Rules) (log : List Note) (n : Note) : Type 0 where
+  pub plays : IsPlayer rules (player_of n.act)
+  pub was_said : WasSaid (said_by log) n.act n.bytes
+
+abbrev pub IsLawful : Rules → List Note → Type 0
+IsLawful rules log = (front rest : List Note) (n : Note) → log ≡ front ++ n ∷ rest → MayFollow rules front n
+
+-- the notes of one player's peer, in their order
+abbrev pub part_of : ℕ → List Note → List Note
+part_of p log = filter (λ n. player_of n.act == p) log
+
+-- ---- what a peer does by its part of a log
+
+-- A call at a peer, with an answer of which this holds: one deed, with whatever luck of the disk.
+pub record IsCalled (rules : Rules) (room p : ℕ) (s : State) (call : Call) (Tells : Option Reply → Type 0) (t : State) : Type 0 where
+  pub luck : Luck
+  pub answer : Option Reply
+  pub done : IsDone rules room p s (Does call luck) answer t
+  pub tells : Tells answer
+
+-- An opening of a peer: one deed, whatever becomes of it.
+pub record IsOpenedAnew (rules : Rules) (room p : ℕ) (s t : State) : Type 0 where
+  pub finds : Bool
+  pub opening : Opening
+  pub answer : Option Reply
+  pub done : IsDone rules room p s (Opens finds opening) answer t
+
+abbrev pub IsAnything : Option Reply → Type 0
+IsAnything answer = Unit {0}
+
+-- something is said, and these bytes spell it
+abbrev pub IsSpelled : List ℕ → Option Reply → Type 0
+IsSpelled bytes answer = (packet : Packet) × (answer ≡ Some (Said (Ok packet))) × Spells bytes packet
+
+-- What is noted of player p's peer makes of it this state: a Say says its bytes, and a Give delivers what its bytes say.
+abbrev pub Follows : Rules → ℕ → ℕ → State → Act → List ℕ → State → Type 0
+Follows rules room p s (Open q) bytes t = IsOpenedAnew rules room p s t
+Follows rules room p s (Tick q keys) bytes t = IsCalled rules room p s (calls.Tick keys) IsAnything t
+Follows rules room p s (Say q to what) bytes t = IsCalled rules room p s (calls.Say to what) (IsSpelled bytes) t
+Follows rules room p s (Give number q) bytes t = IsCalled rules room p s (calls.Deliver (read bytes)) IsAnything t
+Follows rules room p s (Leave leaver) bytes t = IsCalled rules room p s (calls.Leave leaver) IsAnything t
+Follows rules room p s (Decide leaver) bytes t = IsCalled rules room p s (calls.Decide leaver) IsAnything t
+
+-- a list of notes of one peer leads from a state to another
+abbrev pub Leads : Rules → ℕ → ℕ → State → List Note → State → Type 0
+Leads rules room p s [] t = t ≡ s
+Leads rules room p s (n ∷ notes) t = (u : State) × Follows rules room p s n.act n.bytes u × Leads rules room p u notes t
+
+-- each player's state is one that its part of the log leads to, from before its peer was first opened
+abbrev pub AreLed : Rules → ℕ → List Note → (ℕ → State) → Type 0
+AreLed rules room log states = (p : ℕ) → IsPlayer rules p → Leads rules room p never_opened (part_of p log) (states p)
+
+-- ---- a log is a list of events of a world
+
+abbrev pub event_of : Note → Event
+event_of n = Do n.act
+
+-- these bytes spell these packets, one by one
+abbrev pub AreSpelled : List (List ℕ) → List Packet → Type 0
+AreSpelled [] [] = Unit {0}
+AreSpelled [] (packet ∷ packets) = ⊥
+AreSpelled (bytes ∷ rest) [] = ⊥
+AreSpelled (bytes ∷ rest) (packet ∷ packets) = Spells bytes packet × AreSpelled rest packets
+
+-- The events of the notes lead from a world to this one, in which that was said which these bytes spell.
+pub record GoesOn (rules : Rules) (room : ℕ) (w : World) (notes : List Note) (said : List (List ℕ)) (v : World) : Type 0 where
+  pub answers : List Answer
+  pub chain : Chain rules room w (map event_of notes) answers v
+  pub spelled : AreSpelled said v.said
+
+-- A world that the log leads to, with these peers.
+pub record IsWorld (rules : Rules) (room : ℕ) (log : List Note) (states : ℕ → State) : Type 0 where
+  pub world : World
+  pub goes : GoesOn rules room (start rules) log (said_by log) world
+  pub peers : (p : ℕ) → IsPlayer rules p → peer_of world p ≡ states p
+
+-- Two moments of a log, after a front of it and in the end, with these peers in the end: the world of the first goes on to that of
+-- the second, and all is so of them that is so of any two moments of a match.
+pub record AreMoments (rules : Rules) (room : ℕ) (front rest : List Note) (states : ℕ → State) : Type 0 where
+  pub earlier : World
+  pub later : World
+  pub begins : GoesOn rules room (start rules) front (said_by front) earlier
+  pub goes : GoesOn rules room earlier rest (said_by (front ++ rest)) later
+  pub peers : (p : ℕ) → IsPlayer rules p → peer_of later p ≡ states p
+  pub headline : IsHeadline rules room earlier later

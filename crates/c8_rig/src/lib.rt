@@ -1,0 +1,7 @@
+//! Peers in threads of their own, over an ether that loses, repeats and reorders as it likes; and the theorem that they agree.
+//!
+//! `laws` has the theorem: a log that is lawful, each peer's part of which leads to the state that the peer is in, is a list
+//! of events of a world (`specs/Log.antt`).
+#![tactic(auto)]
+
+pub mod laws;
