@@ -1,2 +1,4 @@
 pub mod Silent
 pub mod Logs
+pub mod Moves
+pub mod TokenMoves

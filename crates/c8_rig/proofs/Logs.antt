@@ -20,7 +20,7 @@ use Rattle.c8_world.specs.Agreement.{IsPlayer}
 use Rattle.c8_world.specs.Headline.{IsHeadline}
 use Rattle.c8_world.proofs.Worlds.{placed, peer_here, peer_there, peer_at_start}
 use Rattle.c8_world.proofs.Openings.{plays_so}
-use Rattle.c8_rig.specs.Log.{Note, said_in, said_by, WasSaid, MayFollow, IsLawful, part_of, IsCalled, IsOpenedAnew, IsAnything, IsSpelled, Follows, Leads, AreLed, event_of, AreSpelled, GoesOn, IsWorld, AreMoments}
+use Rattle.c8_rig.specs.Log.{NoteValue, said_in, said_by, WasSaid, MayFollow, IsLawful, part_of, IsCalled, IsOpenedAnew, IsAnything, IsSpelled, Follows, Leads, AreLed, event_of, AreSpelled, GoesOn, IsWorld, AreMoments}
 use Rattle.c8_rig.proofs.Silent.{IsNoSaying, step_silent, down_silent, opened_silent}
 
 -- ---- what an act makes of a world
@@ -78,7 +78,7 @@ open_becomes rules room w p h size plays other = rw (plays_so rules p plays) (mo
 -- ---- a note's turn
 
 -- An event of a note: the peer becomes this, the others stay, and what is said is what the note has.
-record Turns (rules : Rules) (room : ℕ) (w : World) (n : Note) (t : State) : Type 0 where
+record Turns (rules : Rules) (room : ℕ) (w : World) (n : NoteValue) (t : State) : Type 0 where
   world : World
   answer : Answer
   can : CanHappen rules room w (event_of n) answer world
@@ -90,7 +90,7 @@ record Turns (rules : Rules) (room : ℕ) (w : World) (n : Note) (t : State) : T
   spelled : AreSpelled (said_in n.act n.bytes) new
 
 -- what a call at a peer makes of the world, where its note says nothing
-silent_turns : (rules : Rules) (room : ℕ) (w : World) (n : Note) (t : State) (call : Call) → length w.peers ≡ rules.players → IsPlayer rules (player_of n.act)
+silent_turns : (rules : Rules) (room : ℕ) (w : World) (n : NoteValue) (t : State) (call : Call) → length w.peers ≡ rules.players → IsPlayer rules (player_of n.act)
     → IsNoSaying call → said_in n.act n.bytes ≡ []
     → ((luck : Luck) → (answer : Answer) × CanHappen rules room w (event_of n) answer (call_at rules w (player_of n.act) call luck).world)
     → IsCalled rules room (player_of n.act) (peer_of w (player_of n.act)) call IsAnything t → Turns rules room w n t
@@ -199,17 +199,17 @@ turn reads rules room w (Decide leaver) bytes said t size plays are was follows 
 
 -- ---- a log, note by note
 
-part_mine : (n : Note) (log : List Note) → part_of (player_of n.act) (n ∷ log) ≡ n ∷ part_of (player_of n.act) log
+part_mine : (n : NoteValue) (log : List NoteValue) → part_of (player_of n.act) (n ∷ log) ≡ n ∷ part_of (player_of n.act) log
 part_mine n log = rw (eq-eqb (player_of n.act) (player_of n.act) refl) refl
 
-part_other : (q : ℕ) (n : Note) (log : List Note) → q ≢ player_of n.act → part_of q (n ∷ log) ≡ part_of q log
+part_other : (q : ℕ) (n : NoteValue) (log : List NoteValue) → q ≢ player_of n.act → part_of q (n ∷ log) ≡ part_of q log
 part_other q n log apart = rw (ne_eqb (player_of n.act) q (λ e. apart (sym e))) refl
 
-said_joined : (front rest : List Note) → said_by (front ++ rest) ≡ said_by front ++ said_by rest
+said_joined : (front rest : List NoteValue) → said_by (front ++ rest) ≡ said_by front ++ said_by rest
 said_joined [] rest = refl
 said_joined (n ∷ front) rest = ap (λ (said : List (List ℕ)). said_in n.act n.bytes ++ said) (said_joined front rest) ∙ sym (append_assoc (said_in n.act n.bytes) (said_by front) (said_by rest))
 
-said_with : (front : List Note) (n : Note) → said_by (front ++ n ∷ []) ≡ said_by front ++ said_in n.act n.bytes
+said_with : (front : List NoteValue) (n : NoteValue) → said_by (front ++ n ∷ []) ≡ said_by front ++ said_in n.act n.bytes
 said_with front n = said_joined front (n ∷ []) ∙ ap (λ (said : List (List ℕ)). said_by front ++ said) (append-nil (said_in n.act n.bytes))
 
 spelled_joined : (bytes more : List (List ℕ)) (packets others : List Packet) → AreSpelled bytes packets → AreSpelled more others → AreSpelled (bytes ++ more) (packets ++ others)
@@ -219,14 +219,14 @@ spelled_joined (first ∷ rest) more [] others are also = absurd are
 spelled_joined (first ∷ rest) more (packet ∷ packets) others are also = (are.0, spelled_joined rest more packets others are.1 also)
 
 -- Some notes have passed: what is left of each peer's part leads on from where it is.
-record Passes (rules : Rules) (room : ℕ) (states : ℕ → State) (w : World) (rest more : List Note) (said : List (List ℕ)) : Type 0 where
+record Passes (rules : Rules) (room : ℕ) (states : ℕ → State) (w : World) (rest more : List NoteValue) (said : List (List ℕ)) : Type 0 where
   world : World
   goes : GoesOn rules room w rest said world
   size : length world.peers ≡ rules.players
   left : (p : ℕ) → IsPlayer rules p → Leads rules room p (peer_of world p) (part_of p more) (states p)
 
-pass : AreRead → (rules : Rules) (room : ℕ) (states : ℕ → State) (front rest more : List Note) (w : World) → length w.peers ≡ rules.players
-    → IsLawful rules (front ++ (rest ++ more)) → AreSpelled (said_by front) w.said
+pass : AreRead → (rules : Rules) (room : ℕ) (states : ℕ → State) (front rest more : List NoteValue) (w : World) → length w.peers ≡ rules.players
+    → IsLawful rules.players (front ++ (rest ++ more)) → AreSpelled (said_by front) w.said
     → ((p : ℕ) → IsPlayer rules p → Leads rules room p (peer_of w p) (part_of p (rest ++ more)) (states p))
     → Passes rules room states w rest more (said_by (front ++ rest))
 pass reads rules room states front [] more w size lawful are leads = record {
@@ -237,26 +237,27 @@ pass reads rules room states front [] more w size lawful are leads = record {
 }
 pass reads rules room states front (n ∷ rest) more w size lawful are leads =
     let p : ℕ = player_of n.act in
-    let may : MayFollow rules front n = lawful front (rest ++ more) n refl in
+    let may : MayFollow rules.players front n = lawful front (rest ++ more) n refl in
+    let plays : IsPlayer rules p = record { from_one = may.from_one; in_game = may.in_game } in
     let mine : Leads rules room p (peer_of w p) (n ∷ part_of p (rest ++ more)) (states p) =
-      subst (λ (notes : List Note). Leads rules room p (peer_of w p) notes (states p)) (part_mine n (rest ++ more)) (leads p may.plays) in
-    let turns = turn reads rules room w n.act n.bytes (said_by front) mine.0 size may.plays are may.was_said mine.1 in
-    let joins : (xs : List Note) → (front ++ n ∷ []) ++ xs ≡ front ++ n ∷ xs = λ xs. append_assoc front (n ∷ []) xs in
+      subst (λ (notes : List NoteValue). Leads rules room p (peer_of w p) notes (states p)) (part_mine n (rest ++ more)) (leads p plays) in
+    let turns = turn reads rules room w n.act n.bytes (said_by front) mine.0 size plays are may.was_said mine.1 in
+    let joins : (xs : List NoteValue) → (front ++ n ∷ []) ++ xs ≡ front ++ n ∷ xs = λ xs. append_assoc front (n ∷ []) xs in
     let next = pass reads rules room states (front ++ n ∷ []) rest more turns.world (turns.size ∙ size)
-        (subst (λ (log : List Note). IsLawful rules log) (sym (joins (rest ++ more))) lawful)
+        (subst (λ (log : List NoteValue). IsLawful rules.players log) (sym (joins (rest ++ more))) lawful)
         (rw (said_with front n, turns.said) (spelled_joined (said_by front) (said_in n.act n.bytes) w.said turns.new are turns.spelled))
         (λ q plays. elim (cases_eq q p) [
           | inl same ↦ subst (λ (x : ℕ). Leads rules room x (peer_of turns.world x) (part_of x (rest ++ more)) (states x)) (sym same)
               (subst (λ (s : State). Leads rules room p s (part_of p (rest ++ more)) (states p)) (sym turns.here) mine.2)
           | inr apart ↦ subst (λ (s : State). Leads rules room q s (part_of q (rest ++ more)) (states q)) (sym (turns.there q plays apart))
-              (subst (λ (notes : List Note). Leads rules room q (peer_of w q) notes (states q)) (part_other q n (rest ++ more) apart) (leads q plays))
+              (subst (λ (notes : List NoteValue). Leads rules room q (peer_of w q) notes (states q)) (part_other q n (rest ++ more) apart) (leads q plays))
         ]) in
     record {
       world = next.world;
       goes = record {
         answers = turns.answer ∷ next.goes.answers;
         chain = (turns.world, turns.can, next.goes.chain);
-        spelled = subst (λ (log : List Note). AreSpelled (said_by log) next.world.said) (joins rest) next.goes.spelled;
+        spelled = subst (λ (log : List NoteValue). AreSpelled (said_by log) next.world.said) (joins rest) next.goes.spelled;
       };
       size = next.size;
       left = next.left;
@@ -264,7 +265,7 @@ pass reads rules room states front (n ∷ rest) more w size lawful are leads =
 
 -- ---- the laws
 
-pub log_world : AreRead → (rules : Rules) (room : ℕ) (log : List Note) (states : ℕ → State) → IsLawful rules log → AreLed rules room log states → IsWorld rules room log states
+pub log_world : AreRead → (rules : Rules) (room : ℕ) (log : List NoteValue) (states : ℕ → State) → IsLawful rules.players log → AreLed rules room log states → IsWorld rules room log states
 log_world reads rules room log states lawful led =
     let passes = pass reads rules room states [] log [] (start rules) (length-replicate rules.players never_opened) (rw (append-nil log) lawful) tt
         (λ p plays. rw (peer_at_start rules p, append-nil log) (led p plays)) in
@@ -274,8 +275,8 @@ abbrev AreHeadlines : Type 0
 AreHeadlines = (rules : Rules) (room : ℕ) (w v : World) (events : List Event) (answers : List Answer) → AreInRange rules → room < 2 ^ 64
     → IsReached rules room w → Chain rules room w events answers v → IsHeadline rules room w v
 
-pub moments_of_log : AreRead → AreHeadlines → (rules : Rules) (room : ℕ) (front rest : List Note) (states : ℕ → State) → AreInRange rules → room < 2 ^ 64
-    → IsLawful rules (front ++ rest) → AreLed rules room (front ++ rest) states → AreMoments rules room front rest states
+pub moments_of_log : AreRead → AreHeadlines → (rules : Rules) (room : ℕ) (front rest : List NoteValue) (states : ℕ → State) → AreInRange rules → room < 2 ^ 64
+    → IsLawful rules.players (front ++ rest) → AreLed rules room (front ++ rest) states → AreMoments rules room front rest states
 moments_of_log reads agree rules room front rest states range few lawful led =
     let first = pass reads rules room states [] front rest (start rules) (length-replicate rules.players never_opened) lawful tt (λ p plays. rw (peer_at_start rules p) (led p plays)) in
     let second = pass reads rules room states front rest [] first.world first.size (rw (append-nil rest) lawful) first.goes.spelled (λ p plays. rw (append-nil rest) (first.left p plays)) in

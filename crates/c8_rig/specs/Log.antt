@@ -1,5 +1,5 @@
 -- The log of peers that run in threads of their own: what each of them did, noted one after the other.
-use Rattle.std.specs.Prelude.{◌≡◌, ◌==◌, ℕ, List, [], ◌∷◌, ◌++◌, map, Bool, Option, Some, Ok}
+use Rattle.std.specs.Prelude.{◌≡◌, ◌≤◌, ◌==◌, ℕ, List, [], ◌∷◌, ◌++◌, map, Bool, Option, Some, Ok}
 use Rattle.std.specs.List.{slice_get, filter}
 use Rattle.c8_game.specs.Rules.{Rules}
 use Rattle.c8_wire.specs.Packet.{Packet}
@@ -15,7 +15,7 @@ use Rattle.c8_world.specs.Agreement.{IsPlayer}
 use Rattle.c8_world.specs.Headline.{IsHeadline}
 
 -- what a player's peer did, and the bytes that it said or heard in that; none in any other act
-pub record Note : Type 0 where
+pub record NoteValue : Type 0 where
   pub act : Act
   pub bytes : List ℕ
 
@@ -30,7 +30,7 @@ said_in (Leave leaver) bytes = []
 said_in (Decide leaver) bytes = []
 
 -- all that was said, the first with the number 0
-abbrev pub said_by : List Note → List (List ℕ)
+abbrev pub said_by : List NoteValue → List (List ℕ)
 said_by [] = []
 said_by (n ∷ log) = said_in n.act n.bytes ++ said_by log
 
@@ -43,16 +43,17 @@ WasSaid said (Give number p) bytes = slice_get said number ≡ Some bytes
 WasSaid said (Leave leaver) bytes = Unit {0}
 WasSaid said (Decide leaver) bytes = Unit {0}
 
--- A note may follow those of a log: its peer is a player of the game, and what it delivers was said before.
-pub record MayFollow (rules : Rules) (log : List Note) (n : Note) : Type 0 where
-  pub plays : IsPlayer rules (player_of n.act)
+-- A note may follow those of a log of so many players: its peer is one of theirs, and what it delivers was said before.
+pub record MayFollow (players : ℕ) (log : List NoteValue) (n : NoteValue) : Type 0 where
+  pub from_one : 1 ≤ player_of n.act
+  pub in_game : player_of n.act ≤ players
   pub was_said : WasSaid (said_by log) n.act n.bytes
 
-abbrev pub IsLawful : Rules → List Note → Type 0
-IsLawful rules log = (front rest : List Note) (n : Note) → log ≡ front ++ n ∷ rest → MayFollow rules front n
+abbrev pub IsLawful : ℕ → List NoteValue → Type 0
+IsLawful players log = (front rest : List NoteValue) (n : NoteValue) → log ≡ front ++ n ∷ rest → MayFollow players front n
 
 -- the notes of one player's peer, in their order
-abbrev pub part_of : ℕ → List Note → List Note
+abbrev pub part_of : ℕ → List NoteValue → List NoteValue
 part_of p log = filter (λ n. player_of n.act == p) log
 
 -- ---- what a peer does by its part of a log
@@ -88,17 +89,17 @@ Follows rules room p s (Leave leaver) bytes t = IsCalled rules room p s (calls.L
 Follows rules room p s (Decide leaver) bytes t = IsCalled rules room p s (calls.Decide leaver) IsAnything t
 
 -- a list of notes of one peer leads from a state to another
-abbrev pub Leads : Rules → ℕ → ℕ → State → List Note → State → Type 0
+abbrev pub Leads : Rules → ℕ → ℕ → State → List NoteValue → State → Type 0
 Leads rules room p s [] t = t ≡ s
 Leads rules room p s (n ∷ notes) t = (u : State) × Follows rules room p s n.act n.bytes u × Leads rules room p u notes t
 
 -- each player's state is one that its part of the log leads to, from before its peer was first opened
-abbrev pub AreLed : Rules → ℕ → List Note → (ℕ → State) → Type 0
+abbrev pub AreLed : Rules → ℕ → List NoteValue → (ℕ → State) → Type 0
 AreLed rules room log states = (p : ℕ) → IsPlayer rules p → Leads rules room p never_opened (part_of p log) (states p)
 
 -- ---- a log is a list of events of a world
 
-abbrev pub event_of : Note → Event
+abbrev pub event_of : NoteValue → Event
 event_of n = Do n.act
 
 -- these bytes spell these packets, one by one
@@ -109,20 +110,20 @@ AreSpelled (bytes ∷ rest) [] = ⊥
 AreSpelled (bytes ∷ rest) (packet ∷ packets) = Spells bytes packet × AreSpelled rest packets
 
 -- The events of the notes lead from a world to this one, in which that was said which these bytes spell.
-pub record GoesOn (rules : Rules) (room : ℕ) (w : World) (notes : List Note) (said : List (List ℕ)) (v : World) : Type 0 where
+pub record GoesOn (rules : Rules) (room : ℕ) (w : World) (notes : List NoteValue) (said : List (List ℕ)) (v : World) : Type 0 where
   pub answers : List Answer
   pub chain : Chain rules room w (map event_of notes) answers v
   pub spelled : AreSpelled said v.said
 
 -- A world that the log leads to, with these peers.
-pub record IsWorld (rules : Rules) (room : ℕ) (log : List Note) (states : ℕ → State) : Type 0 where
+pub record IsWorld (rules : Rules) (room : ℕ) (log : List NoteValue) (states : ℕ → State) : Type 0 where
   pub world : World
   pub goes : GoesOn rules room (start rules) log (said_by log) world
   pub peers : (p : ℕ) → IsPlayer rules p → peer_of world p ≡ states p
 
 -- Two moments of a log, after a front of it and in the end, with these peers in the end: the world of the first goes on to that of
 -- the second, and all is so of them that is so of any two moments of a match.
-pub record AreMoments (rules : Rules) (room : ℕ) (front rest : List Note) (states : ℕ → State) : Type 0 where
+pub record AreMoments (rules : Rules) (room : ℕ) (front rest : List NoteValue) (states : ℕ → State) : Type 0 where
   pub earlier : World
   pub later : World
   pub begins : GoesOn rules room (start rules) front (said_by front) earlier

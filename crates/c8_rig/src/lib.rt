@@ -5,3 +5,8 @@
 #![tactic(auto)]
 
 pub mod laws;
+mod note;
+mod tokens;
+mod views;
+
+pub use note::Note;

@@ -1,0 +1,4 @@
+use Rattle.c8_rig.proofs.tokens.Tokens.add.Given as goal
+
+abbrev pub ghosts-enter : goal.ghosts-enter
+ghosts-enter a = record { note = a._note.now }

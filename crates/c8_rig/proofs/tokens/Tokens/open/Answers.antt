@@ -1,0 +1,6 @@
+use Rattle.std.proofs.Common.{[]}
+use Rattle.c8_rig.proofs.Moves.{begins_with}
+use Rattle.c8_rig.proofs.tokens.Tokens.open.Goals as goal
+
+pub of_words-requires : goal.of_words-requires
+of_words-requires c = begins_with _ []

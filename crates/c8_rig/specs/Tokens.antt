@@ -1,0 +1,16 @@
+-- What the clauses of an ether see of its tokens.
+use Rattle.std.specs.Prelude.{ℕ, List}
+use Rattle.atomic_table.specs.Seated.{TableId}
+use Rattle.c8_rig.specs.Log.{NoteValue}
+
+-- The keeper: of which ether it is, how many players have an entry, and the whole log.
+pub record KeeperValue : Type 0 where
+  pub ether : TableId
+  pub players : ℕ
+  pub log : List NoteValue
+
+-- An entry: of which ether it is, whose, and what was noted of the player's peer.
+pub record EntryValue : Type 0 where
+  pub ether : TableId
+  pub player : ℕ
+  pub notes : List NoteValue
