@@ -1,4 +1,5 @@
 pub mod Silent
 pub mod Logs
+pub mod Growth
 pub mod Moves
 pub mod TokenMoves

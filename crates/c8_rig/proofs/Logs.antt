@@ -209,7 +209,7 @@ said_joined : (front rest : List NoteValue) → said_by (front ++ rest) ≡ said
 said_joined [] rest = refl
 said_joined (n ∷ front) rest = ap (λ (said : List (List ℕ)). said_in n.act n.bytes ++ said) (said_joined front rest) ∙ sym (append_assoc (said_in n.act n.bytes) (said_by front) (said_by rest))
 
-said_with : (front : List NoteValue) (n : NoteValue) → said_by (front ++ n ∷ []) ≡ said_by front ++ said_in n.act n.bytes
+pub said_with : (front : List NoteValue) (n : NoteValue) → said_by (front ++ n ∷ []) ≡ said_by front ++ said_in n.act n.bytes
 said_with front n = said_joined front (n ∷ []) ∙ ap (λ (said : List (List ℕ)). said_by front ++ said) (append-nil (said_in n.act n.bytes))
 
 spelled_joined : (bytes more : List (List ℕ)) (packets others : List Packet) → AreSpelled bytes packets → AreSpelled more others → AreSpelled (bytes ++ more) (packets ++ others)

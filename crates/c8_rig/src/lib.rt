@@ -4,9 +4,11 @@
 //! of events of a world (`specs/Log.antt`).
 #![tactic(auto)]
 
+mod ether;
 pub mod laws;
 mod note;
 mod tokens;
 mod views;
 
+pub use ether::{Entry, Room};
 pub use note::Note;

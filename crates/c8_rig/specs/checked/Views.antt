@@ -1,5 +1,5 @@
 -- Checked, not believed: how a token has what clauses see of it.
-use Rattle.std.specs.Prelude.{◌≡◌, ℕ, List, []}
+use Rattle.std.specs.Prelude.{◌≡◌, ℕ, List, [], Option, Some, None}
 use Rattle.atomic_table.specs.Table.{Me}
 use Rattle.atomic_table.specs.Seated.{TableId}
 use Rattle.c8_rig.specs.declared.views.View.{View}
@@ -28,3 +28,12 @@ own_value ether (Own p own) = record { ether = ether; player = p; notes = own }
 own_value ether (Both n all p own) = record { ether = ether; player = p; notes = own }
 own_value ether (Keeper n all) = record { ether = ether; player = 0; notes = [] }
 own_value ether Spent = record { ether = ether; player = 0; notes = [] }
+
+-- the name of no ether
+abbrev pub no_ether : TableId
+no_ether = record { words = 0; slots = 0; views_name = 0; atom = 0; block = 0; offset = 0; slot_names = [] }
+
+-- of an entry: its player, the player's notes, and its part, which it always has
+abbrev pub entry_value : ℕ → List NoteValue → Option EntryValue → EntryValue
+entry_value player notes (Some part) = record { ether = part.ether; player = player; notes = notes }
+entry_value player notes None = record { ether = no_ether; player = player; notes = notes }

@@ -1,0 +1,57 @@
+-- A lawful log stays lawful with a note more that may follow it.
+use Rattle.std.proofs.Common.{◌≡◌, ◌≤◌, zero, suc, length, arith, ◌⊎◌, inl, inr, ⊎_elim, ℕ, List, [], ◌∷◌, ◌++◌, refl, sym, ap, subst, ◌∙◌}
+use Rattle.std.specs.List.{All}
+use Rattle.std.proofs.lemmas.List.Elements.{All-append}
+use Rattle.c8_world.specs.World.{Act, Open, Tick, Say, Give, Leave, Decide, player_of}
+use Rattle.c8_rig.specs.Log.{NoteValue, said_in, said_by, WasSaid, MayFollow, IsLawful}
+use Rattle.c8_rig.proofs.Logs.{said_with}
+
+abbrev Ends : List NoteValue → List NoteValue → List NoteValue → NoteValue → NoteValue → Type 0
+Ends log front rest n m = (log ≡ front) × (n ≡ m)
+
+abbrev GoesBeyond : List NoteValue → List NoteValue → List NoteValue → NoteValue → NoteValue → Type 0
+GoesBeyond log front rest n m = (more : List NoteValue) × (log ≡ front ++ m ∷ more)
+
+-- a note of a list that ends with another one is that one, or stands before it
+last_or_before : (log front rest : List NoteValue) (n m : NoteValue) → log ++ n ∷ [] ≡ front ++ m ∷ rest → Ends log front rest n m ⊎ GoesBeyond log front rest n m
+last_or_before [] [] rest n m e = inl (refl, cc)
+last_or_before [] (x ∷ []) rest n m e = absurd cc
+last_or_before [] (x ∷ y ∷ front) rest n m e = absurd cc
+last_or_before (y ∷ log) [] rest n m e = inr (log, let same : y ≡ m = cc in ap (λ (x : NoteValue). x ∷ log) same)
+last_or_before (y ∷ log) (x ∷ front) rest n m e =
+    let head : y ≡ x = cc in
+    let tail : log ++ n ∷ [] ≡ front ++ m ∷ rest = cc in
+    ⊎_elim
+    (λ (l : Ends log front rest n m). inl ((λ i. head i ∷ l.0 i), l.1))
+    (λ (b : GoesBeyond log front rest n m). inr (b.0, λ i. head i ∷ b.1 i))
+    (last_or_before log front rest n m tail)
+
+pub lawful_with : (players : ℕ) (log : List NoteValue) (n : NoteValue) → IsLawful players log → MayFollow players log n → IsLawful players (log ++ n ∷ [])
+lawful_with players log n lawful may front rest m e =
+    ⊎_elim
+    (λ (l : Ends log front rest n m). subst (λ (x : List NoteValue × NoteValue). MayFollow players x.0 x.1) (λ i. (l.0 i, l.1 i)) may)
+    (λ (b : GoesBeyond log front rest n m). lawful front b.0 m b.1)
+    (last_or_before log front rest n m e)
+
+one : (most : ℕ) (bytes : List ℕ) → length bytes ≤ most → All (λ these. length these ≤ most) (bytes ∷ [])
+one most bytes few zero d within = few
+one most bytes few (suc k) d within = absurd (omega (arith, within))
+
+short_said : (most : ℕ) (act : Act) (bytes : List ℕ) → length bytes ≤ most → All (λ these. length these ≤ most) (said_in act bytes)
+short_said most (Open p) bytes few = λ k d none. absurd (omega (arith, none))
+short_said most (Tick p keys) bytes few = λ k d none. absurd (omega (arith, none))
+short_said most (Say p to what) bytes few = one most bytes few
+short_said most (Give number p) bytes few = λ k d none. absurd (omega (arith, none))
+short_said most (Leave leaver) bytes few = λ k d none. absurd (omega (arith, none))
+short_said most (Decide leaver) bytes few = λ k d none. absurd (omega (arith, none))
+
+-- what a book has with a note more
+pub book_with : (players most : ℕ) (log log' : List NoteValue) (said said' : List (List ℕ)) (n : NoteValue) → log' ≡ log ++ n ∷ [] → said' ≡ said ++ said_in n.act n.bytes
+    → said ≡ said_by log → All (λ bytes. length bytes ≤ most) said → IsLawful players log
+    → 1 ≤ player_of n.act → player_of n.act ≤ players → WasSaid (said_by log) n.act n.bytes → length n.bytes ≤ most
+    → (said' ≡ said_by log') × All (λ bytes. length bytes ≤ most) said' × IsLawful players log'
+book_with players most log log' said said' n more also is short lawful from_one in_game was few = (
+  also ∙ ap (λ (x : List (List ℕ)). x ++ said_in n.act n.bytes) is ∙ sym (said_with log n) ∙ ap said_by (sym more),
+  subst (λ (x : List (List ℕ)). All (λ bytes. length bytes ≤ most) x) (sym also) (All-append (λ bytes. length bytes ≤ most) said (said_in n.act n.bytes) short (short_said most n.act n.bytes few)),
+  subst (λ (x : List NoteValue). IsLawful players x) (sym more) (lawful_with players log n lawful (record { from_one = from_one; in_game = in_game; was_said = was })),
+)
