@@ -1,9 +1,13 @@
 -- A lawful log stays lawful with a note more that may follow it.
-use Rattle.std.proofs.Common.{◌≡◌, ◌≤◌, zero, suc, length, arith, ◌⊎◌, inl, inr, ⊎_elim, ℕ, List, [], ◌∷◌, ◌++◌, refl, sym, ap, subst, ◌∙◌}
-use Rattle.std.specs.List.{All}
+use Rattle.std.proofs.Common.{◌≡◌, ◌≤◌, ◌<◌, Some, zero, suc, length, arith, ◌⊎◌, inl, inr, ⊎_elim, ℕ, List, [], ◌∷◌, ◌++◌, refl, sym, ap, subst, ◌∙◌}
+use Rattle.std.specs.Prelude.{take, slice_index_or}
+use Rattle.std.specs.List.{All, slice_get}
+use Rattle.std.proofs.Math.Seq.{take-append_seam}
+use Rattle.std.proofs.lemmas.Option.{slice_get-get_or}
+use Rattle.std.proofs.lemmas.Bool.{cases_eq, eq-eqb, ne_eqb}
 use Rattle.std.proofs.lemmas.List.Elements.{All-append}
 use Rattle.c8_world.specs.World.{Act, Open, Tick, Say, Give, Leave, Decide, player_of}
-use Rattle.c8_rig.specs.Log.{NoteValue, said_in, said_by, WasSaid, MayFollow, IsLawful}
+use Rattle.c8_rig.specs.Log.{NoteValue, said_in, said_by, WasSaid, MayFollow, IsLawful, part_of}
 use Rattle.c8_rig.proofs.Logs.{said_with}
 
 abbrev Ends : List NoteValue → List NoteValue → List NoteValue → NoteValue → NoteValue → Type 0
@@ -55,3 +59,37 @@ book_with players most log log' said said' n more also is short lawful from_one 
   subst (λ (x : List (List ℕ)). All (λ bytes. length bytes ≤ most) x) (sym also) (All-append (λ bytes. length bytes ≤ most) said (said_in n.act n.bytes) short (short_said most n.act n.bytes few)),
   subst (λ (x : List NoteValue). IsLawful players x) (sym more) (lawful_with players log n lawful (record { from_one = from_one; in_game = in_game; was_said = was })),
 )
+
+-- ---- a draw
+
+nothing : (said : List (List ℕ)) → length said ≡ 0 → said ≡ []
+nothing [] none = refl
+nothing (bytes ∷ said) none = absurd (omega (arith, none))
+
+no_saying : (act : Act) (bytes : List ℕ) (more : List (List ℕ)) → said_in act bytes ++ more ≡ [] → (said_in act bytes ≡ []) × (more ≡ [])
+no_saying (Open p) bytes more e = (refl, e)
+no_saying (Tick p keys) bytes more e = (refl, e)
+no_saying (Say p to what) bytes more e = absurd cc
+no_saying (Give number p) bytes more e = (refl, e)
+no_saying (Leave leaver) bytes more e = (refl, e)
+no_saying (Decide leaver) bytes more e = (refl, e)
+
+-- where nothing was said nobody has said anything
+silent_part : (p : ℕ) (log : List NoteValue) → said_by log ≡ [] → said_by (part_of p log) ≡ []
+silent_part p [] e = refl
+silent_part p (n ∷ log) e =
+    let parts = no_saying n.act n.bytes (said_by log) e in
+    elim (cases_eq (player_of n.act) p) [
+      | inl same ↦ rw (eq-eqb (player_of n.act) p same, parts.0) (silent_part p log parts.1)
+      | inr apart ↦ rw (ne_eqb (player_of n.act) p apart) (silent_part p log parts.1)
+    ]
+
+pub nobody_said : (p : ℕ) (log notes : List NoteValue) (said : List (List ℕ)) → length said ≡ 0 → said ≡ said_by log → notes ≡ part_of p log → said_by notes ≡ []
+nobody_said p log notes said none is part = ap said_by part ∙ silent_part p log (sym is ∙ nothing said none)
+
+-- what is copied to the front of a buffer is what stands at its number
+pub drawn : (said pool : List (List ℕ)) (number : ℕ) (bytes copied rest : List ℕ) → pool ≡ said → number < length pool → bytes ≡ slice_index_or pool number bytes → copied ≡ bytes
+    → slice_get said number ≡ Some (take (length bytes) (copied ++ rest))
+drawn said pool number bytes copied rest is within at same =
+    subst (λ (x : List (List ℕ)). slice_get x number ≡ Some (take (length bytes) (copied ++ rest))) is
+    (slice_get-get_or pool number bytes within ∙ ap (λ (x : List ℕ). Some x) (sym at ∙ sym (take-append_seam bytes rest) ∙ ap (λ (x : List ℕ). take (length bytes) (x ++ rest)) (sym same)))

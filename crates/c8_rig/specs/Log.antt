@@ -19,6 +19,24 @@ pub record NoteValue : Type 0 where
   pub act : Act
   pub bytes : List ℕ
 
+-- a peer says something
+abbrev pub IsSaying : Act → Type 0
+IsSaying (Open p) = ⊥
+IsSaying (Tick p keys) = ⊥
+IsSaying (Say p to what) = Unit {0}
+IsSaying (Give number p) = ⊥
+IsSaying (Leave leaver) = ⊥
+IsSaying (Decide leaver) = ⊥
+
+-- a peer does what neither says nor delivers anything
+abbrev pub IsDoing : Act → Type 0
+IsDoing (Open p) = Unit {0}
+IsDoing (Tick p keys) = Unit {0}
+IsDoing (Say p to what) = ⊥
+IsDoing (Give number p) = ⊥
+IsDoing (Leave leaver) = Unit {0}
+IsDoing (Decide leaver) = Unit {0}
+
 -- ---- a log
 
 abbrev pub said_in : Act → List ℕ → List (List ℕ)

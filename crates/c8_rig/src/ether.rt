@@ -3,7 +3,8 @@ ghost use Rattle.std.specs.Prelude.{◌≡◌, ◌≤◌, ◌<◌, ◌+◌, ℕ,
 ghost use Rattle.std.specs.List.{slice_get};
 ghost use Rattle.c8_world.specs.Events.{act_of};
 ghost use Rattle.c8_world.specs.World.{player_of, Give};
-ghost use Rattle.c8_rig.specs.Log.{NoteValue, said_in, said_by, WasSaid, IsLawful, part_of};
+ghost use Rattle.c8_rig.specs.Tokens.{with_note};
+ghost use Rattle.c8_rig.specs.Log.{NoteValue, IsSaying, IsDoing, said_in, said_by, WasSaid, IsLawful, part_of};
 
 use crate::note::Note;
 use crate::tokens::{Keeper, Part, Tokens};
@@ -120,6 +121,36 @@ impl<B: Room> Book<B> {
         keep_said(&mut self.said, act, said);
         Ok(part)
     }
+
+    /// Picks one of what was said, and copies its bytes to the front of `out`; answers its number and
+    /// length. None where nothing was said, so nothing by the player whose part it is.
+    fn pick(
+        &mut self,
+        tokens: &Tokens,
+        part: Part,
+        choice: u64,
+        out: &mut [u8; LONGEST_DATAGRAM],
+    ) -> (Part, Option<(u64, usize)>)
+        requires tokens { tokens.now ≡ B.ether }
+        requires ether { part.ether ≡ B.ether }
+        ensures part { result.0 ≡ part }
+        ensures log { self.new ≡ self.old }
+        ensures none { IfNone result.1 (said_by part.notes ≡ []) }
+        ensures some { IfSome result.1 (λ r.
+            slice_get (said_by self.old) r.0 ≡ Some (take r.1 out.new)) }
+        ensures fits { IfSome result.1 (λ r. r.1 ≤ LONGEST_DATAGRAM) }
+    {
+        // For the proof: what was said by the player is in the log.
+        let part = tokens.compare(&mut self.keeper, part);
+        let count = self.said.len() as u64;
+        if count == 0 {
+            return (part, None);
+        }
+        let number = choice % count;
+        let bytes = self.said[number as usize].as_bytes();
+        out[..bytes.len()].copy_from_slice(bytes);
+        (part, Some((number, bytes.len())))
+    }
 }
 
 /// Adds what is said in an act, if anything is.
@@ -129,5 +160,80 @@ fn keep_said(said: &mut Vec<Packet>, act: Act, bytes: Packet)
 {
     if matches!(act, Act::Say(_, _, _)) {
         let _said = said.push(bytes);
+    }
+}
+
+/// What the peers of a match have in common, for threads to share: a log under a lock.
+#[derive(Drop)]
+pub struct Ether<B: Room> {
+    tokens: Tokens,
+    book: Mutex<Book<B>>,
+    ghost named: { tokens ≡ B.ether },
+}
+
+impl<B: Room> Ether<B> {
+    /// Notes that the player's peer has said these bytes. The error is want of memory, and then nothing
+    /// has changed, as in the calls below.
+    pub fn post<R: Wait>(
+        &self,
+        rt: &R,
+        entry: &mut Entry,
+        act: Act,
+        bytes: &[u8],
+    ) -> Result<(), AllocError>
+        requires ether { entry.old.ether ≡ B.ether }
+        requires player { player_of (act_of act) ≡ entry.old.player }
+        requires says { IsSaying (act_of act) }
+        requires few { length bytes.now ≤ LONGEST_DATAGRAM }
+        ensures ok { OnOk result (entry.new ≡ with_note entry.old (act_of act) bytes.now) }
+        ensures err { OnErr result (entry.new ≡ entry.old) }
+    {
+        self.enter(rt, entry, act, bytes)
+    }
+
+    /// Notes what the player's peer is to do: an opening, a tick, a leave or a decision.
+    pub fn note<R: Wait>(&self, rt: &R, entry: &mut Entry, act: Act) -> Result<(), AllocError>
+        requires ether { entry.old.ether ≡ B.ether }
+        requires player { player_of (act_of act) ≡ entry.old.player }
+        requires does { IsDoing (act_of act) }
+        ensures ok { OnOk result (entry.new ≡ with_note entry.old (act_of act) []) }
+        ensures err { OnErr result (entry.new ≡ entry.old) }
+    {
+        self.enter(rt, entry, act, &[])
+    }
+
+    /// Notes what is neither heard, nor of more bytes than a datagram.
+    fn enter<R: Wait>(
+        &self,
+        rt: &R,
+        entry: &mut Entry,
+        act: Act,
+        bytes: &[u8],
+    ) -> Result<(), AllocError>
+        requires ether { entry.old.ether ≡ B.ether }
+        requires player { player_of (act_of act) ≡ entry.old.player }
+        requires unheard { (said : List (List ℕ)) → WasSaid said (act_of act) bytes.now }
+        requires few { length bytes.now ≤ LONGEST_DATAGRAM }
+        ensures ok { OnOk result (entry.new ≡ with_note entry.old (act_of act) bytes.now) }
+        ensures err { OnErr result (entry.new ≡ entry.old) }
+    {
+        let Ok(packet) = Packet::try_from(bytes) else {
+            unreachable!();
+        };
+        entry.notes.reserve(1)?;
+        let Some(part) = entry.part.take() else {
+            unreachable!();
+        };
+        match self.book.lock(rt).add(&self.tokens, part, act, bytes) {
+            Ok(part) => {
+                entry.part = Some(part);
+                let _noted = entry.notes.push(Note { act, bytes: packet });
+                Ok(())
+            }
+            Err((error, part)) => {
+                entry.part = Some(part);
+                Err(error)
+            }
+        }
     }
 }
