@@ -3,7 +3,7 @@ ghost use Rattle.std.specs.Prelude.{◌≡◌, ◌≤◌, ◌<◌, ◌+◌, ℕ,
 ghost use Rattle.std.specs.List.{slice_get};
 ghost use Rattle.c8_world.specs.Events.{act_of};
 ghost use Rattle.c8_world.specs.World.{player_of, Give};
-ghost use Rattle.c8_rig.specs.Tokens.{with_note};
+ghost use Rattle.c8_rig.specs.Tokens.{with_note, IsDrawn};
 ghost use Rattle.c8_rig.specs.Log.{NoteValue, IsSaying, IsDoing, said_in, said_by, WasSaid, IsLawful, part_of};
 
 use crate::note::Note;
@@ -200,6 +200,52 @@ impl<B: Room> Ether<B> {
         ensures err { OnErr result (entry.new ≡ entry.old) }
     {
         self.enter(rt, entry, act, &[])
+    }
+
+    /// Draws one of the datagrams that were said, by its choice, and notes that it is delivered to the
+    /// player: its bytes are at the front of `out`, and the answer is how many. None where nothing was
+    /// said, and then nothing is noted.
+    pub fn draw<R: Wait>(
+        &self,
+        rt: &R,
+        entry: &mut Entry,
+        choice: u64,
+        out: &mut [u8; LONGEST_DATAGRAM],
+    ) -> Result<Option<usize>, AllocError>
+        requires ether { entry.old.ether ≡ B.ether }
+        ensures some { IfOk result (λ drawn. IfSome drawn (λ size.
+            IsDrawn entry.old (take size out.new) entry.new)) }
+        ensures fits { IfOk result (λ drawn. IfSome drawn (λ size. size ≤ LONGEST_DATAGRAM)) }
+        ensures none { IfOk result (λ drawn. IfNone drawn (entry.new ≡ entry.old)) }
+        ensures unsaid { IfOk result (λ drawn. IfNone drawn (said_by entry.old.notes ≡ [])) }
+        ensures err { OnErr result (entry.new ≡ entry.old) }
+    {
+        entry.notes.reserve(1)?;
+        let Some(part) = entry.part.take() else {
+            unreachable!();
+        };
+        let mut book = self.book.lock(rt);
+        let (part, picked) = book.pick(&self.tokens, part, choice, out);
+        let Some((number, size)) = picked else {
+            entry.part = Some(part);
+            return Ok(None);
+        };
+        let bytes = &out[..size];
+        let Ok(packet) = Packet::try_from(bytes) else {
+            unreachable!();
+        };
+        let act = Act::Give(number, entry.player);
+        match book.add(&self.tokens, part, act, bytes) {
+            Ok(part) => {
+                entry.part = Some(part);
+                let _noted = entry.notes.push(Note { act, bytes: packet });
+                Ok(Some(size))
+            }
+            Err((error, part)) => {
+                entry.part = Some(part);
+                Err(error)
+            }
+        }
     }
 
     /// Notes what is neither heard, nor of more bytes than a datagram.
