@@ -3,3 +3,4 @@ pub mod Logs
 pub mod Growth
 pub mod Moves
 pub mod TokenMoves
+pub mod Openings

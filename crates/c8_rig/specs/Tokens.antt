@@ -1,5 +1,6 @@
 -- What the clauses of an ether see of its tokens.
-use Rattle.std.specs.Prelude.{◌≡◌, ℕ, List, [], ◌∷◌, ◌++◌}
+use Rattle.std.specs.Prelude.{◌≡◌, ℕ, List, [], ◌∷◌, ◌++◌, map}
+use Rattle.std.specs.List.{range_with_len}
 use Rattle.atomic_table.specs.Seated.{TableId}
 use Rattle.c8_world.specs.World.{Act, Give}
 use Rattle.c8_rig.specs.Log.{NoteValue}
@@ -15,6 +16,15 @@ pub record EntryValue : Type 0 where
   pub ether : TableId
   pub player : ℕ
   pub notes : List NoteValue
+
+-- An ether: which one it is, and how many players it has.
+pub record EtherValue : Type 0 where
+  pub ether : TableId
+  pub players : ℕ
+
+-- entries of so many players, player 1's first, of whom nothing was noted
+abbrev pub first_entries : TableId → ℕ → List EntryValue
+first_entries ether players = map (λ p. record { ether = ether; player = p; notes = [] }) (range_with_len 1 players)
 
 -- the entry with a note more
 abbrev pub with_note : EntryValue → Act → List ℕ → EntryValue

@@ -3,7 +3,7 @@ ghost use Rattle.std.specs.Prelude.{◌≡◌, ◌≤◌, ◌<◌, ◌+◌, ℕ,
 ghost use Rattle.std.specs.List.{slice_get};
 ghost use Rattle.c8_world.specs.Events.{act_of};
 ghost use Rattle.c8_world.specs.World.{player_of, Give};
-ghost use Rattle.c8_rig.specs.Tokens.{with_note, IsDrawn};
+ghost use Rattle.c8_rig.specs.Tokens.{with_note, IsDrawn, first_entries};
 ghost use Rattle.c8_rig.specs.Log.{NoteValue, IsSaying, IsDoing, said_in, said_by, WasSaid, IsLawful, part_of};
 
 use crate::note::Note;
@@ -160,6 +160,80 @@ fn keep_said(said: &mut Vec<Packet>, act: Act, bytes: Packet)
 {
     if matches!(act, Act::Say(_, _, _)) {
         let _said = said.push(bytes);
+    }
+}
+
+/// An ether whose log is empty, before the caller's proof names it. Contracts see how many players it
+/// has.
+#[derive(Drop)]
+pub struct Unnamed {
+    players: u8,
+    tokens: Tokens,
+    keeper: Keeper,
+}
+
+impl Model for Unnamed {
+    ghost use Rattle.std.specs.Prelude.{◌≡◌, []};
+    ghost use Rattle.c8_rig.specs.Tokens.{EtherValue};
+
+    ghost Value = { EtherValue };
+
+    ghost view = { λ u. record { ether = u.tokens; players = u.players } };
+
+    ghost invariant = { λ u.
+        u.keeper ≡ record { ether = u.tokens; players = u.players; log = [] } };
+}
+
+impl Unnamed {
+    /// An ether for the players of a game, with an entry for each, player 1 first. The error is want of
+    /// memory.
+    pub fn open(alloc: Global, game: &Game) -> Result<(Unnamed, Vec<Entry>), AllocError>
+        ensures players { IfOk result (λ r. r.0.players ≡ game.now.players) }
+        ensures entries { IfOk result (λ r.
+            r.1.items ≡ first_entries r.0.ether game.now.players) }
+    {
+        let (tokens, mut keeper) = Tokens::open(alloc)?;
+        let mut entries = Vec::new(alloc);
+        for number in 0..game.players() {
+            let Some(player) = Player::new(number + 1) else {
+                unreachable!();
+            };
+            let part = Some(tokens.enlist(&mut keeper));
+            entries.push(Entry {
+                player,
+                notes: Vec::new(alloc),
+                part,
+            })?;
+        }
+        let players = game.players();
+        let ether = Unnamed {
+            players,
+            tokens,
+            keeper,
+        };
+        Ok((ether, entries))
+    }
+
+    /// The ether, under the name that it has.
+    pub fn named<B: Room>(self, alloc: Global) -> Ether<B>
+        requires ether { self.ether ≡ B.ether }
+        requires players { self.players ≡ B.players }
+    {
+        let Unnamed {
+            players: _,
+            tokens,
+            keeper,
+        } = self;
+        let book = Book {
+            notes: Vec::new(alloc),
+            said: Vec::new(alloc),
+            keeper,
+            room: PhantomData,
+        };
+        Ether {
+            tokens,
+            book: Mutex::new(book),
+        }
     }
 }
 

@@ -10,5 +10,5 @@ mod note;
 mod tokens;
 mod views;
 
-pub use ether::{Entry, Ether, Room};
+pub use ether::{Entry, Ether, Room, Unnamed};
 pub use note::Note;
