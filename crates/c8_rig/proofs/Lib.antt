@@ -4,3 +4,4 @@ pub mod Growth
 pub mod Moves
 pub mod TokenMoves
 pub mod Openings
+pub mod Playing

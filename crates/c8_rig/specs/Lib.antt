@@ -1,3 +1,4 @@
 pub mod Log
 pub mod Tokens
+pub mod Players
 pub mod checked

@@ -1,9 +1,19 @@
 //! What may be rested on of a log: it is a list of events of a world, so the peers that it leads to agree.
-ghost use Rattle.std.specs.Prelude.{◌≡◌, ◌<◌, ◌^◌, ◌++◌, ℕ, List};
+ghost use Rattle.std.specs.Prelude.{◌≡◌, ◌<◌, ◌^◌, ◌++◌, ℕ, List, []};
 ghost use Rattle.c8_game.specs.Rules.{Rules, AreInRange};
 ghost use Rattle.c8_peer.specs.State.{State};
+ghost use Rattle.c8_wire.specs.checked.Read.{read};
+ghost use Rattle.c8_peer.specs.State as calls;
+ghost use Rattle.c8_peer.specs.State.{Reply, Saying};
+ghost use Rattle.c8_wire.specs.Packet.{AreBytes};
+ghost use Rattle.c8_peer.specs.Peer.{PeerValue, IsAnswered, IsSaid};
+ghost use Rattle.c8_world.specs.World.{Tick, Say, Give, Leave, Decide};
 ghost use Rattle.c8_rig.specs.Log.{NoteValue, IsLawful, AreLed, IsWorld, AreMoments};
+ghost use Rattle.c8_rig.specs.Tokens.{EntryValue, with_note};
+ghost use Rattle.c8_rig.specs.Players.{HasPlayed};
 
+use c8_disk::Disk;
+use c8_peer::laws::{calls_are_deeds, deliveries_are_calls};
 use c8_wire::laws::what_is_spelled_is_read;
 use c8_world::laws::any_two_moments_agree;
 
@@ -24,4 +34,33 @@ pub fn moments_of_a_log_agree()
 {
     what_is_spelled_is_read();
     any_two_moments_agree();
+}
+
+/// How a peer plays on, with a note of each of its calls: by none (`still`), by one of each kind, and by
+/// some after others (`joined`).
+pub fn peers_play_on<D: Disk>()
+    ensures still { (e : EntryValue) (p : PeerValue D) → HasPlayed e p e p }
+    ensures ticks { (e : EntryValue) (old new : PeerValue D) (player keys : ℕ) (reply : Reply)
+        → keys < 2 ^ 16 → IsAnswered D.Disk old (calls.Tick keys) reply new
+        → HasPlayed e old (with_note e (Tick player keys) []) new }
+    ensures says { (e : EntryValue) (p : PeerValue D) (player to : ℕ) (what : Saying)
+        (bytes : List ℕ)
+        → IsSaid p (calls.Say to what) bytes
+        → HasPlayed e p (with_note e (Say player to what) bytes) p }
+    ensures hears { (e : EntryValue) (old new : PeerValue D) (number player : ℕ)
+        (bytes : List ℕ) (reply : Reply)
+        → AreBytes bytes → IsAnswered D.Disk old (calls.Deliver (read bytes)) reply new
+        → HasPlayed e old (with_note e (Give number player) bytes) new }
+    ensures leaves { (e : EntryValue) (old new : PeerValue D) (leaver : ℕ) (reply : Reply)
+        → IsAnswered D.Disk old (calls.Leave leaver) reply new
+        → HasPlayed e old (with_note e (Leave leaver) []) new }
+    ensures decides { (e : EntryValue) (old new : PeerValue D) (leaver : ℕ) (reply : Reply)
+        → IsAnswered D.Disk old (calls.Decide leaver) reply new
+        → HasPlayed e old (with_note e (Decide leaver) []) new }
+    ensures joined { (first middle last : EntryValue) (old between new : PeerValue D)
+        → HasPlayed first old middle between → HasPlayed middle between last new
+        → HasPlayed first old last new }
+{
+    calls_are_deeds::<D>();
+    deliveries_are_calls();
 }

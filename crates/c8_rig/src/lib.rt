@@ -9,6 +9,7 @@ pub mod laws;
 mod note;
 mod tokens;
 mod views;
+mod worker;
 
 pub use ether::{Entry, Ether, Room, Unnamed};
 pub use note::Note;

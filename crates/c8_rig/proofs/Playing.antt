@@ -1,0 +1,71 @@
+-- How a peer plays on with a note of each of its calls.
+use Rattle.std.proofs.Common.{◌≡◌, ◌<◌, ◌^◌, ℕ, List, [], ◌∷◌, ◌++◌, Option, Some, Ok, refl, sym, ap, subst, ◌∙◌, append-nil, append_assoc}
+use Rattle.c8_game.specs.Rules.{Rules}
+use Rattle.c8_disk.specs.declared.disk.Disk.{Ghosts}
+use Rattle.c8_peer.specs.State.{State, Call, Reply, Say, Saying, Said}
+use Rattle.c8_peer.specs.Steps.{Works}
+use Rattle.c8_peer.specs.Lawful.{IsCall}
+use Rattle.c8_peer.specs.Peer.{PeerValue, luck_of, IsAnswered, IsSaid}
+use Rattle.c8_peer.specs.Runs.{Does, IsDone}
+use Rattle.c8_world.specs.World.{Act}
+use Rattle.c8_world.specs.World as acts
+use Rattle.c8_rig.specs.Log.{NoteValue, IsCalled, IsAnything, Follows, Leads}
+use Rattle.c8_rig.specs.Tokens.{EntryValue, with_note}
+use Rattle.c8_rig.specs.Players.{HasPlayed}
+
+leads_joined : (rules : Rules) (room p : ℕ) (s u t : State) (notes more : List NoteValue) → Leads rules room p s notes u → Leads rules room p u more t → Leads rules room p s (notes ++ more) t
+leads_joined rules room p s u t [] more is next = subst (λ (x : State). Leads rules room p x more t) is next
+leads_joined rules room p s u t (n ∷ notes) more is next = (is.0, is.1, leads_joined rules room p is.0 u t notes more is.2 next)
+
+module _ {D : Type 0} where
+  pub stays : (e : EntryValue) (p : PeerValue D) → HasPlayed e p e p
+  stays e p = record { ether = refl; player = refl; rules = refl; room = refl; me = refl; notes = []; noted = sym (append-nil e.notes); leads = refl }
+
+  pub joins : (first middle last : EntryValue) (old between new : PeerValue D) → HasPlayed first old middle between → HasPlayed middle between last new → HasPlayed first old last new
+  joins first middle last old between new a b = record {
+    ether = b.ether ∙ a.ether;
+    player = b.player ∙ a.player;
+    rules = b.rules ∙ a.rules;
+    room = b.room ∙ a.room;
+    me = b.me ∙ a.me;
+    notes = a.notes ++ b.notes;
+    noted = b.noted ∙ ap (λ (notes : List NoteValue). notes ++ b.notes) a.noted ∙ append_assoc first.notes a.notes b.notes;
+    leads = leads_joined old.rules old.room old.me old.state between.state new.state a.notes b.notes a.leads
+        (subst (λ (x : Rules × ℕ × ℕ). Leads x.0 x.1 x.2 between.state b.notes new.state) (λ i. (a.rules i, a.room i, a.me i)) b.leads);
+  }
+
+  module _ (g : Ghosts D) where
+    abbrev pub AreDeeds : Type 0
+    AreDeeds = (old new : PeerValue D) (call : Call) (reply : Reply) → IsCall call → IsAnswered g old call reply new → IsDone old.rules old.room old.me old.state (Does call (luck_of reply)) (Some reply) new.state
+
+    -- a call, with a note of an act that is just that call
+    pub calls_on : AreDeeds → (e : EntryValue) (old new : PeerValue D) (act : Act) (bytes : List ℕ) (call : Call) (reply : Reply) → IsCall call → IsAnswered g old call reply new
+        → (IsCalled old.rules old.room old.me old.state call IsAnything new.state → Follows old.rules old.room old.me old.state act bytes new.state)
+        → HasPlayed e old (with_note e act bytes) new
+    calls_on deeds e old new act bytes call reply fits is follows = record {
+      ether = refl;
+      player = refl;
+      rules = is.same.rules;
+      room = is.same.room;
+      me = is.same.me;
+      notes = record { act = act; bytes = bytes } ∷ [];
+      noted = refl;
+      leads = (new.state, follows (record { luck = luck_of reply; answer = Some reply; done = deeds old new call reply fits is; tells = tt }), refl);
+    }
+
+  pub says_on : ((p : PeerValue D) (call : Call) (bytes : List ℕ) → IsCall call → (is : IsSaid p call bytes) → IsDone p.rules p.room p.me p.state (Does call Works) (Some (Said (Ok is.packet))) p.state)
+      → (e : EntryValue) (p : PeerValue D) (player to : ℕ) (what : Saying) (bytes : List ℕ) → IsSaid p (Say to what) bytes → HasPlayed e p (with_note e (acts.Say player to what) bytes) p
+  says_on deeds e p player to what bytes is = record {
+    ether = refl;
+    player = refl;
+    rules = refl;
+    room = refl;
+    me = refl;
+    notes = record { act = acts.Say player to what; bytes = bytes } ∷ [];
+    noted = refl;
+    leads = (p.state, record { luck = Works; answer = Some (Said (Ok is.packet)); done = deeds p (Say to what) bytes tt is; tells = (is.packet, refl, is.spelled) }, refl);
+  }
+
+  -- the same of an entry that is that one
+  pub with_entry : (before : EntryValue) (old new : PeerValue D) (after with_it : EntryValue) → after ≡ with_it → HasPlayed before old with_it new → HasPlayed before old after new
+  with_entry before old new after with_it same is = subst (λ (e : EntryValue). HasPlayed before old e new) (sym same) is
