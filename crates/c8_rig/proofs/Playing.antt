@@ -9,7 +9,7 @@ use Rattle.c8_peer.specs.Peer.{PeerValue, luck_of, IsAnswered, IsSaid}
 use Rattle.c8_peer.specs.Runs.{Does, IsDone}
 use Rattle.c8_world.specs.World.{Act}
 use Rattle.c8_world.specs.World as acts
-use Rattle.c8_rig.specs.Log.{NoteValue, IsCalled, IsAnything, Follows, Leads}
+use Rattle.c8_rig.specs.Log.{NoteValue, IsCalled, IsOpenedAnew, IsAnything, Follows, Leads}
 use Rattle.c8_rig.specs.Tokens.{EntryValue, with_note}
 use Rattle.c8_rig.specs.Players.{HasPlayed}
 
@@ -69,3 +69,14 @@ module _ {D : Type 0} where
   -- the same of an entry that is that one
   pub with_entry : (before : EntryValue) (old new : PeerValue D) (after with_it : EntryValue) → after ≡ with_it → HasPlayed before old with_it new → HasPlayed before old after new
   with_entry before old new after with_it same is = subst (λ (e : EntryValue). HasPlayed before old e new) (sym same) is
+
+  -- a peer that was opened on a disk, and played on
+  pub worked : (s : State) (rules : Rules) (room me player : ℕ) (first opened last : EntryValue) (peer new : PeerValue D) → first.notes ≡ [] → opened ≡ with_note first (acts.Open player) []
+      → peer.rules ≡ rules → peer.room ≡ room → peer.me ≡ me → IsOpenedAnew rules room me s peer.state → HasPlayed opened peer last new → Leads rules room me s last.notes new.state
+  worked s rules room me player first opened last peer new none is same_rules same_room same_me opens played =
+      let note : NoteValue = record { act = acts.Open player; bytes = [] } in
+      let begun : opened.notes ≡ note ∷ [] = ap (λ (e : EntryValue). e.notes) is ∙ ap (λ (notes : List NoteValue). notes ++ note ∷ []) none in
+      let all : last.notes ≡ note ∷ [] ++ played.notes = played.noted ∙ ap (λ (notes : List NoteValue). notes ++ played.notes) begun in
+      subst (λ (notes : List NoteValue). Leads rules room me s notes new.state) (sym all)
+      (leads_joined rules room me s peer.state new.state (note ∷ []) played.notes (peer.state, opens, refl)
+      (subst (λ (x : Rules × ℕ × ℕ). Leads x.0 x.1 x.2 peer.state played.notes new.state) (λ i. (same_rules i, same_room i, same_me i)) played.leads))

@@ -81,6 +81,22 @@ impl Model for Entry {
         e.part ≡ Some (entry_value e.player.number e.notes.items e.part) };
 }
 
+impl Entry {
+    /// Whose it is.
+    pub fn player(&self) -> Player
+        ensures { result.number ≡ self.now.player }
+    {
+        self.player
+    }
+
+    /// What was noted of the player's peer.
+    pub fn notes(&self) -> &[Note]
+        ensures { result.now ≡ self.now.notes }
+    {
+        &self.notes
+    }
+}
+
 impl<B: Room> Book<B> {
     /// Notes something of the player whose part it is; at an error for want of memory nothing changes.
     fn add(

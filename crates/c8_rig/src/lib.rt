@@ -13,3 +13,4 @@ mod worker;
 
 pub use ether::{Entry, Ether, Room, Unnamed};
 pub use note::Note;
+pub use worker::rig_worker;

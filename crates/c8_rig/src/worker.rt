@@ -11,6 +11,8 @@ use crate::ether::{Entry, Ether, Room};
 use crate::laws::peers_play_on;
 use c8_disk::Disk;
 use c8_game::{Game, Keys, Player};
+use c8_live::{Gate, Worker};
+use c8_peer::laws::openings_are_deeds;
 use c8_peer::{Kind, Peer};
 use c8_wire::LONGEST_DATAGRAM;
 use c8_world::Act;
@@ -105,6 +107,142 @@ impl<'a, 'g, B: Room, R: Wait, D: Disk> Seat<'a, 'g, B, R, D> {
             .note(self.rt, &mut self.entry, Act::Decide(leaver))?;
         let _decided = self.peer.decide(leaver);
         Ok(())
+    }
+
+    /// The other players' number of this place, in order, or the last one where there are fewer.
+    fn other(&self, place: u32) -> Player {
+        let others = u32::from(self.peer.players()).saturating_sub(1).max(1);
+        let before = place % others + 1;
+        let number = if before < u32::from(self.peer.me().number) {
+            before
+        } else {
+            before + 1
+        };
+        player(number)
+    }
+
+    /// Says this to one of the other players, whom the next word names.
+    fn say_to_one(&mut self, kind: Kind) -> Result<(), AllocError>
+        ensures { HasPlayed self.old.entry self.old.peer self.new.entry self.new.peer }
+    {
+        let place = self.word();
+        let to = self.other(place);
+        self.say(to, kind)
+    }
+
+    /// Its part in a drop round: player one lets go, cuts and tells of it, the others answer.
+    fn drop_round(&mut self) -> Result<(), AllocError>
+        ensures { HasPlayed self.old.entry self.old.peer self.new.entry self.new.peer }
+    {
+        let word = self.word();
+        let others = u32::from(self.peer.players()).saturating_sub(1).max(1);
+        if self.peer.me().number != 1 {
+            let leaver = player(2 + word % others);
+            return self.say(Player::CHAIR, Kind::Frozen(leaver));
+        }
+        let leaver = player(2 + word / 8 % others);
+        match word % 8 {
+            0 => self.leave(leaver),
+            1 | 2 => self.decide(leaver),
+            3..=5 => self.say_to_one(Kind::Freeze(leaver)),
+            _ => self.say_to_one(Kind::Cut(leaver)),
+        }
+    }
+
+    /// One turn, as the next words of the generator have it: a tick, a delivery, a datagram, or a part
+    /// in a drop round.
+    fn turn(&mut self) -> Result<(), AllocError>
+        ensures { HasPlayed self.old.entry self.old.peer self.new.entry self.new.peer }
+    {
+        match self.word() % 8 {
+            0 | 1 => {
+                let keys = (self.word() & 0xffff) as u16;
+                self.tick(Keys(keys))
+            }
+            2..=4 => {
+                let choice = self.word();
+                self.hear(u64::from(choice))
+            }
+            5 => {
+                let kind = if self.word() % 2 == 0 {
+                    Kind::Hello
+                } else {
+                    Kind::Welcome
+                };
+                self.say_to_one(kind)
+            }
+            6 => self.say_to_one(Kind::Data),
+            _ => self.drop_round(),
+        }
+    }
+
+    /// So many turns, as long as the gate lets it and there is memory.
+    fn play<G: Gate>(&mut self, turns: u64, gate: &G)
+        ensures { HasPlayed self.old.entry self.old.peer self.new.entry self.new.peer }
+    {
+        peers_play_on::<D>();
+        for turn in 0..turns {
+            if !gate.before(Worker::Game, turn) || self.turn().is_err() {
+                break;
+            }
+            gate.after(Worker::Game, turn);
+        }
+    }
+}
+
+/// A player's part of a match in a thread of its own: notes that its peer is opened, opens it on the
+/// disk in room 0, and takes so many turns by a generator of the seed and the player's number, as long
+/// as the gate lets it. Each opening, tick, leave and decision is noted before the call, and what is
+/// said after it. Where there is no memory for a note, or the opening is refused, nothing more is done,
+/// and the entry comes back with the peer, if there is one.
+pub fn rig_worker<'g, B: Room, R: Wait, D: Disk + Drop, G: Gate>(
+    rt: &R,
+    alloc: Global,
+    ether: &Ether<B>,
+    entry: Entry,
+    game: &'g Game,
+    disk: D,
+    seed: u64,
+    turns: u64,
+    gate: &G,
+) -> (Entry, Option<Peer<'g, D>>)
+    requires ether { entry.ether ≡ B.ether }
+    requires unused { entry.notes ≡ [] }
+    ensures entry { (result.0.ether ≡ entry.ether) × (result.0.player ≡ entry.player) }
+    ensures peer { IfSome result.1 (λ peer. (peer.rules ≡ game.entry.now)
+        × (peer.room ≡ 0) × (peer.me ≡ entry.player)) }
+    ensures led { IfSome result.1 (λ peer. Leads game.entry.now 0 entry.player
+        (away_with (records_of (kept (D.seen disk)))) result.0.notes peer.state) }
+{
+    openings_are_deeds::<D>();
+    let mut entry = entry;
+    let player = entry.player();
+    if ether.note(rt, &mut entry, Act::Open(player)).is_err() {
+        return (entry, None);
+    }
+    let Ok(peer) = Peer::open(alloc, disk, game, player, 0) else {
+        return (entry, None);
+    };
+    let random = Pcg32::new(seed, u64::from(player.number));
+    let mut seat = Seat {
+        rt,
+        ether,
+        entry,
+        peer,
+        random,
+    };
+    seat.play(turns, gate);
+    let Seat { entry, peer, .. } = seat;
+    (entry, Some(peer))
+}
+
+/// The player with a number, or player 4 where there is none.
+fn player(number: u32) -> Player {
+    match number {
+        1 => Player::CHAIR,
+        2 => Player { number: 2 },
+        3 => Player { number: 3 },
+        _ => Player { number: 4 },
     }
 }
 
