@@ -5,3 +5,4 @@ pub mod Moves
 pub mod TokenMoves
 pub mod Openings
 pub mod Playing
+pub mod Parts

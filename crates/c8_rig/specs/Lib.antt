@@ -1,4 +1,5 @@
 pub mod Log
 pub mod Tokens
 pub mod Players
+pub mod Gathered
 pub mod checked

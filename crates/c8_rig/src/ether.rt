@@ -1,12 +1,13 @@
 //! What the peers of a match have in common: a log of what each did, and all that was said.
-ghost use Rattle.std.specs.Prelude.{◌≡◌, ◌≤◌, ◌<◌, ◌+◌, ℕ, List, [], ◌∷◌, ◌++◌, take, drop, length, Some, IfOk, IfSome, IfNone, IfErr, OnOk, OnErr, vec_len, vec_capacity};
+ghost use Rattle.std.specs.Prelude.{◌≡◌, ◌≤◌, ◌<◌, ◌+◌, ℕ, List, [], ◌∷◌, ◌++◌, take, drop, length, Some, IfOk, IfSome, IfNone, IfErr, true, OnOk, OnErr, vec_len, vec_capacity};
 ghost use Rattle.std.specs.List.{slice_get};
 ghost use Rattle.c8_world.specs.Events.{act_of};
 ghost use Rattle.c8_world.specs.World.{player_of, Give};
+ghost use Rattle.c8_rig.specs.Gathered.{AreAll, AreParts};
 ghost use Rattle.c8_rig.specs.Tokens.{with_note, IsDrawn, first_entries};
 ghost use Rattle.c8_rig.specs.Log.{NoteValue, IsSaying, IsDoing, said_in, said_by, WasSaid, IsLawful, part_of};
 
-use crate::note::Note;
+use crate::note::{Note, is_part};
 use crate::tokens::{Keeper, Part, Tokens};
 use c8_game::{Game, Player};
 use c8_inlet::Packet;
@@ -136,6 +137,22 @@ impl<B: Room> Book<B> {
         let _noted = self.notes.push(note);
         keep_said(&mut self.said, act, said);
         Ok(part)
+    }
+
+    /// Whether an entry's notes are its player's part of the log. It is proved that they are.
+    fn is_part(&mut self, tokens: &Tokens, entry: &mut Entry) -> bool
+        requires tokens { tokens.now ≡ B.ether }
+        requires ether { entry.old.ether ≡ B.ether }
+        ensures yes { result ≡ true }
+        ensures part { entry.old.notes ≡ part_of entry.old.player self.old }
+        ensures log { self.new ≡ self.old }
+        ensures entry { entry.new ≡ entry.old }
+    {
+        let Some(part) = entry.part.take() else {
+            unreachable!();
+        };
+        entry.part = Some(tokens.compare(&mut self.keeper, part));
+        is_part(&self.notes, entry.player, &entry.notes)
     }
 
     /// Picks one of what was said, and copies its bytes to the front of `out`; answers its number and
@@ -336,6 +353,24 @@ impl<B: Room> Ether<B> {
                 Err(error)
             }
         }
+    }
+
+    /// The log, where each entry's notes are its player's part of it. It is proved that they are.
+    pub(crate) fn into_log(self, entries: Vec<Entry>) -> Option<Vec<Note>>
+        requires { AreAll B.ether B.players entries.items }
+        ensures whole { IfNone result ⊥ }
+        ensures lawful { IfSome result (λ log. IsLawful B.players log.items) }
+        ensures parts { IfSome result (λ log. AreParts log.items entries.items) }
+    {
+        let Ether { tokens, book } = self;
+        let mut book = book.into_inner();
+        let mut entries = entries;
+        for place in 0..entries.len() {
+            if !book.is_part(&tokens, &mut entries[place]) {
+                return None;
+            }
+        }
+        Some(book.notes)
     }
 
     /// Notes what is neither heard, nor of more bytes than a datagram.

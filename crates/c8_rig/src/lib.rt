@@ -5,6 +5,7 @@
 #![tactic(auto)]
 
 mod ether;
+mod gathering;
 pub mod laws;
 mod note;
 mod tokens;
@@ -12,5 +13,6 @@ mod views;
 mod worker;
 
 pub use ether::{Entry, Ether, Room, Unnamed};
+pub use gathering::{Gathering, gather};
 pub use note::Note;
 pub use worker::rig_worker;

@@ -1,6 +1,14 @@
 //! What is noted of a peer.
 
+ghost use Rattle.std.specs.Prelude.{◌≡◌, ◌<◌, true, length, Some};
+ghost use Rattle.std.specs.List.{slice_get};
+ghost use Rattle.c8_world.specs.Events.{act_of};
+ghost use Rattle.c8_peer.specs.Asked.{saying_of};
+ghost use Rattle.c8_rig.specs.Log.{part_of};
+
+use c8_game::Player;
 use c8_inlet::Packet;
+use c8_peer::Kind;
 use c8_world::Act;
 use std::marker::Model;
 
@@ -18,4 +26,69 @@ impl Model for Note {
     ghost Value = { NoteValue };
 
     ghost view = { λ n. record { act = act_of n.act; bytes = n.bytes } };
+}
+
+impl Note {
+    /// Whether two notes are the same.
+    fn is_same(&self, other: &Note) -> bool
+        ensures { self.now ≡ other.now → result ≡ true }
+    {
+        is_same_act(self.act, other.act) && self.bytes == other.bytes
+    }
+}
+
+/// Whether two acts are the same.
+fn is_same_act(one: Act, other: Act) -> bool
+    ensures { act_of one ≡ act_of other → result ≡ true }
+{
+    match (one, other) {
+        (Act::Open(a), Act::Open(b)) => a.number == b.number,
+        (Act::Tick(a, keys), Act::Tick(b, others)) => a.number == b.number && keys.0 == others.0,
+        (Act::Say(a, to, kind), Act::Say(b, other_to, other_kind)) =>
+            a.number == b.number && to.number == other_to.number && is_same_kind(kind, other_kind),
+        (Act::Give(n, a), Act::Give(m, b)) => n == m && a.number == b.number,
+        (Act::Leave(a), Act::Leave(b)) => a.number == b.number,
+        (Act::Decide(a), Act::Decide(b)) => a.number == b.number,
+        _ => false,
+    }
+}
+
+/// Whether what is said is of one kind, and of one leaver.
+fn is_same_kind(one: Kind, other: Kind) -> bool
+    ensures { saying_of one ≡ saying_of other → result ≡ true }
+{
+    match (one, other) {
+        (Kind::Hello, Kind::Hello) | (Kind::Welcome, Kind::Welcome) | (Kind::Data, Kind::Data) => true,
+        (Kind::Freeze(a), Kind::Freeze(b)) => a.number == b.number,
+        (Kind::Frozen(a), Kind::Frozen(b)) => a.number == b.number,
+        (Kind::Cut(a), Kind::Cut(b)) => a.number == b.number,
+        _ => false,
+    }
+}
+
+/// Whether these are the notes of a player in a log, in their order.
+pub(crate) fn is_part(log: &[Note], player: Player, notes: &[Note]) -> bool
+    ensures { notes.now ≡ part_of player.number log.now → result ≡ true }
+{
+    let mut next = 0;
+    for note in log {
+        if note.act.player().number == player.number {
+            if !stands_at(notes, next, note) {
+                return false;
+            }
+            next += 1;
+        }
+    }
+    next == notes.len()
+}
+
+/// Whether this note stands at a place.
+fn stands_at(notes: &[Note], place: usize, note: &Note) -> bool
+    ensures within { result ≡ true → place < length notes.now }
+    ensures there { slice_get notes.now place ≡ Some note.now → result ≡ true }
+{
+    match notes.get(place) {
+        Some(own) => note.is_same(own),
+        None => false,
+    }
 }

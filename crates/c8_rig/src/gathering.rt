@@ -1,0 +1,62 @@
+//! The end of a match in threads: its log, and its peers.
+ghost use Rattle.std.specs.Prelude.{◌≡◌, ◌≤◌, ◌<◌, ◌+◌, ℕ, true, length, Some, IfOk};
+ghost use Rattle.std.specs.List.{slice_get};
+ghost use Rattle.c8_world.specs.Events.{act_of};
+ghost use Rattle.c8_rig.specs.Log.{part_of};
+ghost use Rattle.c8_rig.specs.Tokens.{EntryValue};
+ghost use Rattle.c8_rig.specs.Gathered.{AreAll, HaveAgreedOrNot, IsGathering};
+
+use crate::ether::{Entry, Ether, Room};
+use crate::note::Note;
+use c8_disk::MemDisk;
+use c8_peer::Peer;
+use c8_world::{Standing, all_agree};
+use std::alloc::{AllocError, Global};
+
+/// What the entries and the peers of all players come to.
+#[derive(Drop)]
+pub enum Gathering<'g> {
+    /// Each entry's notes are its player's part of the log. The peers are in order of number; they agree
+    /// where any two whom player one has not let go have the same rows, as far as both count frames as
+    /// confirmed.
+    Gathered {
+        log: Vec<Note>,
+        peers: Vec<Peer<'g, MemDisk>>,
+        agree: bool,
+    },
+    /// An entry's notes are not its player's part of the log. It is proved that this never comes.
+    Torn,
+}
+
+/// Brings together the entries of an ether and the peers of all its players, player 1's first. The error
+/// is want of memory.
+pub fn gather<'g, B: Room>(
+    alloc: Global,
+    ether: Ether<B>,
+    entries: Vec<Entry>,
+    peers: Vec<Peer<'g, MemDisk>>,
+) -> Result<Gathering<'g>, AllocError>
+    requires entries { AreAll B.ether B.players entries.items }
+    requires peers { length peers.items ≡ B.players }
+    requires few { B.players ≤ 4 }
+    ensures { IfOk result (λ gathering.
+        IsGathering B.players entries.items peers.entry.items gathering) }
+{
+    let Some(log) = ether.into_log(entries) else {
+        return Ok(Gathering::Torn);
+    };
+    let agree = agree(alloc, &peers)?;
+    Ok(Gathering::Gathered { log, peers, agree })
+}
+
+/// Whether the peers of all players agree, player 1's first.
+fn agree(alloc: Global, peers: &[Peer<'_, MemDisk>]) -> Result<bool, AllocError>
+    requires { length peers.now ≤ 4 }
+    ensures { IfOk result (λ agree. HaveAgreedOrNot peers.now agree) }
+{
+    let mut standings = Vec::with_capacity(alloc, peers.len())?;
+    for peer in peers {
+        standings.push_reserved(Standing::Held(peer));
+    }
+    Ok(all_agree(&standings))
+}
