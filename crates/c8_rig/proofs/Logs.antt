@@ -1,11 +1,9 @@
 -- A lawful log is a list of events of a world: note by note, what follows at a peer follows in the world.
-use Rattle.std.proofs.Common.{◌≡◌, ◌≢◌, ◌<◌, ◌^◌, ◌⊎◌, inl, inr, ℕ, zero, suc, ◌-◌, append-nil, append_assoc, length-set, List, [], ◌∷◌, ◌++◌, length, map, Bool, true, false, Option, Some, None, Ok, refl, sym, ap, subst, ◌∙◌, arith}
-use Rattle.std.specs.Prelude.{◌==◌, slice_set, if◌then◌else◌}
-use Rattle.std.specs.List.{slice_get, filter}
+use Rattle.std.proofs.Common.{◌≡◌, ◌≢◌, ◌<◌, ◌^◌, inl, inr, ℕ, zero, suc, ◌-◌, append-nil, append_assoc, length-set, List, [], ◌∷◌, ◌++◌, length, map, false, Some, Ok, refl, sym, ap, subst, ◌∙◌}
+use Rattle.std.specs.List.{slice_get}
 use Rattle.std.proofs.lemmas.List.{length-replicate}
 use Rattle.std.proofs.lemmas.Bool.{cases_eq, eq-eqb, ne_eqb}
 use Rattle.c8_game.specs.Rules.{Rules, AreInRange}
-use Rattle.c8_wire.specs.declared.error.WireError.{WireError}
 use Rattle.c8_wire.specs.Packet.{Packet}
 use Rattle.c8_wire.specs.Spelling.{Spells}
 use Rattle.c8_wire.specs.checked.Read.{read}
@@ -13,12 +11,11 @@ use Rattle.c8_known.specs.Known.{known_of}
 use Rattle.c8_peer.specs.State as calls
 use Rattle.c8_peer.specs.State.{Mode, Down, Away, State, Call, Reply, Said}
 use Rattle.c8_peer.specs.Steps.{Luck, Works, Stepped, outcome, when_down, at_mode, step}
-use Rattle.c8_peer.specs.Opening.{Opening, NoMemory, found, opened}
-use Rattle.c8_peer.specs.Runs.{Does, Opens, IsDone, as_answered}
-use Rattle.c8_world.specs.World.{World, start, never_opened, peer_of, is_player, Act, Open, Tick, Say, Give, Leave, Decide, player_of, Event, Do, Answer, IsDown, After, Happening, said_by as said_in_reply, stepped, call_at_mode, call_at, open_at_mode, open_at, give_to, acted, after, CanHappen, Chain, IsReached}
+use Rattle.c8_peer.specs.Opening.{NoMemory, found, opened}
+use Rattle.c8_world.specs.World.{World, start, never_opened, peer_of, Act, Open, Tick, Say, Give, Leave, Decide, player_of, Event, Answer, Happening, said_by as said_in_reply, stepped, call_at_mode, call_at, open_at_mode, open_at, give_to, acted, CanHappen, Chain, IsReached}
 use Rattle.c8_world.specs.Agreement.{IsPlayer}
 use Rattle.c8_world.specs.Headline.{IsHeadline}
-use Rattle.c8_world.proofs.Worlds.{placed, peer_here, peer_there, peer_at_start}
+use Rattle.c8_world.proofs.Worlds.{peer_here, peer_there, peer_at_start}
 use Rattle.c8_world.proofs.Openings.{plays_so}
 use Rattle.c8_rig.specs.Log.{NoteValue, said_in, said_by, WasSaid, MayFollow, IsLawful, part_of, IsCalled, IsOpenedAnew, IsAnything, IsSpelled, Follows, Leads, AreLed, event_of, AreSpelled, GoesOn, IsWorld, AreMoments}
 use Rattle.c8_rig.proofs.Silent.{IsNoSaying, step_silent, down_silent, opened_silent}
@@ -54,11 +51,11 @@ mode_becomes : (rules : Rules) (w : World) (p : ℕ) (call : Call) (luck : Luck)
 mode_becomes rules w p call luck calls.Open size plays is = stepped_becomes rules w p (step rules p (peer_of w p) call luck) size plays
 mode_becomes rules w p call luck Down size plays is =
     let at : step rules p (peer_of w p) call luck ≡ record { reply = when_down call; state = peer_of w p } =
-      ap (λ (mode : Mode). at_mode (peer_of w p) call (outcome rules (known_of rules p (peer_of w p).journal) (peer_of w p).memory call) mode luck) is in
+    ap (λ (mode : Mode). at_mode (peer_of w p) call (outcome rules (known_of rules p (peer_of w p).journal) (peer_of w p).memory call) mode luck) is in
     stays_becomes rules w p (step rules p (peer_of w p) call luck) (ap (λ (t : Stepped). t.state) at) (ap (λ (t : Stepped). said_in_reply t.reply) at ∙ down_silent call)
 mode_becomes rules w p call luck Away size plays is =
     let at : step rules p (peer_of w p) call luck ≡ record { reply = when_down call; state = peer_of w p } =
-      ap (λ (mode : Mode). at_mode (peer_of w p) call (outcome rules (known_of rules p (peer_of w p).journal) (peer_of w p).memory call) mode luck) is in
+    ap (λ (mode : Mode). at_mode (peer_of w p) call (outcome rules (known_of rules p (peer_of w p).journal) (peer_of w p).memory call) mode luck) is in
     stays_becomes rules w p (step rules p (peer_of w p) call luck) (ap (λ (t : Stepped). t.state) at) (ap (λ (t : Stepped). said_in_reply t.reply) at ∙ down_silent call)
 
 call_becomes : (rules : Rules) (w : World) (p : ℕ) (call : Call) (luck : Luck) → length w.peers ≡ rules.players → IsPlayer rules p
@@ -240,18 +237,18 @@ pass reads rules room states front (n ∷ rest) more w size lawful are leads =
     let may : MayFollow rules.players front n = lawful front (rest ++ more) n refl in
     let plays : IsPlayer rules p = record { from_one = may.from_one; in_game = may.in_game } in
     let mine : Leads rules room p (peer_of w p) (n ∷ part_of p (rest ++ more)) (states p) =
-      subst (λ (notes : List NoteValue). Leads rules room p (peer_of w p) notes (states p)) (part_mine n (rest ++ more)) (leads p plays) in
+    subst (λ (notes : List NoteValue). Leads rules room p (peer_of w p) notes (states p)) (part_mine n (rest ++ more)) (leads p plays) in
     let turns = turn reads rules room w n.act n.bytes (said_by front) mine.0 size plays are may.was_said mine.1 in
     let joins : (xs : List NoteValue) → (front ++ n ∷ []) ++ xs ≡ front ++ n ∷ xs = λ xs. append_assoc front (n ∷ []) xs in
     let next = pass reads rules room states (front ++ n ∷ []) rest more turns.world (turns.size ∙ size)
-        (subst (λ (log : List NoteValue). IsLawful rules.players log) (sym (joins (rest ++ more))) lawful)
-        (rw (said_with front n, turns.said) (spelled_joined (said_by front) (said_in n.act n.bytes) w.said turns.new are turns.spelled))
-        (λ q plays. elim (cases_eq q p) [
-          | inl same ↦ subst (λ (x : ℕ). Leads rules room x (peer_of turns.world x) (part_of x (rest ++ more)) (states x)) (sym same)
-              (subst (λ (s : State). Leads rules room p s (part_of p (rest ++ more)) (states p)) (sym turns.here) mine.2)
-          | inr apart ↦ subst (λ (s : State). Leads rules room q s (part_of q (rest ++ more)) (states q)) (sym (turns.there q plays apart))
-              (subst (λ (notes : List NoteValue). Leads rules room q (peer_of w q) notes (states q)) (part_other q n (rest ++ more) apart) (leads q plays))
-        ]) in
+    (subst (λ (log : List NoteValue). IsLawful rules.players log) (sym (joins (rest ++ more))) lawful)
+    (rw (said_with front n, turns.said) (spelled_joined (said_by front) (said_in n.act n.bytes) w.said turns.new are turns.spelled))
+    (λ q plays. elim (cases_eq q p) [
+      | inl same ↦ subst (λ (x : ℕ). Leads rules room x (peer_of turns.world x) (part_of x (rest ++ more)) (states x)) (sym same)
+          (subst (λ (s : State). Leads rules room p s (part_of p (rest ++ more)) (states p)) (sym turns.here) mine.2)
+      | inr apart ↦ subst (λ (s : State). Leads rules room q s (part_of q (rest ++ more)) (states q)) (sym (turns.there q plays apart))
+          (subst (λ (notes : List NoteValue). Leads rules room q (peer_of w q) notes (states q)) (part_other q n (rest ++ more) apart) (leads q plays))
+    ]) in
     record {
       world = next.world;
       goes = record {
@@ -268,7 +265,7 @@ pass reads rules room states front (n ∷ rest) more w size lawful are leads =
 pub log_world : AreRead → (rules : Rules) (room : ℕ) (log : List NoteValue) (states : ℕ → State) → IsLawful rules.players log → AreLed rules room log states → IsWorld rules room log states
 log_world reads rules room log states lawful led =
     let passes = pass reads rules room states [] log [] (start rules) (length-replicate rules.players never_opened) (rw (append-nil log) lawful) tt
-        (λ p plays. rw (peer_at_start rules p, append-nil log) (led p plays)) in
+    (λ p plays. rw (peer_at_start rules p, append-nil log) (led p plays)) in
     record { world = passes.world; goes = passes.goes; peers = λ p plays. sym (passes.left p plays) }
 
 abbrev AreHeadlines : Type 0

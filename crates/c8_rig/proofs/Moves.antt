@@ -1,17 +1,17 @@
 -- Each step keeps the ether's rule.
-use Rattle.std.proofs.Common.{◌≡◌, ◌≢◌, ◌⊎◌, ◌<◌, ◌≤◌, ℕ, zero, suc, ◌+◌, List, [], ◌∷◌, ◌++◌, length, set, refl, sym, ap, ◌∙◌, subst, inl, inr, ⊎_elim, append-nil, arith}
+use Rattle.std.proofs.Common.{◌≡◌, ◌≢◌, ◌⊎◌, ◌≤◌, ℕ, zero, suc, ◌+◌, List, [], ◌∷◌, ◌++◌, length, set, refl, sym, ap, ◌∙◌, subst, inl, inr, ⊎_elim, append-nil, arith}
 use Rattle.std.specs.Prelude.{◌==◌}
-use Rattle.std.proofs.lemmas.Bool.{cases_eq, eq-eqb, ne_eqb}
+use Rattle.std.proofs.lemmas.Bool.{eq-eqb, ne_eqb}
 use Rattle.std.proofs.lemmas.List.Elements.{filter-append}
 use mathlib.Core.Option.{some, some-injective, some-ne-none}
 use lib.ListN.{get_elem?}
-use Rattle.atomic_table.specs.Table.{Me, Allows, Splits, Joins, opening, keeps}
+use Rattle.atomic_table.specs.Table.{Allows, Splits, Joins, opening, keeps}
 use Rattle.atomic_table.proofs.Lists.{at_set, at_snoc}
 use Rattle.c8_world.specs.World.{player_of}
 use Rattle.c8_rig.specs.declared.views.View.{View}
 use Rattle.c8_rig.specs.declared.views.View.TheVariants.{Keeper, Own, Both, Spent}
 use Rattle.c8_rig.specs.Log.{NoteValue, part_of}
-use Rattle.c8_rig.specs.checked.Rule.{Fits, Owns, Keeps, new_entry, entry_of, noted, Compares}
+use Rattle.c8_rig.specs.checked.Rule.{Fits, Owns, Keeps, Compares}
 
 -- ---- parts of a longer log
 
@@ -60,13 +60,13 @@ alone_set : (views : List View) (id : ℕ) (old w : View) → AreAlone views →
 alone_set views id old w alone at no_more p a b v x here there owns also =
     ⊎_elim
     (λ (l : (a ≡ id) × (w ≡ v)). ⊎_elim
-        (λ (r : (b ≡ id) × (w ≡ x)). l.0 ∙ sym r.0)
-        (λ (r : (b ≢ id) × (get_elem? views b ≡ some x)). l.0 ∙ alone p id b old x at r.1 (no_more p (subst (λ (y : View). Owns p y) (sym l.1) owns)) also)
-        (at_set views id b w x there))
+    (λ (r : (b ≡ id) × (w ≡ x)). l.0 ∙ sym r.0)
+    (λ (r : (b ≢ id) × (get_elem? views b ≡ some x)). l.0 ∙ alone p id b old x at r.1 (no_more p (subst (λ (y : View). Owns p y) (sym l.1) owns)) also)
+    (at_set views id b w x there))
     (λ (l : (a ≢ id) × (get_elem? views a ≡ some v)). ⊎_elim
-        (λ (r : (b ≡ id) × (w ≡ x)). alone p a id v old l.1 at owns (no_more p (subst (λ (y : View). Owns p y) (sym r.1) also)) ∙ sym r.0)
-        (λ (r : (b ≢ id) × (get_elem? views b ≡ some x)). alone p a b v x l.1 r.1 owns also)
-        (at_set views id b w x there))
+    (λ (r : (b ≡ id) × (w ≡ x)). alone p a id v old l.1 at owns (no_more p (subst (λ (y : View). Owns p y) (sym r.1) also)) ∙ sym r.0)
+    (λ (r : (b ≢ id) × (get_elem? views b ≡ some x)). alone p a b v x l.1 r.1 owns also)
+    (at_set views id b w x there))
     (at_set views id a w v here)
 
 -- a view that owns what no other does
@@ -74,13 +74,13 @@ alone_snoc : (views : List View) (w : View) → AreAlone views → ((p a : ℕ) 
 alone_snoc views w alone new p a b v x here there owns also =
     ⊎_elim
     (λ (l : get_elem? views a ≡ some v). ⊎_elim
-        (λ (r : get_elem? views b ≡ some x). alone p a b v x l r owns also)
-        (λ (r : (b ≡ length views) × (w ≡ x)). absurd (new p a v l owns (subst (λ (y : View). Owns p y) (sym r.1) also)))
-        (at_end views w x b there))
+    (λ (r : get_elem? views b ≡ some x). alone p a b v x l r owns also)
+    (λ (r : (b ≡ length views) × (w ≡ x)). absurd (new p a v l owns (subst (λ (y : View). Owns p y) (sym r.1) also)))
+    (at_end views w x b there))
     (λ (l : (a ≡ length views) × (w ≡ v)). ⊎_elim
-        (λ (r : get_elem? views b ≡ some x). absurd (new p b x r also (subst (λ (y : View). Owns p y) (sym l.1) owns)))
-        (λ (r : (b ≡ length views) × (w ≡ x)). l.0 ∙ sym r.0)
-        (at_end views w x b there))
+    (λ (r : get_elem? views b ≡ some x). absurd (new p b x r also (subst (λ (y : View). Owns p y) (sym l.1) owns)))
+    (λ (r : (b ≡ length views) × (w ≡ x)). l.0 ∙ sym r.0)
+    (at_end views w x b there))
     (at_end views w v a here)
 
 -- no other view than those of the keeper and of the player changes with a note
@@ -108,22 +108,22 @@ alone_pair : (views : List View) (id other : ℕ) (n : ℕ) (all : List NoteValu
     → get_elem? views other ≡ some (Own p own) → AreAlone (set (set views id (Both n all p own)) other Spent)
 alone_pair views id other n all p own alone before q a b v w here there owns also =
     let split : (seat : ℕ) (x : View) → get_elem? (set (set views id (Both n all p own)) other Spent) seat ≡ some x → Owns q x
-          → ((seat ≡ id) × (p ≡ q)) ⊎ ((seat ≢ other) × (get_elem? views seat ≡ some x)) = λ seat x e is. ⊎_elim
-          (λ (t : (seat ≡ other) × (Spent ≡ x)). absurd (no_owner q x Spent t.1 (λ never. never) is))
-          (λ (t : (seat ≢ other) × (get_elem? (set views id (Both n all p own)) seat ≡ some x)). ⊎_elim
-              (λ (u : (seat ≡ id) × (Both n all p own ≡ x)). inl (u.0, subst (λ (y : View). Owns q y) (sym u.1) is))
-              (λ (u : (seat ≢ id) × (get_elem? views seat ≡ some x)). inr (t.0, u.1))
-              (at_set views id seat (Both n all p own) x t.1))
-          (at_set (set views id (Both n all p own)) other seat Spent x e) in
+    → ((seat ≡ id) × (p ≡ q)) ⊎ ((seat ≢ other) × (get_elem? views seat ≡ some x)) = λ seat x e is. ⊎_elim
+    (λ (t : (seat ≡ other) × (Spent ≡ x)). absurd (no_owner q x Spent t.1 (λ never. never) is))
+    (λ (t : (seat ≢ other) × (get_elem? (set views id (Both n all p own)) seat ≡ some x)). ⊎_elim
+    (λ (u : (seat ≡ id) × (Both n all p own ≡ x)). inl (u.0, subst (λ (y : View). Owns q y) (sym u.1) is))
+    (λ (u : (seat ≢ id) × (get_elem? views seat ≡ some x)). inr (t.0, u.1))
+    (at_set views id seat (Both n all p own) x t.1))
+    (at_set (set views id (Both n all p own)) other seat Spent x e) in
     ⊎_elim
     (λ (l : (a ≡ id) × (p ≡ q)). ⊎_elim
-        (λ (r : (b ≡ id) × (p ≡ q)). l.0 ∙ sym r.0)
-        (λ (r : (b ≢ other) × (get_elem? views b ≡ some w)). absurd (r.0 (alone q b other w (Own p own) r.1 before also l.1)))
-        (split b w there also))
+    (λ (r : (b ≡ id) × (p ≡ q)). l.0 ∙ sym r.0)
+    (λ (r : (b ≢ other) × (get_elem? views b ≡ some w)). absurd (r.0 (alone q b other w (Own p own) r.1 before also l.1)))
+    (split b w there also))
     (λ (l : (a ≢ other) × (get_elem? views a ≡ some v)). ⊎_elim
-        (λ (r : (b ≡ id) × (p ≡ q)). absurd (l.0 (alone q a other v (Own p own) l.1 before owns r.1)))
-        (λ (r : (b ≢ other) × (get_elem? views b ≡ some w)). alone q a b v w l.1 r.1 owns also)
-        (split b w there also))
+    (λ (r : (b ≡ id) × (p ≡ q)). absurd (l.0 (alone q a other v (Own p own) l.1 before owns r.1)))
+    (λ (r : (b ≢ other) × (get_elem? views b ≡ some w)). alone q a b v w l.1 r.1 owns also)
+    (split b w there also))
     (split a v here owns)
 
 module _ {S : Type 0} where
@@ -134,6 +134,7 @@ module _ {S : Type 0} where
       one : AllFit 0 [] (Keeper 0 [] ∷ [])
       one zero v e = subst (λ (y : View). Fits 0 [] 0 y) (some-injective _ _ e) (refl, refl, refl)
       one (suc seat) v e = absurd (some-ne-none v (sym e))
+
       once : AreAlone (Keeper 0 [] ∷ [])
       once p zero b v w here there owns also = absurd (no_owner p v (Keeper 0 []) (some-injective _ _ here) (λ never. never) owns)
       once p (suc a) b v w here there owns also = absurd (some-ne-none v (sym here))
@@ -151,9 +152,9 @@ module _ {S : Type 0} where
             (λ seat. (omega (arith, next), sym (k.later (n + 1) (omega (arith, next)))));
         alone = alone_snoc (set s.views id (Keeper (n + 1) all)) (Own (n + 1) []) (alone_set s.views id (Keeper n all) (Keeper (n + 1) all) k.alone at (λ p never. never))
             (λ p a v e owns also. ⊎_elim
-                (λ (x : (a ≡ id) × (Keeper (n + 1) all ≡ v)). no_owner p v (Keeper (n + 1) all) x.1 (λ never. never) owns)
-                (λ (x : (a ≢ id) × (get_elem? s.views a ≡ some v)). let few = within k.players k.log a v p (k.fits a v x.1) owns in omega (arith, few, also, next))
-                (at_set s.views id a (Keeper (n + 1) all) v e));
+            (λ (x : (a ≡ id) × (Keeper (n + 1) all ≡ v)). no_owner p v (Keeper (n + 1) all) x.1 (λ never. never) owns)
+            (λ (x : (a ≢ id) × (get_elem? s.views a ≡ some v)). let few = within k.players k.log a v p (k.fits a v x.1) owns in omega (arith, few, also, next))
+            (at_set s.views id a (Keeper (n + 1) all) v e));
         later = λ p more. k.later p (omega (arith, more));
       }
 
@@ -188,9 +189,9 @@ module _ {S : Type 0} where
             (λ seat. (mine.3, mine.4));
         alone = alone_snoc (set s.views id (Keeper n all)) (Own p own) (alone_set s.views id (Both n all p own) (Keeper n all) k.alone at (λ q never. absurd never))
             (λ q a v e owns also. ⊎_elim
-                (λ (x : (a ≡ id) × (Keeper n all ≡ v)). no_owner q v (Keeper n all) x.1 (λ never. never) owns)
-                (λ (x : (a ≢ id) × (get_elem? s.views a ≡ some v)). x.0 (k.alone q a id v (Both n all p own) x.1 at owns also))
-                (at_set s.views id a (Keeper n all) v e));
+            (λ (x : (a ≡ id) × (Keeper n all ≡ v)). no_owner q v (Keeper n all) x.1 (λ never. never) owns)
+            (λ (x : (a ≢ id) × (get_elem? s.views a ≡ some v)). x.0 (k.alone q a id v (Both n all p own) x.1 at owns also))
+            (at_set s.views id a (Keeper n all) v e));
         later = k.later;
       }
 
@@ -202,7 +203,7 @@ module _ {S : Type 0} where
       let log : List NoteValue = k.log ++ note ∷ [] in
       let now : View = Both n (all ++ note ∷ []) p (own ++ note ∷ []) in
       let part : own ++ note ∷ [] ≡ part_of p log =
-        ap (λ (notes : List NoteValue). notes ++ note ∷ []) mine.4 ∙ subst (λ (q : ℕ). part_of q k.log ++ note ∷ [] ≡ part_of q log) of (sym (part_with note k.log)) in (
+      ap (λ (notes : List NoteValue). notes ++ note ∷ []) mine.4 ∙ subst (λ (q : ℕ). part_of q k.log ++ note ∷ [] ≡ part_of q log) of (sym (part_with note k.log)) in (
         now,
         keeps,
         tt,

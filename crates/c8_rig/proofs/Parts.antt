@@ -1,5 +1,5 @@
 -- Where a note of a log stands in its player's part.
-use Rattle.std.proofs.Common.{◌≡◌, ◌<◌, ◌≤◌, ◌+◌, ℕ, zero, suc, List, [], ◌∷◌, ◌++◌, length, take, set, Some, inl, inr, refl, sym, ap, subst, ◌∙◌, arith}
+use Rattle.std.proofs.Common.{◌≡◌, ◌<◌, ◌≤◌, ◌+◌, ℕ, zero, suc, List, [], ◌∷◌, length, take, set, Some, inl, inr, refl, sym, ap, subst, ◌∙◌, arith}
 use Rattle.std.specs.Prelude.{slice_index_or}
 use Rattle.std.specs.List.{slice_get}
 use Rattle.std.proofs.lemmas.List.{set-get_or}
@@ -19,7 +19,6 @@ part_at p (n ∷ log) (suc i) note e own =
       | inl same ↦ rw (eq-eqb (player_of n.act) p same) (part_at p log i note e own)
       | inr apart ↦ rw (ne_eqb (player_of n.act) p apart) (part_at p log i note e own)
     ]
-
 
 -- ---- the entries, one after the other
 

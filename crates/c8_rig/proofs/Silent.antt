@@ -6,11 +6,11 @@ use Rattle.c8_disk.specs.declared.error.DiskError.{DiskError}
 use Rattle.c8_wire.specs.declared.error.WireError.{WireError}
 use Rattle.c8_wire.specs.Packet.{Packet}
 use Rattle.c8_known.specs.Journal.{Record}
-use Rattle.c8_known.specs.Known.{KnownValue, count_in, known_of}
-use Rattle.c8_peer.specs.State.{Memory, Mode, Open, Down, Away, State, Call, Tick, Deliver, Say, Leave, Decide, Reply, Outcome}
+use Rattle.c8_known.specs.Known.{KnownValue, known_of}
+use Rattle.c8_peer.specs.State.{Memory, Mode, Open, Down, Away, State, Call, Tick, Deliver, Say, Leave, Decide, Outcome}
 use Rattle.c8_peer.specs.Steps.{Luck, Works, Refuses, outcome, refused_by_disk, when_down, done, at_mode, step}
 use Rattle.c8_peer.specs.Opening.{Opening, NoPlayer, Stands, NotWritten, NoMemory, NotRead, Unfit, Spent, opened}
-use Rattle.c8_peer.proofs.MemoryLemmas.{Changes, tick_is, leave_is, decide_is, deliver_is, no_packet_is}
+use Rattle.c8_peer.proofs.MemoryLemmas.{tick_is, leave_is, decide_is, deliver_is, no_packet_is}
 use Rattle.c8_world.specs.World.{said_by}
 
 abbrev IsSilent : Outcome → Type 0

@@ -1,12 +1,12 @@
 -- The steps, for tokens whose views are known by their invariants.
-use Rattle.std.proofs.Common.{◌≡◌, ◌≤◌, ℕ, List, [], ◌∷◌, ◌++◌, sym, ap, ◌∙◌, subst}
+use Rattle.std.proofs.Common.{◌≡◌, ℕ, [], ◌∷◌, ◌++◌, sym, ap, ◌∙◌, subst}
 use Rattle.atomic_table.specs.Table.{Me, Allows, Splits, Joins}
 use Rattle.atomic_table.specs.Seated.{TableId}
 use Rattle.c8_world.specs.World.{player_of}
 use Rattle.c8_rig.specs.declared.views.View.{View}
-use Rattle.c8_rig.specs.declared.views.View.TheVariants.{Keeper, Own, Both, Spent}
-use Rattle.c8_rig.specs.Log.{NoteValue, part_of}
-use Rattle.c8_rig.specs.checked.Rule.{Keeps, with_player, new_entry, both, keeper_of, entry_of, noted, TellsPart, Compares}
+use Rattle.c8_rig.specs.declared.views.View.TheVariants.{Keeper, Both, Spent}
+use Rattle.c8_rig.specs.Log.{NoteValue}
+use Rattle.c8_rig.specs.checked.Rule.{Keeps, with_player, new_entry, both, keeper_of, entry_of, noted, Compares}
 use Rattle.c8_rig.specs.Tokens.{EntryValue}
 use Rattle.c8_rig.specs.checked.Views.{IsKeeper, IsOwn, IsBoth, own_value}
 use Rattle.c8_rig.proofs.Moves.{enlists, joins, parts, notes, compares}

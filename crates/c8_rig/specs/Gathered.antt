@@ -1,5 +1,5 @@
 -- What the entries and the peers of all players come to.
-use Rattle.std.specs.Prelude.{◌≡◌, ◌↔◌, ℕ, ◌+◌, List, length, map, true, Bool, Option, Some}
+use Rattle.std.specs.Prelude.{◌≡◌, ◌↔◌, ℕ, ◌+◌, List, length, map, true, Bool, Some}
 use Rattle.std.specs.List.{slice_get}
 use Rattle.atomic_table.specs.Seated.{TableId}
 use Rattle.c8_disk.specs.declared.mem_disk.MemDisk.{MemDisk}

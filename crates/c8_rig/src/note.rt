@@ -44,8 +44,9 @@ fn is_same_act(one: Act, other: Act) -> bool
     match (one, other) {
         (Act::Open(a), Act::Open(b)) => a.number == b.number,
         (Act::Tick(a, keys), Act::Tick(b, others)) => a.number == b.number && keys.0 == others.0,
-        (Act::Say(a, to, kind), Act::Say(b, other_to, other_kind)) =>
-            a.number == b.number && to.number == other_to.number && is_same_kind(kind, other_kind),
+        (Act::Say(a, to, kind), Act::Say(b, other_to, other_kind)) => a.number == b.number
+            && to.number == other_to.number
+            && is_same_kind(kind, other_kind),
         (Act::Give(n, a), Act::Give(m, b)) => n == m && a.number == b.number,
         (Act::Leave(a), Act::Leave(b)) => a.number == b.number,
         (Act::Decide(a), Act::Decide(b)) => a.number == b.number,
@@ -58,7 +59,8 @@ fn is_same_kind(one: Kind, other: Kind) -> bool
     ensures { saying_of one ≡ saying_of other → result ≡ true }
 {
     match (one, other) {
-        (Kind::Hello, Kind::Hello) | (Kind::Welcome, Kind::Welcome) | (Kind::Data, Kind::Data) => true,
+        (Kind::Hello, Kind::Hello) | (Kind::Welcome, Kind::Welcome) | (Kind::Data, Kind::Data) =>
+            true,
         (Kind::Freeze(a), Kind::Freeze(b)) => a.number == b.number,
         (Kind::Frozen(a), Kind::Frozen(b)) => a.number == b.number,
         (Kind::Cut(a), Kind::Cut(b)) => a.number == b.number,

@@ -1,9 +1,7 @@
-use Rattle.std.proofs.Common.{◌≡◌, ap, map, take, ◌∙◌, length, List}
-use Rattle.std.specs.Prelude.{true, ◌↔◌}
+use Rattle.std.proofs.Common.{◌≡◌, ap, map, take, ◌∙◌, List}
 use Rattle.c8_disk.specs.declared.mem_disk.MemDisk.{MemDisk}
 use Rattle.c8_peer.specs.Peer.{PeerValue, known_by}
-use Rattle.c8_world.specs.declared.ends.Standing.{Standing}
-use Rattle.c8_world.specs.Ends.{known_at, HaveAgreed}
+use Rattle.c8_world.specs.Ends.{known_at}
 use Rattle.c8_rig.proofs.Parts.{take_all}
 use Rattle.c8_rig.proofs.gathering.agree.Goals as goal
 

@@ -2,7 +2,7 @@ use Rattle.std.proofs.Common.{[]}
 use Rattle.c8_wire.specs.checked.Read.{read}
 use Rattle.c8_peer.specs.State as calls
 use Rattle.c8_world.specs.World.{Tick, Give, Leave, Decide}
-use Rattle.c8_rig.proofs.Playing.{stays, joins, calls_on, says_on}
+use Rattle.c8_rig.proofs.Playing.{joins, calls_on, says_on}
 use Rattle.c8_rig.proofs.laws.peers_play_on.Goals as goal
 
 pub returns-clause-ticks : goal.returns-clause-ticks

@@ -1,4 +1,4 @@
-use Rattle.std.proofs.Common.{rules, ◌≡◌, ◌≤◌, [], ◌∷◌, ◌++◌, length}
+use Rattle.std.proofs.Common.{rules, ◌≡◌, ◌≤◌, [], ◌∷◌, ◌++◌}
 use Rattle.c8_wire.specs.declared.sizes.TheConstants.{LONGEST_DATAGRAM}
 use Rattle.c8_world.specs.Events.{act_of}
 use Rattle.c8_world.specs.World.{player_of}

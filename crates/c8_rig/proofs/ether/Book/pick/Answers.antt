@@ -1,4 +1,4 @@
-use Rattle.std.proofs.Common.{rules, ◌<◌, ◌%◌, length, sym}
+use Rattle.std.proofs.Common.{rules, ◌<◌, ◌%◌, length}
 use Rattle.c8_rig.proofs.Growth.{nobody_said, drawn}
 use Rattle.c8_rig.proofs.ether.Book.pick.Goals as goal
 

@@ -1,4 +1,4 @@
-use Rattle.std.proofs.Common.{◌≡◌, ◌≤◌, []}
+use Rattle.std.proofs.Common.{◌≡◌, []}
 use Rattle.c8_rig.specs.Tokens.{first_entries}
 use Rattle.c8_rig.proofs.ether.Unnamed.open.Given as goal
 
