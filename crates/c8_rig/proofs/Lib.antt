@@ -6,3 +6,4 @@ pub mod TokenMoves
 pub mod Openings
 pub mod Playing
 pub mod Parts
+pub mod Rigging

@@ -2,6 +2,8 @@
 use Rattle.std.proofs.Common.{◌≡◌, ℕ, List, [], ◌∷◌, ◌++◌, Some, Ok, refl, sym, ap, subst, ◌∙◌, append-nil, append_assoc}
 use Rattle.c8_game.specs.Rules.{Rules}
 use Rattle.c8_disk.specs.declared.disk.Disk.{Ghosts}
+use Rattle.c8_log.specs.Slots.{kept, kept_count}
+use Rattle.c8_record.specs.Body.{records_of}
 use Rattle.c8_peer.specs.State.{State, Call, Reply, Say, Saying, Said}
 use Rattle.c8_peer.specs.Steps.{Works}
 use Rattle.c8_peer.specs.Lawful.{IsCall}
@@ -16,6 +18,11 @@ use Rattle.c8_rig.specs.Players.{HasPlayed}
 leads_joined : (rules : Rules) (room p : ℕ) (s u t : State) (notes more : List NoteValue) → Leads rules room p s notes u → Leads rules room p u more t → Leads rules room p s (notes ++ more) t
 leads_joined rules room p s u t [] more is next = subst (λ (x : State). Leads rules room p x more t) is next
 leads_joined rules room p s u t (n ∷ notes) more is next = (is.0, is.1, leads_joined rules room p is.0 u t notes more is.2 next)
+
+-- an empty disk keeps nothing
+pub kept_none : records_of (kept []) ≡ []
+unfolding kept kept_count
+kept_none = refl
 
 module _ {D : Type 0} where
   pub stays : (e : EntryValue) (p : PeerValue D) → HasPlayed e p e p

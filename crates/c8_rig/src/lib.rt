@@ -8,6 +8,8 @@ mod ether;
 mod gathering;
 pub mod laws;
 mod note;
+
+mod threads;
 mod tokens;
 mod views;
 mod worker;
@@ -15,4 +17,5 @@ mod worker;
 pub use ether::{Entry, Ether, Room, Unnamed};
 pub use gathering::{Gathering, gather};
 pub use note::Note;
+pub use threads::rig;
 pub use worker::rig_worker;

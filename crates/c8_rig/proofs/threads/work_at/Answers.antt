@@ -1,0 +1,19 @@
+use Rattle.std.proofs.Common.{ℕ, List, ap, subst, ◌∙◌}
+use Rattle.std.specs.Prelude.{IfSome}
+use Rattle.c8_log.specs.Slots.{kept}
+use Rattle.c8_record.specs.Body.{records_of}
+use Rattle.c8_rig.specs.Log.{Leads}
+use Rattle.c8_rig.specs.Players.{away_with}
+use Rattle.c8_known.specs.Journal.{Record}
+use Rattle.c8_rig.proofs.Playing.{kept_none}
+use Rattle.c8_rig.proofs.threads.work_at.Goals as goal
+
+pub returns : goal.returns
+returns g c =
+    let worked = c.rig_worker-entry.ensures in
+    record {
+      ether = worked.entry.0;
+      player = worked.entry.1;
+      led = subst (λ (journal : List Record). IfSome c.rig_worker-entry.result.1 (λ q. Leads c.args.game.now 0 c.args.job.entry.player (away_with journal) c.rig_worker-entry.result.0.notes q.state))
+          (ap (λ (bytes : List ℕ). records_of (kept bytes)) c.requires.empty ∙ kept_none) worked.led;
+    }

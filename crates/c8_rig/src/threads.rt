@@ -1,0 +1,162 @@
+//! A match whose players are threads.
+ghost use Rattle.std.specs.Prelude.{◌≡◌, ◌<◌, ◌≤◌, ℕ, [], length, map, Some, IfOk, IfSome};
+ghost use Rattle.std.specs.List.{All};
+ghost use Rattle.c8_disk.specs.Memory.{bytes_of};
+ghost use Rattle.c8_rig.specs.Tokens.{first_entries};
+ghost use Rattle.c8_rig.specs.Rigged.{HasWorked, IsPlayedAt, IsRigged};
+
+use crate::ether::{Entry, Ether, Room, Unnamed};
+use crate::gathering::{Gathering, gather};
+use crate::laws::{a_log_is_a_world, moments_of_a_log_agree};
+use crate::worker::rig_worker;
+use c8_disk::MemDisk;
+use c8_game::Game;
+use c8_live::Gate;
+use c8_peer::Peer;
+use std::alloc::{AllocError, Global};
+use std::marker::Brand;
+use std::sync::Wait;
+use std::thread::{Threads, map_vec};
+
+/// What a thread begins with.
+#[derive(Drop)]
+struct Job {
+    entry: Entry,
+    disk: MemDisk,
+}
+
+/// What a thread comes back with.
+#[derive(Drop)]
+struct Played<'g> {
+    entry: Entry,
+    peer: Option<Peer<'g, MemDisk>>,
+}
+
+/// The players of a game, each in a thread of its own, over one ether, in room 0, on empty disks: each
+/// takes so many turns, by a generator of the seed and the player's number, as long as the gate lets
+/// it. The error is want of memory.
+pub fn rig<'g, R: Threads + Wait + Sync, G: Gate + Sync>(
+    rt: &R,
+    alloc: Global,
+    game: &'g Game,
+    seed: u64,
+    turns: u16,
+    gate: &G,
+) -> Result<Gathering<'g>, AllocError>
+    ensures { IfOk result (λ gathering. IsRigged game.entry.now gathering) }
+{
+    game.in_range();
+    let (ether, entries) = Unnamed::open(alloc, game)?;
+    rigged::<Brand, R, G>(rt, alloc, game, ether, entries, seed, turns, gate)
+}
+
+/// The same over an ether that the proof names.
+fn rigged<'g, B: Room + Send + Sync, R: Threads + Wait + Sync, G: Gate + Sync>(
+    rt: &R,
+    alloc: Global,
+    game: &'g Game,
+    ether: Unnamed,
+    entries: Vec<Entry>,
+    seed: u64,
+    turns: u16,
+    gate: &G,
+) -> Result<Gathering<'g>, AllocError>
+    requires ether { ether.ether ≡ B.ether }
+    requires players { ether.players ≡ B.players }
+    requires few { B.players ≤ 4 }
+    requires game { game.now.players ≡ B.players }
+    requires entries { entries.items ≡ first_entries B.ether B.players }
+    ensures { IfOk result (λ gathering. IsRigged game.entry.now gathering) }
+{
+    let ether = ether.named::<B>(alloc);
+    let jobs = jobs_of(alloc, entries, turns)?;
+    let turns = u64::from(turns);
+    let work = |job: Job| -> Played<'_>
+        requires { (job.entry.ether ≡ B.ether) × (job.entry.notes ≡ []) × (bytes_of job.disk ≡ []) }
+        ensures { HasWorked game.entry.now job.entry result.entry result.peer }
+    { work_at(rt, alloc, &ether, game, job, seed, turns, gate) };
+    let played = map_vec(rt, jobs, &work)?;
+    let Some((entries, peers)) = parted(alloc, played)? else {
+        return Err(AllocError);
+    };
+    together(alloc, game, ether, entries, peers)
+}
+
+/// What each thread begins with: its entry, and an empty disk with room for a record a turn.
+fn jobs_of(alloc: Global, entries: Vec<Entry>, turns: u16) -> Result<Vec<Job>, AllocError>
+    ensures entries { IfOk result (λ jobs. map (λ job. job.entry) jobs.items ≡ entries.items) }
+    ensures disks { IfOk result (λ jobs. All (λ job. bytes_of job.disk ≡ []) jobs.items) }
+{
+    let turns = u32::from(turns);
+    let mut jobs = Vec::with_capacity(alloc, entries.len())?;
+    for entry in entries {
+        let disk = MemDisk::new(alloc, 144 * (turns + 2) + 1, 4 * turns + 16)?;
+        jobs.push(Job { entry, disk })?;
+    }
+    Ok(jobs)
+}
+
+/// One thread.
+fn work_at<'g, B: Room, R: Wait, G: Gate>(
+    rt: &R,
+    alloc: Global,
+    ether: &Ether<B>,
+    game: &'g Game,
+    job: Job,
+    seed: u64,
+    turns: u64,
+    gate: &G,
+) -> Played<'g>
+    requires ether { job.entry.ether ≡ B.ether }
+    requires unused { job.entry.notes ≡ [] }
+    requires empty { bytes_of job.disk ≡ [] }
+    ensures { HasWorked game.entry.now job.entry result.entry result.peer }
+{
+    let Job { entry, disk } = job;
+    let (entry, peer) = rig_worker(rt, alloc, ether, entry, game, disk, seed, turns, gate);
+    Played { entry, peer }
+}
+
+/// The entries and the peers, where all threads came back with one.
+fn parted<'g>(
+    alloc: Global,
+    played: Vec<Played<'g>>,
+) -> Result<Option<(Vec<Entry>, Vec<Peer<'g, MemDisk>>)>, AllocError>
+    ensures entries { IfOk result (λ found. IfSome found (λ r.
+        r.0.items ≡ map (λ one. one.entry) played.entry.items)) }
+    ensures peers { IfOk result (λ found. IfSome found (λ r.
+        map Some r.1.items ≡ map (λ one. one.peer) played.entry.items)) }
+{
+    let mut entries = Vec::with_capacity(alloc, played.len())?;
+    let mut peers = Vec::with_capacity(alloc, played.len())?;
+    for one in played {
+        let Played { entry, peer } = one;
+        let Some(peer) = peer else {
+            return Ok(None);
+        };
+        entries.push(entry)?;
+        peers.push(peer)?;
+    }
+    Ok(Some((entries, peers)))
+}
+
+/// What all threads came back with, gathered.
+fn together<'g, B: Room>(
+    alloc: Global,
+    game: &Game,
+    ether: Ether<B>,
+    entries: Vec<Entry>,
+    peers: Vec<Peer<'g, MemDisk>>,
+) -> Result<Gathering<'g>, AllocError>
+    requires game { game.now.players ≡ B.players }
+    requires entries { length entries.items ≡ B.players }
+    requires peers { length peers.items ≡ B.players }
+    requires played { (i : ℕ) → i < B.players
+        → IsPlayedAt game.now B.ether entries.items peers.items i }
+    ensures { IfOk result (λ gathering. IsRigged game.now gathering) }
+{
+    a_log_is_a_world();
+    moments_of_a_log_agree();
+    game.in_range();
+    gather(alloc, ether, entries, peers)
+}
