@@ -1,8 +1,9 @@
 -- A lawful log is a list of events of a world: note by note, what follows at a peer follows in the world.
-use Rattle.std.proofs.Common.{◌≡◌, ◌≢◌, ◌<◌, ◌^◌, inl, inr, ℕ, zero, suc, ◌-◌, append-nil, append_assoc, length-set, List, [], ◌∷◌, ◌++◌, length, map, false, Some, Ok, refl, sym, ap, subst, ◌∙◌}
+use Rattle.std.specs.Prelude.{slice_set, replicate}
+use Rattle.std.proofs.Common.{◌≡◌, ◌≢◌, ◌<◌, ◌^◌, inl, inr, ℕ, zero, suc, ◌-◌, append-nil, append_assoc, length-set, List, [], ◌∷◌, ◌++◌, length, map, true, false, Some, Ok, refl, sym, ap, subst, ◌∙◌, arith}
 use Rattle.std.specs.List.{slice_get}
-use Rattle.std.proofs.lemmas.List.{length-replicate}
-use Rattle.std.proofs.lemmas.Bool.{cases_eq, eq-eqb, ne_eqb}
+use Rattle.std.proofs.lemmas.List.{length-replicate, get_or-set_same, get_or-set_other, get_or-replicate, get_or_past}
+use Rattle.std.proofs.lemmas.Bool.{cases_eq, cases_lt, eq-eqb, ne_eqb, le-leb}
 use Rattle.c8_game.specs.Rules.{Rules, AreInRange}
 use Rattle.c8_wire.specs.Packet.{Packet}
 use Rattle.c8_wire.specs.Spelling.{Spells}
@@ -12,13 +13,38 @@ use Rattle.c8_peer.specs.State as calls
 use Rattle.c8_peer.specs.State.{Mode, Down, Away, State, Call, Reply, Said}
 use Rattle.c8_peer.specs.Steps.{Luck, Works, Stepped, outcome, when_down, at_mode, step}
 use Rattle.c8_peer.specs.Opening.{NoMemory, found, opened}
-use Rattle.c8_world.specs.World.{World, start, never_opened, peer_of, Act, Open, Tick, Say, Give, Leave, Decide, player_of, Event, Answer, Happening, said_by as said_in_reply, stepped, call_at_mode, call_at, open_at_mode, open_at, give_to, acted, CanHappen, Chain, IsReached}
+use Rattle.c8_world.specs.World.{World, is_player, start, never_opened, peer_of, Act, Open, Tick, Say, Give, Leave, Decide, player_of, Event, Answer, Happening, said_by as said_in_reply, stepped, call_at_mode, call_at, open_at_mode, open_at, give_to, acted, CanHappen, Chain, IsReached}
 use Rattle.c8_world.specs.Agreement.{IsPlayer}
 use Rattle.c8_world.specs.Headline.{IsHeadline}
-use Rattle.c8_world.proofs.Worlds.{peer_here, peer_there, peer_at_start}
-use Rattle.c8_world.proofs.Openings.{plays_so}
 use Rattle.c8_rig.specs.Log.{NoteValue, said_in, said_by, WasSaid, MayFollow, IsLawful, part_of, IsCalled, IsOpenedAnew, IsAnything, IsSpelled, Follows, Leads, AreLed, event_of, AreSpelled, GoesOn, IsWorld, AreMoments}
 use Rattle.c8_rig.proofs.Silent.{IsNoSaying, step_silent, down_silent, opened_silent}
+
+-- ---- worlds
+
+abbrev placed : World → ℕ → State → List Packet → World
+placed w p s new = record { peers = slice_set w.peers (p - 1) s; said = w.said ++ new }
+
+peer_here : (rules : Rules) (w : World) (p : ℕ) (s : State) (new : List Packet) → length w.peers ≡ rules.players → IsPlayer rules p → peer_of (placed w p s new) p ≡ s
+peer_here rules w p s new nodes plays =
+    let from = plays.from_one in
+    let to = plays.in_game in
+    get_or-set_same w.peers (p - 1) s never_opened (omega (arith, from, to, nodes))
+
+peer_there : (rules : Rules) (w : World) (p : ℕ) (s : State) (new : List Packet) (q : ℕ) → IsPlayer rules p → IsPlayer rules q → q ≢ p → peer_of (placed w p s new) q ≡ peer_of w q
+peer_there rules w p s new q plays q_plays apart =
+    let from = plays.from_one in
+    let also = q_plays.from_one in
+    get_or-set_other w.peers (p - 1) (q - 1) s never_opened (λ e. apart (omega (arith, e, from, also)))
+
+peer_at_start : (rules : Rules) (p : ℕ) → peer_of (start rules) p ≡ never_opened
+peer_at_start rules p =
+    elim (cases_lt (p - 1) rules.players) [
+      | inl within ↦ get_or-replicate rules.players (p - 1) never_opened never_opened within
+      | inr past ↦ get_or_past (replicate rules.players never_opened) (p - 1) never_opened (omega (arith, past, length-replicate rules.players never_opened))
+    ]
+
+plays_so : (rules : Rules) (p : ℕ) → IsPlayer rules p → is_player rules p ≡ true
+plays_so rules p plays = rw (le-leb 1 p plays.from_one, le-leb p rules.players plays.in_game) refl
 
 -- ---- what an act makes of a world
 

@@ -1,6 +1,6 @@
 -- What comes back from all threads.
-use Rattle.std.proofs.Common.{◌≡◌, ◌<◌, ◌^◌, ◌+◌, ◌-◌, ℕ, List, [], ◌∷◌, ◌++◌, length, map, Option, Some, None, Ok, Err, ⊎_elim, refl, sym, ap, subst, ◌∙◌, arith}
-use Rattle.std.specs.Prelude.{slice_index_or, option_map, Result, IfOk, IfSome, Bool}
+use Rattle.std.proofs.Common.{◌≡◌, ◌<◌, ◌^◌, ◌+◌, ◌-◌, ℕ, List, [], ◌++◌, length, map, Option, Some, None, Ok, Err, ⊎_elim, refl, sym, ap, subst, ◌∙◌, arith}
+use Rattle.std.specs.Prelude.{slice_index_or, option_map, Result, IfOk, IfSome}
 use Rattle.std.specs.List.{slice_get, range_with_len}
 use Rattle.std.proofs.lemmas.List.{get_or-map, length-map}
 use Rattle.std.proofs.lemmas.List.FromFn.{get_or-map-range_with_len, length-range_with_len}
@@ -11,7 +11,6 @@ use Rattle.c8_disk.specs.declared.mem_disk.MemDisk.{MemDisk}
 use Rattle.c8_peer.specs.State.{State}
 use Rattle.c8_peer.specs.Peer.{PeerValue}
 use Rattle.c8_world.specs.World.{never_opened}
-use Rattle.c8_world.specs.Agreement.{IsPlayer}
 use Rattle.c8_rig.specs.Log.{NoteValue, IsLawful, part_of, Leads, AreLed, IsWorld, AreMoments}
 use Rattle.c8_rig.specs.Tokens.{EntryValue, first_entries}
 use Rattle.c8_rig.specs.Gathered.{AreAll, HaveAgreedOrNot, IsGathering}
@@ -45,7 +44,7 @@ pub played_at : {P : Type 0} (rules : Rules) (ether : TableId) (entry : P → En
     → first ≡ record { ether = ether; player = i + 1; notes = [] } → HasWorked rules first (entry r) (peer r) → IsPlayedAt rules ether entries peers i
 played_at rules ether entry peer played entries peers are also i r first at is worked =
     let inside = some_inside (slice_get peers i) (peer r)
-        (sym (slice_get-map Some peers i) ∙ ap (λ (ps : List (Option (PeerValue MemDisk))). slice_get ps i) also ∙ slice_get-map peer played i ∙ ap (option_map peer) at) in
+    (sym (slice_get-map Some peers i) ∙ ap (λ (ps : List (Option (PeerValue MemDisk))). slice_get ps i) also ∙ slice_get-map peer played i ∙ ap (option_map peer) at) in
     let number : first.player ≡ i + 1 = ap (λ (e : EntryValue). e.player) is in
     record {
       entry = entry r;
@@ -67,9 +66,9 @@ all_played rules ether n first entry peer jobs played entries peers begins as_ma
     let within : i < length jobs = omega (arith, few, size) in
     ⊎_elim
     (λ found.
-        let at : found.0 ≡ slice_index_or played i found.0 = sym found.3 in
-        let one = worked i found.0 within at in
-        played_at rules ether entry peer played entries peers are also i found.0 (first one.0) found.2 (first_at first ether n jobs begins i one.0 within one.1) one.2)
+    let at : found.0 ≡ slice_index_or played i found.0 = sym found.3 in
+    let one = worked i found.0 within at in
+    played_at rules ether entry peer played entries peers are also i found.0 (first one.0) found.2 (first_at first ether n jobs begins i one.0 within one.1) one.2)
     (λ past. let far = past.0 in absurd (omega (arith, within, as_many, far)))
     (slice_get_cases played i).1
 
@@ -112,7 +111,7 @@ all_led rules ether log entries peers played parts p plays =
     let part : a.entry.notes ≡ part_of p log = parts (p - 1) a.entry a.there ∙ ap (λ (q : ℕ). part_of q log) (a.player_is ∙ number) in
     let within = slice_get_within peers (p - 1) a.peer a.peer_there in
     let state : a.peer.state ≡ states_of peers p =
-      sym (get_or-map (λ (q : PeerValue MemDisk). q.state) peers (p - 1) a.peer never_opened within ∙ ap (λ (q : PeerValue MemDisk). q.state) (get_or_from_slice_get peers (p - 1) a.peer a.peer a.peer_there)) in
+    sym (get_or-map (λ (q : PeerValue MemDisk). q.state) peers (p - 1) a.peer never_opened within ∙ ap (λ (q : PeerValue MemDisk). q.state) (get_or_from_slice_get peers (p - 1) a.peer a.peer a.peer_there)) in
     subst (λ (q : ℕ). Leads rules 0 q never_opened (part_of p log) (states_of peers p)) number
     (subst (λ (s : State). Leads rules 0 (p - 1 + 1) never_opened (part_of p log) s) state
     (subst (λ (notes : List NoteValue). Leads rules 0 (p - 1 + 1) never_opened notes a.peer.state) part a.led))
@@ -121,7 +120,7 @@ rigged_so : AreWorlds → AreMatches → (rules : Rules) (ether : TableId) (entr
     → ((i : ℕ) → i < rules.players → IsPlayedAt rules ether entries peers i) → IsGathering rules.players entries peers gathering → IsRigged rules gathering
 rigged_so worlds matches rules ether entries peers (Gathered log held agree) range played is =
     let led : AreLed rules 0 log.items (states_of held.items) =
-      subst (λ (ps : List (PeerValue MemDisk)). AreLed rules 0 log.items (states_of ps)) (sym is.2) (all_led rules ether log.items entries peers played is.1) in
+    subst (λ (ps : List (PeerValue MemDisk)). AreLed rules 0 log.items (states_of ps)) (sym is.2) (all_led rules ether log.items entries peers played is.1) in
     record {
       lawful = is.0;
       world = worlds rules 0 log.items (states_of held.items) is.0 led;

@@ -1,5 +1,5 @@
 -- A match whose players are threads.
-use Rattle.std.specs.Prelude.{◌≡◌, ◌+◌, ◌-◌, ℕ, List, [], ◌++◌, map, slice_index_or, Bool, Option, Some, IfSome}
+use Rattle.std.specs.Prelude.{◌≡◌, ◌+◌, ◌-◌, ℕ, List, ◌++◌, map, slice_index_or, Bool, Option, Some, IfSome}
 use Rattle.std.specs.List.{slice_get}
 use Rattle.atomic_table.specs.Seated.{TableId}
 use Rattle.c8_game.specs.Rules.{Rules}
@@ -7,7 +7,7 @@ use Rattle.c8_disk.specs.declared.mem_disk.MemDisk.{MemDisk}
 use Rattle.c8_peer.specs.State.{State}
 use Rattle.c8_peer.specs.Peer.{PeerValue}
 use Rattle.c8_world.specs.World.{never_opened}
-use Rattle.c8_rig.specs.Log.{NoteValue, IsLawful, Leads, AreLed, IsWorld, AreMoments}
+use Rattle.c8_rig.specs.Log.{NoteValue, IsLawful, Leads, IsWorld, AreMoments}
 use Rattle.c8_rig.specs.Tokens.{EntryValue}
 use Rattle.c8_rig.specs.Gathered.{HaveAgreedOrNot}
 use Rattle.c8_rig.specs.declared.gathering.Gathering.{Gathering}

@@ -8,7 +8,6 @@ mod ether;
 mod gathering;
 pub mod laws;
 mod note;
-
 mod threads;
 mod tokens;
 mod views;

@@ -1,4 +1,4 @@
-use Rattle.std.proofs.Common.{◌≡◌, ◌<◌, ℕ, [], ap, sym, ◌∙◌, subst, List, length, map, Some, rules}
+use Rattle.std.proofs.Common.{◌≡◌, [], ap, sym, ◌∙◌, subst, length, map, Some, rules}
 use Rattle.c8_disk.specs.Memory.{bytes_of}
 use Rattle.c8_rig.specs.Tokens.{EntryValue, first_entries}
 use Rattle.c8_rig.specs.Rigged.{HasWorked}
@@ -9,8 +9,7 @@ pub map_vec-requires-after_bounds : goal.map_vec-requires-after_bounds
 map_vec-requires-after_bounds g c κs within i x few at =
     let jobs = c.in_ok-jobs.jobs.items in
     let is : map (λ job. job.entry) jobs ≡ first_entries g.B.Room.ether g.B.Room.players = c.in_ok-jobs.ensures.entries ∙ c.requires.entries in
-    let first = first_at (λ job. job.entry) g.B.Room.ether g.B.Room.players jobs is i x few at in
-    (
+    let first = first_at (λ job. job.entry) g.B.Room.ether g.B.Room.players jobs is i x few at in (
       ap (λ (e : EntryValue). e.ether) first,
       ap (λ (e : EntryValue). e.notes) first,
       subst (λ job. bytes_of job.disk ≡ []) (sym at) (c.in_ok-jobs.ensures.disks i x few),
@@ -26,8 +25,8 @@ together-requires-clause-played g c =
     let also : map Some c.in-Some.peers.items ≡ map (λ one. one.peer) played = search rules in
     all_played c.args.game.now g.B.Room.ether g.B.Room.players (λ job. job.entry) (λ one. one.entry) (λ one. one.peer) jobs played c.in-Some.entries.items c.in-Some.peers.items begins as_many are also
     (λ i r few at.
-        let given = (c.in_ok-played.ensures.each i r few).1 in
-        (given.job, given.job_read, subst (λ one. HasWorked c.args.game.now given.job.entry one.entry one.peer) (sym at) given.call.met))
+    let given = (c.in_ok-played.ensures.each i r few).1 in
+    (given.job, given.job_read, subst (λ one. HasWorked c.args.game.now given.job.entry one.entry one.peer) (sym at) given.call.met))
 
 pub together-requires-clause-entries : goal.together-requires-clause-entries
 together-requires-clause-entries g c =

@@ -1,0 +1,73 @@
+//! Gates.
+use c8_live::{Gate, Worker};
+use std::sync::atomic::{AtomicU64, Ordering};
+use std::thread::sleep;
+use std::time::{Clock, Duration};
+
+/// Lets each worker make all its turns.
+#[derive(Drop)]
+pub(crate) struct Open;
+
+impl Gate for Open {
+    fn before(&self, _: Worker, _: u64) -> bool {
+        true
+    }
+
+    fn after(&self, _: Worker, _: u64) {}
+}
+
+/// For how many microseconds a worker sleeps between two looks.
+const PAUSE: u64 = 100;
+
+/// How often a worker looks whether another one has made its first turn: some seconds in all, for a
+/// machine whose processors are busy.
+const LOOKS: u32 = 100_000;
+
+/// Lets no worker make its second turn before so many have made their first.
+#[derive(Drop)]
+pub(crate) struct Meeting<'r, R> {
+    pub(crate) rt: &'r R,
+    pub(crate) workers: u64,
+    pub(crate) begun: AtomicU64,
+    pub(crate) turns: AtomicU64,
+}
+
+impl<'r, R: Clock> Meeting<'r, R> {
+    pub(crate) fn new(rt: &'r R, workers: u64) -> Meeting<'r, R> {
+        Meeting {
+            rt,
+            workers,
+            begun: AtomicU64::new(0),
+            turns: AtomicU64::new(0),
+        }
+    }
+
+    /// How many turns all have made.
+    pub(crate) fn turns(&self) -> u64 {
+        self.turns.load(Ordering::SeqCst)
+    }
+
+    /// Whether all have made their first turn, by then.
+    fn are_all_there(&self) -> bool {
+        for _ in 0..LOOKS {
+            if self.begun.load(Ordering::SeqCst) >= self.workers {
+                return true;
+            }
+            sleep(self.rt, Duration::from_micros(PAUSE));
+        }
+        false
+    }
+}
+
+impl<R: Clock> Gate for Meeting<'_, R> {
+    fn before(&self, _: Worker, turn: u64) -> bool {
+        turn == 0 || self.are_all_there()
+    }
+
+    fn after(&self, _: Worker, turn: u64) {
+        if turn == 0 {
+            self.begun.fetch_add(1, Ordering::SeqCst);
+        }
+        self.turns.fetch_add(1, Ordering::SeqCst);
+    }
+}
