@@ -69,7 +69,11 @@ fn players_in_threads_agree(rt: HostRuntime) -> Result<(), Fail> {
         let game = Game::read(rt.alloc(), text.as_bytes())?;
         for seed in 1..SEEDS + 1 {
             let gathering = rig(&rt, rt.alloc(), &game, seed, TURNS, &Open)?;
-            assert!(rt; is_lived(&gathering, place + 2, TURNS), "players {}, seed {seed}", place + 2);
+            assert!(rt;
+                is_lived(&gathering, place + 2, TURNS),
+                "players {}, seed {seed}",
+                place + 2
+            );
         }
     }
     Ok(())
