@@ -298,17 +298,21 @@ abbrev AreHeadlines : Type 0
 AreHeadlines = (rules : Rules) (room : ℕ) (w v : World) (events : List Event) (answers : List Answer) → AreInRange rules → room < 2 ^ 64
     → IsReached rules room w → Chain rules room w events answers v → IsHeadline rules room w v
 
-pub moments_of_log : AreRead → AreHeadlines → (rules : Rules) (room : ℕ) (front rest : List NoteValue) (states : ℕ → State) → AreInRange rules → room < 2 ^ 64
-    → IsLawful rules.players (front ++ rest) → AreLed rules room (front ++ rest) states → AreMoments rules room front rest states
-moments_of_log reads agree rules room front rest states range few lawful led =
-    let first = pass reads rules room states [] front rest (start rules) (length-replicate rules.players never_opened) lawful tt (λ p plays. rw (peer_at_start rules p) (led p plays)) in
-    let second = pass reads rules room states front rest [] first.world first.size (rw (append-nil rest) lawful) first.goes.spelled (λ p plays. rw (append-nil rest) (first.left p plays)) in
+pub moments_of_log : AreRead → AreHeadlines → (rules : Rules) (room : ℕ) (front between rest : List NoteValue) (states : ℕ → State) → AreInRange rules → room < 2 ^ 64
+    → IsLawful rules.players (front ++ between ++ rest) → AreLed rules room (front ++ between ++ rest) states → AreMoments rules room front between rest states
+moments_of_log reads agree rules room front between rest states range few lawful led =
+    let joins : front ++ between ++ rest ≡ front ++ (between ++ rest) = append_assoc front between rest in
+    let lawful' : IsLawful rules.players (front ++ (between ++ rest)) = subst (λ (log : List NoteValue). IsLawful rules.players log) joins lawful in
+    let led' : AreLed rules room (front ++ (between ++ rest)) states = subst (λ (log : List NoteValue). AreLed rules room log states) joins led in
+    let first = pass reads rules room states [] front (between ++ rest) (start rules) (length-replicate rules.players never_opened) lawful' tt (λ p plays. rw (peer_at_start rules p) (led' p plays)) in
+    let second = pass reads rules room states front between rest first.world first.size lawful' first.goes.spelled first.left in
     record {
       earlier = first.world;
       later = second.world;
       begins = first.goes;
       goes = second.goes;
-      peers = λ p plays. sym (second.left p plays);
-      headline = agree rules room first.world second.world (map event_of rest) second.goes.answers range few
+      led = first.left;
+      left = second.left;
+      headline = agree rules room first.world second.world (map event_of between) second.goes.answers range few
           (record { events = map event_of front; answers = first.goes.answers; chain = first.goes.chain }) second.goes.chain;
     }

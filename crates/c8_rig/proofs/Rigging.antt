@@ -14,6 +14,7 @@ use Rattle.c8_world.specs.World.{never_opened}
 use Rattle.c8_rig.specs.Log.{NoteValue, IsLawful, part_of, Leads, AreLed, IsWorld, AreMoments}
 use Rattle.c8_rig.specs.Tokens.{EntryValue, first_entries}
 use Rattle.c8_rig.specs.Gathered.{AreAll, HaveAgreedOrNot, IsGathering}
+use Rattle.c8_rig.specs.Players.{IsPeerOf}
 use Rattle.c8_rig.specs.Rigged.{HasWorked, IsPlayedAt, states_of, IsRigged}
 use Rattle.c8_rig.specs.declared.gathering.Gathering.{Gathering}
 use Rattle.c8_rig.specs.declared.gathering.Gathering.TheVariants.{Gathered, Torn}
@@ -53,6 +54,7 @@ played_at rules ether entry peer played entries peers are also i r first at is w
       peer_there = inside.1;
       ether_is = worked.ether ∙ ap (λ (e : EntryValue). e.ether) is;
       player_is = worked.player ∙ number;
+      plays = subst (λ (p : ℕ). IsPeerOf rules p inside.0) number (subst (λ (o : Option (PeerValue MemDisk)). IfSome o (λ q. IsPeerOf rules first.player q)) inside.2 worked.plays);
       led = subst (λ (p : ℕ). Leads rules 0 p never_opened (entry r).notes inside.0.state) number
           (subst (λ (o : Option (PeerValue MemDisk)). IfSome o (λ q. Leads rules 0 first.player never_opened (entry r).notes q.state)) inside.2 worked.led);
     }
@@ -98,8 +100,8 @@ abbrev pub AreWorlds : Type 0
 AreWorlds = (rules : Rules) (room : ℕ) (log : List NoteValue) (states : ℕ → State) → IsLawful rules.players log → AreLed rules room log states → IsWorld rules room log states
 
 abbrev pub AreMatches : Type 0
-AreMatches = (rules : Rules) (room : ℕ) (front rest : List NoteValue) (states : ℕ → State) → AreInRange rules → room < 2 ^ 64 → IsLawful rules.players (front ++ rest)
-    → AreLed rules room (front ++ rest) states → AreMoments rules room front rest states
+AreMatches = (rules : Rules) (room : ℕ) (front between rest : List NoteValue) (states : ℕ → State) → AreInRange rules → room < 2 ^ 64 → IsLawful rules.players (front ++ between ++ rest)
+    → AreLed rules room (front ++ between ++ rest) states → AreMoments rules room front between rest states
 
 all_led : (rules : Rules) (ether : TableId) (log : List NoteValue) (entries : List EntryValue) (peers : List (PeerValue MemDisk)) → ((i : ℕ) → i < rules.players → IsPlayedAt rules ether entries peers i)
     → ((i : ℕ) (e : EntryValue) → slice_get entries i ≡ Some e → e.notes ≡ part_of e.player log) → AreLed rules 0 log (states_of peers)
@@ -116,20 +118,32 @@ all_led rules ether log entries peers played parts p plays =
     (subst (λ (s : State). Leads rules 0 (p - 1 + 1) never_opened (part_of p log) s) state
     (subst (λ (notes : List NoteValue). Leads rules 0 (p - 1 + 1) never_opened notes a.peer.state) part a.led))
 
-rigged_so : AreWorlds → AreMatches → (rules : Rules) (ether : TableId) (entries : List EntryValue) (peers : List (PeerValue MemDisk)) (gathering : Gathering) → AreInRange rules
+unsome : {X : Type 0} (a b : X) → Some a ≡ Some b → a ≡ b
+unsome a b e = cc
+
+all_plays : (rules : Rules) (ether : TableId) (entries : List EntryValue) (peers : List (PeerValue MemDisk)) → length peers ≡ rules.players
+    → ((i : ℕ) → i < rules.players → IsPlayedAt rules ether entries peers i) → (i : ℕ) (q : PeerValue MemDisk) → slice_get peers i ≡ Some q → IsPeerOf rules (i + 1) q
+all_plays rules ether entries peers size played i q at =
+    let within = slice_get_within peers i q at in
+    let a = played i (omega (arith, within, size)) in
+    subst (λ (x : PeerValue MemDisk). IsPeerOf rules (i + 1) x) (unsome a.peer q (sym a.peer_there ∙ at)) a.plays
+
+rigged_so : AreWorlds → AreMatches → (rules : Rules) (ether : TableId) (entries : List EntryValue) (peers : List (PeerValue MemDisk)) (gathering : Gathering) → AreInRange rules → length peers ≡ rules.players
     → ((i : ℕ) → i < rules.players → IsPlayedAt rules ether entries peers i) → IsGathering rules.players entries peers gathering → IsRigged rules gathering
-rigged_so worlds matches rules ether entries peers (Gathered log held agree) range played is =
+rigged_so worlds matches rules ether entries peers (Gathered log held agree) range size played is =
     let led : AreLed rules 0 log.items (states_of held.items) =
     subst (λ (ps : List (PeerValue MemDisk)). AreLed rules 0 log.items (states_of ps)) (sym is.2) (all_led rules ether log.items entries peers played is.1) in
     record {
+      size = ap length is.2 ∙ size;
+      plays = λ i q at. all_plays rules ether entries peers size played i q (subst (λ (ps : List (PeerValue MemDisk)). slice_get ps i ≡ Some q) is.2 at);
       lawful = is.0;
       world = worlds rules 0 log.items (states_of held.items) is.0 led;
-      moments = λ front rest e. matches rules 0 front rest (states_of held.items) range (omega arith) (subst (λ (l : List NoteValue). IsLawful rules.players l) e is.0) (subst (λ (l : List NoteValue). AreLed rules 0 l (states_of held.items)) e led);
+      moments = λ front between rest e. matches rules 0 front between rest (states_of held.items) range (omega arith) (subst (λ (l : List NoteValue). IsLawful rules.players l) e is.0) (subst (λ (l : List NoteValue). AreLed rules 0 l (states_of held.items)) e led);
       agrees = subst (λ (ps : List (PeerValue MemDisk)). HaveAgreedOrNot ps agree) (sym is.2) is.3;
     }
-rigged_so worlds matches rules ether entries peers Torn range played is = absurd is
+rigged_so worlds matches rules ether entries peers Torn range size played is = absurd is
 
-pub rigged : {E : Type 0} → AreWorlds → AreMatches → (rules : Rules) (ether : TableId) (entries : List EntryValue) (peers : List (PeerValue MemDisk)) (result : Result Gathering E) → AreInRange rules
+pub rigged : {E : Type 0} → AreWorlds → AreMatches → (rules : Rules) (ether : TableId) (entries : List EntryValue) (peers : List (PeerValue MemDisk)) (result : Result Gathering E) → AreInRange rules → length peers ≡ rules.players
     → ((i : ℕ) → i < rules.players → IsPlayedAt rules ether entries peers i) → IfOk result (λ g. IsGathering rules.players entries peers g) → IfOk result (λ g. IsRigged rules g)
-rigged worlds matches rules ether entries peers (Ok g) range played is = rigged_so worlds matches rules ether entries peers g range played is
-rigged worlds matches rules ether entries peers (Err e) range played is = tt
+rigged worlds matches rules ether entries peers (Ok g) range size played is = rigged_so worlds matches rules ether entries peers g range size played is
+rigged worlds matches rules ether entries peers (Err e) range size played is = tt

@@ -139,12 +139,13 @@ pub record IsWorld (rules : Rules) (room : ℕ) (log : List NoteValue) (states :
   pub goes : GoesOn rules room (start rules) log (said_by log) world
   pub peers : (p : ℕ) → IsPlayer rules p → peer_of world p ≡ states p
 
--- Two moments of a log, after a front of it and in the end, with these peers in the end: the world of the first goes on to that of
--- the second, and all is so of them that is so of any two moments of a match.
-pub record AreMoments (rules : Rules) (room : ℕ) (front rest : List NoteValue) (states : ℕ → State) : Type 0 where
+-- Two moments of a log, after a front of it and some notes later: the world of the first goes on to that of the second, the rest of
+-- each player's part leads its peer on to this state, and all is so of the two that is so of any two moments of a match.
+pub record AreMoments (rules : Rules) (room : ℕ) (front between rest : List NoteValue) (states : ℕ → State) : Type 0 where
   pub earlier : World
   pub later : World
   pub begins : GoesOn rules room (start rules) front (said_by front) earlier
-  pub goes : GoesOn rules room earlier rest (said_by (front ++ rest)) later
-  pub peers : (p : ℕ) → IsPlayer rules p → peer_of later p ≡ states p
+  pub goes : GoesOn rules room earlier between (said_by (front ++ between)) later
+  pub led : (p : ℕ) → IsPlayer rules p → Leads rules room p (peer_of earlier p) (part_of p (between ++ rest)) (states p)
+  pub left : (p : ℕ) → IsPlayer rules p → Leads rules room p (peer_of later p) (part_of p rest) (states p)
   pub headline : IsHeadline rules room earlier later

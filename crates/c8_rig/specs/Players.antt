@@ -1,5 +1,6 @@
 -- What a worker makes of its entry and its peer.
-use Rattle.std.specs.Prelude.{◌≡◌, List, ◌++◌}
+use Rattle.std.specs.Prelude.{◌≡◌, ℕ, List, ◌++◌}
+use Rattle.c8_game.specs.Rules.{Rules}
 use Rattle.c8_known.specs.Journal.{Record}
 use Rattle.c8_peer.specs.State.{State}
 use Rattle.c8_peer.specs.Peer.{PeerValue}
@@ -21,3 +22,9 @@ pub record HasPlayed {D : Type 0} (before : EntryValue) (old : PeerValue D) (aft
 -- a peer that is away, whose disk keeps this journal
 abbrev pub away_with : List Record → State
 away_with journal = record never_opened { journal = journal }
+
+-- it is the peer of this player in the game, in room 0
+pub record IsPeerOf {D : Type 0} (rules : Rules) (player : ℕ) (q : PeerValue D) : Type 0 where
+  pub rules_are : q.rules ≡ rules
+  pub room_is : q.room ≡ 0
+  pub me_is : q.me ≡ player

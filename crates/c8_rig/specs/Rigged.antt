@@ -1,5 +1,5 @@
 -- A match whose players are threads.
-use Rattle.std.specs.Prelude.{◌≡◌, ◌+◌, ◌-◌, ℕ, List, ◌++◌, map, slice_index_or, Bool, Option, Some, IfSome}
+use Rattle.std.specs.Prelude.{◌≡◌, ◌+◌, ◌-◌, ℕ, List, ◌++◌, map, slice_index_or, Bool, Option, Some, IfSome, length}
 use Rattle.std.specs.List.{slice_get}
 use Rattle.atomic_table.specs.Seated.{TableId}
 use Rattle.c8_game.specs.Rules.{Rules}
@@ -9,6 +9,7 @@ use Rattle.c8_peer.specs.Peer.{PeerValue}
 use Rattle.c8_world.specs.World.{never_opened}
 use Rattle.c8_rig.specs.Log.{NoteValue, IsLawful, Leads, IsWorld, AreMoments}
 use Rattle.c8_rig.specs.Tokens.{EntryValue}
+use Rattle.c8_rig.specs.Players.{IsPeerOf}
 use Rattle.c8_rig.specs.Gathered.{HaveAgreedOrNot}
 use Rattle.c8_rig.specs.declared.gathering.Gathering.{Gathering}
 use Rattle.c8_rig.specs.declared.gathering.Gathering.TheVariants.{Gathered, Torn}
@@ -17,6 +18,7 @@ use Rattle.c8_rig.specs.declared.gathering.Gathering.TheVariants.{Gathered, Torn
 pub record HasWorked (rules : Rules) (before after : EntryValue) (peer : Option (PeerValue MemDisk)) : Type 0 where
   pub ether : after.ether ≡ before.ether
   pub player : after.player ≡ before.player
+  pub plays : IfSome peer (λ q. IsPeerOf rules before.player q)
   pub led : IfSome peer (λ q. Leads rules 0 before.player never_opened after.notes q.state)
 
 -- Player i + 1 has come back with an entry and a peer that the entry's notes lead to.
@@ -27,17 +29,25 @@ pub record IsPlayedAt (rules : Rules) (ether : TableId) (entries : List EntryVal
   pub peer_there : slice_get peers i ≡ Some peer
   pub ether_is : entry.ether ≡ ether
   pub player_is : entry.player ≡ i + 1
+  pub plays : IsPeerOf rules (i + 1) peer
   pub led : Leads rules 0 (i + 1) never_opened entry.notes peer.state
 
 -- the state of each player's peer, player 1's first
 abbrev pub states_of : List (PeerValue MemDisk) → ℕ → State
 states_of peers p = slice_index_or (map (λ (q : PeerValue MemDisk). q.state) peers) (p - 1) never_opened
 
--- The log is that of a world, with these peers; any two moments of it agree; and it is told whether the peers do.
+-- What a match in threads comes to.
+--
+-- - `size`, `plays`: there is a peer of each player of the game, player 1's first.
+-- - `lawful`, `world`: the log is that of a world, in which the peers are as these.
+-- - `moments`: any two moments of it agree.
+-- - `agrees`: it is told whether the peers do.
 pub record IsRiggedLog (rules : Rules) (log : List NoteValue) (peers : List (PeerValue MemDisk)) (agree : Bool) : Type 0 where
+  pub size : length peers ≡ rules.players
+  pub plays : (i : ℕ) (q : PeerValue MemDisk) → slice_get peers i ≡ Some q → IsPeerOf rules (i + 1) q
   pub lawful : IsLawful rules.players log
   pub world : IsWorld rules 0 log (states_of peers)
-  pub moments : (front rest : List NoteValue) → log ≡ front ++ rest → AreMoments rules 0 front rest (states_of peers)
+  pub moments : (front between rest : List NoteValue) → log ≡ front ++ between ++ rest → AreMoments rules 0 front between rest (states_of peers)
   pub agrees : HaveAgreedOrNot peers agree
 
 abbrev pub IsRigged : Rules → Gathering → Type 0

@@ -311,7 +311,7 @@ impl<B: Room> Ether<B> {
 
     /// Draws one of the datagrams that were said, by its choice, and notes that it is delivered to the
     /// player: its bytes are at the front of `out`, and the answer is how many. None where nothing was
-    /// said, and then nothing is noted.
+    /// said, and then nothing is noted. Where memory is wanted `out` may have changed.
     pub fn draw<R: Wait>(
         &self,
         rt: &R,

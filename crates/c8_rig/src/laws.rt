@@ -26,11 +26,15 @@ pub fn a_log_is_a_world()
     what_is_spelled_is_read();
 }
 
-/// So any two moments of such a log agree, as any two of a match do.
+/// So any two moments of such a log agree, as any two of a match do: the one after a front of it, the
+/// other some notes later.
 pub fn moments_of_a_log_agree()
-    ensures { (rules : Rules) (room : ℕ) (front rest : List NoteValue) (states : ℕ → State)
-        → AreInRange rules → room < 2 ^ 64 → IsLawful rules.players (front ++ rest)
-        → AreLed rules room (front ++ rest) states → AreMoments rules room front rest states }
+    ensures { (rules : Rules) (room : ℕ) (front between rest : List NoteValue)
+        (states : ℕ → State)
+        → AreInRange rules → room < 2 ^ 64
+        → IsLawful rules.players (front ++ between ++ rest)
+        → AreLed rules room (front ++ between ++ rest) states
+        → AreMoments rules room front between rest states }
 {
     what_is_spelled_is_read();
     any_two_moments_agree();

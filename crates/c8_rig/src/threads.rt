@@ -34,7 +34,7 @@ struct Played<'g> {
 
 /// The players of a game, each in a thread of its own, over one ether, in room 0, on empty disks: each
 /// takes so many turns, by a generator of the seed and the player's number, as long as the gate lets
-/// it. The error is want of memory.
+/// it. The error is want of memory, or an opening that was refused.
 pub fn rig<'g, R: Threads + Wait + Sync, G: Gate + Sync>(
     rt: &R,
     alloc: Global,

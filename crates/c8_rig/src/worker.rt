@@ -5,7 +5,7 @@ ghost use Rattle.c8_record.specs.Body.{records_of};
 ghost use Rattle.c8_rig.specs.Log.{Leads};
 ghost use Rattle.c8_world.specs.World.{Give};
 ghost use Rattle.c8_rig.specs.Tokens.{EntryValue, with_note};
-ghost use Rattle.c8_rig.specs.Players.{HasPlayed, away_with};
+ghost use Rattle.c8_rig.specs.Players.{HasPlayed, IsPeerOf, away_with};
 
 use crate::ether::{Entry, Ether, Room};
 use crate::laws::peers_play_on;
@@ -109,7 +109,7 @@ impl<'a, 'g, B: Room, R: Wait, D: Disk> Seat<'a, 'g, B, R, D> {
         Ok(())
     }
 
-    /// The other players' number of this place, in order, or the last one where there are fewer.
+    /// The other player at this place in the order of their numbers, counted round and round.
     fn other(&self, place: u32) -> Player {
         let others = u32::from(self.peer.players()).saturating_sub(1).max(1);
         let before = place % others + 1;
@@ -209,8 +209,7 @@ pub fn rig_worker<'g, B: Room, R: Wait, D: Disk + Drop, G: Gate>(
     requires ether { entry.ether ≡ B.ether }
     requires unused { entry.notes ≡ [] }
     ensures entry { (result.0.ether ≡ entry.ether) × (result.0.player ≡ entry.player) }
-    ensures peer { IfSome result.1 (λ peer. (peer.rules ≡ game.entry.now)
-        × (peer.room ≡ 0) × (peer.me ≡ entry.player)) }
+    ensures peer { IfSome result.1 (λ peer. IsPeerOf game.entry.now entry.player peer) }
     ensures led { IfSome result.1 (λ peer. Leads game.entry.now 0 entry.player
         (away_with (records_of (kept (D.seen disk)))) result.0.notes peer.state) }
 {

@@ -2,5 +2,6 @@
 //! each other; that a draw follows its choice; and that want of memory changes nothing.
 #![tactic(auto)]
 
+mod ethers;
 mod gates;
 mod matches;

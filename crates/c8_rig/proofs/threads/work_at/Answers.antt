@@ -14,6 +14,7 @@ returns g c =
     record {
       ether = worked.entry.0;
       player = worked.entry.1;
+      plays = worked.peer;
       led = subst (λ (journal : List Record). IfSome c.rig_worker-entry.result.1 (λ q. Leads c.args.game.now 0 c.args.job.entry.player (away_with journal) c.rig_worker-entry.result.0.notes q.state))
           (ap (λ (bytes : List ℕ). records_of (kept bytes)) c.requires.empty ∙ kept_none) worked.led;
     }
