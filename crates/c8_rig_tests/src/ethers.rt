@@ -11,7 +11,8 @@ use std::marker::Brand;
 use std::sync::Wait;
 use std::test::Fail;
 
-const GAME: &[u8] = b"players 2\nipf 10\nframes 60\ndelay 0\nwindow 8\nseed 0\nmask1 ffff\nmask2 ffff\ncode 1200\n";
+const GAME: &[u8] =
+    b"players 2\nipf 10\nframes 60\ndelay 0\nwindow 8\nseed 0\nmask1 ffff\nmask2 ffff\ncode 1200\n";
 
 const FIRST: &[u8] = b"the first";
 

@@ -1,5 +1,5 @@
-//! Tests of a match in threads, which no clause speaks of: that the threads take their turns, and beside
-//! each other; that a draw follows its choice; and that want of memory changes nothing.
+//! Tests of what no clause says of a match in threads: that the threads take their turns, and beside
+//! each other; and that a draw follows its choice.
 #![tactic(auto)]
 
 mod ethers;
