@@ -16,7 +16,8 @@ use Rattle.c8_peer.specs.Opening.{NoMemory, found, opened}
 use Rattle.c8_world.specs.World.{World, is_player, start, never_opened, peer_of, Act, Open, Tick, Say, Give, Leave, Decide, player_of, Event, Answer, Happening, said_by as said_in_reply, stepped, call_at_mode, call_at, open_at_mode, open_at, give_to, acted, CanHappen, Chain, IsReached}
 use Rattle.c8_world.specs.Agreement.{IsPlayer}
 use Rattle.c8_world.specs.Headline.{IsHeadline}
-use Rattle.c8_rig.specs.Log.{NoteValue, said_in, said_by, WasSaid, MayFollow, IsLawful, part_of, IsCalled, IsOpenedAnew, IsAnything, IsSpelled, Follows, Leads, AreLed, event_of, AreSpelled, GoesOn, IsWorld, AreMoments}
+use Rattle.c8_live.specs.Turns.{SpellsAnswer}
+use Rattle.c8_rig.specs.Log.{NoteValue, said_in, said_by, WasSaid, MayFollow, IsLawful, part_of, IsCalled, IsOpenedAnew, IsAnything, Follows, Leads, AreLed, event_of, AreSpelled, GoesOn, IsWorld, AreMoments}
 use Rattle.c8_rig.proofs.Silent.{IsNoSaying, step_silent, down_silent, opened_silent}
 
 -- ---- worlds
@@ -168,7 +169,7 @@ gives reads rules room w number p bytes said t size plays are was is =
     is
 
 says : (rules : Rules) (room : ℕ) (w : World) (p to : ℕ) (what : calls.Saying) (bytes : List ℕ) (t : State) → length w.peers ≡ rules.players → IsPlayer rules p
-    → IsCalled rules room p (peer_of w p) (calls.Say to what) (IsSpelled bytes) t → Turns rules room w (record { act = Say p to what; bytes = bytes }) t
+    → IsCalled rules room p (peer_of w p) (calls.Say to what) (SpellsAnswer bytes) t → Turns rules room w (record { act = Say p to what; bytes = bytes }) t
 unfolding acted
 says rules room w p to what bytes t size plays is =
     let becomes = call_becomes rules w p (calls.Say to what) is.luck size plays in

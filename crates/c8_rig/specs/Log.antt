@@ -1,15 +1,16 @@
 -- The log of peers that run in threads of their own: what each of them did, noted one after the other.
-use Rattle.std.specs.Prelude.{◌≡◌, ◌≤◌, ◌==◌, ℕ, List, [], ◌∷◌, ◌++◌, map, Bool, Option, Some, Ok}
+use Rattle.std.specs.Prelude.{◌≡◌, ◌≤◌, ◌==◌, ℕ, List, [], ◌∷◌, ◌++◌, map, Bool, Option, Some}
 use Rattle.std.specs.List.{slice_get, filter}
 use Rattle.c8_game.specs.Rules.{Rules}
 use Rattle.c8_wire.specs.Packet.{Packet}
 use Rattle.c8_wire.specs.Spelling.{Spells}
 use Rattle.c8_wire.specs.checked.Read.{read}
 use Rattle.c8_peer.specs.State as calls
-use Rattle.c8_peer.specs.State.{State, Call, Reply, Said}
+use Rattle.c8_peer.specs.State.{State, Call, Reply}
 use Rattle.c8_peer.specs.Steps.{Luck}
 use Rattle.c8_peer.specs.Opening.{Opening}
 use Rattle.c8_peer.specs.Runs.{Does, Opens, IsDone}
+use Rattle.c8_live.specs.Turns.{SpellsAnswer}
 use Rattle.c8_world.specs.World.{World, start, never_opened, peer_of, Act, Open, Tick, Say, Give, Leave, Decide, player_of, Event, Do, Answer, Chain}
 use Rattle.c8_world.specs.Agreement.{IsPlayer}
 use Rattle.c8_world.specs.Headline.{IsHeadline}
@@ -93,15 +94,11 @@ pub record IsOpenedAnew (rules : Rules) (room p : ℕ) (s t : State) : Type 0 wh
 abbrev pub IsAnything : Option Reply → Type 0
 IsAnything answer = Unit {0}
 
--- something is said, and these bytes spell it
-abbrev pub IsSpelled : List ℕ → Option Reply → Type 0
-IsSpelled bytes answer = (packet : Packet) × (answer ≡ Some (Said (Ok packet))) × Spells bytes packet
-
 -- What is noted of player p's peer makes of it this state: a Say says its bytes, and a Give delivers what its bytes say.
 abbrev pub Follows : Rules → ℕ → ℕ → State → Act → List ℕ → State → Type 0
 Follows rules room p s (Open q) bytes t = IsOpenedAnew rules room p s t
 Follows rules room p s (Tick q keys) bytes t = IsCalled rules room p s (calls.Tick keys) IsAnything t
-Follows rules room p s (Say q to what) bytes t = IsCalled rules room p s (calls.Say to what) (IsSpelled bytes) t
+Follows rules room p s (Say q to what) bytes t = IsCalled rules room p s (calls.Say to what) (SpellsAnswer bytes) t
 Follows rules room p s (Give number q) bytes t = IsCalled rules room p s (calls.Deliver (read bytes)) IsAnything t
 Follows rules room p s (Leave leaver) bytes t = IsCalled rules room p s (calls.Leave leaver) IsAnything t
 Follows rules room p s (Decide leaver) bytes t = IsCalled rules room p s (calls.Decide leaver) IsAnything t
