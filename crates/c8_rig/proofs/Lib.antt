@@ -6,4 +6,5 @@ pub mod TokenMoves
 pub mod Openings
 pub mod Playing
 pub mod Parts
+pub mod Agreeing
 pub mod Rigging

@@ -18,6 +18,7 @@ use Rattle.c8_rig.specs.Players.{IsPeerOf}
 use Rattle.c8_rig.specs.Rigged.{HasWorked, IsPlayedAt, states_of, IsRigged}
 use Rattle.c8_rig.specs.declared.gathering.Gathering.{Gathering}
 use Rattle.c8_rig.specs.declared.gathering.Gathering.TheVariants.{Gathered, Torn}
+use Rattle.c8_rig.proofs.Agreeing.{AgreeInWorlds, ArePeersOf, agreed}
 
 -- ---- what threads begin with
 
@@ -128,22 +129,27 @@ all_plays rules ether entries peers size played i q at =
     let a = played i (omega (arith, within, size)) in
     subst (λ (x : PeerValue MemDisk). IsPeerOf rules (i + 1) x) (unsome a.peer q (sym a.peer_there ∙ at)) a.plays
 
-rigged_so : AreWorlds → AreMatches → (rules : Rules) (ether : TableId) (entries : List EntryValue) (peers : List (PeerValue MemDisk)) (gathering : Gathering) → AreInRange rules → length peers ≡ rules.players
+rigged_so : AreWorlds → AreMatches → AgreeInWorlds → (rules : Rules) (ether : TableId) (entries : List EntryValue) (peers : List (PeerValue MemDisk)) (gathering : Gathering) → AreInRange rules → length peers ≡ rules.players
     → ((i : ℕ) → i < rules.players → IsPlayedAt rules ether entries peers i) → IsGathering rules.players entries peers gathering → IsRigged rules gathering
-rigged_so worlds matches rules ether entries peers (Gathered log held agree) range size played is =
+rigged_so worlds matches law rules ether entries peers (Gathered log held agree) range size played is =
     let led : AreLed rules 0 log.items (states_of held.items) =
     subst (λ (ps : List (PeerValue MemDisk)). AreLed rules 0 log.items (states_of ps)) (sym is.2) (all_led rules ether log.items entries peers played is.1) in
+    let many : length held.items ≡ rules.players = ap length is.2 ∙ size in
+    let plays : ArePeersOf rules held.items = λ i q at. all_plays rules ether entries peers size played i q (subst (λ (ps : List (PeerValue MemDisk)). slice_get ps i ≡ Some q) is.2 at) in
+    let world : IsWorld rules 0 log.items (states_of held.items) = worlds rules 0 log.items (states_of held.items) is.0 led in
+    let told : HaveAgreedOrNot held.items agree = subst (λ (ps : List (PeerValue MemDisk)). HaveAgreedOrNot ps agree) (sym is.2) is.3 in
     record {
-      size = ap length is.2 ∙ size;
-      plays = λ i q at. all_plays rules ether entries peers size played i q (subst (λ (ps : List (PeerValue MemDisk)). slice_get ps i ≡ Some q) is.2 at);
+      size = many;
+      plays = plays;
       lawful = is.0;
-      world = worlds rules 0 log.items (states_of held.items) is.0 led;
+      world = world;
       moments = λ front between rest e. matches rules 0 front between rest (states_of held.items) range (omega arith) (subst (λ (l : List NoteValue). IsLawful rules.players l) e is.0) (subst (λ (l : List NoteValue). AreLed rules 0 l (states_of held.items)) e led);
-      agrees = subst (λ (ps : List (PeerValue MemDisk)). HaveAgreedOrNot ps agree) (sym is.2) is.3;
+      agrees = told;
+      yes = agreed law rules log.items held.items range many plays world agree told;
     }
-rigged_so worlds matches rules ether entries peers Torn range size played is = absurd is
+rigged_so worlds matches law rules ether entries peers Torn range size played is = absurd is
 
-pub rigged : {E : Type 0} → AreWorlds → AreMatches → (rules : Rules) (ether : TableId) (entries : List EntryValue) (peers : List (PeerValue MemDisk)) (result : Result Gathering E) → AreInRange rules → length peers ≡ rules.players
+pub rigged : {E : Type 0} → AreWorlds → AreMatches → AgreeInWorlds → (rules : Rules) (ether : TableId) (entries : List EntryValue) (peers : List (PeerValue MemDisk)) (result : Result Gathering E) → AreInRange rules → length peers ≡ rules.players
     → ((i : ℕ) → i < rules.players → IsPlayedAt rules ether entries peers i) → IfOk result (λ g. IsGathering rules.players entries peers g) → IfOk result (λ g. IsRigged rules g)
-rigged worlds matches rules ether entries peers (Ok g) range size played is = rigged_so worlds matches rules ether entries peers g range size played is
-rigged worlds matches rules ether entries peers (Err e) range size played is = tt
+rigged worlds matches law rules ether entries peers (Ok g) range size played is = rigged_so worlds matches law rules ether entries peers g range size played is
+rigged worlds matches law rules ether entries peers (Err e) range size played is = tt

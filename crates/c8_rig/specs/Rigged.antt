@@ -1,5 +1,5 @@
 -- A match whose players are threads.
-use Rattle.std.specs.Prelude.{◌≡◌, ◌+◌, ◌-◌, ℕ, List, ◌++◌, map, slice_index_or, Bool, Option, Some, IfSome, length}
+use Rattle.std.specs.Prelude.{◌≡◌, ◌+◌, ◌-◌, ℕ, List, ◌++◌, map, slice_index_or, Bool, true, Option, Some, IfSome, length}
 use Rattle.std.specs.List.{slice_get}
 use Rattle.atomic_table.specs.Seated.{TableId}
 use Rattle.c8_game.specs.Rules.{Rules}
@@ -41,7 +41,7 @@ states_of peers p = slice_index_or (map (λ (q : PeerValue MemDisk). q.state) pe
 -- - `size`, `plays`: there is a peer of each player of the game, player 1's first.
 -- - `lawful`, `world`: the log is that of a world, in which the peers are as these.
 -- - `moments`: any two moments of it agree.
--- - `agrees`: it is told whether the peers do.
+-- - `agrees`, `yes`: it is told whether the peers do, and they do.
 pub record IsRiggedLog (rules : Rules) (log : List NoteValue) (peers : List (PeerValue MemDisk)) (agree : Bool) : Type 0 where
   pub size : length peers ≡ rules.players
   pub plays : (i : ℕ) (q : PeerValue MemDisk) → slice_get peers i ≡ Some q → IsPeerOf rules (i + 1) q
@@ -49,6 +49,7 @@ pub record IsRiggedLog (rules : Rules) (log : List NoteValue) (peers : List (Pee
   pub world : IsWorld rules 0 log (states_of peers)
   pub moments : (front between rest : List NoteValue) → log ≡ front ++ between ++ rest → AreMoments rules 0 front between rest (states_of peers)
   pub agrees : HaveAgreedOrNot peers agree
+  pub yes : agree ≡ true
 
 abbrev pub IsRigged : Rules → Gathering → Type 0
 IsRigged rules (Gathered log peers agree) = IsRiggedLog rules log.items peers.items agree

@@ -19,10 +19,12 @@ mod note;
 mod threads;
 mod tokens;
 mod views;
+mod watch;
 mod worker;
 
 pub use ether::{Entry, Ether, Room, Unnamed};
 pub use gathering::{Gathering, gather};
 pub use note::Note;
 pub use threads::rig;
+pub use watch::Watch;
 pub use worker::rig_worker;

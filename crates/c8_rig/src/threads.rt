@@ -8,11 +8,12 @@ ghost use Rattle.c8_rig.specs.Rigged.{HasWorked, IsPlayedAt, IsRigged};
 use crate::ether::{Entry, Ether, Room, Unnamed};
 use crate::gathering::{Gathering, gather};
 use crate::laws::{a_log_is_a_world, moments_of_a_log_agree};
+use crate::watch::Watch;
 use crate::worker::rig_worker;
 use c8_disk::MemDisk;
 use c8_game::Game;
-use c8_live::Gate;
 use c8_peer::Peer;
+use c8_world::laws::what_disks_give_agrees;
 use std::alloc::{AllocError, Global};
 use std::marker::Brand;
 use std::sync::Wait;
@@ -35,7 +36,7 @@ struct Played<'g> {
 /// The players of a game, each in a thread of its own, over one ether, in room 0, on empty disks: each
 /// takes so many turns, by a generator of the seed and the player's number, as long as the gate lets
 /// it. The error is want of memory, or an opening that was refused.
-pub fn rig<'g, R: Threads + Wait + Sync, G: Gate + Sync>(
+pub fn rig<'g, R: Threads + Wait + Sync, G: Watch + Sync>(
     rt: &R,
     alloc: Global,
     game: &'g Game,
@@ -51,7 +52,7 @@ pub fn rig<'g, R: Threads + Wait + Sync, G: Gate + Sync>(
 }
 
 /// The same over an ether that the proof names.
-fn rigged<'g, B: Room + Send + Sync, R: Threads + Wait + Sync, G: Gate + Sync>(
+fn rigged<'g, B: Room + Send + Sync, R: Threads + Wait + Sync, G: Watch + Sync>(
     rt: &R,
     alloc: Global,
     game: &'g Game,
@@ -97,7 +98,7 @@ fn jobs_of(alloc: Global, entries: Vec<Entry>, turns: u16) -> Result<Vec<Job>, A
 }
 
 /// One thread.
-fn work_at<'g, B: Room, R: Wait, G: Gate>(
+fn work_at<'g, B: Room, R: Wait, G: Watch>(
     rt: &R,
     alloc: Global,
     ether: &Ether<B>,
@@ -157,6 +158,7 @@ fn together<'g, B: Room>(
 {
     a_log_is_a_world();
     moments_of_a_log_agree();
+    what_disks_give_agrees();
     game.in_range();
     gather(alloc, ether, entries, peers)
 }

@@ -9,9 +9,10 @@ ghost use Rattle.c8_rig.specs.Players.{HasPlayed, IsPeerOf, away_with};
 
 use crate::ether::{Entry, Ether, Room};
 use crate::laws::peers_play_on;
+use crate::watch::Watch;
 use c8_disk::Disk;
 use c8_game::{Game, Keys, Player};
-use c8_live::{Gate, Worker};
+use c8_live::Worker;
 use c8_peer::laws::openings_are_deeds;
 use c8_peer::{Kind, Peer};
 use c8_wire::LONGEST_DATAGRAM;
@@ -177,7 +178,7 @@ impl<'a, 'g, B: Room, R: Wait, D: Disk> Seat<'a, 'g, B, R, D> {
     }
 
     /// So many turns, as long as the gate lets it and there is memory.
-    fn play<G: Gate>(&mut self, turns: u64, gate: &G)
+    fn play<G: Watch>(&mut self, turns: u64, gate: &G)
         ensures { HasPlayed self.old.entry self.old.peer self.new.entry self.new.peer }
     {
         peers_play_on::<D>();
@@ -186,6 +187,7 @@ impl<'a, 'g, B: Room, R: Wait, D: Disk> Seat<'a, 'g, B, R, D> {
                 break;
             }
             gate.after(Worker::Game, turn);
+            gate.noted(self.entry.player(), self.entry.notes().len());
         }
     }
 }
@@ -195,7 +197,7 @@ impl<'a, 'g, B: Room, R: Wait, D: Disk> Seat<'a, 'g, B, R, D> {
 /// as the gate lets it. Each opening, tick, leave and decision is noted before the call, and what is
 /// said after it. Where there is no memory for a note, or the opening is refused, nothing more is done,
 /// and the entry comes back with the peer, if there is one.
-pub fn rig_worker<'g, B: Room, R: Wait, D: Disk + Drop, G: Gate>(
+pub fn rig_worker<'g, B: Room, R: Wait, D: Disk + Drop, G: Watch>(
     rt: &R,
     alloc: Global,
     ether: &Ether<B>,
@@ -222,6 +224,7 @@ pub fn rig_worker<'g, B: Room, R: Wait, D: Disk + Drop, G: Gate>(
     let Ok(peer) = Peer::open(alloc, disk, game, player, 0) else {
         return (entry, None);
     };
+    gate.noted(player, entry.notes().len());
     let random = Pcg32::new(seed, u64::from(player.number));
     let mut seat = Seat {
         rt,

@@ -1,5 +1,7 @@
 //! Gates.
+use c8_game::Player;
 use c8_live::{Gate, Worker};
+use c8_rig::Watch;
 use std::sync::atomic::{AtomicU64, Ordering};
 use std::thread::sleep;
 use std::time::{Clock, Duration};
@@ -14,6 +16,10 @@ impl Gate for Open {
     }
 
     fn after(&self, _: Worker, _: u64) {}
+}
+
+impl Watch for Open {
+    fn noted(&self, _: Player, _: usize) {}
 }
 
 /// For how many microseconds a worker sleeps between two looks.
@@ -70,4 +76,8 @@ impl<R: Clock> Gate for Meeting<'_, R> {
         }
         self.turns.fetch_add(1, Ordering::SeqCst);
     }
+}
+
+impl<R: Clock> Watch for Meeting<'_, R> {
+    fn noted(&self, _: Player, _: usize) {}
 }

@@ -12,6 +12,10 @@ const GAMES: [&str; 3] = [
     "players 4\nipf 10\nframes 60\ndelay 2\nwindow 8\nseed 0\nmask1 ffff\nmask2 ffff\nmask3 ffff\nmask4 ffff\ncode 6205e2a1710170011202\n",
 ];
 
+pub(crate) fn games() -> &'static [&'static str] {
+    &GAMES
+}
+
 const SEEDS: u64 = 20;
 
 const TURNS: u16 = 200;
@@ -65,7 +69,7 @@ fn is_lived(gathering: &Gathering<'_>, players: usize, turns: u16) -> bool {
 
 #[test]
 fn players_in_threads_agree(rt: HostRuntime) -> Result<(), Fail> {
-    for (place, text) in GAMES.iter().enumerate() {
+    for (place, text) in games().iter().enumerate() {
         let game = Game::read(rt.alloc(), text.as_bytes())?;
         for seed in 1..SEEDS + 1 {
             let gathering = rig(&rt, rt.alloc(), &game, seed, TURNS, &Open)?;
