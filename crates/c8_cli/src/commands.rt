@@ -10,6 +10,7 @@ use c8_keys::run_files;
 use c8_net::{peer_command, peer_given};
 use c8_script::sim_files;
 use c8_show::show;
+use c8_threads::{rig_command, rig_given};
 use clap::{ArgMatches, Command};
 use std::alloc::{AllocError, Global};
 use std::env::Args;
@@ -72,6 +73,7 @@ fn command<'a>(alloc: Global) -> Result<Command<'a>, AllocError> {
     let command = command.subcommand(run_command(alloc)?)?;
     let command = command.subcommand(peer_command(alloc)?)?;
     let command = command.subcommand(sim_command(alloc)?)?;
+    let command = command.subcommand(rig_command(alloc)?)?;
     command.subcommand(show_command(alloc)?)
 }
 
@@ -108,6 +110,7 @@ where
             let (game, script) = (word_of(given, "GAME"), word_of(given, "SCRIPT"));
             sim_files(rt, game, script, is_explained(given), out, refused)
         }
+        Some(("rig", given)) => rig_given(rt, given, out, refused),
         Some(("show", given)) => {
             let word = word_of(given, "HEX");
             show(rt.alloc(), word, is_explained(given), out, refused)

@@ -32,21 +32,21 @@ enum Turn {
     Decide(Player),
 }
 
-/// The player with a number.
-fn player(number: u32) -> Player {
-    match number {
-        1 => Player { number: 1 },
-        2 => Player { number: 2 },
-        3 => Player { number: 3 },
+/// The player at a place in the order of their numbers, 0 for player 1.
+fn player(place: u32) -> Player {
+    match place {
+        0 => Player { number: 1 },
+        1 => Player { number: 2 },
+        2 => Player { number: 3 },
         _ => Player { number: 4 },
     }
 }
 
-/// The words of a player's generator.
+/// The words of the generator of the player at a place, who has so many others.
 #[derive(Drop)]
 struct Words {
     random: Pcg32,
-    me: u32,
+    place: u32,
     others: u32,
 }
 
@@ -55,10 +55,25 @@ impl Words {
         self.random.next_u32()
     }
 
+    /// Which of the others a word picks, the first with the number 0.
+    fn pick(&self, word: u32) -> u32 {
+        word.checked_rem(self.others).unwrap_or(0)
+    }
+
     /// The other player that the next word picks.
     fn other(&mut self) -> Player {
-        let place = self.next() % self.others.max(1);
-        player(if place + 1 < self.me { place + 1 } else { place + 2 })
+        let word = self.next();
+        let place = self.pick(word);
+        player(if place < self.place {
+            place
+        } else {
+            place.wrapping_add(1)
+        })
+    }
+
+    /// The leaver that a word picks: anyone but player 1.
+    fn leaver(&self, word: u32) -> Player {
+        player(self.pick(word).wrapping_add(1))
     }
 
     /// The next turn, by the table.
@@ -78,10 +93,10 @@ impl Words {
     /// A turn of the drop round.
     fn round(&mut self) -> Turn {
         let x = self.next();
-        if self.me != 1 {
-            return Turn::Say(player(1), Kind::Frozen(player(2 + x % self.others.max(1))));
+        if self.place != 0 {
+            return Turn::Say(player(0), Kind::Frozen(self.leaver(x)));
         }
-        let leaver = player(2 + x / 8 % self.others.max(1));
+        let leaver = self.leaver(x / 8);
         match x % 8 {
             0 => Turn::Leave(leaver),
             1 | 2 => Turn::Decide(leaver),
@@ -195,7 +210,7 @@ fn follows(
     };
     let mut words = Words {
         random: Pcg32::new(seed, u64::from(me.number)),
-        me: u32::from(me.number),
+        place: me.place() as u32,
         others: u32::from(game.players()).saturating_sub(1),
     };
     let mut silent = first;
@@ -228,16 +243,20 @@ fn is_by_the_table(
 
 #[test]
 fn players_take_the_turns_of_their_generators(rt: HostRuntime) -> Result<(), Fail> {
-    for (place, text) in games().iter().enumerate() {
+    for text in games() {
         let game = Game::read(rt.alloc(), text.as_bytes())?;
         for seed in 1..SEEDS + 1 {
             let gathering = rig(&rt, rt.alloc(), &game, seed, TURNS, &Open)?;
             let Gathering::Gathered { log, .. } = gathering else {
                 return Err(Fail::new("torn"));
             };
-            for number in 1..place as u32 + 3 {
-                let by_the_table = is_by_the_table(rt.alloc(), &game, &log, seed, player(number))?;
-                assert!(rt; by_the_table, "seed {seed}, player {number}");
+            for own in 0..u32::from(game.players()) {
+                let by_the_table = is_by_the_table(rt.alloc(), &game, &log, seed, player(own))?;
+                assert!(rt;
+                    by_the_table,
+                    "seed {seed}, place {own} of {}",
+                    game.players()
+                );
             }
         }
     }

@@ -1,0 +1,34 @@
+//! How acts are written as lines of a script.
+
+use c8_game::Player;
+use c8_peer::Kind;
+use c8_world::Act;
+use std::io;
+use std::io::Write;
+
+/// Writes the line of a script that an act is, as `tick 1 00ff`. `read_script` reads it back.
+pub fn write_act<W: Write>(out: &mut W, act: Act) -> io::Result<()> {
+    match act {
+        Act::Open(Player { number }) => writeln!(out, "open {number}"),
+        Act::Tick(Player { number }, keys) => writeln!(out, "tick {number} {keys}"),
+        Act::Say(Player { number }, to, kind) => {
+            write!(out, "say {number} {} ", to.number)?;
+            write_kind(out, kind)
+        }
+        Act::Give(datagram, Player { number }) => writeln!(out, "give {datagram} {number}"),
+        Act::Leave(Player { number }) => writeln!(out, "leave {number}"),
+        Act::Decide(Player { number }) => writeln!(out, "decide {number}"),
+    }
+}
+
+/// Writes the rest of a line: what is said.
+fn write_kind<W: Write>(out: &mut W, kind: Kind) -> io::Result<()> {
+    match kind {
+        Kind::Hello => writeln!(out, "hello"),
+        Kind::Welcome => writeln!(out, "welcome"),
+        Kind::Data => writeln!(out, "data"),
+        Kind::Freeze(Player { number }) => writeln!(out, "freeze {number}"),
+        Kind::Frozen(Player { number }) => writeln!(out, "frozen {number}"),
+        Kind::Cut(Player { number }) => writeln!(out, "cut {number}"),
+    }
+}

@@ -1,0 +1,11 @@
+-- What `rig` prints.
+use Rattle.std.specs.Prelude.{ℕ, List, ◌++◌, codes, Bool, true, false, Option, Some, None}
+
+abbrev pub agree_text : Bool → List ℕ
+agree_text true = codes "agree yes\n"
+agree_text false = codes "agree no\n"
+
+-- of a match that is gathered: whether its peers agree; and of one that is torn
+abbrev pub verdict_text : Option Bool → List ℕ
+verdict_text (Some agree) = codes "lawful yes\n" ++ agree_text agree
+verdict_text None = codes "lawful no\n"

@@ -1,0 +1,65 @@
+//! What the command `rig` takes, and what it is asked to play by that.
+
+use crate::help::RIG_ENDING;
+use c8_front::{is_explained, with_explain, with_place, word_of};
+use clap::{Arg, ArgAction, ArgMatches, Command, value_parser};
+use std::alloc::{AllocError, Global};
+
+/// What `rig` is asked to play.
+#[derive(Clone, Copy)]
+pub struct Asked<'a> {
+    /// The path of the game's text.
+    pub game: &'a str,
+    pub seed: u64,
+    /// How many turns each player takes.
+    pub turns: u16,
+    /// The path of the script that is made of the match, if one is.
+    pub script: Option<&'a str>,
+    /// Whether it is told how the log grows.
+    pub progress: bool,
+    /// Whether a second line says where the fault of a refusal is.
+    pub explain: bool,
+}
+
+/// What `rig` takes.
+pub fn rig_command<'a>(alloc: Global) -> Result<Command<'a>, AllocError> {
+    let command = Command::new(alloc, "rig")
+        .about(
+            "Plays all players of a game here, each in a thread of its own, and tells whether they agree",
+        )
+        .after_help(RIG_ENDING);
+    let command = with_place(alloc, command, "GAME", "The path of the game's text")?;
+    let seed = Arg::new(alloc, "SEED")
+        .help("What the players draw their turns with")
+        .required(true)
+        .value_parser(value_parser!(u64));
+    let command = command.arg(seed)?;
+    let turns = Arg::new(alloc, "TURNS")
+        .help("How many turns each player takes, 0 to 10000")
+        .required(true)
+        .value_parser(value_parser!(u16).range(0..10001));
+    let command = command.arg(turns)?;
+    let script = Arg::new(alloc, "script")
+        .long("script")
+        .value_name("FILE")
+        .help("Writes what happened as a script, by which sim plays it again");
+    let command = command.arg(script)?;
+    let progress = Arg::new(alloc, "progress")
+        .long("progress")
+        .help("Says each second, on standard error, how long the log is")
+        .action(ArgAction::SetTrue);
+    with_explain(alloc, command.arg(progress)?)
+}
+
+/// What `rig` is asked to play by a command line, whose reader has seen that each argument is there and
+/// in its range.
+pub(crate) fn asked_of<'a>(given: &ArgMatches<'a>) -> Option<Asked<'a>> {
+    Some(Asked {
+        game: word_of(given, "GAME"),
+        seed: given.get_one::<u64>("SEED")?,
+        turns: given.get_one::<u16>("TURNS")?,
+        script: given.get_str("script"),
+        progress: given.get_flag("progress"),
+        explain: is_explained(given),
+    })
+}

@@ -1,0 +1,234 @@
+//! `c8play rig`: all players of a game, each in a thread of its own.
+
+ghost use Rattle.std.specs.Prelude.{◌≡◌, IfOk, OnOk, Bool, true, Some, Option, Result};
+ghost use Rattle.std.specs.Io.KnownBytes.{Appends};
+ghost use Rattle.c8_command.specs.Status.{status_of, status_of_outcome};
+ghost use Rattle.c8_command.specs.declared.status.Status.TheVariants as statuses;
+ghost use Rattle.c8_rig.specs.Rigged.{IsRigged};
+ghost use Rattle.c8_threads.specs.Errors.{rig_part};
+ghost use Rattle.c8_threads.specs.Printed.{verdict_text};
+ghost use Rattle.c8_threads.specs.declared.error.RigError.{RigError};
+
+use crate::arguments::{Asked, asked_of};
+use crate::error::RigError;
+use crate::script::write_script;
+use crate::watch::Counts;
+use c8_command::{Refusal, Site, Status, Text, TextError, read_file};
+use c8_game::{Game, GameError};
+use c8_keys::game_site;
+use c8_rig::{Gathering, Note};
+use clap::ArgMatches;
+use std::alloc::{AllocError, Global};
+use std::fs::File;
+use std::io::Write;
+use std::rt::Files;
+use std::sync::Wait;
+use std::thread::Threads;
+use std::time::Clock;
+use std::{fs, io, thread};
+
+/// Plays what the command line asks for, as `rig_file` does. The error is that of a writer.
+pub fn rig_given<R, W, E>(
+    rt: &R,
+    given: &ArgMatches<'_>,
+    out: &mut W,
+    refused: &mut E,
+) -> io::Result<Status>
+where
+    R: Files<File = File> + Clock + Threads + Wait + Sync + AllocGlobal,
+    W: Write,
+    E: Write + Send,
+{
+    match asked_of(given) {
+        Some(asked) => rig_file(rt, &asked, out, refused),
+        None => Ok(Status::CommandLine),
+    }
+}
+
+/// Plays a match of the game of a file, as `rig` does with its text. Where a script is asked for, its
+/// file is made before anything is played. The error is that of a writer.
+pub fn rig_file<R, W, E>(
+    rt: &R,
+    asked: &Asked<'_>,
+    out: &mut W,
+    refused: &mut E,
+) -> io::Result<Status>
+where
+    R: Files<File = File> + Clock + Threads + Wait + Sync + AllocGlobal,
+    W: Write,
+    E: Write + Send,
+{
+    let text = match read_file(rt, asked.game) {
+        Ok(text) => text,
+        Err(error) => return refuse_file(asked, error, refused),
+    };
+    let game = Text {
+        file: asked.game,
+        bytes: &text,
+    };
+    let Some(path) = asked.script else {
+        return rig(rt, asked, game, None::<&mut File>, out, refused);
+    };
+    match fs::create(rt, path) {
+        Ok(mut script) => rig(rt, asked, game, Some(&mut script), out, refused),
+        Err(_) => refuse(rt.alloc(), asked, game, RigError::Script, refused),
+    }
+}
+
+/// Plays a match of the game that a text spells: each player in a thread of its own, by generators of
+/// the seed that is asked for, so many turns. Writes the verdict to `out`, and before that, where
+/// there is a `script` to be written, what happened to it; or writes the line of a refusal to
+/// `refused`, with the one that explains it where that is asked for. How the log grows is told to
+/// `refused` too. The error is that of a writer.
+pub fn rig<R, S, W, E>(
+    rt: &R,
+    asked: &Asked<'_>,
+    game: Text<'_>,
+    script: Option<&mut S>,
+    out: &mut W,
+    refused: &mut E,
+) -> io::Result<Status>
+where
+    R: Clock + Threads + Wait + Sync + AllocGlobal,
+    S: Write,
+    W: Write,
+    E: Write + Send,
+    ensures ended { IfOk result (λ status. (outcome : Result (Option Bool) RigError)
+        × (status ≡ status_of_outcome rig_part outcome)) }
+    ensures yes { IfOk result (λ status. status ≡ statuses.Done
+        → Appends (W.contents out.old) (W.contents out.new) (verdict_text (Some true))) }
+{
+    let text = game;
+    match played(rt, asked, text, script, refused) {
+        Ok(verdict) => {
+            write_verdict(out, verdict)?;
+            Ok(Status::Done)
+        }
+        Err(error) => refuse(rt.alloc(), asked, text, error, refused),
+    }
+}
+
+/// Whether the players agree, if what was noted of them is one log.
+fn played<R, S, E>(
+    rt: &R,
+    asked: &Asked<'_>,
+    text: Text<'_>,
+    script: Option<&mut S>,
+    progress: &mut E,
+) -> Result<Option<bool>, RigError>
+where
+    R: Clock + Threads + Wait + Sync + AllocGlobal,
+    S: Write,
+    E: Write + Send,
+    ensures { IfOk result (λ verdict. verdict ≡ Some true) }
+{
+    let game = Game::read(rt.alloc(), text.bytes).map_err(RigError::Game)?;
+    let Ok(gathering) = gathered(rt, asked, &game, progress) else {
+        return Err(RigError::Memory);
+    };
+    match gathering {
+        Gathering::Gathered { log, agree, .. } => {
+            if let Some(script) = script {
+                write_to(rt.alloc(), script, &log)?;
+            }
+            Ok(Some(agree))
+        }
+        Gathering::Torn => Ok(None),
+    }
+}
+
+/// Writes a log as a script.
+fn write_to<S: Write>(alloc: Global, script: &mut S, log: &[Note]) -> Result<(), RigError> {
+    let mut text = Vec::new(alloc);
+    if write_script(&mut text, log).is_err() {
+        return Err(RigError::Memory);
+    }
+    script.write_all(&text).map_err(|_| RigError::Script)
+}
+
+/// The match, while which it is told how the log grows, where that is asked for.
+fn gathered<'g, R, E>(
+    rt: &R,
+    asked: &Asked<'_>,
+    game: &'g Game,
+    progress: &mut E,
+) -> Result<Gathering<'g>, AllocError>
+where
+    R: Clock + Threads + Wait + Sync + AllocGlobal,
+    E: Write + Send,
+    ensures { IfOk result (λ gathering. IsRigged game.entry.now gathering) }
+{
+    let counts = Counts::new();
+    if !asked.progress {
+        return play(rt, asked, game, &counts);
+    }
+    let players = || -> Result<Gathering<'_>, AllocError>
+        ensures { IfOk result (λ gathering. IsRigged game.entry.now gathering) }
+    { play(rt, asked, game, &counts) };
+    let (_told, gathering) = thread::join(rt, || counts.tell(rt, progress), players);
+    gathering
+}
+
+/// The match, after which its watcher is told that it is over.
+fn play<'g, R>(
+    rt: &R,
+    asked: &Asked<'_>,
+    game: &'g Game,
+    counts: &Counts,
+) -> Result<Gathering<'g>, AllocError>
+where
+    R: Threads + Wait + Sync + AllocGlobal,
+    ensures { IfOk result (λ gathering. IsRigged game.entry.now gathering) }
+{
+    let gathering = c8_rig::rig(rt, rt.alloc(), game, asked.seed, asked.turns, counts);
+    counts.end();
+    gathering
+}
+
+/// Writes whether the players agree, or that what was noted of them is not one log.
+fn write_verdict<W: Write>(out: &mut W, verdict: Option<bool>) -> io::Result<()>
+    ensures { OnOk result (Appends (W.contents out.old) (W.contents out.new)
+        (verdict_text verdict)) }
+{
+    match verdict {
+        Some(true) => write!(out, "lawful yes\nagree yes\n"),
+        Some(false) => write!(out, "lawful yes\nagree no\n"),
+        None => writeln!(out, "lawful no"),
+    }
+}
+
+/// Writes the line of a refusal, and where that is asked for the one that explains it.
+fn refuse<E: Write>(
+    alloc: Global,
+    asked: &Asked<'_>,
+    game: Text<'_>,
+    error: RigError,
+    refused: &mut E,
+) -> io::Result<Status>
+    ensures { IfOk result (λ status. status ≡ status_of (rig_part error)) }
+{
+    let refusal = Refusal::from(error);
+    if !asked.explain {
+        return refusal.tell(refused);
+    }
+    let site = match error {
+        RigError::Game(error) => game_site(alloc, game, error),
+        RigError::Memory => Site::Nowhere,
+        RigError::Script => Site::File(asked.script.unwrap_or("")),
+    };
+    refusal.tell_at(Some(site), &error, refused)
+}
+
+/// Tells why the game's file was not read.
+fn refuse_file<E: Write>(
+    asked: &Asked<'_>,
+    error: TextError,
+    refused: &mut E,
+) -> io::Result<Status> {
+    let refusal = match error {
+        TextError::Failed => Refusal::DISK,
+        TextError::Memory => RigError::Game(GameError::Memory).into(),
+    };
+    let site = asked.explain.then_some(Site::File(asked.game));
+    refusal.tell_at(site, &error, refused)
+}

@@ -1,0 +1,19 @@
+//! The command `rig`: all players of a game here, each in a thread of its own, as a soak of the session
+//! under real threads.
+//!
+//! The match is [`c8_rig::rig`], whose contract has the theorem; `arguments` says what the command
+//! takes, `command` reads that, plays, and prints the verdict; `watch` counts the log while it grows,
+//! and `script` writes it as a script for the command `sim`.
+#![tactic(auto)]
+
+mod arguments;
+mod command;
+mod error;
+mod help;
+mod script;
+mod watch;
+
+pub use arguments::{Asked, rig_command};
+pub use command::{rig, rig_file, rig_given};
+pub use error::RigError;
+pub use script::write_script;
