@@ -22,6 +22,27 @@ impl Watch for Open {
     fn noted(&self, _: Player, _: usize) {}
 }
 
+/// Lets each worker make so many turns, and counts those of all.
+#[derive(Drop)]
+pub(crate) struct Turns {
+    pub(crate) most: u64,
+    pub(crate) made: AtomicU64,
+}
+
+impl Gate for Turns {
+    fn before(&self, _: Worker, turn: u64) -> bool {
+        turn < self.most
+    }
+
+    fn after(&self, _: Worker, _: u64) {
+        self.made.fetch_add(1, Ordering::SeqCst);
+    }
+}
+
+impl Watch for Turns {
+    fn noted(&self, _: Player, _: usize) {}
+}
+
 /// For how many microseconds a worker sleeps between two looks.
 const PAUSE: u64 = 100;
 

@@ -1,8 +1,9 @@
 //! Whole matches.
-use crate::gates::{Meeting, Open};
+use crate::gates::{Meeting, Open, Turns};
 use c8_game::{Game, Player};
 use c8_rig::{Gathering, Note, rig};
 use c8_world::Act;
+use std::sync::atomic::{AtomicU64, Ordering};
 use std::test::Fail;
 
 /// Games of two, three and four players: V0 counts the loops, V1 those in which key 5 is down.
@@ -98,6 +99,20 @@ fn workers_overlap(rt: HostRuntime) -> Result<(), Fail> {
     let gate = Meeting::new(&rt, 3);
     let gathering = rig(&rt, rt.alloc(), &game, 7, 2, &gate)?;
     assert!(rt; gate.turns() == 6);
+    assert!(rt; matches!(gathering, Gathering::Gathered { .. }));
+    Ok(())
+}
+
+/// A gate that lets each make two turns ends all after two.
+#[test]
+fn a_gate_ends_its_workers(rt: HostRuntime) -> Result<(), Fail> {
+    let game = Game::read(rt.alloc(), GAMES[2].as_bytes())?;
+    let gate = Turns {
+        most: 2,
+        made: AtomicU64::new(0),
+    };
+    let gathering = rig(&rt, rt.alloc(), &game, 7, TURNS, &gate)?;
+    assert!(rt; gate.made.load(Ordering::SeqCst) == 8);
     assert!(rt; matches!(gathering, Gathering::Gathered { .. }));
     Ok(())
 }
