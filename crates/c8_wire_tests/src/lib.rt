@@ -1,4 +1,4 @@
-//! The tests of c8_wire and c8_hand.
+//! The tests of c8_pairs, c8_wire and c8_hand.
 //!
 //! Tables are lent by functions that say nothing of them: a proof is then of any rows. A row has
 //! its bytes as hexadecimal text.
@@ -8,6 +8,8 @@
 mod datagrams;
 #[cfg(test)]
 mod hand;
+#[cfg(test)]
+mod pairs;
 #[cfg(test)]
 mod refusals;
 #[cfg(test)]

@@ -1,0 +1,51 @@
+-- The inputs of a run that begins within its first pair.
+use Rattle.std.proofs.Common.{◌≡◌, ℕ, zero, suc, ◌+◌, ◌-◌, ◌<◌, ◌≤◌, List, [], ◌∷◌, ◌++◌, length, drop, replicate, true, Some, None, refl, sym, ap, ◌∙◌, arith, length-append}
+use Rattle.std.specs.Prelude.{slice_get}
+use Rattle.std.proofs.lemmas.List.{drop-drop, drop-append-le, drop-replicate, length-replicate, length-drop}
+use Rattle.std.proofs.Math.Seq.{drop-append-add}
+use Rattle.std.proofs.lemmas.Bool.{lt-ltb}
+use Rattle.c8_pairs.specs.checked.PairLaws.{some_at}
+use Rattle.c8_pairs.specs.declared.pair.Pair.{Pair}
+use Rattle.c8_pairs.specs.Pairs.{words_in}
+use Rattle.c8_pairs.specs.Reading.{well_after, count_in, is_begun}
+
+pub length_words : (pairs : List Pair) → length (words_in pairs) ≡ count_in pairs
+length_words [] = refl
+length_words (p ∷ pairs) = length-append (replicate p.times p.keys) (words_in pairs) ∙ omega (arith, length-replicate p.times p.keys, length_words pairs)
+
+pub length_run : (skip count : ℕ) (pairs : List Pair) → skip + count ≡ count_in pairs → length (drop skip (words_in pairs)) ≡ count
+length_run skip count pairs counts = length-drop skip (words_in pairs) ∙ omega (arith, counts, length_words pairs)
+
+-- within the first stretch
+pub drop_within : (skip times keys : ℕ) (words : List ℕ) → skip ≤ times → drop skip (replicate times keys ++ words) ≡ replicate (times - skip) keys ++ words
+drop_within skip times keys words within =
+    drop-append-le skip (replicate times keys) words (omega (arith, within, length-replicate times keys)) ∙ ap (λ (ws : List ℕ). ws ++ words) (drop-replicate skip times keys)
+
+-- past it
+pub drop_past : (place times keys : ℕ) (words : List ℕ) → times ≤ place → drop place (replicate times keys ++ words) ≡ drop (place - times) words
+drop_past place times keys words past =
+    let all : length (replicate times keys) + (place - times) ≡ place = omega (arith, past, length-replicate times keys) in
+    ap (λ (n : ℕ). drop n (replicate times keys ++ words)) (sym all) ∙ drop-append-add (replicate times keys) words (place - times)
+
+first_dropped : (words : List ℕ) (n : ℕ) → slice_get (drop n words) 0 ≡ slice_get words n
+first_dropped words zero = refl
+first_dropped [] (suc n) = refl
+first_dropped (w ∷ words) (suc n) = first_dropped words n
+
+slice_get_dropped : (words : List ℕ) (skip place : ℕ) → slice_get (drop skip words) place ≡ slice_get (drop (skip + place) words) 0
+slice_get_dropped words skip place = sym (first_dropped (drop skip words) place) ∙ ap (λ (ws : List ℕ). slice_get ws 0) (drop-drop place skip words)
+
+first_within : (skip times keys : ℕ) (words : List ℕ) → skip < times → slice_get (drop skip (replicate times keys ++ words)) 0 ≡ Some keys
+first_within zero zero keys words within = absurd (omega (arith, within))
+first_within zero (suc times) keys words within = refl
+first_within (suc skip) zero keys words within = absurd (omega (arith, within))
+first_within (suc skip) (suc times) keys words within = first_within skip times keys words (omega (arith, within))
+
+pub got : (all rest : List ℕ) (skip place begun times keys : ℕ) → drop begun (replicate times keys ++ rest) ≡ drop (skip + place) all → begun < times → slice_get (drop skip all) place ≡ Some keys
+got all rest skip place begun times keys same within =
+    slice_get_dropped all skip place ∙ ap (λ (ws : List ℕ). slice_get ws 0) (sym same) ∙ first_within begun times keys rest within
+
+-- a run begins with its first pair
+pub begins : (pairs : List Pair) → well_after None pairs ≡ true → is_begun 0 pairs ≡ true
+begins [] well = refl
+begins (p ∷ pairs) well = lt-ltb 0 p.times (some_at None p pairs well)

@@ -1,0 +1,4 @@
+use Rattle.c8_pairs.proofs.stretches.+room_for.Given as goal
+
+abbrev pub decreases-room_for : goal.decreases-room_for
+decreases-room_for l = l.inputs

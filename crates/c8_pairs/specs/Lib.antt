@@ -1,0 +1,5 @@
+pub mod Pairs
+pub mod Reading
+pub mod Lent
+pub mod Saying
+pub mod checked

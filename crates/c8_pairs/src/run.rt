@@ -1,0 +1,222 @@
+//! A run of key sets, lent from the bytes of pairs.
+ghost use Rattle.std.specs.Prelude.{[], ◌∷◌, ◌≡◌, ◌≤◌, ◌<◌, ◌+◌, ◌*◌, ◌%◌, ◌^◌, ◌==◌, ◌&&◌, ℕ, true, List, length, drop, slice_get, slice_index, Option, Some, None, IfSome, IfNone};
+ghost use Rattle.std.specs.Iterator.{YieldsFirst, item_count};
+ghost use Rattle.c8_pairs.specs.Pairs.{pairs_of, words_in, pairs_bytes, spelling};
+ghost use Rattle.c8_pairs.specs.Reading.{pairs_at, well_after, count_in, is_begun};
+
+/// The most key sets that a run has.
+pub const LONGEST_RUN: usize = 64;
+
+/// Key sets of one player in frames that follow each other, at most 64, as pairs: how many, and which.
+#[derive(Clone, Copy, Debug, PartialEq, Eq)]
+pub struct Pairs<'a> {
+    bytes: &'a [u8],
+    /// How many inputs of the first pair come before the run.
+    skip: usize,
+    count: usize,
+    ghost well: { well_after None (pairs_at bytes.now) ≡ true },
+    ghost whole: { pairs_bytes (pairs_at bytes.now) ≡ bytes.now },
+    ghost counts: { skip + count ≡ count_in (pairs_at bytes.now) },
+    ghost begun: { is_begun skip (pairs_at bytes.now) ≡ true },
+    ghost low: { skip < 256 },
+    ghost few: { count ≤ 64 },
+}
+
+impl<'a> Pairs<'a> {
+    ghost use Rattle.c8_pairs.specs.Lent.{words, touched, spelled, words_left};
+
+    /// The run of so many key sets that these bytes spell, if they spell one.
+    pub fn read(bytes: &'a [u8], count: usize) -> Option<Pairs<'a>>
+        requires whole { length bytes.now % 3 ≡ 0 }
+        requires few { count ≤ LONGEST_RUN }
+        ensures slice { IfSome result (λ run. spelled run ≡ bytes.entry.now) }
+        ensures spells { IfSome result (λ run. spelling (words run) ≡ bytes.entry.now) }
+        ensures count { IfSome result (λ run. length (words run) ≡ count) }
+        ensures none { IfNone result ((words : List ℕ) → length words ≡ count
+            → ((i : ℕ) → slice_index words i < 2 ^ 16) → spelling words ≡ bytes.entry.now → ⊥) }
+    {
+        if !is_run(None, bytes, count) {
+            return None;
+        }
+        Some(Pairs {
+            bytes,
+            skip: 0,
+            count,
+        })
+    }
+
+    /// How many key sets there are.
+    pub fn len(&self) -> usize
+        ensures count { result ≡ length (words self.now) }
+        ensures few { result ≤ LONGEST_RUN }
+    {
+        self.count
+    }
+
+    pub fn is_empty(&self) -> bool
+        ensures { result ≡ (length (words self.now) == 0) }
+    {
+        self.count == 0
+    }
+
+    /// How many inputs of the first pair come before the run: 0 of a run that has none.
+    pub fn skip(&self) -> usize
+        ensures words { words self.now ≡ drop result (touched self.now) }
+        ensures begun { is_begun result (pairs_of (touched self.now)) ≡ true }
+    {
+        self.skip
+    }
+
+    /// The bytes of the pairs that the run touches, as they came.
+    pub fn bytes(&self) -> &'a [u8]
+        ensures slice { result.now ≡ spelled self.now }
+        ensures spells { spelling (touched self.now) ≡ result.now }
+    {
+        let Pairs { bytes, .. } = *self;
+        bytes
+    }
+
+    /// The key set at a place, the first being 0.
+    pub fn get(&self, place: usize) -> u16
+        requires { place < length (words self.now) }
+        ensures { slice_get (words self.now) place ≡ Some result }
+    {
+        let (bytes, _) = begun_at(self.bytes, self.skip + place);
+        match first_of(bytes) {
+            Some(first) => first.keys,
+            None => unreachable!(),
+        }
+    }
+
+    /// The key sets from a place on, lent from the same bytes.
+    pub fn from_place(&self, place: usize) -> Pairs<'a>
+        requires { place ≤ length (words self.now) }
+        ensures words { words result ≡ drop place (words self.now) }
+        ensures slice { (pairs : ℕ) × (spelled result ≡ drop (3 * pairs) (spelled self.now)) }
+    {
+        let (bytes, skip) = begun_at(self.bytes, self.skip + place);
+        Pairs {
+            bytes,
+            skip,
+            count: self.count - place,
+        }
+    }
+
+    /// The key sets in order.
+    pub fn iter(&self) -> Words<'a>
+        ensures { words_left result ≡ words self.now }
+    {
+        let Some(First { times, keys, rest }) = first_of(self.bytes) else {
+            return Words {
+                rest: self.bytes,
+                times: 0,
+                keys: 0,
+            };
+        };
+        Words {
+            rest,
+            times: times - self.skip,
+            keys,
+        }
+    }
+}
+
+/// The key sets of a run, one after the other.
+#[derive(Clone, Copy, Debug, PartialEq, Eq)]
+pub struct Words<'a> {
+    rest: &'a [u8],
+    /// How many more there are of the pair at hand, and which key set.
+    times: usize,
+    keys: u16,
+    ghost well: { well_after None (pairs_at rest.now) ≡ true },
+}
+
+impl<'a> Iterator for Words<'a> {
+    type Item = u16;
+
+    ghost use Rattle.c8_pairs.specs.Lent.{words_left};
+
+    ghost next_gives = { YieldsFirst words_left };
+
+    ghost remaining = { item_count words_left };
+
+    fn next(&mut self) -> Option<u16> {
+        if self.times > 0 {
+            self.times -= 1;
+            return Some(self.keys);
+        }
+        let First { times, keys, rest } = first_of(self.rest)?;
+        *self = Words {
+            rest,
+            times: times - 1,
+            keys,
+        };
+        Some(keys)
+    }
+}
+
+/// The first pair of some bytes, and the bytes after it.
+#[derive(Clone, Copy)]
+struct First<'a> {
+    times: usize,
+    keys: u16,
+    rest: &'a [u8],
+}
+
+/// The first pair, where there are bytes enough for one.
+#[tactic(auto, unfolding(crate::specs::Reading::pairs_at), using(crate::specs::checked::PairLaws::well_tail, crate::specs::checked::PairLaws::some_at))]
+fn first_of(bytes: &[u8]) -> Option<First<'_>>
+    ensures pair { IfSome result (λ first. pairs_at bytes.entry.now
+        ≡ record { times = first.times; keys = first.keys } ∷ pairs_at first.rest.now) }
+    ensures rest { IfSome result (λ first. first.rest.now ≡ drop 3 bytes.entry.now) }
+    ensures shorter { IfSome result (λ first. length first.rest.now < length bytes.entry.now) }
+    ensures few { IfSome result (λ first. first.times < 256) }
+    ensures well { IfSome result (λ first. (last : Option ℕ)
+        → well_after last (pairs_at bytes.entry.now) ≡ true
+        → (0 < first.times) × (well_after None (pairs_at first.rest.now) ≡ true)) }
+    ensures none { IfNone result (pairs_at bytes.entry.now ≡ []) }
+{
+    match bytes {
+        [times, high, low, rest @ ..] => Some(First {
+            times: usize::from(*times),
+            keys: u16::from(*high) * 256 + u16::from(*low),
+            rest,
+        }),
+        _ => None,
+    }
+}
+
+/// Whether bytes are pairs that may follow a key set, of so many inputs in all.
+fn is_run(last: Option<u16>, bytes: &[u8], count: usize) -> bool
+    ensures { result ≡ (well_after last (pairs_at bytes.now)
+        && (count_in (pairs_at bytes.now) == count)) }
+{
+    match first_of(bytes) {
+        Some(First { times, keys, rest }) => times != 0
+            && last != Some(keys)
+            && times <= count
+            && is_run(Some(keys), rest, count - times),
+        None => count == 0,
+    }
+}
+
+/// The pairs from the one on in which a place lies, and how many of its inputs come before that.
+fn begun_at(bytes: &[u8], place: usize) -> (&[u8], usize)
+    requires { place ≤ count_in (pairs_at bytes.now) }
+    ensures words { drop result.1 (words_in (pairs_at result.0.now))
+        ≡ drop place (words_in (pairs_at bytes.entry.now)) }
+    ensures begun { is_begun result.1 (pairs_at result.0.now) ≡ true }
+    ensures low { result.1 < 256 }
+    ensures counts { result.1 + count_in (pairs_at bytes.entry.now)
+        ≡ place + count_in (pairs_at result.0.now) }
+    ensures well { (last : Option ℕ) → well_after last (pairs_at bytes.entry.now) ≡ true
+        → well_after None (pairs_at result.0.now) ≡ true }
+    ensures whole { pairs_bytes (pairs_at bytes.entry.now) ≡ bytes.entry.now
+        → pairs_bytes (pairs_at result.0.now) ≡ result.0.now }
+    ensures slice { (pairs : ℕ) × (result.0.now ≡ drop (3 * pairs) bytes.entry.now) }
+{
+    match first_of(bytes) {
+        Some(first) if first.times <= place => begun_at(first.rest, place - first.times),
+        _ => (bytes, place),
+    }
+}
