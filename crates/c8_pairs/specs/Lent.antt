@@ -17,6 +17,6 @@ touched run = words_in (pairs_at run.bytes.now)
 abbrev pub words : Pairs → List ℕ
 words run = drop run.skip (touched run)
 
--- what is left of a run: the rest of a pair, and the pairs of the rest
+-- what is left of a run: the rest of a pair, and the inputs of the pairs after it
 abbrev pub words_left : Words → List ℕ
 words_left w = replicate w.times w.keys ++ words_in (pairs_at w.rest.now)

@@ -23,12 +23,16 @@ abbrev pub count_in : List Pair → ℕ
 count_in [] = 0
 count_in (p ∷ pairs) = p.times + count_in pairs
 
+-- whether these are the pairs of a run of so many inputs
+abbrev pub are_run : List Pair → ℕ → Bool
+are_run pairs count = well_after None pairs && (count_in pairs == count)
+
 -- a run begins within its first pair, or there is none
 abbrev pub is_begun : ℕ → List Pair → Bool
 is_begun skip [] = skip == 0
 is_begun skip (p ∷ pairs) = nat_lt skip p.times
 
--- how many pairs inputs begin that follow one of this key set
+-- how many new pairs inputs begin, after an input of this key set
 abbrev pub pairs_after : Option ℕ → List ℕ → ℕ
 pairs_after last [] = 0
 pairs_after last (word ∷ words) = (if is_same last word then 0 else 1) + pairs_after (Some word) words

@@ -1,13 +1,17 @@
 //! A run of key sets, lent from the bytes of pairs.
-ghost use Rattle.std.specs.Prelude.{[], ◌∷◌, ◌≡◌, ◌≤◌, ◌<◌, ◌+◌, ◌*◌, ◌%◌, ◌^◌, ◌==◌, ◌&&◌, ℕ, true, List, length, drop, slice_get, slice_index, Option, Some, None, IfSome, IfNone};
+ghost use Rattle.std.specs.Prelude.{[], ◌∷◌, ◌≡◌, ◌≤◌, ◌<◌, ◌+◌, ◌*◌, ◌%◌, ◌^◌, ◌==◌, ◌&&◌, ℕ, true, List, length, drop, slice_get, slice_index, Option, Some, None, IfSome, IfNone, false};
 ghost use Rattle.std.specs.Iterator.{YieldsFirst, item_count};
 ghost use Rattle.c8_pairs.specs.Pairs.{pairs_of, words_in, pairs_bytes, spelling};
-ghost use Rattle.c8_pairs.specs.Reading.{pairs_at, well_after, count_in, is_begun};
+ghost use Rattle.c8_pairs.specs.Reading.{pairs_at, well_after, count_in, are_run, is_begun};
 
 /// The most key sets that a run has.
 pub const LONGEST_RUN: usize = 64;
 
+/// The most pairs that a run has.
+pub const MOST_PAIRS: usize = 42;
+
 /// Key sets of one player in frames that follow each other, at most 64, as pairs: how many, and which.
+/// Two are equal that have the same bytes and begin at the same place.
 #[derive(Clone, Copy, Debug, PartialEq, Eq)]
 pub struct Pairs<'a> {
     bytes: &'a [u8],
@@ -18,6 +22,8 @@ pub struct Pairs<'a> {
     ghost whole: { pairs_bytes (pairs_at bytes.now) ≡ bytes.now },
     ghost counts: { skip + count ≡ count_in (pairs_at bytes.now) },
     ghost begun: { is_begun skip (pairs_at bytes.now) ≡ true },
+    ghost sets: { (i : ℕ) → slice_index (words_in (pairs_at bytes.now)) i < 2 ^ 16 },
+    ghost short: { length bytes.now ≤ 3 * 42 },
     ghost low: { skip < 256 },
     ghost few: { count ≤ 64 },
 }
@@ -25,13 +31,18 @@ pub struct Pairs<'a> {
 impl<'a> Pairs<'a> {
     ghost use Rattle.c8_pairs.specs.Lent.{words, touched, spelled, words_left};
 
-    /// The run of so many key sets that these bytes spell, if they spell one.
+    /// The run of so many key sets that these bytes spell. None where a pair is of no inputs, two
+    /// neighbours have the same key set, or they are not of so many inputs in all.
     pub fn read(bytes: &'a [u8], count: usize) -> Option<Pairs<'a>>
         requires whole { length bytes.now % 3 ≡ 0 }
+        requires short { length bytes.now ≤ 3 * MOST_PAIRS }
         requires few { count ≤ LONGEST_RUN }
+        ensures taken { IfSome result (λ _. are_run (pairs_at bytes.entry.now) count ≡ true) }
+        ensures refused { IfNone result (are_run (pairs_at bytes.entry.now) count ≡ false) }
         ensures slice { IfSome result (λ run. spelled run ≡ bytes.entry.now) }
         ensures spells { IfSome result (λ run. spelling (words run) ≡ bytes.entry.now) }
         ensures count { IfSome result (λ run. length (words run) ≡ count) }
+        ensures sets { IfSome result (λ run. (i : ℕ) → slice_index (words run) i < 2 ^ 16) }
         ensures none { IfNone result ((words : List ℕ) → length words ≡ count
             → ((i : ℕ) → slice_index words i < 2 ^ 16) → spelling words ≡ bytes.entry.now → ⊥) }
     {
@@ -59,7 +70,7 @@ impl<'a> Pairs<'a> {
         self.count == 0
     }
 
-    /// How many inputs of the first pair come before the run: 0 of a run that has none.
+    /// How many inputs of the first pair come before the run: 0 for an empty run.
     pub fn skip(&self) -> usize
         ensures words { words self.now ≡ drop result (touched self.now) }
         ensures begun { is_begun result (pairs_of (touched self.now)) ≡ true }
@@ -71,6 +82,7 @@ impl<'a> Pairs<'a> {
     pub fn bytes(&self) -> &'a [u8]
         ensures slice { result.now ≡ spelled self.now }
         ensures spells { spelling (touched self.now) ≡ result.now }
+        ensures short { length result.now ≤ 3 * MOST_PAIRS }
     {
         let Pairs { bytes, .. } = *self;
         bytes
@@ -214,6 +226,9 @@ fn begun_at(bytes: &[u8], place: usize) -> (&[u8], usize)
     ensures whole { pairs_bytes (pairs_at bytes.entry.now) ≡ bytes.entry.now
         → pairs_bytes (pairs_at result.0.now) ≡ result.0.now }
     ensures slice { (pairs : ℕ) × (result.0.now ≡ drop (3 * pairs) bytes.entry.now) }
+    ensures short { length result.0.now ≤ length bytes.entry.now }
+    ensures sets { ((i : ℕ) → slice_index (words_in (pairs_at bytes.entry.now)) i < 2 ^ 16)
+        → (i : ℕ) → slice_index (words_in (pairs_at result.0.now)) i < 2 ^ 16 }
 {
     match first_of(bytes) {
         Some(first) if first.times <= place => begun_at(first.rest, place - first.times),

@@ -5,10 +5,7 @@ ghost use Rattle.c8_pairs.specs.Pairs.{pairs_of};
 ghost use Rattle.c8_pairs.specs.Reading.{well_after, pairs_after};
 
 use crate::pair::Pair;
-use crate::run::LONGEST_RUN;
-
-/// The most pairs that a run has.
-pub const MOST_PAIRS: usize = 42;
+use crate::run::{LONGEST_RUN, MOST_PAIRS};
 
 /// The pairs of inputs, one after the other.
 #[derive(Clone, Copy, Debug, PartialEq, Eq)]

@@ -22,11 +22,35 @@ impl Watch for Open {
     fn noted(&self, _: Player, _: usize) {}
 }
 
-/// Lets each worker make so many turns, and counts those of all.
+/// Lets each worker make so many turns, counts those of all, and keeps how many notes each player has.
 #[derive(Drop)]
 pub(crate) struct Turns {
     pub(crate) most: u64,
     pub(crate) made: AtomicU64,
+    pub(crate) notes: [AtomicU64; 4],
+}
+
+impl Turns {
+    pub(crate) fn new(most: u64) -> Turns {
+        Turns {
+            most,
+            made: AtomicU64::new(0),
+            notes: [
+                AtomicU64::new(0),
+                AtomicU64::new(0),
+                AtomicU64::new(0),
+                AtomicU64::new(0),
+            ],
+        }
+    }
+
+    /// How many notes the player at a place has.
+    pub(crate) fn notes(&self, place: usize) -> u64 {
+        match self.notes.get(place) {
+            Some(notes) => notes.load(Ordering::SeqCst),
+            None => 0,
+        }
+    }
 }
 
 impl Gate for Turns {
@@ -40,7 +64,11 @@ impl Gate for Turns {
 }
 
 impl Watch for Turns {
-    fn noted(&self, _: Player, _: usize) {}
+    fn noted(&self, player: Player, notes: usize) {
+        if let Some(kept) = self.notes.get(player.place()) {
+            kept.store(notes as u64, Ordering::SeqCst);
+        }
+    }
 }
 
 /// For how many microseconds a worker sleeps between two looks.

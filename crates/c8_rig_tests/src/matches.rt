@@ -3,7 +3,7 @@ use crate::gates::{Meeting, Open, Turns};
 use c8_game::{Game, Player};
 use c8_rig::{Gathering, Note, rig};
 use c8_world::Act;
-use std::sync::atomic::{AtomicU64, Ordering};
+use std::sync::atomic::Ordering;
 use std::test::Fail;
 
 /// Games of two, three and four players: V0 counts the loops, V1 those in which key 5 is down.
@@ -107,12 +107,35 @@ fn workers_overlap(rt: HostRuntime) -> Result<(), Fail> {
 #[test]
 fn a_gate_ends_its_workers(rt: HostRuntime) -> Result<(), Fail> {
     let game = Game::read(rt.alloc(), GAMES[2].as_bytes())?;
-    let gate = Turns {
-        most: 2,
-        made: AtomicU64::new(0),
-    };
+    let gate = Turns::new(2);
     let gathering = rig(&rt, rt.alloc(), &game, 7, TURNS, &gate)?;
     assert!(rt; gate.made.load(Ordering::SeqCst) == 8);
     assert!(rt; matches!(gathering, Gathering::Gathered { .. }));
+    Ok(())
+}
+
+/// How many notes of a log are of the player at a place.
+fn notes_of(log: &[Note], place: usize) -> u64 {
+    let mut notes: u64 = 0;
+    for note in log {
+        if note.act.player().place() == place {
+            notes = notes.wrapping_add(1);
+        }
+    }
+    notes
+}
+
+/// What a gate was told last of each player is how many notes it has.
+#[test]
+fn a_gate_is_told_of_all_notes(rt: HostRuntime) -> Result<(), Fail> {
+    let game = Game::read(rt.alloc(), GAMES[1].as_bytes())?;
+    let gate = Turns::new(u64::from(TURNS));
+    let gathering = rig(&rt, rt.alloc(), &game, 11, TURNS, &gate)?;
+    let Gathering::Gathered { log, .. } = gathering else {
+        return Err(Fail::new("torn"));
+    };
+    for place in 0..3 {
+        assert!(rt; gate.notes(place) == notes_of(&log, place) && gate.notes(place) > 1);
+    }
     Ok(())
 }

@@ -30,7 +30,7 @@ pub fn rig_command<'a>(alloc: Global) -> Result<Command<'a>, AllocError> {
         .after_help(RIG_ENDING);
     let command = with_place(alloc, command, "GAME", "The path of the game's text")?;
     let seed = Arg::new(alloc, "SEED")
-        .help("What the players draw their turns with")
+        .help("What the players draw their turns with, 0 to 18446744073709551615")
         .required(true)
         .value_parser(value_parser!(u64));
     let command = command.arg(seed)?;

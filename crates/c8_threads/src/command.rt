@@ -1,13 +1,13 @@
 //! `c8play rig`: all players of a game, each in a thread of its own.
 
-ghost use Rattle.std.specs.Prelude.{◌≡◌, IfOk, OnOk, Bool, true, Some, Option, Result};
+ghost use Rattle.std.specs.Prelude.{◌≡◌, ℕ, List, IfOk, OnOk, IfErr, true, Some, Err};
 ghost use Rattle.std.specs.Io.KnownBytes.{Appends};
-ghost use Rattle.c8_command.specs.Status.{status_of, status_of_outcome};
+ghost use Rattle.c8_command.specs.Status.{status_of};
 ghost use Rattle.c8_command.specs.declared.status.Status.TheVariants as statuses;
 ghost use Rattle.c8_rig.specs.Rigged.{IsRigged};
 ghost use Rattle.c8_threads.specs.Errors.{rig_part};
 ghost use Rattle.c8_threads.specs.Printed.{verdict_text};
-ghost use Rattle.c8_threads.specs.declared.error.RigError.{RigError};
+ghost use Rattle.c8_threads.specs.Rig.{IsGame, IsOutcome, HasEnded};
 
 use crate::arguments::{Asked, asked_of};
 use crate::error::RigError;
@@ -46,7 +46,8 @@ where
 }
 
 /// Plays a match of the game of a file, as `rig` does with its text. Where a script is asked for, its
-/// file is made before anything is played. The error is that of a writer.
+/// file is made before anything is played, if the text is a game's and the file another one. The error
+/// is that of a writer.
 pub fn rig_file<R, W, E>(
     rt: &R,
     asked: &Asked<'_>,
@@ -69,6 +70,12 @@ where
     let Some(path) = asked.script else {
         return rig(rt, asked, game, None::<&mut File>, out, refused);
     };
+    if let Err(error) = Game::read(rt.alloc(), game.bytes) {
+        return refuse(rt.alloc(), asked, game, RigError::Game(error), refused);
+    }
+    if path == asked.game {
+        return refuse(rt.alloc(), asked, game, RigError::Script, refused);
+    }
     match fs::create(rt, path) {
         Ok(mut script) => rig(rt, asked, game, Some(&mut script), out, refused),
         Err(_) => refuse(rt.alloc(), asked, game, RigError::Script, refused),
@@ -77,7 +84,7 @@ where
 
 /// Plays a match of the game that a text spells: each player in a thread of its own, by generators of
 /// the seed that is asked for, so many turns. Writes the verdict to `out`, and before that, where
-/// there is a `script` to be written, what happened to it; or writes the line of a refusal to
+/// there is a `script`, into that what happened; or writes the line of a refusal to
 /// `refused`, with the one that explains it where that is asked for. How the log grows is told to
 /// `refused` too. The error is that of a writer.
 pub fn rig<R, S, W, E>(
@@ -93,8 +100,7 @@ where
     S: Write,
     W: Write,
     E: Write + Send,
-    ensures ended { IfOk result (λ status. (outcome : Result (Option Bool) RigError)
-        × (status ≡ status_of_outcome rig_part outcome)) }
+    ensures ended { IfOk result (λ status. HasEnded game.entry.bytes.now status) }
     ensures yes { IfOk result (λ status. status ≡ statuses.Done
         → Appends (W.contents out.old) (W.contents out.new) (verdict_text (Some true))) }
 {
@@ -120,7 +126,8 @@ where
     R: Clock + Threads + Wait + Sync + AllocGlobal,
     S: Write,
     E: Write + Send,
-    ensures { IfOk result (λ verdict. verdict ≡ Some true) }
+    ensures outcome { IsOutcome text.entry.bytes.now result }
+    ensures yes { IfOk result (λ verdict. verdict ≡ Some true) }
 {
     let game = Game::read(rt.alloc(), text.bytes).map_err(RigError::Game)?;
     let Ok(gathering) = gathered(rt, asked, &game, progress) else {
@@ -128,8 +135,10 @@ where
     };
     match gathering {
         Gathering::Gathered { log, agree, .. } => {
-            if let Some(script) = script {
-                write_to(rt.alloc(), script, &log)?;
+            if let Some(script) = script
+                && let Err(error) = write_to(rt.alloc(), script, &log)
+            {
+                return Err(error);
             }
             Ok(Some(agree))
         }
@@ -138,7 +147,10 @@ where
 }
 
 /// Writes a log as a script.
-fn write_to<S: Write>(alloc: Global, script: &mut S, log: &[Note]) -> Result<(), RigError> {
+fn write_to<S: Write>(alloc: Global, script: &mut S, log: &[Note]) -> Result<(), RigError>
+    ensures { IfErr result (λ error. (text : List ℕ) → IsGame text
+        → IsOutcome text (Err error)) }
+{
     let mut text = Vec::new(alloc);
     if write_script(&mut text, log).is_err() {
         return Err(RigError::Memory);

@@ -23,8 +23,8 @@ fn a_match_has_its_verdict(rt: HostRuntime) -> Result<(), Fail> {
     Ok(())
 }
 
-/// With no turns the script has the openings alone, in whatever order; and nothing is told of a log in
-/// a match that ends within a second.
+/// With no turns the script has the openings alone, in whatever order. The log is watched, and how it
+/// grows told once a second: so mostly not in so short a match.
 #[test]
 fn a_script_has_what_happened(rt: HostRuntime) -> Result<(), Fail> {
     let (mut out, mut refused) = (Vec::new(rt.alloc()), Vec::new(rt.alloc()));
@@ -40,7 +40,7 @@ fn a_script_has_what_happened(rt: HostRuntime) -> Result<(), Fail> {
         bytes: GAME.as_bytes(),
     };
     let status = rig(&rt, &asked, game, Some(&mut script), &mut out, &mut refused)?;
-    assert!(rt; status == Status::Done && out.as_slice() == VERDICT && refused.is_empty());
+    assert!(rt; status == Status::Done && out.as_slice() == VERDICT);
     let script = script.as_slice();
     assert!(rt;
         script == b"open 1\nopen 2\n".as_slice() || script == b"open 2\nopen 1\n".as_slice()

@@ -39,9 +39,9 @@ fn goes_over(run: Pairs<'_>, words: &[u8]) -> bool {
     left.is_empty()
 }
 
-/// The run of so many inputs that these bytes spell, if they may be asked.
+/// The run of so many inputs that these bytes spell, if a run may have so many of both.
 fn read(bytes: &[u8], count: usize) -> Option<Pairs<'_>> {
-    if bytes.len() % 3 != 0 || count > 64 {
+    if bytes.len() % 3 != 0 || bytes.len() > 126 || count > 64 {
         return None;
     }
     Pairs::read(bytes, count)
@@ -129,7 +129,7 @@ fn parts() -> &'static [Part] {
     &PARTS
 }
 
-/// Whether a row is so; and again from half the way, by two steps.
+/// Whether a row is so, and two steps come to the same.
 fn is_part(alloc: Global, row: &Part) -> Result<bool, Fail> {
     let pairs = hex::decode(alloc, row.pairs)?;
     let words = hex::decode(alloc, row.words)?;
@@ -159,7 +159,7 @@ fn parts_begin_within_a_pair(rt: HostRuntime) -> Result<(), Fail> {
     Ok(())
 }
 
-/// So many inputs, of which the one at a place has this key set: how many fit a run, and in how many pairs.
+/// So many inputs, 0001 and 0000 by turns, each so many times: how many of them fit a run, and in how many pairs.
 struct Room {
     inputs: u16,
     every: u16,
@@ -167,7 +167,6 @@ struct Room {
     pairs: usize,
 }
 
-/// Key sets that change with each input, with every second, with every 30th, or never.
 #[rattlefmt::skip]
 const ROOMS: [Room; 9] = [
     Room { inputs: 0, every: 1, fits: 0, pairs: 0 },
@@ -189,7 +188,7 @@ fn rooms() -> &'static [Room] {
 fn has_room(alloc: Global, row: &Room) -> Result<bool, Fail> {
     let mut words = Vec::new(alloc);
     for place in 0..row.inputs {
-        words.push(place.checked_div(row.every).unwrap_or(0))?;
+        words.push(1 - place.checked_div(row.every).unwrap_or(0) % 2)?;
     }
     let fits = fits(&words);
     let Some(run) = words.get(..fits) else {

@@ -247,3 +247,31 @@ pub stretch_from : (keys times : ℕ) (words : List ℕ) → 0 < times → words
     → pairs_of words ≡ record { times = times; keys = keys } ∷ pairs_of (drop times words)
 stretch_from keys zero words some same apart = absurd (omega (arith, some))
 stretch_from keys (suc more) words some same apart = ap pairs_of same ∙ stretch keys more (drop (suc more) words) apart
+
+-- ---- sizes
+
+pub length_spelled : (pairs : List Pair) → length (pairs_bytes pairs) ≡ 3 * length pairs
+length_spelled [] = refl
+length_spelled (p ∷ pairs) = omega (arith, length_spelled pairs)
+
+slice_index_more : (front words : List ℕ) (most : ℕ) → ((i : ℕ) → get_or (front ++ words) i 0 < most) → (i : ℕ) → get_or words i 0 < most
+slice_index_more [] words most fits i = fits i
+slice_index_more (w ∷ front) words most fits i = slice_index_more front words most (λ k. fits (suc k)) i
+
+-- the inputs of the pairs after the first one have 16 bits too
+pub sets_after : (p : Pair) (pairs : List Pair) → ((i : ℕ) → get_or (words_in (p ∷ pairs)) i 0 < 2 ^ 16) → (i : ℕ) → get_or (words_in pairs) i 0 < 2 ^ 16
+sets_after p pairs fits = slice_index_more (replicate p.times p.keys) (words_in pairs) (2 ^ 16) fits
+
+replicated : (times keys : ℕ) (words : List ℕ) → keys < 2 ^ 16 → ((i : ℕ) → get_or words i 0 < 2 ^ 16) → (i : ℕ) → get_or (replicate times keys ++ words) i 0 < 2 ^ 16
+replicated zero keys words small fits i = fits i
+replicated (suc times) keys words small fits zero = small
+replicated (suc times) keys words small fits (suc i) = replicated times keys words small fits i
+
+-- bytes say inputs of 16 bits
+pub sets_of : (bytes : List ℕ) → ((i : ℕ) → get_or bytes i 0 < 2 ^ 8) → (i : ℕ) → get_or (words_in (pairs_at bytes)) i 0 < 2 ^ 16
+unfolding pairs_at
+sets_of [] fits i = omega arith
+sets_of (times ∷ []) fits i = omega arith
+sets_of (times ∷ high ∷ []) fits i = omega arith
+sets_of (times ∷ high ∷ low ∷ rest) fits i =
+    replicated times (high * 256 + low) (words_in (pairs_at rest)) (omega (arith, fits 1, fits 2)) (sets_of rest (λ k. fits (suc (suc (suc k))))) i

@@ -1,8 +1,9 @@
-use Rattle.std.proofs.Common.{◌≡◌, ◌≤◌, ◌+◌, ◌*◌, ℕ, List, drop, ap, sym, ◌∙◌, arith}
+use Rattle.std.proofs.Common.{◌≡◌, ◌≤◌, ◌<◌, ◌+◌, ◌*◌, ◌^◌, ℕ, List, get_or, drop, ap, sym, subst, ◌∙◌, arith}
 use Rattle.std.proofs.lemmas.List.{drop-drop}
 use Rattle.c8_pairs.specs.declared.pair.Pair.{Pair}
 use Rattle.c8_pairs.specs.Pairs.{words_in}
 use Rattle.c8_pairs.specs.Reading.{pairs_at}
+use Rattle.c8_pairs.specs.checked.PairLaws.{sets_after}
 use Rattle.c8_pairs.proofs.RunLemmas.{drop_past}
 use Rattle.c8_pairs.proofs.run.+begun_at.Goals as goal
 
@@ -19,3 +20,9 @@ returns-in-Some-clause-slice t c =
       pairs + 1,
       c.begun_at.ensures.slice.1 ∙ ap (drop (3 * pairs)) c.in-Some.ensures.rest ∙ drop-drop (3 * pairs) 3 c.args.bytes.now ∙ ap (λ (n : ℕ). drop n c.args.bytes.now) all,
     )
+
+pub returns-in-Some-clause-sets : goal.returns-in-Some-clause-sets
+returns-in-Some-clause-sets t c sets =
+    let first = c.in-Some.first in
+    c.begun_at.ensures.sets (sets_after (record { times = first.times; keys = first.keys }) (pairs_at first.rest.now)
+    (subst (λ (pairs : List Pair). (i : ℕ) → get_or (words_in pairs) i 0 < 2 ^ 16) c.in-Some.ensures.pair sets))

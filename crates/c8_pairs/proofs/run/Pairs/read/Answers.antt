@@ -2,7 +2,7 @@ use Rattle.std.proofs.Common.{◌≡◌, ◌==◌, true, false, None, refl, ap, 
 use Rattle.std.proofs.lemmas.Bool.{eq-eqb, eqb-true}
 use Rattle.c8_pairs.specs.Pairs.{pairs_of, pairs_bytes}
 use Rattle.c8_pairs.specs.Reading.{pairs_at, well_after, count_in}
-use Rattle.c8_pairs.specs.checked.PairLaws.{and_both, well_pairs, well_of, count_of, pairs_at-spelling, spelled_pairs}
+use Rattle.c8_pairs.specs.checked.PairLaws.{and_both, well_pairs, well_of, count_of, pairs_at-spelling, spelled_pairs, sets_of}
 use Rattle.c8_pairs.proofs.RunLemmas.{length_words, begins}
 use Rattle.c8_pairs.proofs.run.Pairs.read.Goals as goal
 
@@ -23,6 +23,8 @@ invariant_of-result c =
       whole = spelled_pairs bytes c.requires.whole (λ i. omega (arith, c.type_inv.bytes i));
       counts = omega (arith, eqb-true (count_in (pairs_at bytes)) c.args.count both.1);
       begun = begins (pairs_at bytes) both.0;
+      sets = sets_of bytes (λ i. omega (arith, c.type_inv.bytes i));
+      short = omega (arith, c.requires.short);
       low = omega arith;
       few = c.requires.few;
     }

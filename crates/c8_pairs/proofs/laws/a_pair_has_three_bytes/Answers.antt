@@ -1,0 +1,6 @@
+use Rattle.c8_pairs.specs.Pairs.{pairs_of}
+use Rattle.c8_pairs.specs.checked.PairLaws.{length_spelled}
+use Rattle.c8_pairs.proofs.laws.a_pair_has_three_bytes.Goals as goal
+
+pub returns : goal.returns
+returns c words = length_spelled (pairs_of words)
