@@ -1,17 +1,13 @@
 -- The inputs of a run that begins within its first pair.
-use Rattle.std.proofs.Common.{◌≡◌, ℕ, zero, suc, ◌+◌, ◌-◌, ◌<◌, ◌≤◌, List, [], ◌∷◌, ◌++◌, length, drop, replicate, true, Some, None, refl, sym, ap, ◌∙◌, arith, length-append}
+use Rattle.std.proofs.Common.{◌≡◌, ℕ, zero, suc, ◌+◌, ◌-◌, ◌<◌, ◌≤◌, List, [], ◌∷◌, ◌++◌, length, drop, replicate, true, Some, None, refl, sym, ap, ◌∙◌, arith}
 use Rattle.std.specs.Prelude.{slice_get}
 use Rattle.std.proofs.lemmas.List.{drop-drop, drop-append-le, drop-replicate, length-replicate, length-drop}
 use Rattle.std.proofs.Math.Seq.{drop-append-add}
 use Rattle.std.proofs.lemmas.Bool.{lt-ltb}
-use Rattle.c8_pairs.specs.checked.PairLaws.{some_at}
+use Rattle.c8_pairs.specs.checked.PairLaws.{some_at, length_words}
 use Rattle.c8_pairs.specs.declared.pair.Pair.{Pair}
 use Rattle.c8_pairs.specs.Pairs.{words_in}
 use Rattle.c8_pairs.specs.Reading.{well_after, count_in, is_begun}
-
-pub length_words : (pairs : List Pair) → length (words_in pairs) ≡ count_in pairs
-length_words [] = refl
-length_words (p ∷ pairs) = length-append (replicate p.times p.keys) (words_in pairs) ∙ omega (arith, length-replicate p.times p.keys, length_words pairs)
 
 pub length_run : (skip count : ℕ) (pairs : List Pair) → skip + count ≡ count_in pairs → length (drop skip (words_in pairs)) ≡ count
 length_run skip count pairs counts = length-drop skip (words_in pairs) ∙ omega (arith, counts, length_words pairs)

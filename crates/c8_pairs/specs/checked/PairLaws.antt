@@ -1,12 +1,13 @@
 -- Checked, not believed: runs and their pairs.
-use Rattle.std.proofs.Common.{inl, inr, ◌≡◌, ◌≢◌, ℕ, zero, suc, ◌+◌, ◌*◌, ◌/◌, ◌%◌, ◌^◌, ◌<◌, ◌==◌, ◌&&◌, List, [], ◌∷◌, ◌++◌, length, get_or, drop, replicate, Bool, true, false, Option, Some, None, refl, sym, ap, ◌∙◌, arith}
+use Rattle.std.proofs.Common.{inl, inr, ◌≡◌, ◌≢◌, ℕ, zero, suc, ◌+◌, ◌*◌, ◌/◌, ◌%◌, ◌^◌, ◌<◌, ◌==◌, ◌&&◌, List, [], ◌∷◌, ◌++◌, length, get_or, drop, replicate, Bool, true, false, Option, Some, None, refl, sym, ap, ◌∙◌, arith, length-append}
 use Rattle.std.specs.Prelude.{not}
-use Rattle.std.proofs.lemmas.Bool.{cases_eq, eq-eqb, ne_eqb}
+use Rattle.std.proofs.lemmas.Bool.{cases_eq, eq-eqb, eqb-true, ne_eqb}
+use Rattle.std.proofs.lemmas.List.{length-replicate}
 use Rattle.byteorder.specs.Endian.{big_bytes, big_number}
 use Rattle.byteorder.specs.Numbers.{big_number-reads_back}
 use Rattle.c8_pairs.specs.declared.pair.Pair.{Pair}
 use Rattle.c8_pairs.specs.Pairs.{in_front, pairs_of, words_in, pairs_bytes, spelling}
-use Rattle.c8_pairs.specs.Reading.{pairs_at, is_same, well_after, count_in, pairs_after}
+use Rattle.c8_pairs.specs.Reading.{pairs_at, is_same, well_after, count_in, are_run, pairs_after}
 
 -- ---- well formed pairs
 
@@ -17,6 +18,20 @@ and_both false b e = absurd cc
 not_true : (a : Bool) → not a ≡ true → a ≡ false
 not_true true e = absurd cc
 not_true false e = refl
+
+-- ---- one input more in front
+
+in_same : (word : ℕ) (p : Pair) (pairs : List Pair) → word ≡ p.keys → in_front word (p ∷ pairs) ≡ record { times = p.times + 1; keys = p.keys } ∷ pairs
+in_same word p pairs same = rw (eq-eqb word p.keys same) refl
+
+in_apart : (word : ℕ) (p : Pair) (pairs : List Pair) → word ≢ p.keys → in_front word (p ∷ pairs) ≡ record { times = 1; keys = word } ∷ p ∷ pairs
+in_apart word p pairs apart = rw (ne_eqb word p.keys apart) refl
+
+-- where there are no inputs there are no pairs
+pub no_pairs : (words : List ℕ) → length words ≡ 0 → pairs_of words ≡ []
+unfolding pairs_of
+no_pairs [] none = refl
+no_pairs (word ∷ words) none = absurd (omega (arith, none))
 
 -- the pairs of inputs say these inputs
 front_says : (word : ℕ) (pairs : List Pair) → words_in (in_front word pairs) ≡ word ∷ words_in pairs
@@ -35,32 +50,25 @@ pairs_say [] = refl
 pairs_say (word ∷ words) = front_says word (pairs_of words) ∙ ap (λ (ws : List ℕ). word ∷ ws) (pairs_say words)
 
 -- well formed pairs are those of the inputs that they say
-front_more : (keys n : ℕ) (pairs : List Pair) → in_front keys (record { times = n; keys = keys } ∷ pairs) ≡ record { times = n + 1; keys = keys } ∷ pairs
-front_more keys n pairs = rw (eq-eqb keys keys refl) refl
-
 front_new : (keys : ℕ) (pairs : List Pair) → well_after (Some keys) pairs ≡ true → in_front keys pairs ≡ record { times = 1; keys = keys } ∷ pairs
 front_new keys [] well = refl
 front_new keys (p ∷ pairs) well =
     let apart = not_true (keys == p.keys) (and_both (not (keys == p.keys)) (well_after (Some p.keys) pairs) (and_both (not (p.times == 0)) (not (keys == p.keys) && well_after (Some p.keys) pairs) well).1).0 in
     rw apart refl
 
-pub stretch : (keys k : ℕ) (words : List ℕ) → well_after (Some keys) (pairs_of words) ≡ true → pairs_of (replicate (suc k) keys ++ words) ≡ record { times = suc k; keys = keys } ∷ pairs_of words
+stretch : (keys k : ℕ) (words : List ℕ) → well_after (Some keys) (pairs_of words) ≡ true → pairs_of (replicate (suc k) keys ++ words) ≡ record { times = suc k; keys = keys } ∷ pairs_of words
 unfolding pairs_of
 stretch keys zero words well = front_new keys (pairs_of words) well
 stretch keys (suc k) words well =
     let more : suc k + 1 ≡ suc (suc k) = omega arith in
-    ap (in_front keys) (stretch keys k words well) ∙ front_more keys (suc k) (pairs_of words) ∙ ap (λ (n : ℕ). record { times = n; keys = keys } ∷ pairs_of words) more
+    ap (in_front keys) (stretch keys k words well) ∙ in_same keys (record { times = suc k; keys = keys }) (pairs_of words) refl ∙ ap (λ (n : ℕ). record { times = n; keys = keys } ∷ pairs_of words) more
 
 some_times : (n : ℕ) → not (n == 0) ≡ true → (k : ℕ) × (n ≡ suc k)
 some_times zero e = absurd cc
 some_times (suc k) e = (k, refl)
 
-none_of : pairs_of [] ≡ []
-unfolding pairs_of
-none_of = refl
-
 pub well_pairs : (last : Option ℕ) (pairs : List Pair) → well_after last pairs ≡ true → pairs_of (words_in pairs) ≡ pairs
-well_pairs last [] well = none_of
+well_pairs last [] well = no_pairs [] refl
 well_pairs last (p ∷ pairs) well =
     let both = and_both (not (p.times == 0)) (not (is_same last p.keys) && well_after (Some p.keys) pairs) well in
     let rest = (and_both (not (is_same last p.keys)) (well_after (Some p.keys) pairs) both.1).1 in
@@ -205,12 +213,6 @@ opened : (word : ℕ) (words : List ℕ) → length (in_front word (pairs_of wor
 unfolding pairs_of
 opened word words = refl
 
-in_same : (word : ℕ) (p : Pair) (pairs : List Pair) → word ≡ p.keys → in_front word (p ∷ pairs) ≡ record { times = p.times + 1; keys = p.keys } ∷ pairs
-in_same word p pairs same = rw (eq-eqb word p.keys same) refl
-
-in_apart : (word : ℕ) (p : Pair) (pairs : List Pair) → word ≢ p.keys → in_front word (p ∷ pairs) ≡ record { times = 1; keys = word } ∷ p ∷ pairs
-in_apart word p pairs apart = rw (ne_eqb word p.keys apart) refl
-
 more_pairs : (word : ℕ) (words : List ℕ) → suc (pairs_after (Some word) words) ≡ length (in_front word (pairs_of words))
 more_pairs word [] = one_pair word
 more_pairs word (next ∷ words) =
@@ -236,12 +238,6 @@ pub apart_here : (keys : ℕ) (words : List ℕ) → (get_or words 0 0 ≡ keys 
 apart_here keys [] apart some = absurd (omega (arith, some))
 apart_here keys (word ∷ words) apart some = apart_of keys word words (λ e. apart (sym e))
 
--- where there are no inputs there are no pairs
-pub no_pairs : (words : List ℕ) → length words ≡ 0 → pairs_of words ≡ []
-unfolding pairs_of
-no_pairs [] none = refl
-no_pairs (word ∷ words) none = absurd (omega (arith, none))
-
 -- the first stretch of inputs, and the pairs of those after it
 pub stretch_from : (keys times : ℕ) (words : List ℕ) → 0 < times → words ≡ replicate times keys ++ drop times words → well_after (Some keys) (pairs_of (drop times words)) ≡ true
     → pairs_of words ≡ record { times = times; keys = keys } ∷ pairs_of (drop times words)
@@ -249,6 +245,10 @@ stretch_from keys zero words some same apart = absurd (omega (arith, some))
 stretch_from keys (suc more) words some same apart = ap pairs_of same ∙ stretch keys more (drop (suc more) words) apart
 
 -- ---- sizes
+
+pub length_words : (pairs : List Pair) → length (words_in pairs) ≡ count_in pairs
+length_words [] = refl
+length_words (p ∷ pairs) = length-append (replicate p.times p.keys) (words_in pairs) ∙ omega (arith, length-replicate p.times p.keys, length_words pairs)
 
 pub length_spelled : (pairs : List Pair) → length (pairs_bytes pairs) ≡ 3 * length pairs
 length_spelled [] = refl
@@ -275,3 +275,23 @@ sets_of (times ∷ []) fits i = omega arith
 sets_of (times ∷ high ∷ []) fits i = omega arith
 sets_of (times ∷ high ∷ low ∷ rest) fits i =
     replicated times (high * 256 + low) (words_in (pairs_at rest)) (omega (arith, fits 1, fits 2)) (sets_of rest (λ k. fits (suc (suc (suc k))))) i
+
+-- ---- runs and what spells them
+
+-- what spells a run is taken for one
+pub spelling_is_run : (words : List ℕ) → ((i : ℕ) → get_or words i 0 < 2 ^ 16) → are_run (pairs_at (spelling words)) (length words) ≡ true
+spelling_is_run words small =
+    ap (λ (pairs : List Pair). are_run pairs (length words)) (pairs_at-spelling words small) ∙ rw (well_of words, eq-eqb (count_in (pairs_of words)) (length words) (count_of words)) refl
+
+-- Bytes that are those of a run of so many inputs: they spell its inputs, which are so many.
+pub record IsSpelled (bytes : List ℕ) (count : ℕ) : Type 0 where
+  pub spells : spelling (words_in (pairs_at bytes)) ≡ bytes
+  pub many : length (words_in (pairs_at bytes)) ≡ count
+
+pub run_is_spelled : (bytes : List ℕ) (count : ℕ) → length bytes % 3 ≡ 0 → ((i : ℕ) → get_or bytes i 0 < 2 ^ 8) → are_run (pairs_at bytes) count ≡ true → IsSpelled bytes count
+run_is_spelled bytes count whole fits is =
+    let both = and_both (well_after None (pairs_at bytes)) (count_in (pairs_at bytes) == count) is in
+    record {
+      spells = ap pairs_bytes (well_pairs None (pairs_at bytes) both.0) ∙ spelled_pairs bytes whole fits;
+      many = length_words (pairs_at bytes) ∙ eqb-true (count_in (pairs_at bytes)) count both.1;
+    }

@@ -1,9 +1,9 @@
 use Rattle.std.proofs.Common.{◌≡◌, ◌==◌, true, false, None, refl, ap, sym, ◌∙◌, arith}
 use Rattle.std.proofs.lemmas.Bool.{eq-eqb, eqb-true}
-use Rattle.c8_pairs.specs.Pairs.{pairs_of, pairs_bytes}
+use Rattle.c8_pairs.specs.Pairs.{pairs_of}
 use Rattle.c8_pairs.specs.Reading.{pairs_at, well_after, count_in}
-use Rattle.c8_pairs.specs.checked.PairLaws.{and_both, well_pairs, well_of, count_of, pairs_at-spelling, spelled_pairs, sets_of}
-use Rattle.c8_pairs.proofs.RunLemmas.{length_words, begins}
+use Rattle.c8_pairs.specs.checked.PairLaws.{and_both, well_of, count_of, pairs_at-spelling, spelled_pairs, sets_of, run_is_spelled}
+use Rattle.c8_pairs.proofs.RunLemmas.{begins}
 use Rattle.c8_pairs.proofs.run.Pairs.read.Goals as goal
 
 pub returns-then-not-is_run-clause-none : goal.returns-then-not-is_run-clause-none
@@ -30,13 +30,7 @@ invariant_of-result c =
     }
 
 pub returns-clause-spells : goal.returns-clause-spells
-returns-clause-spells c =
-    let bytes = c.args.bytes.now in
-    let both = and_both (well_after None (pairs_at bytes)) (count_in (pairs_at bytes) == c.args.count) (sym c.is_run.ensures ∙ cc c.if-not-is_run.false) in
-    ap pairs_bytes (well_pairs None (pairs_at bytes) both.0) ∙ spelled_pairs bytes c.requires.whole (λ i. omega (arith, c.type_inv.bytes i))
+returns-clause-spells c = (run_is_spelled c.args.bytes.now c.args.count c.requires.whole (λ i. omega (arith, c.type_inv.bytes i)) (sym c.is_run.ensures ∙ cc c.if-not-is_run.false)).spells
 
 pub returns-clause-count : goal.returns-clause-count
-returns-clause-count c =
-    let bytes = c.args.bytes.now in
-    let both = and_both (well_after None (pairs_at bytes)) (count_in (pairs_at bytes) == c.args.count) (sym c.is_run.ensures ∙ cc c.if-not-is_run.false) in
-    length_words (pairs_at bytes) ∙ eqb-true (count_in (pairs_at bytes)) c.args.count both.1
+returns-clause-count c = (run_is_spelled c.args.bytes.now c.args.count c.requires.whole (λ i. omega (arith, c.type_inv.bytes i)) (sym c.is_run.ensures ∙ cc c.if-not-is_run.false)).many
