@@ -106,7 +106,7 @@ const TOLD_REFUSALS: &str = "1 no open 1 WrongGame
 ";
 
 /// Each refusal of a delivery that a peer that is up may give.
-const DELIVERIES: [Answer; 25] = [
+const DELIVERIES: [Answer; 27] = [
     Answer::Delivered(Err(Refused::Wire(WireError::Short))),
     Answer::Delivered(Err(Refused::Wire(WireError::Magic))),
     Answer::Delivered(Err(Refused::Wire(WireError::Version))),
@@ -116,6 +116,7 @@ const DELIVERIES: [Answer; 25] = [
     Answer::Delivered(Err(Refused::Wire(WireError::Reserved))),
     Answer::Delivered(Err(Refused::Wire(WireError::Count))),
     Answer::Delivered(Err(Refused::Wire(WireError::Beyond))),
+    Answer::Delivered(Err(Refused::Wire(WireError::Pairs))),
     Answer::Delivered(Err(Refused::Hand(HandError::NotOpen))),
     Answer::Delivered(Err(Refused::Hand(HandError::Stale))),
     Answer::Delivered(Err(Refused::Hand(HandError::Ahead))),
@@ -132,6 +133,7 @@ const DELIVERIES: [Answer; 25] = [
     Answer::Delivered(Err(Refused::Desync)),
     Answer::Delivered(Err(Refused::Disk(DiskError::Full))),
     Answer::Delivered(Err(Refused::Dropped)),
+    Answer::Delivered(Err(Refused::OtherWire)),
 ];
 
 fn deliveries() -> &'static [Answer] {
@@ -147,22 +149,24 @@ const TOLD_DELIVERIES: &str = "1 no wire 1 Short
 7 no wire 7 Reserved
 8 no wire 8 Count
 9 no wire 9 Beyond
-10 no hand 1 NotOpen
-11 no hand 2 Stale
-12 no hand 3 Ahead
-13 no hand 4 NotMine
-14 no hand 5 Session
-15 no known 1 Gap
-16 no known 2 FromLeaver
-17 no known 3 Differs
-18 no known 4 Full
-19 no deliver 10 BadAck
-20 no deliver 11 NotChair
-21 no deliver 12 NotFrozen
-22 no deliver 13 WrongLeaver
-23 no deliver 14 Desync
-24 no deliver 15 Disk
-25 no deliver 17 Dropped
+10 no wire 10 Pairs
+11 no hand 1 NotOpen
+12 no hand 2 Stale
+13 no hand 3 Ahead
+14 no hand 4 NotMine
+15 no hand 5 Session
+16 no known 1 Gap
+17 no known 2 FromLeaver
+18 no known 3 Differs
+19 no known 4 Full
+20 no deliver 10 BadAck
+21 no deliver 11 NotChair
+22 no deliver 12 NotFrozen
+23 no deliver 13 WrongLeaver
+24 no deliver 14 Desync
+25 no deliver 15 Disk
+26 no deliver 17 Dropped
+27 no deliver 18 OtherWire
 ";
 
 fn told(alloc: Global, answers: &[Answer]) -> Result<Vec<u8>, Fail> {

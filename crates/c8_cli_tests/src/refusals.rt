@@ -32,7 +32,7 @@ const SIM: [SimError; 4] = [
     SimError::Script(ScriptError::Memory),
 ];
 
-const SHOW: [ShowError; 11] = [
+const SHOW: [ShowError; 12] = [
     ShowError::Hex(HexError::Bad),
     ShowError::Hex(HexError::Memory),
     ShowError::Wire(WireError::Short),
@@ -44,6 +44,7 @@ const SHOW: [ShowError; 11] = [
     ShowError::Wire(WireError::Reserved),
     ShowError::Wire(WireError::Count),
     ShowError::Wire(WireError::Beyond),
+    ShowError::Wire(WireError::Pairs),
 ];
 
 const PEER: [PeerError; 16] = [
@@ -173,6 +174,8 @@ const LINES: &str = "1 refused: game 1 Line
 1 refused: wire 8 Count
 1
 1 refused: wire 9 Beyond
+1
+1 refused: wire 10 Pairs
 1
 1 refused: game 4 Twice
 1

@@ -1,6 +1,6 @@
 -- What one more line changes of what a draft holds.
 use Rattle.std.proofs.Common.{◌≡◌, ℕ, ◌⊎◌, Bool, true, false, not, cond, length, List, [], ◌∷◌, ◌++◌, Option, Some, None, Result, Ok, Err, refl, ap, sym, ◌∙◌, inl, inr, ◌&&◌, ◌||◌, ◌==◌, ◌<◌, ◌≤◌, nat_lt, get_or, arith}
-use Rattle.std.specs.Prelude.{slice_set, codes, MatchResult, OnOk, IfErr, is_ok, is_some, nat_le, slice_index, unwrap_or}
+use Rattle.std.specs.Prelude.{slice_set, codes, MatchResult, OnOk, IfErr, is_ok, is_some, is_none, nat_le, slice_index, unwrap_or}
 use Rattle.std.specs.List.{list_any, AllZip}
 use Rattle.std.specs.Result.{result_unwrap_or}
 use Rattle.std.specs.Str.{bytes_eq}
@@ -13,13 +13,13 @@ use Rattle.c8_game.specs.declared.error.GameError.{GameError}
 use Rattle.c8_game.specs.declared.error.GameError.TheVariants.{Memory, Hex, Missing, Range}
 use Rattle.c8_game.specs.declared.text.draft.Draft.{Draft}
 use Rattle.c8_game.specs.declared.text.field.Field.{Field}
-use Rattle.c8_game.specs.declared.text.field.Field.TheVariants.{Players, Ipf, Frames, Delay, Window, Seed, Mask1, Mask2, Mask3, Mask4}
-use Rattle.c8_game.specs.Fields.{fields, owner_of, field_named, number_of}
-use Rattle.c8_game.specs.GameText.{Item, Blank, Number, Code, Says, is_skipped, number_in, numbers_for, code_in, code_of, rule_of, Give}
+use Rattle.c8_game.specs.declared.text.field.Field.TheVariants.{Players, Ipf, Frames, Delay, Window, Seed, Wire, Mask1, Mask2, Mask3, Mask4}
+use Rattle.c8_game.specs.Fields.{fields, owner_of, default_of, field_named, number_of}
+use Rattle.c8_game.specs.GameText.{Item, Blank, Number, Code, Says, is_skipped, number_in, numbers_for, code_in, code_of, rule_of, Tell, Give}
 use Rattle.c8_game.specs.GameFaults.{is_name_and_value, name_in, value_in, names, is_told, field_fault, named_fault, code_fault, line_fault, players_in, is_lacking, is_stray, end_fault}
 use Rattle.c8_game.specs.checked.Draft.{Holds, AddsLine, AreFirst, first_for}
 use Rattle.c8_game.specs.Rules.{Rules, most_program}
-use Rattle.c8_game.specs.checked.Places.{index_of, number_at, told_by, listed}
+use Rattle.c8_game.specs.checked.Places.{index_of, number_at, untold_number, told_by, listed}
 use Rattle.c8_game.proofs.FieldLemmas.{same_field, index_of-small, itself, apart, number_at-set_same, number_at-set_other}
 use Rattle.c8_game.proofs.ItemLemmas.{fault_blank, says_number, says_code, named_told}
 
@@ -91,7 +91,7 @@ fault_of_field draft before items line field says holds said shaped uncoded name
     fault_named before line said shaped uncoded ∙ ap (λ found. named_fault before found (value_in line)) named ∙ ap (λ again. field_fault field again (value_in line)) (named_before draft field before items says holds)
 
 -- a field that had no number has this one now, and the others have theirs
-number_more : (old new : Draft) (items : List Item) (field : Field) (number : ℕ) → length old.values ≡ 10 → Holds old items → is_some (number_at old.values field) ≡ false
+number_more : (old new : Draft) (items : List Item) (field : Field) (number : ℕ) → length old.values ≡ 11 → Holds old items → is_some (number_at old.values field) ≡ false
     → new.values ≡ slice_set old.values (index_of field) (Some number) → new.program.items ≡ old.program.items → Holds new (items ++ Number field number ∷ [])
 number_more old new items field number size holds fresh set same = record {
   numbers = λ f. elim (cases_eq (index_of f) (index_of field)) [
@@ -104,7 +104,7 @@ number_more old new items field number size holds fresh set same = record {
   program = same ∙ holds.program ∙ code_stays items (Number field number) refl;
 }
 
-pub named_line : (old new : Draft) (line : List ℕ) (field : Field) (result : Result (Unit {0}) GameError) → length old.values ≡ 10 → is_skipped line ≡ false → is_name_and_value line ≡ true
+pub named_line : (old new : Draft) (line : List ℕ) (field : Field) (result : Result (Unit {0}) GameError) → length old.values ≡ 11 → is_skipped line ≡ false → is_name_and_value line ≡ true
     → bytes_eq (name_in line) (codes "code") ≡ false → field_named (name_in line) ≡ Some field
     → MatchResult result (λ _. field_fault field (is_some (number_at old.values field)) (value_in line) ≡ None) (λ e. field_fault field (is_some (number_at old.values field)) (value_in line) ≡ Some e)
     → OnOk result (new.values ≡ slice_set old.values (index_of field) (Some (number_of field (value_in line)))) → OnOk result (new.program.items ≡ old.program.items) → AddsLine old new line result
@@ -125,12 +125,12 @@ any_same p q (x ∷ xs) same = rw (same x, any_same p q xs same) refl
 told_same : (draft : Draft) (items : List Item) (field : Field) → Holds draft items → is_told items field ≡ is_some (number_at draft.values field)
 told_same draft items field holds = ap (λ numbers. nat_lt 0 (length numbers)) (holds.numbers field) ∙ sym (some_listed (number_at draft.values field))
 
-first_listed : (value : Option ℕ) → slice_index (listed value) 0 ≡ unwrap_or value 0
-first_listed None = refl
-first_listed (Some number) = refl
+first_listed : (value : Option ℕ) (untold : ℕ) → get_or (listed value) 0 untold ≡ unwrap_or value untold
+first_listed None untold = refl
+first_listed (Some number) untold = refl
 
 pub first_same : (draft : Draft) (items : List Item) → Holds draft items → (field : Field) → told_by draft.values field ≡ first_for items field
-first_same draft items holds field = sym (ap (λ numbers. slice_index numbers 0) (holds.numbers field) ∙ first_listed (number_at draft.values field))
+first_same draft items holds field = sym (ap (λ numbers. get_or numbers 0 (untold_number field)) (holds.numbers field) ∙ first_listed (number_at draft.values field) (untold_number field))
 
 pub four_same : (draft : Draft) (items : List Item) → Holds draft items → told_by draft.values Mask1 ∷ told_by draft.values Mask2 ∷ told_by draft.values Mask3 ∷ told_by draft.values Mask4 ∷ []
     ≡ first_for items Mask1 ∷ first_for items Mask2 ∷ first_for items Mask3 ∷ first_for items Mask4 ∷ []
@@ -146,11 +146,11 @@ pub some_bytes : (size : ℕ) → (size == 0) ≡ false → 0 < size
 some_bytes size some = let not_0 = eqb-false size 0 some in omega arith
 
 lacks_same : (draft : Draft) (items : List Item) (players : ℕ) → Holds draft items → players ≡ told_by draft.values Players
-    → list_any (λ field. nat_le (owner_of field) players && not (is_some (number_at draft.values field))) fields ≡ list_any (is_lacking items) fields
+    → list_any (λ field. nat_le (owner_of field) players && is_none (default_of field) && not (is_some (number_at draft.values field))) fields ≡ list_any (is_lacking items) fields
 lacks_same draft items players holds told =
-    any_same (λ field. nat_le (owner_of field) players && not (is_some (number_at draft.values field))) (is_lacking items) fields (λ field.
-    ap (λ count. nat_le (owner_of field) count && not (is_some (number_at draft.values field))) (told ∙ first_same draft items holds Players)
-    ∙ ap (λ some. nat_le (owner_of field) (players_in items) && not some) (sym (told_same draft items field holds)))
+    any_same (λ field. nat_le (owner_of field) players && is_none (default_of field) && not (is_some (number_at draft.values field))) (is_lacking items) fields (λ field.
+    ap (λ count. nat_le (owner_of field) count && is_none (default_of field) && not (is_some (number_at draft.values field))) (told ∙ first_same draft items holds Players)
+    ∙ ap (λ some. nat_le (owner_of field) (players_in items) && is_none (default_of field) && not some) (sym (told_same draft items field holds)))
 
 strays_same : (draft : Draft) (items : List Item) (players : ℕ) → Holds draft items → players ≡ told_by draft.values Players
     → list_any (λ field. nat_lt players (owner_of field) && is_some (number_at draft.values field)) fields ≡ list_any (is_stray items) fields
@@ -163,7 +163,7 @@ size_same : (draft : Draft) (items : List Item) → Holds draft items → length
 size_same draft items holds = ap length holds.program
 
 pub finds_missing : (draft : Draft) (items : List Item) (players : ℕ) (lacks : Bool) → Holds draft items → players ≡ told_by draft.values Players
-    → lacks ≡ list_any (λ field. nat_le (owner_of field) players && not (is_some (number_at draft.values field))) fields → (lacks ≡ true) ⊎ (length draft.program.items ≡ 0) → end_fault items ≡ Some Missing
+    → lacks ≡ list_any (λ field. nat_le (owner_of field) players && is_none (default_of field) && not (is_some (number_at draft.values field))) fields → (lacks ≡ true) ⊎ (length draft.program.items ≡ 0) → end_fault items ≡ Some Missing
 finds_missing draft items players lacks holds told is either =
     let lacking = sym (lacks_same draft items players holds told) ∙ sym is in
     elim either [
@@ -173,7 +173,7 @@ finds_missing draft items players lacks holds told is either =
     ]
 
 pub finds_range : (draft : Draft) (items : List Item) (players : ℕ) (lacks strays : Bool) → Holds draft items → players ≡ told_by draft.values Players
-    → lacks ≡ list_any (λ field. nat_le (owner_of field) players && not (is_some (number_at draft.values field))) fields → lacks ≡ false → 0 < length draft.program.items
+    → lacks ≡ list_any (λ field. nat_le (owner_of field) players && is_none (default_of field) && not (is_some (number_at draft.values field))) fields → lacks ≡ false → 0 < length draft.program.items
     → (most_program < length draft.program.items) ⊎ ((strays ≡ list_any (λ field. nat_lt players (owner_of field) && is_some (number_at draft.values field)) fields) × (strays ≡ true)) → end_fault items ≡ Some Range
 finds_range draft items players lacks strays holds told is none some either =
     let lacking : list_any (is_lacking items) fields ≡ false = sym (lacks_same draft items players holds told) ∙ sym is ∙ none in
@@ -186,7 +186,7 @@ finds_range draft items players lacks strays holds told is none some either =
     ]
 
 pub finds_none : (draft : Draft) (items : List Item) (players : ℕ) (lacks strays : Bool) → Holds draft items → players ≡ told_by draft.values Players
-    → lacks ≡ list_any (λ field. nat_le (owner_of field) players && not (is_some (number_at draft.values field))) fields → lacks ≡ false → 0 < length draft.program.items
+    → lacks ≡ list_any (λ field. nat_le (owner_of field) players && is_none (default_of field) && not (is_some (number_at draft.values field))) fields → lacks ≡ false → 0 < length draft.program.items
     → length draft.program.items ≤ most_program → strays ≡ list_any (λ field. nat_lt players (owner_of field) && is_some (number_at draft.values field)) fields → strays ≡ false → end_fault items ≡ None
 finds_none draft items players lacks strays holds told is none some fits stray straight =
     let lacking : list_any (is_lacking items) fields ≡ false = sym (lacks_same draft items players holds told) ∙ sym is ∙ none in
@@ -222,6 +222,7 @@ listed_at Frames = refl
 listed_at Delay = refl
 listed_at Window = refl
 listed_at Seed = refl
+listed_at Wire = refl
 listed_at Mask1 = refl
 listed_at Mask2 = refl
 listed_at Mask3 = refl
@@ -233,10 +234,10 @@ fails_each p none field =
     false_from_ne_true (p field) (λ passes.
     both_ways (list_any p fields) none (list_any_at p fields (index_of field) Players (index_of-small field) (ap p (listed_at field) ∙ passes)))
 
-single : (numbers : List ℕ) → 0 < length numbers → length numbers ≤ 1 → numbers ≡ slice_index numbers 0 ∷ []
-single [] some one = absurd (omega arith)
-single (first ∷ []) some one = refl
-single (first ∷ second ∷ more) some one = absurd (omega arith)
+single : (numbers : List ℕ) (untold : ℕ) → 0 < length numbers → length numbers ≤ 1 → numbers ≡ get_or numbers 0 untold ∷ []
+single [] untold some one = absurd (omega arith)
+single (first ∷ []) untold some one = refl
+single (first ∷ second ∷ more) untold some one = absurd (omega arith)
 
 none_of : (numbers : List ℕ) → nat_lt 0 (length numbers) ≡ false → numbers ≡ []
 none_of [] none = refl
@@ -249,13 +250,47 @@ rule_first items rules are Frames = sym are.frames
 rule_first items rules are Delay = sym are.delay
 rule_first items rules are Window = sym are.window
 rule_first items rules are Seed = sym are.seed
+rule_first items rules are Wire = sym are.wire
 rule_first items rules are Mask1 = sym (ap (λ masks. slice_index masks 0) are.masks)
 rule_first items rules are Mask2 = sym (ap (λ masks. slice_index masks 1) are.masks)
 rule_first items rules are Mask3 = sym (ap (λ masks. slice_index masks 2) are.masks)
 rule_first items rules are Mask4 = sym (ap (λ masks. slice_index masks 3) are.masks)
 
-needed_told : (owner players : ℕ) (told : Bool) → nat_le owner players && not told ≡ false → owner ≤ players → told ≡ true
-needed_told owner players told lacking there = elim (cases_Bool told) [ inl is ↦ is | inr untold ↦ absurd (both_ways (nat_le owner players && not told) lacking (and_from (nat_le owner players) (not told) (le-leb owner players there) (rw untold refl))) ]
+has_default : (default : Option ℕ) → is_none default ≡ false → default ≡ Some (unwrap_or default 0)
+has_default None none = absurd (cc)
+has_default (Some number) none = refl
+
+untold_default : (owner players : ℕ) (default : Option ℕ) (told : Bool) → nat_le owner players && is_none default && not told ≡ false → owner ≤ players → told ≡ false → default ≡ Some (unwrap_or default 0)
+untold_default owner players default told lacking there untold =
+    has_default default (false_from_ne_true (is_none default) (λ none.
+    both_ways (nat_le owner players && is_none default && not told) lacking
+    (and_from (nat_le owner players && is_none default) (not told) (and_from (nat_le owner players) (is_none default) (le-leb owner players there) none) (rw untold refl))))
+
+-- no mask has a default
+untold_mask : (field : Field) → 0 < owner_of field → untold_number field ≡ 0
+untold_mask Players mask = refl
+untold_mask Ipf mask = refl
+untold_mask Frames mask = refl
+untold_mask Delay mask = refl
+untold_mask Window mask = refl
+untold_mask Seed mask = refl
+untold_mask Wire mask = absurd (omega arith)
+untold_mask Mask1 mask = refl
+untold_mask Mask2 mask = refl
+untold_mask Mask3 mask = refl
+untold_mask Mask4 mask = refl
+
+first_untold : (items : List Item) (field : Field) → numbers_for field items ≡ [] → first_for items field ≡ untold_number field
+first_untold items field none = ap (λ numbers. get_or numbers 0 (untold_number field)) none
+
+tells_rule : (items : List Item) (rules : Rules) (field : Field) → AreFirst items rules → length (numbers_for field items) ≤ 1 → is_lacking items field ≡ false → owner_of field ≤ players_in items → Tell (numbers_for field items) field (rule_of field rules)
+tells_rule items rules field are once fine there =
+    elim (cases_Bool (is_told items field)) [
+      | inl told ↦ inl (single (numbers_for field items) (untold_number field) (ltb-true 0 (length (numbers_for field items)) told) once ∙ ap (λ number. number ∷ []) (rule_first items rules are field))
+      | inr untold ↦ let none = none_of (numbers_for field items) untold in
+          let default = untold_default (owner_of field) (players_in items) (default_of field) (is_told items field) fine there untold in
+          inr (none, default ∙ ap Some (sym (first_untold items field none) ∙ rule_first items rules are field))
+    ]
 
 stray_untold : (owner players : ℕ) (told : Bool) → nat_lt players owner && told ≡ false → players < owner → told ≡ false
 stray_untold owner players told straying beyond = false_from_ne_true told (λ is. both_ways (nat_lt players owner && told) straying (and_from (nat_lt players owner) told (lt-ltb players owner beyond) is))
@@ -266,13 +301,11 @@ gives_rules items rules once fine are =
     let some : ¬ (length (code_of items) ≡ 0) = eqb-false (length (code_of items)) 0 tests.1 in
     let fits : length (code_of items) ≤ most_program = ltb-false most_program (length (code_of items)) tests.2 in
     record {
-      once = λ field there.
-          let told = needed_told (owner_of field) (players_in items) (is_told items field) (fails_each (is_lacking items) tests.0 field) (omega (arith, are.players)) in
-          single (numbers_for field items) (ltb-true 0 (length (numbers_for field items)) told) (once field) ∙ ap (λ number. number ∷ []) (rule_first items rules are field);
+      once = λ field there. tells_rule items rules field are (once field) (fails_each (is_lacking items) tests.0 field) (omega (arith, are.players));
       nowhere = λ field beyond.
           let untold = stray_untold (owner_of field) (players_in items) (is_told items field) (fails_each (is_stray items) tests.3 field) (omega (arith, are.players)) in
           let none = none_of (numbers_for field items) untold in
-          (none, sym (rule_first items rules are field) ∙ ap (λ numbers. slice_index numbers 0) none);
+          (none, sym (rule_first items rules are field) ∙ first_untold items field none ∙ untold_mask field (omega arith));
       masks = ap length are.masks;
       program = are.program;
       some_code = omega (arith, ap length are.program, some);

@@ -11,7 +11,7 @@ use Rattle.std.proofs.lemmas.Slice.Eq.{bytes_eq-Decides}
 use Rattle.hex.specs.Hex.{decode_of, is_hex_digit}
 use Rattle.hex.proofs.HexLemmas.{IsOk-decode_sized, decode_of-ok}
 use Rattle.c8_game.specs.declared.text.field.Field.{Field}
-use Rattle.c8_game.specs.declared.text.field.Field.TheVariants.{Players, Ipf, Frames, Delay, Window, Seed, Mask1, Mask2, Mask3, Mask4}
+use Rattle.c8_game.specs.declared.text.field.Field.TheVariants.{Players, Ipf, Frames, Delay, Window, Seed, Wire, Mask1, Mask2, Mask3, Mask4}
 use Rattle.c8_game.specs.Fields.{word_of, is_mask, field_named, is_same, is_number, is_decimal, number_of, IsWithin, least_of, greatest_of}
 use Rattle.c8_game.specs.KeysText.{is_keys_text}
 use Rattle.c8_game.specs.GameText.{Item, Blank, Number, Code, Says, is_skipped, number_in, numbers_for}
@@ -29,6 +29,7 @@ word_spaceless Frames = refl
 word_spaceless Delay = refl
 word_spaceless Window = refl
 word_spaceless Seed = refl
+word_spaceless Wire = refl
 word_spaceless Mask1 = refl
 word_spaceless Mask2 = refl
 word_spaceless Mask3 = refl
@@ -101,6 +102,7 @@ word_said Frames value = refl
 word_said Delay value = refl
 word_said Window value = refl
 word_said Seed value = refl
+word_said Wire value = refl
 word_said Mask1 value = refl
 word_said Mask2 value = refl
 word_said Mask3 value = refl
@@ -113,6 +115,7 @@ word_uncoded Frames = refl
 word_uncoded Delay = refl
 word_uncoded Window = refl
 word_uncoded Seed = refl
+word_uncoded Wire = refl
 word_uncoded Mask1 = refl
 word_uncoded Mask2 = refl
 word_uncoded Mask3 = refl
@@ -188,6 +191,7 @@ empty_apart Frames = refl
 empty_apart Delay = refl
 empty_apart Window = refl
 empty_apart Seed = refl
+empty_apart Wire = refl
 empty_apart Mask1 = refl
 empty_apart Mask2 = refl
 empty_apart Mask3 = refl
@@ -200,6 +204,7 @@ hash_apart Frames more = refl
 hash_apart Delay more = refl
 hash_apart Window more = refl
 hash_apart Seed more = refl
+hash_apart Wire more = refl
 hash_apart Mask1 more = refl
 hash_apart Mask2 more = refl
 hash_apart Mask3 more = refl

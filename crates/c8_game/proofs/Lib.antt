@@ -1,6 +1,7 @@
 pub mod LineLemmas
 pub mod ByteLemmas
 pub mod FieldLemmas
+pub mod WireLemmas
 pub mod ValueLemmas
 pub mod ItemLemmas
 pub mod DraftLemmas

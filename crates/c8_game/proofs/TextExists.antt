@@ -16,12 +16,14 @@ use native.Mathlib.Numerals.{unary_clauses}
 use Rattle.hex.specs.Hex.{encode_lower, is_hex_digit}
 use Rattle.hex.proofs.HexLemmas.{decode_of-encode_lower, decode_of-ok, decode_sized-encode_lower, IsOk-decode_sized}
 use Rattle.c8_game.specs.declared.text.field.Field.{Field}
-use Rattle.c8_game.specs.declared.text.field.Field.TheVariants.{Players, Ipf, Frames, Delay, Window, Seed, Mask1, Mask2, Mask3, Mask4}
+use Rattle.c8_game.specs.declared.text.field.Field.TheVariants.{Players, Ipf, Frames, Delay, Window, Seed, Wire, Mask1, Mask2, Mask3, Mask4}
 use Rattle.c8_game.specs.Fields.{word_of, owner_of, is_mask, is_decimal, decimal_number, is_number, number_of, IsWithin}
 use Rattle.c8_game.specs.KeysText.{is_keys_text, keys_number}
-use Rattle.c8_game.specs.GameText.{Item, Blank, Number, Code, Says, numbers_for, rule_of, Give, Spells}
+use Rattle.c8_game.specs.GameText.{Item, Blank, Number, Code, Says, numbers_for, rule_of, Tell, Give, Spells}
 use Rattle.c8_game.specs.Rules.{Rules, AreInRange}
+use Rattle.c8_game.specs.Wire.{version_number}
 use Rattle.c8_game.proofs.LineLemmas.{part_and_more}
+use Rattle.c8_game.proofs.WireLemmas.{version_within}
 
 -- ---- a decimal of so many digits
 
@@ -100,6 +102,7 @@ value_fine Frames number lies = decimal_fine number (omega arith)
 value_fine Delay number lies = decimal_fine number (omega arith)
 value_fine Window number lies = decimal_fine number (omega arith)
 value_fine Seed number lies = decimal_fine number (omega arith)
+value_fine Wire number lies = decimal_fine number (omega arith)
 value_fine Mask1 number lies = mask_fine number (omega arith)
 value_fine Mask2 number lies = mask_fine number (omega arith)
 value_fine Mask3 number lies = mask_fine number (omega arith)
@@ -150,6 +153,7 @@ word_inner Frames = refl
 word_inner Delay = refl
 word_inner Window = refl
 word_inner Seed = refl
+word_inner Wire = refl
 word_inner Mask1 = refl
 word_inner Mask2 = refl
 word_inner Mask3 = refl
@@ -201,7 +205,7 @@ lines_ended (item ∷ items) says =
 -- ---- the items of a game
 
 abbrev front : Rules → List Item → List Item
-front rules more = Number Players rules.players ∷ Number Ipf rules.ipf ∷ Number Frames rules.frames ∷ Number Delay rules.delay ∷ Number Window rules.window ∷ Number Seed rules.seed ∷ more
+front rules more = Number Players rules.players ∷ Number Ipf rules.ipf ∷ Number Frames rules.frames ∷ Number Delay rules.delay ∷ Number Window rules.window ∷ Number Seed rules.seed ∷ Number Wire (version_number rules.wire) ∷ more
 
 spelled : (items : List Item) (rules : Rules) → AllZip Says (map line_for items) items → Give items rules → (text : List ℕ) × Spells text rules
 spelled items rules says gives = (ended (map line_for items), (items, rw (lines_ended items says) says, gives))
@@ -212,15 +216,16 @@ four_left players low high not_2 not_3 = omega arith
 abbrev items_2 : Rules → List Item
 items_2 rules = front rules (Number Mask1 (slice_index rules.masks 0) ∷ Number Mask2 (slice_index rules.masks 1) ∷ Code rules.program ∷ [])
 
-once_2 : (rules : Rules) → rules.players ≡ 2 → (field : Field) → owner_of field ≤ rules.players → numbers_for field (items_2 rules) ≡ rule_of field rules ∷ []
-once_2 rules players Players there = refl
-once_2 rules players Ipf there = refl
-once_2 rules players Frames there = refl
-once_2 rules players Delay there = refl
-once_2 rules players Window there = refl
-once_2 rules players Seed there = refl
-once_2 rules players Mask1 there = refl
-once_2 rules players Mask2 there = refl
+once_2 : (rules : Rules) → rules.players ≡ 2 → (field : Field) → owner_of field ≤ rules.players → Tell (numbers_for field (items_2 rules)) field (rule_of field rules)
+once_2 rules players Players there = inl refl
+once_2 rules players Ipf there = inl refl
+once_2 rules players Frames there = inl refl
+once_2 rules players Delay there = inl refl
+once_2 rules players Window there = inl refl
+once_2 rules players Seed there = inl refl
+once_2 rules players Wire there = inl refl
+once_2 rules players Mask1 there = inl refl
+once_2 rules players Mask2 there = inl refl
 once_2 rules players Mask3 there = absurd (omega arith)
 once_2 rules players Mask4 there = absurd (omega arith)
 
@@ -231,6 +236,7 @@ nowhere_2 rules ranges players Frames beyond = absurd (omega arith)
 nowhere_2 rules ranges players Delay beyond = absurd (omega arith)
 nowhere_2 rules ranges players Window beyond = absurd (omega arith)
 nowhere_2 rules ranges players Seed beyond = absurd (omega arith)
+nowhere_2 rules ranges players Wire beyond = absurd (omega arith)
 nowhere_2 rules ranges players Mask1 beyond = absurd (omega arith)
 nowhere_2 rules ranges players Mask2 beyond = absurd (omega arith)
 nowhere_2 rules ranges players Mask3 beyond = (refl, ranges.absent 2 (omega arith))
@@ -238,23 +244,24 @@ nowhere_2 rules ranges players Mask4 beyond = (refl, ranges.absent 3 (omega arit
 
 text_2 : (rules : Rules) → AreInRange rules → rules.players ≡ 2 → (text : List ℕ) × Spells text rules
 text_2 rules ranges players =
-    let says : AllZip Says (map line_for (items_2 rules)) (items_2 rules) = (number_said Players rules.players (ranges.at_least_two, ranges.at_most_four), (number_said Ipf rules.ipf (ranges.some_instructions, ranges.instructions), (number_said Frames rules.frames (ranges.some_frames, ranges.frames), (number_said Delay rules.delay (omega arith, ranges.delay), (number_said Window rules.window (ranges.some_window, ranges.window), (number_said Seed rules.seed (omega arith, omega (arith, ranges.seed)), (number_said Mask1 (slice_index rules.masks 0) (omega arith, omega (arith, ranges.key_sets 0)), (number_said Mask2 (slice_index rules.masks 1) (omega arith, omega (arith, ranges.key_sets 1)), (code_said rules.program ranges.some_program ranges.bytes, tt))))))))) in
+    let says : AllZip Says (map line_for (items_2 rules)) (items_2 rules) = (number_said Players rules.players (ranges.at_least_two, ranges.at_most_four), (number_said Ipf rules.ipf (ranges.some_instructions, ranges.instructions), (number_said Frames rules.frames (ranges.some_frames, ranges.frames), (number_said Delay rules.delay (omega arith, ranges.delay), (number_said Window rules.window (ranges.some_window, ranges.window), (number_said Seed rules.seed (omega arith, omega (arith, ranges.seed)), (number_said Wire (version_number rules.wire) (version_within rules.wire), (number_said Mask1 (slice_index rules.masks 0) (omega arith, omega (arith, ranges.key_sets 0)), (number_said Mask2 (slice_index rules.masks 1) (omega arith, omega (arith, ranges.key_sets 1)), (code_said rules.program ranges.some_program ranges.bytes, tt)))))))))) in
     let gives : Give (items_2 rules) rules = record { once = once_2 rules players; nowhere = nowhere_2 rules ranges players; masks = ranges.masks; program = sym (append-nil rules.program); some_code = ranges.some_program; most_code = ranges.program } in
     spelled (items_2 rules) rules says gives
 
 abbrev items_3 : Rules → List Item
 items_3 rules = front rules (Number Mask1 (slice_index rules.masks 0) ∷ Number Mask2 (slice_index rules.masks 1) ∷ Number Mask3 (slice_index rules.masks 2) ∷ Code rules.program ∷ [])
 
-once_3 : (rules : Rules) → rules.players ≡ 3 → (field : Field) → owner_of field ≤ rules.players → numbers_for field (items_3 rules) ≡ rule_of field rules ∷ []
-once_3 rules players Players there = refl
-once_3 rules players Ipf there = refl
-once_3 rules players Frames there = refl
-once_3 rules players Delay there = refl
-once_3 rules players Window there = refl
-once_3 rules players Seed there = refl
-once_3 rules players Mask1 there = refl
-once_3 rules players Mask2 there = refl
-once_3 rules players Mask3 there = refl
+once_3 : (rules : Rules) → rules.players ≡ 3 → (field : Field) → owner_of field ≤ rules.players → Tell (numbers_for field (items_3 rules)) field (rule_of field rules)
+once_3 rules players Players there = inl refl
+once_3 rules players Ipf there = inl refl
+once_3 rules players Frames there = inl refl
+once_3 rules players Delay there = inl refl
+once_3 rules players Window there = inl refl
+once_3 rules players Seed there = inl refl
+once_3 rules players Wire there = inl refl
+once_3 rules players Mask1 there = inl refl
+once_3 rules players Mask2 there = inl refl
+once_3 rules players Mask3 there = inl refl
 once_3 rules players Mask4 there = absurd (omega arith)
 
 nowhere_3 : (rules : Rules) → AreInRange rules → rules.players ≡ 3 → (field : Field) → rules.players < owner_of field → (numbers_for field (items_3 rules) ≡ []) × (rule_of field rules ≡ 0)
@@ -264,6 +271,7 @@ nowhere_3 rules ranges players Frames beyond = absurd (omega arith)
 nowhere_3 rules ranges players Delay beyond = absurd (omega arith)
 nowhere_3 rules ranges players Window beyond = absurd (omega arith)
 nowhere_3 rules ranges players Seed beyond = absurd (omega arith)
+nowhere_3 rules ranges players Wire beyond = absurd (omega arith)
 nowhere_3 rules ranges players Mask1 beyond = absurd (omega arith)
 nowhere_3 rules ranges players Mask2 beyond = absurd (omega arith)
 nowhere_3 rules ranges players Mask3 beyond = absurd (omega arith)
@@ -271,24 +279,25 @@ nowhere_3 rules ranges players Mask4 beyond = (refl, ranges.absent 3 (omega arit
 
 text_3 : (rules : Rules) → AreInRange rules → rules.players ≡ 3 → (text : List ℕ) × Spells text rules
 text_3 rules ranges players =
-    let says : AllZip Says (map line_for (items_3 rules)) (items_3 rules) = (number_said Players rules.players (ranges.at_least_two, ranges.at_most_four), (number_said Ipf rules.ipf (ranges.some_instructions, ranges.instructions), (number_said Frames rules.frames (ranges.some_frames, ranges.frames), (number_said Delay rules.delay (omega arith, ranges.delay), (number_said Window rules.window (ranges.some_window, ranges.window), (number_said Seed rules.seed (omega arith, omega (arith, ranges.seed)), (number_said Mask1 (slice_index rules.masks 0) (omega arith, omega (arith, ranges.key_sets 0)), (number_said Mask2 (slice_index rules.masks 1) (omega arith, omega (arith, ranges.key_sets 1)), (number_said Mask3 (slice_index rules.masks 2) (omega arith, omega (arith, ranges.key_sets 2)), (code_said rules.program ranges.some_program ranges.bytes, tt)))))))))) in
+    let says : AllZip Says (map line_for (items_3 rules)) (items_3 rules) = (number_said Players rules.players (ranges.at_least_two, ranges.at_most_four), (number_said Ipf rules.ipf (ranges.some_instructions, ranges.instructions), (number_said Frames rules.frames (ranges.some_frames, ranges.frames), (number_said Delay rules.delay (omega arith, ranges.delay), (number_said Window rules.window (ranges.some_window, ranges.window), (number_said Seed rules.seed (omega arith, omega (arith, ranges.seed)), (number_said Wire (version_number rules.wire) (version_within rules.wire), (number_said Mask1 (slice_index rules.masks 0) (omega arith, omega (arith, ranges.key_sets 0)), (number_said Mask2 (slice_index rules.masks 1) (omega arith, omega (arith, ranges.key_sets 1)), (number_said Mask3 (slice_index rules.masks 2) (omega arith, omega (arith, ranges.key_sets 2)), (code_said rules.program ranges.some_program ranges.bytes, tt))))))))))) in
     let gives : Give (items_3 rules) rules = record { once = once_3 rules players; nowhere = nowhere_3 rules ranges players; masks = ranges.masks; program = sym (append-nil rules.program); some_code = ranges.some_program; most_code = ranges.program } in
     spelled (items_3 rules) rules says gives
 
 abbrev items_4 : Rules → List Item
 items_4 rules = front rules (Number Mask1 (slice_index rules.masks 0) ∷ Number Mask2 (slice_index rules.masks 1) ∷ Number Mask3 (slice_index rules.masks 2) ∷ Number Mask4 (slice_index rules.masks 3) ∷ Code rules.program ∷ [])
 
-once_4 : (rules : Rules) → rules.players ≡ 4 → (field : Field) → owner_of field ≤ rules.players → numbers_for field (items_4 rules) ≡ rule_of field rules ∷ []
-once_4 rules players Players there = refl
-once_4 rules players Ipf there = refl
-once_4 rules players Frames there = refl
-once_4 rules players Delay there = refl
-once_4 rules players Window there = refl
-once_4 rules players Seed there = refl
-once_4 rules players Mask1 there = refl
-once_4 rules players Mask2 there = refl
-once_4 rules players Mask3 there = refl
-once_4 rules players Mask4 there = refl
+once_4 : (rules : Rules) → rules.players ≡ 4 → (field : Field) → owner_of field ≤ rules.players → Tell (numbers_for field (items_4 rules)) field (rule_of field rules)
+once_4 rules players Players there = inl refl
+once_4 rules players Ipf there = inl refl
+once_4 rules players Frames there = inl refl
+once_4 rules players Delay there = inl refl
+once_4 rules players Window there = inl refl
+once_4 rules players Seed there = inl refl
+once_4 rules players Wire there = inl refl
+once_4 rules players Mask1 there = inl refl
+once_4 rules players Mask2 there = inl refl
+once_4 rules players Mask3 there = inl refl
+once_4 rules players Mask4 there = inl refl
 
 nowhere_4 : (rules : Rules) → AreInRange rules → rules.players ≡ 4 → (field : Field) → rules.players < owner_of field → (numbers_for field (items_4 rules) ≡ []) × (rule_of field rules ≡ 0)
 nowhere_4 rules ranges players Players beyond = absurd (omega arith)
@@ -297,6 +306,7 @@ nowhere_4 rules ranges players Frames beyond = absurd (omega arith)
 nowhere_4 rules ranges players Delay beyond = absurd (omega arith)
 nowhere_4 rules ranges players Window beyond = absurd (omega arith)
 nowhere_4 rules ranges players Seed beyond = absurd (omega arith)
+nowhere_4 rules ranges players Wire beyond = absurd (omega arith)
 nowhere_4 rules ranges players Mask1 beyond = absurd (omega arith)
 nowhere_4 rules ranges players Mask2 beyond = absurd (omega arith)
 nowhere_4 rules ranges players Mask3 beyond = absurd (omega arith)
@@ -304,7 +314,7 @@ nowhere_4 rules ranges players Mask4 beyond = absurd (omega arith)
 
 text_4 : (rules : Rules) → AreInRange rules → rules.players ≡ 4 → (text : List ℕ) × Spells text rules
 text_4 rules ranges players =
-    let says : AllZip Says (map line_for (items_4 rules)) (items_4 rules) = (number_said Players rules.players (ranges.at_least_two, ranges.at_most_four), (number_said Ipf rules.ipf (ranges.some_instructions, ranges.instructions), (number_said Frames rules.frames (ranges.some_frames, ranges.frames), (number_said Delay rules.delay (omega arith, ranges.delay), (number_said Window rules.window (ranges.some_window, ranges.window), (number_said Seed rules.seed (omega arith, omega (arith, ranges.seed)), (number_said Mask1 (slice_index rules.masks 0) (omega arith, omega (arith, ranges.key_sets 0)), (number_said Mask2 (slice_index rules.masks 1) (omega arith, omega (arith, ranges.key_sets 1)), (number_said Mask3 (slice_index rules.masks 2) (omega arith, omega (arith, ranges.key_sets 2)), (number_said Mask4 (slice_index rules.masks 3) (omega arith, omega (arith, ranges.key_sets 3)), (code_said rules.program ranges.some_program ranges.bytes, tt))))))))))) in
+    let says : AllZip Says (map line_for (items_4 rules)) (items_4 rules) = (number_said Players rules.players (ranges.at_least_two, ranges.at_most_four), (number_said Ipf rules.ipf (ranges.some_instructions, ranges.instructions), (number_said Frames rules.frames (ranges.some_frames, ranges.frames), (number_said Delay rules.delay (omega arith, ranges.delay), (number_said Window rules.window (ranges.some_window, ranges.window), (number_said Seed rules.seed (omega arith, omega (arith, ranges.seed)), (number_said Wire (version_number rules.wire) (version_within rules.wire), (number_said Mask1 (slice_index rules.masks 0) (omega arith, omega (arith, ranges.key_sets 0)), (number_said Mask2 (slice_index rules.masks 1) (omega arith, omega (arith, ranges.key_sets 1)), (number_said Mask3 (slice_index rules.masks 2) (omega arith, omega (arith, ranges.key_sets 2)), (number_said Mask4 (slice_index rules.masks 3) (omega arith, omega (arith, ranges.key_sets 3)), (code_said rules.program ranges.some_program ranges.bytes, tt)))))))))))) in
     let gives : Give (items_4 rules) rules = record { once = once_4 rules players; nowhere = nowhere_4 rules ranges players; masks = ranges.masks; program = sym (append-nil rules.program); some_code = ranges.some_program; most_code = ranges.program } in
     spelled (items_4 rules) rules says gives
 

@@ -1,6 +1,6 @@
 -- A text spells one game at most, and it spells one exactly where nothing refuses it.
-use Rattle.std.proofs.Common.{◌≡◌, ℕ, ◌<◌, ◌≤◌, ◌⊎◌, true, false, not, cond, length, List, [], ◌∷◌, ◌++◌, Some, None, Ok, refl, ap, sym, ◌∙◌, inl, inr, append_assoc, length-append, arith, nat_lt, ◌==◌}
-use Rattle.std.specs.Prelude.{codes, is_ok, nat_le, slice_index}
+use Rattle.std.proofs.Common.{◌≡◌, ℕ, ◌<◌, ◌≤◌, ◌⊎◌, true, false, not, cond, length, List, [], ◌∷◌, ◌++◌, Some, None, Ok, refl, ap, sym, ◌∙◌, inl, inr, append_assoc, length-append, arith, nat_lt, ◌==◌, ◌&&◌, get_or}
+use Rattle.std.specs.Prelude.{codes, is_ok, is_none, nat_le, slice_index}
 use Rattle.std.specs.List.{AllZip, list_any}
 use Rattle.std.specs.Result.{result_unwrap_or}
 use Rattle.std.specs.Str.{bytes_eq}
@@ -13,18 +13,20 @@ use Rattle.hex.specs.Hex.{decode_of}
 use Rattle.c8_game.specs.declared.error.GameError.{GameError}
 use Rattle.c8_game.specs.declared.error.GameError.TheVariants.{Line, Hex}
 use Rattle.c8_game.specs.declared.text.field.Field.{Field}
-use Rattle.c8_game.specs.declared.text.field.Field.TheVariants.{Players, Ipf, Frames, Delay, Window, Seed, Mask1, Mask2, Mask3, Mask4}
+use Rattle.c8_game.specs.declared.text.field.Field.TheVariants.{Players, Ipf, Frames, Delay, Window, Seed, Wire, Mask1, Mask2, Mask3, Mask4}
 use Rattle.c8_game.specs.checked.Draft.{AreFirst, first_for}
 use Rattle.c8_game.specs.Faults.{AreFaultless}
 use Rattle.c8_game.specs.checked.FaultLaws.{none_or_some, faultless_none, faultless_more, faultless_line, first_or_faultless, faultless_or_first, one_first}
-use Rattle.c8_game.specs.Fields.{fields, word_of, owner_of, field_named, is_same, number_of}
-use Rattle.c8_game.specs.GameText.{Item, Blank, Number, Code, Says, is_skipped, number_in, numbers_for, code_of, rule_of, Give, Spells}
+use Rattle.c8_game.specs.Fields.{fields, word_of, owner_of, default_of, field_named, is_same, number_of, IsWithin}
+use Rattle.c8_game.specs.GameText.{Item, Blank, Number, Code, Says, is_skipped, number_in, numbers_for, code_of, rule_of, Tell, Give, Spells}
 use Rattle.c8_game.specs.GameFaults.{is_space, is_name_and_value, name_in, value_in, names, is_told, code_fault, named_fault, field_fault, line_fault, players_in, is_lacking, is_stray, end_fault, IsRefused}
 use Rattle.c8_game.specs.Rules.{Rules, most_program}
+use Rattle.c8_game.specs.declared.wire.WireVersion.{WireVersion}
 use Rattle.c8_game.proofs.DraftLemmas.{AreOnce, ok_unwrapped, fault_coded, fault_named, numbers_more, gives_rules}
 use Rattle.c8_game.proofs.FieldLemmas.{itself, same_words}
 use Rattle.c8_game.proofs.ItemLemmas.{word_said, word_spaceless, word_uncoded, name_of, value_of, fault_blank, fault_number, fault_code, says_number, says_code, named_told}
 use Rattle.c8_game.proofs.ReadLemmas.{says_more}
+use Rattle.c8_game.proofs.WireLemmas.{one_version, version_for, version_again}
 
 -- ---- a line says one thing
 
@@ -79,11 +81,27 @@ same_items (line ∷ more) (item ∷ items) (other ∷ others) all each = rw (on
 same_single : (one other : ℕ) → one ∷ [] ≡ other ∷ [] → one ≡ other
 same_single one other same = ap (λ numbers. slice_index numbers 0) same
 
+-- the numbers of a field tell one number
+one_told : (numbers : List ℕ) (field : Field) (one other : ℕ) → Tell numbers field one → Tell numbers field other → one ≡ other
+one_told numbers field one other (inl here) (inl there) = same_single one other (sym here ∙ there)
+one_told numbers field one other (inl here) (inr absent) = let none : one ∷ [] ≡ [] = sym here ∙ absent.0 in absurd (cc)
+one_told numbers field one other (inr absent) (inl there) = let none : other ∷ [] ≡ [] = sym there ∙ absent.0 in absurd (cc)
+one_told numbers field one other (inr absent) (inr none) = let same : Some one ≡ Some other = sym absent.1 ∙ none.1 in cc
+
+-- a field without a default stands
+told_alone : (numbers : List ℕ) (field : Field) (number : ℕ) → is_none (default_of field) ≡ true → Tell numbers field number → numbers ≡ number ∷ []
+told_alone numbers field number needed (inl here) = here
+told_alone numbers field number needed (inr absent) = let found : is_none (Some number) ≡ true = ap is_none (sym absent.1) ∙ needed in absurd (cc)
+
+told_once : (numbers : List ℕ) (field : Field) (number : ℕ) → Tell numbers field number → length numbers ≤ 1
+told_once numbers field number (inl here) = omega (arith, ap length here)
+told_once numbers field number (inr absent) = omega (arith, ap length absent.0)
+
 same_rule : (items : List Item) (rules others : Rules) → Give items rules → Give items others → rules.players ≡ others.players → (field : Field) → rule_of field rules ≡ rule_of field others
 same_rule items rules others first second players field =
     elim (cases_lt rules.players (owner_of field)) [
       | inl beyond ↦ (first.nowhere field beyond).1 ∙ sym (second.nowhere field (omega arith)).1
-      | inr there ↦ same_single (rule_of field rules) (rule_of field others) (sym (first.once field there) ∙ second.once field (omega arith))
+      | inr there ↦ one_told (numbers_for field items) field (rule_of field rules) (rule_of field others) (first.once field there) (second.once field (omega arith))
     ]
 
 four_of : (masks : List ℕ) → length masks ≡ 4 → masks ≡ slice_index masks 0 ∷ slice_index masks 1 ∷ slice_index masks 2 ∷ slice_index masks 3 ∷ []
@@ -94,29 +112,30 @@ four_of (a ∷ b ∷ c ∷ []) size = absurd (omega arith)
 four_of (a ∷ b ∷ c ∷ d ∷ []) size = refl
 four_of (a ∷ b ∷ c ∷ d ∷ e ∷ more) size = absurd (omega arith)
 
-made_of : ℕ → ℕ → ℕ → ℕ → ℕ → ℕ → List ℕ → List ℕ → Rules
-made_of players ipf frames delay window seed masks program = record { players = players; ipf = ipf; frames = frames; delay = delay; window = window; seed = seed; masks = masks; program = program }
+made_of : ℕ → ℕ → ℕ → ℕ → ℕ → ℕ → WireVersion → List ℕ → List ℕ → Rules
+made_of players ipf frames delay window seed wire masks program = record { players = players; ipf = ipf; frames = frames; delay = delay; window = window; seed = seed; wire = wire; masks = masks; program = program }
 
-rebuilt : (rules : Rules) → made_of rules.players rules.ipf rules.frames rules.delay rules.window rules.seed rules.masks rules.program ≡ rules
+rebuilt : (rules : Rules) → made_of rules.players rules.ipf rules.frames rules.delay rules.window rules.seed rules.wire rules.masks rules.program ≡ rules
 unfolding made_of
 rebuilt rules = refl
 
 same_rules : (items : List Item) (rules others : Rules) → Give items rules → Give items others → rules ≡ others
 same_rules items rules others first second =
-    let players : rules.players ≡ others.players = same_single rules.players others.players (sym (first.once Players (omega arith)) ∙ second.once Players (omega arith)) in
+    let players : rules.players ≡ others.players = one_told (numbers_for Players items) Players rules.players others.players (first.once Players (omega arith)) (second.once Players (omega arith)) in
     let same = same_rule items rules others first second players in
     let ipf : rules.ipf ≡ others.ipf = same Ipf in
     let frames : rules.frames ≡ others.frames = same Frames in
     let delay : rules.delay ≡ others.delay = same Delay in
     let window : rules.window ≡ others.window = same Window in
     let seed : rules.seed ≡ others.seed = same Seed in
+    let wire : rules.wire ≡ others.wire = one_version rules.wire others.wire (same Wire) in
     let one : slice_index rules.masks 0 ≡ slice_index others.masks 0 = same Mask1 in
     let two : slice_index rules.masks 1 ≡ slice_index others.masks 1 = same Mask2 in
     let three : slice_index rules.masks 2 ≡ slice_index others.masks 2 = same Mask3 in
     let four : slice_index rules.masks 3 ≡ slice_index others.masks 3 = same Mask4 in
     let masks : rules.masks ≡ others.masks = four_of rules.masks first.masks ∙ rw (one, two, three, four) (sym (four_of others.masks second.masks)) in
     let program : rules.program ≡ others.program = first.program ∙ sym second.program in
-    let made : made_of rules.players rules.ipf rules.frames rules.delay rules.window rules.seed rules.masks rules.program ≡ made_of others.players others.ipf others.frames others.delay others.window others.seed others.masks others.program = cc in
+    let made : made_of rules.players rules.ipf rules.frames rules.delay rules.window rules.seed rules.wire rules.masks rules.program ≡ made_of others.players others.ipf others.frames others.delay others.window others.seed others.wire others.masks others.program = cc in
     sym (rebuilt rules) ∙ made ∙ rebuilt others
 
 pub one_game : (text : List ℕ) (rules others : Rules) → Spells text rules → Spells text others → rules ≡ others
@@ -179,6 +198,19 @@ meant_lines seen items (line ∷ left) says once fine =
       | means item said more ↦ rw (← append_assoc seen (line ∷ []) left) (meant_lines (seen ++ line ∷ []) (items ++ item ∷ []) left (says_more seen items line item says said) more (rw (append_assoc seen (line ∷ []) left) fine))
     ]
 
+-- the first number that the lines say lies in its range
+first_within : (field : Field) (untold : ℕ) (text_lines : List (List ℕ)) (items : List Item) → IsWithin field untold → AllZip Says text_lines items → IsWithin field (get_or (numbers_for field items) 0 untold)
+first_within field untold [] [] lies says = lies
+first_within field untold [] (item ∷ items) lies says = absurd says
+first_within field untold (line ∷ more) [] lies says = absurd says
+first_within field untold (line ∷ more) (Blank ∷ items) lies says = first_within field untold more items lies says.1
+first_within field untold (line ∷ more) (Code bytes ∷ items) lies says = first_within field untold more items lies says.1
+first_within field untold (line ∷ more) (Number named number ∷ items) lies ((value, is, spelled, spells, within), says) =
+    elim (cases_Bool (is_same field named)) [
+      | inl same ↦ let one : field ≡ named = same_words field named same in rw (same, one) within
+      | inr apart ↦ rw apart (first_within field untold more items lies says)
+    ]
+
 -- the game of the first number for each field
 first_rules : List Item → Rules
 first_rules items = record {
@@ -188,17 +220,28 @@ first_rules items = record {
   delay = first_for items Delay;
   window = first_for items Window;
   seed = first_for items Seed;
+  wire = version_for (first_for items Wire);
   masks = first_for items Mask1 ∷ first_for items Mask2 ∷ first_for items Mask3 ∷ first_for items Mask4 ∷ [];
   program = code_of items;
 }
 
-are_first : (items : List Item) → AreFirst items (first_rules items)
+are_first : (text_lines : List (List ℕ)) (items : List Item) → AllZip Says text_lines items → AreFirst items (first_rules items)
 unfolding first_rules
-are_first items = record { players = refl; ipf = refl; frames = refl; delay = refl; window = refl; seed = refl; masks = refl; program = refl }
+are_first text_lines items says = record {
+  players = refl;
+  ipf = refl;
+  frames = refl;
+  delay = refl;
+  window = refl;
+  seed = refl;
+  wire = version_again (first_for items Wire) (first_within Wire 1 text_lines items (omega arith, omega arith) says);
+  masks = refl;
+  program = refl;
+}
 
 spelled_unless : (text : List ℕ) (items : List Item) → AreFaultless line_fault (lines text) → AllZip Says (lines text) items → AreOnce items → (end_fault items ≡ None) ⊎ ((fault : GameError) × (end_fault items ≡ Some fault))
     → ((rules : Rules) × Spells text rules) ⊎ ((fault : GameError) × IsRefused text fault)
-spelled_unless text items faultless says once (inl fine) = inl (first_rules items, (items, says, gives_rules items (first_rules items) once fine (are_first items)))
+spelled_unless text items faultless says once (inl fine) = inl (first_rules items, (items, says, gives_rules items (first_rules items) once fine (are_first (lines text) items says)))
 spelled_unless text items faultless says once (inr (fault, bad)) = inr (fault, inr (record { faultless = faultless; items = items; says = says; at_end = bad }))
 
 -- a text spells a game, or has a first fault
@@ -216,7 +259,7 @@ gives_once : (items : List Item) (rules : Rules) → Give items rules → AreOnc
 gives_once items rules gives field =
     elim (cases_lt rules.players (owner_of field)) [
       | inl beyond ↦ let none : numbers_for field items ≡ [] = (gives.nowhere field beyond).0 in rw none (omega arith)
-      | inr there ↦ rw (gives.once field there) (omega arith)
+      | inr there ↦ told_once (numbers_for field items) field (rule_of field rules) (gives.once field there)
     ]
 
 untold_before : (field : Field) (number : ℕ) (items more : List Item) → AreOnce (items ++ Number field number ∷ more) → is_told items field ≡ false
@@ -246,13 +289,15 @@ faultless_said seen items (line ∷ left) (item ∷ more) faultless says all onc
 
 fine_at_end : (items : List Item) (rules : Rules) → Give items rules → end_fault items ≡ None
 fine_at_end items rules gives =
-    let players : players_in items ≡ rules.players = ap (λ numbers. slice_index numbers 0) (gives.once Players (omega arith)) in
+    let players : players_in items ≡ rules.players = ap (λ numbers. slice_index numbers 0) (told_alone (numbers_for Players items) Players rules.players refl (gives.once Players (omega arith))) in
     let lacking : list_any (is_lacking items) fields ≡ false =
     false_from_ne_true (list_any (is_lacking items) fields) (λ passes.
     let any = Any-from_list_any (is_lacking items) fields passes in
-    let parts = and_parts (nat_le (owner_of any.1) (players_in items)) (not (is_told items any.1)) any.4 in
-    let there : owner_of any.1 ≤ players_in items = leb-true (owner_of any.1) (players_in items) parts.0 in
-    let told : is_told items any.1 ≡ true = ap (λ numbers. nat_lt 0 (length numbers)) (gives.once any.1 (omega arith)) in
+    let parts = and_parts (nat_le (owner_of any.1) (players_in items) && is_none (default_of any.1)) (not (is_told items any.1)) any.4 in
+    let needed = and_parts (nat_le (owner_of any.1) (players_in items)) (is_none (default_of any.1)) parts.0 in
+    let there : owner_of any.1 ≤ players_in items = leb-true (owner_of any.1) (players_in items) needed.0 in
+    let told : is_told items any.1 ≡ true =
+    ap (λ numbers. nat_lt 0 (length numbers)) (told_alone (numbers_for any.1 items) any.1 (rule_of any.1 rules) needed.1 (gives.once any.1 (omega arith))) in
     both_ways (not (is_told items any.1)) (rw told refl) parts.1) in
     let straying : list_any (is_stray items) fields ≡ false =
     false_from_ne_true (list_any (is_stray items) fields) (λ passes.

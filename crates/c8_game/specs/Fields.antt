@@ -1,15 +1,15 @@
 -- The fields of a game text, which are all its names but `code`: each has a word, a range, and a number that
 -- its value spells.
-use Rattle.std.specs.Prelude.{ℕ, ◌≤◌, ◌+◌, ◌-◌, ◌*◌, ◌^◌, ◌&&◌, Bool, nat_lt, nat_le, List, [], ◌∷◌, length, codes, Option, if◌then◌else◌}
+use Rattle.std.specs.Prelude.{ℕ, ◌≤◌, ◌+◌, ◌-◌, ◌*◌, ◌^◌, ◌&&◌, Bool, nat_lt, nat_le, List, [], ◌∷◌, length, codes, Option, Some, None, if◌then◌else◌}
 use Rattle.std.specs.List.{find, list_all}
 use Rattle.std.specs.Char.{is_ascii_digit}
 use Rattle.std.specs.Str.{bytes_eq}
 use Rattle.c8_game.specs.KeysText.{is_keys_text, keys_number}
 use Rattle.c8_game.specs.declared.text.field.Field.{Field}
-use Rattle.c8_game.specs.declared.text.field.Field.TheVariants.{Players, Ipf, Frames, Delay, Window, Seed, Mask1, Mask2, Mask3, Mask4}
+use Rattle.c8_game.specs.declared.text.field.Field.TheVariants.{Players, Ipf, Frames, Delay, Window, Seed, Wire, Mask1, Mask2, Mask3, Mask4}
 
 abbrev pub fields : List Field
-fields = Players ∷ Ipf ∷ Frames ∷ Delay ∷ Window ∷ Seed ∷ Mask1 ∷ Mask2 ∷ Mask3 ∷ Mask4 ∷ []
+fields = Players ∷ Ipf ∷ Frames ∷ Delay ∷ Window ∷ Seed ∷ Wire ∷ Mask1 ∷ Mask2 ∷ Mask3 ∷ Mask4 ∷ []
 
 abbrev pub word_of : Field → List ℕ
 word_of Players = codes "players"
@@ -18,12 +18,13 @@ word_of Frames = codes "frames"
 word_of Delay = codes "delay"
 word_of Window = codes "window"
 word_of Seed = codes "seed"
+word_of Wire = codes "wire"
 word_of Mask1 = codes "mask1"
 word_of Mask2 = codes "mask2"
 word_of Mask3 = codes "mask3"
 word_of Mask4 = codes "mask4"
 
--- the player whose mask the field is; 0 for a field that every game has
+-- the player whose mask the field is; 0 for a field that is no mask
 abbrev pub owner_of : Field → ℕ
 owner_of Players = 0
 owner_of Ipf = 0
@@ -31,6 +32,7 @@ owner_of Frames = 0
 owner_of Delay = 0
 owner_of Window = 0
 owner_of Seed = 0
+owner_of Wire = 0
 owner_of Mask1 = 1
 owner_of Mask2 = 2
 owner_of Mask3 = 3
@@ -47,6 +49,7 @@ least_of Frames = 1
 least_of Delay = 0
 least_of Window = 1
 least_of Seed = 0
+least_of Wire = 1
 least_of Mask1 = 0
 least_of Mask2 = 0
 least_of Mask3 = 0
@@ -59,10 +62,25 @@ greatest_of Frames = 262144
 greatest_of Delay = 4
 greatest_of Window = 12
 greatest_of Seed = 18446744073709551615
+greatest_of Wire = 2
 greatest_of Mask1 = 65535
 greatest_of Mask2 = 65535
 greatest_of Mask3 = 65535
 greatest_of Mask4 = 65535
+
+-- the number of a field that no line names, if a text may lack it
+abbrev pub default_of : Field → Option ℕ
+default_of Players = None
+default_of Ipf = None
+default_of Frames = None
+default_of Delay = None
+default_of Window = None
+default_of Seed = None
+default_of Wire = Some 1
+default_of Mask1 = None
+default_of Mask2 = None
+default_of Mask3 = None
+default_of Mask4 = None
 
 -- the number lies in the field's range
 abbrev pub IsWithin : Field → ℕ → Type 0

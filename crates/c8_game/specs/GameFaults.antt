@@ -1,5 +1,5 @@
 -- Which fault refuses a text that spells no game: that of the least line at fault, else what shows after the last line.
-use Rattle.std.specs.Prelude.{◌≡◌, ℕ, ◌==◌, ◌&&◌, ◌||◌, ◌⊎◌, Bool, not, nat_lt, nat_le, List, length, codes, Option, Some, None, is_some, is_ok, position, slice_index, if◌then◌else◌}
+use Rattle.std.specs.Prelude.{◌≡◌, ℕ, ◌==◌, ◌&&◌, ◌||◌, ◌⊎◌, Bool, not, nat_lt, nat_le, List, length, codes, Option, Some, None, is_some, is_none, is_ok, position, slice_index, if◌then◌else◌}
 use Rattle.std.specs.List.{before_first, after_first, list_any, AllZip}
 use Rattle.std.specs.Str.{bytes_eq}
 use Rattle.std.specs.Str.Lines.{lines}
@@ -9,7 +9,7 @@ use Rattle.c8_game.specs.declared.error.GameError.TheVariants.{Line, Range, Miss
 use Rattle.c8_game.specs.declared.text.field.Field.{Field}
 use Rattle.c8_game.specs.declared.text.field.Field.TheVariants.{Players}
 use Rattle.c8_game.specs.Faults.{AreFaultless, IsFirstFault}
-use Rattle.c8_game.specs.Fields.{fields, word_of, owner_of, is_mask, least_of, greatest_of, field_named, is_number, number_of}
+use Rattle.c8_game.specs.Fields.{fields, word_of, owner_of, is_mask, least_of, greatest_of, default_of, field_named, is_number, number_of}
 use Rattle.c8_game.specs.GameText.{Item, Says, is_skipped, numbers_for, code_of}
 use Rattle.c8_game.specs.Rules.{most_program}
 
@@ -68,9 +68,9 @@ players_in items = slice_index (numbers_for Players items) 0
 abbrev pub is_told : List Item → Field → Bool
 is_told items field = nat_lt 0 (length (numbers_for field items))
 
--- every game has all fields but the masks of players who are not in it: whether one is not told
+-- every game has all fields but those with a default and the masks of players who are not in it: whether one is not told
 abbrev pub is_lacking : List Item → Field → Bool
-is_lacking items field = nat_le (owner_of field) (players_in items) && not (is_told items field)
+is_lacking items field = nat_le (owner_of field) (players_in items) && is_none (default_of field) && not (is_told items field)
 
 -- whether the mask of a player who is not in the game is told
 abbrev pub is_stray : List Item → Field → Bool

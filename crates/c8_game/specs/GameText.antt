@@ -1,12 +1,13 @@
 -- Which text spells which game, said of the text as a whole: by the items that its lines say.
-use Rattle.std.specs.Prelude.{◌≡◌, ℕ, ◌<◌, ◌≤◌, ◌==◌, Bool, true, List, [], ◌∷◌, ◌++◌, length, codes, flat_map, slice_index, Ok, if◌then◌else◌}
+use Rattle.std.specs.Prelude.{◌≡◌, ℕ, ◌<◌, ◌≤◌, ◌==◌, ◌⊎◌, Bool, true, List, [], ◌∷◌, ◌++◌, length, codes, flat_map, slice_index, Some, Ok, if◌then◌else◌}
 use Rattle.std.specs.List.{AllZip}
 use Rattle.std.specs.Str.Lines.{lines}
 use Rattle.hex.specs.Hex.{decode_of}
 use Rattle.c8_game.specs.declared.text.field.Field.{Field}
-use Rattle.c8_game.specs.declared.text.field.Field.TheVariants.{Players, Ipf, Frames, Delay, Window, Seed, Mask1, Mask2, Mask3, Mask4}
-use Rattle.c8_game.specs.Fields.{word_of, owner_of, IsWithin, is_same, is_number, number_of}
+use Rattle.c8_game.specs.declared.text.field.Field.TheVariants.{Players, Ipf, Frames, Delay, Window, Seed, Wire, Mask1, Mask2, Mask3, Mask4}
+use Rattle.c8_game.specs.Fields.{word_of, owner_of, default_of, IsWithin, is_same, is_number, number_of}
 use Rattle.c8_game.specs.Rules.{Rules, most_program}
+use Rattle.c8_game.specs.Wire.{version_number}
 
 -- what a line says: nothing, a number for a field, or bytes of the program
 pub data Item : Type 0 where
@@ -51,14 +52,20 @@ rule_of Frames rules = rules.frames
 rule_of Delay rules = rules.delay
 rule_of Window rules = rules.window
 rule_of Seed rules = rules.seed
+rule_of Wire rules = version_number rules.wire
 rule_of Mask1 rules = slice_index rules.masks 0
 rule_of Mask2 rules = slice_index rules.masks 1
 rule_of Mask3 rules = slice_index rules.masks 2
 rule_of Mask4 rules = slice_index rules.masks 3
 
--- the items give the rules: each field of the game stands once, a mask of a player who is not there nowhere
+-- the numbers that stand for a field are this one alone; or none stands, and this is the field's default
+abbrev pub Tell : List ℕ → Field → ℕ → Type 0
+Tell numbers field number = (numbers ≡ number ∷ []) ⊎ ((numbers ≡ []) × (default_of field ≡ Some number))
+
+-- the items give the rules: each field of the game stands once, unless its default is meant, and a mask of a player who is
+-- not there nowhere
 pub record Give (items : List Item) (rules : Rules) : Type 0 where
-  pub once : (field : Field) → owner_of field ≤ rules.players → numbers_for field items ≡ rule_of field rules ∷ []
+  pub once : (field : Field) → owner_of field ≤ rules.players → Tell (numbers_for field items) field (rule_of field rules)
   pub nowhere : (field : Field) → rules.players < owner_of field → (numbers_for field items ≡ []) × (rule_of field rules ≡ 0)
   pub masks : length rules.masks ≡ 4
   pub program : rules.program ≡ code_of items

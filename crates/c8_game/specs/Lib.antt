@@ -1,3 +1,4 @@
+pub mod Wire
 pub mod Rules
 pub mod Errors
 pub mod KeysText

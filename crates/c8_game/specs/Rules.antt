@@ -3,6 +3,8 @@ use Rattle.std.specs.Prelude.{ℕ, ◌+◌, ◌^◌, ◌≡◌, ◌<◌, ◌≤�
 use Rattle.std.specs.Int.{bit_at, from_be_bytes, to_be_bytes, w8, w16, w32, w64}
 use Rattle.sha2.specs.Sha256.{sha256}
 use Rattle.c8_game.specs.declared.row.Row.{Row}
+use Rattle.c8_game.specs.declared.wire.WireVersion.{WireVersion}
+use Rattle.c8_game.specs.Wire.{version_bytes}
 
 -- the rules of a game: a mask for each of four players, 0 for one who is not in the game
 pub record Rules : Type 0 where
@@ -12,6 +14,7 @@ pub record Rules : Type 0 where
   pub delay : ℕ
   pub window : ℕ
   pub seed : ℕ
+  pub wire : WireVersion
   pub masks : List ℕ
   pub program : List ℕ
 
@@ -79,9 +82,13 @@ number_bytes rules =
     ++ to_be_bytes w64 rules.seed ++ to_be_bytes w16 (slice_index rules.masks 0) ++ to_be_bytes w16 (slice_index rules.masks 1)
     ++ to_be_bytes w16 (slice_index rules.masks 2) ++ to_be_bytes w16 (slice_index rules.masks 3) ++ to_be_bytes w16 (length rules.program)
 
+-- the numbers, the program, and what the wire version adds
+abbrev pub id_bytes : Rules → List ℕ
+id_bytes rules = number_bytes rules ++ rules.program ++ version_bytes rules.wire
+
 -- the digest by which peers know that they play the same game
 abbrev pub id_of : Rules → List ℕ
-id_of rules = sha256 (number_bytes rules ++ rules.program)
+id_of rules = sha256 (id_bytes rules)
 
 -- the first 8 bytes of the digest of the game's id and the room, as a number
 abbrev pub session_of : Rules → ℕ → ℕ

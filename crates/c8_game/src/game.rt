@@ -14,6 +14,7 @@ use crate::error::GameError;
 use crate::row::{Keys, Player, Row};
 use crate::text::draft::Draft;
 use crate::text::lines::Lines;
+use crate::wire::WireVersion;
 use sha2::{Digest, Sha256};
 use std::alloc::{AllocError, Global};
 use std::fmt;
@@ -28,6 +29,7 @@ pub struct Game {
     pub(crate) delay: u8,
     pub(crate) window: u8,
     pub(crate) seed: u64,
+    pub(crate) wire: WireVersion,
     pub(crate) masks: [u16; MOST_PLAYERS],
     pub(crate) program: Vec<u8>,
 }
@@ -45,6 +47,7 @@ impl Model for Game {
       delay = g.delay;
       window = g.window;
       seed = g.seed;
+      wire = g.wire;
       masks = g.masks;
       program = g.program.items;
     } };
@@ -56,6 +59,7 @@ impl Model for Game {
       delay = g.delay;
       window = g.window;
       seed = g.seed;
+      wire = g.wire;
       masks = g.masks;
       program = g.program.items;
     }) };
@@ -66,13 +70,14 @@ impl fmt::Debug for Game {
     fn fmt<W: fmt::Write>(&self, f: &mut fmt::Formatter<W>) -> fmt::Result {
         let (players, ipf, frames) = (self.players, self.ipf, self.frames);
         let (delay, window, seed) = (self.delay, self.window, self.seed);
+        let wire = self.wire.number();
         let length = self.program.len();
         write!(
             f,
             "Game {{ players: {players}, ipf: {ipf}, frames: {frames}, "
         )?;
         write!(f, "delay: {delay}, window: {window}, seed: {seed}, ")?;
-        write!(f, "program: {length} bytes }}")
+        write!(f, "wire: {wire}, program: {length} bytes }}")
     }
 }
 
@@ -171,6 +176,13 @@ impl Game {
         self.seed
     }
 
+    /// How its peers write to each other, version 1 if the text doesn't say.
+    pub fn wire(&self) -> WireVersion
+        ensures { result ≡ self.now.wire }
+    {
+        self.wire
+    }
+
     /// The keys of a player that count, none for a player who is not in the game.
     pub fn mask(&self, player: Player) -> Keys
         ensures value { slice_get self.now.masks (player.number - 1) ≡ Some result.0 }
@@ -209,12 +221,16 @@ impl Game {
     }
 
     /// SHA-256 (FIPS 180-4) over the rules: players (1 byte), ipf (1), frames (4), delay (1),
-    /// window (1), seed (8), the four masks (2 each), the program's length (2) and the program,
-    /// each number with its most significant byte first.
+    /// window (1), seed (8), the four masks (2 each), the program's length (2), the program, and for
+    /// wire version 2 one byte 02. Each number has its most significant byte first.
     pub fn id(&self) -> [u8; 32]
         ensures { result ≡ id_of self.now }
     {
-        digest_of_both(&self.number_bytes(), self.program())
+        let mut hasher = Sha256::new();
+        hasher.update(&self.number_bytes());
+        hasher.update(self.program());
+        hasher.update(self.wire.id_bytes());
+        hasher.finalize()
     }
 
     #[rattlefmt::skip]

@@ -12,6 +12,7 @@ mod game;
 pub mod laws;
 mod row;
 mod text;
+mod wire;
 
 pub use bounds::{MOST_FRAMES, MOST_INPUTS, MOST_PLAYERS, MOST_PROGRAM};
 pub use error::GameError;
@@ -19,3 +20,4 @@ pub use game::Game;
 pub use row::{Keys, NoPlayer, Player, Row};
 pub use text::field::Field;
 pub use text::lines::Lines;
+pub use wire::WireVersion;

@@ -1,5 +1,6 @@
 -- How the links that the code keeps are seen.
 use Rattle.std.specs.Prelude.{ℕ, false, List, slice_index_or}
+use Rattle.c8_game.specs.declared.wire.WireVersion.{WireVersion}
 use Rattle.c8_hand.specs.declared.link.Link.{Link}
 use Rattle.c8_hand.specs.Links.{LinkValue, LinksValue}
 
@@ -10,10 +11,11 @@ link_value link = record { known = link.known; is_open = link.is_open }
 abbrev pub link_at : List Link → ℕ → LinkValue
 link_at links place = link_value (slice_index_or links place (record { known = 0; is_open = false }))
 
-abbrev pub seen : ℕ → ℕ → ℕ → ℕ → List Link → LinksValue
-seen me players session epoch links = record {
+abbrev pub seen : ℕ → ℕ → WireVersion → ℕ → ℕ → List Link → LinksValue
+seen me players version session epoch links = record {
   me = me;
   players = players;
+  version = version;
   session = session;
   epoch = epoch;
   one = link_at links 0;

@@ -1,6 +1,7 @@
 -- What a peer knows of the others' epochs, which datagrams it admits, and what these change.
 use Rattle.std.specs.Prelude.{◌≡◌, ℕ, ◌≤◌, ◌==◌, ◌&&◌, ◌||◌, ◌⊎◌, ◌≢◌, Bool, true, false, not, nat_lt, nat_le, Option, Some, None, if◌then◌else◌}
 use Rattle.c8_game.specs.Rules.{Rules, session_of}
+use Rattle.c8_game.specs.declared.wire.WireVersion.{WireVersion}
 use Rattle.c8_wire.specs.declared.kinds.DatagramKind.{DatagramKind}
 use Rattle.c8_wire.specs.declared.kinds.DatagramKind.TheVariants as kinds
 use Rattle.c8_wire.specs.Packet.{HeadValue}
@@ -16,10 +17,11 @@ pub record LinkValue : Type 0 where
 abbrev pub no_link : LinkValue
 no_link = record { known = 0; is_open = false }
 
--- the links of a player: its own number and epoch, the match, and the link to each of four players
+-- the links of a player: its own number and epoch, the match and the version of its datagrams, and the link to each of four players
 pub record LinksValue : Type 0 where
   pub me : ℕ
   pub players : ℕ
+  pub version : WireVersion
   pub session : ℕ
   pub epoch : ℕ
   pub one : LinkValue
@@ -50,6 +52,7 @@ abbrev pub no_links : Rules → ℕ → ℕ → ℕ → LinksValue
 no_links rules me room epoch = record {
   me = me;
   players = rules.players;
+  version = rules.wire;
   session = session_of rules room;
   epoch = epoch;
   one = no_link;
@@ -138,6 +141,7 @@ OpensByWelcome old head new = (player : ℕ) → (link_to new player).is_open �
 abbrev pub head_to : LinksValue → ℕ → DatagramKind → HeadValue
 head_to l player kind = record {
   kind = kind;
+  version = l.version;
   session = l.session;
   from = l.me;
   to = player;

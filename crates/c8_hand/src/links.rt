@@ -6,7 +6,7 @@ ghost use Rattle.c8_hand.specs.Links.{no_links, link_to, open_epoch, refusal, li
 
 use crate::error::HandError;
 use crate::link::Link;
-use c8_game::{Game, MOST_PLAYERS, Player};
+use c8_game::{Game, MOST_PLAYERS, Player, WireVersion};
 use c8_wire::{Datagram, DatagramKind, Head, Seat};
 use std::marker::Model;
 
@@ -15,6 +15,7 @@ use std::marker::Model;
 pub struct Links {
     me: Player,
     players: u8,
+    version: WireVersion,
     session: u64,
     epoch: u32,
     links: [Link; MOST_PLAYERS],
@@ -26,7 +27,7 @@ impl Model for Links {
 
     ghost Value = { LinksValue };
 
-    ghost view = { λ l. seen l.me.number l.players l.session l.epoch l.links };
+    ghost view = { λ l. seen l.me.number l.players l.version l.session l.epoch l.links };
 }
 
 impl Links {
@@ -37,6 +38,7 @@ impl Links {
         Links {
             me,
             players: game.players(),
+            version: game.wire(),
             session: game.session(room),
             epoch,
             links: [Link::closed(0); MOST_PLAYERS],
@@ -48,6 +50,13 @@ impl Links {
         ensures { result.number ≡ self.now.me }
     {
         self.me
+    }
+
+    /// The version of the datagrams of the match.
+    pub fn version(&self) -> WireVersion
+        ensures { result ≡ self.now.version }
+    {
+        self.version
     }
 
     /// The own epoch.
@@ -72,7 +81,8 @@ impl Links {
         if link.is_open { Some(link.known) } else { None }
     }
 
-    /// Judges a datagram and changes nothing: first `Session`, then `NotMine`, then the epochs.
+    /// Judges a datagram and changes nothing: first `Session`, then `NotMine`, then the epochs. Its version
+    /// is not judged here: who takes it does that before.
     pub fn admit(&self, datagram: &Datagram<'_>) -> Result<(), HandError>
         ensures judged { MatchResult result
             (λ _. refusal self.now (packet_of datagram.now).head ≡ None)
@@ -139,14 +149,15 @@ impl Links {
         }
     }
 
-    /// The header of a datagram of this kind to another player: it names the own epoch, and the one
-    /// that is known of the player.
+    /// The header of a datagram of this kind to another player, in the version of the match: it names the
+    /// own epoch, and the one that is known of the player.
     pub fn head(&self, player: Player, kind: DatagramKind) -> Head
         requires { player.number ≢ self.now.me }
         ensures { head_value result ≡ head_to self.now player.number kind }
     {
         Head {
             kind,
+            version: self.version,
             session: self.session,
             from: Seat::from(self.me),
             to: Seat::from(player),

@@ -51,7 +51,7 @@ impl Letter {
     }
 
     /// Puts a number of so many bytes behind the others.
-    fn put(&mut self, number: u64, size: usize) {
+    pub(crate) fn put(&mut self, number: u64, size: usize) {
         for byte in number
             .to_be_bytes()
             .iter()
@@ -62,46 +62,76 @@ impl Letter {
         }
     }
 
-    /// Puts bytes behind the others, those from a place on.
-    pub(crate) fn put_from(&mut self, bytes: &[u8], place: usize) {
-        for byte in bytes.iter().skip(place) {
-            self.put(u64::from(*byte), 1);
-        }
-    }
-
-    /// Puts the key sets of a player from a frame on.
+    /// Puts the key sets of a player from a frame on, two bytes each.
     fn put_keys(&mut self, player: u64, start: u64, count: u64) {
         for n in 0..count {
             self.put(u64::from(keys(player, start.wrapping_add(n))), 2);
         }
     }
 
-    /// Puts a start, a count and these key sets.
-    fn put_run(&mut self, player: u64, start: u64, count: u64) {
+    /// Puts a pair for each stretch of equal key sets of a player from a frame on.
+    fn put_pairs(&mut self, player: u64, start: u64, count: u64) {
+        let mut times: u64 = 0;
+        for n in 0..count {
+            let frame = start.wrapping_add(n);
+            let (here, next) = (keys(player, frame), keys(player, frame.wrapping_add(1)));
+            times = times.wrapping_add(1);
+            if here != next || n.wrapping_add(1) == count {
+                self.put(times, 1);
+                self.put(u64::from(here), 2);
+                times = 0;
+            }
+        }
+    }
+
+    /// Puts a start, a count and a run.
+    fn put_run(&mut self, start: u64, count: u64, run: &Letter) {
         self.put(start, 4);
         self.put(count, 2);
-        self.put_keys(player, start, count);
+        for byte in run.bytes() {
+            self.put(u64::from(*byte), 1);
+        }
     }
 }
 
-/// The kind of a datagram, and how many bytes follow its header.
-fn shape(body: Body) -> (u64, u64) {
+/// The kind of a datagram, how many bytes of its body are before the run, and the run: of whom, from
+/// which frame on, and of how many.
+fn shape(from: u64, body: Body) -> (u64, u64, u64, u64, u64) {
     match body {
-        Body::Hello => (1, 0),
-        Body::Welcome(_) => (2, 4),
-        Body::Data(_, _, _, _, count) => (3, count.wrapping_mul(2).wrapping_add(22)),
-        Body::Freeze(_, _) => (4, 6),
-        Body::Frozen(_, _, _, count) => (5, count.wrapping_mul(2).wrapping_add(12)),
-        Body::Cut(_, _, _, count) => (6, count.wrapping_mul(2).wrapping_add(12)),
+        Body::Hello => (1, 0, 0, 0, 0),
+        Body::Welcome(_) => (2, 4, 0, 0, 0),
+        Body::Data(_, _, _, start, count) => (3, 22, from, start, count),
+        Body::Freeze(_, _) => (4, 6, 0, 0, 0),
+        Body::Frozen(leaver, _, start, count) => (5, 12, leaver, start, count),
+        Body::Cut(leaver, _, start, count) => (6, 12, leaver, start, count),
     }
+}
+
+/// The bytes of a run of a player's key sets in a version.
+fn run_in(wire: u64, player: u64, start: u64, count: u64) -> Letter {
+    let mut run = Letter::new();
+    if wire == 1 {
+        run.put_keys(player, start, count);
+    } else {
+        run.put_pairs(player, start, count);
+    }
+    run
 }
 
 /// The bytes of a datagram to the peer of a scene.
 pub(crate) fn spelled(scene: &Scene, said: Said) -> Letter {
+    spelled_in(scene.table.wire, scene, said)
+}
+
+/// The same in a version of the format.
+pub(crate) fn spelled_in(wire: u64, scene: &Scene, said: Said) -> Letter {
     let (from, epoch, body) = said;
-    let (kind, length) = shape(body);
+    let (kind, fixed, player, start, count) = shape(from, body);
+    let run = run_in(wire, player, start, count);
+    let length = fixed.wrapping_add(run.len() as u64);
     let mut letter = Letter::new();
-    letter.put(0x433801, 3);
+    letter.put(0x4338, 2);
+    letter.put(wire, 1);
     letter.put(kind, 1);
     letter.put(scene.table.session, 8);
     letter.put(from, 1);
@@ -116,7 +146,7 @@ pub(crate) fn spelled(scene: &Scene, said: Said) -> Letter {
             letter.put(ack, 4);
             letter.put(frame, 4);
             letter.put(mark, 8);
-            letter.put_run(from, start, count);
+            letter.put_run(start, count, &run);
         }
         Body::Freeze(leaver, have) => {
             letter.put(leaver, 1);
@@ -127,7 +157,7 @@ pub(crate) fn spelled(scene: &Scene, said: Said) -> Letter {
             letter.put(leaver, 1);
             letter.put(0, 1);
             letter.put(held, 4);
-            letter.put_run(leaver, start, count);
+            letter.put_run(start, count, &run);
         }
     }
     letter

@@ -1,10 +1,11 @@
 //! 3,000 calls of open peers, drawn by chance, each made in two matches that began alike: answers,
-//! datagrams and what the peers tell are the same after each, and so are the disks in the end.
+//! datagrams and what the peers tell are the same after each, and so are the disks in the end. All in
+//! both versions of the datagrams.
 //!
 //! No call of an open peer takes memory. `rt try --test --fail-alloc N` refuses the Nth allocation:
 //! where that were one of a call, the call of the one match alone would be answered otherwise.
 use crate::bytes::Letter;
-use crate::scene::{ROOM, THREE};
+use crate::scene::{ROOM, THREE, THREE_IN_PAIRS, Table};
 use crate::told::{Tells, telling};
 use c8_disk::MemDisk;
 use c8_game::{Game, Keys, Player};
@@ -160,6 +161,15 @@ impl Chance {
         }
     }
 
+    /// Four keys in two ticks of three, none in the third.
+    fn keys(&mut self) -> Keys {
+        if self.below(3) == 0 {
+            Keys(0)
+        } else {
+            Keys(0x0f0f)
+        }
+    }
+
     /// Something to another player.
     fn saying(&mut self) -> Call {
         self.to = self.below(3);
@@ -186,7 +196,7 @@ impl Chance {
     /// player 3 is let go after half of the calls.
     fn call(&mut self, number: u32) -> (u32, Call) {
         match self.below(40) {
-            0..6 => (self.below(3), Call::Tick(Keys(0x0f0f))),
+            0..6 => (self.below(3), Call::Tick(self.keys())),
             6..18 => (self.below(3), self.saying()),
             18 if number > CALLS / 2 => (0, Call::Leave),
             19 => (0, Call::Decide),
@@ -244,19 +254,31 @@ fn play(one: &mut Match<'_>, other: &mut Match<'_>, seed: u64) -> Option<Counted
     Some(counted)
 }
 
-#[test]
-fn the_same_calls_are_answered_the_same(rt: HostRuntime) -> Result<(), Fail> {
-    let game = Game::read(rt.alloc(), THREE.game)?;
-    let (Some(mut one), Some(mut other)) = (begun(rt.alloc(), &game), begun(rt.alloc(), &game))
-    else {
+/// What was counted of two matches of a game, and whether their disks hold the same then.
+fn matched(alloc: Global, table: &Table, seed: u64) -> Result<(Option<Counted>, bool), Fail> {
+    let game = Game::read(alloc, table.game)?;
+    let (Some(mut one), Some(mut other)) = (begun(alloc, &game), begun(alloc, &game)) else {
         return Err(Fail::new("no memory for the peers"));
     };
-    let counted = play(&mut one, &mut other, 1);
-    assert!(rt; counted.is_some(), "two matches differ");
-    if let Some(counted) = counted {
-        assert!(rt; counted.ticked > 20 && counted.kept > 20);
-        assert!(rt; counted.left == 1 && counted.decided == 1 && counted.out == 1);
+    let counted = play(&mut one, &mut other, seed);
+    Ok((counted, one.ends_as(other)))
+}
+
+/// Whether a match had calls that record something, of each kind.
+fn has_some_of_each(counted: Counted) -> bool {
+    counted.ticked > 20
+        && counted.kept > 20
+        && counted.left == 1
+        && counted.decided == 1
+        && counted.out == 1
+}
+
+#[test]
+fn the_same_calls_are_answered_the_same(rt: HostRuntime) -> Result<(), Fail> {
+    for table in [&THREE, &THREE_IN_PAIRS] {
+        let (counted, ends) = matched(rt.alloc(), table, 1)?;
+        assert!(rt; counted.is_some_and(has_some_of_each), "two matches differ");
+        assert!(rt; ends, "two disks differ");
     }
-    assert!(rt; one.ends_as(other), "two disks differ");
     Ok(())
 }

@@ -9,10 +9,15 @@ use c8_wire::WireError;
 /// The number of so many bytes at a place, the most significant first.
 pub(crate) fn number(bytes: &[u8], at: usize, size: usize) -> u64 {
     let mut number: u64 = 0;
-    for byte in bytes.iter().skip(at).take(size) {
+    for byte in bytes.get(at..).unwrap_or(&[]).iter().take(size) {
         number = number.wrapping_mul(256).wrapping_add(u64::from(*byte));
     }
     number
+}
+
+/// The version that byte 2 names.
+fn version(bytes: &[u8]) -> u64 {
+    number(bytes, 2, 1)
 }
 
 pub(crate) fn kind(bytes: &[u8]) -> u64 {
@@ -27,6 +32,9 @@ pub(crate) fn from(bytes: &[u8]) -> u64 {
 pub(crate) fn judge(scene: &Scene, bytes: &[u8]) -> Option<Refused> {
     if let Some(error) = wire(bytes) {
         return Some(Refused::Wire(error));
+    }
+    if version(bytes) != scene.table.wire {
+        return Some(Refused::OtherWire);
     }
     if let Some(error) = hand(scene, bytes) {
         return Some(Refused::Hand(error));
@@ -50,7 +58,7 @@ fn wire(bytes: &[u8]) -> Option<WireError> {
     if number(bytes, 0, 2) != 0x4338 {
         return Some(WireError::Magic);
     }
-    if number(bytes, 2, 1) != 1 {
+    if version(bytes) != 1 && version(bytes) != 2 {
         return Some(WireError::Version);
     }
     let (fixed, has_run) = match kind(bytes) {
@@ -75,8 +83,11 @@ fn wire(bytes: &[u8]) -> Option<WireError> {
     if is_leaving && number(bytes, 25, 1) != 0 {
         return Some(WireError::Reserved);
     }
-    if has_run && !is_counted(bytes, length, fixed) {
+    if has_run && !is_counted(bytes, length.wrapping_sub(fixed)) {
         return Some(WireError::Count);
+    }
+    if has_run && version(bytes) == 2 && !are_pairs(bytes) {
+        return Some(WireError::Pairs);
     }
     if is_beyond(bytes) {
         return Some(WireError::Beyond);
@@ -102,9 +113,71 @@ pub(crate) fn run(bytes: &[u8]) -> (u64, u64) {
     }
 }
 
-fn is_counted(bytes: &[u8], length: u64, fixed: u64) -> bool {
+/// The bytes of a run.
+fn run_bytes(bytes: &[u8]) -> &[u8] {
+    let place = if kind(bytes) == 3 { 46 } else { 36 };
+    bytes.get(place..).unwrap_or(&[])
+}
+
+/// The inputs of a run that are left, one after the other.
+#[derive(Clone, Copy)]
+pub(crate) struct Inputs<'a> {
+    run: &'a [u8],
+    has_pairs: bool,
+    /// How often the first pair has been told.
+    times: u64,
+}
+
+pub(crate) fn inputs_of_run(bytes: &[u8]) -> Inputs<'_> {
+    Inputs {
+        run: run_bytes(bytes),
+        has_pairs: version(bytes) == 2,
+        times: 0,
+    }
+}
+
+impl<'a> Inputs<'a> {
+    /// The next one, 0 where none is left.
+    pub(crate) fn next(&mut self) -> u64 {
+        let (times, size) = if self.has_pairs {
+            (number(self.run, 0, 1), 3)
+        } else {
+            (1, 2)
+        };
+        let input = number(self.run, size - 2, 2);
+        self.times = self.times.wrapping_add(1);
+        if self.times >= times {
+            (self.run, self.times) = (self.run.get(size..).unwrap_or(&[]), 0);
+        }
+        input
+    }
+}
+
+/// Whether a run has not too many inputs, and so many bytes as it may have.
+fn is_counted(bytes: &[u8], size: u64) -> bool {
     let (_, count) = run(bytes);
-    count <= 64 && length == count.wrapping_mul(2).wrapping_add(fixed)
+    if count > 64 {
+        return false;
+    }
+    if version(bytes) == 1 {
+        return size == count.wrapping_mul(2);
+    }
+    size % 3 == 0 && size <= 126
+}
+
+/// Whether each pair is of some inputs and of another key set than the one before, and all are of as
+/// many inputs as there are.
+fn are_pairs(bytes: &[u8]) -> bool {
+    let (_, count) = run(bytes);
+    let (mut sum, mut last) = (0, None);
+    for pair in run_bytes(bytes).chunks(3) {
+        let (times, keys) = (number(pair, 0, 1), number(pair, 1, 2));
+        if times == 0 || last == Some(keys) {
+            return false;
+        }
+        (sum, last) = (times.wrapping_add(sum), Some(keys));
+    }
+    sum == count
 }
 
 fn is_beyond(bytes: &[u8]) -> bool {
@@ -163,7 +236,7 @@ fn of_data(scene: &Scene, bytes: &[u8]) -> Option<Refused> {
     if let Some(error) = bad_ack(scene, bytes) {
         return Some(error);
     }
-    if let Some(error) = misfit(scene, bytes, q, 46) {
+    if let Some(error) = misfit(scene, bytes, q) {
         return Some(Refused::Known(error));
     }
     let (frame, mark) = (number(bytes, 28, 4), number(bytes, 32, 8));
@@ -175,8 +248,8 @@ fn of_data(scene: &Scene, bytes: &[u8]) -> Option<Refused> {
     None
 }
 
-/// Why the run of inputs of a player, whose words stand at a place, does not fit what is held.
-fn misfit(scene: &Scene, bytes: &[u8], player: u64, words: usize) -> Option<KnownError> {
+/// Why the run of inputs of a player does not fit what is held.
+fn misfit(scene: &Scene, bytes: &[u8], player: u64) -> Option<KnownError> {
     let (start, count) = run(bytes);
     let held = scene.count(player);
     if start.wrapping_add(count) > LIMIT {
@@ -185,12 +258,11 @@ fn misfit(scene: &Scene, bytes: &[u8], player: u64, words: usize) -> Option<Know
     if start > held {
         return Some(KnownError::Gap);
     }
-    let mut frame = start;
-    for word in bytes.chunks(2).skip(words / 2) {
-        if frame < held && number(word, 0, 2) != u64::from(keys(player, frame)) {
+    let mut inputs = inputs_of_run(bytes);
+    for frame in start..held.min(start.wrapping_add(count)) {
+        if inputs.next() != u64::from(keys(player, frame)) {
             return Some(KnownError::Differs);
         }
-        frame = frame.wrapping_add(1);
     }
     None
 }
@@ -226,7 +298,7 @@ fn of_frozen(scene: &Scene, bytes: &[u8]) -> Option<Refused> {
     if number(bytes, 26, 4) > LIMIT {
         return Some(Refused::Known(KnownError::Full));
     }
-    match misfit(scene, bytes, leaver, 36) {
+    match misfit(scene, bytes, leaver) {
         Some(error) => Some(Refused::Known(error)),
         None => None,
     }
@@ -256,7 +328,7 @@ fn of_cut(scene: &Scene, bytes: &[u8]) -> Option<Refused> {
     if held > length {
         return Some(Refused::Known(KnownError::Differs));
     }
-    match misfit(scene, bytes, leaver, 36) {
+    match misfit(scene, bytes, leaver) {
         Some(error) => Some(Refused::Known(error)),
         None => None,
     }

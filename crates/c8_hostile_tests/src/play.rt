@@ -1,5 +1,5 @@
 //! A scene is played: its datagram is changed in each way, and each change is heard.
-use crate::bytes::{Letter, holding, image_of, slot_with, spelled};
+use crate::bytes::{Letter, holding, image_of, slot_with, spelled, spelled_in};
 use crate::judge::judge;
 use crate::scene::{Body, EPOCH, ROOM, Said, Scene};
 use crate::scenes::SCENES;
@@ -172,6 +172,17 @@ impl<'a> Play<'a> {
         true
     }
 
+    /// The same in the other version is refused, whatever match it names.
+    fn is_of_one_version(&mut self) -> bool {
+        let scene = self.stage.scene;
+        let mut other = spelled_in(3u64.saturating_sub(scene.table.wire), scene, scene.said);
+        if judge(scene, other.bytes()) != Some(Refused::OtherWire) || !self.holds(other.bytes()) {
+            return false;
+        }
+        other.set(4, !other.byte(4));
+        self.holds(other.bytes())
+    }
+
     /// Each front, and one byte more.
     fn holds_at_each_length(&mut self) -> bool {
         let letter = self.stage.letter();
@@ -180,7 +191,7 @@ impl<'a> Play<'a> {
                 return false;
             }
         }
-        self.holds(letter.first(letter.len().saturating_add(1)))
+        self.holds(letter.first(letter.len().saturating_add(1))) && self.is_of_one_version()
     }
 
     /// Whether all is as before them, but for the alarm, and the datagrams as they are do then what
@@ -203,7 +214,7 @@ fn is_but_for_alarm(alarm: bool, told: &Told, wanted: &Told) -> bool {
 }
 
 /// Whether each other value of a byte of the datagram is answered as it is to be; at the place after
-/// the last one, each other length.
+/// the last one, each other length and the other version.
 fn holds_at<'a>(stage: Stage<'a>, course: &'a Course, place: usize) -> bool {
     let Some(peer) = stage.ready() else {
         return false;
@@ -232,22 +243,32 @@ fn fault(stage: Stage<'_>, course: &Course) -> Option<usize> {
     None
 }
 
+/// Whether a scene goes as it says, and the first place at which a change is answered otherwise.
+fn played(alloc: Global, scene: &Scene) -> Result<(bool, Option<usize>), Fail> {
+    let game = Game::read(alloc, scene.table.game)?;
+    let image = image_of(alloc, scene)?;
+    let stage = Stage {
+        alloc,
+        game: &game,
+        scene,
+        image: &image,
+    };
+    match stage.course() {
+        Some(course) => Ok((true, fault(stage, &course))),
+        None => Ok((false, None)),
+    }
+}
+
 #[test]
 fn a_changed_datagram_is_survived(rt: HostRuntime) -> Result<(), Fail> {
     for (n, scene) in SCENES.iter().enumerate() {
-        let game = Game::read(rt.alloc(), scene.table.game)?;
-        let image = image_of(rt.alloc(), scene)?;
-        let stage = Stage {
-            alloc: rt.alloc(),
-            game: &game,
-            scene,
-            image: &image,
-        };
-        let course = stage.course();
-        assert!(rt; course.is_some(), "scene {n}");
-        if let Some(course) = course {
-            let fault = fault(stage, &course);
-            assert!(rt; fault.is_none(), "scene {n}, byte {fault:?}");
+        for wire in 1..3 {
+            let (goes, fault) = played(rt.alloc(), &scene.in_version(wire))?;
+            assert!(rt; goes, "scene {n} in version {wire}");
+            assert!(rt;
+                fault.is_none(),
+                "scene {n} in version {wire}, byte {fault:?}"
+            );
         }
     }
     Ok(())

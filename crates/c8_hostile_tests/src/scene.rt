@@ -1,7 +1,8 @@
 //! What stands before a datagram comes: whose peer hears it, what its journal says, and its links.
 //!
-//! All is of two games, of four players and of three, with two frames of delay, in which player p
-//! enters the key set 256p + n for frame n.
+//! All is of two games, of four players and of three, each in both versions of the datagrams, with two
+//! frames of delay. For each later frame n player p enters the key set 256p + n / 3, rounded down, so up
+//! to three frames on end have the same.
 use c8_peer::{DecideError, Heard, Refused};
 
 /// A game, and what docs/FORMATS.md makes of it by another program: its id, SHA-256, and the session
@@ -9,6 +10,8 @@ use c8_peer::{DecideError, Heard, Refused};
 #[derive(Clone, Copy)]
 pub(crate) struct Table {
     pub(crate) players: u64,
+    /// The version of its datagrams.
+    pub(crate) wire: u64,
     pub(crate) game: &'static [u8],
     pub(crate) id: [u8; 32],
     pub(crate) session: u64,
@@ -16,6 +19,7 @@ pub(crate) struct Table {
 
 pub(crate) const FOUR: Table = Table {
     players: 4,
+    wire: 1,
     game: b"players 4\nipf 1\nframes 300\ndelay 2\nwindow 12\nseed 0\nmask1 000f\nmask2 00f0\nmask3 0f00\nmask4 f000\ncode 1200\n",
     id: *b"\x86\x70\xa0\x68\xa7\x33\x34\x5d\x33\x3c\x5e\x79\x5a\xc7\xcf\x3b\
         \xfa\xa6\xb0\x6a\x50\x56\x32\xdd\x72\xa4\x25\x32\x01\x1c\xa7\x97",
@@ -24,10 +28,29 @@ pub(crate) const FOUR: Table = Table {
 
 pub(crate) const THREE: Table = Table {
     players: 3,
+    wire: 1,
     game: b"players 3\nipf 1\nframes 300\ndelay 2\nwindow 12\nseed 0\nmask1 000f\nmask2 00f0\nmask3 0f00\ncode 1200\n",
     id: *b"\x48\xd6\x6b\x4f\xe8\xd0\xe3\x60\xb7\xfd\xf0\x90\x3e\x59\xaa\x11\
         \xb5\x89\x95\xd5\x7a\xad\xaa\x9e\xff\xf9\x26\xc8\xe8\xb4\x84\x40",
     session: 0x104023b9c4743fd7,
+};
+
+pub(crate) const FOUR_IN_PAIRS: Table = Table {
+    players: 4,
+    wire: 2,
+    game: b"players 4\nipf 1\nframes 300\ndelay 2\nwindow 12\nseed 0\nwire 2\nmask1 000f\nmask2 00f0\nmask3 0f00\nmask4 f000\ncode 1200\n",
+    id: *b"\x51\x6a\xb3\x4b\x34\x48\x40\x8e\x88\x56\x85\xef\x59\xfa\xc7\x3a\
+        \x01\xc2\x3f\x05\x66\x63\x9f\x26\xe2\x61\x4d\xb0\xc2\x24\x84\x26",
+    session: 0x04643226d8283ade,
+};
+
+pub(crate) const THREE_IN_PAIRS: Table = Table {
+    players: 3,
+    wire: 2,
+    game: b"players 3\nipf 1\nframes 300\ndelay 2\nwindow 12\nseed 0\nwire 2\nmask1 000f\nmask2 00f0\nmask3 0f00\ncode 1200\n",
+    id: *b"\x54\x93\x4c\xfe\x19\xb9\x8b\x1f\xe3\x8f\x27\x71\x5b\x2a\x31\x00\
+        \xab\x6f\x59\x67\x7d\x04\xb4\xf6\x94\x88\xf5\x02\xf3\xe1\x5d\x4b",
+    session: 0x627827b6fff30813,
 };
 
 pub(crate) const ROOM: u64 = 0x0102030405060708;
@@ -37,8 +60,8 @@ pub(crate) const DELAY: u64 = 2;
 /// Frames and delay together.
 pub(crate) const LIMIT: u64 = 302;
 
-/// The marks of frames 0 and 32 in both games, by the same.
-pub(crate) const MARKS: [(u64, u64); 2] = [(0, 0x040d1a00552be44e), (32, 0x9aa31bb0b5bf1491)];
+/// The marks of frames 0 and 32 in all games, by the same.
+pub(crate) const MARKS: [(u64, u64); 2] = [(0, 0x040d1a00552be44e), (32, 0x931aa062e0f04796)];
 
 /// The epoch that begins with the opening of the journal of a scene.
 pub(crate) const EPOCH: u64 = 2;
@@ -100,7 +123,7 @@ pub(crate) fn keys(player: u64, frame: u64) -> u16 {
     if frame < DELAY {
         return 0;
     }
-    (player.wrapping_mul(256).wrapping_add(frame) & 0xffff) as u16
+    (player.wrapping_mul(256).wrapping_add(frame / 3) & 0xffff) as u16
 }
 
 /// How many inputs some records of a journal say of a player, the delay's not counted.
@@ -113,6 +136,17 @@ pub(crate) fn inputs_of(me: u64, player: u64, made: Made) -> u64 {
 }
 
 impl Scene {
+    /// The same of a game whose datagrams are of a version.
+    pub(crate) fn in_version(&self, wire: u64) -> Scene {
+        let table = match (self.table.players, wire) {
+            (4, 1) => &FOUR,
+            (4, _) => &FOUR_IN_PAIRS,
+            (_, 1) => &THREE,
+            _ => &THREE_IN_PAIRS,
+        };
+        Scene { table, ..*self }
+    }
+
     /// How many inputs of a player the journal says.
     pub(crate) fn count(&self, player: u64) -> u64 {
         if player > self.table.players {

@@ -1,7 +1,7 @@
 //! What a datagram that is taken leaves at the peer of a scene, by the tables of docs/FORMATS.md and
 //! docs/PROTOCOL.md alone, over the bytes as they are.
 use crate::bytes::{Letter, slot_with};
-use crate::judge::{from, kind, leaver, number, run};
+use crate::judge::{from, inputs_of_run, kind, leaver, number, run};
 use crate::scene::Scene;
 use crate::told::Tells;
 use c8_peer::Heard;
@@ -88,14 +88,14 @@ impl Taken {
     }
 
     fn data(&mut self, scene: &Scene, bytes: &[u8]) {
-        self.got(scene, bytes, from(bytes), 46);
+        self.got(scene, bytes, from(bytes));
         self.acknowledged(bytes);
     }
 
-    /// The inputs of a player that are new, whose words stand from a place on: one record GOT.
-    fn got(&mut self, scene: &Scene, bytes: &[u8], player: u64, words: usize) {
+    /// The inputs of a player that are new: one record GOT.
+    fn got(&mut self, scene: &Scene, bytes: &[u8], player: u64) {
         if fresh(scene, bytes, player) > 0 {
-            let slot = slot_of_run(scene, bytes, 4, player, 0, words);
+            let slot = slot_of_run(scene, bytes, 4, player, 0);
             self.keeps(slot, Heard::Kept);
             self.adds(player, fresh(scene, bytes, player));
         }
@@ -127,7 +127,7 @@ impl Taken {
 
     fn frozen(&mut self, scene: &Scene, bytes: &[u8]) {
         if !self.is_cut(leaver(bytes)) {
-            self.got(scene, bytes, leaver(bytes), 36);
+            self.got(scene, bytes, leaver(bytes));
         }
     }
 
@@ -139,12 +139,12 @@ impl Taken {
         } else if !self.is_cut(leaver) {
             let fresh = fresh(scene, bytes, leaver);
             if scene.count(leaver).wrapping_add(fresh) == length {
-                let slot = slot_of_run(scene, bytes, 7, leaver, length, 36);
+                let slot = slot_of_run(scene, bytes, 7, leaver, length);
                 self.keeps(slot, Heard::Kept);
                 self.adds(leaver, fresh);
                 self.ends_at(leaver, length);
             } else {
-                self.got(scene, bytes, leaver, 36);
+                self.got(scene, bytes, leaver);
             }
         }
     }
@@ -173,21 +173,17 @@ fn fresh(scene: &Scene, bytes: &[u8], player: u64) -> u64 {
         .saturating_sub(scene.count(player))
 }
 
-/// A record with the inputs of a run that are not held, whose words stand from a place on.
-fn slot_of_run(
-    scene: &Scene,
-    bytes: &[u8],
-    kind: u64,
-    player: u64,
-    number: u64,
-    words: usize,
-) -> Letter {
-    let (start, _) = run(bytes);
+/// A record with the inputs of a run that are not held, two bytes each in either version.
+fn slot_of_run(scene: &Scene, bytes: &[u8], kind: u64, player: u64, number: u64) -> Letter {
+    let (start, count) = run(bytes);
     let held = scene.count(player);
     let mut slot = slot_with(kind, player, number, held, fresh(scene, bytes, player));
-    if fresh(scene, bytes, player) > 0 {
-        let skipped = held.wrapping_sub(start).wrapping_mul(2) as usize;
-        slot.put_from(bytes, words.wrapping_add(skipped));
+    let mut inputs = inputs_of_run(bytes);
+    for frame in start..start.wrapping_add(count) {
+        let input = inputs.next();
+        if frame >= held {
+            slot.put(input, 2);
+        }
     }
     slot
 }

@@ -1,7 +1,7 @@
 //! What is known of every player, by whom.
-ghost use Rattle.std.specs.Prelude.{◌≡◌, ◌≢◌, ℕ, ◌≤◌, ◌<◌, ◌+◌, ◌-◌, [], ◌∷◌, true, false, None, Some, length, drop, take, ◌==◌, IfOk, MatchResult, OnOk};
+ghost use Rattle.std.specs.Prelude.{◌≡◌, ◌≢◌, ℕ, ◌≤◌, ◌<◌, ◌+◌, ◌-◌, [], ◌∷◌, true, false, None, Some, length, drop, take, ◌==◌, min, IfOk, MatchResult, OnOk};
 ghost use Rattle.c8_game.specs.Rules.{limit_of};
-ghost use Rattle.c8_wire.specs.Lent.{words, spelled, slice_from};
+ghost use Rattle.c8_wire.specs.Lent.{words, IsSliceFrom};
 ghost use Rattle.c8_known.specs.Journal.{Own, Got, Freeze, Leave, Cut};
 ghost use Rattle.c8_known.specs.Known.{player_in, count_in, is_frozen_in, known_of, with_record, Plays, IsKnown, IsOfGame};
 ghost use Rattle.c8_known.specs.Confirmed.{confirmed, IsConfirmed, input_of, or_empty, best_input, row, best_row};
@@ -233,8 +233,8 @@ impl Known {
         ensures fresh { IfOk result (λ part.
             words part ≡ fresh_words self.now player.number start (words run.entry)) }
         ensures slice { IfOk result (λ part.
-            spelled part
-            ≡ slice_from (count_in self.now player.number - start) (spelled run.entry)) }
+            IsSliceFrom run.entry (min (length (words run.entry))
+            (count_in self.now player.number - start)) part) }
         ensures room { IfOk result (λ part.
             count_in self.now player.number + length (words part) ≤ self.now.limit) }
     {

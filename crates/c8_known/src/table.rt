@@ -1,12 +1,12 @@
 //! What is known of one player.
 ghost use Rattle.std.specs.Prelude.{◌≡◌, ◌≤◌, ◌<◌, ◌^◌, ◌+◌, ◌++◌, ◌∷◌, [], length, map, All, vec_len, vec_capacity, IfOk, None, false, replicate};
-ghost use Rattle.c8_wire.specs.Lent.{words};
+ghost use Rattle.c8_wire.specs.Lent.{words, words_left};
 ghost use Rattle.c8_known.specs.Confirmed.{input_of, best_input};
 ghost use Rattle.c8_known.specs.Fresh.{differ};
 ghost use Rattle.c8_known.specs.declared.table.Table.{Table};
 ghost use Rattle.c8_known.specs.Tables.{table_value, HasRoom, reach_of, least_of};
 
-use c8_wire::Run;
+use c8_wire::{Inputs, Run};
 use std::alloc::{AllocError, Global};
 
 /// The inputs that are held of a player, whether it leaves, and where its list is cut.
@@ -122,8 +122,8 @@ pub(crate) fn hold_run(inputs: &mut Vec<u16>, run: Run<'_>)
     ensures items { inputs.new.items ≡ inputs.old.items ++ words run.entry }
     ensures capacity { vec_capacity inputs.old ≤ vec_capacity inputs.new }
 {
-    for place in 0..run.len() {
-        hold(inputs, run.get(place));
+    for input in run.iter() {
+        hold(inputs, input);
     }
 }
 
@@ -131,11 +131,19 @@ pub(crate) fn hold_run(inputs: &mut Vec<u16>, run: Run<'_>)
 pub(crate) fn differ(held: &[u16], run: Run<'_>) -> bool
     ensures { result ≡ differ held.now (words run.entry) }
 {
-    let both = held.len().min(run.len());
-    for place in 0..both {
-        if held[place] != run.get(place) {
-            return true;
-        }
+    differ_from(held, run.iter())
+}
+
+/// Whether some input that is left differs from the one that is held at its place.
+#[tactic(auto, unfolding(crate::specs::Fresh::differ))]
+fn differ_from(held: &[u16], mut inputs: Inputs<'_>) -> bool
+    ensures { result ≡ differ held.now (words_left inputs.entry) }
+{
+    let Some(input) = inputs.next() else {
+        return false;
+    };
+    match held {
+        [first, rest @ ..] => *first != input || differ_from(rest, inputs),
+        [] => false,
     }
-    false
 }

@@ -3,7 +3,7 @@
 //! doesn't apply.
 use c8_game::{Game, Keys, Player, Row};
 use c8_known::{Known, KnownError};
-use c8_wire::Run;
+use c8_wire::{Datagram, Run, view};
 use std::alloc::Global;
 use std::fmt::{Debug, Display};
 use std::test::Fail;
@@ -55,6 +55,33 @@ pub fn hear(
     let new = part.len();
     known.take(player, part);
     Some(Ok(new))
+}
+
+/// What is lent of a run: how many inputs, how many of its first pair come before them, and the bytes.
+pub type Part<'a> = (usize, usize, &'a [u8]);
+
+/// Inputs of a player come in a DATA of its own. What was lent of them, or the refusal.
+pub fn hear_data<'a>(
+    known: &mut Known,
+    player: Player,
+    bytes: &'a [u8],
+) -> Option<Result<Part<'a>, KnownError>> {
+    let Ok(Datagram::Data(data)) = view(bytes) else {
+        return None;
+    };
+    if player.number > known.players() {
+        return None;
+    }
+    let part = match known.fresh(player, player, data.start(), data.run()) {
+        Ok(part) => part,
+        Err(error) => return Some(Err(error)),
+    };
+    if player.number == known.me().number || known.cut_of(player).is_some() {
+        return None;
+    }
+    let lent = (part.len(), part.skip(), part.bytes());
+    known.take(player, part);
+    Some(Ok(lent))
 }
 
 /// Inputs of a player come that follow those that are held. Whether they were taken.
@@ -132,6 +159,28 @@ pub fn bytes_of(words: [u16; 4]) -> [u8; 8] {
     let ([a, b], [c, d]) = (one.to_be_bytes(), two.to_be_bytes());
     let ([e, f], [g, h]) = (three.to_be_bytes(), four.to_be_bytes());
     [a, b, c, d, e, f, g, h]
+}
+
+/// A DATA in version 2, but for the length of its body, and its run with start and count.
+const DATA: &[u8] = b"C8\x02\x03\x01\x02\x03\x04\x05\x06\x07\x08\x02\x01\0\0\
+    \0\0\0\x09\0\0\0\x0a\0\0\0\x0b\0\0\0\x20\x11\x12\x13\x14\x15\x16\x17\x18";
+
+fn put(bytes: &mut [u8; 172], place: usize, part: &[u8]) {
+    for (byte, new) in bytes.iter_mut().skip(place).zip(part) {
+        *byte = *new;
+    }
+}
+
+/// A DATA in version 2 of so many inputs from a start on, which these pairs spell. How long it is.
+pub fn data_of(start: u32, count: u8, pairs: &[u8]) -> ([u8; 172], usize) {
+    let mut bytes = [0; 172];
+    let size = u8::try_from(pairs.len().saturating_add(22)).unwrap_or(0);
+    put(&mut bytes, 0, DATA);
+    put(&mut bytes, 14, &[0, size]);
+    put(&mut bytes, 40, &start.to_be_bytes());
+    put(&mut bytes, 44, &[0, count]);
+    put(&mut bytes, 46, pairs);
+    (bytes, usize::from(size).saturating_add(24))
 }
 
 /// Whether an error prints a text.

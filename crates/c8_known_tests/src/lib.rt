@@ -6,6 +6,8 @@ mod calls;
 #[cfg(test)]
 mod known;
 #[cfg(test)]
+mod pairs;
+#[cfg(test)]
 mod roll;
 #[cfg(test)]
 mod round;

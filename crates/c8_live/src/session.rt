@@ -373,6 +373,12 @@ impl<'g, D: Disk> Session<'g, D> {
 fn is_admitted(answer: Result<Heard, Refused>) -> bool {
     !matches!(
         answer,
-        Err(Refused::Down | Refused::Dropped | Refused::Wire(_) | Refused::Hand(_))
+        Err(
+            Refused::Down
+                | Refused::Dropped
+                | Refused::Wire(_)
+                | Refused::OtherWire
+                | Refused::Hand(_)
+        )
     )
 }

@@ -11,9 +11,9 @@ fn worked(alloc: Global) -> Result<Game, Fail> {
     Ok(Game::read(alloc, WORKED.as_bytes())?)
 }
 
-/// The players, the instructions of a frame, the frames, the delay, the window, the seed, the limit,
-/// and the masks of players 2 and 3.
-fn numbers_of(game: &Game) -> [u64; 9] {
+/// The players, the instructions of a frame, the frames, the delay, the window, the seed, the wire
+/// version, the limit, and the masks of players 2 and 3.
+fn numbers_of(game: &Game) -> [u64; 10] {
     [
         u64::from(game.players()),
         u64::from(game.ipf()),
@@ -21,6 +21,7 @@ fn numbers_of(game: &Game) -> [u64; 9] {
         u64::from(game.delay()),
         u64::from(game.window()),
         game.seed(),
+        u64::from(game.wire().number()),
         u64::from(game.limit()),
         u64::from(game.mask(Player { number: 2 }).0),
         u64::from(game.mask(Player { number: 3 }).0),
@@ -36,7 +37,7 @@ fn reads_a_game(rt: HostRuntime) -> Result<(), Fail> {
     let game = worked(rt.alloc())?;
     let numbers = numbers_of(&game);
     assert!(rt;
-        numbers == [2, 10, 100, 0, 8, 0, 100, 0xfff0, 0],
+        numbers == [2, 10, 100, 0, 8, 0, 1, 100, 0xfff0, 0],
         "{numbers:?}"
     );
     assert!(rt; has_program(&game, &[0x12, 0x00]));
@@ -79,7 +80,7 @@ struct Change {
 }
 
 #[rattlefmt::skip]
-const CHANGES: [Change; 48] = [
+const CHANGES: [Change; 61] = [
     Change { old: "ipf 10", new: "ipf 0", answer: "Range" },
     Change { old: "seed 0\n", new: "", answer: "Missing" },
     Change { old: "ipf 10", new: "ipf 10\nipf 10", answer: "Twice" },
@@ -108,6 +109,9 @@ const CHANGES: [Change; 48] = [
     Change { old: "delay 0", new: "delay 5", answer: "Range" },
     Change { old: "window 8", new: "window 0", answer: "Range" },
     Change { old: "window 8", new: "window 13", answer: "Range" },
+    Change { old: "seed 0", new: "seed 0\nwire 0", answer: "Range" },
+    Change { old: "seed 0", new: "seed 0\nwire 3", answer: "Range" },
+    Change { old: "seed 0", new: "seed 0\nwire 18446744073709551617", answer: "Range" },
     // masks and code
     Change { old: "mask1 000f", new: "mask1 00f", answer: "Hex" },
     Change { old: "mask1 000f", new: "mask1 000g", answer: "Hex" },
@@ -115,21 +119,31 @@ const CHANGES: [Change; 48] = [
     Change { old: "mask1 000f", new: "mask5 000f", answer: "Line" },
     Change { old: "code 1200", new: "code 12zz", answer: "Hex" },
     Change { old: "code 1200\n", new: "", answer: "Missing" },
+    Change { old: "code 1200\n", new: "wire 2\n", answer: "Missing" },
     Change { old: "mask2 fff0\n", new: "", answer: "Missing" },
     Change { old: "players 2", new: "players 3", answer: "Missing" },
     // two faults: the first line, and within a line Line, then Twice, then the value
     Change { old: "ipf 10", new: "ipf 0\nspeed 3", answer: "Range" },
     Change { old: "ipf 10", new: "ipf 10\nipf x", answer: "Line" },
     Change { old: "ipf 10", new: "ipf 10\nipf 500", answer: "Twice" },
+    Change { old: "seed 0", new: "wire 1\nseed 0\nwire 1", answer: "Twice" },
+    Change { old: "seed 0", new: "wire 2\nseed 0\nwire 3", answer: "Twice" },
+    Change { old: "seed 0", new: "wire 2\nseed 0\nwire two", answer: "Line" },
+    Change { old: "seed 0", new: "wire 3\nseed 0\nwire 2", answer: "Range" },
     Change { old: "mask1 000f", new: "mask1 000f\nmask1 zz", answer: "Twice" },
     Change { old: "seed 0\nmask1 000f", new: "mask1 000g", answer: "Hex" },
     Change { old: "seed 0\n", new: "mask3 0001\n", answer: "Missing" },
+    Change { old: "seed 0\n", new: "wire 2\n", answer: "Missing" },
     // what is allowed
     Change { old: "players 2", new: "# a comment\n\n\r\nplayers 2", answer: "a game" },
     Change { old: "ipf 10\n", new: "ipf 10\r\n", answer: "a game" },
     Change { old: "ipf 10", new: "ipf 0000000000000000100", answer: "a game" },
     Change { old: "seed 0", new: "seed 18446744073709551615", answer: "a game" },
     Change { old: "frames 100", new: "frames 262144", answer: "a game" },
+    Change { old: "seed 0", new: "seed 0\nwire 1", answer: "a game" },
+    Change { old: "players 2", new: "wire 2\nplayers 2", answer: "a game" },
+    Change { old: "code 1200", new: "code 12\nwire 2\ncode 00", answer: "a game" },
+    Change { old: "code 1200\n", new: "code 1200\nwire 00000000000000000002", answer: "a game" },
     Change { old: "mask1 000f", new: "mask1 00fF", answer: "a game" },
     Change { old: "code 1200", new: "code 12\ncode 00", answer: "a game" },
     Change { old: "code 1200\n", new: "code 1200", answer: "a game" },
@@ -137,6 +151,41 @@ const CHANGES: [Change; 48] = [
 
 fn changes() -> &'static [Change] {
     &CHANGES
+}
+
+/// What is printed of the wire version and the id of the worked text's game, after a change. The
+/// digests were made by another implementation of SHA-256.
+#[rattlefmt::skip]
+const VERSIONS: [Change; 7] = [
+    Change { old: "seed 0", new: "seed 0", answer: "1 One d42825e773e78e46625a945ec405dedb99460949e233a3f3c7300a32213f522c" },
+    Change { old: "seed 0", new: "seed 0\nwire 1", answer: "1 One d42825e773e78e46625a945ec405dedb99460949e233a3f3c7300a32213f522c" },
+    Change { old: "seed 0", new: "seed 0\nwire 2", answer: "2 Two 426df38ccfb6dbdf24cf3e37c08c9d8620576722e0fcfdd39b305ceffec179c0" },
+    Change { old: "players 2", new: "wire 02\nplayers 2", answer: "2 Two 426df38ccfb6dbdf24cf3e37c08c9d8620576722e0fcfdd39b305ceffec179c0" },
+    Change { old: "code 1200", new: "code 12\nwire 2\ncode 00", answer: "2 Two 426df38ccfb6dbdf24cf3e37c08c9d8620576722e0fcfdd39b305ceffec179c0" },
+    // a program that ends with a byte 02
+    Change { old: "code 1200", new: "code 120002", answer: "1 One 1045d5d1fe81c5ed977e7859282cdcd47044ec4d11e55a88664451038acfb2a8" },
+    Change { old: "code 1200", new: "code 120002\nwire 2", answer: "2 Two 36bdc2f5b0f5aa97f33d59993b24b64fc1f67e2c6f822728b70037285af4a8d3" },
+];
+
+fn versions() -> &'static [Change] {
+    &VERSIONS
+}
+
+fn version_text(alloc: Global, change: &Change) -> Result<String, Fail> {
+    let text = WORKED.replace(alloc, change.old, change.new)?;
+    let game = Game::read(alloc, text.as_bytes())?;
+    let (wire, id) = (game.wire(), id_text(alloc, &game)?);
+    Ok(format!(in alloc; "{} {wire:?} {id}", wire.number())?)
+}
+
+/// A game of wire version 2 has another id; one of version 1 has that of a text that names none.
+#[test]
+fn knows_its_wire_version(rt: HostRuntime) -> Result<(), Fail> {
+    for change in versions() {
+        let found = version_text(rt.alloc(), change)?;
+        assert!(rt; found.as_str() == change.answer, "{change:?}: {found}");
+    }
+    Ok(())
 }
 
 /// The name of the first fault of a text.
@@ -224,7 +273,7 @@ fn debug_text_of_lines(alloc: Global, text: &[u8]) -> Result<String, Fail> {
 fn sums_up_what_is_long(rt: HostRuntime) -> Result<(), Fail> {
     let text = debug_text(rt.alloc(), &worked(rt.alloc())?)?;
     let wanted =
-        "Game { players: 2, ipf: 10, frames: 100, delay: 0, window: 8, seed: 0, program: 2 bytes }";
+        "Game { players: 2, ipf: 10, frames: 100, delay: 0, window: 8, seed: 0, wire: 1, program: 2 bytes }";
     assert!(rt; text.as_str() == wanted, "{text}");
     let text = debug_text_of_lines(rt.alloc(), b"one\ntwo")?;
     assert!(rt; text.as_str() == "Lines { bytes left: 7 }", "{text}");

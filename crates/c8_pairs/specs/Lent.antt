@@ -3,7 +3,7 @@ use Rattle.std.specs.Prelude.{ℕ, List, ◌++◌, drop, replicate}
 use Rattle.c8_pairs.specs.Pairs.{words_in}
 use Rattle.c8_pairs.specs.Reading.{pairs_at}
 use Rattle.c8_pairs.specs.declared.run.Pairs.{Pairs}
-use Rattle.c8_pairs.specs.declared.run.Words.{Words}
+use Rattle.c8_pairs.specs.declared.run.PairsIter.{PairsIter}
 
 -- the bytes of the pairs that the run touches
 abbrev pub spelled : Pairs → List ℕ
@@ -18,5 +18,5 @@ abbrev pub words : Pairs → List ℕ
 words run = drop run.skip (touched run)
 
 -- what is left of a run: the rest of a pair, and the inputs of the pairs after it
-abbrev pub words_left : Words → List ℕ
+abbrev pub words_left : PairsIter → List ℕ
 words_left w = replicate w.times w.keys ++ words_in (pairs_at w.rest.now)

@@ -1,17 +1,17 @@
-//! A run of key sets, lent from the bytes of pairs.
+//! A run of inputs, lent from the bytes of pairs.
 ghost use Rattle.std.specs.Prelude.{[], ◌∷◌, ◌≡◌, ◌≤◌, ◌<◌, ◌+◌, ◌*◌, ◌%◌, ◌^◌, ◌==◌, ◌&&◌, ℕ, true, List, length, drop, slice_get, slice_index, Option, Some, None, IfSome, IfNone, false};
 ghost use Rattle.std.specs.Iterator.{YieldsFirst, item_count};
 ghost use Rattle.c8_pairs.specs.Pairs.{pairs_of, words_in, pairs_bytes, spelling};
 ghost use Rattle.c8_pairs.specs.Reading.{pairs_at, well_after, count_in, are_run, is_begun};
 
-/// The most key sets that a run has.
+/// The most inputs that a run has.
 pub const LONGEST_RUN: usize = 64;
 
 /// The most pairs that a run has.
 pub const MOST_PAIRS: usize = 42;
 
-/// Key sets of one player in frames that follow each other, at most 64, as pairs: how many, and which.
-/// Two are equal that have the same bytes and begin at the same place.
+/// Inputs of one player in frames that follow each other, at most 64, as pairs: how many, and which key
+/// set. Two are equal that have the same bytes and begin at the same place.
 #[derive(Clone, Copy, Debug, PartialEq, Eq)]
 pub struct Pairs<'a> {
     bytes: &'a [u8],
@@ -31,7 +31,25 @@ pub struct Pairs<'a> {
 impl<'a> Pairs<'a> {
     ghost use Rattle.c8_pairs.specs.Lent.{words, touched, spelled, words_left};
 
-    /// The run of so many key sets that these bytes spell. None where a pair is of no inputs, two
+    /// The run of so many inputs whose pairs these bytes are known to be.
+    pub fn new(bytes: &'a [u8], count: usize) -> Pairs<'a>
+        requires whole { length bytes.now % 3 ≡ 0 }
+        requires short { length bytes.now ≤ 3 * MOST_PAIRS }
+        requires few { count ≤ LONGEST_RUN }
+        requires run { are_run (pairs_at bytes.now) count ≡ true }
+        ensures slice { spelled result ≡ bytes.entry.now }
+        ensures words { words result ≡ words_in (pairs_at bytes.entry.now) }
+        ensures spells { spelling (words result) ≡ bytes.entry.now }
+        ensures count { length (words result) ≡ count }
+    {
+        Pairs {
+            bytes,
+            skip: 0,
+            count,
+        }
+    }
+
+    /// The run of so many inputs that these bytes spell. None where a pair is of no inputs, two
     /// neighbours have the same key set, or they are not of so many inputs in all.
     pub fn read(bytes: &'a [u8], count: usize) -> Option<Pairs<'a>>
         requires whole { length bytes.now % 3 ≡ 0 }
@@ -42,24 +60,20 @@ impl<'a> Pairs<'a> {
         ensures slice { IfSome result (λ run. spelled run ≡ bytes.entry.now) }
         ensures spells { IfSome result (λ run. spelling (words run) ≡ bytes.entry.now) }
         ensures count { IfSome result (λ run. length (words run) ≡ count) }
-        ensures sets { IfSome result (λ run. (i : ℕ) → slice_index (words run) i < 2 ^ 16) }
         ensures none { IfNone result ((words : List ℕ) → length words ≡ count
             → ((i : ℕ) → slice_index words i < 2 ^ 16) → spelling words ≡ bytes.entry.now → ⊥) }
     {
-        if !is_run(None, bytes, count) {
+        if !is_run(bytes, count) {
             return None;
         }
-        Some(Pairs {
-            bytes,
-            skip: 0,
-            count,
-        })
+        Some(Pairs::new(bytes, count))
     }
 
-    /// How many key sets there are.
+    /// How many inputs there are, each a set of 16 keys.
     pub fn len(&self) -> usize
         ensures count { result ≡ length (words self.now) }
         ensures few { result ≤ LONGEST_RUN }
+        ensures sets { (i : ℕ) → slice_index (words self.now) i < 2 ^ 16 }
     {
         self.count
     }
@@ -88,7 +102,7 @@ impl<'a> Pairs<'a> {
         bytes
     }
 
-    /// The key set at a place, the first being 0.
+    /// The input at a place, the first being 0.
     pub fn get(&self, place: usize) -> u16
         requires { place < length (words self.now) }
         ensures { slice_get (words self.now) place ≡ Some result }
@@ -100,7 +114,7 @@ impl<'a> Pairs<'a> {
         }
     }
 
-    /// The key sets from a place on, lent from the same bytes.
+    /// The inputs from a place on, lent from the same bytes.
     pub fn from_place(&self, place: usize) -> Pairs<'a>
         requires { place ≤ length (words self.now) }
         ensures words { words result ≡ drop place (words self.now) }
@@ -114,18 +128,18 @@ impl<'a> Pairs<'a> {
         }
     }
 
-    /// The key sets in order.
-    pub fn iter(&self) -> Words<'a>
+    /// The inputs in order.
+    pub fn iter(&self) -> PairsIter<'a>
         ensures { words_left result ≡ words self.now }
     {
         let Some(First { times, keys, rest }) = first_of(self.bytes) else {
-            return Words {
+            return PairsIter {
                 rest: self.bytes,
                 times: 0,
                 keys: 0,
             };
         };
-        Words {
+        PairsIter {
             rest,
             times: times - self.skip,
             keys,
@@ -133,9 +147,9 @@ impl<'a> Pairs<'a> {
     }
 }
 
-/// The key sets of a run, one after the other.
+/// The inputs of a run, one after the other.
 #[derive(Clone, Copy, Debug, PartialEq, Eq)]
-pub struct Words<'a> {
+pub struct PairsIter<'a> {
     rest: &'a [u8],
     /// How many more there are of the pair at hand, and which key set.
     times: usize,
@@ -143,7 +157,7 @@ pub struct Words<'a> {
     ghost well: { well_after None (pairs_at rest.now) ≡ true },
 }
 
-impl<'a> Iterator for Words<'a> {
+impl<'a> Iterator for PairsIter<'a> {
     type Item = u16;
 
     ghost use Rattle.c8_pairs.specs.Lent.{words_left};
@@ -158,7 +172,7 @@ impl<'a> Iterator for Words<'a> {
             return Some(self.keys);
         }
         let First { times, keys, rest } = first_of(self.rest)?;
-        *self = Words {
+        *self = PairsIter {
             rest,
             times: times - 1,
             keys,
@@ -198,8 +212,17 @@ fn first_of(bytes: &[u8]) -> Option<First<'_>>
     }
 }
 
+/// Whether bytes are the pairs of a run of so many inputs: none is of no inputs, no two neighbours have
+/// the same key set, and they are of so many inputs in all. One or two bytes that are left over after
+/// the last pair say nothing.
+pub fn is_run(bytes: &[u8], count: usize) -> bool
+    ensures { result ≡ are_run (pairs_at bytes.now) count }
+{
+    is_run_after(None, bytes, count)
+}
+
 /// Whether bytes are pairs that may follow a key set, of so many inputs in all.
-fn is_run(last: Option<u16>, bytes: &[u8], count: usize) -> bool
+fn is_run_after(last: Option<u16>, bytes: &[u8], count: usize) -> bool
     ensures { result ≡ (well_after last (pairs_at bytes.now)
         && (count_in (pairs_at bytes.now) == count)) }
 {
@@ -207,7 +230,7 @@ fn is_run(last: Option<u16>, bytes: &[u8], count: usize) -> bool
         Some(First { times, keys, rest }) => times != 0
             && last != Some(keys)
             && times <= count
-            && is_run(Some(keys), rest, count - times),
+            && is_run_after(Some(keys), rest, count - times),
         None => count == 0,
     }
 }

@@ -28,7 +28,7 @@ use Rattle.c8_peer.specs.State.{Memory, Reply, Outcome, answered, recorded, Sayi
 use Rattle.c8_peer.specs.State as calls
 use Rattle.c8_peer.specs.Calls.{tick, leave, decide}
 use Rattle.c8_peer.specs.Saying.{say, is_not_mine, lacks_record, lacks_link}
-use Rattle.c8_peer.specs.Hearing.{got, is_desync, unless_misfit, unless_hand, hear_data, hear_welcome, hear_freeze, hear_frozen, cut_or_got, hear_end, hear_cut, hear_message, hear_told, deliver}
+use Rattle.c8_peer.specs.Hearing.{got, is_desync, unless_misfit, is_of_other_wire, unless_hand, hear_data, hear_welcome, hear_freeze, hear_frozen, cut_or_got, hear_end, hear_cut, hear_message, hear_told, deliver}
 use Rattle.c8_peer.specs.Steps.{outcome}
 use Rattle.c8_peer.specs.Lawful.{IsMemory, IsCall}
 
@@ -449,7 +449,8 @@ told_allowed : (rules : Rules) (room : ℕ) (past : Past) (m : Memory) (told : R
 unfolding FromOthers
 told_allowed rules room past m (Err error) r is stays others call_is kept = absurd cc
 told_allowed rules room past m (Ok p) r is stays others call_is kept =
-    let admitted = past_hand m (links.refusal m.links p.head) (hear_message rules past.known m p.head p.message) r kept in
+    let own = failed (is_of_other_wire rules p.head) m _ _ r kept in
+    let admitted = past_hand m (links.refusal m.links p.head) (hear_message rules past.known m p.head p.message) r own.1 in
     message_allowed rules room past m p.head p.message r is stays (others p.head admitted.0) call_is.message call_is.fits admitted.1
 
 deliver_allowed : (rules : Rules) (room : ℕ) (past : Past) (m : Memory) (told : Result Packet WireError) (r : Record) → IsPast past

@@ -14,7 +14,7 @@ use Rattle.c8_known.specs.checked.BeginsLaws.{begins_length}
 use Rattle.c8_record.specs.Allowed.{IsAllowed}
 use Rattle.c8_record.specs.checked.JournalLaws.{journal_more, journal_grows}
 use Rattle.c8_peer.specs.State.{Deliver, Outcome}
-use Rattle.c8_peer.specs.Hearing.{hear_message}
+use Rattle.c8_peer.specs.Hearing.{is_of_other_wire, hear_message}
 use Rattle.c8_peer.specs.Steps.{outcome}
 use Rattle.c8_peer.specs.Lawful.{IsMemory}
 use Rattle.c8_peer.specs.Peer.{PeerValue, known_by, IsSound, HasAppendCause}
@@ -44,14 +44,14 @@ heard_later verdict found later same = subst IsLater same later
 
 module _ {D : Type 0} where
   -- what it comes to is what its message does
-  pub heard_is : (v : PeerValue D) (p : Packet) → (player_in (known_by v) v.me).leaving ≡ false → refusal v.state.memory.links p.head ≡ None
+  pub heard_is : (v : PeerValue D) (p : Packet) → (player_in (known_by v) v.me).leaving ≡ false → is_of_other_wire v.rules p.head ≡ false → refusal v.state.memory.links p.head ≡ None
       → outcome v.rules (known_by v) v.state.memory (Deliver (Ok p)) ≡ hear_message v.rules (known_by v) v.state.memory p.head p.message
-  heard_is v p stays admitted = rw (own_player v.rules v.me v.state.journal, stays, admitted) refl
+  heard_is v p stays wire admitted = rw (own_player v.rules v.me v.state.journal, stays, wire, admitted) refl
 
-  pub comes_to : (v : PeerValue D) (p : Packet) (verdict found : Verdict) → (player_in (known_by v) v.me).leaving ≡ false → refusal v.state.memory.links p.head ≡ None
+  pub comes_to : (v : PeerValue D) (p : Packet) (verdict found : Verdict) → (player_in (known_by v) v.me).leaving ≡ false → is_of_other_wire v.rules p.head ≡ false → refusal v.state.memory.links p.head ≡ None
       → hear_message v.rules (known_by v) v.state.memory p.head p.message ≡ by_verdict found v.state.memory (memory_after v.state.memory p) → found ≡ verdict
       → outcome v.rules (known_by v) v.state.memory (Deliver (Ok p)) ≡ by_verdict verdict v.state.memory (memory_after v.state.memory p)
-  comes_to v p verdict found stays admitted comes same = heard_is v p stays admitted ∙ comes ∙ ap (λ (x : Verdict). by_verdict x v.state.memory (memory_after v.state.memory p)) same
+  comes_to v p verdict found stays wire admitted comes same = heard_is v p stays wire admitted ∙ comes ∙ ap (λ (x : Verdict). by_verdict x v.state.memory (memory_after v.state.memory p)) same
 
   pub memory_noted : (g : Ghosts D) (v : PeerValue D) (p : Packet) (o : Outcome) → IsSound g v → IsPacket p
       → outcome v.rules (known_by v) v.state.memory (Deliver (Ok p)) ≡ o → IsMemory v.rules v.room v.me v.state.journal o.memory

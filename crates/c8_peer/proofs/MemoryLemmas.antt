@@ -28,7 +28,7 @@ use Rattle.c8_peer.specs.declared.error.DecideError.{DecideError}
 use Rattle.c8_peer.specs.declared.heard.Heard.{Heard}
 use Rattle.c8_peer.specs.State.{Memory, Call, Tick, Deliver, Say, Leave, Decide, Saying, Ticked, Delivered, Said, Left, Decided, Outcome}
 use Rattle.c8_peer.specs.Calls.{tick, leave, decide}
-use Rattle.c8_peer.specs.Hearing.{is_desync, hear_data, hear_welcome, hear_freeze, hear_frozen, hear_cut, hear_end, got, unless_misfit, unless_hand, hear_message, deliver}
+use Rattle.c8_peer.specs.Hearing.{is_desync, hear_data, hear_welcome, hear_freeze, hear_frozen, hear_cut, hear_end, got, unless_misfit, is_of_other_wire, unless_hand, hear_message, deliver}
 use Rattle.c8_peer.specs.Saying.{is_not_mine, lacks_record, lacks_link, say}
 use Rattle.c8_peer.specs.Steps.{outcome}
 use Rattle.c8_peer.specs.Lawful.{IsMemory, IsCall}
@@ -94,6 +94,7 @@ with_rest : (rules : Rules) (room me : ℕ) (journal : List Record) (m : Memory)
 with_rest rules room me journal m chair stayer alarm is = record {
   player = is.player;
   players = is.players;
+  version = is.version;
   session = is.session;
   epoch = is.epoch;
   epoch_fits = is.epoch_fits;
@@ -106,6 +107,7 @@ with_acks : (rules : Rules) (room me : ℕ) (journal : List Record) (m : Memory)
 with_acks rules room me journal m q n is few = record {
   player = is.player;
   players = is.players;
+  version = is.version;
   session = is.session;
   epoch = is.epoch;
   epoch_fits = is.epoch_fits;
@@ -118,6 +120,7 @@ with_heard : (rules : Rules) (room me : ℕ) (journal : List Record) (m : Memory
 with_heard rules room me journal m head is low = record {
   player = is.player;
   players = is.players;
+  version = is.version;
   session = is.session;
   epoch = is.epoch;
   epoch_fits = is.epoch_fits;
@@ -238,7 +241,8 @@ pub deliver_is : (M : Outcome → Type 0) (rules : Rules) (k : KnownValue) (m : 
 deliver_is M rules k m p may =
     let same : Delivers M m = may.rest m.chair m.stayer m.alarm in
     either M (player_in k k.me).leaving _ _ (same _ _)
-    (hand_is M m (links.refusal m.links p.head) (hear_message rules k m p.head p.message) same (message_is M rules k m p.head p.message may))
+    (either M (is_of_other_wire rules p.head) _ _ (same _ _)
+    (hand_is M m (links.refusal m.links p.head) (hear_message rules k m p.head p.message) same (message_is M rules k m p.head p.message may)))
 
 pub no_packet_is : (M : Outcome → Type 0) (rules : Rules) (k : KnownValue) (m : Memory) (error : WireError) → Delivers M m → M (deliver rules k m (Err error))
 no_packet_is M rules k m error is = either M (player_in k k.me).leaving _ _ (is _ _) (is _ _)

@@ -8,7 +8,7 @@ use Rattle.std.proofs.lemmas.Grind.{flat_map-append}
 use Rattle.std.proofs.lemmas.List.{append-nil, length-replicate}
 use Rattle.std.proofs.lemmas.List.Folds.{list_any-append}
 use Rattle.std.specs.Int.{bytes_high_first}
-use Rattle.c8_game.specs.Rules.{Rules, AreInRange, id_of, number_bytes}
+use Rattle.c8_game.specs.Rules.{Rules, AreInRange, id_of, id_bytes}
 use Rattle.c8_hand.specs.Links.{LinkValue, no_link, no_links, link_to}
 use Rattle.c8_known.specs.Journal.{Record, Head, Epoch, words_of, epochs_of, epochs, epoch, had_epoch, held, count}
 use Rattle.c8_known.specs.Known.{known_of, Plays}
@@ -30,14 +30,14 @@ me_plays rules me found from to = record { from_one = from; in_game = omega (ari
 head_spelled : (rules : Rules) (me room : ℕ) → AreInRange rules → 1 ≤ me → me ≤ rules.players → room < 2 ^ 64 → HasSpelling (Head me (id_of rules) room)
 head_spelled rules me room range from to low =
     let id : List ℕ = id_of rules in
-    let long : length id ≡ 32 = digest_length (number_bytes rules ++ rules.program) in
+    let long : length id ≡ 32 = digest_length (id_bytes rules) in
     record {
       from_one = from;
       to_four = omega (arith, to, range.at_most_four);
       number = omega arith;
       start = omega arith;
       short = omega (arith, long, length-append id (bytes_high_first 8 room));
-      parts = (long, digest_bytes_fit (number_bytes rules ++ rules.program), low);
+      parts = (long, digest_bytes_fit (id_bytes rules), low);
     }
 
 epoch_spelled : (rules : Rules) (me number : ℕ) → AreInRange rules → 1 ≤ me → me ≤ rules.players → number ≤ last_epoch → HasSpelling (Epoch me number)
@@ -126,6 +126,7 @@ opening_memory rules me room found range from to is few =
     record {
       player = refl;
       players = refl;
+      version = refl;
       session = refl;
       epoch = ap (λ (number : ℕ). had_epoch number later) last ∙ had_next found new new_epoch.number new_epoch.begins;
       epoch_fits = omega (arith, last, new_epoch.fits);

@@ -36,6 +36,7 @@ pub memory_more : (rules : Rules) (room me : ℕ) (journal more : List Record) (
 memory_more rules room me journal more m is = record {
   player = is.player;
   players = is.players;
+  version = is.version;
   session = is.session;
   epoch = epoch_stays m.links.epoch journal more is.epoch;
   epoch_fits = is.epoch_fits;

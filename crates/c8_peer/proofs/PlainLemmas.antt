@@ -19,7 +19,7 @@ use Rattle.c8_peer.specs.declared.error.Unsayable.{Unsayable}
 use Rattle.c8_peer.specs.State.{Memory, Mode, Open, Down, Away, State, Saying, Call, Tick, Deliver, Say, Leave, Decide, Said, Outcome, answered}
 use Rattle.c8_peer.specs.Steps.{Luck, Works, Refuses, refused_by_disk, outcome, done, at_mode, step}
 use Rattle.c8_peer.specs.Calls.{tick, leave, decide}
-use Rattle.c8_peer.specs.Hearing.{is_desync, unless_misfit, got, cut_or_got, hear_data, hear_welcome, hear_freeze, hear_frozen, hear_end, hear_cut, hear_message, unless_hand, hear_told}
+use Rattle.c8_peer.specs.Hearing.{is_desync, unless_misfit, got, cut_or_got, hear_data, hear_welcome, hear_freeze, hear_frozen, hear_end, hear_cut, hear_message, is_of_other_wire, unless_hand, hear_told}
 use Rattle.c8_peer.specs.Saying.{say}
 use Rattle.c8_peer.specs.Opening.{Opening, NoPlayer, Stands, NotWritten, NoMemory, NotRead, Unfit, Spent, opened}
 use Rattle.c8_peer.specs.Replies.{mode_told}
@@ -117,7 +117,8 @@ hand_plain m None x is = is
 hand_plain m (Some error) x is = plain _ refl
 
 told_plain : (rules : Rules) (k : KnownValue) (m : Memory) (told : Result Packet WireError) → IsPlain (hear_told rules k m told)
-told_plain rules k m (Ok p) = hand_plain m (links.refusal m.links p.head) _ (message_plain rules k m p.head p.message)
+told_plain rules k m (Ok p) =
+    either IsPlain (is_of_other_wire rules p.head) _ _ (plain _ refl) (hand_plain m (links.refusal m.links p.head) _ (message_plain rules k m p.head p.message))
 told_plain rules k m (Err error) = plain _ refl
 
 -- ---- sayings, which record nothing

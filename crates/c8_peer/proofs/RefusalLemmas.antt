@@ -20,7 +20,7 @@ use Rattle.c8_peer.specs.declared.error.Refused.TheVariants as refusals
 use Rattle.c8_peer.specs.State.{Memory, Mode, Open, Down, Away, State, Saying, Call, Tick, Deliver, Say, Leave, Decide, Reply, Delivered, Outcome, answered}
 use Rattle.c8_peer.specs.Calls.{tick, leave, decide}
 use Rattle.c8_peer.specs.Saying.{say}
-use Rattle.c8_peer.specs.Hearing.{refused, unless_misfit, got, is_desync, hear_data, hear_welcome, hear_freeze, hear_frozen, hear_end, hear_cut, hear_message, unless_hand, deliver}
+use Rattle.c8_peer.specs.Hearing.{refused, unless_misfit, got, is_desync, hear_data, hear_welcome, hear_freeze, hear_frozen, hear_end, hear_cut, hear_message, is_of_other_wire, unless_hand, deliver}
 use Rattle.c8_peer.specs.Steps.{outcome, Luck, Works, Refuses, refused_by_disk, when_down, Stepped, done, at_mode, step, IsPlainRefusal}
 use Rattle.c8_peer.proofs.MemoryLemmas.{either, say_is}
 
@@ -142,7 +142,8 @@ hand_fits m (Some error) o fits = refused_fits m (refusals.Hand error) (λ e. cc
 deliver_fits : (rules : Rules) (k : KnownValue) (m : Memory) (told : Result Packet WireError) → OutcomeFits m (deliver rules k m told)
 deliver_fits rules k m (Ok p) =
     either (OutcomeFits m) (player_in k k.me).leaving _ _ (refused_fits m _ (λ e. cc e))
-    (hand_fits m (links.refusal m.links p.head) (hear_message rules k m p.head p.message) (message_fits rules k m p.head p.message))
+    (either (OutcomeFits m) (is_of_other_wire rules p.head) _ _ (refused_fits m _ (λ e. cc e))
+    (hand_fits m (links.refusal m.links p.head) (hear_message rules k m p.head p.message) (message_fits rules k m p.head p.message)))
 deliver_fits rules k m (Err error) = either (OutcomeFits m) (player_in k k.me).leaving _ _ (refused_fits m _ (λ e. cc e)) (refused_fits m _ (λ e. cc e))
 
 call_fits : (rules : Rules) (k : KnownValue) (m : Memory) (call : Call) → OutcomeFits m (outcome rules k m call)

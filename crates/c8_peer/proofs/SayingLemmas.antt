@@ -5,17 +5,18 @@ use Rattle.std.proofs.lemmas.Bool.{cases_lt, cases_eq, ne_eqb, eqb-true, eqb-fal
 use Rattle.std.proofs.lemmas.List.{length-drop, get_or_past}
 use Rattle.c8_game.specs.Rules.{Rules, AreInRange}
 use Rattle.c8_wire.specs.Sizes.{longest_run}
+use Rattle.c8_wire.specs.Carried.{fits_in}
 use Rattle.c8_wire.specs.Packet.{Packet}
 use Rattle.c8_known.specs.Journal as journals
 use Rattle.c8_known.specs.Journal.{Record, Head, Epoch, Own, Got, held, count, has_freeze, has_leave, cut_of}
 use Rattle.c8_known.specs.Known.{PlayerValue, KnownValue, nobody, player_in, count_in, is_frozen_of, is_frozen_in, is_player, known_of, said_of, Plays, IsKnown}
 use Rattle.c8_known.specs.Growth.{Begins}
-use Rattle.c8_known.specs.checked.BeginsLaws.{begins_length, begins_take}
+use Rattle.c8_known.specs.checked.BeginsLaws.{begins_length, begins_more, begins_take}
 use Rattle.c8_known.specs.checked.OneMore.{player_known}
 use Rattle.c8_known.specs.checked.StartLaws.{players_known}
 use Rattle.c8_known.specs.Confirmed.{confirmed}
 use Rattle.c8_roll.specs.Roll.{mark_step}
-use Rattle.c8_window.specs.Window.{acked_of}
+use Rattle.c8_window.specs.Window.{acked_of, pending_of}
 use Rattle.c8_round.specs.Round.{owed, answer_from}
 use Rattle.c8_record.specs.Allowed.{IsJournal, IsOrderly}
 use Rattle.c8_record.specs.checked.JournalLaws.{of_game, journal_known}
@@ -161,6 +162,13 @@ stands_in xs ys n start same from =
       is = subst (λ (zs : List ℕ). Begins (take n (drop start xs)) (drop start zs)) same (begins_take n (drop start xs));
     }
 
+-- a beginning of inputs that stand stands too
+stands_less : (start n : ℕ) (words ys : List ℕ) → Stands start words ys → Stands start (take n words) ys
+stands_less start n words ys stands =
+    let fewer = begins_take n words in
+    let within = stands.within in
+    record { within = omega (arith, within, begins_length (take n words) words fewer); is = begins_more (take n words) words (drop start ys) fewer stands.is }
+
 -- ---- each kind
 
 abbrev TrueOf : Rules → ℕ → List Record → Memory → ℕ → Saying → Type 0
@@ -175,16 +183,17 @@ data_true rules me journal m to known acked plays =
     let own : (player_in k k.me).held ≡ held rules me journal =
     ap (λ (p : PlayerValue). p.held) (said_is rules me k.me journal known.me) ∙ ap (λ (q : ℕ). held rules q journal) (own_player rules me journal) in (
       omega (arith, count_is rules me to journal plays),
-      stands_in (player_in k k.me).held (held rules me journal) longest_run (acked_of m.acks to) own (omega (arith, acked, ap (λ (xs : List ℕ). length xs) own)),
+      stands_less (acked_of m.acks to) (fits_in rules.wire (pending_of m.acks k to)) (pending_of m.acks k to) (held rules me journal)
+          (stands_in (player_in k k.me).held (held rules me journal) longest_run (acked_of m.acks to) own (omega (arith, acked, ap (λ (xs : List ℕ). length xs) own))),
       record { steps = confirmed k / mark_step; at = refl; confirmed = omega arith; is = refl },
     )
 
 leaver_of : (rules : Rules) (me q : ℕ) (journal : List Record) → IsOrderly (known_of rules me journal) → is_frozen_in (known_of rules me journal) q ≡ true → Plays (known_of rules me journal) q
 leaver_of rules me q journal orderly leaves = leaver_plays (known_of rules me journal) q (is_leaver (known_of rules me journal) q orderly leaves)
 
-run_stands : (rules : Rules) (me q start : ℕ) (journal : List Record) → Plays (known_of rules me journal) q → start ≤ count_in (known_of rules me journal) q → Stands start (run_from (known_of rules me journal) q start) (held rules q journal)
+run_stands : (rules : Rules) (me q start : ℕ) (journal : List Record) → Plays (known_of rules me journal) q → start ≤ count_in (known_of rules me journal) q → Stands start (run_from rules (known_of rules me journal) q start) (held rules q journal)
 run_stands rules me q start journal plays from =
-    stands_in (player_in (known_of rules me journal) q).held (held rules q journal) longest_run start (ap (λ (p : PlayerValue). p.held) (said_is rules me q journal plays)) from
+    stands_in (player_in (known_of rules me journal) q).held (held rules q journal) (fits_in rules.wire (drop start (player_in (known_of rules me journal) q).held)) start (ap (λ (p : PlayerValue). p.held) (said_is rules me q journal plays)) from
 
 freeze_true : (rules : Rules) (me : ℕ) (journal : List Record) (m : Memory) (to leaver : ℕ) → IsOrderly (known_of rules me journal)
     → is_not_mine (known_of rules me journal) to (Freeze leaver) ≡ false → lacks_record (known_of rules me journal) (Freeze leaver) ≡ false → TrueOf rules me journal m to (Freeze leaver)

@@ -1,5 +1,5 @@
 -- What an open peer says can be spelled.
-use Rattle.std.proofs.Common.{◌≡◌, ◌≢◌, ℕ, zero, suc, ◌*◌, ◌/◌, ◌^◌, ◌<◌, ◌≤◌, List, [], ◌∷◌, ◌++◌, length, take, drop, replicate, Bool, true, false, Some, Ok, refl, sym, ap, subst, ◌∙◌, arith}
+use Rattle.std.proofs.Common.{◌+◌, ◌≡◌, ◌≢◌, ℕ, zero, suc, ◌*◌, ◌/◌, ◌^◌, ◌<◌, ◌≤◌, List, [], ◌∷◌, ◌++◌, length, take, drop, replicate, Bool, true, false, Some, Ok, refl, sym, ap, subst, ◌∙◌, arith}
 use Rattle.std.specs.Prelude.{◌==◌, slice_index, if◌then◌else◌}
 use Rattle.std.specs.Int.{from_be_bytes, to_be_bytes, w64}
 use Rattle.std.specs.List.{slice_get, flat_map}
@@ -10,8 +10,11 @@ use Rattle.c8_game.specs.Rules.{Rules, AreInRange, id_of, session_of, most_input
 use Rattle.c8_machine.specs.Serial.{serial}
 use Rattle.c8_digest.specs.StateBytes.{state_bytes}
 use Rattle.c8_wire.specs.declared.kinds.DatagramKind.{DatagramKind}
+use Rattle.c8_game.specs.declared.wire.WireVersion.{WireVersion}
 use Rattle.c8_wire.specs.Sizes.{longest_run}
-use Rattle.c8_wire.specs.Packet.{Message, Packet, IsLeaverMessage, AreBytes, AreWords, IsMark, IsRun, Fits, IsMessage, IsHead, IsPacket, kind_of}
+use Rattle.c8_wire.specs.Carried.{fits_in, carried}
+use Rattle.c8_wire.specs.checked.CarriedLaws.{carried_few, carried_room}
+use Rattle.c8_wire.specs.Packet.{Message, Packet, IsLeaverMessage, AreBytes, AreWords, IsMark, IsRun, Fits, IsMessage, IsHead, IsPacket, has_room, kind_of}
 use Rattle.c8_hand.specs.Links.{head_to}
 use Rattle.c8_known.specs.Journal as journals
 use Rattle.c8_known.specs.Journal.{Record, Head, Epoch, Own, Got, words_of, held, count}
@@ -116,21 +119,24 @@ known_words : (rules : Rules) (me room q : ℕ) (journal : List Record) → IsJo
 known_words rules me room q journal is plays =
     subst AreWords (sym (ap (λ (p : PlayerValue). p.held) (said_is rules me q journal plays))) (held_words rules me room q journal is)
 
-run_words : (xs : List ℕ) (start : ℕ) → AreWords xs → AreWords (take longest_run (drop start xs))
-run_words xs start fit = take_low (drop start xs) longest_run (2 ^ 16) (drop_low xs start (2 ^ 16) fit)
+carried_words : (version : WireVersion) (words : List ℕ) → AreWords words → AreWords (carried version words)
+carried_words version words fit = take_low words (fits_in version words) (2 ^ 16) fit
 
-run_is : (xs : List ℕ) (start end : ℕ) → start ≤ end → length xs ≤ end → IsRun start (take longest_run (drop start xs)) end
-run_is xs start end from to =
-    let run = length-take longest_run (drop start xs) in
-    let tail = length-drop start xs in
-    record { short = omega (arith, run); within = omega (arith, run, tail, from, to) }
+carried_is : (version : WireVersion) (words : List ℕ) (start end : ℕ) → start + length words ≤ end → IsRun start (carried version words) end
+carried_is version words start end within =
+    let run = length-take (fits_in version words) words in
+    record { short = carried_few version words; within = omega (arith, run, within) }
+
+left_within : (xs : List ℕ) (start end : ℕ) → start ≤ end → length xs ≤ end → start + length (drop start xs) ≤ end
+left_within xs start end from to = omega (arith, length-drop start xs, from, to)
 
 -- ---- each kind
 
--- the message has room where it is spelled, and may be said
-record IsSpelled (m : Message) : Type 0 where
+-- the message has room where it is spelled, in that version of datagrams, and may be said
+record IsSpelled (version : WireVersion) (m : Message) : Type 0 where
   fits : Fits m
   may : IsMessage m
+  room : has_room version m ≡ true
 
 few : (k : KnownValue) (q : ℕ) → IsKnown k → count_in k q ≤ most_inputs
 few k q known =
@@ -139,10 +145,12 @@ few k q known =
     omega (arith, within, limit)
 
 data_spelled : (rules : Rules) (me room : ℕ) (journal : List Record) (m : Memory) (to : ℕ) → IsJournal rules me room journal → IsMemory rules room me journal m
-    → IsKnown (known_of rules me journal) → IsSpelled (message rules (known_of rules me journal) m to Data)
+    → IsKnown (known_of rules me journal) → IsSpelled rules.wire (message rules (known_of rules me journal) m to Data)
 data_spelled rules me room journal m to is memory known =
     let k : KnownValue = known_of rules me journal in
     let own : List ℕ = (player_in k k.me).held in
+    let left : List ℕ = drop (acked_of m.acks to) own in
+    let pending : List ℕ = take longest_run left in
     let all : count_in k k.me ≡ count rules me journal =
     ap (λ (p : PlayerValue). length p.held) (said_is rules me k.me journal known.me) ∙ ap (λ (q : ℕ). count rules q journal) (own_player rules me journal) in
     let acked = memory.acked to in
@@ -150,24 +158,29 @@ data_spelled rules me room journal m to is memory known =
     let ticked = (confirmed_is k).ticked in
     let ticks = known.own in
     record {
-      fits = (front_is_mark (state_bytes (serial rules (rows_below k (mark_step * (confirmed k / mark_step))))), run_words own (acked_of m.acks to) (known_words rules me room k.me journal is known.me));
+      fits = (
+        front_is_mark (state_bytes (serial rules (rows_below k (mark_step * (confirmed k / mark_step))))),
+        carried_words rules.wire pending (take_low left longest_run (2 ^ 16) (drop_low own (acked_of m.acks to) (2 ^ 16) (known_words rules me room k.me journal is known.me))),
+      );
       may = record {
         ack = few k to known;
         mark_frame = omega (arith, least, ticked, ticks);
-        run = run_is own (acked_of m.acks to) most_inputs (omega (arith, acked, all, least)) least;
+        run = carried_is rules.wire pending (acked_of m.acks to) most_inputs
+            (omega (arith, length-take longest_run left, left_within own (acked_of m.acks to) most_inputs (omega (arith, acked, all, least)) least));
       };
+      room = carried_room rules.wire pending;
     }
 
-freeze_spelled : (rules : Rules) (k : KnownValue) (m : Memory) (to leaver : ℕ) → IsKnown k → IsLeaver k leaver → IsSpelled (message rules k m to (Freeze leaver))
+freeze_spelled : (rules : Rules) (k : KnownValue) (m : Memory) (to leaver : ℕ) → IsKnown k → IsLeaver k leaver → IsSpelled rules.wire (message rules k m to (Freeze leaver))
 freeze_spelled rules k m to leaver known leaves =
     let four = known.at_most_four in
     let within = leaves.in_game in
-    record { fits = tt; may = record { leaver_from_two = leaves.from_two; leaver_to_four = omega (arith, four, within); have = few k leaver known } }
+    record { fits = tt; may = record { leaver_from_two = leaves.from_two; leaver_to_four = omega (arith, four, within); have = few k leaver known }; room = refl }
 
 -- FROZEN and CUT bring inputs of a leaver up to a length, from a place on that is not past it
-leaver_spelled : (k : KnownValue) (leaver : ℕ) (end start : ℕ) → IsKnown k → IsLeaver k leaver → count_in k leaver ≡ end → start ≤ end
-    → IsLeaverMessage (record { leaver = leaver; length = end; start = start; words = run_from k leaver start })
-leaver_spelled k leaver end start known leaves all from =
+leaver_spelled : (rules : Rules) (k : KnownValue) (leaver : ℕ) (end start : ℕ) → IsKnown k → IsLeaver k leaver → count_in k leaver ≡ end → start ≤ end
+    → IsLeaverMessage (record { leaver = leaver; length = end; start = start; words = run_from rules k leaver start })
+leaver_spelled rules k leaver end start known leaves all from =
     let four = known.at_most_four in
     let within = leaves.in_game in
     let least = few k leaver known in
@@ -175,26 +188,28 @@ leaver_spelled k leaver end start known leaves all from =
       leaver_from_two = leaves.from_two;
       leaver_to_four = omega (arith, four, within);
       length = omega (arith, all, least);
-      run = run_is (player_in k leaver).held start end from (omega (arith, all));
+      run = carried_is rules.wire (drop start (player_in k leaver).held) start end (left_within (player_in k leaver).held start end from (omega (arith, all)));
     }
 
-frozen_spelled : (rules : Rules) (k : KnownValue) (m : Memory) (to leaver : ℕ) → IsKnown k → IsLeaver k leaver → AreWords (player_in k leaver).held → IsSpelled (message rules k m to (Frozen leaver))
+frozen_spelled : (rules : Rules) (k : KnownValue) (m : Memory) (to leaver : ℕ) → IsKnown k → IsLeaver k leaver → AreWords (player_in k leaver).held → IsSpelled rules.wire (message rules k m to (Frozen leaver))
 frozen_spelled rules k m to leaver known leaves words = record {
-  fits = run_words (player_in k leaver).held (answer_from m.stayer k leaver) words;
-  may = leaver_spelled k leaver (count_in k leaver) (answer_from m.stayer k leaver) known leaves refl (omega arith);
+  fits = carried_words rules.wire (drop (answer_from m.stayer k leaver) (player_in k leaver).held) (drop_low (player_in k leaver).held (answer_from m.stayer k leaver) (2 ^ 16) words);
+  room = carried_room rules.wire (drop (answer_from m.stayer k leaver) (player_in k leaver).held);
+  may = leaver_spelled rules k leaver (count_in k leaver) (answer_from m.stayer k leaver) known leaves refl (omega arith);
 }
 
 cut_spelled : (rules : Rules) (k : KnownValue) (m : Memory) (to leaver : ℕ) → IsKnown k → IsLeaver k leaver → count_in k leaver ≡ cut_length (player_in k leaver).cut
-    → AreWords (player_in k leaver).held → IsSpelled (message rules k m to (Cut leaver))
+    → AreWords (player_in k leaver).held → IsSpelled rules.wire (message rules k m to (Cut leaver))
 cut_spelled rules k m to leaver known leaves all words = record {
-  fits = run_words (player_in k leaver).held (owed m.chair k to leaver) words;
-  may = leaver_spelled k leaver (cut_length (player_in k leaver).cut) (owed m.chair k to leaver) known leaves all (omega (arith, all));
+  fits = carried_words rules.wire (drop (owed m.chair k to leaver) (player_in k leaver).held) (drop_low (player_in k leaver).held (owed m.chair k to leaver) (2 ^ 16) words);
+  room = carried_room rules.wire (drop (owed m.chair k to leaver) (player_in k leaver).held);
+  may = leaver_spelled rules k leaver (cut_length (player_in k leaver).cut) (owed m.chair k to leaver) known leaves all (omega (arith, all));
 }
 
 message_spelled : (rules : Rules) (me room : ℕ) (journal : List Record) (m : Memory) (to : ℕ) (what : Saying) → IsJournal rules me room journal → IsMemory rules room me journal m
-    → IsOrderly (known_of rules me journal) → IsKnown (known_of rules me journal) → lacks_record (known_of rules me journal) what ≡ false → IsSpelled (message rules (known_of rules me journal) m to what)
-message_spelled rules me room journal m to Hello is memory orderly known has = record { fits = tt; may = tt }
-message_spelled rules me room journal m to Welcome is memory orderly known has = record { fits = tt; may = few (known_of rules me journal) to known }
+    → IsOrderly (known_of rules me journal) → IsKnown (known_of rules me journal) → lacks_record (known_of rules me journal) what ≡ false → IsSpelled rules.wire (message rules (known_of rules me journal) m to what)
+message_spelled rules me room journal m to Hello is memory orderly known has = record { fits = tt; may = tt; room = refl }
+message_spelled rules me room journal m to Welcome is memory orderly known has = record { fits = tt; may = few (known_of rules me journal) to known; room = refl }
 message_spelled rules me room journal m to Data is memory orderly known has = data_spelled rules me room journal m to is memory known
 message_spelled rules me room journal m to (Freeze leaver) is memory orderly known has =
     let k : KnownValue = known_of rules me journal in
@@ -245,4 +260,5 @@ said_spelled rules me room journal m call p range from within journal_is memory 
       kind = refl;
       fits = spelled.fits;
       message = spelled.may;
+      room = ap (λ (v : WireVersion). has_room v (message rules k m s.to s.what)) memory.version ∙ spelled.room;
     })

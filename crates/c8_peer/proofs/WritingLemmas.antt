@@ -1,9 +1,8 @@
 -- What is said: the part of a list that is lent, and that what is written is true and has a spelling.
-use Rattle.std.proofs.Common.{◌≡◌, ℕ, ◌+◌, ◌-◌, ◌≤◌, List, length, take, drop, min, Ok, refl, sym, ap, subst, ◌∙◌, inl, inr, arith}
-use Rattle.std.proofs.lemmas.Bool.{cases_lt}
+use Rattle.std.proofs.Common.{◌≡◌, true, ℕ, ◌-◌, List, length, take, drop, Ok, refl, sym, ap, subst, ◌∙◌, arith}
 use Rattle.std.proofs.lemmas.List.{take_all, length-drop}
 use Rattle.c8_game.specs.Rules.{Rules}
-use Rattle.c8_wire.specs.Packet.{HeadValue, Message, Packet, IsMessage, IsPacket, kind_of}
+use Rattle.c8_wire.specs.Packet.{HeadValue, Message, Packet, IsMessage, IsPacket, has_room, kind_of}
 use Rattle.c8_wire.specs.Spelling.{Spells}
 use Rattle.c8_hand.specs.Links.{head_to}
 use Rattle.c8_log.specs.Journal.{JournalValue}
@@ -23,13 +22,9 @@ use Rattle.c8_peer.proofs.SpellingLemmas.{said_spelled}
 use Rattle.c8_peer.proofs.PeerLemmas.{view}
 use Rattle.c8_peer.proofs.AnswerLemmas.{outcome_seen}
 
--- from a start on, as far as the list goes or a number of inputs
-pub part_from : (xs : List ℕ) (start n left to : ℕ) → start ≤ length xs → left ≡ min (length xs - start) n → to ≡ start + left → take (to - start) (drop start xs) ≡ take n (drop start xs)
-part_from xs start n left to within few end =
-    elim (cases_lt n (length xs - start)) [
-      | inl more ↦ let many : to - start ≡ n = omega (arith, few, end, more) in rw many refl
-      | inr less ↦ take_all (to - start) (drop start xs) (omega (arith, few, end, less, length-drop start xs)) ∙ sym (take_all n (drop start xs) (omega (arith, less, length-drop start xs)))
-    ]
+-- from a start on, to the end
+pub rest_from : (xs : List ℕ) (start to : ℕ) → to ≡ length xs → take (to - start) (drop start xs) ≡ drop start xs
+rest_from xs start to all = take_all (to - start) (drop start xs) (omega (arith, all, length-drop start xs))
 
 -- ---- what is said has a spelling, and is true
 
@@ -46,6 +41,7 @@ pub record IsWritten (rules : Rules) (k : KnownValue) (m : Memory) (to : ℕ) (w
   pub is : ◌≡◌ {A = Packet} (record { head = head; message = body }) (packet rules k m to what)
   pub kind : head.kind ≡ kind_of body
   pub message_is : IsMessage body
+  pub room : has_room head.version body ≡ true
 
 module _ {D : Type 0} where
   pub may_say : (rules : Rules) (room : ℕ) (j : JournalValue D) (k : KnownValue) (m : Memory) (to : ℕ) (kind : Kind) (head : HeadValue) (body : Message) → IsPeer rules room j k m
@@ -62,6 +58,7 @@ module _ {D : Type 0} where
         is = λ i. record { head = (heads ∙ ap (head_to m.links to) (sym same)) i; message = says i };
         kind = rw (heads, says) (sym same);
         message_is = rw says spelled.message;
+        room = rw (heads, says) spelled.room;
       }
 
   pub is_said : {ran : ℕ} (v : PeerValue D) (rules : Rules) (room : ℕ) (j : JournalValue D) (k : KnownValue) (m : Memory) (to : ℕ) (what : Saying) (bytes : List ℕ) (p : Packet)

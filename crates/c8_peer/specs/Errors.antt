@@ -43,6 +43,7 @@ refused_number_of refusals.Desync = 14
 refused_number_of (refusals.Disk why) = 15
 refused_number_of refusals.Down = 16
 refused_number_of refusals.Dropped = 17
+refused_number_of refusals.OtherWire = 18
 
 abbrev pub unsayable_number_of : Unsayable → ℕ
 unsayable_number_of sayings.Down = 1

@@ -1,6 +1,7 @@
 -- What a delivery does. Each line is a refusal, in the order in which they are judged.
 use Rattle.std.specs.Prelude.{ℕ, ◌+◌, ◌==◌, ◌||◌, List, [], ◌∷◌, length, Bool, true, false, not, nat_lt, is_some, Option, Some, None, Result, Ok, Err, if◌then◌else◌}
 use Rattle.c8_game.specs.Rules.{Rules}
+use Rattle.c8_game.specs.Wire.{version_number}
 use Rattle.c8_wire.specs.declared.error.WireError.{WireError}
 use Rattle.c8_wire.specs.Packet.{HeadValue, DataMessage, FreezeMessage, LeaverMessage, Message, Packet}
 use Rattle.c8_wire.specs.Packet as packets
@@ -120,12 +121,18 @@ hear_message rules k m head (packets.Freeze f) = hear_freeze k m head.from f
 hear_message rules k m head (packets.Frozen f) = hear_frozen k m head.from f
 hear_message rules k m head (packets.Cut c) = hear_cut k m head.from c
 
+-- a datagram in another version of the format than the game's
+abbrev pub is_of_other_wire : Rules → HeadValue → Bool
+is_of_other_wire rules head = not (version_number head.version == version_number rules.wire)
+
 abbrev pub unless_hand : Memory → Option HandError → Outcome → Outcome
 unless_hand m None outcome = outcome
 unless_hand m (Some error) outcome = refused m (refusals.Hand error)
 
 abbrev pub hear : Rules → KnownValue → Memory → Packet → Outcome
-hear rules k m p = unless_hand m (links.refusal m.links p.head) (hear_message rules k m p.head p.message)
+hear rules k m p =
+    if is_of_other_wire rules p.head then refused m refusals.OtherWire
+    else unless_hand m (links.refusal m.links p.head) (hear_message rules k m p.head p.message)
 
 abbrev pub hear_told : Rules → KnownValue → Memory → Result Packet WireError → Outcome
 hear_told rules k m (Ok p) = hear rules k m p

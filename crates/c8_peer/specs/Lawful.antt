@@ -7,11 +7,12 @@ use Rattle.c8_known.specs.Journal.{Record, count, had_epoch}
 use Rattle.c8_window.specs.Window.{acked_of}
 use Rattle.c8_peer.specs.State.{Memory, Call, Tick, Deliver, Say, Leave, Decide}
 
--- The links are those of this player in this match, in an epoch that the journal has had; all epochs fit 32 bits; and
--- nobody has acknowledged more than the own inputs.
+-- The links are those of this player in this match, in the game's version of datagrams and in an epoch that the journal has
+-- had; all epochs fit 32 bits; and nobody has acknowledged more than the own inputs.
 pub record IsMemory (rules : Rules) (room me : ℕ) (journal : List Record) (m : Memory) : Type 0 where
   pub player : m.links.me ≡ me
   pub players : m.links.players ≡ rules.players
+  pub version : m.links.version ≡ rules.wire
   pub session : m.links.session ≡ session_of rules room
   pub epoch : had_epoch m.links.epoch journal ≡ true
   pub epoch_fits : m.links.epoch < 2 ^ 32

@@ -87,6 +87,7 @@ luck_of_refusal refusals.Desync = Works
 luck_of_refusal (refusals.Disk why) = Refuses why
 luck_of_refusal refusals.Down = Works
 luck_of_refusal refusals.Dropped = Works
+luck_of_refusal refusals.OtherWire = Works
 
 abbrev pub luck_of_leave : Result (Unit {0}) LeaveError → Luck
 luck_of_leave (Ok done) = Works

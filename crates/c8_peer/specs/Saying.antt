@@ -1,7 +1,7 @@
 -- What a peer says when it is asked to, or why it does not. Each line is a refusal, in the order in which they are judged.
-use Rattle.std.specs.Prelude.{ℕ, ◌*◌, ◌/◌, ◌==◌, ◌||◌, List, take, drop, Bool, false, not, is_none, Option, Some, None, Ok, Err, if◌then◌else◌}
+use Rattle.std.specs.Prelude.{ℕ, ◌*◌, ◌/◌, ◌==◌, ◌||◌, List, drop, Bool, false, not, is_none, Option, Some, None, Ok, Err, if◌then◌else◌}
 use Rattle.c8_game.specs.Rules.{Rules}
-use Rattle.c8_wire.specs.Sizes.{longest_run}
+use Rattle.c8_wire.specs.Carried.{carried}
 use Rattle.c8_wire.specs.Packet.{Message, Packet, kind_of}
 use Rattle.c8_wire.specs.Packet as packets
 use Rattle.c8_hand.specs.Links.{link_to, head_to}
@@ -46,8 +46,8 @@ lacks_link m to (Cut leaver) = not (link_to m.links to).is_open
 -- ---- what is said
 
 -- a player's held inputs from a start on, as many as one datagram carries
-abbrev pub run_from : KnownValue → ℕ → ℕ → List ℕ
-run_from k q start = take longest_run (drop start (player_in k q).held)
+abbrev pub run_from : Rules → KnownValue → ℕ → ℕ → List ℕ
+run_from rules k q start = carried rules.wire (drop start (player_in k q).held)
 
 -- the mark at the greatest multiple of 32 confirmed frames
 abbrev pub newest_mark : Rules → KnownValue → FrameMark
@@ -66,20 +66,20 @@ message rules k m to Data = packets.Data (record {
   mark_frame = (newest_mark rules k).frame;
   mark = (newest_mark rules k).mark;
   start = acked_of m.acks to;
-  words = pending_of m.acks k to;
+  words = carried rules.wire (pending_of m.acks k to);
 })
 message rules k m to (Freeze leaver) = packets.Freeze (record { leaver = leaver; have = count_in k leaver })
 message rules k m to (Frozen leaver) = packets.Frozen (record {
   leaver = leaver;
   length = count_in k leaver;
   start = answer_from m.stayer k leaver;
-  words = run_from k leaver (answer_from m.stayer k leaver);
+  words = run_from rules k leaver (answer_from m.stayer k leaver);
 })
 message rules k m to (Cut leaver) = packets.Cut (record {
   leaver = leaver;
   length = cut_length (player_in k leaver).cut;
   start = owed m.chair k to leaver;
-  words = run_from k leaver (owed m.chair k to leaver);
+  words = run_from rules k leaver (owed m.chair k to leaver);
 })
 
 abbrev pub packet : Rules → KnownValue → Memory → ℕ → Saying → Packet

@@ -113,6 +113,9 @@ pub enum Refused {
     /// It is no datagram.
     #[error("{0}")]
     Wire(WireError),
+    /// It is a datagram, but not in the version of the format that the game names.
+    #[error("not in the version of datagrams that the game names")]
+    OtherWire,
     /// It is not for this peer, this match or these epochs.
     #[error("{0}")]
     Hand(HandError),
@@ -164,6 +167,7 @@ impl Refused {
             Refused::Disk(_) => 15,
             Refused::Down => 16,
             Refused::Dropped => 17,
+            Refused::OtherWire => 18,
         }
     }
 
@@ -180,6 +184,7 @@ impl Refused {
             Refused::Disk(_) => "Disk",
             Refused::Down => "Down",
             Refused::Dropped => "Dropped",
+            Refused::OtherWire => "OtherWire",
         }
     }
 }

@@ -11,13 +11,16 @@ pub enum Kind {
     Hello,
     /// It answers a HELLO.
     Welcome,
-    /// The first of its own inputs that the other has not acknowledged, at most 64.
+    /// The first of its own inputs that the other has not acknowledged, as many as
+    /// one datagram carries.
     Data,
     /// Player one lets a player go.
     Freeze(Player),
-    /// How many inputs of a leaver it holds, and the first of those that player one lacks, at most 64.
+    /// How many inputs of a leaver it holds, and the first of those that player one lacks, as
+    /// many as one datagram carries.
     Frozen(Player),
-    /// Where a leaver's list ends, and the first inputs before that which the other lacks, at most 64.
+    /// Where a leaver's list ends, and the first inputs before that which the other lacks, as
+    /// many as one datagram carries.
     Cut(Player),
 }
 

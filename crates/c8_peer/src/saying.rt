@@ -2,6 +2,7 @@
 ghost use Rattle.std.specs.Prelude.{◌≡◌, ◌≢◌, ℕ, ◌≤◌, false, MatchResult, OnOk, Ok, Err};
 ghost use Rattle.c8_game.specs.Rules.{Rules};
 ghost use Rattle.c8_wire.specs.Saying.{message_of};
+ghost use Rattle.c8_wire.specs.Carried.{carried};
 ghost use Rattle.c8_known.specs.Known.{KnownValue, Plays, count_in};
 ghost use Rattle.c8_peer.specs.Asked.{saying_of};
 ghost use Rattle.c8_peer.specs.State.{Said, Frozen, Cut, answered};
@@ -11,9 +12,9 @@ use crate::error::Unsayable;
 use crate::kind::Kind;
 use crate::memory::Memory;
 use c8_digest::FrameMark;
-use c8_game::Player;
+use c8_game::{Player, WireVersion};
 use c8_known::Known;
-use c8_wire::{Body, LONGEST_RUN};
+use c8_wire::{Body, fits};
 
 /// Whether this may be said.
 #[tactic(auto, unfolding(crate::specs::Saying::say))]
@@ -91,12 +92,13 @@ pub(crate) fn message<'a>(
     known: &'a Known,
     memory: &Memory,
     newest: FrameMark,
+    wire: WireVersion,
     to: Player,
     kind: Kind,
 ) -> Body<'a>
     requires plays { Plays known.now to.number }
     requires has { lacks_record known.now (saying_of kind) ≡ false }
-    ensures { (rules : Rules) → newest ≡ newest_mark rules known.entry.now
+    ensures { (rules : Rules) → newest ≡ newest_mark rules known.entry.now → wire ≡ rules.wire
         → message_of result ≡ message rules known.entry.now memory.now to.number (saying_of kind) }
 {
     let FrameMark {
@@ -113,21 +115,21 @@ pub(crate) fn message<'a>(
             mark_frame,
             mark,
             start: memory.window.acked(to),
-            run: memory.window.pending(to, known),
+            run: carried(wire, memory.window.pending(to, known)),
         },
         Kind::Freeze(leaver) => Body::Freeze {
             leaver,
             have: known.count(leaver),
         },
-        Kind::Frozen(leaver) => frozen(known, memory, leaver),
-        Kind::Cut(leaver) => cut(known, memory, to, leaver),
+        Kind::Frozen(leaver) => frozen(known, memory, wire, leaver),
+        Kind::Cut(leaver) => cut(known, memory, wire, to, leaver),
     }
 }
 
 /// What is held of a leaver, for player one.
-fn frozen<'a>(known: &'a Known, memory: &Memory, leaver: Player) -> Body<'a>
+fn frozen<'a>(known: &'a Known, memory: &Memory, wire: WireVersion, leaver: Player) -> Body<'a>
     requires { Plays known.now leaver.number }
-    ensures { (rules : Rules) (to : ℕ) → message_of result
+    ensures { (rules : Rules) (to : ℕ) → wire ≡ rules.wire → message_of result
         ≡ message rules known.entry.now memory.now to (Frozen leaver.number) }
 {
     let start = memory.stayer.from(leaver, known);
@@ -135,14 +137,20 @@ fn frozen<'a>(known: &'a Known, memory: &Memory, leaver: Player) -> Body<'a>
         leaver,
         held: known.count(leaver),
         start,
-        run: run_from(known, leaver, start),
+        run: run_from(known, wire, leaver, start),
     }
 }
 
 /// Where a leaver's list ends, for a player who stays.
-fn cut<'a>(known: &'a Known, memory: &Memory, to: Player, leaver: Player) -> Body<'a>
+fn cut<'a>(
+    known: &'a Known,
+    memory: &Memory,
+    wire: WireVersion,
+    to: Player,
+    leaver: Player,
+) -> Body<'a>
     requires { Plays known.now leaver.number }
-    ensures { (rules : Rules) → message_of result
+    ensures { (rules : Rules) → wire ≡ rules.wire → message_of result
         ≡ message rules known.entry.now memory.now to.number (Cut leaver.number) }
 {
     let start = memory.chair.owed(to, leaver, known);
@@ -150,16 +158,24 @@ fn cut<'a>(known: &'a Known, memory: &Memory, to: Player, leaver: Player) -> Bod
         leaver,
         length: known.cut_of(leaver).unwrap_or(0),
         start,
-        run: run_from(known, leaver, start),
+        run: run_from(known, wire, leaver, start),
     }
 }
 
 /// A player's inputs from a start on, as many as one datagram carries.
-fn run_from(known: &Known, player: Player, start: u32) -> &[u16]
+fn run_from(known: &Known, wire: WireVersion, player: Player, start: u32) -> &[u16]
     requires plays { Plays known.now player.number }
     requires within { start ≤ count_in known.now player.number }
-    ensures { result.now ≡ run_from known.now player.number start }
+    ensures { (rules : Rules) → wire ≡ rules.wire
+        → result.now ≡ run_from rules known.now player.number start }
 {
-    let left = known.count(player) - start;
-    known.inputs(player, start, start + left.min(LONGEST_RUN as u32))
+    carried(wire, known.inputs(player, start, known.count(player)))
+}
+
+/// The longest beginning of inputs that one datagram carries.
+fn carried(wire: WireVersion, inputs: &[u16]) -> &[u16]
+    ensures { result.now ≡ carried wire inputs.entry.now }
+{
+    let (front, _) = inputs.split_at(fits(wire, inputs));
+    front
 }

@@ -48,6 +48,8 @@ pub(crate) enum Deed {
     Ticks(u16, u32),
     /// Says something to a player. What is said by this deed has numbers from 0 on.
     Say(u8, What),
+    /// The same, of whatever length.
+    Keep(u8, What),
     /// Whether what is said to a player is just these bytes.
     Says(u8, What, &'static [u8]),
     /// Says something to a player, who hears it at once. The answer is the other's.
@@ -58,10 +60,15 @@ pub(crate) enum Deed {
     Hear(usize),
     /// The same with the lowest bit of the byte at a place changed.
     HearChanged(usize, usize),
+    /// Hears the DATA of this number in the other version of the format.
+    HearOther(usize),
     /// Hears these bytes.
     HearBytes(&'static [u8]),
     /// Whether what has this number has these bytes at a place.
     Spells(usize, usize, &'static [u8]),
+    /// All players enter the one key set and the other in turn, so many in all. After each tenth, and
+    /// in the end, all hear of it.
+    Rounds(u16, u16, u32),
     Leave(u8),
     Decide(u8),
     Look(Look),

@@ -8,6 +8,8 @@ mod drops;
 #[cfg(test)]
 mod ends;
 #[cfg(test)]
+mod lists;
+#[cfg(test)]
 mod node;
 #[cfg(test)]
 mod opening;

@@ -1,9 +1,10 @@
 //! One player's peer, or its disk.
 use crate::deed::{About, Answer, Deed, Look};
 use c8_disk::{Arm, Disk, MemDisk};
-use c8_game::{Game, Keys, Player};
+use c8_game::{Game, Keys, Player, WireVersion};
 use c8_machine::Machine;
 use c8_peer::{Kind, Peer};
+use c8_wire::{Body, Datagram, Run, Said, fits, view, write};
 use std::alloc::Global;
 
 /// Bytes that were said.
@@ -29,6 +30,45 @@ impl Letter {
         }
         changed
     }
+
+    /// The same DATA in the other version of the format.
+    pub(crate) fn in_other_version(&self) -> Option<Letter> {
+        let datagram = view(self.bytes()).ok()?;
+        let mut head = datagram.header().head();
+        let Datagram::Data(data) = datagram else {
+            return None;
+        };
+        let (words, version) = (words_of(data.run()), other_than(head.version));
+        let inputs = words.get(..data.run().len())?;
+        let (run, _) = inputs.split_at(fits(version, inputs));
+        let body = Body::Data {
+            ack: data.ack(),
+            mark_frame: data.mark_frame(),
+            mark: data.mark(),
+            start: data.start(),
+            run,
+        };
+        let mut bytes = [0; 174];
+        head.version = version;
+        let size = write(&Said { head, body }, &mut bytes);
+        Some(Letter { bytes, size })
+    }
+}
+
+fn other_than(version: WireVersion) -> WireVersion {
+    match version {
+        WireVersion::One => WireVersion::Two,
+        WireVersion::Two => WireVersion::One,
+    }
+}
+
+/// The inputs of a run, with zeros after them.
+fn words_of(run: Run<'_>) -> [u16; 64] {
+    let mut words = [0; 64];
+    for (word, input) in words.iter_mut().zip(run.iter()) {
+        *word = input;
+    }
+    words
 }
 
 /// What a peer tells of its journal.

@@ -15,6 +15,10 @@ pub(crate) const GAME: &str =
 const OTHER_GAME: &str =
     "players 3\nipf 10\nframes 100\ndelay 1\nwindow 2\nseed 7\nmask1 000f\nmask2 fff0\nmask3 ffff\ncode 1200\n";
 
+/// The same but for the version of its datagrams.
+const GAME_IN_PAIRS: &str =
+    "players 3\nipf 10\nframes 100\ndelay 1\nwindow 2\nseed 0\nwire 2\nmask1 000f\nmask2 fff0\nmask3 ffff\ncode 1200\n";
+
 /// The HEAD of player 2, with the game's id and the room.
 pub(crate) const HEAD: &[u8] = b"\xa5\x01\x02\0\0\0\x01\0\0\0\0\0\x14\
     \x2e\x8b\x77\x15\x18\x50\x29\xbf\xac\x57\xed\x9b\xa6\x7f\x7d\xa5\
@@ -81,6 +85,7 @@ const OTHERS_GAME: Deed = Deed::OpenAs {
 };
 
 /// Another game is told before another player, and no player of the game before all.
+#[rattlefmt::skip]
 const OTHERS: [Row; 25] = [
     (2, Deed::Hold(&[HEAD]), Answer::Done),
     (2, OTHERS_GAME, Answer::Opened(Err(OpenError::WrongGame))),
@@ -88,54 +93,22 @@ const OTHERS: [Row; 25] = [
     (2, Deed::Crash(0), Answer::Done),
     (2, Deed::Holds(&[HEAD]), YES),
     (2, Deed::Hold(&[HEAD]), Answer::Done),
-    (
-        2,
-        Deed::OpenAs {
-            other: false,
-            me: 2,
-            room: ROOM + 1,
-        },
-        Answer::Opened(Err(OpenError::WrongGame)),
-    ),
+    (2, Deed::OpenAs { other: false, me: 2, room: ROOM + 1 }, Answer::Opened(Err(OpenError::WrongGame))),
     (2, Deed::Holds(&[HEAD]), YES),
     (2, Deed::Crash(0), Answer::Done),
     (2, Deed::Holds(&[HEAD]), YES),
     (2, Deed::Hold(&[HEAD]), Answer::Done),
-    (
-        2,
-        Deed::OpenAs {
-            other: false,
-            me: 3,
-            room: ROOM,
-        },
-        Answer::Opened(Err(OpenError::WrongPlayer)),
-    ),
+    (2, Deed::OpenAs { other: false, me: 3, room: ROOM }, Answer::Opened(Err(OpenError::WrongPlayer))),
     (2, Deed::Holds(&[HEAD]), YES),
     (2, Deed::Crash(0), Answer::Done),
     (2, Deed::Holds(&[HEAD]), YES),
     (2, Deed::Hold(&[HEAD]), Answer::Done),
-    (
-        2,
-        Deed::OpenAs {
-            other: true,
-            me: 3,
-            room: ROOM,
-        },
-        Answer::Opened(Err(OpenError::WrongGame)),
-    ),
+    (2, Deed::OpenAs { other: true, me: 3, room: ROOM }, Answer::Opened(Err(OpenError::WrongGame))),
     (2, Deed::Holds(&[HEAD]), YES),
     (2, Deed::Crash(0), Answer::Done),
     (2, Deed::Holds(&[HEAD]), YES),
     (2, Deed::Hold(&[HEAD]), Answer::Done),
-    (
-        2,
-        Deed::OpenAs {
-            other: true,
-            me: 4,
-            room: ROOM,
-        },
-        Answer::Opened(Err(OpenError::WrongPlayer)),
-    ),
+    (2, Deed::OpenAs { other: true, me: 4, room: ROOM }, Answer::Opened(Err(OpenError::WrongPlayer))),
     (2, Deed::Holds(&[HEAD]), YES),
     (2, Deed::Crash(0), Answer::Done),
     (2, Deed::Holds(&[HEAD]), YES),
@@ -143,28 +116,18 @@ const OTHERS: [Row; 25] = [
 
 #[test]
 fn refuses_a_journal_of_another_match(rt: HostRuntime) -> Result<(), Fail> {
-    plays_beside(rt.alloc(), GAME, OTHER_GAME, &NOBODY, &OTHERS)
+    plays_beside(rt.alloc(), GAME, OTHER_GAME, &NOBODY, &OTHERS)?;
+    plays_beside(rt.alloc(), GAME, GAME_IN_PAIRS, &NOBODY, &OTHERS)
 }
 
 /// Two bodies of no kind, of which the first is told, and an epoch that is not above the last.
+#[rattlefmt::skip]
 const NO_JOURNALS: [Row; 10] = [
-    (
-        2,
-        Deed::Hold(&[HEAD, FIFTH, b"\xa5\x08\x02", b"\xa5\x09\x02"]),
-        Answer::Done,
-    ),
+    (2, Deed::Hold(&[HEAD, FIFTH, b"\xa5\x08\x02", b"\xa5\x09\x02"]), Answer::Done),
     (2, Deed::Open, Answer::Opened(Err(OpenError::BadRecord(2)))),
-    (
-        2,
-        Deed::Holds(&[HEAD, FIFTH, b"\xa5\x08\x02", b"\xa5\x09\x02"]),
-        YES,
-    ),
+    (2, Deed::Holds(&[HEAD, FIFTH, b"\xa5\x08\x02", b"\xa5\x09\x02"]), YES),
     (2, Deed::Crash(0), Answer::Done),
-    (
-        2,
-        Deed::Holds(&[HEAD, FIFTH, b"\xa5\x08\x02", b"\xa5\x09\x02"]),
-        YES,
-    ),
+    (2, Deed::Holds(&[HEAD, FIFTH, b"\xa5\x08\x02", b"\xa5\x09\x02"]), YES),
     (2, Deed::Hold(&[HEAD, FIFTH, FIFTH]), Answer::Done),
     (2, Deed::Open, Answer::Opened(Err(OpenError::BadRecord(2)))),
     (2, Deed::Holds(&[HEAD, FIFTH, FIFTH]), YES),

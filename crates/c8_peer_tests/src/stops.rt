@@ -92,6 +92,24 @@ impl<'a> Trial<'a> {
     }
 }
 
+/// Each stop in a call of a player, after rows that made it ready, leaves what it may.
+fn stops(
+    alloc: Global,
+    text: &str,
+    (before, at, call): (&[Row], u8, Deed),
+    stops: &[Stop],
+) -> Result<(), Fail> {
+    let game = Game::read(alloc, text.as_bytes())?;
+    let trial = Trial {
+        alloc,
+        game: &game,
+        before,
+        at,
+        call,
+    };
+    trial.stops(stops)
+}
+
 const NEW: [Row; 2] = [
     (1, Deed::Disk(20000, 4000), Answer::Done),
     (1, Deed::Open, Answer::Opened(Ok(1))),
@@ -99,21 +117,14 @@ const NEW: [Row; 2] = [
 
 const UNTICKED: Answer = Answer::Ticked(Err(TickError::Disk(DiskError::Failed)));
 
-const NO_TICK: Found = Found {
-    answer: UNTICKED,
-    opened: Answer::Opened(Ok(2)),
-    ticks: Answer::Is(0),
-};
+#[rattlefmt::skip]
+const NO_TICK: Found = Found { answer: UNTICKED, opened: Answer::Opened(Ok(2)), ticks: Answer::Is(0) };
 
-const A_TICK: Found = Found {
-    ticks: Answer::Is(1),
-    ..NO_TICK
-};
+#[rattlefmt::skip]
+const A_TICK: Found = Found { ticks: Answer::Is(1), ..NO_TICK };
 
-const TICKED: Found = Found {
-    answer: Answer::Ticked(Ok(())),
-    ..A_TICK
-};
+#[rattlefmt::skip]
+const TICKED: Found = Found { answer: Answer::Ticked(Ok(())), ..A_TICK };
 
 /// The record, a sync, the gate, a sync.
 const TICKS: [Stop; 5] = [
@@ -126,36 +137,21 @@ const TICKS: [Stop; 5] = [
 
 #[test]
 fn a_stopped_tick_is_kept_or_not(rt: HostRuntime) -> Result<(), Fail> {
-    let game = Game::read(rt.alloc(), GAME.as_bytes())?;
-    let trial = Trial {
-        alloc: rt.alloc(),
-        game: &game,
-        before: &NEW,
-        at: 1,
-        call: Deed::Tick(0x20),
-    };
-    trial.stops(&TICKS)
+    stops(rt.alloc(), GAME, (&NEW, 1, Deed::Tick(0x20)), &TICKS)
 }
 
 const UNOPENED: Answer = Answer::Opened(Err(OpenError::Disk(DiskError::Failed)));
 
 const NO_HEAD: [Row; 1] = [(2, Deed::Hold(&[HEAD]), Answer::Done)];
 
-const NO_EPOCH: Found = Found {
-    answer: UNOPENED,
-    opened: Answer::Opened(Ok(2)),
-    ticks: Answer::Is(0),
-};
+#[rattlefmt::skip]
+const NO_EPOCH: Found = Found { answer: UNOPENED, opened: Answer::Opened(Ok(2)), ticks: Answer::Is(0) };
 
-const AN_EPOCH: Found = Found {
-    opened: Answer::Opened(Ok(3)),
-    ..NO_EPOCH
-};
+#[rattlefmt::skip]
+const AN_EPOCH: Found = Found { opened: Answer::Opened(Ok(3)), ..NO_EPOCH };
 
-const EPOCH: Found = Found {
-    answer: Answer::Opened(Ok(2)),
-    ..AN_EPOCH
-};
+#[rattlefmt::skip]
+const EPOCH: Found = Found { answer: Answer::Opened(Ok(2)), ..AN_EPOCH };
 
 /// A sync, two reads of the block in which the record lies, and two writes, each with a sync.
 const OPENINGS: [Stop; 5] = [
@@ -168,15 +164,12 @@ const OPENINGS: [Stop; 5] = [
 
 #[test]
 fn an_opening_stops_after_each_call(rt: HostRuntime) -> Result<(), Fail> {
-    let game = Game::read(rt.alloc(), opening::GAME.as_bytes())?;
-    let trial = Trial {
-        alloc: rt.alloc(),
-        game: &game,
-        before: &NO_HEAD,
-        at: 2,
-        call: Deed::Open,
-    };
-    trial.stops(&OPENINGS)
+    stops(
+        rt.alloc(),
+        opening::GAME,
+        (&NO_HEAD, 2, Deed::Open),
+        &OPENINGS,
+    )
 }
 
 const WITH_A_TICK: [Row; 4] = [
@@ -186,20 +179,14 @@ const WITH_A_TICK: [Row; 4] = [
     (1, Deed::Crash(1), Answer::Done),
 ];
 
-const NO_EPOCH_AFTER: Found = Found {
-    ticks: Answer::Is(1),
-    ..NO_EPOCH
-};
+#[rattlefmt::skip]
+const NO_EPOCH_AFTER: Found = Found { ticks: Answer::Is(1), ..NO_EPOCH };
 
-const AN_EPOCH_AFTER: Found = Found {
-    ticks: Answer::Is(1),
-    ..AN_EPOCH
-};
+#[rattlefmt::skip]
+const AN_EPOCH_AFTER: Found = Found { ticks: Answer::Is(1), ..AN_EPOCH };
 
-const EPOCH_AFTER: Found = Found {
-    ticks: Answer::Is(1),
-    ..EPOCH
-};
+#[rattlefmt::skip]
+const EPOCH_AFTER: Found = Found { ticks: Answer::Is(1), ..EPOCH };
 
 /// A sync, a read of the block with two slots and the gate after them, one of the two slots, and the
 /// four calls of the new record.
@@ -213,15 +200,12 @@ const LATER_OPENINGS: [Stop; 5] = [
 
 #[test]
 fn a_stopped_opening_adds_its_epoch_or_not(rt: HostRuntime) -> Result<(), Fail> {
-    let game = Game::read(rt.alloc(), GAME.as_bytes())?;
-    let trial = Trial {
-        alloc: rt.alloc(),
-        game: &game,
-        before: &WITH_A_TICK,
-        at: 1,
-        call: Deed::Open,
-    };
-    trial.stops(&LATER_OPENINGS)
+    stops(
+        rt.alloc(),
+        GAME,
+        (&WITH_A_TICK, 1, Deed::Open),
+        &LATER_OPENINGS,
+    )
 }
 
 const FAILED: [Row; 13] = [

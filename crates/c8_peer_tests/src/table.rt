@@ -32,6 +32,34 @@ pub(crate) fn plays(alloc: Global, text: &str, first: &[Row], rows: &[Row]) -> R
     plays_beside(alloc, text, text, first, rows)
 }
 
+/// The same in the game whose text says so, and in the one whose datagrams are in version 2.
+pub(crate) fn plays_in_both(
+    alloc: Global,
+    text: &str,
+    first: &[Row],
+    rows: &[Row],
+) -> Result<(), Fail> {
+    plays_either(alloc, text, [first, rows, &[], &[], &[]])
+}
+
+/// The rows of the first two tables, the third and the last in the game whose text says so; with the
+/// fourth in place of the third in the one whose datagrams are in version 2.
+pub(crate) fn plays_either(
+    alloc: Global,
+    text: &str,
+    [first, second, one, two, last]: [&[Row]; 5],
+) -> Result<(), Fail> {
+    plays_parts(alloc, text, &[first, second, one, last])?;
+    let in_pairs = format!(in alloc; "{text}wire 2\n")?;
+    plays_parts(alloc, in_pairs.as_str(), &[first, second, two, last])
+}
+
+fn plays_parts(alloc: Global, text: &str, parts: &[&[Row]]) -> Result<(), Fail> {
+    let game = Game::read(alloc, text.as_bytes())?;
+    let mut table = Table::new(alloc, &game, &game)?;
+    table.walk_all(parts)
+}
+
 /// The same beside another game.
 pub(crate) fn plays_beside(
     alloc: Global,
@@ -64,6 +92,13 @@ impl<'g> Table<'g> {
         })
     }
 
+    fn walk_all(&mut self, parts: &[&[Row]]) -> Result<(), Fail> {
+        for rows in parts {
+            self.walk(rows)?;
+        }
+        Ok(())
+    }
+
     /// Each row is answered as it says.
     pub(crate) fn walk(&mut self, rows: &[Row]) -> Result<(), Fail> {
         for (row, (at, deed, wanted)) in rows.iter().enumerate() {
@@ -91,11 +126,17 @@ impl<'g> Table<'g> {
             Deed::Holds(slots) => self.holds(at, slots, CLOSED),
             Deed::HoldsTorn(slots, rest) => self.holds(at, slots, rest),
             Deed::Say(to, what) => self.say(at, to, what),
+            Deed::Keep(to, what) => match self.say(at, to, what) {
+                Answer::Said(Ok(_)) => Answer::Done,
+                answer => answer,
+            },
             Deed::Says(to, what, bytes) => self.says(at, to, what, bytes),
             Deed::Tell(to, what) => self.tell(at, to, what),
             Deed::Link(to) => self.link(at, to),
             Deed::Hear(number) => self.hear(at, number, 174),
             Deed::HearChanged(number, place) => self.hear(at, number, place),
+            Deed::HearOther(number) => self.hear_other(at, number),
+            Deed::Rounds(one, other, times) => self.rounds(one, other, times),
             Deed::Spells(number, place, bytes) => self.spells(number, place, bytes),
             _ => match self.node(at) {
                 Some(node) => node.does(deed),
@@ -130,6 +171,44 @@ impl<'g> Table<'g> {
             }
         }
         gathered
+    }
+
+    /// A key set of each player. The answer is the first that is no tick.
+    fn round(&mut self, keys: u16) -> Answer {
+        for at in 1..self.game.players().saturating_add(1) {
+            let ticked = match self.node(at) {
+                Some(node) => node.tick(keys, 1),
+                None => Answer::Impossible,
+            };
+            if ticked != Answer::Ticked(Ok(())) {
+                return ticked;
+            }
+        }
+        Answer::Done
+    }
+
+    /// Each player hears the inputs of each other.
+    fn tell_all(&mut self) {
+        for pair in 0..16 {
+            let (one, other) = (pair / 4 + 1, pair % 4 + 1);
+            if one != other {
+                self.tell(one, other, What::Data);
+            }
+        }
+    }
+
+    fn rounds(&mut self, one: u16, other: u16, times: u32) -> Answer {
+        for n in 0..times {
+            let answer = self.round(if n % 2 == 0 { one } else { other });
+            if answer != Answer::Done {
+                return answer;
+            }
+            if n % 10 == 9 {
+                self.tell_all();
+            }
+        }
+        self.tell_all();
+        Answer::Done
     }
 
     fn open(&mut self, at: u8, other: bool, me: u8, room: u64) -> Answer {
@@ -240,6 +319,17 @@ impl<'g> Table<'g> {
     fn hear(&mut self, to: u8, number: usize, place: usize) -> Answer {
         match self.letters.get(number).copied() {
             Some(letter) => self.give(to, &letter.changed(place)),
+            None => Answer::Impossible,
+        }
+    }
+
+    fn hear_other(&mut self, to: u8, number: usize) -> Answer {
+        match self
+            .letters
+            .get(number)
+            .and_then(|letter| letter.in_other_version())
+        {
+            Some(other) => self.give(to, &other),
             None => Answer::Impossible,
         }
     }

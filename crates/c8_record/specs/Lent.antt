@@ -1,6 +1,7 @@
 -- What a caller sees of a record that is lent from a body.
 use Rattle.std.specs.Prelude.{ℕ, ◌≡◌, ◌<◌, List, length, take, drop}
-use Rattle.c8_wire.specs.Lent.{words, spelled}
+use Rattle.c8_game.specs.declared.wire.WireVersion.TheVariants as versions
+use Rattle.c8_wire.specs.Lent.{version_of, words, spelled}
 use Rattle.c8_known.specs.Journal as journals
 use Rattle.c8_record.specs.declared.record.Record.{Record}
 use Rattle.c8_record.specs.declared.record.Record.TheVariants as lent
@@ -25,6 +26,16 @@ IsSliceOf body (lent.Got player start run) = spelled run ≡ take (length (spell
 IsSliceOf body (lent.Freeze player) = Unit {0}
 IsSliceOf body (lent.Leave player) = Unit {0}
 IsSliceOf body (lent.Cut player cut start run) = spelled run ≡ take (length (spelled run)) (drop run_place body)
+
+-- its inputs, where it has some, are lent from bytes that spell them two bytes each, as bodies have them
+abbrev pub IsOfWords : Record → Type 0
+IsOfWords (lent.Head player id room) = Unit {0}
+IsOfWords (lent.Epoch player number) = Unit {0}
+IsOfWords (lent.Own player start keys) = Unit {0}
+IsOfWords (lent.Got player start run) = version_of run ≡ versions.One
+IsOfWords (lent.Freeze player) = Unit {0}
+IsOfWords (lent.Leave player) = Unit {0}
+IsOfWords (lent.Cut player cut start run) = version_of run ≡ versions.One
 
 -- a Got has an input at least
 abbrev pub HasInputs : Record → Type 0

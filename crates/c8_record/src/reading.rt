@@ -1,10 +1,11 @@
 //! Which record a body spells.
 ghost use Rattle.std.specs.Prelude.{◌≡◌, ◌<◌, ◌*◌, ◌↔◌, false, take, drop, MatchOption, IfSome};
-ghost use Rattle.c8_wire.specs.Lent.{spelled};
+ghost use Rattle.c8_wire.specs.Lent.{version_of, words, spelled};
+ghost use Rattle.c8_game.specs.declared.wire.WireVersion.TheVariants as versions;
 ghost use Rattle.c8_wire.specs.Reading.{number_at};
 ghost use Rattle.c8_known.specs.Journal as journals;
-ghost use Rattle.c8_record.specs.Body.{Spells, record_of, run_place};
-ghost use Rattle.c8_record.specs.Lent.{value_of, IsSliceOf, HasInputs};
+ghost use Rattle.c8_record.specs.Body.{Spells, record_of, run_place, run_at};
+ghost use Rattle.c8_record.specs.Lent.{value_of, IsSliceOf, HasInputs, IsOfWords};
 ghost use Rattle.c8_wire.specs.Sizes.{longest_run};
 
 use crate::record::{RUN_PLACE, Record};
@@ -18,6 +19,7 @@ pub fn view(body: &[u8; BODY_LENGTH]) -> Option<Record<'_>>
     ensures value { MatchOption result ((r : journals.Record) → Spells body.now r → ⊥)
         (λ lent. Spells body.now (value_of lent)) }
     ensures slice { IfSome result (λ lent. IsSliceOf body.now lent) }
+    ensures words { IfSome result (λ lent. IsOfWords lent) }
 {
     let lent = read(body)?;
     if lacks_inputs(&lent) || !is_body_of(body, &lent) {
@@ -33,6 +35,7 @@ fn read(body: &[u8; BODY_LENGTH]) -> Option<Record<'_>>
     ensures value { MatchOption result ((r : journals.Record) → Spells body.now r → ⊥)
         (λ lent. value_of lent ≡ record_of body.now) }
     ensures slice { IfSome result (λ lent. IsSliceOf body.now lent) }
+    ensures words { IfSome result (λ lent. IsOfWords lent) }
 {
     let kind = body[0];
     let player = Player::new(body[1])?;
@@ -77,8 +80,10 @@ fn id_of(body: &[u8; BODY_LENGTH]) -> &[u8; 32]
 
 /// The run of the body, none where its count says that it is too long.
 fn run_of(body: &[u8; BODY_LENGTH]) -> Option<Run<'_>>
-    ensures { MatchOption result (longest_run < number_at 10 2 body.now)
+    ensures slice { MatchOption result (longest_run < number_at 10 2 body.now)
         (λ run. spelled run ≡ take (2 * number_at 10 2 body.now) (drop run_place body.now)) }
+    ensures words { IfSome result (λ run. words run ≡ run_at body.now) }
+    ensures version { IfSome result (λ run. version_of run ≡ versions.One) }
 {
     let count = usize::from(u16_at(body, 10));
     if count > LONGEST_RUN {

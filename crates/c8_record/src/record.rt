@@ -1,4 +1,4 @@
-//! A record, lent from the body of a slot.
+//! A record, lent from the body of a slot or from the datagram that brings it.
 ghost use Rattle.std.specs.Prelude.{◌≡◌};
 ghost use Rattle.c8_known.specs.Journal.{player_of};
 ghost use Rattle.c8_record.specs.Lent.{value_of};
@@ -9,7 +9,8 @@ use c8_wire::Run;
 /// Where a run stands in a body.
 pub(crate) const RUN_PLACE: usize = 12;
 
-/// A record. Its inputs, and the id in a `Head`, are lent from the body where they stand.
+/// A record. Its inputs, and the id in a `Head`, are lent from where they stand: in a body, or in the
+/// datagram that brings them.
 ///
 /// `Head`, `Epoch` and `Own` are of the player whose journal it is, the others of the player whom
 /// they name. A start is the place in the player's list of inputs where the record's inputs stand.

@@ -1,16 +1,19 @@
 //! The body that spells a record.
-ghost use Rattle.std.specs.Prelude.{◌≡◌, ◌≤◌, ◌*◌, ◌/◌, ◌↔◌, ◌∷◌, ◌++◌, true, length, replicate};
+ghost use Rattle.std.specs.Prelude.{◌≡◌, ◌≤◌, ◌*◌, ◌/◌, ◌↔◌, ◌∷◌, ◌++◌, true, drop, length, replicate};
 ghost use Rattle.c8_known.specs.Journal.{Head, Own, Got, Cut};
-ghost use Rattle.c8_wire.specs.Lent.{words};
+ghost use Rattle.c8_game.specs.declared.wire.WireVersion.TheVariants as versions;
+ghost use Rattle.c8_wire.specs.Packet.{AreWords};
+ghost use Rattle.c8_wire.specs.Spelling.{words_bytes};
+ghost use Rattle.c8_wire.specs.Lent.{version_of, words, words_left};
 ghost use Rattle.byteorder.specs.Endian.{big_bytes};
 ghost use Rattle.c8_wire.specs.Sizes.{longest_run};
 ghost use Rattle.c8_record.specs.Body.{field_bytes, body_of, Spells, run_place};
-ghost use Rattle.c8_record.specs.Lent.{value_of, HasInputs};
+ghost use Rattle.c8_record.specs.Lent.{value_of, HasInputs, IsOfWords};
 
 use crate::record::{RUN_PLACE, Record};
 use c8_game::{Keys, Player};
 use c8_log::BODY_LENGTH;
-use c8_wire::{Run, u16_at, u32_at};
+use c8_wire::{Inputs, Run, u16_at, u32_at};
 
 /// The body that spells a record. The body of a `Got` without inputs spells
 /// no record.
@@ -39,9 +42,10 @@ pub fn body_of(lent: &Record<'_>) -> [u8; BODY_LENGTH]
     }
 }
 
-/// Whether this is the body that spells a record.
+/// Whether this is the body that spells a record which was lent from one.
 #[tactic(auto, unfolding(crate::specs::Body::body_of))]
 pub(crate) fn is_body_of(body: &[u8; BODY_LENGTH], lent: &Record<'_>) -> bool
+    requires { IsOfWords lent.now }
     ensures is { (result ≡ true) ↔ (body.now ≡ body_of (value_of lent.now)) }
     ensures spells { result ≡ true → HasInputs lent.now → Spells body.now (value_of lent.now) }
 {
@@ -83,6 +87,7 @@ fn is_own_body(body: &[u8; BODY_LENGTH], player: Player, start: u32, keys: Keys)
 
 #[tactic(auto, unfolding(crate::specs::Body::body_of))]
 fn is_got_body(body: &[u8; BODY_LENGTH], player: Player, start: u32, run: Run<'_>) -> bool
+    requires { version_of run ≡ versions.One }
     ensures is { (result ≡ true) ↔ (body.now ≡ body_of (Got player.number start (words run.entry))) }
     ensures spells { result ≡ true → 1 ≤ length (words run.entry)
         → Spells body.now (Got player.number start (words run.entry)) }
@@ -98,6 +103,7 @@ fn is_cut_body(
     start: u32,
     run: Run<'_>,
 ) -> bool
+    requires { version_of run ≡ versions.One }
     ensures is { (result ≡ true)
         ↔ (body.now ≡ body_of (Cut player.number length start (words run.entry))) }
     ensures spells { result ≡ true
@@ -128,7 +134,7 @@ fn got_body(player: Player, start: u32, run: Run<'_>) -> [u8; BODY_LENGTH]
     ensures spells { 1 ≤ length (words run.entry)
         → Spells result (Got player.number start (words run.entry)) }
 {
-    spell(4, player, 0, start, run.bytes())
+    spell_inputs(4, player, 0, start, run)
 }
 
 #[tactic(auto, unfolding(crate::specs::Body::body_of))]
@@ -136,7 +142,7 @@ fn cut_body(player: Player, length: u32, start: u32, run: Run<'_>) -> [u8; BODY_
     ensures body { result ≡ body_of (Cut player.number length start (words run.entry)) }
     ensures spells { Spells result (Cut player.number length start (words run.entry)) }
 {
-    spell(7, player, length, start, run.bytes())
+    spell_inputs(7, player, length, start, run)
 }
 
 /// What the run of a `Head` says: the game's id and the room.
@@ -166,6 +172,45 @@ fn spell(kind: u8, player: Player, number: u32, start: u32, run: &[u8]) -> [u8; 
     head.copy_from_slice(&head_of(kind, player, number, start, run.len()));
     rest[..run.len()].copy_from_slice(run);
     body
+}
+
+/// The body that has these fields, and a run of inputs, two bytes each: in whichever version it came.
+fn spell_inputs(
+    kind: u8,
+    player: Player,
+    number: u32,
+    start: u32,
+    run: Run<'_>,
+) -> [u8; BODY_LENGTH]
+    ensures body { result ≡ field_bytes (record {
+      kind = kind;
+      player = player.number;
+      number = number;
+      start = start;
+      run = words_bytes (words run.entry);
+    }) }
+    ensures few { length (words run.entry) ≤ longest_run }
+    ensures sets { AreWords (words run.entry) }
+{
+    let mut body = [0; BODY_LENGTH];
+    let (head, rest) = body.split_at_mut(RUN_PLACE);
+    head.copy_from_slice(&head_of(kind, player, number, start, 2 * run.len()));
+    put_inputs(run.iter(), rest);
+    body
+}
+
+/// Writes inputs to the front of some bytes, two bytes each.
+fn put_inputs(mut inputs: Inputs<'_>, out: &mut [u8])
+    requires { 2 * length (words_left inputs) ≤ length out.old }
+    ensures { out.new ≡ words_bytes (words_left inputs.entry)
+        ++ drop (2 * length (words_left inputs.entry)) out.old }
+{
+    let Some(input) = inputs.next() else {
+        return;
+    };
+    let (first, rest) = out.split_at_mut(2);
+    first.copy_from_slice(&input.to_be_bytes());
+    put_inputs(inputs, rest);
 }
 
 /// Whether a body has these fields, and zeros after its run.

@@ -5,7 +5,7 @@ use c8_disk::DiskError;
 use c8_game::{Keys, Player};
 use c8_log::BODY_LENGTH;
 use c8_record::{Record, ReplayError, body_of, view};
-use c8_wire::Run;
+use c8_wire::{Datagram, Run, view as datagram_in};
 use std::alloc::Global;
 use std::fmt::Display;
 use std::test::Fail;
@@ -50,6 +50,100 @@ fn spells_a_cut(rt: HostRuntime) {
     };
     let bytes = b"\x07\x04\x01\x02\x03\x04\x05\x06\x07\x08\0\x02\x11\x12\x13\x14";
     assert!(rt; is_spelled_by(&cut, bytes));
+}
+
+/// A DATA of three inputs 0041 and one 1234, in each version.
+#[rattlefmt::skip]
+const DATA_IN_TWO: &str =
+    "C8\x02\x03\x01\x02\x03\x04\x05\x06\x07\x08\x02\x01\0\x1c\0\0\0\x09\0\0\0\x0a\0\0\0\x0b\0\0\0\x20\x11\x12\x13\x14\x15\x16\x17\x18\0\0\x04\x05\0\x04\x03\0\x41\x01\x12\x34";
+
+#[rattlefmt::skip]
+const DATA_IN_ONE: &str =
+    "C8\x01\x03\x01\x02\x03\x04\x05\x06\x07\x08\x02\x01\0\x1e\0\0\0\x09\0\0\0\x0a\0\0\0\x0b\0\0\0\x20\x11\x12\x13\x14\x15\x16\x17\x18\0\0\x04\x05\0\x04\0\x41\0\x41\0\x41\x12\x34";
+
+/// A CUT of the same, at length 66051.
+#[rattlefmt::skip]
+const CUT_IN_TWO: &str =
+    "C8\x02\x06\x01\x02\x03\x04\x05\x06\x07\x08\x02\x01\0\x12\0\0\0\x09\0\0\0\x0a\x04\0\0\x01\x02\x03\0\0\x04\x05\0\x04\x03\0\x41\x01\x12\x34";
+
+#[rattlefmt::skip]
+const CUT_IN_ONE: &str =
+    "C8\x01\x06\x01\x02\x03\x04\x05\x06\x07\x08\x02\x01\0\x14\0\0\0\x09\0\0\0\x0a\x04\0\0\x01\x02\x03\0\0\x04\x05\0\x04\0\x41\0\x41\0\x41\x12\x34";
+
+/// A datagram in version 2 and in version 1, how many of its inputs are held already, and the body of the
+/// record that has the others.
+type InBoth = (&'static str, &'static str, u8, &'static str);
+
+#[rattlefmt::skip]
+const IN_BOTH: [InBoth; 7] = [
+    (DATA_IN_TWO, DATA_IN_ONE, 0, "\x04\x03\0\0\0\0\0\0\x04\x05\0\x04\0\x41\0\x41\0\x41\x12\x34"),
+    (DATA_IN_TWO, DATA_IN_ONE, 1, "\x04\x03\0\0\0\0\0\0\x04\x06\0\x03\0\x41\0\x41\x12\x34"),
+    (DATA_IN_TWO, DATA_IN_ONE, 2, "\x04\x03\0\0\0\0\0\0\x04\x07\0\x02\0\x41\x12\x34"),
+    (DATA_IN_TWO, DATA_IN_ONE, 3, "\x04\x03\0\0\0\0\0\0\x04\x08\0\x01\x12\x34"),
+    (CUT_IN_TWO, CUT_IN_ONE, 0, "\x07\x04\0\x01\x02\x03\0\0\x04\x05\0\x04\0\x41\0\x41\0\x41\x12\x34"),
+    (CUT_IN_TWO, CUT_IN_ONE, 2, "\x07\x04\0\x01\x02\x03\0\0\x04\x07\0\x02\0\x41\x12\x34"),
+    (CUT_IN_TWO, CUT_IN_ONE, 4, "\x07\x04\0\x01\x02\x03\0\0\x04\x09\0\0"),
+];
+
+/// 63 inputs 0041 and one 1234.
+const MANY: &[u8] =
+    b"C8\x02\x03\x01\x02\x03\x04\x05\x06\x07\x08\x02\x01\0\x1c\0\0\0\x09\0\0\0\x0a\0\0\0\x0b\0\0\0\x20\x11\x12\x13\x14\x15\x16\x17\x18\0\0\x04\x05\0\x40\x3f\0\x41\x01\x12\x34";
+
+/// The body of the record that has them all.
+const BODY_OF_MANY: &[u8] =
+    b"\x04\x03\0\0\0\0\0\0\x04\x05\0\x40\0\x41\0\x41\0\x41\0\x41\0\x41\0\x41\0\x41\0\x41\0\x41\0\x41\0\x41\0\x41\0\x41\0\x41\0\x41\0\x41\0\x41\0\x41\0\x41\0\x41\0\x41\0\x41\0\x41\0\x41\0\x41\0\x41\0\x41\0\x41\0\x41\0\x41\0\x41\0\x41\0\x41\0\x41\0\x41\0\x41\0\x41\0\x41\0\x41\0\x41\0\x41\0\x41\0\x41\0\x41\0\x41\0\x41\0\x41\0\x41\0\x41\0\x41\0\x41\0\x41\0\x41\0\x41\0\x41\0\x41\0\x41\0\x41\0\x41\0\x41\0\x41\0\x41\0\x41\x12\x34";
+
+fn run_after(run: Run<'_>, held: usize) -> Option<Run<'_>> {
+    if held > run.len() {
+        return None;
+    }
+    Some(run.from_place(held))
+}
+
+/// The record of the inputs in a datagram that are not held: those of player 3 in a DATA, or all of a
+/// leaver in a CUT.
+fn record_in(bytes: &[u8], held: u8) -> Option<Record<'_>> {
+    match datagram_in(bytes) {
+        Ok(Datagram::Data(data)) => Some(Record::Got {
+            player: Player { number: 3 },
+            start: data.start().wrapping_add(u32::from(held)),
+            run: run_after(data.run(), usize::from(held))?,
+        }),
+        Ok(Datagram::Cut(cut)) => Some(Record::Cut {
+            player: cut.leaver(),
+            length: cut.length(),
+            start: cut.start().wrapping_add(u32::from(held)),
+            run: run_after(cut.run(), usize::from(held))?,
+        }),
+        _ => None,
+    }
+}
+
+/// Whether the record of a datagram's inputs is spelled by these bytes.
+fn is_told_by(datagram: &[u8], held: u8, bytes: &[u8]) -> bool {
+    match record_in(datagram, held) {
+        Some(record) => is_spelled_by(&record, bytes),
+        None => false,
+    }
+}
+
+/// Whether what the record of a datagram's inputs is spelled by is read as the one of the other's.
+fn is_read_as(datagram: &[u8], other: &[u8], held: u8) -> bool {
+    match record_in(datagram, held) {
+        Some(record) => view(&body_of(&record)) == record_in(other, held),
+        None => false,
+    }
+}
+
+#[test]
+fn inputs_are_spelled_the_same_in_whichever_version_they_came(rt: HostRuntime) {
+    for (n, (two, one, held, body)) in IN_BOTH.iter().enumerate() {
+        let (two, one, body) = (two.as_bytes(), one.as_bytes(), body.as_bytes());
+        assert!(rt; is_told_by(two, *held, body), "row {n}");
+        assert!(rt; is_told_by(one, *held, body), "row {n}");
+        assert!(rt; is_read_as(two, one, *held), "row {n}");
+    }
+    assert!(rt; is_told_by(MANY, 0, BODY_OF_MANY));
 }
 
 /// Whether the body spells a record, which is spelled by the same body.

@@ -26,7 +26,7 @@ fn told<E: Display + Copy>(alloc: Global, error: E) -> Result<String, Fail> {
     Ok(format!(in alloc; "{error}")?)
 }
 
-const TEXTS: [Text; 39] = [
+const TEXTS: [Text; 41] = [
     (
         Refusal::Opening(OpenError::WrongGame),
         1,
@@ -97,7 +97,13 @@ const TEXTS: [Text; 39] = [
         Refusal::Delivery(Refused::Wire(WireError::Count)),
         8,
         "Count",
-        "more inputs than allowed, or not as many as there is room for",
+        "more inputs than allowed, or not as many bytes as a run may have",
+    ),
+    (
+        Refusal::Delivery(Refused::Wire(WireError::Pairs)),
+        10,
+        "Pairs",
+        "pairs that are not those of a run",
     ),
     (
         Refusal::Delivery(Refused::Hand(HandError::Stale)),
@@ -158,6 +164,12 @@ const TEXTS: [Text; 39] = [
         17,
         "Dropped",
         "this player has been dropped",
+    ),
+    (
+        Refusal::Delivery(Refused::OtherWire),
+        18,
+        "OtherWire",
+        "not in the version of datagrams that the game names",
     ),
     (
         Refusal::Saying(Unsayable::Down),

@@ -18,7 +18,7 @@ use Rattle.c8_round.specs.Round.{is_ready, with_report}
 use Rattle.c8_peer.specs.State.{Memory, Mode, Open, Down, Away, State, Call, Tick, Deliver, Say, Leave, Decide, Outcome}
 use Rattle.c8_peer.specs.Steps.{Luck, Works, Refuses, refused_by_disk, when_down, outcome, done, at_mode, step}
 use Rattle.c8_peer.specs.Calls.{tick, leave, decide}
-use Rattle.c8_peer.specs.Hearing.{is_desync, unless_misfit, got, cut_or_got, hear_data, hear_welcome, hear_freeze, hear_frozen, hear_end, hear_cut, hear_message, unless_hand, hear_told}
+use Rattle.c8_peer.specs.Hearing.{is_of_other_wire, is_desync, unless_misfit, got, cut_or_got, hear_data, hear_welcome, hear_freeze, hear_frozen, hear_end, hear_cut, hear_message, unless_hand, hear_told}
 use Rattle.c8_peer.specs.Opening.{Opening, NoPlayer, Stands, NotWritten, NoMemory, NotRead, Unfit, Spent, opened}
 use Rattle.c8_world.specs.World.{said_by}
 
@@ -117,7 +117,8 @@ hand_silent m None x is = is
 hand_silent m (Some error) x is = silent _ refl
 
 told_silent : (rules : Rules) (k : KnownValue) (m : Memory) (told : Result Packet WireError) → IsSilent (hear_told rules k m told)
-told_silent rules k m (Ok p) = hand_silent m (links.refusal m.links p.head) _ (message_silent rules k m p.head p.message)
+told_silent rules k m (Ok p) =
+    either IsSilent (is_of_other_wire rules p.head) _ _ (silent _ refl) (hand_silent m (links.refusal m.links p.head) _ (message_silent rules k m p.head p.message))
 told_silent rules k m (Err error) = silent _ refl
 
 -- ---- any call

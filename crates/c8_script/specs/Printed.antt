@@ -37,6 +37,7 @@ part_word refusals.Desync = codes "deliver"
 part_word (refusals.Disk why) = codes "deliver"
 part_word refusals.Down = codes "deliver"
 part_word refusals.Dropped = codes "deliver"
+part_word refusals.OtherWire = codes "deliver"
 
 -- what is counted after a tick
 abbrev pub ticked_text : Counts → List ℕ

@@ -100,7 +100,8 @@ fn part_of(error: Refused) -> &'static str
         | Refused::Desync
         | Refused::Disk(_)
         | Refused::Down
-        | Refused::Dropped => "deliver",
+        | Refused::Dropped
+        | Refused::OtherWire => "deliver",
     }
 }
 

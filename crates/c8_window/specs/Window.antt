@@ -30,7 +30,7 @@ first_window delay = record { one = delay; two = delay; three = delay; four = de
 abbrev pub acked_more : WindowValue → ℕ → ℕ → WindowValue
 acked_more w q count = with_acked w q (max (acked_of w q) count)
 
--- the own inputs that a player has not acknowledged, as many as one datagram carries
+-- the first 64 of the own inputs that a player has not acknowledged
 abbrev pub pending_of : WindowValue → KnownValue → ℕ → List ℕ
 pending_of w k q = take longest_run (drop (acked_of w q) (player_in k k.me).held)
 

@@ -1,19 +1,19 @@
 -- DATA: its bytes are those of what it says, and what it says is read again.
-use Rattle.std.proofs.Common.{◌≡◌, ℕ, ◌+◌, ◌*◌, ◌≤◌, List, ◌++◌, length, take, drop, refl, sym, ap, ◌∙◌, arith}
+use Rattle.std.proofs.Common.{◌≡◌, true, ℕ, ◌+◌, ◌-◌, ◌≤◌, List, ◌++◌, length, take, drop, refl, sym, ap, ◌∙◌, arith}
 use Rattle.std.proofs.lemmas.List.{length-take, length-drop, length-append, take-append-drop, take_at, drop_at, drop-drop}
 use Rattle.std.proofs.lemmas.Bool.Decides.{nat_tests}
 use Rattle.byteorder.specs.Endian.{big_bytes}
 use Rattle.byteorder.specs.Numbers.{big_number-reads_back}
 use Rattle.c8_game.specs.Rules.{most_inputs}
+use Rattle.c8_game.specs.declared.wire.WireVersion.{WireVersion}
 use Rattle.c8_wire.specs.declared.kinds.DatagramKind.TheVariants as kinds
-use Rattle.c8_wire.specs.Packet.{AreBytes, HeadValue, IsHead, DataMessage, IsDataMessage, Data, Fits}
-use Rattle.c8_wire.specs.Spelling.{header_bytes, run_bytes, body_bytes}
-use Rattle.c8_wire.specs.Reading.{number_at, size_at, data_at}
+use Rattle.c8_wire.specs.Packet.{AreBytes, HeadValue, IsHead, DataMessage, IsDataMessage, Data, Fits, has_room}
+use Rattle.c8_wire.specs.Spelling.{header_bytes, inputs_bytes, run_bytes, body_bytes}
+use Rattle.c8_wire.specs.Reading.{number_at, version_at, size_at, data_at}
 use Rattle.c8_wire.specs.Refusal.{applies}
 use Rattle.c8_wire.specs.checked.NumberLaws.{AreBytes-drop, AreBytes-take, spelled_at}
-use Rattle.c8_wire.specs.checked.WordLaws.{words_of-lt, length-spelled_words}
-use Rattle.c8_wire.proofs.HeadLemmas.{then, HasHead, front_accepted}
-use Rattle.c8_wire.proofs.RunLemmas.{IsRunAt, length-words_at, spelled_run, HasRun, run_again}
+use Rattle.c8_wire.proofs.HeadLemmas.{then, version_again, HasHead, front_accepted}
+use Rattle.c8_wire.proofs.RunLemmas.{IsRunAt, run_shaped, run_here, spelled_run, HasRun, run_again, counted, paired}
 use Rattle.c8_wire.proofs.TableLemmas.{IsAccepted}
 
 -- what the table says of an accepted one
@@ -27,59 +27,62 @@ pub data_shaped : (bytes : List ℕ) → length bytes ≡ 24 + size_at bytes →
 unfolding applies
 data_shaped bytes sized a =
     let count = a.count in
+    let misfit = a.length in
+    let fixed : 22 ≤ size_at bytes = grind (arith, nat_tests) in
     let beyond = a.beyond in
     record {
-      run = record { ends = grind (arith, nat_tests); short = grind (arith, nat_tests) };
+      run = run_shaped 40 (size_at bytes - 22) bytes (omega (arith, sized, fixed)) a.count a.pairs;
       ack = grind (arith, nat_tests);
       mark_frame = grind (arith, nat_tests);
       within = grind (arith, nat_tests);
     }
 
-pub spelled_data : (bytes : List ℕ) → AreBytes bytes → IsDataShaped bytes → drop 24 bytes ≡ body_bytes (Data (data_at bytes))
+pub spelled_data : (bytes : List ℕ) → AreBytes bytes → IsDataShaped bytes → drop 24 bytes ≡ body_bytes (version_at bytes) (Data (data_at bytes))
 spelled_data bytes fits is =
-    let long : 46 ≤ length bytes = omega (arith, is.run.ends) in
+    let long : 46 ≤ length bytes = omega (arith, is.run.long) in
     let marked : drop 32 bytes ≡ take 8 (drop 32 bytes) ++ drop 40 bytes = sym (take-append-drop 8 (drop 32 bytes)) ∙ ap (λ (rest : List ℕ). take 8 (drop 32 bytes) ++ rest) (drop-drop 8 32 bytes) in
     then (big_bytes 4 (number_at 24 4 bytes)) (spelled_at 24 4 28 bytes refl (omega arith) fits)
     (then (big_bytes 4 (number_at 28 4 bytes)) (spelled_at 28 4 32 bytes refl (omega arith) fits)
     (then (take 8 (drop 32 bytes)) marked (spelled_run 40 bytes fits is.run)))
 
-pub is_data : (bytes : List ℕ) → AreBytes bytes → IsDataShaped bytes → IsDataMessage (data_at bytes) × Fits (Data (data_at bytes))
+pub is_data : (bytes : List ℕ) → AreBytes bytes → IsDataShaped bytes → IsDataMessage (data_at bytes) × Fits (Data (data_at bytes)) × (has_room (version_at bytes) (Data (data_at bytes)) ≡ true)
 is_data bytes fits is =
-    let count = length-words_at 40 bytes is.run in (
-      record { ack = is.ack; mark_frame = is.mark_frame; run = record { short = omega (arith, count, is.run.short); within = omega (arith, count, is.within) } },
-      ((omega (arith, length-take 8 (drop 32 bytes), length-drop 32 bytes, is.run.ends), AreBytes-take 8 (drop 32 bytes) (AreBytes-drop 32 bytes fits)), words_of-lt (drop 46 bytes) (AreBytes-drop 46 bytes fits)),
+    let run = run_here 40 bytes fits is.run in (
+      record { ack = is.ack; mark_frame = is.mark_frame; run = record { short = omega (arith, run.many, is.run.short); within = omega (arith, run.many, is.within) } },
+      ((omega (arith, length-take 8 (drop 32 bytes), length-drop 32 bytes, is.run.long), AreBytes-take 8 (drop 32 bytes) (AreBytes-drop 32 bytes fits)), run.sets),
+      run.room,
     )
 
 -- the bytes of a datagram of inputs have its numbers where they stand
-pub record HasData (bytes : List ℕ) (m : DataMessage) : Type 0 where
+pub record HasData (bytes : List ℕ) (version : WireVersion) (m : DataMessage) : Type 0 where
   pub ack : number_at 24 4 bytes ≡ m.ack
   pub mark_frame : number_at 28 4 bytes ≡ m.mark_frame
   pub mark : take 8 (drop 32 bytes) ≡ m.mark
-  pub run : HasRun 40 bytes m.start m.words
+  pub run : HasRun 40 bytes version m.start m.words
 
-pub data_again : (head : HeadValue) (size : ℕ) (m : DataMessage) → IsDataMessage m → Fits (Data m) → HasData (header_bytes head size ++ body_bytes (Data m)) m
+pub data_again : (head : HeadValue) (size : ℕ) (m : DataMessage) → IsDataMessage m → Fits (Data m) → HasData (header_bytes head size ++ body_bytes head.version (Data m)) head.version m
 unfolding number_at
 data_again head size m is fits =
-    let bytes : List ℕ = header_bytes head size ++ body_bytes (Data m) in
-    let tail : List ℕ = m.mark ++ run_bytes m.start m.words in
-    let here : drop 40 bytes ≡ run_bytes m.start m.words = drop_at m.mark (run_bytes m.start m.words) 8 fits.0.0 in
+    let bytes : List ℕ = header_bytes head size ++ body_bytes head.version (Data m) in
+    let tail : List ℕ = m.mark ++ run_bytes head.version m.start m.words in
+    let here : drop 40 bytes ≡ run_bytes head.version m.start m.words = drop_at m.mark (run_bytes head.version m.start m.words) 8 fits.0.0 in
     record {
       ack = big_number-reads_back 4 m.ack (big_bytes 4 m.mark_frame ++ tail) (omega (arith, is.ack));
       mark_frame = big_number-reads_back 4 m.mark_frame tail (omega (arith, is.mark_frame));
-      mark = take_at m.mark (run_bytes m.start m.words) 8 fits.0.0;
-      run = run_again 40 bytes m.start m.words here (omega (arith, is.run.within)) (omega (arith, is.run.short)) fits.1;
+      mark = take_at m.mark (run_bytes head.version m.start m.words) 8 fits.0.0;
+      run = run_again 40 bytes head.version m.start m.words (version_again head.version) here (omega (arith, is.run.within)) (omega (arith, is.run.short)) fits.1;
     }
 
-pub length-data_bytes : (m : DataMessage) → length m.mark ≡ 8 → length (body_bytes (Data m)) ≡ 22 + 2 * length m.words
-length-data_bytes m marked = omega (arith, length-append m.mark (run_bytes m.start m.words), marked, length-spelled_words m.words)
+pub length-data_bytes : (version : WireVersion) (m : DataMessage) → length m.mark ≡ 8 → length (body_bytes version (Data m)) ≡ 22 + length (inputs_bytes version m.words)
+length-data_bytes version m marked = omega (arith, length-append m.mark (run_bytes version m.start m.words), marked)
 
-pub data_values : (bytes : List ℕ) (m : DataMessage) → HasData bytes m → data_at bytes ≡ m
-data_values bytes m has = λ i. record { ack = has.ack i; mark_frame = has.mark_frame i; mark = has.mark i; start = has.run.from i; words = has.run.inputs i }
+pub data_values : (bytes : List ℕ) (version : WireVersion) (m : DataMessage) → HasData bytes version m → data_at bytes ≡ m
+data_values bytes version m has = λ i. record { ack = has.ack i; mark_frame = has.mark_frame i; mark = has.mark i; start = has.run.from i; words = has.run.inputs i }
 
 -- no refusal applies to the spelling
-pub data_accepted : (bytes : List ℕ) (head : HeadValue) (size : ℕ) (m : DataMessage) → IsHead head → IsDataMessage m → HasHead bytes head size → length bytes ≡ 24 + size → size ≡ 22 + 2 * length m.words → HasData bytes m → IsAccepted kinds.Data bytes
+pub data_accepted : (bytes : List ℕ) (head : HeadValue) (size : ℕ) (m : DataMessage) → IsHead head → IsDataMessage m → Fits (Data m) → has_room head.version (Data m) ≡ true → HasHead bytes head size → length bytes ≡ 24 + size → size ≡ 22 + length (inputs_bytes head.version m.words) → HasData bytes head.version m → IsAccepted kinds.Data bytes
 unfolding applies
-data_accepted bytes head size m is message has long sized body =
+data_accepted bytes head size m is message fits room has long sized body =
     let front = front_accepted kinds.Data bytes head size has long in
     record {
       short = front.short;
@@ -88,6 +91,7 @@ data_accepted bytes head size m is message has long sized body =
       length = grind (arith, nat_tests, has.sized);
       player = grind (arith, nat_tests, is.from_one, is.from_four, is.to_one, is.to_four, is.apart, has.from, has.to);
       reserved = refl;
-      count = grind (arith, nat_tests, has.sized, body.run.count, message.run.short);
+      count = counted kinds.Data bytes head.version m.words has.version body.run.count (has.sized ∙ sized) message.run.short room;
+      pairs = paired kinds.Data bytes head.version m.words has.version body.run.count body.run.spelled fits.1;
       beyond = grind (arith, nat_tests, body.ack, body.mark_frame, body.run.from, body.run.count, message.ack, message.mark_frame, message.run.within);
     }

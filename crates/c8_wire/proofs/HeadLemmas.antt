@@ -1,5 +1,9 @@
 -- The header: its bytes are those of what it says, and what it says is read again.
-use Rattle.std.proofs.Common.{◌≡◌, ℕ, ◌+◌, ◌^◌, ◌<◌, ◌≤◌, false, List, [], ◌∷◌, ◌++◌, length, drop, get_or, slice_index, Some, refl, ap, ◌∙◌, arith}
+use Rattle.std.proofs.Common.{◌≡◌, ℕ, ◌+◌, ◌^◌, ◌<◌, ◌≤◌, ◌&&◌, false, List, [], ◌∷◌, ◌++◌, length, drop, get_or, slice_index, Some, refl, ap, ◌∙◌, inl, inr, arith}
+use Rattle.std.specs.Prelude.{◌==◌, not}
+use Rattle.std.proofs.lemmas.Bool.{cases_eq, eq-eqb, ne_eqb}
+use Rattle.c8_game.specs.declared.wire.WireVersion.{WireVersion}
+use Rattle.c8_game.specs.declared.wire.WireVersion.TheVariants as versions
 use Rattle.std.proofs.lemmas.List.{drop_more}
 use Rattle.byteorder.specs.Endian.{big_bytes}
 use Rattle.byteorder.specs.Numbers.{big_number-reads_back}
@@ -9,8 +13,9 @@ use Rattle.c8_wire.specs.Refusal.{applies}
 use Rattle.c8_wire.specs.declared.kinds.DatagramKind.{DatagramKind}
 use Rattle.c8_wire.specs.Kinds.{code_of}
 use Rattle.c8_wire.specs.Packet.{AreBytes, HeadValue, IsHead}
+use Rattle.c8_game.specs.Wire.{version_number}
 use Rattle.c8_wire.specs.Spelling.{header_bytes}
-use Rattle.c8_wire.specs.Reading.{number_at, kind_at, size_at, head_at}
+use Rattle.c8_wire.specs.Reading.{number_at, version_named, version_at, kind_at, size_at, head_at}
 use Rattle.c8_wire.specs.checked.NumberLaws.{spelled_at}
 use Rattle.c8_wire.proofs.TableLemmas.{kind_of_its_code}
 
@@ -22,14 +27,14 @@ pub byte_here : (place next : ℕ) (bytes : List ℕ) → place + 1 ≡ next →
 byte_here place next bytes ends long = drop_more bytes place 0 (omega arith) ∙ ap (λ (k : ℕ). get_or bytes place 0 ∷ drop k bytes) ends
 
 -- a header that begins a datagram's bytes spells what it says
-pub spelled_header : (kind : DatagramKind) (bytes : List ℕ) → AreBytes bytes → 24 ≤ length bytes → number_at 0 2 bytes ≡ 0x4338 → slice_index bytes 2 ≡ 1 → slice_index bytes 3 ≡ code_of kind
+pub spelled_header : (kind : DatagramKind) (bytes : List ℕ) → AreBytes bytes → 24 ≤ length bytes → number_at 0 2 bytes ≡ 0x4338 → slice_index bytes 2 ≡ version_number (version_at bytes) → slice_index bytes 3 ≡ code_of kind
     → bytes ≡ header_bytes (head_at kind bytes) (size_at bytes) ++ drop 24 bytes
 spelled_header kind bytes fits long magic version code =
     let first : bytes ≡ big_bytes 2 0x4338 ++ drop 2 bytes = spelled_at 0 2 2 bytes refl (omega arith) fits ∙ ap (λ (n : ℕ). big_bytes 2 n ++ drop 2 bytes) magic in
-    let second : drop 2 bytes ≡ 1 ∷ [] ++ drop 3 bytes = byte_here 2 3 bytes refl (omega arith) ∙ ap (λ (n : ℕ). n ∷ drop 3 bytes) version in
+    let second : drop 2 bytes ≡ version_number (version_at bytes) ∷ [] ++ drop 3 bytes = byte_here 2 3 bytes refl (omega arith) ∙ ap (λ (n : ℕ). n ∷ drop 3 bytes) version in
     let third : drop 3 bytes ≡ code_of kind ∷ [] ++ drop 4 bytes = byte_here 3 4 bytes refl (omega arith) ∙ ap (λ (n : ℕ). n ∷ drop 4 bytes) code in
     then (big_bytes 2 0x4338) first
-    (then (1 ∷ []) second
+    (then (version_number (version_at bytes) ∷ []) second
     (then (code_of kind ∷ []) third
     (then (big_bytes 8 (number_at 4 8 bytes)) (spelled_at 4 8 12 bytes refl (omega arith) fits)
     (then (slice_index bytes 12 ∷ []) (byte_here 12 13 bytes refl (omega arith))
@@ -38,10 +43,28 @@ spelled_header kind bytes fits long magic version code =
     (then (big_bytes 4 (number_at 16 4 bytes)) (spelled_at 16 4 20 bytes refl (omega arith) fits)
     (spelled_at 20 4 24 bytes refl long fits))))))))
 
+-- byte 2 is the number of the version that it names
+pub version_here : (kind : DatagramKind) (bytes : List ℕ) → applies errors.Version (Some kind) bytes ≡ false → slice_index bytes 2 ≡ version_number (version_at bytes)
+unfolding applies
+version_here kind bytes right =
+    elim (cases_eq (slice_index bytes 2) 2) [
+      | inl two ↦ rw (eq-eqb (slice_index bytes 2) 2 two) two
+      | inr other ↦ rw (ne_eqb (slice_index bytes 2) 2 other) (grind (arith, nat_tests, right, other))
+    ]
+
+pub version_again : (version : WireVersion) → version_named (version_number version) ≡ version
+version_again versions.One = refl
+version_again versions.Two = refl
+
+version_right : (version : WireVersion) (byte : ℕ) → byte ≡ version_number version → not (byte == 1) && not (byte == 2) ≡ false
+version_right versions.One byte is = rw is refl
+version_right versions.Two byte is = rw is refl
+
 -- the bytes begin with this header, before a body of so many bytes
 pub record HasHead (bytes : List ℕ) (head : HeadValue) (size : ℕ) : Type 0 where
   pub magic : number_at 0 2 bytes ≡ 0x4338
-  pub version : slice_index bytes 2 ≡ 1
+  pub code : slice_index bytes 2 ≡ version_number head.version
+  pub version : version_at bytes ≡ head.version
   pub kind : kind_at bytes ≡ Some head.kind
   pub from : slice_index bytes 12 ≡ head.from
   pub to : slice_index bytes 13 ≡ head.to
@@ -57,12 +80,13 @@ headed head length body is short =
     let addressee = big_number-reads_back 4 head.addressee_epoch body is.addressee_epoch in
     record {
       magic = refl;
-      version = refl;
+      code = refl;
+      version = version_again head.version;
       kind = kind_of_its_code head.kind;
       from = refl;
       to = refl;
       sized = big_number-reads_back 2 length rest short;
-      values = λ i. record { kind = head.kind; session = session i; from = head.from; to = head.to; sender_epoch = sender i; addressee_epoch = addressee i };
+      values = λ i. record { kind = head.kind; version = version_again head.version i; session = session i; from = head.from; to = head.to; sender_epoch = sender i; addressee_epoch = addressee i };
     }
 
 -- no refusal of the header applies to the spelling
@@ -77,5 +101,5 @@ front_accepted kind bytes head size has long =
     record {
       short = grind (arith, nat_tests);
       magic = grind (arith, nat_tests, has.magic);
-      version = grind (arith, nat_tests, has.version);
+      version = version_right head.version (slice_index bytes 2) has.code;
     }

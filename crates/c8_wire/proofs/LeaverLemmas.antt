@@ -1,19 +1,19 @@
 -- FREEZE, FROZEN and CUT: their bytes are those of what they say, and what they say is read again.
-use Rattle.std.proofs.Common.{◌≡◌, ℕ, ◌+◌, ◌*◌, ◌≤◌, List, [], ◌∷◌, ◌++◌, length, drop, slice_index, refl, ap, ◌∙◌, arith}
+use Rattle.std.proofs.Common.{◌≡◌, true, ℕ, ◌+◌, ◌-◌, ◌≤◌, List, [], ◌∷◌, ◌++◌, length, drop, slice_index, refl, ap, ◌∙◌, arith}
 use Rattle.std.proofs.lemmas.List.{drop_all}
 use Rattle.std.proofs.lemmas.Bool.Decides.{nat_tests}
 use Rattle.byteorder.specs.Endian.{big_bytes}
 use Rattle.byteorder.specs.Numbers.{big_number-reads_back}
 use Rattle.c8_game.specs.Rules.{most_inputs}
+use Rattle.c8_game.specs.declared.wire.WireVersion.{WireVersion}
 use Rattle.c8_wire.specs.declared.kinds.DatagramKind.TheVariants as kinds
-use Rattle.c8_wire.specs.Packet.{AreBytes, HeadValue, IsHead, FreezeMessage, IsFreezeMessage, LeaverMessage, IsLeaverMessage, Freeze, AreWords}
-use Rattle.c8_wire.specs.Spelling.{header_bytes, leaver_bytes, run_bytes, body_bytes}
-use Rattle.c8_wire.specs.Reading.{number_at, size_at, words_of, freeze_at, leaver_at}
+use Rattle.c8_wire.specs.Packet.{AreBytes, HeadValue, IsHead, FreezeMessage, IsFreezeMessage, LeaverMessage, IsLeaverMessage, Freeze, AreWords, has_few_stretches}
+use Rattle.c8_wire.specs.Spelling.{header_bytes, leaver_bytes, inputs_bytes, run_bytes, body_bytes}
+use Rattle.c8_wire.specs.Reading.{number_at, version_at, size_at, run_at, freeze_at, leaver_at}
 use Rattle.c8_wire.specs.Refusal.{applies}
 use Rattle.c8_wire.specs.checked.NumberLaws.{spelled_at}
-use Rattle.c8_wire.specs.checked.WordLaws.{length-spelled_words}
-use Rattle.c8_wire.proofs.HeadLemmas.{then, byte_here, HasHead, front_accepted}
-use Rattle.c8_wire.proofs.RunLemmas.{IsRunAt, length-words_at, spelled_run, HasRun, run_again}
+use Rattle.c8_wire.proofs.HeadLemmas.{then, byte_here, version_again, HasHead, front_accepted}
+use Rattle.c8_wire.proofs.RunLemmas.{IsRunAt, run_shaped, run_here, spelled_run, HasRun, run_again, counted, paired}
 use Rattle.c8_wire.proofs.TableLemmas.{IsAccepted}
 
 -- ---- what is not refused is spelled
@@ -49,12 +49,13 @@ freeze_shaped bytes sized a =
 pub frozen_shaped : (bytes : List ℕ) → length bytes ≡ 24 + size_at bytes → IsAccepted kinds.Frozen bytes → IsLeaverShaped bytes
 unfolding applies
 frozen_shaped bytes sized a =
+    let misfit = a.length in
+    let fixed : 12 ≤ size_at bytes = grind (arith, nat_tests) in
     let player = a.player in
     let reserved = a.reserved in
-    let count = a.count in
     let beyond = a.beyond in
     record {
-      run = record { ends = grind (arith, nat_tests); short = grind (arith, nat_tests) };
+      run = run_shaped 30 (size_at bytes - 12) bytes (omega (arith, sized, fixed)) a.count a.pairs;
       names = record { from_two = grind (arith, nat_tests); to_four = grind (arith, nat_tests); reserved = grind (arith, nat_tests); inputs = grind (arith, nat_tests) };
       within = grind (arith, nat_tests);
     }
@@ -62,12 +63,13 @@ frozen_shaped bytes sized a =
 pub cut_shaped : (bytes : List ℕ) → length bytes ≡ 24 + size_at bytes → IsAccepted kinds.Cut bytes → IsLeaverShaped bytes
 unfolding applies
 cut_shaped bytes sized a =
+    let misfit = a.length in
+    let fixed : 12 ≤ size_at bytes = grind (arith, nat_tests) in
     let player = a.player in
     let reserved = a.reserved in
-    let count = a.count in
     let beyond = a.beyond in
     record {
-      run = record { ends = grind (arith, nat_tests); short = grind (arith, nat_tests) };
+      run = run_shaped 30 (size_at bytes - 12) bytes (omega (arith, sized, fixed)) a.count a.pairs;
       names = record { from_two = grind (arith, nat_tests); to_four = grind (arith, nat_tests); reserved = grind (arith, nat_tests); inputs = grind (arith, nat_tests) };
       within = grind (arith, nat_tests);
     }
@@ -81,24 +83,24 @@ spelled_leaver bytes rest fits long reserved after =
     (then (0 ∷ []) second
     (then (big_bytes 4 (number_at 26 4 bytes)) (spelled_at 26 4 30 bytes refl (omega arith) fits) after))
 
-pub spelled_freeze : (bytes : List ℕ) → AreBytes bytes → IsFreezeShaped bytes → drop 24 bytes ≡ body_bytes (Freeze (freeze_at bytes))
+pub spelled_freeze : (bytes : List ℕ) → AreBytes bytes → IsFreezeShaped bytes → drop 24 bytes ≡ body_bytes (version_at bytes) (Freeze (freeze_at bytes))
 spelled_freeze bytes fits is = spelled_leaver bytes [] fits (omega (arith, is.size)) is.names.reserved (drop_all 30 bytes (omega (arith, is.size)))
 
-pub spelled_run_of_leaver : (bytes : List ℕ) → AreBytes bytes → IsLeaverShaped bytes → drop 24 bytes ≡ leaver_bytes (leaver_at bytes)
+pub spelled_run_of_leaver : (bytes : List ℕ) → AreBytes bytes → IsLeaverShaped bytes → drop 24 bytes ≡ leaver_bytes (version_at bytes) (leaver_at bytes)
 spelled_run_of_leaver bytes fits is =
-    spelled_leaver bytes (run_bytes (number_at 30 4 bytes) (words_of (drop 36 bytes))) fits (omega (arith, is.run.ends)) is.names.reserved (spelled_run 30 bytes fits is.run)
+    spelled_leaver bytes (run_bytes (version_at bytes) (number_at 30 4 bytes) (run_at 36 bytes)) fits (omega (arith, is.run.long)) is.names.reserved (spelled_run 30 bytes fits is.run)
 
 pub is_freeze : (bytes : List ℕ) → IsFreezeShaped bytes → IsFreezeMessage (freeze_at bytes)
 is_freeze bytes is = record { leaver_from_two = is.names.from_two; leaver_to_four = is.names.to_four; have = is.names.inputs }
 
-pub is_leaver : (bytes : List ℕ) → IsLeaverShaped bytes → IsLeaverMessage (leaver_at bytes)
-is_leaver bytes is =
-    let count = length-words_at 30 bytes is.run in
+pub is_leaver : (bytes : List ℕ) → AreBytes bytes → IsLeaverShaped bytes → IsLeaverMessage (leaver_at bytes)
+is_leaver bytes fits is =
+    let run = run_here 30 bytes fits is.run in
     record {
       leaver_from_two = is.names.from_two;
       leaver_to_four = is.names.to_four;
       length = is.names.inputs;
-      run = record { short = omega (arith, count, is.run.short); within = omega (arith, count, is.within) };
+      run = record { short = omega (arith, run.many, is.run.short); within = omega (arith, run.many, is.within) };
     }
 
 -- ---- what is spelled is read again
@@ -108,35 +110,35 @@ pub record HasFreeze (bytes : List ℕ) (m : FreezeMessage) : Type 0 where
   pub reserved : slice_index bytes 25 ≡ 0
   pub have : number_at 26 4 bytes ≡ m.have
 
-pub freeze_again : (head : HeadValue) (size : ℕ) (m : FreezeMessage) → IsFreezeMessage m → HasFreeze (header_bytes head size ++ body_bytes (Freeze m)) m
+pub freeze_again : (head : HeadValue) (size : ℕ) (m : FreezeMessage) → IsFreezeMessage m → HasFreeze (header_bytes head size ++ body_bytes head.version (Freeze m)) m
 unfolding number_at
 freeze_again head size m is = record { leaver = refl; reserved = refl; have = big_number-reads_back 4 m.have [] (omega (arith, is.have)) }
 
-pub record HasLeaver (bytes : List ℕ) (m : LeaverMessage) : Type 0 where
+pub record HasLeaver (bytes : List ℕ) (version : WireVersion) (m : LeaverMessage) : Type 0 where
   pub leaver : slice_index bytes 24 ≡ m.leaver
   pub reserved : slice_index bytes 25 ≡ 0
   pub inputs : number_at 26 4 bytes ≡ m.length
-  pub run : HasRun 30 bytes m.start m.words
+  pub run : HasRun 30 bytes version m.start m.words
 
-pub leaver_again : (head : HeadValue) (size : ℕ) (m : LeaverMessage) → IsLeaverMessage m → AreWords m.words → HasLeaver (header_bytes head size ++ leaver_bytes m) m
+pub leaver_again : (head : HeadValue) (size : ℕ) (m : LeaverMessage) → IsLeaverMessage m → AreWords m.words → HasLeaver (header_bytes head size ++ leaver_bytes head.version m) head.version m
 unfolding number_at
 leaver_again head size m is fits =
-    let bytes : List ℕ = header_bytes head size ++ leaver_bytes m in
+    let bytes : List ℕ = header_bytes head size ++ leaver_bytes head.version m in
     record {
       leaver = refl;
       reserved = refl;
-      inputs = big_number-reads_back 4 m.length (run_bytes m.start m.words) (omega (arith, is.length));
-      run = run_again 30 bytes m.start m.words refl (omega (arith, is.length, is.run.within)) (omega (arith, is.run.short)) fits;
+      inputs = big_number-reads_back 4 m.length (run_bytes head.version m.start m.words) (omega (arith, is.length));
+      run = run_again 30 bytes head.version m.start m.words (version_again head.version) refl (omega (arith, is.length, is.run.within)) (omega (arith, is.run.short)) fits;
     }
 
 pub freeze_values : (bytes : List ℕ) (m : FreezeMessage) → HasFreeze bytes m → freeze_at bytes ≡ m
 freeze_values bytes m has = λ i. record { leaver = has.leaver i; have = has.have i }
 
-pub leaver_values : (bytes : List ℕ) (m : LeaverMessage) → HasLeaver bytes m → leaver_at bytes ≡ m
-leaver_values bytes m has = λ i. record { leaver = has.leaver i; length = has.inputs i; start = has.run.from i; words = has.run.inputs i }
+pub leaver_values : (bytes : List ℕ) (version : WireVersion) (m : LeaverMessage) → HasLeaver bytes version m → leaver_at bytes ≡ m
+leaver_values bytes version m has = λ i. record { leaver = has.leaver i; length = has.inputs i; start = has.run.from i; words = has.run.inputs i }
 
-pub length-leaver_bytes : (m : LeaverMessage) → length (leaver_bytes m) ≡ 12 + 2 * length m.words
-length-leaver_bytes m = omega (arith, length-spelled_words m.words)
+pub length-leaver_bytes : (version : WireVersion) (m : LeaverMessage) → length (leaver_bytes version m) ≡ 12 + length (inputs_bytes version m.words)
+length-leaver_bytes version m = omega arith
 
 -- no refusal applies to the spelling
 pub freeze_accepted : (bytes : List ℕ) (head : HeadValue) (m : FreezeMessage) → IsHead head → IsFreezeMessage m → HasHead bytes head 6 → length bytes ≡ 30 → HasFreeze bytes m → IsAccepted kinds.Freeze bytes
@@ -151,12 +153,13 @@ freeze_accepted bytes head m is message has long body =
       player = grind (arith, nat_tests, is.from_one, is.from_four, is.to_one, is.to_four, is.apart, has.from, has.to, body.leaver, message.leaver_from_two, message.leaver_to_four);
       reserved = grind (arith, nat_tests, body.reserved);
       count = refl;
+      pairs = refl;
       beyond = grind (arith, nat_tests, body.have, message.have);
     }
 
-pub frozen_accepted : (bytes : List ℕ) (head : HeadValue) (size : ℕ) (m : LeaverMessage) → IsHead head → IsLeaverMessage m → HasHead bytes head size → length bytes ≡ 24 + size → size ≡ 12 + 2 * length m.words → HasLeaver bytes m → IsAccepted kinds.Frozen bytes
+pub frozen_accepted : (bytes : List ℕ) (head : HeadValue) (size : ℕ) (m : LeaverMessage) → IsHead head → IsLeaverMessage m → AreWords m.words → has_few_stretches head.version m.words ≡ true → HasHead bytes head size → length bytes ≡ 24 + size → size ≡ 12 + length (inputs_bytes head.version m.words) → HasLeaver bytes head.version m → IsAccepted kinds.Frozen bytes
 unfolding applies
-frozen_accepted bytes head size m is message has long sized body =
+frozen_accepted bytes head size m is message fits room has long sized body =
     let front = front_accepted kinds.Frozen bytes head size has long in
     record {
       short = front.short;
@@ -165,13 +168,14 @@ frozen_accepted bytes head size m is message has long sized body =
       length = grind (arith, nat_tests, has.sized);
       player = grind (arith, nat_tests, is.from_one, is.from_four, is.to_one, is.to_four, is.apart, has.from, has.to, body.leaver, message.leaver_from_two, message.leaver_to_four);
       reserved = grind (arith, nat_tests, body.reserved);
-      count = grind (arith, nat_tests, has.sized, body.run.count, message.run.short);
+      count = counted kinds.Frozen bytes head.version m.words has.version body.run.count (has.sized ∙ sized) message.run.short room;
+      pairs = paired kinds.Frozen bytes head.version m.words has.version body.run.count body.run.spelled fits;
       beyond = grind (arith, nat_tests, body.inputs, body.run.from, body.run.count, message.length, message.run.within);
     }
 
-pub cut_accepted : (bytes : List ℕ) (head : HeadValue) (size : ℕ) (m : LeaverMessage) → IsHead head → IsLeaverMessage m → HasHead bytes head size → length bytes ≡ 24 + size → size ≡ 12 + 2 * length m.words → HasLeaver bytes m → IsAccepted kinds.Cut bytes
+pub cut_accepted : (bytes : List ℕ) (head : HeadValue) (size : ℕ) (m : LeaverMessage) → IsHead head → IsLeaverMessage m → AreWords m.words → has_few_stretches head.version m.words ≡ true → HasHead bytes head size → length bytes ≡ 24 + size → size ≡ 12 + length (inputs_bytes head.version m.words) → HasLeaver bytes head.version m → IsAccepted kinds.Cut bytes
 unfolding applies
-cut_accepted bytes head size m is message has long sized body =
+cut_accepted bytes head size m is message fits room has long sized body =
     let front = front_accepted kinds.Cut bytes head size has long in
     record {
       short = front.short;
@@ -180,6 +184,7 @@ cut_accepted bytes head size m is message has long sized body =
       length = grind (arith, nat_tests, has.sized);
       player = grind (arith, nat_tests, is.from_one, is.from_four, is.to_one, is.to_four, is.apart, has.from, has.to, body.leaver, message.leaver_from_two, message.leaver_to_four);
       reserved = grind (arith, nat_tests, body.reserved);
-      count = grind (arith, nat_tests, has.sized, body.run.count, message.run.short);
+      count = counted kinds.Cut bytes head.version m.words has.version body.run.count (has.sized ∙ sized) message.run.short room;
+      pairs = paired kinds.Cut bytes head.version m.words has.version body.run.count body.run.spelled fits;
       beyond = grind (arith, nat_tests, body.inputs, body.run.from, body.run.count, message.length, message.run.within);
     }

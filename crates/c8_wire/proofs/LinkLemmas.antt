@@ -5,6 +5,7 @@ use Rattle.std.proofs.lemmas.Bool.Decides.{nat_tests}
 use Rattle.byteorder.specs.Endian.{big_bytes}
 use Rattle.byteorder.specs.Numbers.{big_number-reads_back}
 use Rattle.c8_game.specs.Rules.{most_inputs}
+use Rattle.c8_game.specs.declared.wire.WireVersion.{WireVersion}
 use Rattle.c8_wire.specs.declared.kinds.DatagramKind.TheVariants as kinds
 use Rattle.c8_wire.specs.Packet.{AreBytes, HeadValue, IsHead, Hello, Welcome}
 use Rattle.c8_wire.specs.Spelling.{header_bytes, body_bytes}
@@ -18,8 +19,8 @@ pub length-hello : (bytes : List ℕ) → length bytes ≡ 24 + size_at bytes �
 unfolding applies
 length-hello bytes sized a = let fixed = a.length in grind (arith, nat_tests)
 
-pub spelled_hello : (bytes : List ℕ) → length bytes ≡ 24 → drop 24 bytes ≡ body_bytes Hello
-spelled_hello bytes long = drop_all 24 bytes (omega arith)
+pub spelled_hello : (version : WireVersion) (bytes : List ℕ) → length bytes ≡ 24 → drop 24 bytes ≡ body_bytes version Hello
+spelled_hello version bytes long = drop_all 24 bytes (omega arith)
 
 pub record IsWelcomeShaped (bytes : List ℕ) : Type 0 where
   pub size : length bytes ≡ 28
@@ -32,10 +33,10 @@ welcome_shaped bytes sized a =
     let beyond = a.beyond in
     record { size = grind (arith, nat_tests); ack = grind (arith, nat_tests) }
 
-pub spelled_welcome : (bytes : List ℕ) → AreBytes bytes → IsWelcomeShaped bytes → drop 24 bytes ≡ body_bytes (Welcome (number_at 24 4 bytes))
-spelled_welcome bytes fits is = then (big_bytes 4 (number_at 24 4 bytes)) (spelled_at 24 4 28 bytes refl (omega (arith, is.size)) fits) (drop_all 28 bytes (omega (arith, is.size)))
+pub spelled_welcome : (version : WireVersion) (bytes : List ℕ) → AreBytes bytes → IsWelcomeShaped bytes → drop 24 bytes ≡ body_bytes version (Welcome (number_at 24 4 bytes))
+spelled_welcome version bytes fits is = then (big_bytes 4 (number_at 24 4 bytes)) (spelled_at 24 4 28 bytes refl (omega (arith, is.size)) fits) (drop_all 28 bytes (omega (arith, is.size)))
 
-pub ack_again : (head : HeadValue) (size ack : ℕ) → ack ≤ most_inputs → number_at 24 4 (header_bytes head size ++ body_bytes (Welcome ack)) ≡ ack
+pub ack_again : (head : HeadValue) (size ack : ℕ) → ack ≤ most_inputs → number_at 24 4 (header_bytes head size ++ body_bytes head.version (Welcome ack)) ≡ ack
 unfolding number_at
 ack_again head size ack few = big_number-reads_back 4 ack [] (omega arith)
 
@@ -52,6 +53,7 @@ hello_accepted bytes head is has long =
       player = grind (arith, nat_tests, is.from_one, is.from_four, is.to_one, is.to_four, is.apart, has.from, has.to);
       reserved = refl;
       count = refl;
+      pairs = refl;
       beyond = refl;
     }
 
@@ -67,5 +69,6 @@ welcome_accepted bytes head ack is few has long body =
       player = grind (arith, nat_tests, is.from_one, is.from_four, is.to_one, is.to_four, is.apart, has.from, has.to);
       reserved = refl;
       count = refl;
+      pairs = refl;
       beyond = grind (arith, nat_tests);
     }

@@ -1,20 +1,26 @@
 -- The two halves of the grammar: what is not refused is spelled, and what is spelled is not refused and read again.
-use Rattle.std.proofs.Common.{◌≡◌, ℕ, ◌+◌, ◌*◌, ◌≤◌, List, ◌++◌, length, drop, slice_index, Some, None, refl, sym, ap, subst, ◌∙◌, arith}
+use Rattle.std.proofs.Common.{◌≡◌, true, ℕ, ◌+◌, ◌≤◌, List, ◌++◌, length, drop, slice_index, Some, None, refl, sym, ap, subst, ◌∙◌, arith}
 use Rattle.std.proofs.lemmas.List.{length-drop, length-append}
+use Rattle.std.proofs.lemmas.Bool.{leb-true}
 use Rattle.std.proofs.lemmas.Bool.Decides.{nat_tests}
+use Rattle.c8_game.specs.declared.wire.WireVersion.{WireVersion}
+use Rattle.c8_game.specs.declared.wire.WireVersion.TheVariants as versions
 use Rattle.c8_wire.specs.declared.kinds.DatagramKind.{DatagramKind}
 use Rattle.c8_wire.specs.declared.kinds.DatagramKind.TheVariants as kinds
-use Rattle.c8_wire.specs.Packet.{AreBytes, HeadValue, IsHead, Message, Hello, Welcome, Data, Freeze, Frozen, Cut, Fits, IsMessage, kind_of, Packet}
-use Rattle.c8_wire.specs.Spelling.{header_bytes, leaver_bytes, body_bytes, spelling, Spells}
-use Rattle.c8_wire.specs.Reading.{number_at, kind_at, size_at, head_at, message_at, packet_at}
+use Rattle.c8_wire.specs.Packet.{AreBytes, HeadValue, IsHead, Message, Hello, Welcome, Data, Freeze, Frozen, Cut, Fits, IsMessage, has_room, kind_of, Packet}
+use Rattle.c8_game.specs.Wire.{version_number}
+use Rattle.c8_wire.specs.Spelling.{inputs_bytes, header_bytes, leaver_bytes, body_bytes, spelling, Spells}
+use Rattle.c8_wire.specs.Reading.{number_at, version_at, kind_at, size_at, head_at, message_at, packet_at}
 use Rattle.c8_wire.specs.Refusal.{applies, refusal}
-use Rattle.c8_wire.specs.checked.NumberLaws.{AreBytes-drop, number_at-lt}
-use Rattle.c8_wire.specs.checked.WordLaws.{words_of-lt}
+use Rattle.c8_pairs.specs.Pairs.{pairs_of}
+use Rattle.c8_pairs.specs.checked.PairLaws.{length_spelled}
+use Rattle.c8_wire.specs.checked.NumberLaws.{number_at-lt}
+use Rattle.c8_wire.specs.checked.RunLaws.{few_bytes}
 use Rattle.c8_wire.proofs.LinkLemmas.{length-hello, spelled_hello, welcome_shaped, spelled_welcome, ack_again, hello_accepted, welcome_accepted}
 use Rattle.c8_wire.proofs.LeaverLemmas.{freeze_shaped, frozen_shaped, cut_shaped, spelled_freeze, spelled_run_of_leaver, is_freeze, is_leaver, freeze_again, leaver_again, freeze_values, leaver_values, length-leaver_bytes, freeze_accepted, frozen_accepted, cut_accepted}
-use Rattle.c8_wire.proofs.RunLemmas.{IsRunAt}
+use Rattle.c8_wire.proofs.RunLemmas.{IsRunAt, run_here}
 use Rattle.c8_wire.proofs.TableLemmas.{code_of_found, IsAccepted, accepted, not_refused}
-use Rattle.c8_wire.proofs.HeadLemmas.{then, spelled_header, headed}
+use Rattle.c8_wire.proofs.HeadLemmas.{then, version_here, spelled_header, headed}
 use Rattle.c8_wire.proofs.DataLemmas.{data_shaped, spelled_data, is_data, data_again, data_values, length-data_bytes, data_accepted}
 
 -- ---- what is not refused is spelled
@@ -23,7 +29,7 @@ use Rattle.c8_wire.proofs.DataLemmas.{data_shaped, spelled_data, is_data, data_a
 record IsShaped (kind : DatagramKind) (bytes : List ℕ) : Type 0 where
   long : 24 ≤ length bytes
   magic : number_at 0 2 bytes ≡ 0x4338
-  version : slice_index bytes 2 ≡ 1
+  version : slice_index bytes 2 ≡ version_number (version_at bytes)
   sized : length bytes ≡ 24 + size_at bytes
   head : IsHead (head_at kind bytes)
 
@@ -32,13 +38,12 @@ unfolding applies
 shaped kind bytes fits a =
     let short = a.short in
     let magic = a.magic in
-    let version = a.version in
     let sized = a.length in
     let player = a.player in
     record {
       long = grind (arith, nat_tests);
       magic = grind (arith, nat_tests);
-      version = grind (arith, nat_tests);
+      version = version_here kind bytes a.version;
       sized = grind (arith, nat_tests);
       head = record {
         session = number_at-lt 4 8 bytes fits;
@@ -57,27 +62,30 @@ record IsBody (kind : DatagramKind) (bytes : List ℕ) : Type 0 where
   named : kind ≡ kind_of (message_at kind bytes)
   fits : Fits (message_at kind bytes)
   message : IsMessage (message_at kind bytes)
-  spelled : drop 24 bytes ≡ body_bytes (message_at kind bytes)
+  room : has_room (version_at bytes) (message_at kind bytes) ≡ true
+  spelled : drop 24 bytes ≡ body_bytes (version_at bytes) (message_at kind bytes)
 
 body_found : (kind : DatagramKind) (bytes : List ℕ) → AreBytes bytes → length bytes ≡ 24 + size_at bytes → IsAccepted kind bytes → IsBody kind bytes
 body_found kinds.Hello bytes fits sized a =
-    record { named = refl; fits = tt; message = tt; spelled = spelled_hello bytes (length-hello bytes sized a) }
+    record { named = refl; fits = tt; message = tt; room = refl; spelled = spelled_hello (version_at bytes) bytes (length-hello bytes sized a) }
 body_found kinds.Welcome bytes fits sized a =
     let is = welcome_shaped bytes sized a in
-    record { named = refl; fits = tt; message = is.ack; spelled = spelled_welcome bytes fits is }
+    record { named = refl; fits = tt; message = is.ack; room = refl; spelled = spelled_welcome (version_at bytes) bytes fits is }
 body_found kinds.Data bytes fits sized a =
     let is = data_shaped bytes sized a in
     let both = is_data bytes fits is in
-    record { named = refl; fits = both.1; message = both.0; spelled = spelled_data bytes fits is }
+    record { named = refl; fits = both.1; message = both.0; room = both.2; spelled = spelled_data bytes fits is }
 body_found kinds.Freeze bytes fits sized a =
     let is = freeze_shaped bytes sized a in
-    record { named = refl; fits = tt; message = is_freeze bytes is; spelled = spelled_freeze bytes fits is }
+    record { named = refl; fits = tt; message = is_freeze bytes is; room = refl; spelled = spelled_freeze bytes fits is }
 body_found kinds.Frozen bytes fits sized a =
     let is = frozen_shaped bytes sized a in
-    record { named = refl; fits = words_of-lt (drop 36 bytes) (AreBytes-drop 36 bytes fits); message = is_leaver bytes is; spelled = spelled_run_of_leaver bytes fits is }
+    let run = run_here 30 bytes fits is.run in
+    record { named = refl; fits = run.sets; message = is_leaver bytes fits is; room = run.room; spelled = spelled_run_of_leaver bytes fits is }
 body_found kinds.Cut bytes fits sized a =
     let is = cut_shaped bytes sized a in
-    record { named = refl; fits = words_of-lt (drop 36 bytes) (AreBytes-drop 36 bytes fits); message = is_leaver bytes is; spelled = spelled_run_of_leaver bytes fits is }
+    let run = run_here 30 bytes fits is.run in
+    record { named = refl; fits = run.sets; message = is_leaver bytes fits is; room = run.room; spelled = spelled_run_of_leaver bytes fits is }
 
 pub found : (kind : DatagramKind) (bytes : List ℕ) → AreBytes bytes → kind_at bytes ≡ Some kind → refusal bytes ≡ None → Spells bytes (packet_at kind bytes)
 unfolding spelling
@@ -85,11 +93,11 @@ found kind bytes fits named none =
     let a = accepted kind bytes named none in
     let front = shaped kind bytes fits a in
     let body = body_found kind bytes fits front.sized a in
-    let size : size_at bytes ≡ length (body_bytes (message_at kind bytes)) = omega (arith, length-drop 24 bytes, front.sized, ap length body.spelled) in
+    let size : size_at bytes ≡ length (body_bytes (version_at bytes) (message_at kind bytes)) = omega (arith, length-drop 24 bytes, front.sized, ap length body.spelled) in
     let header = spelled_header kind bytes fits front.long front.magic front.version (code_of_found (slice_index bytes 3) kind named) in
     record {
-      packet = record { head = front.head; kind = body.named; fits = body.fits; message = body.message };
-      spelled = then (header_bytes (head_at kind bytes) (size_at bytes)) header body.spelled ∙ ap (λ (n : ℕ). header_bytes (head_at kind bytes) n ++ body_bytes (message_at kind bytes)) size;
+      packet = record { head = front.head; kind = body.named; fits = body.fits; message = body.message; room = body.room };
+      spelled = then (header_bytes (head_at kind bytes) (size_at bytes)) header body.spelled ∙ ap (λ (n : ℕ). header_bytes (head_at kind bytes) n ++ body_bytes (version_at bytes) (message_at kind bytes)) size;
     }
 
 length-datagram : (head : HeadValue) (size : ℕ) (body : List ℕ) → length (header_bytes head size ++ body) ≡ 24 + length body
@@ -112,47 +120,47 @@ read_again bytes head message named kind values accepted same =
       same = λ i. record { head = values i; message = (ap (λ (k : DatagramKind). message_at k bytes) kind ∙ same) i };
     }
 
-message_again : (head : HeadValue) (message : Message) → IsHead head → head.kind ≡ kind_of message → Fits message → IsMessage message
-    → IsReadAgain (header_bytes head (length (body_bytes message)) ++ body_bytes message) (record { head = head; message = message })
-message_again head Hello is kind fits message =
-    let bytes : List ℕ = header_bytes head 0 ++ body_bytes Hello in
-    let has = headed head 0 (body_bytes Hello) is (omega arith) in
+message_again : (head : HeadValue) (message : Message) → IsHead head → head.kind ≡ kind_of message → Fits message → IsMessage message → has_room head.version message ≡ true
+    → IsReadAgain (header_bytes head (length (body_bytes head.version message)) ++ body_bytes head.version message) (record { head = head; message = message })
+message_again head Hello is kind fits message room =
+    let bytes : List ℕ = header_bytes head 0 ++ body_bytes head.version Hello in
+    let has = headed head 0 (body_bytes head.version Hello) is (omega arith) in
     read_again bytes head Hello has.kind kind has.values (hello_accepted bytes head is has refl) refl
-message_again head (Welcome ack) is kind fits message =
-    let bytes : List ℕ = header_bytes head 4 ++ body_bytes (Welcome ack) in
-    let has = headed head 4 (body_bytes (Welcome ack)) is (omega arith) in
+message_again head (Welcome ack) is kind fits message room =
+    let bytes : List ℕ = header_bytes head 4 ++ body_bytes head.version (Welcome ack) in
+    let has = headed head 4 (body_bytes head.version (Welcome ack)) is (omega arith) in
     let body = ack_again head 4 ack message in
     read_again bytes head (Welcome ack) has.kind kind has.values (welcome_accepted bytes head ack is message has refl body) (ap Welcome body)
-message_again head (Data m) is kind fits message =
-    let size : ℕ = length (body_bytes (Data m)) in
-    let bytes : List ℕ = header_bytes head size ++ body_bytes (Data m) in
-    let length_is : size ≡ 22 + 2 * length m.words = length-data_bytes m fits.0.0 in
-    let has = headed head size (body_bytes (Data m)) is (omega (arith, length_is, message.run.short)) in
+message_again head (Data m) is kind fits message room =
+    let size : ℕ = length (body_bytes head.version (Data m)) in
+    let bytes : List ℕ = header_bytes head size ++ body_bytes head.version (Data m) in
+    let length_is : size ≡ 22 + length (inputs_bytes head.version m.words) = length-data_bytes head.version m fits.0.0 in
+    let has = headed head size (body_bytes head.version (Data m)) is (omega (arith, length_is, few_bytes head.version m.words message.run.short room)) in
     let body = data_again head size m message fits in
-    read_again bytes head (Data m) has.kind kind has.values (data_accepted bytes head size m is message has (length-datagram head size (body_bytes (Data m))) length_is body) (ap Data (data_values bytes m body))
-message_again head (Freeze m) is kind fits message =
-    let bytes : List ℕ = header_bytes head 6 ++ body_bytes (Freeze m) in
-    let has = headed head 6 (body_bytes (Freeze m)) is (omega arith) in
+    read_again bytes head (Data m) has.kind kind has.values (data_accepted bytes head size m is message fits room has (length-datagram head size (body_bytes head.version (Data m))) length_is body) (ap Data (data_values bytes head.version m body))
+message_again head (Freeze m) is kind fits message room =
+    let bytes : List ℕ = header_bytes head 6 ++ body_bytes head.version (Freeze m) in
+    let has = headed head 6 (body_bytes head.version (Freeze m)) is (omega arith) in
     let body = freeze_again head 6 m message in
     read_again bytes head (Freeze m) has.kind kind has.values (freeze_accepted bytes head m is message has refl body) (ap Freeze (freeze_values bytes m body))
-message_again head (Frozen m) is kind fits message =
-    let size : ℕ = length (leaver_bytes m) in
-    let bytes : List ℕ = header_bytes head size ++ leaver_bytes m in
-    let length_is = length-leaver_bytes m in
-    let has = headed head size (leaver_bytes m) is (omega (arith, length_is, message.run.short)) in
+message_again head (Frozen m) is kind fits message room =
+    let size : ℕ = length (leaver_bytes head.version m) in
+    let bytes : List ℕ = header_bytes head size ++ leaver_bytes head.version m in
+    let length_is = length-leaver_bytes head.version m in
+    let has = headed head size (leaver_bytes head.version m) is (omega (arith, length_is, few_bytes head.version m.words message.run.short room)) in
     let body = leaver_again head size m message fits in
-    read_again bytes head (Frozen m) has.kind kind has.values (frozen_accepted bytes head size m is message has (length-datagram head size (leaver_bytes m)) length_is body) (ap Frozen (leaver_values bytes m body))
-message_again head (Cut m) is kind fits message =
-    let size : ℕ = length (leaver_bytes m) in
-    let bytes : List ℕ = header_bytes head size ++ leaver_bytes m in
-    let length_is = length-leaver_bytes m in
-    let has = headed head size (leaver_bytes m) is (omega (arith, length_is, message.run.short)) in
+    read_again bytes head (Frozen m) has.kind kind has.values (frozen_accepted bytes head size m is message fits room has (length-datagram head size (leaver_bytes head.version m)) length_is body) (ap Frozen (leaver_values bytes head.version m body))
+message_again head (Cut m) is kind fits message room =
+    let size : ℕ = length (leaver_bytes head.version m) in
+    let bytes : List ℕ = header_bytes head size ++ leaver_bytes head.version m in
+    let length_is = length-leaver_bytes head.version m in
+    let has = headed head size (leaver_bytes head.version m) is (omega (arith, length_is, few_bytes head.version m.words message.run.short room)) in
     let body = leaver_again head size m message fits in
-    read_again bytes head (Cut m) has.kind kind has.values (cut_accepted bytes head size m is message has (length-datagram head size (leaver_bytes m)) length_is body) (ap Cut (leaver_values bytes m body))
+    read_again bytes head (Cut m) has.kind kind has.values (cut_accepted bytes head size m is message fits room has (length-datagram head size (leaver_bytes head.version m)) length_is body) (ap Cut (leaver_values bytes head.version m body))
 
 pub again : (bytes : List ℕ) (p : Packet) → Spells bytes p → IsReadAgain bytes p
 unfolding spelling
-again bytes p spells = subst (λ (b : List ℕ). IsReadAgain b p) (sym spells.spelled) (message_again p.head p.message spells.packet.head spells.packet.kind spells.packet.fits spells.packet.message)
+again bytes p spells = subst (λ (b : List ℕ). IsReadAgain b p) (sym spells.spelled) (message_again p.head p.message spells.packet.head spells.packet.kind spells.packet.fits spells.packet.message spells.packet.room)
 
 some_is : {A : Type 0} (x y : A) → Some x ≡ Some y → x ≡ y
 some_is x y e = cc
@@ -198,15 +206,36 @@ cut_run bytes fits named none =
 
 -- ---- what is written
 
-pub spells_both : (bytes : List ℕ) (head : HeadValue) (message : Message) → IsHead head → head.kind ≡ kind_of message → Fits message → IsMessage message
-    → bytes ≡ header_bytes head (length (body_bytes message)) ++ body_bytes message → Spells bytes (record { head = head; message = message })
+pub spells_both : (bytes : List ℕ) (head : HeadValue) (message : Message) → IsHead head → head.kind ≡ kind_of message → Fits message → IsMessage message → has_room head.version message ≡ true
+    → bytes ≡ header_bytes head (length (body_bytes head.version message)) ++ body_bytes head.version message → Spells bytes (record { head = head; message = message })
 unfolding spelling
-spells_both bytes head message is kind fits allowed written = record { packet = record { head = is; kind = kind; fits = fits; message = allowed }; spelled = written }
+spells_both bytes head message is kind fits allowed room written = record { packet = record { head = is; kind = kind; fits = fits; message = allowed; room = room }; spelled = written }
 
-pub body_fits : (message : Message) → Fits message → IsMessage message → length (body_bytes message) ≤ 150
-body_fits Hello fits is = omega arith
-body_fits (Welcome ack) fits is = omega arith
-body_fits (Data m) fits is = omega (arith, length-data_bytes m fits.0.0, is.run.short)
-body_fits (Freeze m) fits is = omega arith
-body_fits (Frozen m) fits is = omega (arith, length-leaver_bytes m, is.run.short)
-body_fits (Cut m) fits is = omega (arith, length-leaver_bytes m, is.run.short)
+pub body_fits : (version : WireVersion) (message : Message) → Fits message → IsMessage message → has_room version message ≡ true → length (body_bytes version message) ≤ 150
+body_fits version Hello fits is room = omega arith
+body_fits version (Welcome ack) fits is room = omega arith
+body_fits version (Data m) fits is room = omega (arith, length-data_bytes version m fits.0.0, few_bytes version m.words is.run.short room)
+body_fits version (Freeze m) fits is room = omega arith
+body_fits version (Frozen m) fits is room = omega (arith, length-leaver_bytes version m, few_bytes version m.words is.run.short room)
+body_fits version (Cut m) fits is room = omega (arith, length-leaver_bytes version m, few_bytes version m.words is.run.short room)
+
+-- in version 2 a body has fewer bytes
+pub pairs_fit : (message : Message) → Fits message → has_room versions.Two message ≡ true → length (body_bytes versions.Two message) ≤ 148
+pairs_fit Hello fits room = omega arith
+pairs_fit (Welcome ack) fits room = omega arith
+pairs_fit (Data m) fits room = omega (arith, length-data_bytes versions.Two m fits.0.0, length_spelled (pairs_of m.words), leb-true (length (pairs_of m.words)) 42 room)
+pairs_fit (Freeze m) fits room = omega arith
+pairs_fit (Frozen m) fits room = omega (arith, length-leaver_bytes versions.Two m, length_spelled (pairs_of m.words), leb-true (length (pairs_of m.words)) 42 room)
+pairs_fit (Cut m) fits room = omega (arith, length-leaver_bytes versions.Two m, length_spelled (pairs_of m.words), leb-true (length (pairs_of m.words)) 42 room)
+
+-- how long what spells a packet is
+pub short_spelling : (bytes : List ℕ) (p : Packet) → Spells bytes p → length bytes ≤ 174
+unfolding spelling
+short_spelling bytes p spells =
+    omega (arith, ap length spells.spelled, length-datagram p.head (length (body_bytes p.head.version p.message)) (body_bytes p.head.version p.message), body_fits p.head.version p.message spells.packet.fits spells.packet.message spells.packet.room)
+
+pub short_in_pairs : (bytes : List ℕ) (p : Packet) → Spells bytes p → p.head.version ≡ versions.Two → length bytes ≤ 172
+unfolding spelling
+short_in_pairs bytes p spells two =
+    let fits = pairs_fit p.message spells.packet.fits (subst (λ (v : WireVersion). has_room v p.message ≡ true) two spells.packet.room) in
+    omega (arith, ap length spells.spelled, length-datagram p.head (length (body_bytes p.head.version p.message)) (body_bytes p.head.version p.message), ap (λ (v : WireVersion). length (body_bytes v p.message)) two, fits)

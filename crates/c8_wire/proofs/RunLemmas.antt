@@ -1,50 +1,98 @@
--- A run's start, count and key sets, wherever they stand.
-use Rattle.std.proofs.Common.{◌≡◌, ℕ, ◌+◌, ◌*◌, ◌^◌, ◌<◌, ◌≤◌, List, ◌++◌, length, drop, slice_index, refl, sym, ap, ◌∙◌, arith}
-use Rattle.std.specs.List.{flat_map}
+-- A run's start, count and inputs, wherever they stand.
+use Rattle.std.proofs.Common.{◌≡◌, ℕ, ◌+◌, ◌-◌, ◌^◌, ◌<◌, ◌≤◌, ◌&&◌, ◌||◌, Bool, true, false, List, ◌++◌, length, drop, slice_index, refl, sym, ap, ◌∙◌, arith}
+use Rattle.std.specs.Prelude.{nat_lt}
+use Rattle.std.proofs.lemmas.Bool.Decides.{nat_tests}
 use Rattle.std.proofs.lemmas.List.{length-drop, drop-drop}
 use Rattle.byteorder.specs.Endian.{big_bytes, big_number}
 use Rattle.byteorder.specs.Numbers.{big_number-reads_back}
-use Rattle.c8_wire.specs.Packet.{AreBytes}
-use Rattle.c8_wire.specs.Spelling.{run_bytes}
-use Rattle.c8_wire.specs.Reading.{number_at, words_of}
+use Rattle.c8_game.specs.declared.wire.WireVersion.{WireVersion}
+use Rattle.c8_wire.specs.declared.kinds.DatagramKind.{DatagramKind}
+use Rattle.c8_wire.specs.Kinds.{fixed_size, has_run, run_place}
+use Rattle.c8_wire.specs.Packet.{AreBytes, has_few_stretches}
+use Rattle.c8_wire.specs.Spelling.{inputs_bytes, run_bytes}
+use Rattle.c8_wire.specs.Reading.{number_at, version_at, size_at, inputs_of, run_at}
+use Rattle.c8_wire.specs.Refusal.{has_wrong_size, are_no_run, count_at, miscounts, mispairs}
 use Rattle.c8_wire.specs.checked.NumberLaws.{AreBytes-drop, spelled_at}
-use Rattle.c8_wire.specs.checked.WordLaws.{length_words_of, spelled_words, words_of-spelled}
+use Rattle.c8_wire.specs.checked.RunLaws.{neither, AreRun, are_run_of, inputs_again, right_size, are_paired}
 use Rattle.c8_wire.proofs.HeadLemmas.{then}
 
 -- the numbers of a run that stands at a place, in bytes that end with it
 pub record IsRunAt (place : ℕ) (bytes : List ℕ) : Type 0 where
-  pub ends : length bytes ≡ place + 6 + 2 * number_at (place + 4) 2 bytes
+  pub long : place + 6 ≤ length bytes
   pub short : number_at (place + 4) 2 bytes ≤ 64
+  pub sized : has_wrong_size (version_at bytes) (number_at (place + 4) 2 bytes) (length (drop (place + 6) bytes)) ≡ false
+  pub paired : are_no_run (version_at bytes) (number_at (place + 4) 2 bytes) (drop (place + 6) bytes) ≡ false
 
-pub length-words_at : (place : ℕ) (bytes : List ℕ) → IsRunAt place bytes → length (words_of (drop (place + 6) bytes)) ≡ number_at (place + 4) 2 bytes
-length-words_at place bytes run =
-    let left : length (drop (place + 6) bytes) ≡ 2 * number_at (place + 4) 2 bytes = omega (arith, length-drop (place + 6) bytes, run.ends) in
-    omega (arith, length_words_of (drop (place + 6) bytes), left)
+pub run_here : (place : ℕ) (bytes : List ℕ) → AreBytes bytes → IsRunAt place bytes → AreRun (version_at bytes) (number_at (place + 4) 2 bytes) (drop (place + 6) bytes)
+run_here place bytes fits run = are_run_of (version_at bytes) (number_at (place + 4) 2 bytes) (drop (place + 6) bytes) (AreBytes-drop (place + 6) bytes fits) run.sized run.paired
 
-pub spelled_run : (place : ℕ) (bytes : List ℕ) → AreBytes bytes → IsRunAt place bytes → drop place bytes ≡ run_bytes (number_at place 4 bytes) (words_of (drop (place + 6) bytes))
+pub spelled_run : (place : ℕ) (bytes : List ℕ) → AreBytes bytes → IsRunAt place bytes → drop place bytes ≡ run_bytes (version_at bytes) (number_at place 4 bytes) (run_at (place + 6) bytes)
 spelled_run place bytes fits run =
-    let left : length (drop (place + 6) bytes) ≡ 2 * number_at (place + 4) 2 bytes = omega (arith, length-drop (place + 6) bytes, run.ends) in
-    let count = length-words_at place bytes run in
-    let counted : drop (place + 4) bytes ≡ big_bytes 2 (length (words_of (drop (place + 6) bytes))) ++ drop (place + 6) bytes =
-    spelled_at (place + 4) 2 (place + 6) bytes (omega arith) (omega (arith, run.ends)) fits ∙ ap (λ (n : ℕ). big_bytes 2 n ++ drop (place + 6) bytes) (sym count) in
-    then (big_bytes 4 (number_at place 4 bytes)) (spelled_at place 4 (place + 4) bytes refl (omega (arith, run.ends)) fits)
-    (then (big_bytes 2 (length (words_of (drop (place + 6) bytes)))) counted
-    (sym (spelled_words (drop (place + 6) bytes) (omega (arith, left)) (AreBytes-drop (place + 6) bytes fits))))
+    let here = run_here place bytes fits run in
+    let counted : drop (place + 4) bytes ≡ big_bytes 2 (length (run_at (place + 6) bytes)) ++ drop (place + 6) bytes =
+    spelled_at (place + 4) 2 (place + 6) bytes (omega arith) (omega (arith, run.long)) fits ∙ ap (λ (n : ℕ). big_bytes 2 n ++ drop (place + 6) bytes) (sym here.many) in
+    then (big_bytes 4 (number_at place 4 bytes)) (spelled_at place 4 (place + 4) bytes refl (omega (arith, run.long)) fits)
+    (then (big_bytes 2 (length (run_at (place + 6) bytes))) counted (sym here.spells))
 
 -- bytes that end with a run have its numbers where it stands
-pub record HasRun (place : ℕ) (bytes : List ℕ) (start : ℕ) (words : List ℕ) : Type 0 where
+pub record HasRun (place : ℕ) (bytes : List ℕ) (version : WireVersion) (start : ℕ) (words : List ℕ) : Type 0 where
   pub from : number_at place 4 bytes ≡ start
   pub count : number_at (place + 4) 2 bytes ≡ length words
-  pub inputs : words_of (drop (place + 6) bytes) ≡ words
+  pub spelled : drop (place + 6) bytes ≡ inputs_bytes version words
+  pub inputs : run_at (place + 6) bytes ≡ words
 
-pub run_again : (place : ℕ) (bytes : List ℕ) (start : ℕ) (words : List ℕ) → drop place bytes ≡ run_bytes start words → start < 2 ^ 32 → length words < 2 ^ 16 → ((i : ℕ) → slice_index words i < 2 ^ 16) → HasRun place bytes start words
+pub run_again : (place : ℕ) (bytes : List ℕ) (version : WireVersion) (start : ℕ) (words : List ℕ) → version_at bytes ≡ version → drop place bytes ≡ run_bytes version start words → start < 2 ^ 32 → length words < 2 ^ 16 → ((i : ℕ) → slice_index words i < 2 ^ 16) → HasRun place bytes version start words
 unfolding number_at
-run_again place bytes start words here low few fits =
-    let tail : List ℕ = flat_map (big_bytes 2) words in
+run_again place bytes version start words is here low few fits =
+    let tail : List ℕ = inputs_bytes version words in
     let counted : drop (place + 4) bytes ≡ big_bytes 2 (length words) ++ tail = sym (drop-drop 4 place bytes) ∙ ap (drop 4) here in
     let ended : drop (place + 6) bytes ≡ tail = sym (drop-drop 6 place bytes) ∙ ap (drop 6) here in
     record {
       from = ap (big_number 4) here ∙ big_number-reads_back 4 start (big_bytes 2 (length words) ++ tail) low;
       count = ap (big_number 2) counted ∙ big_number-reads_back 2 (length words) tail few;
-      inputs = ap words_of ended ∙ words_of-spelled words fits;
+      spelled = ended;
+      inputs = ap (λ (v : WireVersion). inputs_of v (drop (place + 6) bytes)) is ∙ ap (inputs_of version) ended ∙ inputs_again version words fits;
+    }
+
+-- ---- the two refusals of a run
+
+and_false : (a b : Bool) → b ≡ false → a && b ≡ false
+and_false true b e = e
+and_false false b e = refl
+
+or_false : (a b : Bool) → a ≡ false → b ≡ false → a || b ≡ false
+or_false true b e f = absurd cc
+or_false false b e f = f
+
+not_above : (least number : ℕ) → number ≤ least → nat_lt least number ≡ false
+not_above least number low = grind (arith, nat_tests)
+
+-- none applies to a run that has room
+pub counted : (kind : DatagramKind) (bytes : List ℕ) (version : WireVersion) (words : List ℕ) → version_at bytes ≡ version → count_at kind bytes ≡ length words → size_at bytes ≡ fixed_size kind + length (inputs_bytes version words)
+    → length words ≤ 64 → has_few_stretches version words ≡ true → miscounts kind bytes ≡ false
+counted kind bytes version words is count size short room =
+    let left : size_at bytes - fixed_size kind ≡ length (inputs_bytes version words) = omega (arith, size) in
+    let right : has_wrong_size (version_at bytes) (count_at kind bytes) (size_at bytes - fixed_size kind) ≡ false =
+    (λ i. has_wrong_size (is i) (count i) (left i)) ∙ right_size version words room in
+    and_false (has_run kind) _ (or_false _ _ (not_above 64 (count_at kind bytes) (omega (arith, count, short))) right)
+
+pub paired : (kind : DatagramKind) (bytes : List ℕ) (version : WireVersion) (words : List ℕ) → version_at bytes ≡ version → count_at kind bytes ≡ length words → drop (run_place kind) bytes ≡ inputs_bytes version words
+    → ((i : ℕ) → slice_index words i < 2 ^ 16) → mispairs kind bytes ≡ false
+paired kind bytes version words is count ended fits =
+    let right : are_no_run (version_at bytes) (count_at kind bytes) (drop (run_place kind) bytes) ≡ false =
+    (λ i. are_no_run (is i) (count i) (ended i)) ∙ are_paired version words fits in
+    and_false (has_run kind) _ right
+
+-- what the table says of a body that ends with a run of so many bytes
+pub run_shaped : (place size : ℕ) (bytes : List ℕ) → length bytes ≡ place + 6 + size → nat_lt 64 (number_at (place + 4) 2 bytes) || has_wrong_size (version_at bytes) (number_at (place + 4) 2 bytes) size ≡ false
+    → are_no_run (version_at bytes) (number_at (place + 4) 2 bytes) (drop (place + 6) bytes) ≡ false → IsRunAt place bytes
+run_shaped place size bytes ends count pairs =
+    let both = neither (nat_lt 64 (number_at (place + 4) 2 bytes)) (has_wrong_size (version_at bytes) (number_at (place + 4) 2 bytes) size) count in
+    let long = both.0 in
+    let left : size ≡ length (drop (place + 6) bytes) = omega (arith, length-drop (place + 6) bytes, ends) in
+    record {
+      long = omega (arith, ends);
+      short = grind (arith, nat_tests);
+      sized = sym (ap (has_wrong_size (version_at bytes) (number_at (place + 4) 2 bytes)) left) ∙ both.1;
+      paired = pairs;
     }

@@ -57,6 +57,7 @@ pub record IsAccepted (kind : DatagramKind) (bytes : List ℕ) : Type 0 where
   pub player : applies errors.Player (Some kind) bytes ≡ false
   pub reserved : applies errors.Reserved (Some kind) bytes ≡ false
   pub count : applies errors.Count (Some kind) bytes ≡ false
+  pub pairs : applies errors.Pairs (Some kind) bytes ≡ false
   pub beyond : applies errors.Beyond (Some kind) bytes ≡ false
 
 pub accepted : (kind : DatagramKind) (bytes : List ℕ) → kind_at bytes ≡ Some kind → refusal bytes ≡ None → IsAccepted kind bytes
@@ -72,7 +73,8 @@ accepted kind bytes named none =
     let g = none_in _ _ _ f.1 in
     let h = none_in _ _ _ g.1 in
     let i = none_in _ _ _ h.1 in
-    record { short = a.0; magic = b.0; version = c.0; length = e.0; player = f.0; reserved = g.0; count = h.0; beyond = i.0 }
+    let j = none_in _ _ _ i.1 in
+    record { short = a.0; magic = b.0; version = c.0; length = e.0; player = f.0; reserved = g.0; count = h.0; pairs = i.0; beyond = j.0 }
 
 names_a_kind : (kind : DatagramKind) (bytes : List ℕ) → applies errors.Kind (Some kind) bytes ≡ false
 unfolding applies
@@ -103,4 +105,4 @@ past_front kind bytes named short magic version =
 pub not_refused : (kind : DatagramKind) (bytes : List ℕ) → kind_at bytes ≡ Some kind → IsAccepted kind bytes → refusal bytes ≡ None
 not_refused kind bytes named a =
     past_front kind bytes named a.short a.magic a.version
-    ∙ skipped _ _ _ a.length ∙ skipped _ _ _ a.player ∙ skipped _ _ _ a.reserved ∙ skipped _ _ _ a.count ∙ skipped _ _ _ a.beyond
+    ∙ skipped _ _ _ a.length ∙ skipped _ _ _ a.player ∙ skipped _ _ _ a.reserved ∙ skipped _ _ _ a.count ∙ skipped _ _ _ a.pairs ∙ skipped _ _ _ a.beyond

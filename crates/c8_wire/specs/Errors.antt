@@ -13,3 +13,4 @@ number_of errors.Player = 6
 number_of errors.Reserved = 7
 number_of errors.Count = 8
 number_of errors.Beyond = 9
+number_of errors.Pairs = 10

@@ -35,7 +35,7 @@ fixed_size kinds.Freeze = 6
 fixed_size kinds.Frozen = 12
 fixed_size kinds.Cut = 12
 
--- whether the body ends with a run: where it starts, how many key sets it has, and these
+-- whether the body ends with a run: where it starts, how many inputs it has, and these
 abbrev pub has_run : DatagramKind → Bool
 has_run kinds.Hello = false
 has_run kinds.Welcome = false
@@ -53,6 +53,6 @@ names_leaver kinds.Freeze = true
 names_leaver kinds.Frozen = true
 names_leaver kinds.Cut = true
 
--- the place of the key sets of a kind's run
+-- the place of the inputs of a kind's run
 abbrev pub run_place : DatagramKind → ℕ
 run_place kind = header_length + fixed_size kind

@@ -1,10 +1,19 @@
 -- What a caller sees of a datagram that is lent from its bytes.
-use Rattle.std.specs.Prelude.{ℕ, ◌*◌, List, drop}
+use Rattle.std.specs.Prelude.{ℕ, ◌≡◌, ◌*◌, ◌==◌, Bool, List, drop}
+use Rattle.c8_game.specs.declared.wire.WireVersion.{WireVersion}
+use Rattle.c8_game.specs.declared.wire.WireVersion.TheVariants as versions
+use Rattle.c8_pairs.specs.Pairs.{pairs_of}
+use Rattle.c8_pairs.specs.Reading.{is_begun}
+use Rattle.c8_pairs.specs.Lent as pairs
 use Rattle.c8_wire.specs.declared.kinds.DatagramKind.{DatagramKind}
 use Rattle.c8_wire.specs.declared.kinds.DatagramKind.TheVariants as kinds
 use Rattle.c8_wire.specs.declared.header.Header.{Header}
+use Rattle.c8_wire.specs.declared.words.Words.{Words}
+use Rattle.c8_wire.specs.declared.words.WordsIter.{WordsIter}
 use Rattle.c8_wire.specs.declared.run.Run.{Run}
-use Rattle.c8_wire.specs.declared.run.Words.{Words}
+use Rattle.c8_wire.specs.declared.run.Run.TheVariants as runs
+use Rattle.c8_wire.specs.declared.run.Inputs.{Inputs}
+use Rattle.c8_wire.specs.declared.run.Inputs.TheVariants as iterators
 use Rattle.c8_wire.specs.declared.handshake.Welcome.{Welcome}
 use Rattle.c8_wire.specs.declared.data.Data.{Data}
 use Rattle.c8_wire.specs.declared.leaving.Freeze.{Freeze}
@@ -52,21 +61,51 @@ frozen_of lent = leaver_at lent.view.bytes.now
 abbrev pub cut_of : Cut → LeaverMessage
 cut_of lent = leaver_at lent.view.bytes.now
 
--- the key sets of a run, and its bytes
-abbrev pub words : Run → List ℕ
-words run = words_of run.bytes.now
+-- the inputs of a run in version 1, and those that its iterator has left
+abbrev pub key_sets : Words → List ℕ
+key_sets run = words_of run.bytes.now
 
+abbrev pub key_sets_left : WordsIter → List ℕ
+key_sets_left iterator = words_of iterator.rest.now
+
+-- the version in which a run is spelled
+abbrev pub version_of : Run → WireVersion
+version_of (runs.Words run) = versions.One
+version_of (runs.Pairs run) = versions.Two
+
+-- the inputs of a run
+abbrev pub words : Run → List ℕ
+words (runs.Words run) = key_sets run
+words (runs.Pairs run) = pairs.words run
+
+-- its bytes: in version 2 those of the whole pairs that it touches
 abbrev pub spelled : Run → List ℕ
-spelled run = run.bytes.now
+spelled (runs.Words run) = run.bytes.now
+spelled (runs.Pairs run) = pairs.spelled run
+
+-- all inputs that these bytes spell: in version 2 the run may begin within their first pair
+abbrev pub touched : Run → List ℕ
+touched (runs.Words run) = key_sets run
+touched (runs.Pairs run) = pairs.touched run
+
+-- so many inputs of the first pair may come before the run: there are none before one in version 1
+abbrev pub is_begun_at : ℕ → Run → Bool
+is_begun_at skip (runs.Words run) = skip == 0
+is_begun_at skip (runs.Pairs run) = is_begun skip (pairs_of (pairs.touched run))
 
 -- the slice of a datagram's bytes that is its run
 abbrev pub run_slice : DatagramKind → List ℕ → List ℕ
 run_slice kind bytes = drop (run_place kind) bytes
 
--- the slice of a run's bytes that is the run from an input on
-abbrev pub slice_from : ℕ → List ℕ → List ℕ
-slice_from place bytes = drop (2 * place) bytes
+-- a run from an input on has the same version, and its bytes are the last ones of the whole run's: all from that input on
+-- in version 1, whole pairs in version 2
+abbrev pub IsSliceFrom : Run → ℕ → Run → Type 0
+IsSliceFrom (runs.Words run) place (runs.Words part) = part.bytes.now ≡ drop (2 * place) run.bytes.now
+IsSliceFrom (runs.Words run) place (runs.Pairs part) = ⊥
+IsSliceFrom (runs.Pairs run) place (runs.Words part) = ⊥
+IsSliceFrom (runs.Pairs run) place (runs.Pairs part) = (before : ℕ) × (pairs.spelled part ≡ drop (3 * before) (pairs.spelled run))
 
--- the key sets that an iterator has left
-abbrev pub words_left : Words → List ℕ
-words_left iterator = words_of iterator.rest.now
+-- the inputs that an iterator has left
+abbrev pub words_left : Inputs → List ℕ
+words_left (iterators.Words iterator) = key_sets_left iterator
+words_left (iterators.Pairs iterator) = pairs.words_left iterator

@@ -7,4 +7,5 @@ pub mod Reading
 pub mod Refusal
 pub mod Lent
 pub mod Saying
+pub mod Carried
 pub mod checked

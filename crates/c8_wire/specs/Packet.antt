@@ -1,14 +1,18 @@
 -- What a datagram says, apart from the bytes that spell it.
-use Rattle.std.specs.Prelude.{◌≡◌, ◌≢◌, ℕ, ◌+◌, ◌^◌, ◌<◌, ◌≤◌, List, length, slice_index}
+use Rattle.std.specs.Prelude.{◌≡◌, ◌≢◌, ℕ, ◌+◌, ◌^◌, ◌<◌, ◌≤◌, nat_le, Bool, true, List, length, slice_index}
 use Rattle.c8_game.specs.Rules.{most_inputs}
+use Rattle.c8_game.specs.declared.wire.WireVersion.{WireVersion}
+use Rattle.c8_game.specs.declared.wire.WireVersion.TheVariants as versions
+use Rattle.c8_pairs.specs.Pairs.{pairs_of}
 use Rattle.c8_wire.specs.declared.kinds.DatagramKind.{DatagramKind}
 use Rattle.c8_wire.specs.declared.kinds.DatagramKind.TheVariants as kinds
-use Rattle.c8_wire.specs.Sizes.{longest_run}
+use Rattle.c8_wire.specs.Sizes.{longest_run, most_pairs}
 
--- Which kind of datagram who says to whom, in which match, and the epochs of both. Who says it and
+-- Which kind of datagram in which version who says to whom, in which match, and the epochs of both. Who says it and
 -- who is addressed are seats, the numbers of players 1 to 4.
 pub record HeadValue : Type 0 where
   pub kind : DatagramKind
+  pub version : WireVersion
   pub session : ℕ
   pub from : ℕ
   pub to : ℕ
@@ -108,6 +112,20 @@ Fits (Freeze m) = Unit {0}
 Fits (Frozen m) = AreWords m.words
 Fits (Cut m) = AreWords m.words
 
+-- there is room for the bytes of a run: in version 2 it has at most 42 stretches of equal key sets
+abbrev pub has_few_stretches : WireVersion → List ℕ → Bool
+has_few_stretches versions.One words = true
+has_few_stretches versions.Two words = nat_le (length (pairs_of words)) most_pairs
+
+-- there is room for those of a message
+abbrev pub has_room : WireVersion → Message → Bool
+has_room version Hello = true
+has_room version (Welcome ack) = true
+has_room version (Data m) = has_few_stretches version m.words
+has_room version (Freeze m) = true
+has_room version (Frozen m) = has_few_stretches version m.words
+has_room version (Cut m) = has_few_stretches version m.words
+
 -- A header between two players, its numbers fitting their places.
 pub record IsHead (head : HeadValue) : Type 0 where
   pub session : head.session < 2 ^ 64
@@ -125,3 +143,4 @@ pub record IsPacket (p : Packet) : Type 0 where
   pub kind : p.head.kind ≡ kind_of p.message
   pub fits : Fits p.message
   pub message : IsMessage p.message
+  pub room : has_room p.head.version p.message ≡ true

@@ -1,8 +1,12 @@
 -- What stands where in a datagram's bytes.
-use Rattle.std.specs.Prelude.{ℕ, ◌+◌, ◌*◌, List, [], ◌∷◌, take, drop, slice_index, Option}
+use Rattle.std.specs.Prelude.{ℕ, ◌+◌, ◌*◌, ◌==◌, List, [], ◌∷◌, take, drop, slice_index, Option, if◌then◌else◌}
 use Rattle.byteorder.specs.Endian.{big_number}
 use Rattle.c8_wire.specs.declared.kinds.DatagramKind.{DatagramKind}
 use Rattle.c8_wire.specs.declared.kinds.DatagramKind.TheVariants as kinds
+use Rattle.c8_game.specs.declared.wire.WireVersion.{WireVersion}
+use Rattle.c8_game.specs.declared.wire.WireVersion.TheVariants as versions
+use Rattle.c8_pairs.specs.Pairs.{words_in}
+use Rattle.c8_pairs.specs.Reading.{pairs_at}
 use Rattle.c8_wire.specs.Kinds.{kind_of_code}
 use Rattle.c8_wire.specs.Packet.{HeadValue, DataMessage, FreezeMessage, LeaverMessage, Message, Hello, Welcome, Data, Freeze, Frozen, Cut, Packet}
 
@@ -14,6 +18,14 @@ number_at place width bytes = big_number width (drop place bytes)
 abbrev pub kind_at : List ℕ → Option DatagramKind
 kind_at bytes = kind_of_code (slice_index bytes 3)
 
+-- the version of a number, which is 1 or 2
+abbrev pub version_named : ℕ → WireVersion
+version_named number = if number == 2 then versions.Two else versions.One
+
+-- the version that byte 2 names
+abbrev pub version_at : List ℕ → WireVersion
+version_at bytes = version_named (slice_index bytes 2)
+
 -- the length of the body, as the header says it
 abbrev pub size_at : List ℕ → ℕ
 size_at bytes = number_at 14 2 bytes
@@ -21,6 +33,7 @@ size_at bytes = number_at 14 2 bytes
 abbrev pub head_at : DatagramKind → List ℕ → HeadValue
 head_at kind bytes = record {
   kind = kind;
+  version = version_at bytes;
   session = number_at 4 8 bytes;
   from = slice_index bytes 12;
   to = slice_index bytes 13;
@@ -28,11 +41,20 @@ head_at kind bytes = record {
   addressee_epoch = number_at 20 4 bytes;
 }
 
--- the key sets that a run's bytes spell, two bytes each
+-- the key sets that bytes spell, two bytes each
 unfoldable pub words_of : List ℕ → List ℕ
 words_of [] = []
 words_of (high ∷ []) = []
 words_of (high ∷ low ∷ rest) = (high * 256 + low) ∷ words_of rest
+
+-- the inputs of a run, by the bytes that spell them
+abbrev pub inputs_of : WireVersion → List ℕ → List ℕ
+inputs_of versions.One bytes = words_of bytes
+inputs_of versions.Two bytes = words_in (pairs_at bytes)
+
+-- the run of a datagram, which begins at a place and ends with the bytes
+abbrev pub run_at : ℕ → List ℕ → List ℕ
+run_at place bytes = inputs_of (version_at bytes) (drop place bytes)
 
 abbrev pub data_at : List ℕ → DataMessage
 data_at bytes = record {
@@ -40,7 +62,7 @@ data_at bytes = record {
   mark_frame = number_at 28 4 bytes;
   mark = take 8 (drop 32 bytes);
   start = number_at 40 4 bytes;
-  words = words_of (drop 46 bytes);
+  words = run_at 46 bytes;
 }
 
 abbrev pub freeze_at : List ℕ → FreezeMessage
@@ -51,7 +73,7 @@ leaver_at bytes = record {
   leaver = slice_index bytes 24;
   length = number_at 26 4 bytes;
   start = number_at 30 4 bytes;
-  words = words_of (drop 36 bytes);
+  words = run_at 36 bytes;
 }
 
 abbrev pub message_at : DatagramKind → List ℕ → Message

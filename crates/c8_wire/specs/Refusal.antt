@@ -1,13 +1,16 @@
 -- The table of refusals: where each applies, and which is answered.
-use Rattle.std.specs.Prelude.{ℕ, ◌+◌, ◌*◌, ◌==◌, ◌||◌, ◌&&◌, Bool, false, not, nat_lt, nat_le, List, [], ◌∷◌, ◌++◌, length, slice_index, Option, Some, None, is_none, find, if◌then◌else◌}
+use Rattle.std.specs.Prelude.{ℕ, ◌+◌, ◌*◌, ◌==◌, ◌||◌, ◌&&◌, Bool, false, not, ◌-◌, ◌%◌, drop, nat_lt, nat_le, List, [], ◌∷◌, ◌++◌, length, slice_index, Option, Some, None, is_none, find, if◌then◌else◌}
 use Rattle.c8_game.specs.Rules.{most_inputs}
+use Rattle.c8_game.specs.declared.wire.WireVersion.{WireVersion}
+use Rattle.c8_game.specs.declared.wire.WireVersion.TheVariants as versions
+use Rattle.c8_pairs.specs.Reading.{pairs_at, are_run}
 use Rattle.c8_wire.specs.declared.error.WireError.{WireError}
 use Rattle.c8_wire.specs.declared.error.WireError.TheVariants as errors
 use Rattle.c8_wire.specs.declared.kinds.DatagramKind.{DatagramKind}
 use Rattle.c8_wire.specs.declared.kinds.DatagramKind.TheVariants as kinds
-use Rattle.c8_wire.specs.Sizes.{header_length, longest_run}
-use Rattle.c8_wire.specs.Kinds.{fixed_size, has_run, names_leaver}
-use Rattle.c8_wire.specs.Reading.{number_at, kind_at, size_at}
+use Rattle.c8_wire.specs.Sizes.{header_length, longest_run, most_pairs}
+use Rattle.c8_wire.specs.Kinds.{fixed_size, has_run, names_leaver, run_place}
+use Rattle.c8_wire.specs.Reading.{number_at, version_at, kind_at, size_at}
 
 abbrev pub is_within : ℕ → ℕ → ℕ → Bool
 is_within least greatest number = nat_le least number && nat_le number greatest
@@ -40,10 +43,23 @@ count_at kind bytes = number_at (22 + fixed_size kind) 2 bytes
 abbrev pub run_end : DatagramKind → List ℕ → ℕ
 run_end kind bytes = start_at kind bytes + count_at kind bytes
 
--- the run is too long, or not as long as the body has room for
+-- so many bytes are not those of so many inputs: two bytes each in version 1; in version 2 whole pairs, not too many
+abbrev pub has_wrong_size : WireVersion → ℕ → ℕ → Bool
+has_wrong_size versions.One count size = not (size == 2 * count)
+has_wrong_size versions.Two count size = not (size % 3 == 0) || nat_lt (3 * most_pairs) size
+
+-- the run is too long, or its bytes, which end the body, are not as many as it may have
 abbrev pub miscounts : DatagramKind → List ℕ → Bool
 miscounts kind bytes = has_run kind
-    && (nat_lt longest_run (count_at kind bytes) || not (size_at bytes == fixed_size kind + 2 * count_at kind bytes))
+    && (nat_lt longest_run (count_at kind bytes) || has_wrong_size (version_at bytes) (count_at kind bytes) (size_at bytes - fixed_size kind))
+
+-- in version 2, a pair is of no inputs, two neighbours have the same key set, or they are not of so many inputs in all
+abbrev pub are_no_run : WireVersion → ℕ → List ℕ → Bool
+are_no_run versions.One count bytes = false
+are_no_run versions.Two count bytes = not (are_run (pairs_at bytes) count)
+
+abbrev pub mispairs : DatagramKind → List ℕ → Bool
+mispairs kind bytes = has_run kind && are_no_run (version_at bytes) (count_at kind bytes) (drop (run_place kind) bytes)
 
 -- a number of inputs is above what a list of inputs may have, or a run goes past its end
 abbrev pub goes_beyond : DatagramKind → List ℕ → Bool
@@ -64,20 +80,21 @@ is_kind_and (Some kind) test = test kind
 unfoldable pub applies : WireError → Option DatagramKind → List ℕ → Bool
 applies errors.Short kind bytes = nat_lt (length bytes) header_length
 applies errors.Magic kind bytes = not (number_at 0 2 bytes == 0x4338)
-applies errors.Version kind bytes = not (slice_index bytes 2 == 1)
+applies errors.Version kind bytes = not (slice_index bytes 2 == 1) && not (slice_index bytes 2 == 2)
 applies errors.Kind kind bytes = is_none kind
 applies errors.Length kind bytes = is_kind_and kind (λ k. is_misfit k bytes)
 applies errors.Player kind bytes = is_kind_and kind (λ k. misnames_players k bytes)
 applies errors.Reserved kind bytes = is_kind_and kind (λ k. fills_reserved k bytes)
 applies errors.Count kind bytes = is_kind_and kind (λ k. miscounts k bytes)
+applies errors.Pairs kind bytes = is_kind_and kind (λ k. mispairs k bytes)
 applies errors.Beyond kind bytes = is_kind_and kind (λ k. goes_beyond k bytes)
 
--- the refusals in the order of the table: four on the header, five that want its kind
+-- the refusals in the order of the table: four on the header, six that want its kind
 abbrev pub front_refusals : List WireError
 front_refusals = errors.Short ∷ errors.Magic ∷ errors.Version ∷ errors.Kind ∷ []
 
 abbrev pub body_refusals : List WireError
-body_refusals = errors.Length ∷ errors.Player ∷ errors.Reserved ∷ errors.Count ∷ errors.Beyond ∷ []
+body_refusals = errors.Length ∷ errors.Player ∷ errors.Reserved ∷ errors.Count ∷ errors.Pairs ∷ errors.Beyond ∷ []
 
 -- the first of these refusals that applies, None where none does
 abbrev pub first_of : List WireError → Option DatagramKind → List ℕ → Option WireError

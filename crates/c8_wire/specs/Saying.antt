@@ -1,15 +1,16 @@
 -- The packet that a caller asks to be written, and what may be said.
-use Rattle.std.specs.Prelude.{◌≡◌}
+use Rattle.std.specs.Prelude.{◌≡◌, true}
 use Rattle.c8_wire.specs.declared.header.Head.{Head}
 use Rattle.c8_wire.specs.declared.said.Body.{Body}
 use Rattle.c8_wire.specs.declared.said.Body.TheVariants as bodies
 use Rattle.c8_wire.specs.declared.said.Said.{Said}
-use Rattle.c8_wire.specs.Packet.{HeadValue, Message, Hello, Welcome, Data, Freeze, Frozen, Cut, Packet, IsMessage, kind_of}
+use Rattle.c8_wire.specs.Packet.{HeadValue, Message, Hello, Welcome, Data, Freeze, Frozen, Cut, Packet, IsMessage, has_room, kind_of}
 
 -- the values of a head
 abbrev pub head_value : Head → HeadValue
 head_value head = record {
   kind = head.kind;
+  version = head.version;
   session = head.session;
   from = head.from.number;
   to = head.to.number;
@@ -28,8 +29,9 @@ message_of (bodies.Cut leaver length start run) = Cut (record { leaver = leaver.
 abbrev pub packet_said : Said → Packet
 packet_said said = record { head = head_value said.head; message = message_of said.body }
 
--- This may be said: the header names the kind of the body, whose numbers keep to their bounds. What
--- else makes it a packet its types give.
+-- This may be said: the header names the kind of the body, whose numbers keep to their bounds, and whose
+-- run has room in the header's version. What else makes it a packet its types give.
 pub record MaySay (said : Said) : Type 0 where
   pub kind : said.head.kind ≡ kind_of (message_of said.body)
   pub message : IsMessage (message_of said.body)
+  pub room : has_room said.head.version (message_of said.body) ≡ true

@@ -2,13 +2,17 @@
 use Rattle.std.specs.Prelude.{◌≡◌, ℕ, List, [], ◌∷◌, ◌++◌, length}
 use Rattle.std.specs.List.{flat_map}
 use Rattle.byteorder.specs.Endian.{big_bytes}
+use Rattle.c8_game.specs.declared.wire.WireVersion.{WireVersion}
+use Rattle.c8_game.specs.declared.wire.WireVersion.TheVariants as versions
+use Rattle.c8_game.specs.Wire.{version_number}
+use Rattle.c8_pairs.specs.Pairs as pairs
 use Rattle.c8_wire.specs.Kinds.{code_of}
 use Rattle.c8_wire.specs.Packet.{HeadValue, LeaverMessage, Message, Hello, Welcome, Data, Freeze, Frozen, Cut, Packet, IsPacket}
 
--- The header of a datagram whose body has so many bytes. Byte 2 is the version of the format.
+-- The header of a datagram whose body has so many bytes. Byte 2 is the number of the version.
 abbrev pub header_bytes : HeadValue → ℕ → List ℕ
 header_bytes head size =
-    0x43 ∷ 0x38 ∷ 1 ∷ code_of head.kind ∷ [] ++ big_bytes 8 head.session ++ head.from ∷ head.to ∷ []
+    0x43 ∷ 0x38 ∷ version_number head.version ∷ code_of head.kind ∷ [] ++ big_bytes 8 head.session ++ head.from ∷ head.to ∷ []
     ++ big_bytes 2 size ++ big_bytes 4 head.sender_epoch ++ big_bytes 4 head.addressee_epoch
 
 -- key sets, two bytes each
@@ -19,24 +23,29 @@ words_bytes words = flat_map (big_bytes 2) words
 abbrev pub SpellsWords : List ℕ → List ℕ → Type 0
 SpellsWords bytes words = bytes ≡ words_bytes words
 
--- a run: where it starts, how many inputs it has, and their key sets
-abbrev pub run_bytes : ℕ → List ℕ → List ℕ
-run_bytes start words = big_bytes 4 start ++ big_bytes 2 (length words) ++ words_bytes words
+-- the inputs of a run: the key set of each in version 1, a pair for each stretch of equal ones in version 2
+abbrev pub inputs_bytes : WireVersion → List ℕ → List ℕ
+inputs_bytes versions.One words = words_bytes words
+inputs_bytes versions.Two words = pairs.spelling words
+
+-- a run: where it starts, how many inputs it has, and these
+abbrev pub run_bytes : WireVersion → ℕ → List ℕ → List ℕ
+run_bytes version start words = big_bytes 4 start ++ big_bytes 2 (length words) ++ inputs_bytes version words
 
 -- a player who leaves, a byte 0, a number of its inputs, and a run of them
-abbrev pub leaver_bytes : LeaverMessage → List ℕ
-leaver_bytes m = m.leaver ∷ 0 ∷ [] ++ big_bytes 4 m.length ++ run_bytes m.start m.words
+abbrev pub leaver_bytes : WireVersion → LeaverMessage → List ℕ
+leaver_bytes version m = m.leaver ∷ 0 ∷ [] ++ big_bytes 4 m.length ++ run_bytes version m.start m.words
 
-abbrev pub body_bytes : Message → List ℕ
-body_bytes Hello = []
-body_bytes (Welcome ack) = big_bytes 4 ack
-body_bytes (Data m) = big_bytes 4 m.ack ++ big_bytes 4 m.mark_frame ++ m.mark ++ run_bytes m.start m.words
-body_bytes (Freeze m) = m.leaver ∷ 0 ∷ [] ++ big_bytes 4 m.have
-body_bytes (Frozen m) = leaver_bytes m
-body_bytes (Cut m) = leaver_bytes m
+abbrev pub body_bytes : WireVersion → Message → List ℕ
+body_bytes version Hello = []
+body_bytes version (Welcome ack) = big_bytes 4 ack
+body_bytes version (Data m) = big_bytes 4 m.ack ++ big_bytes 4 m.mark_frame ++ m.mark ++ run_bytes version m.start m.words
+body_bytes version (Freeze m) = m.leaver ∷ 0 ∷ [] ++ big_bytes 4 m.have
+body_bytes version (Frozen m) = leaver_bytes version m
+body_bytes version (Cut m) = leaver_bytes version m
 
 unfoldable pub spelling : Packet → List ℕ
-spelling p = header_bytes p.head (length (body_bytes p.message)) ++ body_bytes p.message
+spelling p = header_bytes p.head (length (body_bytes p.head.version p.message)) ++ body_bytes p.head.version p.message
 
 -- these bytes are the datagram that says this
 pub record Spells (bytes : List ℕ) (p : Packet) : Type 0 where

@@ -1,3 +1,5 @@
 pub mod NumberLaws
 pub mod Read
 pub mod WordLaws
+pub mod RunLaws
+pub mod CarriedLaws

@@ -1,26 +1,30 @@
 //! DATA, lent from its bytes.
-ghost use Rattle.std.specs.Prelude.{◌≡◌, ◌≤◌, ◌+◌, ◌*◌, length};
+ghost use Rattle.std.specs.Prelude.{◌≡◌, ◌≤◌, ◌+◌, length, drop, false};
 ghost use Rattle.std.proofs.Props.{props};
 ghost use Rattle.c8_wire.specs.declared.kinds.DatagramKind.TheVariants as kinds;
-ghost use Rattle.c8_wire.specs.Reading.{number_at, packet_at};
+ghost use Rattle.c8_wire.specs.Reading.{number_at, version_at, packet_at};
+ghost use Rattle.c8_wire.specs.Refusal.{has_wrong_size, are_no_run};
 ghost use Rattle.c8_wire.specs.Spelling.{Spells};
 
-use crate::layout::{ACK_AT, DATA_RUN_AT, DATA_START_AT, MARK_AT, MARK_FRAME_AT};
-use crate::numbers::u32_at;
+use crate::layout::{ACK_AT, DATA_COUNT_AT, DATA_RUN_AT, DATA_START_AT, MARK_AT, MARK_FRAME_AT};
+use crate::numbers::{u16_at, u32_at};
 use crate::run::Run;
+use crate::version::version_in;
 use c8_game::MOST_INPUTS;
 
 /// The sender's inputs.
 #[derive(Clone, Copy, Debug, PartialEq, Eq)]
 pub struct Data<'a> {
     pub(crate) bytes: &'a [u8],
-    pub(crate) ghost size: { length bytes.now ≡ 46 + 2 * number_at 44 2 bytes.now },
-    pub(crate) ghost short: { number_at 44 2 bytes.now ≤ 64 },
+    pub(crate) ghost long: { 46 ≤ length bytes.now },
+    pub(crate) ghost few: { number_at 44 2 bytes.now ≤ 64 },
+    pub(crate) ghost sized: { has_wrong_size (version_at bytes.now) (number_at 44 2 bytes.now) (length (drop 46 bytes.now)) ≡ false },
+    pub(crate) ghost paired: { are_no_run (version_at bytes.now) (number_at 44 2 bytes.now) (drop 46 bytes.now) ≡ false },
     pub(crate) ghost spelled: { Spells bytes.now (packet_at kinds.Data bytes.now) } by { Prim.hlevel props },
 }
 
 impl<'a> Data<'a> {
-    ghost use Rattle.c8_wire.specs.Lent.{bytes_of, data_of, words, spelled, run_slice};
+    ghost use Rattle.c8_wire.specs.Lent.{bytes_of, data_of, version_of, words, spelled, touched, run_slice};
     ghost use Rattle.c8_wire.specs.declared.datagram.Datagram.TheVariants as datagrams;
 
     /// How many inputs of the addressee the sender holds.
@@ -60,10 +64,13 @@ impl<'a> Data<'a> {
 
     /// The inputs, lent from the bytes that came: those after the first 46.
     pub fn run(&self) -> Run<'a>
+        ensures version { version_of result ≡ version_at (bytes_of (datagrams.Data self.now)) }
         ensures words { words result ≡ (data_of self.now).words }
+        ensures whole { touched result ≡ words result }
         ensures slice { spelled result ≡ run_slice kinds.Data (bytes_of (datagrams.Data self.now)) }
     {
+        let count = usize::from(u16_at(self.bytes, DATA_COUNT_AT));
         let (_, bytes) = self.bytes.split_at(DATA_RUN_AT);
-        Run::new(bytes)
+        Run::of(version_in(self.bytes), count, bytes)
     }
 }

@@ -13,7 +13,7 @@ pub enum WireError {
     /// The first two bytes are not 43 38 (hexadecimal).
     #[error("the first two bytes are those of no datagram")]
     Magic,
-    /// Byte 2 is not 1.
+    /// Byte 2 is neither 1 nor 2.
     #[error("another version of the format")]
     Version,
     /// Byte 3 is the number of no kind.
@@ -29,9 +29,14 @@ pub enum WireError {
     /// The byte after the leaver, which must be 0, is not.
     #[error("a byte that must be 0 is not")]
     Reserved,
-    /// More than 64 inputs, or not as many as the body has room for.
-    #[error("more inputs than allowed, or not as many as there is room for")]
+    /// More than 64 inputs; or the bytes of the run are in version 1 not two for each, in version 2 not
+    /// three for each pair, or those of more than 42 pairs.
+    #[error("more inputs than allowed, or not as many bytes as a run may have")]
     Count,
+    /// In version 2: a pair is of no inputs, two neighbours have the same key set, or they are not of as
+    /// many inputs in all as there should be.
+    #[error("pairs that are not those of a run")]
+    Pairs,
     /// A number above 262148, which no game reaches; or a run past that number in DATA, past the
     /// inputs that are held in FROZEN, past the length in CUT.
     #[error("a number of inputs, or the end of a run, is too great")]
@@ -52,6 +57,7 @@ impl WireError {
             WireError::Player => 6,
             WireError::Reserved => 7,
             WireError::Count => 8,
+            WireError::Pairs => 10,
             WireError::Beyond => 9,
         }
     }
@@ -66,6 +72,7 @@ impl WireError {
             WireError::Player => "Player",
             WireError::Reserved => "Reserved",
             WireError::Count => "Count",
+            WireError::Pairs => "Pairs",
             WireError::Beyond => "Beyond",
         }
     }

@@ -1,4 +1,5 @@
-//! The header of a datagram: who says it to whom, in which match and epochs.
+//! The header of a datagram: who says it to whom, in which match and epochs, and in which version of
+//! the format.
 ghost use Rattle.std.specs.Prelude.{◌≡◌, ◌≢◌, ◌≤◌, ◌<◌, ◌+◌, ◌-◌, false, length, Some, MatchOption};
 ghost use Rattle.c8_wire.specs.Reading.{kind_at, head_at};
 ghost use Rattle.c8_wire.specs.Packet.{IsHead};
@@ -6,7 +7,8 @@ ghost use Rattle.c8_wire.specs.Packet.{IsHead};
 use crate::kinds::DatagramKind;
 use crate::layout::{ADDRESSEE_EPOCH_AT, FROM_AT, SENDER_EPOCH_AT, SESSION_AT, TO_AT};
 use crate::numbers::{u32_at, u64_at};
-use c8_game::{MOST_PLAYERS, Player};
+use crate::version::version_in;
+use c8_game::{MOST_PLAYERS, Player, WireVersion};
 
 /// Who says a datagram, or is addressed: a player's place in the header, 1 to 4.
 #[derive(Clone, Copy, Debug, PartialEq, Eq, Hash)]
@@ -57,6 +59,7 @@ impl From<Player> for Seat {
 #[derive(Clone, Copy, Debug, PartialEq, Eq, Hash)]
 pub struct Head {
     pub kind: DatagramKind,
+    pub version: WireVersion,
     /// The match that the datagram belongs to.
     pub session: u64,
     pub from: Seat,
@@ -84,6 +87,13 @@ impl<'a> Header<'a> {
         ensures { result ≡ (head_of self.now).kind }
     {
         self.kind
+    }
+
+    /// The version of the format in which it is spelled.
+    pub fn version(&self) -> WireVersion
+        ensures { result ≡ (head_of self.now).version }
+    {
+        version_in(self.bytes)
     }
 
     /// The match that the datagram belongs to.
@@ -128,6 +138,7 @@ impl<'a> Header<'a> {
     {
         Head {
             kind: self.kind,
+            version: self.version(),
             session: self.session(),
             from: self.from(),
             to: self.to(),

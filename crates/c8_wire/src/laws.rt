@@ -1,8 +1,12 @@
 //! What callers may rest on that is no single call's: laws of datagrams, each the contract of a
 //! function that does nothing.
-ghost use Rattle.std.specs.Prelude.{◌≡◌, ℕ, ◌*◌, ◌%◌, List, length, None, Ok, Err, Some};
+ghost use Rattle.std.specs.Prelude.{◌≡◌, ℕ, ◌*◌, ◌%◌, ◌<◌, ◌≤◌, List, length, take, true, None, Ok, Err, Some};
+ghost use Rattle.c8_game.specs.declared.wire.WireVersion.{WireVersion};
+ghost use Rattle.c8_game.specs.declared.wire.WireVersion.TheVariants as versions;
 ghost use Rattle.c8_wire.specs.declared.error.WireError.{WireError};
-ghost use Rattle.c8_wire.specs.Packet.{AreBytes, AreWords, Packet};
+ghost use Rattle.c8_wire.specs.Packet.{AreBytes, AreWords, Packet, has_few_stretches};
+ghost use Rattle.c8_wire.specs.Sizes.{longest_run, longest_datagram, longest_datagram_in_pairs};
+ghost use Rattle.c8_wire.specs.Carried.{are_carried, carried};
 ghost use Rattle.c8_wire.specs.Spelling.{words_bytes, Spells};
 ghost use Rattle.c8_wire.specs.Reading.{words_of};
 ghost use Rattle.c8_wire.specs.Refusal.{refusal};
@@ -36,10 +40,32 @@ pub fn what_is_not_read_is_refused()
 {}
 
 /// Key sets are read again from their bytes, two bytes each, and bytes are those of what is read
-/// from them.
+/// from them: the inputs of a run in version 1, and of a record.
 pub fn words_are_their_bytes()
     ensures again { (words : List ℕ) → AreWords words → words_of (words_bytes words) ≡ words }
     ensures spelled { (bytes : List ℕ) → length bytes % 2 ≡ 0 → AreBytes bytes
         → words_bytes (words_of bytes) ≡ bytes }
     ensures size { (words : List ℕ) → length (words_bytes words) ≡ 2 * length words }
+{}
+
+/// A datagram has at most 174 bytes, and in version 2 at most 172.
+pub fn a_datagram_is_short()
+    ensures any { (bytes : List ℕ) (p : Packet) → Spells bytes p
+        → length bytes ≤ longest_datagram }
+    ensures pairs { (bytes : List ℕ) (p : Packet) → Spells bytes p
+        → p.head.version ≡ versions.Two → length bytes ≤ longest_datagram_in_pairs }
+{}
+
+/// What one datagram carries of some inputs is a beginning of them that is a run with room: at most 64, and
+/// no beginning that is longer is one. It is not empty where they are not, and in version 1 it is the first 64.
+pub fn a_datagram_carries_what_fits()
+    ensures few { (version : WireVersion) (words : List ℕ)
+        → length (carried version words) ≤ longest_run }
+    ensures room { (version : WireVersion) (words : List ℕ)
+        → has_few_stretches version (carried version words) ≡ true }
+    ensures most { (version : WireVersion) (words : List ℕ) (n : ℕ) → n ≤ length words
+        → are_carried version (take n words) ≡ true → n ≤ length (carried version words) }
+    ensures some { (version : WireVersion) (words : List ℕ)
+        → 0 < length words → 0 < length (carried version words) }
+    ensures first { (words : List ℕ) → carried versions.One words ≡ take longest_run words }
 {}

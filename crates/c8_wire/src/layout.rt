@@ -4,9 +4,6 @@
 /// What every datagram begins with.
 pub(crate) const MAGIC: [u8; 2] = [0x43, 0x38];
 
-/// The one version of the format.
-pub(crate) const VERSION: u8 = 1;
-
 /// The byte that stands between a leaver and its number of inputs.
 pub(crate) const RESERVED: u8 = 0;
 
@@ -38,6 +35,8 @@ pub(crate) const MARK_AT: usize = 32;
 
 pub(crate) const DATA_START_AT: usize = 40;
 
+pub(crate) const DATA_COUNT_AT: usize = 44;
+
 pub(crate) const DATA_RUN_AT: usize = 46;
 
 // The body of FREEZE, and that of FROZEN and CUT.
@@ -48,6 +47,8 @@ pub(crate) const RESERVED_AT: usize = 25;
 pub(crate) const INPUTS_AT: usize = 26;
 
 pub(crate) const LEAVER_START_AT: usize = 30;
+
+pub(crate) const LEAVER_COUNT_AT: usize = 34;
 
 pub(crate) const LEAVER_RUN_AT: usize = 36;
 

@@ -1,13 +1,15 @@
 //! FREEZE, FROZEN and CUT, which tell of a player who leaves, lent from their bytes.
-ghost use Rattle.std.specs.Prelude.{◌≡◌, ◌≤◌, ◌+◌, ◌*◌, length, slice_index};
+ghost use Rattle.std.specs.Prelude.{◌≡◌, ◌≤◌, ◌+◌, length, drop, slice_index, false};
 ghost use Rattle.std.proofs.Props.{props};
 ghost use Rattle.c8_wire.specs.declared.kinds.DatagramKind.TheVariants as kinds;
-ghost use Rattle.c8_wire.specs.Reading.{number_at, packet_at};
+ghost use Rattle.c8_wire.specs.Reading.{number_at, version_at, packet_at};
+ghost use Rattle.c8_wire.specs.Refusal.{has_wrong_size, are_no_run};
 ghost use Rattle.c8_wire.specs.Spelling.{Spells};
 
-use crate::layout::{INPUTS_AT, LEAVER_AT, LEAVER_RUN_AT, LEAVER_START_AT};
-use crate::numbers::u32_at;
+use crate::layout::{INPUTS_AT, LEAVER_AT, LEAVER_COUNT_AT, LEAVER_RUN_AT, LEAVER_START_AT};
+use crate::numbers::{u16_at, u32_at};
 use crate::run::Run;
+use crate::version::version_in;
 use c8_game::{MOST_INPUTS, Player};
 
 /// What the three have in common: the leaver, a number of its inputs and, but for FREEZE, a run of
@@ -21,9 +23,8 @@ pub(crate) struct Leaving<'a> {
 }
 
 impl<'a> Leaving<'a> {
-    ghost use Rattle.std.specs.Prelude.{◌%◌, drop};
     ghost use Rattle.c8_wire.specs.Reading.{leaver_at};
-    ghost use Rattle.c8_wire.specs.Lent.{words, spelled};
+    ghost use Rattle.c8_wire.specs.Lent.{version_of, words, spelled, touched};
 
     fn leaver(self) -> Player
         ensures value { result.number ≡ slice_index self.entry.bytes.now 24 }
@@ -49,13 +50,19 @@ impl<'a> Leaving<'a> {
 
     fn run(self) -> Run<'a>
         requires long { 36 ≤ length self.bytes.now }
-        requires even { length self.bytes.now % 2 ≡ 0 }
-        requires short { length self.bytes.now ≤ 164 }
+        requires few { number_at 34 2 self.bytes.now ≤ 64 }
+        requires sized { has_wrong_size (version_at self.bytes.now) (number_at 34 2 self.bytes.now)
+            (length (drop 36 self.bytes.now)) ≡ false }
+        requires paired { are_no_run (version_at self.bytes.now) (number_at 34 2 self.bytes.now)
+            (drop 36 self.bytes.now) ≡ false }
+        ensures version { version_of result ≡ version_at self.entry.bytes.now }
         ensures words { words result ≡ (leaver_at self.entry.bytes.now).words }
+        ensures whole { touched result ≡ words result }
         ensures slice { spelled result ≡ drop 36 self.entry.bytes.now }
     {
+        let count = usize::from(u16_at(self.bytes, LEAVER_COUNT_AT));
         let (_, bytes) = self.bytes.split_at(LEAVER_RUN_AT);
-        Run::new(bytes)
+        Run::of(version_in(self.bytes), count, bytes)
     }
 }
 
@@ -91,13 +98,15 @@ impl<'a> Freeze<'a> {
 #[derive(Clone, Copy, Debug, PartialEq, Eq)]
 pub struct Frozen<'a> {
     pub(crate) view: Leaving<'a>,
-    pub(crate) ghost size: { length view.bytes.now ≡ 36 + 2 * number_at 34 2 view.bytes.now },
-    pub(crate) ghost short: { number_at 34 2 view.bytes.now ≤ 64 },
+    pub(crate) ghost long: { 36 ≤ length view.bytes.now },
+    pub(crate) ghost few: { number_at 34 2 view.bytes.now ≤ 64 },
+    pub(crate) ghost sized: { has_wrong_size (version_at view.bytes.now) (number_at 34 2 view.bytes.now) (length (drop 36 view.bytes.now)) ≡ false },
+    pub(crate) ghost paired: { are_no_run (version_at view.bytes.now) (number_at 34 2 view.bytes.now) (drop 36 view.bytes.now) ≡ false },
     pub(crate) ghost spelled: { Spells view.bytes.now (packet_at kinds.Frozen view.bytes.now) } by { Prim.hlevel props },
 }
 
 impl<'a> Frozen<'a> {
-    ghost use Rattle.c8_wire.specs.Lent.{bytes_of, frozen_of, words, spelled, run_slice};
+    ghost use Rattle.c8_wire.specs.Lent.{bytes_of, frozen_of, version_of, words, spelled, touched, run_slice};
     ghost use Rattle.c8_wire.specs.declared.datagram.Datagram.TheVariants as datagrams;
 
     /// The player who leaves, never player one.
@@ -126,7 +135,9 @@ impl<'a> Frozen<'a> {
 
     /// Inputs of the leaver, lent from the bytes that came: those after the first 36.
     pub fn run(&self) -> Run<'a>
+        ensures version { version_of result ≡ version_at (bytes_of (datagrams.Frozen self.now)) }
         ensures words { words result ≡ (frozen_of self.now).words }
+        ensures whole { touched result ≡ words result }
         ensures slice { spelled result
             ≡ run_slice kinds.Frozen (bytes_of (datagrams.Frozen self.now)) }
     {
@@ -138,13 +149,15 @@ impl<'a> Frozen<'a> {
 #[derive(Clone, Copy, Debug, PartialEq, Eq)]
 pub struct Cut<'a> {
     pub(crate) view: Leaving<'a>,
-    pub(crate) ghost size: { length view.bytes.now ≡ 36 + 2 * number_at 34 2 view.bytes.now },
-    pub(crate) ghost short: { number_at 34 2 view.bytes.now ≤ 64 },
+    pub(crate) ghost long: { 36 ≤ length view.bytes.now },
+    pub(crate) ghost few: { number_at 34 2 view.bytes.now ≤ 64 },
+    pub(crate) ghost sized: { has_wrong_size (version_at view.bytes.now) (number_at 34 2 view.bytes.now) (length (drop 36 view.bytes.now)) ≡ false },
+    pub(crate) ghost paired: { are_no_run (version_at view.bytes.now) (number_at 34 2 view.bytes.now) (drop 36 view.bytes.now) ≡ false },
     pub(crate) ghost spelled: { Spells view.bytes.now (packet_at kinds.Cut view.bytes.now) } by { Prim.hlevel props },
 }
 
 impl<'a> Cut<'a> {
-    ghost use Rattle.c8_wire.specs.Lent.{bytes_of, cut_of, words, spelled, run_slice};
+    ghost use Rattle.c8_wire.specs.Lent.{bytes_of, cut_of, version_of, words, spelled, touched, run_slice};
     ghost use Rattle.c8_wire.specs.declared.datagram.Datagram.TheVariants as datagrams;
 
     /// The player who has left, never player one.
@@ -173,7 +186,9 @@ impl<'a> Cut<'a> {
 
     /// Inputs of the leaver, lent from the bytes that came: those after the first 36.
     pub fn run(&self) -> Run<'a>
+        ensures version { version_of result ≡ version_at (bytes_of (datagrams.Cut self.now)) }
         ensures words { words result ≡ (cut_of self.now).words }
+        ensures whole { touched result ≡ words result }
         ensures slice { spelled result ≡ run_slice kinds.Cut (bytes_of (datagrams.Cut self.now)) }
     {
         self.view.run()

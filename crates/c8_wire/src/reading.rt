@@ -1,11 +1,11 @@
 //! Bytes are a datagram, or refused.
-ghost use Rattle.std.specs.Prelude.{◌≡◌, ◌+◌, ◌≤◌, not, length, Option, Some, None, Ok, Err, MatchResult, IfOk, IfErr, OnOk, IsOkAnd};
+ghost use Rattle.std.specs.Prelude.{◌≡◌, ◌+◌, ◌<◌, ◌≤◌, not, length, Option, Some, None, Ok, Err, MatchResult, IfOk, IfErr, OnOk, IsOkAnd};
 ghost use Rattle.c8_wire.specs.Kinds.{fixed_size};
 ghost use Rattle.std.specs.Bool.{OnFalse};
 ghost use Rattle.c8_wire.specs.Packet.{Packet};
 ghost use Rattle.c8_wire.specs.Spelling.{Spells};
-ghost use Rattle.c8_wire.specs.Reading.{kind_at, packet_at};
-ghost use Rattle.c8_wire.specs.Refusal.{first_of, body_refusals, refusal, is_misfit, misnames_players, fills_reserved, miscounts, goes_beyond, run_end};
+ghost use Rattle.c8_wire.specs.Reading.{kind_at, size_at, packet_at};
+ghost use Rattle.c8_wire.specs.Refusal.{first_of, body_refusals, refusal, is_misfit, misnames_players, fills_reserved, miscounts, has_wrong_size, mispairs, goes_beyond, run_end};
 ghost use Rattle.c8_wire.specs.checked.Read.{read};
 ghost use Rattle.c8_wire.specs.Lent.{bytes_of, packet_of};
 
@@ -16,12 +16,14 @@ use crate::handshake::{Hello, Welcome};
 use crate::kinds::DatagramKind;
 use crate::layout::{
     ACK_AT, COUNT_PAST_FIXED, FROM_AT, INPUTS_AT, KIND_AT, LEAVER_AT, MAGIC, MAGIC_AT,
-    MARK_FRAME_AT, RESERVED, RESERVED_AT, SIZE_AT, START_PAST_FIXED, TO_AT, VERSION, VERSION_AT,
+    MARK_FRAME_AT, RESERVED, RESERVED_AT, SIZE_AT, START_PAST_FIXED, TO_AT, VERSION_AT,
 };
 use crate::leaving::{Cut, Freeze, Frozen, Leaving};
 use crate::numbers::{u16_at, u32_at};
 use crate::sizes::{HEADER_LENGTH, LONGEST_RUN};
-use c8_game::MOST_INPUTS;
+use crate::version::version_in;
+use c8_game::{MOST_INPUTS, WireVersion};
+use c8_pairs::{MOST_PAIRS, is_run};
 
 /// The datagram that the bytes spell, lent from them; else the first refusal of `WireError`.
 pub fn view(bytes: &[u8]) -> Result<Datagram<'_>, WireError>
@@ -96,7 +98,8 @@ fn named_kind(bytes: &[u8]) -> Result<DatagramKind, WireError>
     if u16_at(bytes, MAGIC_AT) != u16::from_be_bytes(MAGIC) {
         return Err(WireError::Magic);
     }
-    if bytes[VERSION_AT] != VERSION {
+    let version = bytes[VERSION_AT];
+    if version != WireVersion::One.number() && version != WireVersion::Two.number() {
         return Err(WireError::Version);
     }
     match DatagramKind::from_code(bytes[KIND_AT]) {
@@ -123,6 +126,9 @@ fn body_refusal(kind: DatagramKind, bytes: &[u8]) -> Option<WireError>
     if miscounts(kind, bytes) {
         return Some(WireError::Count);
     }
+    if mispairs(kind, bytes) {
+        return Some(WireError::Pairs);
+    }
     if goes_beyond(kind, bytes) {
         return Some(WireError::Beyond);
     }
@@ -134,6 +140,7 @@ fn is_misfit(kind: DatagramKind, bytes: &[u8]) -> bool
     requires { HEADER_LENGTH ≤ length bytes.now }
     ensures value { result ≡ is_misfit kind bytes.now }
     ensures long { OnFalse result (HEADER_LENGTH + fixed_size kind ≤ length bytes.now) }
+    ensures size { OnFalse result (fixed_size kind ≤ size_at bytes.now) }
 {
     let size = usize::from(u16_at(bytes, SIZE_AT));
     let fixed = kind.fixed_size();
@@ -162,16 +169,38 @@ fn fills_reserved(kind: DatagramKind, bytes: &[u8]) -> bool
     kind.names_leaver() && bytes[RESERVED_AT] != RESERVED
 }
 
-/// Whether the run is longer than 64, or not as long as the body has room for.
+/// Whether the run is longer than 64, or its bytes are not as many as it may have.
 fn miscounts(kind: DatagramKind, bytes: &[u8]) -> bool
-    requires { HEADER_LENGTH + fixed_size kind ≤ length bytes.now }
+    requires long { HEADER_LENGTH + fixed_size kind ≤ length bytes.now }
+    requires size { fixed_size kind ≤ size_at bytes.now }
     ensures { result ≡ miscounts kind bytes.now }
 {
-    let size = usize::from(u16_at(bytes, SIZE_AT));
+    let size = usize::from(u16_at(bytes, SIZE_AT)) - kind.fixed_size();
     let count = usize::from(u16_at(bytes, COUNT_PAST_FIXED + kind.fixed_size()));
     let mut miscounts = count > LONGEST_RUN;
-    miscounts |= size != kind.fixed_size() + 2 * count;
+    miscounts |= has_wrong_size(version_in(bytes), count, size);
     kind.has_run() && miscounts
+}
+
+/// Whether so many bytes are not those of so many inputs.
+fn has_wrong_size(version: WireVersion, count: usize, size: usize) -> bool
+    requires { count < 65536 }
+    ensures { result ≡ has_wrong_size version count size }
+{
+    match version {
+        WireVersion::One => size != 2 * count,
+        WireVersion::Two => size % 3 != 0 || size > 3 * MOST_PAIRS,
+    }
+}
+
+/// Whether what ends the body are not the pairs of a run, in version 2.
+fn mispairs(kind: DatagramKind, bytes: &[u8]) -> bool
+    requires { HEADER_LENGTH + fixed_size kind ≤ length bytes.now }
+    ensures { result ≡ mispairs kind bytes.now }
+{
+    let count = usize::from(u16_at(bytes, COUNT_PAST_FIXED + kind.fixed_size()));
+    let (_, run) = bytes.split_at(HEADER_LENGTH + kind.fixed_size());
+    kind.has_run() && version_in(bytes) == WireVersion::Two && !is_run(run, count)
 }
 
 /// Whether a number of inputs is above what a game may have, or a run goes past its end.

@@ -2,9 +2,11 @@
 use crate::datagram::Datagram;
 use crate::header::Header;
 use crate::run::Run;
+use c8_game::WireVersion;
 use std::fmt;
 
-/// What it says, field by field in lines, with no line feed after the last.
+/// What it says, field by field in lines, with no line feed after the last: the version where it is
+/// version 2, and a run by its inputs in either.
 impl<'a> fmt::Display for Datagram<'a> {
     fn fmt<W: fmt::Write>(&self, f: &mut fmt::Formatter<W>) -> fmt::Result {
         show_header(f, self.header())?;
@@ -42,7 +44,11 @@ fn show_header<W: fmt::Write>(f: &mut fmt::Formatter<W>, header: Header<'_>) -> 
     let (kind, session) = (header.kind(), header.session());
     let (from, to) = (header.from().number, header.to().number);
     let (sender, addressee) = (header.sender_epoch(), header.addressee_epoch());
-    write!(f, "kind {kind}\nsession {session:016x}\n")?;
+    write!(f, "kind {kind}")?;
+    if let WireVersion::Two = header.version() {
+        f.write_str("\nversion 2")?;
+    }
+    write!(f, "\nsession {session:016x}\n")?;
     write!(f, "from {from} to {to}\nepochs {sender} {addressee}")
 }
 

@@ -3,7 +3,7 @@
 /// How many bytes a header has.
 pub const HEADER_LENGTH: usize = 24;
 
-/// The most bytes that a body has: that of a DATA with the longest run.
+/// The most bytes that a body has: that of a DATA of 64 inputs in version 1.
 pub(crate) const LONGEST_BODY: usize = 150;
 
 /// The most bytes that a datagram has.

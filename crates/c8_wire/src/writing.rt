@@ -1,20 +1,23 @@
 //! What is said is written as the bytes that spell it.
-ghost use Rattle.std.specs.Prelude.{◌≡◌, ℕ, [], ◌∷◌, ◌+◌, ◌*◌, ◌^◌, ◌<◌, ◌≤◌, slice_index, ◌++◌, length, take, drop};
+ghost use Rattle.std.specs.Prelude.{◌≡◌, true, ℕ, [], ◌∷◌, ◌+◌, ◌*◌, ◌^◌, ◌<◌, ◌≤◌, slice_index, ◌++◌, length, take, drop};
 ghost use Rattle.byteorder.specs.Endian.{big_bytes};
 ghost use Rattle.arrayvec.specs.ArrayVec.{array_vec_len};
-ghost use Rattle.c8_wire.specs.Packet.{IsHead, Fits, IsMessage};
-ghost use Rattle.c8_wire.specs.Spelling.{header_bytes, words_bytes, run_bytes, body_bytes, spelling, Spells};
+ghost use Rattle.c8_wire.specs.Packet.{IsHead, Fits, IsMessage, has_room, has_few_stretches};
+ghost use Rattle.c8_wire.specs.Spelling.{header_bytes, words_bytes, inputs_bytes, run_bytes, body_bytes, spelling, Spells};
+ghost use Rattle.c8_pairs.specs.Pairs.{pairs_of};
+ghost use Rattle.c8_pairs.specs.Pairs as pairs;
 ghost use Rattle.c8_wire.specs.Saying.{head_value, message_of, packet_said, MaySay};
 
 use crate::header::Head;
-use crate::layout::{MAGIC, RESERVED, VERSION};
+use crate::layout::{MAGIC, RESERVED};
 use crate::said::{Body, Said};
-use crate::sizes::{HEADER_LENGTH, LONGEST_BODY, LONGEST_DATAGRAM};
+use crate::sizes::{HEADER_LENGTH, LONGEST_BODY, LONGEST_DATAGRAM, LONGEST_RUN};
 use arrayvec::ArrayVec;
-use c8_game::Player;
+use c8_game::{Player, WireVersion};
+use c8_pairs::Stretches;
 
-/// Writes a datagram to the front of `out`, and answers its length, 24 to 174. The bytes after it
-/// stay.
+/// Writes a datagram to the front of `out`, and answers its length: 24 to 174, in version 2 to 172. The
+/// bytes after it stay.
 pub fn write(said: &Said<'_>, out: &mut [u8; LONGEST_DATAGRAM]) -> usize
     requires { MaySay said.now }
     ensures spelled { Spells (take result out.new) (packet_said said.now) }
@@ -23,7 +26,7 @@ pub fn write(said: &Said<'_>, out: &mut [u8; LONGEST_DATAGRAM]) -> usize
     ensures fits { result ≤ LONGEST_DATAGRAM }
 {
     let mut body = ArrayVec::new();
-    put_body(&said.body, &mut body);
+    put_body(said.head.version, &said.body, &mut body);
     let mut datagram = ArrayVec::new();
     put_header(&said.head, body.len(), &mut datagram);
     put(body.as_slice(), &mut datagram);
@@ -40,7 +43,10 @@ fn put_header(head: &Head, size: usize, out: &mut ArrayVec<u8, LONGEST_DATAGRAM>
     ensures head { IsHead (head_value head.now) }
 {
     let [first, second] = MAGIC;
-    put(&[first, second, VERSION, head.kind.code()], out);
+    put(
+        &[first, second, head.version.number(), head.kind.code()],
+        out,
+    );
     put(&head.session.to_be_bytes(), out);
     put(&[head.from.number, head.to.number], out);
     put(&(size as u16).to_be_bytes(), out);
@@ -49,10 +55,11 @@ fn put_header(head: &Head, size: usize, out: &mut ArrayVec<u8, LONGEST_DATAGRAM>
 }
 
 /// Appends the body.
-fn put_body(body: &Body<'_>, out: &mut ArrayVec<u8, LONGEST_DATAGRAM>)
-    requires room { array_vec_len out.old + LONGEST_BODY ≤ LONGEST_DATAGRAM }
+fn put_body(version: WireVersion, body: &Body<'_>, out: &mut ArrayVec<u8, LONGEST_DATAGRAM>)
+    requires space { array_vec_len out.old + LONGEST_BODY ≤ LONGEST_DATAGRAM }
     requires message { IsMessage (message_of body.now) }
-    ensures bytes { out.new.items ≡ out.old.items ++ body_bytes (message_of body.now) }
+    requires room { has_room version (message_of body.now) ≡ true }
+    ensures bytes { out.new.items ≡ out.old.items ++ body_bytes version (message_of body.now) }
     ensures fits { Fits (message_of body.now) }
 {
     match body {
@@ -68,7 +75,7 @@ fn put_body(body: &Body<'_>, out: &mut ArrayVec<u8, LONGEST_DATAGRAM>)
             put(&ack.to_be_bytes(), out);
             put(&mark_frame.to_be_bytes(), out);
             put(mark, out);
-            put_run(*start, run, out);
+            put_run(version, *start, run, out);
         }
         Body::Freeze { leaver, have } => put_leaver(leaver, *have, out),
         Body::Frozen {
@@ -78,7 +85,7 @@ fn put_body(body: &Body<'_>, out: &mut ArrayVec<u8, LONGEST_DATAGRAM>)
             run,
         } => {
             put_leaver(leaver, *held, out);
-            put_run(*start, run, out);
+            put_run(version, *start, run, out);
         }
         Body::Cut {
             leaver,
@@ -87,7 +94,7 @@ fn put_body(body: &Body<'_>, out: &mut ArrayVec<u8, LONGEST_DATAGRAM>)
             run,
         } => {
             put_leaver(leaver, *length, out);
-            put_run(*start, run, out);
+            put_run(version, *start, run, out);
         }
     }
 }
@@ -101,15 +108,20 @@ fn put_leaver(leaver: &Player, inputs: u32, out: &mut ArrayVec<u8, LONGEST_DATAG
     put(&inputs.to_be_bytes(), out);
 }
 
-/// Appends a run: where it starts, how many inputs it has, and their key sets.
-fn put_run(start: u32, run: &[u16], out: &mut ArrayVec<u8, LONGEST_DATAGRAM>)
-    requires { array_vec_len out.old + 6 + 2 * length run.now ≤ LONGEST_DATAGRAM }
-    ensures bytes { out.new.items ≡ out.old.items ++ run_bytes start run.now }
+/// Appends a run: where it starts, how many inputs it has, and these.
+fn put_run(version: WireVersion, start: u32, run: &[u16], out: &mut ArrayVec<u8, LONGEST_DATAGRAM>)
+    requires space { array_vec_len out.old + 6 + 2 * LONGEST_RUN ≤ LONGEST_DATAGRAM }
+    requires few { length run.now ≤ LONGEST_RUN }
+    requires room { has_few_stretches version run.now ≡ true }
+    ensures bytes { out.new.items ≡ out.old.items ++ run_bytes version start run.now }
     ensures fits { (i : ℕ) → slice_index run.now i < 2 ^ 16 }
 {
     put(&start.to_be_bytes(), out);
     put(&(run.len() as u16).to_be_bytes(), out);
-    put_words(run, out);
+    match version {
+        WireVersion::One => put_words(run, out),
+        WireVersion::Two => put_pairs(run, out),
+    }
 }
 
 /// Appends key sets, two bytes each.
@@ -119,6 +131,18 @@ fn put_words(run: &[u16], out: &mut ArrayVec<u8, LONGEST_DATAGRAM>)
 {
     for word in run {
         put(&word.to_be_bytes(), out);
+    }
+}
+
+/// Appends a pair for each stretch of equal key sets, three bytes each.
+fn put_pairs(run: &[u16], out: &mut ArrayVec<u8, LONGEST_DATAGRAM>)
+    requires few { length run.now ≤ LONGEST_RUN }
+    requires space { array_vec_len out.old + 3 * length (pairs_of run.now) ≤ LONGEST_DATAGRAM }
+    ensures { out.new.items ≡ out.old.items ++ pairs.spelling run.now }
+{
+    for pair in Stretches::new(run) {
+        put(&[pair.times], out);
+        put(&pair.keys.to_be_bytes(), out);
     }
 }
 

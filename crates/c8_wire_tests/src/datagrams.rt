@@ -1,72 +1,69 @@
-//! Datagrams of every kind whose numbers all differ, as each of their readers tells them.
+//! Datagrams of every kind in both versions, as each of their readers tells them.
 use crate::runs::has;
 use c8_game::Player;
 use c8_wire::{Datagram, Head, Header, Run, Seat, view};
 use std::alloc::Global;
 use std::test::Fail;
 
-pub(crate) const SESSION: u64 = 0x0a1b2c3d4e5f6071;
-
-pub(crate) const HELLO: &str = "433801010a1b2c3d4e5f607104030000\
-    00000a0b0c0d0e0f";
-
-pub(crate) const WELCOME: &str = "433801020a1b2c3d4e5f607102040004\
-    00000a0b0c0d0e0f00010203";
-
-pub(crate) const DATA: &str = "433801030a1b2c3d4e5f60710104001c\
-    00000a0b0c0d0e0f0000019f000001809a8b7c6d5e4f30210001abcd000300f0c00d1eaf";
-
-pub(crate) const FREEZE: &str = "433801040a1b2c3d4e5f607101020006\
-    00000a0b0c0d0e0f030000020304";
-
-pub(crate) const FROZEN: &str = "433801050a1b2c3d4e5f607102010010\
-    00000a0b0c0d0e0f04000000abcf0000abcd00020b0ef001";
-
-pub(crate) const CUT: &str = "433801060a1b2c3d4e5f607101030012\
-    00000a0b0c0d0e0f020000000bba00000bb700030d10000ca000";
-
-/// A DATA of one input, 0020.
-const ONE_INPUT: &str = "43380103010203040506070801020018\
-    00000001000000010000000000000000a1a2a3a4a5a6a7a80000000000010020";
+const SESSION: u64 = 0x0a1b2c3d4e5f6071;
 
 /// A datagram, and what it says.
 #[derive(Clone, Copy, Debug)]
-struct Row {
-    bytes: &'static str,
-    /// The kind, the session, the sender and the addressee, and their epochs.
-    header: [u64; 6],
+pub(crate) struct Row {
+    pub(crate) bytes: &'static str,
+    /// The kind, the session, the sender and the addressee, their epochs, and the version.
+    pub(crate) header: [u64; 7],
     /// The leaver, the number of inputs that comes first, the frame of the mark, the mark, and the
     /// start of the run; 0 where the kind has none.
-    body: [u64; 5],
-    run: &'static str,
+    pub(crate) body: [u64; 5],
+    /// The key sets of the run, and the bytes that spell it.
+    pub(crate) run: &'static str,
+    pub(crate) spelled: &'static str,
+    /// Key sets after those of the run, for which there is no room in it.
+    pub(crate) more: &'static str,
 }
 
 #[rattlefmt::skip]
-const ROWS: [Row; 7] = [
-    Row { bytes: HELLO, header: [1, SESSION, 4, 3, 2571, 202182159], body: [0, 0, 0, 0, 0], run: "" },
-    Row { bytes: WELCOME, header: [2, SESSION, 2, 4, 2571, 202182159], body: [0, 66051, 0, 0, 0], run: "" },
-    Row { bytes: DATA, header: [3, SESSION, 1, 4, 2571, 202182159], body: [0, 415, 384, 0x9a8b7c6d5e4f3021, 109517], run: "00f0c00d1eaf" },
-    Row { bytes: FREEZE, header: [4, SESSION, 1, 2, 2571, 202182159], body: [3, 131844, 0, 0, 0], run: "" },
-    Row { bytes: FROZEN, header: [5, SESSION, 2, 1, 2571, 202182159], body: [4, 43983, 0, 0, 43981], run: "0b0ef001" },
-    Row { bytes: CUT, header: [6, SESSION, 1, 3, 2571, 202182159], body: [2, 3002, 0, 0, 2999], run: "0d10000ca000" },
-    Row { bytes: ONE_INPUT, header: [3, 0x0102030405060708, 1, 2, 1, 1], body: [0, 0, 0, 0xa1a2a3a4a5a6a7a8, 0], run: "0020" },
+const ROWS: [Row; 20] = [
+    // in version 1, a key set for each input
+    Row { bytes: "433801010a1b2c3d4e5f60710403000000000a0b0c0d0e0f", header: [1, SESSION, 4, 3, 2571, 202182159, 1], body: [0, 0, 0, 0, 0], run: "", spelled: "", more: "" },
+    Row { bytes: "433801020a1b2c3d4e5f60710204000400000a0b0c0d0e0f00010203", header: [2, SESSION, 2, 4, 2571, 202182159, 1], body: [0, 66051, 0, 0, 0], run: "", spelled: "", more: "" },
+    Row { bytes: "433801030a1b2c3d4e5f60710104001c00000a0b0c0d0e0f0000019f000001809a8b7c6d5e4f30210001abcd000300f0c00d1eaf", header: [3, SESSION, 1, 4, 2571, 202182159, 1], body: [0, 415, 384, 0x9a8b7c6d5e4f3021, 109517], run: "00f0c00d1eaf", spelled: "00f0c00d1eaf", more: "" },
+    Row { bytes: "433801040a1b2c3d4e5f60710102000600000a0b0c0d0e0f030000020304", header: [4, SESSION, 1, 2, 2571, 202182159, 1], body: [3, 131844, 0, 0, 0], run: "", spelled: "", more: "" },
+    Row { bytes: "433801050a1b2c3d4e5f60710201001000000a0b0c0d0e0f04000000abcf0000abcd00020b0ef001", header: [5, SESSION, 2, 1, 2571, 202182159, 1], body: [4, 43983, 0, 0, 43981], run: "0b0ef001", spelled: "0b0ef001", more: "" },
+    Row { bytes: "433801060a1b2c3d4e5f60710103001200000a0b0c0d0e0f020000000bba00000bb700030d10000ca000", header: [6, SESSION, 1, 3, 2571, 202182159, 1], body: [2, 3002, 0, 0, 2999], run: "0d10000ca000", spelled: "0d10000ca000", more: "" },
+    Row { bytes: "4338010301020304050607080102001800000001000000010000000000000000a1a2a3a4a5a6a7a80000000000010020", header: [3, 0x0102030405060708, 1, 2, 1, 1, 1], body: [0, 0, 0, 0xa1a2a3a4a5a6a7a8, 0], run: "0020", spelled: "0020", more: "" },
+    Row { bytes: "433801030a1b2c3d4e5f60710302009600000a0b0c0d0e0f00040004000400009a8b7c6d5e4f30210003ffc400400a5c1f63346a49715e78737f88869d8db294c79bdca2f1a906b01bb730be45c55acc6fd384da99e1aee8c3efd8f6edfd0304180b2d12421957206c27812e9635ab3cc043d54aea51ff58145f29663e6d5374687b7d829289a790bc97d19ee6a5fbac10b325ba3ac14fc864cf79d68edda3e4b8ebcdf2e2f9f8000d07220e3715", header: [3, SESSION, 3, 2, 2571, 202182159, 1], body: [0, 262148, 262144, 0x9a8b7c6d5e4f3021, 262084], run: "0a5c1f63346a49715e78737f88869d8db294c79bdca2f1a906b01bb730be45c55acc6fd384da99e1aee8c3efd8f6edfd0304180b2d12421957206c27812e9635ab3cc043d54aea51ff58145f29663e6d5374687b7d829289a790bc97d19ee6a5fbac10b325ba3ac14fc864cf79d68edda3e4b8ebcdf2e2f9f8000d07220e3715", spelled: "0a5c1f63346a49715e78737f88869d8db294c79bdca2f1a906b01bb730be45c55acc6fd384da99e1aee8c3efd8f6edfd0304180b2d12421957206c27812e9635ab3cc043d54aea51ff58145f29663e6d5374687b7d829289a790bc97d19ee6a5fbac10b325ba3ac14fc864cf79d68edda3e4b8ebcdf2e2f9f8000d07220e3715", more: "7a7b" },
+    // in version 2, a pair for each stretch of equal ones
+    Row { bytes: "433802010a1b2c3d4e5f60710403000000000a0b0c0d0e0f", header: [1, SESSION, 4, 3, 2571, 202182159, 2], body: [0, 0, 0, 0, 0], run: "", spelled: "", more: "" },
+    Row { bytes: "433802020a1b2c3d4e5f60710304000400000a0b0c0d0e0f00010203", header: [2, SESSION, 3, 4, 2571, 202182159, 2], body: [0, 66051, 0, 0, 0], run: "", spelled: "", more: "" },
+    Row { bytes: "433802030a1b2c3d4e5f60710104001f00000a0b0c0d0e0f0000019f000001809a8b7c6d5e4f30210001abcd001b0700f009c00d0b1eaf", header: [3, SESSION, 1, 4, 2571, 202182159, 2], body: [0, 415, 384, 0x9a8b7c6d5e4f3021, 109517], run: "00f000f000f000f000f000f000f0c00dc00dc00dc00dc00dc00dc00dc00dc00d1eaf1eaf1eaf1eaf1eaf1eaf1eaf1eaf1eaf1eaf1eaf", spelled: "0700f009c00d0b1eaf", more: "" },
+    Row { bytes: "433802040a1b2c3d4e5f60710104000600000a0b0c0d0e0f030000020304", header: [4, SESSION, 1, 4, 2571, 202182159, 2], body: [3, 131844, 0, 0, 0], run: "", spelled: "", more: "" },
+    Row { bytes: "433802050a1b2c3d4e5f60710301001200000a0b0c0d0e0f04000000abcf0000abbf0010090b0e07f001", header: [5, SESSION, 3, 1, 2571, 202182159, 2], body: [4, 43983, 0, 0, 43967], run: "0b0e0b0e0b0e0b0e0b0e0b0e0b0e0b0e0b0ef001f001f001f001f001f001f001", spelled: "090b0e07f001", more: "" },
+    Row { bytes: "433802060a1b2c3d4e5f60710103001500000a0b0c0d0e0f040000000bba00000b9a0020080d100b000c0da000", header: [6, SESSION, 1, 3, 2571, 202182159, 2], body: [4, 3002, 0, 0, 2970], run: "0d100d100d100d100d100d100d100d10000c000c000c000c000c000c000c000c000c000c000ca000a000a000a000a000a000a000a000a000a000a000a000a000", spelled: "080d100b000c0da000", more: "" },
+    Row { bytes: "4338020301020304050607080102001900000001000000010000000000000000a1a2a3a4a5a6a7a8000000000001010020", header: [3, 0x0102030405060708, 1, 2, 1, 1, 2], body: [0, 0, 0, 0xa1a2a3a4a5a6a7a8, 0], run: "0020", spelled: "010020", more: "" },
+    Row { bytes: "4338020301020304050607080102001600000001000000010000000000000000a1a2a3a4a5a6a7a8000000000000", header: [3, 0x0102030405060708, 1, 2, 1, 1, 2], body: [0, 0, 0, 0xa1a2a3a4a5a6a7a8, 0], run: "", spelled: "", more: "" },
+    Row { bytes: "4338020301020304050607080102001900000001000000010000000000000000a1a2a3a4a5a6a7a8000000000040400000", header: [3, 0x0102030405060708, 1, 2, 1, 1, 2], body: [0, 0, 0, 0xa1a2a3a4a5a6a7a8, 0], run: "0000000000000000000000000000000000000000000000000000000000000000000000000000000000000000000000000000000000000000000000000000000000000000000000000000000000000000000000000000000000000000000000000000000000000000000000000000000000000000000000000000000000000000", spelled: "400000", more: "0000" },
+    Row { bytes: "4338020301020304050607080102001c00000001000000010000000000000000a1a2a3a4a5a6a7a8000000000008010010070000", header: [3, 0x0102030405060708, 1, 2, 1, 1, 2], body: [0, 0, 0, 0xa1a2a3a4a5a6a7a8, 0], run: "00100000000000000000000000000000", spelled: "010010070000", more: "" },
+    Row { bytes: "4338020301020304050607080102001c00000001000000010000000000000000a1a2a3a4a5a6a7a80000000000403c0abc040def", header: [3, 0x0102030405060708, 1, 2, 1, 1, 2], body: [0, 0, 0, 0xa1a2a3a4a5a6a7a8, 0], run: "0abc0abc0abc0abc0abc0abc0abc0abc0abc0abc0abc0abc0abc0abc0abc0abc0abc0abc0abc0abc0abc0abc0abc0abc0abc0abc0abc0abc0abc0abc0abc0abc0abc0abc0abc0abc0abc0abc0abc0abc0abc0abc0abc0abc0abc0abc0abc0abc0abc0abc0abc0abc0abc0abc0abc0abc0abc0abc0abc0abc0def0def0def0def", spelled: "3c0abc040def", more: "0def" },
+    Row { bytes: "4338020301020304050607080102009400000001000000010000000000000000a1a2a3a4a5a6a7a800000000002a010001010000010001010000010001010000010001010000010001010000010001010000010001010000010001010000010001010000010001010000010001010000010001010000010001010000010001010000010001010000010001010000010001010000010001010000010001010000010001010000010001010000", header: [3, 0x0102030405060708, 1, 2, 1, 1, 2], body: [0, 0, 0, 0xa1a2a3a4a5a6a7a8, 0], run: "000100000001000000010000000100000001000000010000000100000001000000010000000100000001000000010000000100000001000000010000000100000001000000010000000100000001000000010000", spelled: "010001010000010001010000010001010000010001010000010001010000010001010000010001010000010001010000010001010000010001010000010001010000010001010000010001010000010001010000010001010000010001010000010001010000010001010000010001010000010001010000010001010000", more: "0001" },
 ];
 
-fn rows() -> &'static [Row] {
+pub(crate) fn rows() -> &'static [Row] {
     &ROWS
 }
 
 /// What is read of a datagram, and whether its run is the one that is wanted.
 #[derive(Clone, Copy, Debug, PartialEq, Eq)]
-pub(crate) struct Told {
-    pub(crate) header: [u64; 6],
-    pub(crate) head: [u64; 6],
-    pub(crate) body: [u64; 5],
-    pub(crate) has_run: bool,
+struct Told {
+    header: [u64; 7],
+    head: [u64; 7],
+    body: [u64; 5],
+    has_run: bool,
 }
 
 /// What each reader of a header says.
-fn numbers_of(header: Header<'_>) -> [u64; 6] {
+fn numbers_of(header: Header<'_>) -> [u64; 7] {
     [
         u64::from(header.kind().code()),
         header.session(),
@@ -74,11 +71,12 @@ fn numbers_of(header: Header<'_>) -> [u64; 6] {
         u64::from(header.to().number),
         u64::from(header.sender_epoch()),
         u64::from(header.addressee_epoch()),
+        u64::from(header.version().number()),
     ]
 }
 
 /// What a header says as a whole.
-pub(crate) fn head_numbers(head: &Head) -> [u64; 6] {
+pub(crate) fn head_numbers(head: &Head) -> [u64; 7] {
     [
         u64::from(head.kind.code()),
         head.session,
@@ -86,6 +84,7 @@ pub(crate) fn head_numbers(head: &Head) -> [u64; 6] {
         u64::from(head.to.number),
         u64::from(head.sender_epoch),
         u64::from(head.addressee_epoch),
+        u64::from(head.version.number()),
     ]
 }
 
@@ -133,13 +132,13 @@ fn run_of<'a>(datagram: &Datagram<'a>) -> Option<Run<'a>> {
     }
 }
 
-/// What a datagram says, and whether its run is spelled by these bytes.
-pub(crate) fn read(bytes: &[u8], run: &[u8]) -> Result<Told, Fail> {
+/// What a datagram says, and whether its run has these key sets and is spelled by these bytes.
+fn read(bytes: &[u8], words: &[u8], spelled: &[u8]) -> Result<Told, Fail> {
     let datagram = view(bytes)?;
     let header = datagram.header();
     let has_run = match run_of(&datagram) {
-        Some(found) => has(found, run),
-        None => run.is_empty(),
+        Some(run) => run.version() == header.version() && has(run, words, spelled, 0),
+        None => words.is_empty(),
     };
     Ok(Told {
         header: numbers_of(header),
@@ -151,8 +150,9 @@ pub(crate) fn read(bytes: &[u8], run: &[u8]) -> Result<Told, Fail> {
 
 fn read_row(alloc: Global, row: &Row) -> Result<Told, Fail> {
     let bytes = hex::decode(alloc, row.bytes)?;
-    let run = hex::decode(alloc, row.run)?;
-    read(&bytes, &run)
+    let words = hex::decode(alloc, row.run)?;
+    let spelled = hex::decode(alloc, row.spelled)?;
+    read(&bytes, &words, &spelled)
 }
 
 #[test]

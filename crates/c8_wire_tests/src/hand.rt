@@ -10,6 +10,9 @@ use std::test::Fail;
 const GAME: &[u8] =
     b"players 2\nipf 10\nframes 100\ndelay 0\nwindow 8\nseed 0\nmask1 000f\nmask2 fff0\ncode 1200\n";
 
+const GAME_IN_PAIRS: &[u8] =
+    b"players 2\nipf 10\nframes 100\ndelay 0\nwindow 8\nseed 0\nwire 2\nmask1 000f\nmask2 fff0\ncode 1200\n";
+
 const HELLO: u8 = 1;
 
 const WELCOME: u8 = 2;
@@ -105,12 +108,12 @@ fn size_of_body(kind: u8) -> u8
     }
 }
 
-/// A HELLO, WELCOME or DATA whose body is all zeros.
-fn bytes_of(session: u64, row: &Row) -> [u8; 46] {
+/// A HELLO, WELCOME or DATA in the version of the game, whose body is all zeros.
+fn bytes_of(game: &Game, row: &Row) -> [u8; 46] {
     let size = size_of_body(row.kind);
     let mut bytes = [0; 46];
-    bytes[..4].copy_from_slice(&[0x43, 0x38, 1, row.kind]);
-    bytes[4..12].copy_from_slice(&session.to_be_bytes());
+    bytes[..4].copy_from_slice(&[0x43, 0x38, game.wire().number(), row.kind]);
+    bytes[4..12].copy_from_slice(&game.session(row.room).to_be_bytes());
     bytes[12..16].copy_from_slice(&[row.from, row.to, 0, size]);
     bytes[16..20].copy_from_slice(&[0, 0, 0, row.theirs]);
     bytes[20..24].copy_from_slice(&[0, 0, 0, row.mine]);
@@ -151,7 +154,7 @@ fn judges_and_hears(rt: HostRuntime) -> Result<(), Fail> {
         if row.new {
             links = begin(&game);
         }
-        let bytes = bytes_of(game.session(row.room), row);
+        let bytes = bytes_of(&game, row);
         let refusal = give(&mut links, &bytes, size_of_body(row.kind))?;
         let seen = look(&links, refusal);
         assert!(rt; seen == row.seen, "{row:?} gave {seen:?}");
@@ -160,11 +163,12 @@ fn judges_and_hears(rt: HostRuntime) -> Result<(), Fail> {
 }
 
 /// What the header says of a datagram to player 1, of player 2 in epoch 7, who has heard its WELCOME.
-fn head_after_welcome(game: &Game) -> Result<[u64; 6], Fail> {
+fn head_after_welcome(game: &Game) -> Result<[u64; 7], Fail> {
     let mut links = Links::new(Player { number: 2 }, game, 0, 7);
-    let bytes = bytes_of(game.session(0), &WELCOME_TO_TWO);
+    let bytes = bytes_of(game, &WELCOME_TO_TWO);
     let refusal = give(&mut links, &bytes, 4)?;
-    if refusal.is_some() || links.me().number != 2 || links.epoch() != 7 {
+    let is_two = links.me().number == 2 && links.epoch() == 7;
+    if refusal.is_some() || !is_two || links.version() != game.wire() {
         return Err(Fail::new("no link of player 2 in epoch 7"));
     }
     Ok(head_numbers(&links.head(Player { number: 1 }, DatagramKind::Data)))
@@ -172,8 +176,13 @@ fn head_after_welcome(game: &Game) -> Result<[u64; 6], Fail> {
 
 #[test]
 fn heads_name_both_epochs(rt: HostRuntime) -> Result<(), Fail> {
-    let game = Game::read(rt.alloc(), GAME)?;
-    let head = head_after_welcome(&game)?;
-    assert!(rt; head == [3, game.session(0), 2, 1, 7, 9], "{head:?}");
+    for (text, version) in [(GAME, 1), (GAME_IN_PAIRS, 2)] {
+        let game = Game::read(rt.alloc(), text)?;
+        let head = head_after_welcome(&game)?;
+        assert!(rt;
+            head == [3, game.session(0), 2, 1, 7, 9, version],
+            "{head:?}"
+        );
+    }
     Ok(())
 }

@@ -9,6 +9,8 @@ mod datagrams;
 #[cfg(test)]
 mod hand;
 #[cfg(test)]
+mod judge;
+#[cfg(test)]
 mod pairs;
 #[cfg(test)]
 mod refusals;

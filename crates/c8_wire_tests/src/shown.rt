@@ -5,7 +5,7 @@ use std::test::Fail;
 
 /// The bytes of a datagram, and what is printed for it.
 #[rattlefmt::skip]
-const SHOWN: [(&'static str, &'static str); 7] = [
+const SHOWN: [(&'static str, &'static str); 14] = [
     ("4338010100abcdef12345678030400000000000c0012abcd",
         "kind HELLO\nsession 00abcdef12345678\nfrom 3 to 4\nepochs 12 1223629"),
     ("433801020fedcba9876543210402000400010000000000ff0003fffe",
@@ -20,6 +20,20 @@ const SHOWN: [(&'static str, &'static str); 7] = [
         "kind CUT\nsession 0000000000000c0d\nfrom 1 to 3\nepochs 15 16\nleaver 4 length 5000\nstart 2000 count 1\nrun 0e0f"),
     ("433801060000000000000c0d0203000c0000000f00000010040000001388000007d00000",
         "kind CUT\nsession 0000000000000c0d\nfrom 2 to 3\nepochs 15 16\nleaver 4 length 5000\nstart 2000 count 0\nrun"),
+    ("4338020100abcdef12345678030400000000000c0012abcd",
+        "kind HELLO\nversion 2\nsession 00abcdef12345678\nfrom 3 to 4\nepochs 12 1223629"),
+    ("433802020fedcba9876543210402000400010000000000ff0003fffe",
+        "kind WELCOME\nversion 2\nsession 0fedcba987654321\nfrom 4 to 2\nepochs 65536 255\nack 262142"),
+    ("4338020301020304050607080102001900000001000000010000000000000000a1a2a3a4a5a6a7a8000000000001010020",
+        "kind DATA\nversion 2\nsession 0102030405060708\nfrom 1 to 2\nepochs 1 1\nack 0\nmark 0 a1a2a3a4a5a6a7a8\nstart 0 count 1\nrun 0020"),
+    ("433802040102030405060708010200060000000100000001030000000008",
+        "kind FREEZE\nversion 2\nsession 0102030405060708\nfrom 1 to 2\nepochs 1 1\nleaver 3 have 8"),
+    ("433802050000cafe0000f00d040100120000000d0000000e020000000bb800000064000604000a02ff00",
+        "kind FROZEN\nversion 2\nsession 0000cafe0000f00d\nfrom 4 to 1\nepochs 13 14\nleaver 2 held 3000\nstart 100 count 6\nrun 000a 000a 000a 000a ff00 ff00"),
+    ("433802060000000000000c0d0103000f0000000f00000010040000001388000007d00003030e0f",
+        "kind CUT\nversion 2\nsession 0000000000000c0d\nfrom 1 to 3\nepochs 15 16\nleaver 4 length 5000\nstart 2000 count 3\nrun 0e0f 0e0f 0e0f"),
+    ("433802060000000000000c0d0203000c0000000f00000010040000001388000007d00000",
+        "kind CUT\nversion 2\nsession 0000000000000c0d\nfrom 2 to 3\nepochs 15 16\nleaver 4 length 5000\nstart 2000 count 0\nrun"),
 ];
 
 fn shown() -> &'static [(&'static str, &'static str)] {

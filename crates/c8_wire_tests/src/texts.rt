@@ -39,7 +39,7 @@ fn names_kinds(rt: HostRuntime) -> Result<(), Fail> {
 }
 
 #[rattlefmt::skip]
-const WIRE_ERRORS: [(WireError, &'static str); 9] = [
+const WIRE_ERRORS: [(WireError, &'static str); 10] = [
     (WireError::Short, "1 Short: fewer than 24 bytes"),
     (WireError::Magic, "2 Magic: the first two bytes are those of no datagram"),
     (WireError::Version, "3 Version: another version of the format"),
@@ -47,7 +47,8 @@ const WIRE_ERRORS: [(WireError, &'static str); 9] = [
     (WireError::Length, "5 Length: the body has another length than it should have"),
     (WireError::Player, "6 Player: a player who cannot stand there"),
     (WireError::Reserved, "7 Reserved: a byte that must be 0 is not"),
-    (WireError::Count, "8 Count: more inputs than allowed, or not as many as there is room for"),
+    (WireError::Count, "8 Count: more inputs than allowed, or not as many bytes as a run may have"),
+    (WireError::Pairs, "10 Pairs: pairs that are not those of a run"),
     (WireError::Beyond, "9 Beyond: a number of inputs, or the end of a run, is too great"),
 ];
 

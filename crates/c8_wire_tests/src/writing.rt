@@ -1,169 +1,251 @@
-//! Datagrams of every kind whose numbers all differ are written.
-ghost use Rattle.std.specs.Prelude.{◌≡◌, ◌≢◌, ◌≤◌, length};
-ghost use Rattle.c8_wire.specs.Packet.{IsMessage, kind_of};
-ghost use Rattle.c8_wire.specs.Saying.{message_of, MaySay};
+//! Datagrams are written, and carry as many inputs as fit.
+ghost use Rattle.std.specs.Prelude.{◌≡◌, ◌+◌, ◌≤◌, true, length, IfSome};
+ghost use Rattle.c8_wire.specs.Packet.{IsMessage, has_few_stretches, has_room, kind_of};
+ghost use Rattle.c8_wire.specs.Saying.{message_of};
 
-use crate::datagrams::{CUT, DATA, FREEZE, FROZEN, HELLO, SESSION, WELCOME, read};
-use c8_game::Player;
-use c8_wire::{Body, DatagramKind, Head, LONGEST_DATAGRAM, Said, Seat, write};
+use crate::datagrams::{Row, rows};
+use c8_game::{MOST_INPUTS, Player, WireVersion};
+use c8_wire::{Body, DatagramKind, Head, LONGEST_DATAGRAM, Said, Seat, fits, write};
+use std::alloc::Global;
 use std::test::Fail;
 
-const KINDS: [DatagramKind; 6] = [
-    DatagramKind::Hello,
-    DatagramKind::Welcome,
-    DatagramKind::Data,
-    DatagramKind::Freeze,
-    DatagramKind::Frozen,
-    DatagramKind::Cut,
-];
-
-const WORDS: [u16; 64] = [
-    0x0a5c, 0x1f63, 0x346a, 0x4971, 0x5e78, 0x737f, 0x8886, 0x9d8d, 0xb294, 0xc79b, 0xdca2, 0xf1a9,
-    0x06b0, 0x1bb7, 0x30be, 0x45c5, 0x5acc, 0x6fd3, 0x84da, 0x99e1, 0xaee8, 0xc3ef, 0xd8f6, 0xedfd,
-    0x0304, 0x180b, 0x2d12, 0x4219, 0x5720, 0x6c27, 0x812e, 0x9635, 0xab3c, 0xc043, 0xd54a, 0xea51,
-    0xff58, 0x145f, 0x2966, 0x3e6d, 0x5374, 0x687b, 0x7d82, 0x9289, 0xa790, 0xbc97, 0xd19e, 0xe6a5,
-    0xfbac, 0x10b3, 0x25ba, 0x3ac1, 0x4fc8, 0x64cf, 0x79d6, 0x8edd, 0xa3e4, 0xb8eb, 0xcdf2, 0xe2f9,
-    0xf800, 0x0d07, 0x220e, 0x3715,
-];
-
-const MARK: [u8; 8] = [0x9a, 0x8b, 0x7c, 0x6d, 0x5e, 0x4f, 0x30, 0x21];
-
-fn words() -> &'static [u16]
-    ensures { length result.now ≡ 64 }
+/// A number of inputs.
+fn inputs(number: u64) -> Option<u32>
+    ensures { IfSome result (λ inputs. inputs ≤ MOST_INPUTS) }
 {
-    &WORDS
+    let inputs = u32::try_from(number).ok()?;
+    if inputs > MOST_INPUTS {
+        return None;
+    }
+    Some(inputs)
 }
 
-fn head_between(kind: DatagramKind, from: u8, to: u8) -> Head
-    requires from_one { 1 ≤ from }
-    requires from_four { from ≤ 4 }
-    requires to_one { 1 ≤ to }
-    requires to_four { to ≤ 4 }
-    requires apart { from ≢ to }
-    ensures { result.kind ≡ kind }
+/// A player who may leave.
+fn leaver(number: u64) -> Option<Player>
+    ensures { IfSome result (λ player. 2 ≤ player.number) }
 {
-    Head {
+    let number = u8::try_from(number).ok()?;
+    if number < 2 || number > 4 {
+        return None;
+    }
+    Some(Player { number })
+}
+
+fn seat(number: u64) -> Option<Seat> {
+    let number = u8::try_from(number).ok()?;
+    if number < 1 || number > 4 {
+        return None;
+    }
+    Some(Seat { number })
+}
+
+fn version(number: u64) -> WireVersion {
+    if number == 2 {
+        WireVersion::Two
+    } else {
+        WireVersion::One
+    }
+}
+
+/// The head of a row.
+fn head(row: &Row) -> Option<Head> {
+    let [
         kind,
-        session: SESSION,
-        from: Seat { number: from },
-        to: Seat { number: to },
-        sender_epoch: 0x0a0b,
-        addressee_epoch: 0x0c0d0e0f,
+        session,
+        from,
+        to,
+        sender_epoch,
+        addressee_epoch,
+        number,
+    ] = row.header;
+    let kind = DatagramKind::try_from(u8::try_from(kind).ok()?).ok()?;
+    let (from, to) = (seat(from)?, seat(to)?);
+    if from.number == to.number {
+        return None;
     }
+    Some(Head {
+        kind,
+        version: version(number),
+        session,
+        from,
+        to,
+        sender_epoch: u32::try_from(sender_epoch).ok()?,
+        addressee_epoch: u32::try_from(addressee_epoch).ok()?,
+    })
 }
 
-fn head(kind: DatagramKind) -> Head
-    ensures { result.kind ≡ kind }
+/// Where a run starts, if it ends at that place or before.
+fn start_of(number: u64, run: &[u16], end: u32) -> Option<u32>
+    requires { length run.now ≤ 64 }
+    ensures { IfSome result (λ start. start + length run.now ≤ end) }
 {
-    match kind {
-        DatagramKind::Hello => head_between(kind, 4, 3),
-        DatagramKind::Welcome => head_between(kind, 2, 4),
-        DatagramKind::Data => head_between(kind, 1, 4),
-        DatagramKind::Freeze => head_between(kind, 1, 2),
-        DatagramKind::Frozen => head_between(kind, 2, 1),
-        DatagramKind::Cut => head_between(kind, 1, 3),
+    let start = inputs(number)?;
+    if start as usize + run.len() > end as usize {
+        return None;
     }
+    Some(start)
 }
 
-fn body(kind: DatagramKind) -> Body<'static>
-    ensures kind { kind_of (message_of result) ≡ kind }
-    ensures message { IsMessage (message_of result) }
+/// The body of a kind that says these numbers and this run, where it may be said.
+fn body<'a>(
+    version: WireVersion,
+    kind: DatagramKind,
+    numbers: &[u64; 5],
+    run: &'a [u16],
+) -> Option<Body<'a>>
+    requires few { length run.now ≤ 64 }
+    requires stretches { has_few_stretches version run.now ≡ true }
+    ensures kind { IfSome result (λ body. kind_of (message_of body) ≡ kind) }
+    ensures message { IfSome result (λ body. IsMessage (message_of body)) }
+    ensures room { IfSome result (λ body. has_room version (message_of body) ≡ true) }
 {
+    let [player, first, frame, mark, start] = *numbers;
+    let first = inputs(first)?;
     match kind {
-        DatagramKind::Hello => Body::Hello,
-        DatagramKind::Welcome => Body::Welcome { ack: 66051 },
-        DatagramKind::Data => Body::Data {
-            ack: 415,
-            mark_frame: 384,
-            mark: MARK,
-            start: 109517,
-            run: &[0x00f0, 0xc00d, 0x1eaf],
-        },
-        DatagramKind::Freeze => Body::Freeze {
-            leaver: Player { number: 3 },
-            have: 131844,
-        },
-        DatagramKind::Frozen => Body::Frozen {
-            leaver: Player { number: 4 },
-            held: 43983,
-            start: 43981,
-            run: &[0x0b0e, 0xf001],
-        },
-        DatagramKind::Cut => Body::Cut {
-            leaver: Player { number: 2 },
-            length: 3002,
-            start: 2999,
-            run: &[0x0d10, 0x000c, 0xa000],
-        },
+        DatagramKind::Hello => Some(Body::Hello),
+        DatagramKind::Welcome => Some(Body::Welcome { ack: first }),
+        DatagramKind::Data => Some(Body::Data {
+            ack: first,
+            mark_frame: inputs(frame)?,
+            mark: mark.to_be_bytes(),
+            start: start_of(start, run, MOST_INPUTS)?,
+            run,
+        }),
+        DatagramKind::Freeze => Some(Body::Freeze {
+            leaver: leaver(player)?,
+            have: first,
+        }),
+        DatagramKind::Frozen => Some(Body::Frozen {
+            leaver: leaver(player)?,
+            held: first,
+            start: start_of(start, run, first)?,
+            run,
+        }),
+        DatagramKind::Cut => Some(Body::Cut {
+            leaver: leaver(player)?,
+            length: first,
+            start: start_of(start, run, first)?,
+            run,
+        }),
     }
 }
 
-fn text_of(kind: DatagramKind) -> &'static str {
-    match kind {
-        DatagramKind::Hello => HELLO,
-        DatagramKind::Welcome => WELCOME,
-        DatagramKind::Data => DATA,
-        DatagramKind::Freeze => FREEZE,
-        DatagramKind::Frozen => FROZEN,
-        DatagramKind::Cut => CUT,
-    }
+/// Writes what a row says, with as many of the key sets as fit, and answers the length.
+fn write_row(row: &Row, words: &[u16], out: &mut [u8; LONGEST_DATAGRAM]) -> Option<usize> {
+    let head = head(row)?;
+    let (run, _) = words.split_at(fits(head.version, words));
+    let body = body(head.version, head.kind, &row.body, run)?;
+    Some(write(&Said { head, body }, out))
 }
 
-/// Whether a datagram is written as these bytes, and the bytes after it stay.
-fn is_written(kind: DatagramKind, bytes: &[u8]) -> bool {
-    let said = Said {
-        head: head(kind),
-        body: body(kind),
-    };
-    let mut out = [0x77; LONGEST_DATAGRAM];
-    let length = write(&said, &mut out);
-    let (front, rest) = out.split_at(length);
-    front == bytes && rest.iter().all(|byte| *byte == 0x77)
-}
-
-#[test]
-fn writes_each_kind(rt: HostRuntime) -> Result<(), Fail> {
-    for kind in KINDS {
-        let bytes = hex::decode(rt.alloc(), text_of(kind))?;
-        assert!(rt; is_written(kind, &bytes), "{kind}");
+/// Appends the key sets that a text spells.
+fn add(alloc: Global, words: &mut Vec<u16>, text: &str) -> Result<(), Fail> {
+    let bytes = hex::decode(alloc, text)?;
+    for pair in bytes.chunks(2) {
+        let [high, low] = pair else {
+            return Err(Fail::new("half a key set"));
+        };
+        words.push(u16::from_be_bytes([*high, *low]))?;
     }
     Ok(())
 }
 
-/// Writes the longest datagram, a DATA of 64 inputs, and answers its length.
-fn write_longest(out: &mut [u8; LONGEST_DATAGRAM]) -> usize {
-    let body = Body::Data {
-        ack: 262148,
-        mark_frame: 262144,
-        mark: MARK,
-        start: 262084,
-        run: words(),
-    };
-    let said = Said {
-        head: head_between(DatagramKind::Data, 3, 2),
-        body,
-    };
-    write(&said, out)
-}
-
-fn spelled_words() -> [u8; 128] {
-    let mut bytes = [0; 128];
-    for (place, word) in words().iter().enumerate() {
-        if place < 64 {
-            bytes[2 * place..2 * place + 2].copy_from_slice(&word.to_be_bytes());
-        }
-    }
-    bytes
-}
-
-/// It is written and read again.
-#[test]
-fn writes_64_inputs(rt: HostRuntime) -> Result<(), Fail> {
+/// Whether a row is written as its bytes, and the bytes after these stay.
+fn is_written(alloc: Global, row: &Row) -> Result<bool, Fail> {
+    let mut words = Vec::new(alloc);
+    add(alloc, &mut words, row.run)?;
+    add(alloc, &mut words, row.more)?;
+    let bytes = hex::decode(alloc, row.bytes)?;
     let mut out = [0x77; LONGEST_DATAGRAM];
-    assert!(rt; write_longest(&mut out) == 174);
-    let told = read(&out, &spelled_words())?;
-    assert!(rt; told.head == [3, SESSION, 3, 2, 2571, 202182159] && told.head == told.header);
-    assert!(rt; told.body == [0, 262148, 262144, 0x9a8b7c6d5e4f3021, 262084]);
-    assert!(rt; told.has_run);
+    Ok(match write_row(row, &words, &mut out) {
+        Some(length) if length <= LONGEST_DATAGRAM => {
+            let (front, rest) = out.split_at(length);
+            front == bytes.as_slice() && rest.iter().all(|byte| *byte == 0x77)
+        }
+        _ => false,
+    })
+}
+
+#[test]
+fn writes_each_kind(rt: HostRuntime) -> Result<(), Fail> {
+    for row in rows() {
+        assert!(rt; is_written(rt.alloc(), row)?, "{row:?}");
+    }
+    Ok(())
+}
+
+/// So many inputs, 0001 and 0000 by turns, each so many times: how many of them a datagram carries in
+/// version 1 and in version 2, and how long the DATA is that does.
+#[derive(Clone, Copy, Debug)]
+struct Room {
+    inputs: u16,
+    every: u16,
+    fits: [usize; 2],
+    length: [usize; 2],
+}
+
+#[rattlefmt::skip]
+const ROOMS: [Room; 11] = [
+    Room { inputs: 0, every: 1, fits: [0, 0], length: [46, 46] },
+    Room { inputs: 1, every: 1, fits: [1, 1], length: [48, 49] },
+    Room { inputs: 42, every: 1, fits: [42, 42], length: [130, 172] },
+    Room { inputs: 43, every: 1, fits: [43, 42], length: [132, 172] },
+    Room { inputs: 64, every: 1, fits: [64, 42], length: [174, 172] },
+    Room { inputs: 65, every: 1, fits: [64, 42], length: [174, 172] },
+    Room { inputs: 64, every: 64, fits: [64, 64], length: [174, 49] },
+    Room { inputs: 65, every: 65, fits: [64, 64], length: [174, 49] },
+    // the 64th input stands within a stretch of 30, and the next ends it
+    Room { inputs: 90, every: 30, fits: [64, 64], length: [174, 55] },
+    Room { inputs: 64, every: 2, fits: [64, 64], length: [174, 142] },
+    Room { inputs: 1000, every: 1000, fits: [64, 64], length: [174, 49] },
+];
+
+fn rooms() -> &'static [Room] {
+    &ROOMS
+}
+
+fn turns(alloc: Global, row: &Room) -> Result<Vec<u16>, Fail> {
+    let mut words = Vec::new(alloc);
+    for place in 0..row.inputs {
+        words.push(1 - place.checked_div(row.every).unwrap_or(0) % 2)?;
+    }
+    Ok(words)
+}
+
+/// The length of a DATA that carries what fits.
+fn length_of_data(version: WireVersion, words: &[u16]) -> usize {
+    let mut out = [0; LONGEST_DATAGRAM];
+    let (run, _) = words.split_at(fits(version, words));
+    let head = Head {
+        kind: DatagramKind::Data,
+        version,
+        session: 0,
+        from: Seat { number: 1 },
+        to: Seat { number: 2 },
+        sender_epoch: 1,
+        addressee_epoch: 1,
+    };
+    let body = Body::Data {
+        ack: 0,
+        mark_frame: 0,
+        mark: [0; 8],
+        start: 0,
+        run,
+    };
+    write(&Said { head, body }, &mut out)
+}
+
+#[test]
+fn carries_what_fits(rt: HostRuntime) -> Result<(), Fail> {
+    let (one, two) = (WireVersion::One, WireVersion::Two);
+    for row in rooms() {
+        let words = turns(rt.alloc(), row)?;
+        assert!(rt;
+            [fits(one, &words), fits(two, &words)] == row.fits,
+            "{row:?}"
+        );
+        let length = [length_of_data(one, &words), length_of_data(two, &words)];
+        assert!(rt; length == row.length, "{row:?}");
+    }
     Ok(())
 }

@@ -24,7 +24,7 @@ use Rattle.c8_record.specs.Allowed.{IsAllowed}
 use Rattle.c8_peer.specs.declared.error.Refused.TheVariants as refusals
 use Rattle.c8_peer.specs.State.{Memory, Saying, Call, Tick, Deliver, Say, Leave, Decide, Reply, Outcome, answered, recorded}
 use Rattle.c8_peer.specs.Calls.{tick, leave, decide}
-use Rattle.c8_peer.specs.Hearing.{refused, unless_misfit, got, is_desync, hear_data, hear_welcome, hear_freeze, hear_frozen, hear_end, hear_cut, hear_message, unless_hand, deliver}
+use Rattle.c8_peer.specs.Hearing.{is_of_other_wire, refused, unless_misfit, got, is_desync, hear_data, hear_welcome, hear_freeze, hear_frozen, hear_end, hear_cut, hear_message, unless_hand, deliver}
 use Rattle.c8_peer.specs.Saying.{is_not_mine, lacks_record, lacks_link, say}
 use Rattle.c8_peer.specs.Steps.{outcome}
 use Rattle.c8_peer.specs.Truth.{Stands, IsFrozenAt, IsTrue, IsTrueMessage}
@@ -388,9 +388,10 @@ good_delivery laws rules room J said p m packet sound plays awake among is_said 
     let refuses = λ (reply : Reply). good_answered rules room J said p m reply awake.chair awake.links in
     let k : KnownValue = known_of rules p (J p) in
     branch P (player_in k k.me).leaving _ _ (λ is. refuses _) (λ stays.
+    branch P (is_of_other_wire rules packet.head) _ _ (λ is. refuses _) (λ own.
     unless_hand_by P m (links.refusal m.links packet.head) _ (λ error. refuses _) (λ admitted.
     good_message laws rules room J said p m packet packet.message sound plays awake among admitted is_said.from
-    (sender_apart rules room p (J p) m packet.head awake.lawful admitted) is_said.true_now.message is_said.spelled.message))
+    (sender_apart rules room p (J p) m packet.head awake.lawful admitted) is_said.true_now.message is_said.spelled.message)))
 
 good_say : (rules : Rules) (room : ℕ) (J : ℕ → List Record) (said : List Packet) (p : ℕ) (m : Memory) (to : ℕ) (what : Saying) → IsAwake rules room J said p m → IsGood rules room J said p (say rules (known_of rules p (J p)) m to what)
 unfolding say

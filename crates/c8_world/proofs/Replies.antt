@@ -25,7 +25,7 @@ use Rattle.c8_peer.specs.declared.error.DecideError.{DecideError}
 use Rattle.c8_peer.specs.declared.heard.Heard.{Heard}
 use Rattle.c8_peer.specs.State.{Memory, Saying, Call, Tick, Deliver, Say, Leave, Decide, Reply, Ticked, Delivered, Said, Left, Decided, Outcome}
 use Rattle.c8_peer.specs.Calls.{tick, leave, decide}
-use Rattle.c8_peer.specs.Hearing.{refused, unless_misfit, got, is_desync, hear_data, hear_welcome, hear_freeze, hear_frozen, hear_end, hear_cut, hear_message, unless_hand, deliver}
+use Rattle.c8_peer.specs.Hearing.{is_of_other_wire, refused, unless_misfit, got, is_desync, hear_data, hear_welcome, hear_freeze, hear_frozen, hear_end, hear_cut, hear_message, unless_hand, deliver}
 use Rattle.c8_peer.specs.Saying.{is_not_mine, lacks_record, lacks_link, say}
 use Rattle.c8_peer.specs.Steps.{outcome}
 use Rattle.c8_peer.specs.Truth.{Stands, IsTrueMark, IsTrueMessage}
@@ -193,10 +193,11 @@ calm_delivery rules room J said p m packet range sound plays awake is_said =
     let P : Outcome → Type 0 = EndsCalmly J p q in
     let k : KnownValue = known_of rules p (J p) in
     branch P (player_in k k.me).leaving _ _ (λ is. calm_other J p q _ (λ e. cc e) (λ e. cc e) (λ e. cc e)) (λ stays.
+    branch P (is_of_other_wire rules packet.head) _ _ (λ is. calm_other J p q _ (λ e. cc e) (λ e. cc e) (λ e. cc e)) (λ own.
     unless_hand_calm P m (links.refusal m.links packet.head) _ (λ error. calm_other J p q _ (λ e. cc e) (λ e. cc e) (λ e. cc e)) (λ admitted.
     let mine : packet.head.to ≡ p = (is_for_me m.links packet.head admitted).to ∙ awake.lawful.player in
     calm_message rules room J p m packet.head packet.message range sound plays is_said.from
-    (subst (λ (to : ℕ). IsTrueMessage rules q to (J q) packet.message) mine is_said.true_now.message)))
+    (subst (λ (to : ℕ). IsTrueMessage rules q to (J q) packet.message) mine is_said.true_now.message))))
 
 -- ---- the other calls
 

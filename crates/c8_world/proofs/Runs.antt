@@ -24,7 +24,7 @@ use Rattle.c8_peer.specs.declared.error.Refused.TheVariants as refusals
 use Rattle.c8_peer.specs.State as states
 use Rattle.c8_peer.specs.State.{Memory, Mode, Down, Away, State, Call, Outcome}
 use Rattle.c8_peer.specs.Steps.{outcome, Luck, done, at_mode}
-use Rattle.c8_peer.specs.Hearing.{refused, unless_misfit, got, differs_from, is_desync, hear_data, hear_message, unless_hand, deliver}
+use Rattle.c8_peer.specs.Hearing.{is_of_other_wire, refused, unless_misfit, got, differs_from, is_desync, hear_data, hear_message, unless_hand, deliver}
 use Rattle.c8_peer.specs.Opening.{Opening, NoPlayer, Stands, NotWritten, NoMemory, NotRead, Unfit, Spent, found, MayBecome, last_epoch}
 use Rattle.c8_world.specs.checked.Below.{ArePeersLawful}
 use Rattle.c8_world.specs.World.{World, is_player, peer_of, journal_of, Act, Open, Tick, Say, Give, Leave, Decide, Event, Do, Stop, player_of, Happening, Answer, IsDown, NoSuch, Stopped, After, stepped, call_at_mode, give_to, acted, crashed, after, MayAct, act_inside, Chain}
@@ -63,7 +63,8 @@ message_here rules k m head (packets.Cut c) = hear_message rules k m head (packe
 abbrev pub deliver_here : Rules → KnownValue → Memory → Packet → Outcome
 deliver_here rules k m packet =
     if (player_in k k.me).leaving then refused m refusals.Dropped
-    else unless_hand m (refusal_here m.links packet.head) (message_here rules k m packet.head packet.message)
+    else (if is_of_other_wire rules packet.head then refused m refusals.OtherWire
+    else unless_hand m (refusal_here m.links packet.head) (message_here rules k m packet.head packet.message))
 
 -- ---- what has to be the same
 
@@ -121,8 +122,9 @@ deliver_is rules k m packet same =
     let session = ap (λ (t : Marks). t.session) same in
     let mark = ap (λ (t : Marks). t.mark) same in
     choose (player_in k k.me).leaving _ _ _
+    (choose (is_of_other_wire rules packet.head) _ _ _
     (ap (λ (o : Option HandError). unless_hand m o (hear_message rules k m packet.head packet.message)) (refusal_is m.links packet.head session)
-    ∙ ap (λ (o : Outcome). unless_hand m (refusal_here m.links packet.head) o) (message_is rules k m packet.head packet.message mark))
+    ∙ ap (λ (o : Outcome). unless_hand m (refusal_here m.links packet.head) o) (message_is rules k m packet.head packet.message mark)))
 
 -- ---- an event
 

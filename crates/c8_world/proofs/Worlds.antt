@@ -75,6 +75,7 @@ memory_later rules room p early late m begins is =
     record {
       player = is.player;
       players = is.players;
+      version = is.version;
       session = is.session;
       epoch = epoch_grown m.links.epoch early late begins is.epoch;
       epoch_fits = is.epoch_fits;

@@ -1,6 +1,7 @@
 -- Worked matches: whole lists of events with what is answered, and what is so at their ends.
 use Rattle.std.specs.Prelude.{◌≡◌, ◌≢◌, ℕ, ◌+◌, List, [], ◌∷◌, ◌++◌, map, length, drop, replicate, Bool, true, false, Option, Some, Ok, Err}
 use Rattle.c8_game.specs.Rules.{Rules, session_of}
+use Rattle.c8_game.specs.declared.wire.WireVersion.TheVariants as versions
 use Rattle.c8_machine.specs.Serial.{serial}
 use Rattle.c8_digest.specs.StateBytes.{mark_of}
 use Rattle.c8_wire.specs.Packet.{HeadValue, Message, Packet, kind_of}
@@ -75,7 +76,7 @@ saying_of (packets.Cut c) = Cut c.leaver
 -- the datagram of a player in an epoch to another, whose epoch is known so
 abbrev pub datagram : Rules → ℕ → ℕ → ℕ → ℕ → Message → Packet
 datagram rules from epoch to known message = record {
-  head = record { kind = kind_of message; session = session_of rules 0; from = from; to = to; sender_epoch = epoch; addressee_epoch = known };
+  head = record { kind = kind_of message; version = rules.wire; session = session_of rules 0; from = from; to = to; sender_epoch = epoch; addressee_epoch = known };
   message = message;
 }
 
@@ -110,6 +111,7 @@ two frames window = record {
   delay = 0;
   window = window;
   seed = 0;
+  wire = versions.One;
   masks = 0x000f ∷ 0xfff0 ∷ 0 ∷ 0 ∷ [];
   program = program;
 }
@@ -122,6 +124,7 @@ three = record {
   delay = 0;
   window = 12;
   seed = 0;
+  wire = versions.One;
   masks = 0x000f ∷ 0xfff0 ∷ 0xffff ∷ 0 ∷ [];
   program = program;
 }
@@ -134,6 +137,7 @@ four = record {
   delay = 0;
   window = 8;
   seed = 0;
+  wire = versions.One;
   masks = 0x000f ∷ 0xfff0 ∷ 0xffff ∷ 0xffff ∷ [];
   program = program;
 }

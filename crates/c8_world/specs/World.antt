@@ -2,6 +2,7 @@
 use Rattle.std.specs.Prelude.{◌≡◌, ℕ, ◌^◌, ◌-◌, ◌<◌, ◌&&◌, List, [], ◌∷◌, ◌++◌, replicate, slice_index_or, slice_set, nat_le, Bool, true, false, Option, Some, None, Ok, Err, if◌then◌else◌}
 use Rattle.std.specs.List.{slice_get}
 use Rattle.c8_game.specs.Rules.{Rules}
+use Rattle.c8_game.specs.declared.wire.WireVersion.TheVariants as versions
 use Rattle.c8_wire.specs.Packet.{Packet}
 use Rattle.c8_hand.specs.Links.{no_link}
 use Rattle.c8_known.specs.Journal.{Record}
@@ -28,7 +29,7 @@ never_opened = record {
   pending = None;
   mode = Away;
   memory = record {
-    links = record { me = 0; players = 0; session = 0; epoch = 0; one = no_link; two = no_link; three = no_link; four = no_link };
+    links = record { me = 0; players = 0; version = versions.One; session = 0; epoch = 0; one = no_link; two = no_link; three = no_link; four = no_link };
     acks = first_window 0;
     chair = no_reports;
     stayer = no_haves;

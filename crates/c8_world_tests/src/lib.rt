@@ -23,4 +23,6 @@ mod stops;
 #[cfg(test)]
 mod trial;
 #[cfg(test)]
+mod versions;
+#[cfg(test)]
 mod walk;

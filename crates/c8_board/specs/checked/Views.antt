@@ -3,6 +3,7 @@ use Rattle.std.specs.Prelude.{◌≡◌, [], List}
 use Rattle.atomic_table.specs.Table.{Me}
 use Rattle.atomic_table.specs.Seated.{TableId}
 use Rattle.c8_game.specs.Rules.{Rules}
+use Rattle.c8_game.specs.declared.wire.WireVersion.TheVariants.{One}
 use Rattle.c8_game.specs.declared.row.Row.{Row}
 use Rattle.c8_board.specs.declared.views.Watch.{Watch}
 use Rattle.c8_board.specs.declared.views.View.{View}
@@ -18,7 +19,7 @@ IsViewer {S} me = (w : Watch) × (me ≡ (Watching w, []))
 
 -- the rules of no game, for views that no token has
 abbrev no_game : Rules
-no_game = record { players = 0; ipf = 0; frames = 0; delay = 0; window = 0; seed = 0; masks = []; program = [] }
+no_game = record { players = 0; ipf = 0; frames = 0; delay = 0; window = 0; seed = 0; wire = One; masks = []; program = [] }
 
 abbrev pub pen_value : TableId → View → PenValue
 pen_value board (Alone game rows) = record { board = board; game = game; rows = rows }

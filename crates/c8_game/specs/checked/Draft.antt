@@ -1,18 +1,19 @@
 -- What a draft of a game holds of the lines so far. Only contracts of private functions cite this file: no reader has to
 -- believe it.
-use Rattle.std.specs.Prelude.{◌≡◌, ℕ, List, [], ◌∷◌, ◌++◌, ◌⊎◌, Some, None, slice_index, Result, MatchResult}
+use Rattle.std.specs.Prelude.{◌≡◌, ℕ, List, [], ◌∷◌, ◌++◌, ◌⊎◌, Some, None, slice_index_or, Result, MatchResult}
 use Rattle.std.specs.List.{AllZip}
 use Rattle.std.specs.Str.Lines.{lines}
 use Rattle.c8_game.specs.declared.error.GameError.{GameError}
 use Rattle.c8_game.specs.declared.error.GameError.TheVariants.{Memory}
 use Rattle.c8_game.specs.declared.text.draft.Draft.{Draft}
 use Rattle.c8_game.specs.declared.text.field.Field.{Field}
-use Rattle.c8_game.specs.declared.text.field.Field.TheVariants.{Players, Ipf, Frames, Delay, Window, Seed, Mask1, Mask2, Mask3, Mask4}
+use Rattle.c8_game.specs.declared.text.field.Field.TheVariants.{Players, Ipf, Frames, Delay, Window, Seed, Wire, Mask1, Mask2, Mask3, Mask4}
 use Rattle.c8_game.specs.GameText.{Item, Says, numbers_for, code_of}
 use Rattle.c8_game.specs.Faults.{AreFaultless}
 use Rattle.c8_game.specs.GameFaults.{line_fault, end_fault}
-use Rattle.c8_game.specs.checked.Places.{number_at, listed}
+use Rattle.c8_game.specs.checked.Places.{number_at, untold_number, listed}
 use Rattle.c8_game.specs.Rules.{Rules}
+use Rattle.c8_game.specs.Wire.{version_number}
 
 -- the draft has what these items say
 pub record Holds (draft : Draft) (items : List Item) : Type 0 where
@@ -26,9 +27,9 @@ AddsLine old new line result =
     → MatchResult result (λ _. (line_fault before line ≡ None) × ((item : Item) × Says line item × Holds new (items ++ item ∷ [])))
     (λ e. (e ≡ Memory) ⊎ (line_fault before line ≡ Some e))
 
--- the first number that the items have for a field, 0 if they have none
+-- the first number that the items have for a field, or that of a field that the lines don't say
 abbrev pub first_for : List Item → Field → ℕ
-first_for items field = slice_index (numbers_for field items) 0
+first_for items field = slice_index_or (numbers_for field items) 0 (untold_number field)
 
 -- the rules are those of the first number for each field
 pub record AreFirst (items : List Item) (rules : Rules) : Type 0 where
@@ -38,6 +39,7 @@ pub record AreFirst (items : List Item) (rules : Rules) : Type 0 where
   pub delay : rules.delay ≡ first_for items Delay
   pub window : rules.window ≡ first_for items Window
   pub seed : rules.seed ≡ first_for items Seed
+  pub wire : version_number rules.wire ≡ first_for items Wire
   pub masks : rules.masks ≡ first_for items Mask1 ∷ first_for items Mask2 ∷ first_for items Mask3 ∷ first_for items Mask4 ∷ []
   pub program : rules.program ≡ code_of items
 

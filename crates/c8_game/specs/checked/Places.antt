@@ -2,7 +2,8 @@
 -- it.
 use Rattle.std.specs.Prelude.{ℕ, List, [], ◌∷◌, Option, Some, None, unwrap_or, slice_index_or}
 use Rattle.c8_game.specs.declared.text.field.Field.{Field}
-use Rattle.c8_game.specs.declared.text.field.Field.TheVariants.{Players, Ipf, Frames, Delay, Window, Seed, Mask1, Mask2, Mask3, Mask4}
+use Rattle.c8_game.specs.Fields.{default_of}
+use Rattle.c8_game.specs.declared.text.field.Field.TheVariants.{Players, Ipf, Frames, Delay, Window, Seed, Wire, Mask1, Mask2, Mask3, Mask4}
 
 -- the place of a field among the draft's numbers
 abbrev pub index_of : Field → ℕ
@@ -12,18 +13,23 @@ index_of Frames = 2
 index_of Delay = 3
 index_of Window = 4
 index_of Seed = 5
-index_of Mask1 = 6
-index_of Mask2 = 7
-index_of Mask3 = 8
-index_of Mask4 = 9
+index_of Wire = 6
+index_of Mask1 = 7
+index_of Mask2 = 8
+index_of Mask3 = 9
+index_of Mask4 = 10
 
 -- the number that a draft has for a field, if it has one
 abbrev pub number_at : List (Option ℕ) → Field → Option ℕ
 number_at values field = slice_index_or values (index_of field) None
 
--- that number, 0 if there is none
+-- the number of a field that the lines don't say: its default, 0 if it has none
+abbrev pub untold_number : Field → ℕ
+untold_number field = unwrap_or (default_of field) 0
+
+-- the number that a draft has for a field, or that of a field that the lines don't say
 abbrev pub told_by : List (Option ℕ) → Field → ℕ
-told_by values field = unwrap_or (number_at values field) 0
+told_by values field = unwrap_or (number_at values field) (untold_number field)
 
 abbrev pub listed : Option ℕ → List ℕ
 listed None = []

@@ -5,12 +5,13 @@ ghost use Rattle.std.specs.Option.{ForSome};
 ghost use Rattle.std.specs.Result.{result_unwrap_or};
 ghost use Rattle.hex.specs.Hex.{decode_of};
 ghost use Rattle.c8_game.specs.checked.Places.{index_of, number_at, told_by};
-ghost use Rattle.c8_game.specs.Fields.{fields, owner_of, least_of, greatest_of, IsWithin};
+ghost use Rattle.c8_game.specs.Fields.{fields, owner_of, least_of, greatest_of, default_of, IsWithin};
 ghost use Rattle.c8_game.specs.GameText.{is_skipped};
+ghost use Rattle.c8_game.specs.Wire.{version_number};
 ghost use Rattle.c8_game.specs.GameFaults.{is_name_and_value, name_in, value_in, field_fault};
 ghost use Rattle.c8_game.specs.declared.error.GameError.TheVariants.{Hex, Memory};
 ghost use Rattle.c8_game.specs.declared.text.field.Field.{Field};
-ghost use Rattle.c8_game.specs.declared.text.field.Field.TheVariants.{Mask1, Mask2, Mask3, Mask4};
+ghost use Rattle.c8_game.specs.declared.text.field.Field.TheVariants.{Wire, Mask1, Mask2, Mask3, Mask4};
 
 use crate::bounds::{MOST_PLAYERS, MOST_PROGRAM};
 use crate::error::GameError;
@@ -18,12 +19,13 @@ use crate::game::Game;
 use crate::text::field::{FIELDS, Field};
 use crate::text::lines::cut_at;
 use crate::text::value::{is_decimal, number};
+use crate::wire::WireVersion;
 use std::alloc::Global;
 
 /// What the lines so far say: a number for each field that they name, and the program's bytes.
 #[derive(Drop)]
 pub struct Draft {
-    values: [Option<u64>; 10],
+    values: [Option<u64>; 11],
     program: Vec<u8>,
     ghost ranges: { (field : Field) → ForSome (number_at values field) (IsWithin field) },
     ghost bytes: { (place : ℕ) → slice_index program.items place < 2 ^ 8 },
@@ -38,7 +40,7 @@ impl Draft {
         ensures { Holds result [] }
     {
         Draft {
-            values: [None; 10],
+            values: [None; 11],
             program: Vec::new(alloc),
         }
     }
@@ -116,9 +118,19 @@ impl Draft {
             delay: self.told(Field::Delay) as u8,
             window: self.told(Field::Window) as u8,
             seed: self.told(Field::Seed),
+            wire: self.wire(),
             masks: self.masks(),
             program: self.program,
         })
+    }
+
+    fn wire(&self) -> WireVersion
+        ensures { version_number result ≡ told_by self.now.values Wire }
+    {
+        match self.told(Field::Wire) {
+            2 => WireVersion::Two,
+            _ => WireVersion::One,
+        }
     }
 
     fn masks(&self) -> [u16; MOST_PLAYERS]
@@ -140,21 +152,26 @@ impl Draft {
         self.values[field.index()]
     }
 
-    /// A field's number, 0 if the lines don't say it.
+    /// A field's number; if the lines don't say it, its default, 0 if it has none.
     fn told(&self, field: Field) -> u64
         ensures value { result ≡ told_by self.now.values field }
         ensures least { IsSome (number_at self.now.values field) → least_of field ≤ result }
+        ensures default { IsSome (default_of field) → least_of field ≤ result }
         ensures greatest { result ≤ greatest_of field }
     {
-        self.value(field).unwrap_or(0)
+        self.value(field).or(field.default_number()).unwrap_or(0)
     }
 
-    /// Whether a field that every game of this many players has is missing.
+    /// Whether a field without a default that every game of this many players has is missing.
     fn lacks(&self, players: u64) -> bool
         ensures { result ≡ list_any (λ field.
-            nat_le (owner_of field) players && not (is_some (number_at self.now.values field))) fields }
+            nat_le (owner_of field) players && is_none (default_of field)
+            && not (is_some (number_at self.now.values field))) fields }
     {
-        FIELDS.iter().any(|field| field.owner() <= players && self.value(*field).is_none())
+        FIELDS.iter().any(|field| {
+            (field.owner() <= players && field.default_number().is_none())
+                && self.value(*field).is_none()
+        })
     }
 
     /// Whether there is a mask of a player past this number of players.

@@ -1,5 +1,5 @@
 //! The fields of a game text: every name but `code`, each with one number.
-ghost use Rattle.std.specs.Prelude.{◌≡◌, ◌<◌};
+ghost use Rattle.std.specs.Prelude.{◌≡◌, ◌<◌, ◌≤◌, IfSome};
 
 use crate::bounds::MOST_FRAMES;
 
@@ -12,6 +12,7 @@ pub enum Field {
     Delay,
     Window,
     Seed,
+    Wire,
     Mask1,
     Mask2,
     Mask3,
@@ -19,13 +20,14 @@ pub enum Field {
 }
 
 /// All fields, each at its index.
-pub(crate) const FIELDS: [Field; 10] = [
+pub(crate) const FIELDS: [Field; 11] = [
     Field::Players,
     Field::Ipf,
     Field::Frames,
     Field::Delay,
     Field::Window,
     Field::Seed,
+    Field::Wire,
     Field::Mask1,
     Field::Mask2,
     Field::Mask3,
@@ -34,7 +36,7 @@ pub(crate) const FIELDS: [Field; 10] = [
 
 impl Field {
     ghost use Rattle.c8_game.specs.checked.Places.{index_of};
-    ghost use Rattle.c8_game.specs.Fields.{fields, word_of, owner_of, is_mask, least_of, greatest_of, field_named};
+    ghost use Rattle.c8_game.specs.Fields.{fields, word_of, owner_of, is_mask, least_of, greatest_of, default_of, field_named};
 
     /// The field that a word names.
     pub fn named(word: &[u8]) -> Option<Field>
@@ -54,6 +56,7 @@ impl Field {
             Field::Delay => b"delay",
             Field::Window => b"window",
             Field::Seed => b"seed",
+            Field::Wire => b"wire",
             Field::Mask1 => b"mask1",
             Field::Mask2 => b"mask2",
             Field::Mask3 => b"mask3",
@@ -64,12 +67,12 @@ impl Field {
     /// The place of the field among `FIELDS`.
     pub(crate) fn index(self) -> usize
         ensures value { result ≡ index_of self }
-        ensures small { result < 10 }
+        ensures small { result < 11 }
     {
         self as usize
     }
 
-    /// The player whose mask the field is; 0 for a field that every game has.
+    /// The player whose mask the field is; 0 for a field that is no mask.
     pub fn owner(self) -> u64
         ensures { result ≡ owner_of self }
     {
@@ -95,7 +98,7 @@ impl Field {
     {
         match self {
             Field::Players => 2,
-            Field::Ipf | Field::Frames | Field::Window => 1,
+            Field::Ipf | Field::Frames | Field::Window | Field::Wire => 1,
             _ => 0,
         }
     }
@@ -110,7 +113,20 @@ impl Field {
             Field::Frames => u64::from(MOST_FRAMES),
             Field::Window => 12,
             Field::Seed => u64::MAX,
+            Field::Wire => 2,
             Field::Mask1 | Field::Mask2 | Field::Mask3 | Field::Mask4 => 65535,
+        }
+    }
+
+    /// The number of the field where no line names it, if a text may lack it.
+    pub fn default_number(self) -> Option<u64>
+        ensures value { result ≡ default_of self }
+        ensures least { IfSome result (λ number. least_of self ≤ number) }
+        ensures greatest { IfSome result (λ number. number ≤ greatest_of self) }
+    {
+        match self {
+            Field::Wire => Some(1),
+            _ => None,
         }
     }
 }

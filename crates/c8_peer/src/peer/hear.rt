@@ -6,7 +6,7 @@ ghost use Rattle.c8_wire.specs.checked.Read.{read};
 ghost use Rattle.c8_hand.specs.Links.{refusal, IsForMe};
 ghost use Rattle.c8_known.specs.Known.{player_in};
 ghost use Rattle.c8_peer.specs.State.{Open, Deliver, Delivered};
-ghost use Rattle.c8_peer.specs.Hearing.{hear_message};
+ghost use Rattle.c8_peer.specs.Hearing.{is_of_other_wire, hear_message};
 ghost use Rattle.c8_peer.specs.Lawful.{IsMemory};
 ghost use Rattle.c8_peer.specs.checked.Verdicts.{AcksWithin, Judges, memory_after};
 
@@ -22,8 +22,8 @@ impl<'g, D: Disk> Peer<'g, D> {
     ghost use Rattle.c8_peer.specs.Peer.{IsAnswered, known_by};
 
     /// Takes what came over the network: any bytes, of any length. They are read where they are.
-    /// What they say is judged in this order: `Down`, `Dropped`, `Wire`, `Hand`, then by kind, in
-    /// the order of the lines in `specs/Hearing.antt`.
+    /// What they say is judged in this order: `Down`, `Dropped`, `Wire`, `OtherWire`, `Hand`, then by
+    /// kind, in the order of the lines in `specs/Hearing.antt`.
     pub fn deliver(&mut self, bytes: &[u8]) -> Result<Heard, Refused>
         ensures { IsAnswered D.Disk self.old (Deliver (read bytes.now)) (Delivered result)
             self.new }
@@ -54,17 +54,28 @@ impl<'g, D: Disk> Peer<'g, D> {
         if self.known.leaving(self.known.me()) {
             return Err(Refused::Dropped);
         }
+        if self.is_of_other_wire(datagram) {
+            return Err(Refused::OtherWire);
+        }
         match self.memory.links.admit(datagram) {
             Ok(()) => self.hear(datagram),
             Err(error) => Err(Refused::Hand(error)),
         }
     }
 
-    /// Takes a datagram that the links admit.
+    /// Whether a datagram is in another version than the one that the game names.
+    fn is_of_other_wire(&self, datagram: &Datagram<'_>) -> bool
+        ensures { result ≡ is_of_other_wire self.now.rules (packet_of datagram.now).head }
+    {
+        datagram.header().version().number() != self.game.wire().number()
+    }
+
+    /// Takes a datagram of the game's version that the links admit.
     fn hear(&mut self, datagram: &Datagram<'_>) -> Result<Heard, Refused>
         requires up { self.old.state.mode ≡ Open }
         requires stays { (player_in (known_by self.old) self.old.me).leaving ≡ false }
         requires packet { IsPacket (packet_of datagram.now) }
+        requires wire { is_of_other_wire self.old.rules (packet_of datagram.now).head ≡ false }
         requires admitted { refusal self.old.state.memory.links (packet_of datagram.now).head
             ≡ None }
         requires mine { IsForMe self.old.state.memory.links (packet_of datagram.now).head }

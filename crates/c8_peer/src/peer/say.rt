@@ -39,7 +39,14 @@ impl<'g, D: Disk> Peer<'g, D> {
             Ok(()) => {}
             Err(error) => return Err(error),
         }
-        let body = message(&self.known, &self.memory, self.newest_mark(), to, kind);
+        let body = message(
+            &self.known,
+            &self.memory,
+            self.newest_mark(),
+            self.game.wire(),
+            to,
+            kind,
+        );
         let head = self.memory.head(to, kind);
         Ok(write(&Said { head, body }, out))
     }

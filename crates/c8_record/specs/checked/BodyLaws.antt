@@ -8,7 +8,11 @@ use Rattle.byteorder.specs.Endian.{big_bytes, big_number}
 use Rattle.byteorder.specs.Numbers.{big_number-reads_back}
 use Rattle.c8_wire.specs.Packet.{AreBytes, AreWords}
 use Rattle.c8_wire.specs.Reading.{number_at, words_of}
-use Rattle.c8_wire.specs.Spelling.{words_bytes}
+use Rattle.c8_game.specs.declared.wire.WireVersion.TheVariants as versions
+use Rattle.c8_wire.specs.declared.run.Run.{Run}
+use Rattle.c8_wire.specs.declared.run.Run.TheVariants as runs
+use Rattle.c8_wire.specs.Lent.{version_of, words, spelled, touched}
+use Rattle.c8_wire.specs.Spelling.{words_bytes, inputs_bytes}
 use Rattle.c8_wire.specs.checked.WordLaws.{length-spelled_words, words_of-spelled, words_of-lt}
 use Rattle.c8_known.specs.Journal.{Record, Head, Epoch, Own, Got, Freeze, Leave, Cut}
 use Rattle.c8_record.specs.declared.record.Record.{Record as Lent}
@@ -151,21 +155,30 @@ are_bytes (word ∷ words) zero = omega arith
 are_bytes (word ∷ words) (suc zero) = omega arith
 are_bytes (word ∷ words) (suc (suc i)) = are_bytes words i
 
-are_words : (run : List ℕ) → run ≡ words_bytes (words_of run) → AreWords (words_of run)
-are_words run spells = words_of-lt run (subst AreBytes (sym spells) (are_bytes (words_of run)))
+-- bytes of words that are lent, in version 1
+pub record AreOfWords (run : Run) (bytes : List ℕ) : Type 0 where
+  pub spells : bytes ≡ words_bytes (words run)
+  pub sets : AreWords (words run)
+  pub few : length (words run) ≤ 64
 
--- a run's bytes spell its words
-pub got_spells : (bytes : List ℕ) (player start : ℕ) (run : List ℕ) → bytes ≡ body_of (Got player start (words_of run))
-    → 1 ≤ player → player ≤ 4 → start < 2 ^ 32 → run ≡ words_bytes (words_of run) → length run ≤ 128 → 1 ≤ length (words_of run) → Spells bytes (Got player start (words_of run))
-got_spells bytes player start run is from to low spells short some = record {
-  has = record { from_one = from; to_four = to; number = omega arith; start = low; short = omega (arith, short, ap length spells); parts = (some, are_words run spells) };
+pub of_words : (run : Run) (bytes : List ℕ) → version_of run ≡ versions.One → inputs_bytes (version_of run) (touched run) ≡ bytes → bytes ≡ spelled run → length bytes ≤ 128 → AreOfWords run bytes
+of_words (runs.Words run) bytes one spells slice short =
+    let are : AreBytes run.bytes.now = subst AreBytes slice (subst AreBytes spells (are_bytes (words_of run.bytes.now))) in
+    record { spells = sym spells; sets = words_of-lt run.bytes.now are; few = omega (arith, short, ap length spells, length-spelled_words (words_of run.bytes.now)) }
+of_words (runs.Pairs run) bytes one spells slice short = absurd cc
+
+-- what spells a run's words
+pub got_spells : (bytes : List ℕ) (player start : ℕ) (words : List ℕ) → bytes ≡ body_of (Got player start words)
+    → 1 ≤ player → player ≤ 4 → start < 2 ^ 32 → AreWords words → length words ≤ 64 → 1 ≤ length words → Spells bytes (Got player start words)
+got_spells bytes player start words is from to low sets few some = record {
+  has = record { from_one = from; to_four = to; number = omega arith; start = low; short = omega (arith, few, length-spelled_words words); parts = (some, sets) };
   is = is;
 }
 
-pub cut_spells : (bytes : List ℕ) (player cut start : ℕ) (run : List ℕ) → bytes ≡ body_of (Cut player cut start (words_of run))
-    → 1 ≤ player → player ≤ 4 → cut < 2 ^ 32 → start < 2 ^ 32 → run ≡ words_bytes (words_of run) → length run ≤ 128 → Spells bytes (Cut player cut start (words_of run))
-cut_spells bytes player cut start run is from to low first spells short = record {
-  has = record { from_one = from; to_four = to; number = low; start = first; short = omega (arith, short, ap length spells); parts = are_words run spells };
+pub cut_spells : (bytes : List ℕ) (player cut start : ℕ) (words : List ℕ) → bytes ≡ body_of (Cut player cut start words)
+    → 1 ≤ player → player ≤ 4 → cut < 2 ^ 32 → start < 2 ^ 32 → AreWords words → length words ≤ 64 → Spells bytes (Cut player cut start words)
+cut_spells bytes player cut start words is from to low first sets few = record {
+  has = record { from_one = from; to_four = to; number = low; start = first; short = omega (arith, few, length-spelled_words words); parts = sets };
   is = is;
 }
 

@@ -1,13 +1,28 @@
-use Rattle.std.proofs.Common.{◌++◌, ◌∷◌, [], List, ℕ, take, sym, ap, ◌∙◌, append_assoc, arith}
-use Rattle.c8_wire.specs.Lent.{words}
-use Rattle.c8_known.proofs.ListLemmas.{take_more}
+use Rattle.std.proofs.Common.{◌++◌, ◌∷◌, [], List, ℕ, length, sym, ap, ◌∙◌, append_assoc, length-append, arith}
+use Rattle.std.proofs.lemmas.List.{append-nil}
+use Rattle.c8_wire.specs.Lent.{words, words_left}
 use Rattle.c8_known.proofs.table.hold_run.Goals as goal
 
--- src/table.rt:125:5
-pub loop-place-preserved : goal.loop-place-preserved
-loop-place-preserved c =
-    let more = take_more (words c.args.run) c.loop-place.place c.get.result c.get.ensures in (
-      c.hold.ensures.items ∙ ap (λ (xs : List ℕ). xs ++ c.get.result ∷ []) c.loop-place.invariant.0
-          ∙ append_assoc c.args.inputs.now.items (take c.loop-place.place (words c.args.run)) (c.get.result ∷ []) ∙ ap (λ (xs : List ℕ). c.args.inputs.now.items ++ xs) (sym more),
-      omega (arith, c.hold.ensures.capacity, c.loop-place.invariant.1),
+pub hold-requires : goal.hold-requires
+hold-requires c =
+    omega (
+      arith,
+      c.requires,
+      c.loop-input.invariant.1,
+      ap length c.loop-input.invariant.0,
+      ap length c.in-Some.ensures.steps,
+      length-append c.loop-input.inputs.items (words_left c.loop-input.input-iterator),
+      length-append c.args.inputs.now.items (words c.args.run),
     )
+
+pub loop-input-preserved : goal.loop-input-preserved
+loop-input-preserved c =
+    let left = words_left c.next.new.self in (
+      ap (λ (xs : List ℕ). xs ++ left) c.hold.ensures.items ∙ append_assoc c.loop-input.inputs.items (c.in-Some.input ∷ []) left
+          ∙ ap (λ (xs : List ℕ). c.loop-input.inputs.items ++ xs) (sym c.in-Some.ensures.steps) ∙ c.loop-input.invariant.0,
+      omega (arith, c.hold.ensures.capacity, c.loop-input.invariant.1),
+    )
+
+pub returns-clause-items : goal.returns-clause-items
+returns-clause-items c =
+    sym (append-nil c.loop-input.inputs.items) ∙ ap (λ (xs : List ℕ). c.loop-input.inputs.items ++ xs) (sym c.in-None.ensures.steps.0) ∙ c.loop-input.invariant.0

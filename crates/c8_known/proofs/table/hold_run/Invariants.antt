@@ -1,6 +1,7 @@
-use Rattle.std.proofs.Common.{◌≡◌, ◌≤◌, ◌++◌, vec_capacity, take}
-use Rattle.c8_wire.specs.Lent.{words}
+use Rattle.std.proofs.Common.{◌≡◌, ◌≤◌, ◌++◌, vec_capacity}
+use Rattle.c8_wire.specs.Lent.{words, words_left}
 use Rattle.c8_known.proofs.table.hold_run.Given as goal
 
-abbrev pub invariant-loop-place : goal.invariant-loop-place
-invariant-loop-place l = (l.inputs.items ≡ l.initial.inputs.items ++ take l.place (words l.run)) × (vec_capacity l.initial.inputs ≤ vec_capacity l.inputs)
+-- what is held and what is left of the run
+abbrev pub invariant-loop-input : goal.invariant-loop-input
+invariant-loop-input l = (l.inputs.items ++ words_left l.input-iterator ≡ l.fn.inputs.items ++ words l.fn.run) × (vec_capacity l.fn.inputs ≤ vec_capacity l.inputs)

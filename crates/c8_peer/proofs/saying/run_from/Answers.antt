@@ -1,9 +1,12 @@
-use Rattle.std.proofs.Common.{◌∙◌, ◌+◌, refl}
+use Rattle.std.proofs.Common.{drop, ap, ◌∙◌}
+use Rattle.c8_game.specs.declared.wire.WireVersion.{WireVersion}
+use Rattle.c8_wire.specs.Carried.{carried}
 use Rattle.c8_known.specs.Known.{player_in}
-use Rattle.c8_peer.proofs.WritingLemmas.{part_from}
+use Rattle.c8_peer.proofs.WritingLemmas.{rest_from}
 use Rattle.c8_peer.proofs.saying.run_from.Goals as goal
 
 pub returns : goal.returns
-returns c =
-    c.inputs.ensures ∙ part_from (player_in c.args.known.now c.args.player.number).held c.args.start 64 c.min.result (c.args.start + c.min.result) c.requires.within
-    (rw c.count.ensures.value at c.min.ensures) refl
+returns c = λ rules same.
+    let held = (player_in c.args.known.now c.args.player.number).held in
+    c.carried.ensures ∙ ap (carried c.args.wire) (c.inputs.ensures ∙ rest_from held c.args.start c.count.result c.count.ensures.value)
+    ∙ ap (λ (version : WireVersion). carried version (drop c.args.start held)) same

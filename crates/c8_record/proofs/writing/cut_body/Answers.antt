@@ -1,10 +1,9 @@
-use Rattle.std.proofs.Common.{ℕ, List, ap, ◌∙◌}
-use Rattle.c8_record.specs.Body.{field_bytes, body_of}
+use Rattle.c8_wire.specs.Lent.{words}
+use Rattle.c8_record.specs.Body.{body_of}
 use Rattle.c8_record.specs.checked.BodyLaws.{cut_spells}
 use Rattle.c8_record.proofs.writing.cut_body.Goals as goal
 
 pub returns-clause-spells : goal.returns-clause-spells
 unfolding body_of
-returns-clause-spells c = cut_spells c.spell.result c.args.player.number c.args.length c.args.start c.args.run.bytes.now
-    (c.spell.ensures ∙ ap (λ (run : List ℕ). field_bytes (record { kind = 7; player = c.args.player.number; number = c.args.length; start = c.args.start; run = run })) c.bytes.ensures.spells)
-    c.args.player.from_one c.args.player.to_four c.ranges.length.fits c.ranges.start.fits c.args.run.spells c.args.run.short
+returns-clause-spells c = cut_spells c.spell_inputs.result c.args.player.number c.args.length c.args.start (words c.args.run) c.spell_inputs.ensures.body
+    c.args.player.from_one c.args.player.to_four c.ranges.length.fits c.ranges.start.fits c.spell_inputs.ensures.sets c.spell_inputs.ensures.few

@@ -1,10 +1,9 @@
-use Rattle.std.proofs.Common.{ℕ, List, ap, ◌∙◌}
-use Rattle.c8_record.specs.Body.{field_bytes, body_of}
+use Rattle.c8_wire.specs.Lent.{words}
+use Rattle.c8_record.specs.Body.{body_of}
 use Rattle.c8_record.specs.checked.BodyLaws.{got_spells}
 use Rattle.c8_record.proofs.writing.got_body.Goals as goal
 
 pub returns-clause-spells : goal.returns-clause-spells
 unfolding body_of
-returns-clause-spells c = λ some. got_spells c.spell.result c.args.player.number c.args.start c.args.run.bytes.now
-    (c.spell.ensures ∙ ap (λ (run : List ℕ). field_bytes (record { kind = 4; player = c.args.player.number; number = 0; start = c.args.start; run = run })) c.bytes.ensures.spells)
-    c.args.player.from_one c.args.player.to_four c.ranges.start.fits c.args.run.spells c.args.run.short some
+returns-clause-spells c = λ some. got_spells c.spell_inputs.result c.args.player.number c.args.start (words c.args.run) c.spell_inputs.ensures.body
+    c.args.player.from_one c.args.player.to_four c.ranges.start.fits c.spell_inputs.ensures.sets c.spell_inputs.ensures.few some

@@ -6,7 +6,8 @@ use Rattle.c8_peer.specs.declared.error.Refused.TheVariants as refusals
 use Rattle.c8_peer.specs.declared.peer.Peer.TheInside.{Inside}
 use Rattle.c8_peer.specs.State.{Memory, Deliver, Delivered, answered}
 use Rattle.c8_peer.specs.Steps.{outcome}
-use Rattle.c8_peer.specs.Peer.{mode_of}
+use Rattle.c8_peer.specs.Hearing.{is_of_other_wire}
+use Rattle.c8_peer.specs.Peer.{PeerValue, mode_of}
 use Rattle.c8_peer.proofs.AnswerLemmas.{answers, outcome_seen}
 use Rattle.c8_peer.proofs.peer.Peer.deliver_datagram.Goals as goal
 
@@ -25,7 +26,9 @@ returns-in-Err g c =
     let stays : (player_in k k.me).leaving ≡ false =
     ap (λ (q : ℕ). (player_in k q).leaving) (sym mine) ∙ sym (leaves ∙ ap (λ (y : Inside g.row.D.Denot). (player_in y.known c.me.result.number).leaving) same) ∙ c.if-leaving.false in
     let no : refusal m.links head ≡ Some c.in-Err.error = ap (λ (y : Inside g.row.D.Denot). refusal y.memory.links head) (sym same) ∙ judged in
-    rw (stays, no) refl in
+    let wire : is_of_other_wire c.self.inside.game.now head ≡ false =
+    ap (λ (v : PeerValue g.row.D.Denot). is_of_other_wire v.rules head) c.self.view_is ∙ sym c.is_of_other_wire.ensures ∙ c.if-is_of_other_wire.false in
+    rw (stays, wire, no) refl in
     answers g.D.Disk c.args.self.now c.args.self.now.state.memory (Deliver (Ok packet)) (Delivered (Err (refusals.Hand c.in-Err.error))) c.is_down.ensures.sound
     (c.is_down.ensures.value ∙ ap mode_of c.if-is_down.false)
     (outcome_seen c.args.self.now c.self.inside.game.now c.self.inside.room c.self.inside.journal k m c.self.invariant.0 c.self.view_is (Deliver (Ok packet))

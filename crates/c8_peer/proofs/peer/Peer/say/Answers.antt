@@ -14,8 +14,8 @@ write-requires g c =
     let newest = subst (λ (known : KnownValue). c.newest_mark.result ≡ newest_mark game known) (sym c.self.invariant.0.known)
     (subst (λ (x : PeerValue g.row.D.Denot). c.newest_mark.result ≡ newest_mark x.rules (known_by x)) (sym c.self.view_is) c.newest_mark.ensures) in
     let written = may_say game c.self.inside.room c.self.inside.journal c.self.inside.known c.self.inside.memory c.args.to.number c.args.kind (head_value c.head-head.result) (message_of c.message-body.result)
-    c.self.invariant.0 (c.in-Ok.ensures.judged game) c.head-head.ensures (c.message-body.ensures game newest) in
-    record { kind = written.kind; message = written.message_is }
+    c.self.invariant.0 (c.in-Ok.ensures.judged game) c.head-head.ensures (c.message-body.ensures game newest c.wire.ensures) in
+    record { kind = written.kind; message = written.message_is; room = written.room }
 
 pub returns-clause-said : goal.returns-clause-said
 returns-clause-said g c =
@@ -23,7 +23,7 @@ returns-clause-said g c =
     let newest = subst (λ (known : KnownValue). c.newest_mark.result ≡ newest_mark game known) (sym c.self.invariant.0.known)
     (subst (λ (x : PeerValue g.row.D.Denot). c.newest_mark.result ≡ newest_mark x.rules (known_by x)) (sym c.self.view_is) c.newest_mark.ensures) in
     let written = may_say game c.self.inside.room c.self.inside.journal c.self.inside.known c.self.inside.memory c.args.to.number c.args.kind (head_value c.head-head.result) (message_of c.message-body.result)
-    c.self.invariant.0 (c.in-Ok.ensures.judged game) c.head-head.ensures (c.message-body.ensures game newest) in
+    c.self.invariant.0 (c.in-Ok.ensures.judged game) c.head-head.ensures (c.message-body.ensures game newest c.wire.ensures) in
     is_said c.args.self.now game c.self.inside.room c.self.inside.journal c.self.inside.known c.self.inside.memory c.args.to.number (saying_of c.args.kind) (take c.write.result c.write.new.out)
     (packet game c.self.inside.known c.self.inside.memory c.args.to.number (saying_of c.args.kind)) c.self.view_is c.self.invariant.0
     (c.is_down.ensures.value ∙ ap mode_of c.if-is_down.false) (c.in-Ok.ensures.judged game)

@@ -1,5 +1,6 @@
 use Rattle.std.proofs.Common.{ℕ, List, Ok, Err, inl, rules, ap, subst, ◌∙◌}
 use Rattle.c8_disk.specs.checked.AsksLaws.{asks_as}
+use Rattle.c8_disk.specs.checked.RunLaws.{then_reads}
 use Rattle.c8_log.specs.declared.error.LogError.{LogError}
 use Rattle.c8_log.specs.Asked.{Opening as OpenLog, told_by as told_by_log}
 use Rattle.c8_disk.specs.declared.error.DiskError.TheVariants.{Failed, Full}
@@ -53,3 +54,7 @@ returns-in-Ok-replay-clause-read g c = record {
       (read_run g.D.Disk c.args.disk c.args.game.now c.args.room c.args.known.now.me c.in-Ok.log.disk c.replay.new.log.disk (Ok c.in-Ok-replay.last) (Ok tt) c.in-Ok.ensures.asks c.in-Ok.ensures.kept
       c.in-Ok-replay.ensures.asks);
 }
+
+pub returns-in-Err-clause-any_moment : goal.returns-in-Err-clause-any_moment
+returns-in-Err-clause-any_moment g c =
+    rw c.close.ensures (then_reads g.D.Disk g.met.D.Disk.counts_now c.args.disk c.in-Ok.log.disk c.replay.new.log.disk _ c.in-Ok.ensures.any_moment c.replay.ensures.reads)

@@ -1,7 +1,7 @@
 use Rattle.std.proofs.Common.{arith, inl, inr, sym, ◌∙◌, ◌<◌, ◌≤◌, length}
 use Rattle.std.specs.Prelude.{vec_len}
 use Rattle.std.proofs.lemmas.Bool.{eqb-true}
-use Rattle.c8_game.specs.declared.text.field.Field.TheVariants.{Players, Ipf, Frames, Delay, Window, Seed}
+use Rattle.c8_game.specs.declared.text.field.Field.TheVariants.{Players, Ipf, Frames, Delay, Window, Seed, Wire}
 use Rattle.c8_game.specs.Rules.{most_program}
 use Rattle.c8_game.proofs.DraftLemmas.{first_same, four_same, some_bytes, finds_missing, finds_range, finds_none}
 use Rattle.c8_game.proofs.text.draft.Draft.finish.Goals.{then-lacks-via-then-lacks, then-lacks-via-else-lacks+then-is_empty, then-len-gt-MOST_PROGRAM-via-then-len-gt-MOST_PROGRAM, then-len-gt-MOST_PROGRAM-via-else-len-gt-MOST_PROGRAM+then-strays}
@@ -42,6 +42,7 @@ returns c =
         delay = c.told-3.ensures.value ∙ first_same c.args.self items holds Delay;
         window = c.told-4.ensures.value ∙ first_same c.args.self items holds Window;
         seed = c.told-5.ensures.value ∙ first_same c.args.self items holds Seed;
+        wire = c.wire.ensures ∙ first_same c.args.self items holds Wire;
         masks = c.masks.ensures ∙ four_same c.args.self items holds;
         program = holds.program;
       },

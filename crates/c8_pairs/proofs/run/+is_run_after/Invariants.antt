@@ -1,0 +1,4 @@
+use Rattle.c8_pairs.proofs.run.+is_run_after.Given as goal
+
+abbrev pub decreases-is_run_after : goal.decreases-is_run_after
+decreases-is_run_after l = l.count

@@ -1,0 +1,27 @@
+use Rattle.std.proofs.Common.{◌==◌, None, arith}
+use Rattle.std.proofs.lemmas.Bool.{eqb-true}
+use Rattle.c8_pairs.specs.Reading.{pairs_at, well_after, count_in}
+use Rattle.c8_pairs.specs.checked.PairLaws.{and_both, spelled_pairs, sets_of, run_is_spelled}
+use Rattle.c8_pairs.proofs.RunLemmas.{begins}
+use Rattle.c8_pairs.proofs.run.Pairs.new.Goals as goal
+
+pub invariant_of-result : goal.invariant_of-result
+invariant_of-result c =
+    let bytes = c.args.bytes.now in
+    let both = and_both (well_after None (pairs_at bytes)) (count_in (pairs_at bytes) == c.args.count) c.requires.run in
+    record {
+      well = both.0;
+      whole = spelled_pairs bytes c.requires.whole (λ i. omega (arith, c.type_inv.bytes i));
+      counts = omega (arith, eqb-true (count_in (pairs_at bytes)) c.args.count both.1);
+      begun = begins (pairs_at bytes) both.0;
+      sets = sets_of bytes (λ i. omega (arith, c.type_inv.bytes i));
+      short = omega (arith, c.requires.short);
+      low = omega arith;
+      few = c.requires.few;
+    }
+
+pub returns-clause-spells : goal.returns-clause-spells
+returns-clause-spells c = (run_is_spelled c.args.bytes.now c.args.count c.requires.whole (λ i. omega (arith, c.type_inv.bytes i)) c.requires.run).spells
+
+pub returns-clause-count : goal.returns-clause-count
+returns-clause-count c = (run_is_spelled c.args.bytes.now c.args.count c.requires.whole (λ i. omega (arith, c.type_inv.bytes i)) c.requires.run).many

@@ -1,0 +1,5 @@
+use Rattle.std.proofs.Common.{length}
+use Rattle.c8_record.proofs.writing.+put_inputs.Given as goal
+
+abbrev pub decreases-put_inputs : goal.decreases-put_inputs
+decreases-put_inputs l = length l.out.now

@@ -1,0 +1,13 @@
+use Rattle.std.proofs.Common.{rules, arith}
+use Rattle.c8_wire.specs.checked.WordLaws.{length_of_words}
+use Rattle.c8_wire.proofs.words.Words.bytes.Goals as goal
+
+-- what is wrong here is refused at once
+pub returns-clause-slice : goal.returns-clause-slice
+returns-clause-slice c = search rules
+
+pub returns-clause-spells : goal.returns-clause-spells
+returns-clause-spells c = search rules
+
+pub returns-clause-size : goal.returns-clause-size
+returns-clause-size c = grind (arith, length_of_words)
