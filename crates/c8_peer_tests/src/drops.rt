@@ -1,12 +1,11 @@
 //! Drop rounds.
-use crate::deed::Look::{Confirmed, Dropped, Epoch, NoRows, Rows, RowsOf};
-use crate::deed::What::{Cut, Data, Freeze, Frozen, Hello};
-use crate::deed::{About, Answer, Deed, Row};
 use crate::playing::{HELLO_IN_ONE, HELLO_IN_TWO};
-use crate::table::{plays_either, plays_in_both};
 use c8_hand::HandError;
 use c8_known::KnownError;
 use c8_peer::{DecideError, Heard, LeaveError, Refused, TickError, Unsayable};
+use c8_table::Look::{Confirmed, Dropped, Epoch, NoRows, Rows, RowsOf};
+use c8_table::What::{Cut, Data, Freeze, Frozen, Hello};
+use c8_table::{About, Answer, Deed, Row, plays_either, plays_in_both};
 use std::test::Fail;
 
 /// Three players, a window of 12 frames and no delay.

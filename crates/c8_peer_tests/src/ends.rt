@@ -1,13 +1,12 @@
 //! The end of a game: once all its frames are ticked, a tick is refused with `End`, whatever is
 //! confirmed, and what the peer tells of itself and what its disk holds are as they were.
-use crate::deed::Look::{
-    Alarm, Base, Confirmed, Counter, Down, Dropped, Epoch, LastRun, Now, Registers, Rows,
-};
-use crate::deed::What::Data;
-use crate::deed::{About, Answer, Deed, Row};
-use crate::table::Table;
 use c8_game::Game;
 use c8_peer::{Heard, TickError};
+use c8_table::Look::{
+    Alarm, Base, Confirmed, Counter, Down, Dropped, Epoch, LastRun, Now, Registers, Rows,
+};
+use c8_table::What::Data;
+use c8_table::{About, Answer, Deed, Row, Table};
 use std::alloc::Global;
 use std::test::Fail;
 

@@ -2,15 +2,11 @@
 #![tactic(auto)]
 
 #[cfg(test)]
-mod deed;
-#[cfg(test)]
 mod drops;
 #[cfg(test)]
 mod ends;
 #[cfg(test)]
 mod lists;
-#[cfg(test)]
-mod node;
 #[cfg(test)]
 mod opening;
 #[cfg(test)]
@@ -19,5 +15,3 @@ mod playing;
 mod refused;
 #[cfg(test)]
 mod stops;
-#[cfg(test)]
-mod table;

@@ -1,9 +1,8 @@
 //! How much of a long list one datagram carries: 64 inputs, in version 2 in at most 42 stretches of equal
 //! key sets.
-use crate::deed::What::{Cut, Freeze, Frozen};
-use crate::deed::{About, Answer, Deed, Row};
-use crate::table::plays_either;
 use c8_peer::Heard;
+use c8_table::What::{Cut, Freeze, Frozen};
+use c8_table::{About, Answer, Deed, Row, plays_either};
 use std::test::Fail;
 
 /// Three players, a window of 12 frames and no delay.

@@ -1,10 +1,9 @@
 //! Openings on a disk in memory: the bytes that they leave, and each refusal with the disk as it is
 //! given back.
-use crate::deed::{Answer, Deed, ROOM, Row};
-use crate::table::{Table, plays_beside};
 use c8_disk::DiskError;
 use c8_game::Game;
 use c8_peer::OpenError;
+use c8_table::{Answer, Deed, ROOM, Row, Table, plays_beside};
 use std::test::Fail;
 
 /// Three players, a delay of 1 frame and a window of 2.

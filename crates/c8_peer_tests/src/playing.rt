@@ -1,14 +1,13 @@
 //! One and two peers.
-use crate::deed::Look::{
-    Alarm, Base, Confirmed, Counter, Down, Epoch, LastRun, Me, Now, Players, Registers,
-};
-use crate::deed::What::{Cut, Data, Freeze, Frozen, Hello, Welcome};
-use crate::deed::{About, Answer, Deed, Row};
-use crate::table::{plays_either, plays_in_both};
 use c8_disk::DiskError;
 use c8_hand::HandError;
 use c8_known::KnownError;
 use c8_peer::{Heard, Refused, TickError, Unsayable};
+use c8_table::Look::{
+    Alarm, Base, Confirmed, Counter, Down, Epoch, LastRun, Me, Now, Players, Registers,
+};
+use c8_table::What::{Cut, Data, Freeze, Frozen, Hello, Welcome};
+use c8_table::{About, Answer, Deed, Row, plays_either, plays_in_both};
 use c8_wire::WireError;
 use std::test::Fail;
 

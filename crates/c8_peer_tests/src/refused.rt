@@ -1,13 +1,12 @@
 //! Deliveries that are refused: what the peer says, what it tells of itself and what its disk holds
 //! are as they were, byte for byte.
-use crate::deed::Look::{Alarm, Confirmed, Down, Dropped, LastRun, Now};
-use crate::deed::What::{Data, Hello, Welcome};
-use crate::deed::{About, Answer, Deed, Row};
-use crate::table::{Table, plays, plays_in_both};
 use c8_game::Game;
 use c8_hand::HandError;
 use c8_known::KnownError;
 use c8_peer::{Heard, Refused};
+use c8_table::Look::{Alarm, Confirmed, Down, Dropped, LastRun, Now};
+use c8_table::What::{Data, Hello, Welcome};
+use c8_table::{About, Answer, Deed, Row, Table, plays, plays_in_both};
 use c8_wire::WireError;
 use std::alloc::Global;
 use std::test::Fail;

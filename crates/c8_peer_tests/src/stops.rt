@@ -1,13 +1,12 @@
 //! Stops inside calls: each call of the disk is the last in turn, and what the next opening finds
 //! is one of the two that the definitions allow.
-use crate::deed::Look::{Down, LastRun, Now};
-use crate::deed::{Answer, Deed, Row};
 use crate::opening;
 use crate::opening::HEAD;
-use crate::table::{Table, plays};
 use c8_disk::DiskError;
 use c8_game::Game;
 use c8_peer::{OpenError, TickError};
+use c8_table::Look::{Down, LastRun, Now};
+use c8_table::{Answer, Deed, Row, Table, plays};
 use std::alloc::Global;
 use std::test::Fail;
 

@@ -3,14 +3,14 @@ use c8_disk::DiskError;
 use c8_peer::{DecideError, Heard, LeaveError, OpenError, Refused, TickError, Unsayable};
 
 /// The room in which all tests play, but where a row says another.
-pub(crate) const ROOM: u64 = 0x0102030405060708;
+pub const ROOM: u64 = 0x0102030405060708;
 
 /// Whose peer is asked, what, and what is answered.
-pub(crate) type Row = (u8, Deed, Answer);
+pub type Row = (u8, Deed, Answer);
 
 /// What a player's peer, or its disk, is asked. Players are told by their number.
 #[derive(Clone, Copy)]
-pub(crate) enum Deed {
+pub enum Deed {
     /// All players open their peers on empty disks, and each has a link to each other.
     Meet,
     /// All players open their peers on empty disks.
@@ -82,7 +82,7 @@ pub(crate) enum Deed {
 
 /// What is said, each with the leaver of whom it tells.
 #[derive(Clone, Copy)]
-pub(crate) enum What {
+pub enum What {
     Hello,
     Welcome,
     Data,
@@ -93,7 +93,7 @@ pub(crate) enum What {
 
 /// What a peer tells of itself.
 #[derive(Clone, Copy)]
-pub(crate) enum Look {
+pub enum Look {
     Me,
     Players,
     Now,
@@ -117,7 +117,7 @@ pub(crate) enum Look {
 
 /// What a peer tells of a player.
 #[derive(Clone, Copy)]
-pub(crate) enum About {
+pub enum About {
     Count,
     Acked,
     Frozen,
@@ -127,7 +127,7 @@ pub(crate) enum About {
 
 /// What is answered.
 #[derive(Clone, Copy, Debug, PartialEq, Eq)]
-pub(crate) enum Answer {
+pub enum Answer {
     Opened(Result<u32, OpenError>),
     Ticked(Result<(), TickError>),
     Said(Result<usize, Unsayable>),

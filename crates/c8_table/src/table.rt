@@ -12,7 +12,7 @@ const CLOSED: &[u8] = b"\0";
 
 /// The nodes of all players, player 1 first, and what was said to be heard later.
 #[derive(Drop)]
-pub(crate) struct Table<'g> {
+pub struct Table<'g> {
     alloc: Global,
     game: &'g Game,
     other: &'g Game,
@@ -22,29 +22,24 @@ pub(crate) struct Table<'g> {
 
 /// A row that is answered otherwise.
 #[derive(Debug, Drop)]
-struct Wrong {
+pub struct Wrong {
     row: usize,
     answer: Answer,
 }
 
 /// All rows are answered as they say, at a table where the first rows were walked before.
-pub(crate) fn plays(alloc: Global, text: &str, first: &[Row], rows: &[Row]) -> Result<(), Fail> {
+pub fn plays(alloc: Global, text: &str, first: &[Row], rows: &[Row]) -> Result<(), Fail> {
     plays_beside(alloc, text, text, first, rows)
 }
 
 /// The same in the game whose text says so, and in the one whose datagrams are in version 2.
-pub(crate) fn plays_in_both(
-    alloc: Global,
-    text: &str,
-    first: &[Row],
-    rows: &[Row],
-) -> Result<(), Fail> {
+pub fn plays_in_both(alloc: Global, text: &str, first: &[Row], rows: &[Row]) -> Result<(), Fail> {
     plays_either(alloc, text, [first, rows, &[], &[], &[]])
 }
 
 /// The rows of the first two tables, the third and the last in the game whose text says so; with the
 /// fourth in place of the third in the one whose datagrams are in version 2.
-pub(crate) fn plays_either(
+pub fn plays_either(
     alloc: Global,
     text: &str,
     [first, second, one, two, last]: [&[Row]; 5],
@@ -61,7 +56,7 @@ fn plays_parts(alloc: Global, text: &str, parts: &[&[Row]]) -> Result<(), Fail> 
 }
 
 /// The same beside another game.
-pub(crate) fn plays_beside(
+pub fn plays_beside(
     alloc: Global,
     text: &str,
     other: &str,
@@ -77,7 +72,7 @@ pub(crate) fn plays_beside(
 
 impl<'g> Table<'g> {
     /// A table at which nobody has a peer yet, each an empty disk.
-    pub(crate) fn new(alloc: Global, game: &'g Game, other: &'g Game) -> Result<Table<'g>, Fail> {
+    pub fn new(alloc: Global, game: &'g Game, other: &'g Game) -> Result<Table<'g>, Fail> {
         let mut nodes = Vec::new(alloc);
         for _ in 0..4 {
             nodes.push(Node::empty())?;
@@ -100,7 +95,7 @@ impl<'g> Table<'g> {
     }
 
     /// Each row is answered as it says.
-    pub(crate) fn walk(&mut self, rows: &[Row]) -> Result<(), Fail> {
+    pub fn walk(&mut self, rows: &[Row]) -> Result<(), Fail> {
         for (row, (at, deed, wanted)) in rows.iter().enumerate() {
             let answer = self.does(*at, *deed);
             if answer != *wanted {
@@ -113,7 +108,7 @@ impl<'g> Table<'g> {
 
 impl<'g> Table<'g> {
     /// What a deed is answered.
-    pub(crate) fn does(&mut self, at: u8, deed: Deed) -> Answer {
+    pub fn does(&mut self, at: u8, deed: Deed) -> Answer {
         match deed {
             Deed::Meet => self.meet(),
             Deed::Gather => self.gather(),
