@@ -2,6 +2,7 @@
 use Rattle.std.specs.Prelude.{ℕ, zero, suc, ◌-◌, ◌≡◌, ◌<◌, ◌≤◌, List, [], ◌∷◌, length, map, slice_index, Bool, true, false, nat_le, Option, Some, None, if◌then◌else◌}
 use Rattle.std.specs.List.{slice_get, range_with_len, list_all}
 use Rattle.c8_game.specs.declared.row.Row.{Row}
+use Rattle.c8_wire.specs.Greatest.{greatest}
 use Rattle.c8_known.specs.Known.{PlayerValue, KnownValue, player_in, Plays}
 
 -- ---- settled inputs
@@ -35,11 +36,6 @@ is_settled k frame = list_all (λ p. is_settled_of p frame) k.players
 -- every player's input is settled at all frames below a number
 abbrev pub are_settled_below : KnownValue → ℕ → Bool
 are_settled_below k n = list_all (is_settled k) (range_with_len 0 n)
-
--- the greatest number up to a bound that passes a test, 0 if none does
-unfoldable pub greatest : (ℕ → Bool) → ℕ → ℕ
-greatest test zero = zero
-greatest test (suc n) = if test (suc n) then suc n else greatest test n
 
 -- How many frames are confirmed: the greatest number, at most that of the own player's ticks, below which every player's
 -- input is settled at all frames.

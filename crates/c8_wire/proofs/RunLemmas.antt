@@ -1,6 +1,7 @@
 -- A run's start, count and inputs, wherever they stand.
 use Rattle.std.proofs.Common.{◌≡◌, ℕ, ◌+◌, ◌-◌, ◌^◌, ◌<◌, ◌≤◌, ◌&&◌, ◌||◌, Bool, true, false, List, ◌++◌, length, drop, slice_index, refl, sym, ap, ◌∙◌, arith}
 use Rattle.std.specs.Prelude.{nat_lt}
+use Rattle.std.proofs.lemmas.Bool.{or_parts}
 use Rattle.std.proofs.lemmas.Bool.Decides.{nat_tests}
 use Rattle.std.proofs.lemmas.List.{length-drop, drop-drop}
 use Rattle.byteorder.specs.Endian.{big_bytes, big_number}
@@ -13,7 +14,7 @@ use Rattle.c8_wire.specs.Spelling.{inputs_bytes, run_bytes}
 use Rattle.c8_wire.specs.Reading.{number_at, version_at, size_at, inputs_of, run_at}
 use Rattle.c8_wire.specs.Refusal.{has_wrong_size, are_no_run, count_at, miscounts, mispairs}
 use Rattle.c8_wire.specs.checked.NumberLaws.{AreBytes-drop, spelled_at}
-use Rattle.c8_wire.specs.checked.RunLaws.{neither, AreRun, are_run_of, inputs_again, right_size, are_paired}
+use Rattle.c8_wire.specs.checked.RunLaws.{AreRun, are_run_of, inputs_again, right_size, are_paired}
 use Rattle.c8_wire.proofs.HeadLemmas.{then}
 
 -- the numbers of a run that stands at a place, in bytes that end with it
@@ -87,7 +88,7 @@ paired kind bytes version words is count ended fits =
 pub run_shaped : (place size : ℕ) (bytes : List ℕ) → length bytes ≡ place + 6 + size → nat_lt 64 (number_at (place + 4) 2 bytes) || has_wrong_size (version_at bytes) (number_at (place + 4) 2 bytes) size ≡ false
     → are_no_run (version_at bytes) (number_at (place + 4) 2 bytes) (drop (place + 6) bytes) ≡ false → IsRunAt place bytes
 run_shaped place size bytes ends count pairs =
-    let both = neither (nat_lt 64 (number_at (place + 4) 2 bytes)) (has_wrong_size (version_at bytes) (number_at (place + 4) 2 bytes) size) count in
+    let both = or_parts (nat_lt 64 (number_at (place + 4) 2 bytes)) (has_wrong_size (version_at bytes) (number_at (place + 4) 2 bytes) size) count in
     let long = both.0 in
     let left : size ≡ length (drop (place + 6) bytes) = omega (arith, length-drop (place + 6) bytes, ends) in
     record {

@@ -1,17 +1,13 @@
 -- How many of some inputs one datagram carries.
-use Rattle.std.specs.Prelude.{ℕ, zero, suc, nat_le, ◌&&◌, Bool, List, length, take, if◌then◌else◌}
+use Rattle.std.specs.Prelude.{ℕ, nat_le, ◌&&◌, Bool, List, length, take}
 use Rattle.c8_game.specs.declared.wire.WireVersion.{WireVersion}
 use Rattle.c8_wire.specs.Sizes.{longest_run}
+use Rattle.c8_wire.specs.Greatest.{greatest}
 use Rattle.c8_wire.specs.Packet.{has_few_stretches}
 
 -- whether inputs are a run that has room: at most 64, and in version 2 at most 42 stretches of equal key sets
 abbrev pub are_carried : WireVersion → List ℕ → Bool
 are_carried version words = nat_le (length words) longest_run && has_few_stretches version words
-
--- the greatest number up to a limit of which a test holds, 0 where there is none
-abbrev pub greatest : (ℕ → Bool) → ℕ → ℕ
-greatest test zero = 0
-greatest test (suc n) = if test (suc n) then suc n else greatest test n
 
 -- the longest beginning of inputs that one datagram carries
 unfoldable pub fits_in : WireVersion → List ℕ → ℕ

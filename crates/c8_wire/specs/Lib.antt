@@ -7,5 +7,6 @@ pub mod Reading
 pub mod Refusal
 pub mod Lent
 pub mod Saying
+pub mod Greatest
 pub mod Carried
 pub mod checked

@@ -3,3 +3,4 @@ pub mod Read
 pub mod WordLaws
 pub mod RunLaws
 pub mod CarriedLaws
+pub mod GreatestLaws

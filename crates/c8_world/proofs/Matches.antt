@@ -13,10 +13,11 @@ use Rattle.c8_wire.specs.Packet as packets
 use Rattle.c8_game.specs.declared.wire.WireVersion.{WireVersion}
 use Rattle.c8_game.specs.declared.wire.WireVersion.TheVariants as versions
 use Rattle.c8_wire.specs.Spelling.{spelling, run_bytes}
+use Rattle.c8_wire.specs.Greatest.{greatest}
 use Rattle.c8_wire.specs.Carried.{fits_in}
 use Rattle.c8_known.specs.Journal.{Head, has_leave, held, ticks, cut_of, has_freeze, epochs}
 use Rattle.c8_known.specs.Known.{known_of}
-use Rattle.c8_known.specs.Confirmed.{confirmed, greatest, input_of, row}
+use Rattle.c8_known.specs.Confirmed.{confirmed, input_of, row}
 use Rattle.c8_known.specs.Fresh.{differ}
 use Rattle.c8_digest.specs.Marks.{mark_at}
 use Rattle.c8_round.specs.Round.{is_ready}

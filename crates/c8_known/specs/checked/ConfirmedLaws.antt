@@ -7,35 +7,11 @@ use Rattle.std.proofs.lemmas.List.FromFn.{length-range_with_len, get_or-range_wi
 use Rattle.std.proofs.lemmas.List.Sums.{AllPass-from_list_all, list_all-from_AllPass}
 use Rattle.std.proofs.lemmas.Option.{slice_get-get_or}
 use Rattle.c8_game.specs.declared.row.Row.{Row}
+use Rattle.c8_wire.specs.Greatest.{greatest}
+use Rattle.c8_wire.specs.checked.GreatestLaws.{greatest_le, greatest_passes, greatest_is}
 use Rattle.c8_known.specs.Known.{PlayerValue, KnownValue, nobody, player_in, Plays}
-use Rattle.c8_known.specs.Confirmed.{unless_held, input_of, has_value, is_settled_of, is_settled, are_settled_below, greatest, confirmed, AreSettledBelow, IsConfirmed, or_empty, row, confirmed_rows, best_input, best_row}
+use Rattle.c8_known.specs.Confirmed.{unless_held, input_of, has_value, is_settled_of, is_settled, are_settled_below, confirmed, AreSettledBelow, IsConfirmed, or_empty, row, confirmed_rows, best_input, best_row}
 use Rattle.c8_known.specs.Growth.{Begins, IsStillKnownOf, IsStillKnown}
-
--- ---- the greatest number that passes a test
-
-pick : (P : ℕ → Type 0) (b : Bool) (x y : ℕ) → (b ≡ true → P x) → (b ≡ false → P y) → P (cond b x y)
-pick P true x y when unless = when refl
-pick P false x y when unless = unless refl
-
-greatest_le : (test : ℕ → Bool) (n : ℕ) → greatest test n ≤ n
-unfolding greatest
-greatest_le test zero = omega arith
-greatest_le test (suc n) = pick (λ m. m ≤ suc n) (test (suc n)) (suc n) (greatest test n) (λ passes. omega arith) (λ fails. let less = greatest_le test n in omega (arith, less))
-
-greatest_passes : (test : ℕ → Bool) (n : ℕ) → test zero ≡ true → test (greatest test n) ≡ true
-unfolding greatest
-greatest_passes test zero least = least
-greatest_passes test (suc n) least = pick (λ m. test m ≡ true) (test (suc n)) (suc n) (greatest test n) (λ passes. passes) (λ fails. greatest_passes test n least)
-
-greatest_is : (test : ℕ → Bool) (n m : ℕ) → m ≤ n → test m ≡ true → m ≤ greatest test n
-unfolding greatest
-greatest_is test zero m le passes = le
-greatest_is test (suc n) m le passes =
-    pick (λ g. m ≤ g) (test (suc n)) (suc n) (greatest test n) (λ here. le)
-    (λ fails. elim (cases_lt n m) [
-      | inl past ↦ let same : m ≡ suc n = omega (arith, past, le) in absurd (both_ways (test (suc n)) fails (sym (ap test same) ∙ passes))
-      | inr within ↦ greatest_is test n m within passes
-    ])
 
 -- ---- settled below a number
 

@@ -1,48 +1,17 @@
 -- Checked, not believed: how many inputs one datagram carries.
-use Rattle.std.proofs.Common.{◌≡◌, ℕ, zero, suc, ◌<◌, ◌≤◌, Bool, true, false, List, [], ◌∷◌, length, take, refl, sym, ap, ◌∙◌, ◌⊎◌, inl, inr, arith}
+use Rattle.std.proofs.Common.{◌≡◌, ℕ, ◌<◌, ◌≤◌, true, List, [], ◌∷◌, length, take, refl, sym, ap, ◌∙◌, inl, inr, arith}
 use Rattle.std.specs.Prelude.{nat_le}
-use Rattle.std.proofs.lemmas.Bool.{cases_lt, le-leb, leb-true}
+use Rattle.std.proofs.lemmas.Bool.{cases_lt, le-leb, leb-true, and_parts}
 use Rattle.std.proofs.lemmas.List.{length-take, take_all}
 use Rattle.c8_game.specs.declared.wire.WireVersion.{WireVersion}
 use Rattle.c8_game.specs.declared.wire.WireVersion.TheVariants as versions
 use Rattle.c8_pairs.specs.declared.pair.Pair.{Pair}
 use Rattle.c8_pairs.specs.Pairs.{pairs_of}
-use Rattle.c8_pairs.specs.checked.PairLaws.{and_both, no_pairs, count_pairs}
+use Rattle.c8_pairs.specs.checked.PairLaws.{no_pairs, count_pairs}
 use Rattle.c8_wire.specs.Sizes.{longest_run, most_pairs}
 use Rattle.c8_wire.specs.Packet.{has_few_stretches}
-use Rattle.c8_wire.specs.Carried.{are_carried, greatest, fits_in, carried}
-
-true_or_false : (b : Bool) → (b ≡ true) ⊎ (b ≡ false)
-true_or_false true = inl refl
-true_or_false false = inr refl
-
--- the greatest number is not above the limit
-greatest-within : (test : ℕ → Bool) (n : ℕ) → greatest test n ≤ n
-greatest-within test zero = omega arith
-greatest-within test (suc n) =
-    let more = greatest-within test n in
-    elim (true_or_false (test (suc n))) [ inl is ↦ rw is (omega arith) | inr other ↦ rw other (omega (arith, more)) ]
-
--- the test holds of it, where it holds of 0
-greatest-passes : (test : ℕ → Bool) (n : ℕ) → test 0 ≡ true → test (greatest test n) ≡ true
-greatest-passes test zero first = first
-greatest-passes test (suc n) first =
-    elim (true_or_false (test (suc n))) [ inl is ↦ rw is is | inr other ↦ rw other (greatest-passes test n first) ]
-
--- no greater one passes
-greatest-most : (test : ℕ → Bool) (n k : ℕ) → k ≤ n → test k ≡ true → k ≤ greatest test n
-greatest-most test zero k low passes = low
-greatest-most test (suc n) k low passes =
-    elim (true_or_false (test (suc n))) [
-      | inl is ↦ rw is low
-      | inr other ↦
-          rw other (elim (cases_lt n k) [
-            | inl last ↦
-                let same : k ≡ suc n = omega (arith, last, low) in
-                absurd (cc (ap test same, passes, other))
-            | inr below ↦ greatest-most test n k below passes
-          ])
-    ]
+use Rattle.c8_wire.specs.Carried.{are_carried, fits_in, carried}
+use Rattle.c8_wire.specs.checked.GreatestLaws.{greatest_le, greatest_passes, greatest_is}
 
 none_carried : (version : WireVersion) (words : List ℕ) → are_carried version (take 0 words) ≡ true
 none_carried versions.One words = refl
@@ -51,21 +20,21 @@ none_carried versions.Two words = ap (λ (ps : List Pair). nat_le (length ps) mo
 -- what is carried is a run that has room
 pub carried_passes : (version : WireVersion) (words : List ℕ) → are_carried version (carried version words) ≡ true
 unfolding fits_in
-carried_passes version words = greatest-passes (λ n. are_carried version (take n words)) (length words) (none_carried version words)
+carried_passes version words = greatest_passes (λ n. are_carried version (take n words)) (length words) (none_carried version words)
 
 pub carried_few : (version : WireVersion) (words : List ℕ) → length (carried version words) ≤ longest_run
-carried_few version words = leb-true (length (carried version words)) longest_run (and_both _ _ (carried_passes version words)).0
+carried_few version words = leb-true (length (carried version words)) longest_run (and_parts _ _ (carried_passes version words)).0
 
 pub carried_room : (version : WireVersion) (words : List ℕ) → has_few_stretches version (carried version words) ≡ true
-carried_room version words = (and_both (nat_le (length (carried version words)) longest_run) _ (carried_passes version words)).1
+carried_room version words = (and_parts (nat_le (length (carried version words)) longest_run) _ (carried_passes version words)).1
 
 pub fits_within : (version : WireVersion) (words : List ℕ) → fits_in version words ≤ length words
 unfolding fits_in
-fits_within version words = greatest-within (λ n. are_carried version (take n words)) (length words)
+fits_within version words = greatest_le (λ n. are_carried version (take n words)) (length words)
 
 pub fits_most : (version : WireVersion) (words : List ℕ) (n : ℕ) → n ≤ length words → are_carried version (take n words) ≡ true → n ≤ fits_in version words
 unfolding fits_in
-fits_most version words n within passes = greatest-most (λ k. are_carried version (take k words)) (length words) n within passes
+fits_most version words n within passes = greatest_is (λ k. are_carried version (take k words)) (length words) n within passes
 
 -- the greatest number of inputs that is carried
 pub fits_is : (version : WireVersion) (words : List ℕ) (n : ℕ) → n ≤ length words → are_carried version (take n words) ≡ true
@@ -82,7 +51,7 @@ few_carried version words n few room = rw (le-leb (length (take n words)) longes
 -- in version 1 they are the first 64
 few_of_words : (words : List ℕ) (n : ℕ) → n ≤ length words → are_carried versions.One (take n words) ≡ true → n ≤ longest_run
 few_of_words words n within passes =
-    let few = leb-true (length (take n words)) longest_run (and_both _ _ passes).0 in
+    let few = leb-true (length (take n words)) longest_run (and_parts _ _ passes).0 in
     omega (arith, few, length-take n words, within)
 
 pub fits_words : (words : List ℕ) (n : ℕ) → n ≤ length words → n ≤ longest_run → (n < longest_run → n ≡ length words) → n ≡ fits_in versions.One words
@@ -126,6 +95,6 @@ pub fits_pairs : (words : List ℕ) (n : ℕ) → n ≤ length words → n ≤ l
 fits_pairs words n within few pairs most =
     fits_is versions.Two words n within (few_carried versions.Two words n few (le-leb (length (pairs_of (take n words))) most_pairs pairs))
     (λ k low passes.
-    let both = and_both (nat_le (length (take k words)) longest_run) _ passes in
+    let both = and_parts (nat_le (length (take k words)) longest_run) _ passes in
     let short = leb-true (length (take k words)) longest_run both.0 in
     most k low (omega (arith, short, length-take k words, low)) (leb-true (length (pairs_of (take k words))) most_pairs both.1))

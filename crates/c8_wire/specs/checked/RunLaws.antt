@@ -1,7 +1,7 @@
 -- Checked, not believed: runs in either version, and the bytes that spell them.
-use Rattle.std.proofs.Common.{◌≡◌, ℕ, ◌*◌, ◌%◌, ◌≤◌, ◌||◌, Bool, true, false, List, length, refl, ap, ◌∙◌, arith}
+use Rattle.std.proofs.Common.{◌≡◌, ℕ, ◌*◌, ◌%◌, ◌≤◌, true, false, List, length, refl, ap, ◌∙◌, arith}
 use Rattle.std.specs.Prelude.{not}
-use Rattle.std.proofs.lemmas.Bool.{le-leb, leb-true}
+use Rattle.std.proofs.lemmas.Bool.{not-false, le-leb, leb-true}
 use Rattle.std.proofs.lemmas.Bool.Decides.{nat_tests}
 use Rattle.c8_game.specs.declared.wire.WireVersion.{WireVersion}
 use Rattle.c8_game.specs.declared.wire.WireVersion.TheVariants as versions
@@ -13,14 +13,6 @@ use Rattle.c8_wire.specs.Spelling.{inputs_bytes}
 use Rattle.c8_wire.specs.Reading.{inputs_of}
 use Rattle.c8_wire.specs.Refusal.{has_wrong_size, are_no_run}
 use Rattle.c8_wire.specs.checked.WordLaws.{length_of_words, spelled_words, words_of-spelled, words_of-lt, length-spelled_words}
-
-pub neither : (a b : Bool) → a || b ≡ false → (a ≡ false) × (b ≡ false)
-neither true b e = absurd cc
-neither false b e = (refl, e)
-
-pub is_so : (a : Bool) → not a ≡ false → a ≡ true
-is_so true e = refl
-is_so false e = absurd cc
 
 -- bytes that nothing refuses as a run of so many inputs: they spell its inputs, which are so many, each of 16 bits
 pub record AreRun (version : WireVersion) (count : ℕ) (bytes : List ℕ) : Type 0 where
@@ -49,7 +41,7 @@ are_run_of versions.One count bytes fits sized paired =
       sets = words_of-lt bytes fits;
     }
 are_run_of versions.Two count bytes fits sized paired =
-    let is = run_is_spelled bytes count (whole_pairs count (length bytes) sized) fits (is_so (are_run (pairs_at bytes) count) paired) in
+    let is = run_is_spelled bytes count (whole_pairs count (length bytes) sized) fits (not-false (are_run (pairs_at bytes) count) paired) in
     let inputs = words_in (pairs_at bytes) in
     record {
       spells = is.spells;
