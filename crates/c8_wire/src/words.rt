@@ -1,5 +1,5 @@
 //! A run in version 1, lent from bytes: a key set for each input.
-ghost use Rattle.std.specs.Prelude.{◌≡◌, ◌+◌, ◌*◌, ◌%◌, ◌^◌, ◌==◌, ◌<◌, ◌≤◌, ℕ, length, drop, Some, slice_get, slice_index};
+ghost use Rattle.std.specs.Prelude.{◌≡◌, ◌+◌, ◌*◌, ◌%◌, ◌^◌, ◌<◌, ◌≤◌, ℕ, length, drop, Some, slice_get, slice_index};
 ghost use Rattle.std.specs.Iterator.{YieldsFirst, item_count};
 ghost use Rattle.c8_wire.specs.Spelling.{SpellsWords};
 ghost use Rattle.c8_wire.specs.Reading.{words_of};
@@ -38,13 +38,6 @@ impl<'a> Words<'a> {
         ensures sets { (i : ℕ) → slice_index (key_sets self.now) i < 2 ^ 16 }
     {
         self.bytes.len() / 2
-    }
-
-    #[tactic(auto, using(crate::specs::checked::WordLaws::length_words_of))]
-    pub(crate) fn is_empty(&self) -> bool
-        ensures { result ≡ (length (key_sets self.now) == 0) }
-    {
-        self.bytes.is_empty()
     }
 
     /// The input at a place, the first being 0.
