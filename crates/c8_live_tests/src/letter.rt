@@ -14,11 +14,11 @@ impl Letter {
         &self.bytes[..self.size.min(LONGEST_PACKET)]
     }
 
-    /// The same with one bit of a byte changed.
+    /// The same with one bit of a byte changed; of the version, which byte 2 is, both.
     pub(crate) fn changed(&self, place: usize) -> Letter {
         let mut changed = *self;
         if let Some(byte) = changed.bytes.get_mut(place) {
-            *byte ^= 1;
+            *byte ^= if place == 2 { 3 } else { 1 };
         }
         changed
     }

@@ -124,9 +124,12 @@ const SESSION: Option<Refused> = Some(Refused::Hand(HandError::Session));
 
 const MAGIC: Option<Refused> = Some(Refused::Wire(WireError::Magic));
 
-/// A HELLO that is refused is not answered. Byte 4 is of the session, byte 0 is the first of all.
+const OTHER_WIRE: Option<Refused> = Some(Refused::OtherWire);
+
+/// A HELLO that is refused is not answered. Byte 4 is of the session, byte 2 of the version, byte 0 is the
+/// first of all.
 #[rattlefmt::skip]
-const HELLOS: [Hello; 9] = [
+const HELLOS: [Hello; 10] = [
     Hello { given: NOTHING, byte: WHOLE, refusal: None, told: "2 HELLO" },
     Hello { given: HELLO, byte: WHOLE, refusal: None, told: "2 HELLO, 2 WELCOME" },
     Hello { given: NOTHING, byte: WHOLE, refusal: None, told: "2 HELLO" },
@@ -134,6 +137,7 @@ const HELLOS: [Hello; 9] = [
     Hello { given: WELCOME, byte: WHOLE, refusal: None, told: "2 DATA" },
     Hello { given: OLD, byte: WHOLE, refusal: STALE, told: "2 DATA" },
     Hello { given: HELLO, byte: 4, refusal: SESSION, told: "2 DATA" },
+    Hello { given: HELLO, byte: 2, refusal: OTHER_WIRE, told: "2 DATA" },
     Hello { given: HELLO, byte: 0, refusal: MAGIC, told: "2 DATA" },
     Hello { given: HELLO, byte: WHOLE, refusal: None, told: "2 WELCOME" },
 ];
@@ -144,8 +148,8 @@ pub(crate) fn hellos() -> &'static [Hello] {
 
 /// A turn before which a datagram of player 3 comes, if one does.
 pub(crate) struct Silence {
-    /// Whether player 3's DATA comes, and its byte that is changed then.
-    pub(crate) comes: bool,
+    /// What comes of it, if it does, with which byte of it changed.
+    pub(crate) given: u8,
     pub(crate) byte: usize,
     /// How the peer refuses it.
     pub(crate) refusal: Option<Refused>,
@@ -158,20 +162,22 @@ const BAD_ACK: Option<Refused> = Some(Refused::BadAck);
 
 const GAP: Option<Refused> = Some(Refused::Known(KnownError::Gap));
 
-/// Byte 26 is of the acknowledgement, 43 of the start, 4 of the session, 19 of the sender's epoch.
+/// Byte 26 is of the acknowledgement, 43 of the start, 4 of the session, 19 of the sender's epoch, 2 of
+/// the version.
 #[rattlefmt::skip]
-const SILENCES: [Silence; 9] = [
-    Silence { comes: false, byte: WHOLE, refusal: None, silent: 1, told: "2 DATA, 3 DATA" },
-    Silence { comes: false, byte: WHOLE, refusal: None, silent: 2, told: "2 DATA, 3 DATA" },
+const SILENCES: [Silence; 10] = [
+    Silence { given: NOTHING, byte: WHOLE, refusal: None, silent: 1, told: "2 DATA, 3 DATA" },
+    Silence { given: NOTHING, byte: WHOLE, refusal: None, silent: 2, told: "2 DATA, 3 DATA" },
     // these two are admitted
-    Silence { comes: true, byte: 26, refusal: BAD_ACK, silent: 0, told: "2 DATA, 3 DATA" },
-    Silence { comes: false, byte: WHOLE, refusal: None, silent: 1, told: "2 DATA, 3 DATA" },
-    Silence { comes: false, byte: WHOLE, refusal: None, silent: 2, told: "2 DATA, 3 DATA" },
-    Silence { comes: true, byte: 43, refusal: GAP, silent: 0, told: "2 DATA, 3 DATA" },
+    Silence { given: DATA, byte: 26, refusal: BAD_ACK, silent: 0, told: "2 DATA, 3 DATA" },
+    Silence { given: NOTHING, byte: WHOLE, refusal: None, silent: 1, told: "2 DATA, 3 DATA" },
+    Silence { given: NOTHING, byte: WHOLE, refusal: None, silent: 2, told: "2 DATA, 3 DATA" },
+    Silence { given: DATA, byte: 43, refusal: GAP, silent: 0, told: "2 DATA, 3 DATA" },
     // and these are not
-    Silence { comes: true, byte: 4, refusal: SESSION, silent: 1, told: "2 DATA, 3 DATA" },
-    Silence { comes: true, byte: 19, refusal: STALE, silent: 2, told: "2 DATA, 3 DATA" },
-    Silence { comes: true, byte: 0, refusal: MAGIC, silent: 3, told: "2 DATA, 2 FREEZE 3, 3 DATA" },
+    Silence { given: DATA, byte: 4, refusal: SESSION, silent: 1, told: "2 DATA, 3 DATA" },
+    Silence { given: DATA, byte: 19, refusal: STALE, silent: 2, told: "2 DATA, 3 DATA" },
+    Silence { given: DATA, byte: 0, refusal: MAGIC, silent: 3, told: "2 DATA, 2 FREEZE 3, 3 DATA" },
+    Silence { given: HELLO, byte: 2, refusal: OTHER_WIRE, silent: 4, told: "2 DATA, 2 FREEZE 3, 3 DATA" },
 ];
 
 pub(crate) fn silences() -> &'static [Silence] {

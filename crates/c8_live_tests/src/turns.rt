@@ -2,8 +2,8 @@
 use crate::letter::{Letter, letter_of};
 use crate::play::game_of;
 use crate::rows::{
-    Comes, DATA, Hello, NOTHING, OLD, Silence, Turn, WELCOME, counts, crowd, greetings, hellos,
-    leavers, silences, stayers,
+    Comes, DATA, HELLO, Hello, NOTHING, OLD, Silence, Turn, WELCOME, counts, crowd, greetings,
+    hellos, leavers, silences, stayers,
 };
 use crate::table::Table;
 use c8_game::{Game, Keys, Player};
@@ -127,7 +127,10 @@ fn answers_no_hello_that_is_refused(rt: HostRuntime) -> Result<(), Fail> {
 /// One turn, before which player 2 is heard, and then the row's datagram comes, if it has one.
 fn turn_after_data(table: &mut Table<'_>, row: &Silence, data: &Letter) -> Result<String, Fail> {
     table.says(&(2, DATA, 0))?;
-    if row.comes {
+    if row.given == HELLO {
+        let hello = table.said(3, Kind::Hello)?;
+        table.post(hello.changed(row.byte))?;
+    } else if row.given == DATA {
         table.post(data.changed(row.byte))?;
     }
     table.turn()
