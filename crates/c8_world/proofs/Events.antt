@@ -1,7 +1,7 @@
 -- What a call of an open peer records fits, and its memory stays sound.
 use Rattle.std.proofs.Common.{◌≡◌, ◌≢◌, ℕ, ◌+◌, ◌-◌, ◌≤◌, ⊎_elim, List, [], ◌∷◌, length, drop, Bool, true, false, not, cond, Option, Some, None, Ok, Err, refl, sym, ap, subst, ◌∙◌, arith}
 use Rattle.std.specs.Prelude.{◌==◌, ◌&&◌, ◌||◌, nat_lt, nat_le, is_some}
-use Rattle.std.proofs.lemmas.Bool.{eq-eqb, eqb-true, both_ways, ltb-false, leb-true}
+use Rattle.std.proofs.lemmas.Bool.{eq-eqb, eqb-true, both_ways, ltb-false, leb-true, and_parts, or_parts, not-false}
 use Rattle.std.proofs.lemmas.List.{length-drop}
 use Rattle.c8_game.specs.Rules.{Rules}
 use Rattle.c8_wire.specs.Packet.{HeadValue, DataMessage, FreezeMessage, LeaverMessage, Message, Packet, IsPacket, IsMessage}
@@ -80,27 +80,15 @@ good_recorded rules room J said p m reply r chair named fits = record {
 
 -- ---- tests
 
-pub not_false : (b : Bool) → not b ≡ false → b ≡ true
-not_false true e = refl
-not_false false e = absurd cc
-
-pub neither : (a b : Bool) → (a || b) ≡ false → (a ≡ false) × (b ≡ false)
-neither true b e = absurd cc
-neither false b e = (refl, e)
-
-pub both : (a b : Bool) → (a && b) ≡ true → (a ≡ true) × (b ≡ true)
-both true b e = (refl, e)
-both false b e = absurd cc
-
 pub in_game : (rules : Rules) (p q : ℕ) (journal : List Record) → is_player (known_of rules p journal) q ≡ true → IsPlayer rules q
 in_game rules p q journal is =
-    let tests = both (nat_le 1 q) (nat_le q (length (known_of rules p journal).players)) is in
+    let tests = and_parts (nat_le 1 q) (nat_le q (length (known_of rules p journal).players)) is in
     let from = leb-true 1 q tests.0 in
     let to = leb-true q (length (known_of rules p journal).players) tests.1 in
     record { from_one = from; in_game = omega (arith, to, players_known rules p journal) }
 
 is_one : (rules : Rules) (p : ℕ) (journal : List Record) → not ((known_of rules p journal).me == 1) ≡ false → p ≡ 1
-is_one rules p journal e = sym (me_is rules p journal) ∙ eqb-true (known_of rules p journal).me 1 (not_false ((known_of rules p journal).me == 1) e)
+is_one rules p journal e = sym (me_is rules p journal) ∙ eqb-true (known_of rules p journal).me 1 (not-false ((known_of rules p journal).me == 1) e)
 
 none_past : (test : Bool) (x : KnownError) (others : Option KnownError) → cond test (Some x) others ≡ None → (test ≡ false) × (others ≡ None)
 none_past true x others e = absurd cc
@@ -182,8 +170,8 @@ good_decide laws rules room J said p m leaver sound plays awake =
     branch P (not (k.me == 1) || not (player_in k leaver).leaving) _ _ (λ is. refuses _) (λ chair.
     branch P (is_some (player_in k leaver).cut) _ _ (λ is. refuses _) (λ uncut.
     branch P (not (is_ready m.chair k leaver)) _ _ (λ is. refuses _) (λ all.
-    let first : p ≡ 1 = is_one rules p (J p) (neither (not (k.me == 1)) (not (player_in k leaver).leaving) chair).0 in
-    let ready : is_ready m.chair k leaver ≡ true = not_false (is_ready m.chair k leaver) all in
+    let first : p ≡ 1 = is_one rules p (J p) (or_parts (not (k.me == 1)) (not (player_in k leaver).leaving) chair).0 in
+    let ready : is_ready m.chair k leaver ≡ true = not-false (is_ready m.chair k leaver) all in
     good_recorded rules room J said p m _ (records.Cut leaver (count_in k leaver) (count_in k leaver) []) awake.chair awake.links (λ allowed.
     let leaver_plays = names_player rules room p (J p) (records.Cut leaver (count_in k leaver) (count_in k leaver) []) allowed in
     fits_decision rules room J p leaver (count_in k leaver) (count_in k leaver) sound plays leaver_plays first allowed (decided_by_all laws rules room J said p m leaver plays leaver_plays awake first ready)))))
@@ -210,7 +198,7 @@ no_gap_is : (rules : Rules) (p q start : ℕ) (words : List ℕ) (journal : List
 no_gap_is rules p q start words journal plays fit = let from = fit.no_gap in omega (arith, from, count_known rules p q journal plays)
 
 frozen_off : (p : PlayerValue) → is_frozen_of p ≡ false → p.frozen ≡ false
-frozen_off p e = (neither p.frozen p.leaving e).0
+frozen_off p e = (or_parts p.frozen p.leaving e).0
 
 and_off : (a b : Bool) → a ≡ true → (a && b) ≡ false → b ≡ false
 and_off true b is e = e
@@ -279,7 +267,7 @@ good_frozen laws rules room J said p q m f sound plays q_plays awake least at st
     branch P (nat_lt k.limit f.length) _ _ (λ is. refuses _) (λ room_left.
     unless_misfit_by P m (misfit k f.leaver f.start f.words) _ (λ error. refuses _) (λ fits.
     let fit = is_fit k f.leaver f.start f.words fits in
-    let leaver : IsPlayer rules f.leaver = in_game rules p f.leaver (J p) (not_false (is_player k f.leaver) (neither (f.leaver == q) (not (is_player k f.leaver)) who).1) in
+    let leaver : IsPlayer rules f.leaver = in_game rules p f.leaver (J p) (not-false (is_player k f.leaver) (or_parts (f.leaver == q) (not (is_player k f.leaver)) who).1) in
     good_got rules room J said p (record m { chair = with_report m.chair f.leaver q f.length }) f.leaver f.start f.words (fresh_words k f.leaver f.start f.words) sound plays leaver chair awake.links
     (fresh_is rules p f.leaver f.start f.words (J p) leaver) (no_gap_is rules p f.leaver f.start f.words (J p) leaver fit)
     (stands_entered rules room J q f.leaver f.start f.words sound q_plays leaver stands)
@@ -330,7 +318,7 @@ good_cut rules room J said p q m c sound plays q_plays awake apart first cut sta
     branch P (c.leaver == k.me) _ _ (λ is. good_recorded rules room J said p m _ (records.Leave k.me) awake.chair awake.links (fits_leave rules room J p k.me sound plays)) (λ other.
     branch P (not (is_player k c.leaver)) _ _ (λ is. refuses _) (λ inside.
     branch P (not (player_in k c.leaver).frozen) _ _ (λ is. refuses _) (λ frozen.
-    let leaver : IsPlayer rules c.leaver = in_game rules p c.leaver (J p) (not_false (is_player k c.leaver) inside) in
+    let leaver : IsPlayer rules c.leaver = in_game rules p c.leaver (J p) (not-false (is_player k c.leaver) inside) in
     good_end rules room J said p m c (player_in k c.leaver).cut sound plays leaver awake (λ e. apart (first ∙ sym e))
     (subst (λ (x : ℕ). cut_of c.leaver (J x) ≡ Some c.length) first cut) (stands_entered rules room J q c.leaver c.start c.words sound q_plays leaver stands) within))))
 

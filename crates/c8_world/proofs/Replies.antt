@@ -1,7 +1,7 @@
 -- What a call of an open peer never answers.
 use Rattle.std.proofs.Common.{◌≡◌, ◌≢◌, ℕ, ◌+◌, ◌≤◌, List, [], ◌∷◌, length, false, not, Option, Some, None, Result, Ok, Err, refl, sym, ap, subst, ◌∙◌, arith}
 use Rattle.std.specs.Prelude.{◌==◌, ◌||◌, nat_lt, nat_le, is_some}
-use Rattle.std.proofs.lemmas.Bool.{both_ways, ltb-true, eq-eqb}
+use Rattle.std.proofs.lemmas.Bool.{both_ways, ltb-true, eq-eqb, or_parts, not-false}
 use Rattle.c8_game.specs.Rules.{Rules, AreInRange}
 use Rattle.c8_wire.specs.Packet.{HeadValue, DataMessage, FreezeMessage, LeaverMessage, Message, Packet}
 use Rattle.c8_wire.specs.Packet as packets
@@ -33,7 +33,7 @@ use Rattle.c8_world.specs.Agreement.{IsPlayer}
 use Rattle.c8_world.proofs.Journals.{AreSound}
 use Rattle.c8_world.proofs.Moments.{bounded_at}
 use Rattle.c8_world.proofs.Records.{said_known, count_known, stands_entered}
-use Rattle.c8_world.proofs.Events.{IsAwake, IsSaid, IsWorldly, branch, not_false, neither, in_game}
+use Rattle.c8_world.proofs.Events.{IsAwake, IsSaid, IsWorldly, branch, in_game}
 use Rattle.c8_world.proofs.Calm.{no_bad_ack, no_difference, not_differs, no_desync}
 
 -- ---- what holds of each refusal
@@ -119,7 +119,7 @@ calm_frozen rules room J p q m f sound plays q_plays stands =
     branch P (not (player_in k f.leaver).leaving) _ _ (λ is. calm_other J p q _ (λ e. cc e) (λ e. cc e) (λ e. cc e)) (λ leaves.
     branch P (is_some (player_in k f.leaver).cut) _ _ (λ is. hears _) (λ uncut.
     branch P (nat_lt k.limit f.length) _ _ (λ is. calm_known J p q knowns.Full (λ e. cc e)) (λ room_left.
-    let leaver : IsPlayer rules f.leaver = in_game rules p f.leaver (J p) (not_false (is_player k f.leaver) (neither (f.leaver == q) (not (is_player k f.leaver)) who).1) in
+    let leaver : IsPlayer rules f.leaver = in_game rules p f.leaver (J p) (not-false (is_player k f.leaver) (or_parts (f.leaver == q) (not (is_player k f.leaver)) who).1) in
     let entered : Stands f.start f.words (held rules f.leaver (J f.leaver)) = stands_entered rules room J q f.leaver f.start f.words sound q_plays leaver stands in
     unless_misfit_calm P m (misfit k f.leaver f.start f.words) _
     (λ error e. calm_known J p q error (not_differs k f.leaver f.start f.words error (no_difference rules room J p f.leaver f.start f.words sound plays leaver entered) e))
@@ -164,7 +164,7 @@ calm_cut rules room J p q m c range sound plays q_plays first cut stands =
     branch P (c.leaver == k.me) _ _ (λ is. hears _) (λ other.
     branch P (not (is_player k c.leaver)) _ _ (λ is. calm_other J p q _ (λ e. cc e) (λ e. cc e) (λ e. cc e)) (λ inside.
     branch P (not (player_in k c.leaver).frozen) _ _ (λ is. calm_other J p q _ (λ e. cc e) (λ e. cc e) (λ e. cc e)) (λ frozen.
-    let leaver : IsPlayer rules c.leaver = in_game rules p c.leaver (J p) (not_false (is_player k c.leaver) inside) in
+    let leaver : IsPlayer rules c.leaver = in_game rules p c.leaver (J p) (not-false (is_player k c.leaver) inside) in
     calm_end rules room J p q m c (player_in k c.leaver).cut range sound plays leaver
     (subst (λ (x : ℕ). cut_of c.leaver (J x) ≡ Some c.length) first cut) (stands_entered rules room J q c.leaver c.start c.words sound q_plays leaver stands) refl))))
 

@@ -2,7 +2,7 @@
 use Rattle.std.proofs.Common.{◌≡◌, ◌≢◌, ℕ, zero, suc, ◌-◌, ◌<◌, ◌^◌, ◌⊎◌, inl, inr, ⊎_elim, List, [], ◌∷◌, ◌++◌, length, Bool, true, false, cond, Option, Some, None, Ok, Err, refl, sym, ap, subst, ◌∙◌, arith, slice_set, slice_index_or, replicate}
 use Rattle.std.specs.Prelude.{◌==◌, nat_le, if◌then◌else◌, option_to_list}
 use Rattle.std.specs.List.{slice_get}
-use Rattle.std.proofs.lemmas.Bool.{cases_eq, cases_lt, leb-true, both_ways}
+use Rattle.std.proofs.lemmas.Bool.{cases_eq, cases_lt, leb-true, both_ways, and_parts}
 use Rattle.std.proofs.lemmas.List.{append-nil, length-set, length-replicate, get_or-set_same, get_or-set_other, get_or-replicate, get_or_past, set-set}
 use Rattle.c8_game.specs.Rules.{Rules, AreInRange}
 use Rattle.c8_disk.specs.declared.error.DiskError.{DiskError}
@@ -28,7 +28,7 @@ use Rattle.c8_world.specs.World.{World, never_opened, start, is_player, peer_of,
 use Rattle.c8_world.specs.Agreement.{IsPlayer, IsAmong}
 use Rattle.c8_world.proofs.Journals.{AreSound, Fits, Grown, HasMore, player_one, more_grown, held_grown, frozen_grown, sound_more, fits_later}
 use Rattle.c8_world.proofs.Records.{fits_head, fits_epoch}
-use Rattle.c8_world.proofs.Events.{AreNamed, IsAwake, IsSaid, IsWorldly, good_call, both}
+use Rattle.c8_world.proofs.Events.{AreNamed, IsAwake, IsSaid, IsWorldly, good_call}
 
 -- ---- what holds of a world
 
@@ -307,7 +307,7 @@ mode_sound laws rules room w p call luck Away range sound plays up is_call world
 
 pub plays_if : (rules : Rules) (p : ℕ) → is_player rules p ≡ true → IsPlayer rules p
 plays_if rules p is =
-    let tests = both (nat_le 1 p) (nat_le p rules.players) is in
+    let tests = and_parts (nat_le 1 p) (nat_le p rules.players) is in
     record { from_one = leb-true 1 p tests.0; in_game = leb-true p rules.players tests.1 }
 
 -- a test decides which world it is

@@ -2,6 +2,7 @@
 use Rattle.std.proofs.Common.{◌≡◌, ℕ, ◌||◌, ◌⊎◌, inl, inr, List, [], ◌∷◌, ◌++◌, Bool, true, false, Some, refl, sym, ap, ◌∙◌, append_assoc}
 use Rattle.std.specs.Prelude.{◌==◌}
 use Rattle.std.specs.List.{slice_get, flat_map, list_any}
+use Rattle.std.proofs.lemmas.Bool.{or_parts}
 use Rattle.std.proofs.lemmas.Grind.{flat_map-append}
 use Rattle.std.proofs.lemmas.List.{append-nil}
 use Rattle.std.proofs.lemmas.List.Folds.{list_any-append}
@@ -23,10 +24,6 @@ or_first : (a b : Bool) → a ≡ true → (a || b) ≡ true
 or_first true b is = refl
 or_first false b is = absurd cc
 
-pub neither : (a b : Bool) → (a || b) ≡ false → (a ≡ false) × (b ≡ false)
-neither true b none = absurd cc
-neither false b none = (refl, none)
-
 or_false : (b : Bool) → (b || false) ≡ b
 or_false true = refl
 or_false false = refl
@@ -43,7 +40,7 @@ leave_stays q journal more is = leave_more q journal more ∙ or_first (has_leav
 
 -- nobody who has not left by now had left before
 pub had_stayed : (q : ℕ) (journal more : List Record) → has_leave q (journal ++ more) ≡ false → has_leave q journal ≡ false
-had_stayed q journal more none = (neither (has_leave q journal) (list_any (lets_go q) more) (sym (leave_more q journal more) ∙ none)).0
+had_stayed q journal more none = (or_parts (has_leave q journal) (list_any (lets_go q) more) (sym (leave_more q journal more) ∙ none)).0
 
 pub freeze_more : (q : ℕ) (journal more : List Record) → has_freeze q (journal ++ more) ≡ has_freeze q journal || list_any (freezes q) more
 unfolding has_freeze

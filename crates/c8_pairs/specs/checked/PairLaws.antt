@@ -1,7 +1,7 @@
 -- Checked, not believed: runs and their pairs.
-use Rattle.std.proofs.Common.{inl, inr, ◌≡◌, ◌≢◌, ℕ, zero, suc, ◌+◌, ◌*◌, ◌/◌, ◌%◌, ◌^◌, ◌<◌, ◌==◌, ◌&&◌, List, [], ◌∷◌, ◌++◌, length, get_or, drop, replicate, Bool, true, false, Option, Some, None, refl, sym, ap, ◌∙◌, arith, length-append}
+use Rattle.std.proofs.Common.{inl, inr, ◌≡◌, ◌≢◌, ℕ, zero, suc, ◌+◌, ◌*◌, ◌/◌, ◌%◌, ◌^◌, ◌<◌, ◌==◌, ◌&&◌, List, [], ◌∷◌, ◌++◌, length, get_or, drop, replicate, true, false, Option, Some, None, refl, sym, ap, ◌∙◌, arith, length-append}
 use Rattle.std.specs.Prelude.{not}
-use Rattle.std.proofs.lemmas.Bool.{cases_eq, eq-eqb, eqb-true, ne_eqb}
+use Rattle.std.proofs.lemmas.Bool.{cases_eq, eq-eqb, eqb-true, ne_eqb, and_parts, not-true}
 use Rattle.std.proofs.lemmas.List.{length-replicate}
 use Rattle.byteorder.specs.Endian.{big_bytes, big_number}
 use Rattle.byteorder.specs.Numbers.{big_number-reads_back}
@@ -10,14 +10,6 @@ use Rattle.c8_pairs.specs.Pairs.{in_front, pairs_of, words_in, pairs_bytes, spel
 use Rattle.c8_pairs.specs.Reading.{pairs_at, is_same, well_after, count_in, are_run, pairs_after}
 
 -- ---- well formed pairs
-
-pub and_both : (a b : Bool) → a && b ≡ true → (a ≡ true) × (b ≡ true)
-and_both true b e = (refl, e)
-and_both false b e = absurd cc
-
-not_true : (a : Bool) → not a ≡ true → a ≡ false
-not_true true e = absurd cc
-not_true false e = refl
 
 -- ---- one input more in front
 
@@ -53,7 +45,7 @@ pairs_say (word ∷ words) = front_says word (pairs_of words) ∙ ap (λ (ws : L
 front_new : (keys : ℕ) (pairs : List Pair) → well_after (Some keys) pairs ≡ true → in_front keys pairs ≡ record { times = 1; keys = keys } ∷ pairs
 front_new keys [] well = refl
 front_new keys (p ∷ pairs) well =
-    let apart = not_true (keys == p.keys) (and_both (not (keys == p.keys)) (well_after (Some p.keys) pairs) (and_both (not (p.times == 0)) (not (keys == p.keys) && well_after (Some p.keys) pairs) well).1).0 in
+    let apart = not-true (keys == p.keys) (and_parts (not (keys == p.keys)) (well_after (Some p.keys) pairs) (and_parts (not (p.times == 0)) (not (keys == p.keys) && well_after (Some p.keys) pairs) well).1).0 in
     rw apart refl
 
 stretch : (keys k : ℕ) (words : List ℕ) → well_after (Some keys) (pairs_of words) ≡ true → pairs_of (replicate (suc k) keys ++ words) ≡ record { times = suc k; keys = keys } ∷ pairs_of words
@@ -70,8 +62,8 @@ some_times (suc k) e = (k, refl)
 pub well_pairs : (last : Option ℕ) (pairs : List Pair) → well_after last pairs ≡ true → pairs_of (words_in pairs) ≡ pairs
 well_pairs last [] well = no_pairs [] refl
 well_pairs last (p ∷ pairs) well =
-    let both = and_both (not (p.times == 0)) (not (is_same last p.keys) && well_after (Some p.keys) pairs) well in
-    let rest = (and_both (not (is_same last p.keys)) (well_after (Some p.keys) pairs) both.1).1 in
+    let both = and_parts (not (p.times == 0)) (not (is_same last p.keys) && well_after (Some p.keys) pairs) well in
+    let rest = (and_parts (not (is_same last p.keys)) (well_after (Some p.keys) pairs) both.1).1 in
     let some = some_times p.times both.0 in
     let again = well_pairs (Some p.keys) pairs rest in
     ap (λ (n : ℕ). pairs_of (replicate n p.keys ++ words_in pairs)) some.1
@@ -82,18 +74,18 @@ well_pairs last (p ∷ pairs) well =
 pub well_none : (last : Option ℕ) (pairs : List Pair) → well_after last pairs ≡ true → well_after None pairs ≡ true
 well_none last [] well = refl
 well_none last (p ∷ pairs) well =
-    let both = and_both (not (p.times == 0)) (not (is_same last p.keys) && well_after (Some p.keys) pairs) well in
-    let rest = (and_both (not (is_same last p.keys)) (well_after (Some p.keys) pairs) both.1).1 in
+    let both = and_parts (not (p.times == 0)) (not (is_same last p.keys) && well_after (Some p.keys) pairs) well in
+    let rest = (and_parts (not (is_same last p.keys)) (well_after (Some p.keys) pairs) both.1).1 in
     rw (both.0, rest) refl
 
 pub well_tail : (last : Option ℕ) (p : Pair) (pairs : List Pair) → well_after last (p ∷ pairs) ≡ true → well_after None pairs ≡ true
 well_tail last p pairs well =
-    let both = and_both (not (p.times == 0)) (not (is_same last p.keys) && well_after (Some p.keys) pairs) well in
-    well_none (Some p.keys) pairs (and_both (not (is_same last p.keys)) (well_after (Some p.keys) pairs) both.1).1
+    let both = and_parts (not (p.times == 0)) (not (is_same last p.keys) && well_after (Some p.keys) pairs) well in
+    well_none (Some p.keys) pairs (and_parts (not (is_same last p.keys)) (well_after (Some p.keys) pairs) both.1).1
 
 pub some_at : (last : Option ℕ) (p : Pair) (pairs : List Pair) → well_after last (p ∷ pairs) ≡ true → 0 < p.times
 some_at last p pairs well =
-    let some = some_times p.times (and_both (not (p.times == 0)) (not (is_same last p.keys) && well_after (Some p.keys) pairs) well).0 in
+    let some = some_times p.times (and_parts (not (p.times == 0)) (not (is_same last p.keys) && well_after (Some p.keys) pairs) well).0 in
     omega (arith, some.1)
 
 -- ---- the pairs of inputs are well formed
@@ -104,7 +96,7 @@ not_zero n = rw (ne_eqb (suc n) 0 (λ e. omega (arith, e))) refl
 front_well : (word : ℕ) (pairs : List Pair) → well_after None pairs ≡ true → well_after None (in_front word pairs) ≡ true
 front_well word [] well = refl
 front_well word (p ∷ pairs) well =
-    let rest = (and_both (not (p.times == 0)) (not false && well_after (Some p.keys) pairs) well) in
+    let rest = (and_parts (not (p.times == 0)) (not false && well_after (Some p.keys) pairs) well) in
     let tail : well_after (Some p.keys) pairs ≡ true = rest.1 in
     elim (cases_eq word p.keys) [
       | inl same ↦
@@ -201,7 +193,7 @@ apart_of : (keys word : ℕ) (words : List ℕ) → keys ≢ word → well_after
 apart_of keys word words apart =
     let begins = begins_with word words in
     let well : well_after None (begins.first ∷ begins.rest) ≡ true = sym (ap (well_after None) begins.is) ∙ well_of (word ∷ words) in
-    let both = and_both (not (begins.first.times == 0)) (not false && well_after (Some begins.first.keys) begins.rest) well in
+    let both = and_parts (not (begins.first.times == 0)) (not false && well_after (Some begins.first.keys) begins.rest) well in
     let other : (keys == begins.first.keys) ≡ false = ne_eqb keys begins.first.keys (λ e. apart (e ∙ begins.keys)) in
     ap (well_after (Some keys)) begins.is ∙ rw (both.0, other) both.1
 
@@ -290,7 +282,7 @@ pub record IsSpelled (bytes : List ℕ) (count : ℕ) : Type 0 where
 
 pub run_is_spelled : (bytes : List ℕ) (count : ℕ) → length bytes % 3 ≡ 0 → ((i : ℕ) → get_or bytes i 0 < 2 ^ 8) → are_run (pairs_at bytes) count ≡ true → IsSpelled bytes count
 run_is_spelled bytes count whole fits is =
-    let both = and_both (well_after None (pairs_at bytes)) (count_in (pairs_at bytes) == count) is in
+    let both = and_parts (well_after None (pairs_at bytes)) (count_in (pairs_at bytes) == count) is in
     record {
       spells = ap pairs_bytes (well_pairs None (pairs_at bytes) both.0) ∙ spelled_pairs bytes whole fits;
       many = length_words (pairs_at bytes) ∙ eqb-true (count_in (pairs_at bytes)) count both.1;

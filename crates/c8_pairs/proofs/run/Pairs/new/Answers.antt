@@ -1,14 +1,14 @@
 use Rattle.std.proofs.Common.{◌==◌, None, arith}
-use Rattle.std.proofs.lemmas.Bool.{eqb-true}
+use Rattle.std.proofs.lemmas.Bool.{eqb-true, and_parts}
 use Rattle.c8_pairs.specs.Reading.{pairs_at, well_after, count_in}
-use Rattle.c8_pairs.specs.checked.PairLaws.{and_both, spelled_pairs, sets_of, run_is_spelled}
+use Rattle.c8_pairs.specs.checked.PairLaws.{spelled_pairs, sets_of, run_is_spelled}
 use Rattle.c8_pairs.proofs.RunLemmas.{begins}
 use Rattle.c8_pairs.proofs.run.Pairs.new.Goals as goal
 
 pub invariant_of-result : goal.invariant_of-result
 invariant_of-result c =
     let bytes = c.args.bytes.now in
-    let both = and_both (well_after None (pairs_at bytes)) (count_in (pairs_at bytes) == c.args.count) c.requires.run in
+    let both = and_parts (well_after None (pairs_at bytes)) (count_in (pairs_at bytes) == c.args.count) c.requires.run in
     record {
       well = both.0;
       whole = spelled_pairs bytes c.requires.whole (λ i. omega (arith, c.type_inv.bytes i));
