@@ -1,6 +1,7 @@
 //! A log that is read by blocks keeps what its bytes keep, and a journal says what it says slot by
 //! slot.
 use crate::images::{GAME, ROOM, Tail, holding, image_of, nth_body};
+use c8_check::Checks;
 use c8_disk::MemDisk;
 use c8_game::{Game, Player};
 use c8_known::Known;
@@ -39,7 +40,7 @@ fn said(answer: Result<u32, ReplayError>, known: &Known) -> Said {
 fn said_by_slots(alloc: Global, game: &Game, image: &[u8]) -> Result<Said, Fail> {
     game.in_range();
     let mut known = Known::new(alloc, game, Player { number: 1 })?;
-    let answer = replay_bytes(image, game, ROOM, &mut known);
+    let answer = replay_bytes(image, game, ROOM, &mut known, &mut Checks::new());
     Ok(said(answer, &known))
 }
 
@@ -50,7 +51,7 @@ fn said_by_blocks(alloc: Global, game: &Game, log: &mut Log<MemDisk>) -> Result<
     if log.is_down() {
         return Err(Fail::from("the log is down"));
     }
-    let answer = replay(log, game, ROOM, &mut known);
+    let answer = replay(log, game, ROOM, &mut known, &mut Checks::new());
     Ok(said(answer, &known))
 }
 

@@ -23,7 +23,7 @@ pub enum Tail {
     Gate,
 }
 
-/// The body of record `n` of player 1's journal, byte for byte: a HEAD, then by turns an input of its
+/// The body of record `n` of player 1's journal, of the first form, byte for byte: a HEAD, then by turns an input of its
 /// own and one of player 2.
 pub fn nth_body(game: &Game, n: u32) -> [u8; BODY_LENGTH] {
     let mut body = [0; BODY_LENGTH];

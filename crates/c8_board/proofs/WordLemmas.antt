@@ -6,8 +6,8 @@ use Rattle.sha2.specs.Sha256.{digest_bytes, sha256}
 use Rattle.c8_game.specs.Rules.{Rules}
 use Rattle.c8_game.specs.declared.row.Row.{Row}
 use Rattle.c8_machine.specs.State.{State}
-use Rattle.c8_machine.specs.Serial.{serial}
 use Rattle.c8_digest.specs.StateBytes.{state_bytes}
+use Rattle.c8_digest.specs.Origin.{Origin, run_since}
 use Rattle.c8_board.specs.Words.{number_spelled, bits_of, word}
 
 -- the number of three zeros and five bytes
@@ -73,8 +73,8 @@ bits_below s = five (sha256 (state_bytes s)) (sha_is_bytes (state_bytes s))
 split : (n b w : ℕ) → b < 2 ^ 40 → w ≡ n * 2 ^ 40 + b → (w / 2 ^ 40 ≡ n) × (w % 2 ^ 40 ≡ b)
 split n b w few is = (omega arith, omega arith)
 
-pub word_count : (game : Rules) (rows : List Row) (w : ℕ) → w ≡ word game rows → w / 2 ^ 40 ≡ length rows
-word_count game rows w is = (split (length rows) (bits_of (serial game rows)) w (bits_below (serial game rows)) is).0
+pub word_count : (game : Rules) (from : Origin) (rows : List Row) (w : ℕ) → w ≡ word game from rows → w / 2 ^ 40 ≡ length rows
+word_count game from rows w is = (split (length rows) (bits_of (run_since game from rows)) w (bits_below (run_since game from rows)) is).0
 
-pub word_bits : (game : Rules) (rows : List Row) (w : ℕ) → w ≡ word game rows → w % 2 ^ 40 ≡ bits_of (serial game rows)
-word_bits game rows w is = (split (length rows) (bits_of (serial game rows)) w (bits_below (serial game rows)) is).1
+pub word_bits : (game : Rules) (from : Origin) (rows : List Row) (w : ℕ) → w ≡ word game from rows → w % 2 ^ 40 ≡ bits_of (run_since game from rows)
+word_bits game from rows w is = (split (length rows) (bits_of (run_since game from rows)) w (bits_below (run_since game from rows)) is).1

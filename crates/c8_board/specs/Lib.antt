@@ -1,3 +1,4 @@
+pub mod Starts
 pub mod Words
 pub mod Tokens
 pub mod checked

@@ -4,8 +4,8 @@ use Rattle.sha2.specs.Sha256.{sha256}
 use Rattle.c8_game.specs.Rules.{Rules}
 use Rattle.c8_game.specs.declared.row.Row.{Row}
 use Rattle.c8_machine.specs.State.{State}
-use Rattle.c8_machine.specs.Serial.{serial}
 use Rattle.c8_digest.specs.StateBytes.{state_bytes}
+use Rattle.c8_digest.specs.Origin.{Origin, run_since}
 
 -- the number that bytes spell, the most significant first
 abbrev pub number_spelled : List ℕ → ℕ
@@ -15,9 +15,9 @@ number_spelled bytes = fold (λ n byte. n * 2 ^ 8 + byte) 0 bytes
 unfoldable pub bits_of : State → ℕ
 bits_of s = number_spelled (take 5 (sha256 (state_bytes s)))
 
--- the rows as one word: their number times 2 ^ 40, and the bits of the machine after them
-abbrev pub word : Rules → List Row → ℕ
-word game rows = length rows * 2 ^ 40 + bits_of (serial game rows)
+-- the rows as one word: their number times 2 ^ 40, and the bits of the machine that they lead to from an origin
+abbrev pub word : Rules → Origin → List Row → ℕ
+word game from rows = length rows * 2 ^ 40 + bits_of (run_since game from rows)
 
 -- what a look finds
 pub record LookValue : Type 0 where
@@ -25,5 +25,5 @@ pub record LookValue : Type 0 where
   pub bits : ℕ
 
 -- the look at the word of rows
-abbrev pub look_of : Rules → List Row → LookValue
-look_of game rows = record { count = length rows; bits = bits_of (serial game rows) }
+abbrev pub look_of : Rules → Origin → List Row → LookValue
+look_of game from rows = record { count = length rows; bits = bits_of (run_since game from rows) }

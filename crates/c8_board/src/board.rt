@@ -1,15 +1,17 @@
 //! A board, its pen and its viewers.
-ghost use Rattle.std.specs.Prelude.{◌≡◌, ◌≤◌, ◌<◌, true, false, List, [], length, vec_len, IfOk};
+ghost use Rattle.std.specs.Prelude.{◌≡◌, ◌≤◌, ◌<◌, true, List, [], length, vec_len, IfOk};
 ghost use Rattle.std.specs.List.{All};
 ghost use Rattle.c8_game.specs.Rules.{most_frames};
 ghost use Rattle.c8_game.specs.declared.row.Row.{Row};
 ghost use Rattle.c8_machine.specs.State.{state};
-ghost use Rattle.c8_machine.specs.Serial.{serial};
+ghost use Rattle.c8_digest.specs.Origin.{run_since};
+ghost use Rattle.c8_board.specs.declared.views.View.TheVariants.{Blank};
+ghost use Rattle.c8_board.specs.Starts.{RunValue, origin_from};
 ghost use Rattle.c8_board.specs.Words.{word, look_of};
 ghost use Rattle.c8_board.specs.Tokens.{Begins, new_viewer, SeesMore};
 
 use crate::look::{Look, word};
-use crate::views::{Ask, Compare, Enlist, Order, Pair, Publish, Rows, See, View, Wish};
+use crate::views::{Ask, Begin, Compare, Enlist, Order, Pair, Publish, Rows, Run, See, View, Wish};
 use atomic_table::{Seat, Table};
 use c8_game::Game;
 use c8_machine::Machine;
@@ -41,8 +43,8 @@ impl Model for Board {
     ghost invariant = { λ b. b.table.shared.table_id.words ≡ 2 };
 }
 
-/// The right to publish on a board; it has one. Contracts see the game and the rows that were
-/// published last.
+/// The right to publish on a board; it has one. Contracts see the game, where the run begins, and
+/// the rows that were published last.
 #[derive(Drop)]
 pub struct Pen {
     seat: Seat<(), View>,
@@ -59,8 +61,8 @@ impl Model for Pen {
     ghost invariant = { λ p. IsPen p.seat.me };
 }
 
-/// The right to look at a board. Contracts see the game, the rows that the viewer saw last, whether
-/// it has asked for the end, and how often it has looked.
+/// The right to look at a board. Contracts see the game, where the run begins, the rows that the
+/// viewer saw last, whether it has asked for the end, and how often it has looked.
 #[derive(Drop)]
 pub struct Viewer {
     seat: Seat<(), View>,
@@ -78,25 +80,33 @@ impl Model for Viewer {
 }
 
 impl Board {
-    /// A board of a game, on which no frame is confirmed, with its pen and 1 to 4 viewers. The error
-    /// is want of memory; no other call takes any.
+    /// A board of a game, on which the machine after so many confirmed frames is published, with its
+    /// pen and 1 to 4 viewers. The start and the rows that led from it to this machine are the
+    /// caller's proof's to pick; the board keeps the start for good. The error is want of memory; no
+    /// other call takes any.
     pub fn open(
         alloc: Global,
         game: &Game,
+        count: u32,
+        confirmed: &Machine,
         viewers: usize,
     ) -> Result<(Board, Pen, Vec<Viewer>), AllocError>
+        ghost run: { RunValue }
+        requires count { count ≡ length run.rows }
+        requires frames { count ≤ most_frames }
+        requires machine { state confirmed.now
+            ≡ run_since game.now (origin_from run.from) run.rows }
         requires some { 1 ≤ viewers }
         requires few { viewers ≤ 4 }
         ensures pen { IfOk result (λ r.
-            r.1 ≡ record { board = r.0; game = game.now; rows = [] }) }
+            r.1 ≡ record { board = r.0; game = game.now; from = run.from; rows = run.rows }) }
         ensures viewers { IfOk result (λ r.
-            All (λ v. v ≡ new_viewer r.0 game.now) r.2.items) }
+            All (λ v. v ≡ new_viewer r.0 game.now run.from run.rows) r.2.items) }
         ensures count { IfOk result (λ r. vec_len r.2 ≡ viewers) }
     {
-        let first = word(0, &Machine::start(game));
-        let (table, seat) = Table::of_words(alloc, &[first, 0], game)?;
+        let (table, seat) = Table::of_words(alloc, &[0, 0], game)?;
         let board = Board { table };
-        let mut pen = Pen { seat };
+        let mut pen = board.begin::<Brand>(seat, game, word(count, confirmed));
         let mut seated = Vec::with_capacity(alloc, viewers)?;
         for _ in 0..viewers {
             seated.push(board.enlist(&mut pen))?;
@@ -104,34 +114,42 @@ impl Board {
         Ok((board, pen, seated))
     }
 
+    /// The pen of a board on which nothing was published: it stores the word of rows.
+    fn begin<R: Run>(&self, mut seat: Seat<(), View>, _game: &Game, found: u64) -> Pen
+        requires board { seat.table_id ≡ self.now }
+        requires blank { seat.me ≡ (Blank _game.now, []) }
+        requires word { found ≡ word _game.now (origin_from R.from) R.rows }
+        ensures { result
+            ≡ record { board = self.now; game = _game.now; from = R.from; rows = R.rows } }
+    {
+        self.table.shared.store::<Begin<R>>(&mut seat, SHOWN, found);
+        Pen { seat }
+    }
+
     /// A viewer that has seen what the pen has published.
     fn enlist(&self, pen: &mut Pen) -> Viewer
         requires board { pen.old.board ≡ self.now }
         ensures pen { pen.new ≡ pen.old }
-        ensures viewer { result ≡ record {
-          board = pen.old.board;
-          game = pen.old.game;
-          seen = pen.old.rows;
-          asked = false;
-          loads = 0;
-        } }
+        ensures viewer { result
+            ≡ new_viewer pen.old.board pen.old.game pen.old.from pen.old.rows }
     {
         Viewer {
             seat: self.table.shared.split_seat::<Enlist>(&mut pen.seat),
         }
     }
 
-    /// Publishes the machine after so many confirmed frames: the serial run of rows that begin with
-    /// those that were published last. The rows are the caller's proof's to pick; no run has them.
+    /// Publishes the machine after so many confirmed frames: the run, from the board's start on, of
+    /// rows that begin with those that were published last. The rows are the caller's proof's to pick;
+    /// no run has them.
     pub fn publish(&self, pen: &mut Pen, count: u32, confirmed: &Machine)
         ghost rows: { List Row }
         requires board { pen.old.board ≡ self.now }
         requires later { Begins pen.old.rows rows }
         requires count { count ≡ length rows }
         requires few { count ≤ most_frames }
-        requires machine { state confirmed.now ≡ serial pen.old.game rows }
-        ensures { pen.new
-            ≡ record { board = pen.old.board; game = pen.old.game; rows = rows } }
+        requires machine { state confirmed.now
+            ≡ run_since pen.old.game (origin_from pen.old.from) rows }
+        ensures { pen.new ≡ record pen.old { rows = rows } }
     {
         self.store::<Brand>(pen, word(count, confirmed));
     }
@@ -140,9 +158,8 @@ impl Board {
     fn store<R: Rows>(&self, pen: &mut Pen, found: u64)
         requires board { pen.old.board ≡ self.now }
         requires later { Begins pen.old.rows R.rows }
-        requires word { found ≡ word pen.old.game R.rows }
-        ensures { pen.new
-            ≡ record { board = pen.old.board; game = pen.old.game; rows = R.rows } }
+        requires word { found ≡ word pen.old.game (origin_from pen.old.from) R.rows }
+        ensures { pen.new ≡ record pen.old { rows = R.rows } }
     {
         self.table
             .shared
@@ -162,17 +179,19 @@ impl Board {
     pub fn look_with(&self, pen: Pen, viewer: Viewer) -> (Look, Pen, Viewer)
         requires pen { pen.board ≡ self.now }
         requires viewer { viewer.board ≡ self.now }
-        ensures look { result.0 ≡ look_of pen.game pen.rows }
+        ensures look { result.0 ≡ look_of pen.game (origin_from pen.from) pen.rows }
         ensures begins { Begins viewer.seen pen.rows }
         ensures pen { result.1 ≡ pen }
         ensures viewer { result.2 ≡ record {
           board = viewer.board;
           game = pen.game;
+          from = pen.from;
           seen = pen.rows;
           asked = viewer.asked;
           loads = viewer.loads;
         } }
         ensures game { viewer.game ≡ pen.game }
+        ensures from { viewer.from ≡ pen.from }
     {
         let Pen { seat: mut joined } = pen;
         let Viewer { seat: other } = viewer;
@@ -189,13 +208,7 @@ impl Board {
     /// Asks for the match's end. The wish stands for good.
     pub fn ask_stop(&self, viewer: &mut Viewer)
         requires { viewer.old.board ≡ self.now }
-        ensures { viewer.new ≡ record {
-          board = viewer.old.board;
-          game = viewer.old.game;
-          seen = viewer.old.seen;
-          asked = true;
-          loads = viewer.old.loads;
-        } }
+        ensures { viewer.new ≡ record viewer.old { asked = true } }
     {
         let _found = self.table.shared.fetch_or::<Ask>(&mut viewer.seat, STOP, 1);
     }

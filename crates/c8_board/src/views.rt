@@ -2,14 +2,32 @@
 //! these types.
 
 use atomic_table::{Join, Play, Split, TableRule};
+use c8_digest::FrameMark;
 use c8_game::{Game, Row};
 use std::collections::LinkedList;
-use std::marker::{Brand, PhantomData};
+use std::marker::{Brand, Model, PhantomData};
 
-/// What a viewer knows: the game, the rows that it saw, whether it has asked for the match's end,
-/// and how often it has looked.
+/// Where a board's run begins: after how many frames, the bytes of the machine then, and the marks
+/// that are kept then.
+pub struct Start {
+    pub frames: u64,
+    pub machine: LinkedList<u8>,
+    pub marks: LinkedList<FrameMark>,
+}
+
+impl Model for Start {
+    ghost use Rattle.c8_board.specs.Starts.{StartValue};
+
+    ghost Value = { StartValue };
+
+    ghost view = { λ s. record { frames = s.frames; machine = s.machine; marks = s.marks } };
+}
+
+/// What a viewer knows: the game, where the run begins, the rows that it saw, whether it has asked
+/// for the match's end, and how often it has looked.
 pub struct Watch {
     pub game: Game,
+    pub from: Start,
     pub seen: LinkedList<Row>,
     pub asked: bool,
     pub loads: u64,
@@ -17,10 +35,12 @@ pub struct Watch {
 
 /// What a token of a board knows.
 pub enum View {
-    /// The pen: the game, and the rows that it published last.
-    Alone(Game, LinkedList<Row>),
+    /// The first seat, before anything is published: the game.
+    Blank(Game),
+    /// The pen: the game, where the run begins, and the rows that it published last.
+    Alone(Game, Start, LinkedList<Row>),
     /// The pen, with a viewer's view beside its own.
-    Joined(Game, LinkedList<Row>, Watch),
+    Joined(Game, Start, LinkedList<Row>, Watch),
     /// A viewer.
     Watching(Watch),
     /// A viewer whose view went to the pen.
@@ -41,17 +61,47 @@ impl Rows for Brand {
     ghost rows = { [] };
 }
 
+/// The start and the rows of the first step. The caller's proof picks them.
+pub trait Run {
+    ghost use Rattle.std.specs.Prelude.{List};
+    ghost use Rattle.c8_game.specs.declared.row.Row.{Row};
+    ghost use Rattle.c8_board.specs.Starts.{StartValue};
+
+    ghost from: { StartValue };
+
+    ghost rows: { List Row };
+}
+
+impl Run for Brand {
+    ghost use Rattle.std.specs.Prelude.{[]};
+    ghost use Rattle.c8_board.specs.checked.Views.{no_start};
+
+    ghost from = { no_start };
+
+    ghost rows = { [] };
+}
+
 /// The rule of a board.
 pub struct Order;
 
 impl TableRule<(), View, Game> for Order {
-    ghost use Rattle.std.specs.Prelude.{[]};
-    ghost use Rattle.c8_board.specs.declared.views.View.TheVariants.{Alone};
+    ghost use Rattle.c8_board.specs.declared.views.View.TheVariants.{Blank};
     ghost use Rattle.c8_board.specs.checked.Rule.{Keeps};
 
     ghost holds = { λ game s. Keeps s };
 
-    ghost first = { λ game. Alone game [] };
+    ghost first = { λ game. Blank game };
+}
+
+/// The blank seat becomes the pen's, and stores the word of the rows.
+pub struct Begin<R: Run>(PhantomData<R>);
+
+impl<R: Run> Play<(), View> for Begin<R> {
+    ghost use Rattle.std.specs.Prelude.{◌≡◌};
+    ghost use Rattle.c8_board.specs.checked.Rule.{begin_view};
+
+    ghost then = { λ step before found after.
+        after ≡ (begin_view R.from R.rows before.0, before.1) };
 }
 
 /// The pen stores the word of the rows.

@@ -2,21 +2,26 @@
 //! SHA-256, over the bytes of a state that were written out by hand.
 ghost use Rattle.std.specs.Prelude.{◌≡◌, [], IfOk};
 ghost use Rattle.c8_board.specs.Tokens.{new_viewer};
+ghost use Rattle.c8_board_tests.specs.Idle.{first_start};
 
-use crate::run::{Publisher, counting};
+use crate::run::{Publisher, Run, counting};
+use c8_board::laws::the_first_start_is_serial;
 use c8_board::{Board, Pen, Viewer};
 use c8_game::Game;
+use c8_machine::Machine;
 use std::alloc::Global;
 use std::test::Fail;
 
-/// A board with its pen and two viewers.
+/// A board on which no frame is confirmed, with its pen and two viewers.
 pub(crate) fn opened(alloc: Global, game: &Game) -> Result<(Board, Pen, Viewer, Viewer), Fail>
     ensures pen { IfOk result (λ r.
-        r.1 ≡ record { board = r.0; game = game.now; rows = [] }) }
-    ensures one { IfOk result (λ r. r.2 ≡ new_viewer r.0 game.now) }
-    ensures two { IfOk result (λ r. r.3 ≡ new_viewer r.0 game.now) }
+        r.1 ≡ record { board = r.0; game = game.now; from = first_start game.now; rows = [] }) }
+    ensures one { IfOk result (λ r. r.2 ≡ new_viewer r.0 game.now (first_start game.now) []) }
+    ensures two { IfOk result (λ r. r.3 ≡ new_viewer r.0 game.now (first_start game.now) []) }
 {
-    let (board, pen, mut viewers) = Board::open(alloc, game, 2)?;
+    game.in_range();
+    the_first_start_is_serial();
+    let (board, pen, mut viewers) = Board::open(alloc, game, 0, &Machine::start(game), 2)?;
     let Some(one) = viewers.pop() else {
         return Err(Fail::new("no viewer"));
     };
@@ -57,6 +62,20 @@ fn looks_show_what_was_published(rt: HostRuntime) -> Result<(), Fail> {
     assert!(rt; last == board.look(&mut one));
     assert!(rt; last.count() == 49);
     drop((pen, two));
+    Ok(())
+}
+
+#[test]
+fn a_board_opens_at_a_later_frame(rt: HostRuntime) -> Result<(), Fail> {
+    let game = counting(rt.alloc())?;
+    let mut run = Run::start(&game);
+    for _ in 0..3 {
+        run.step();
+    }
+    let (board, mut viewer) = run.shown(rt.alloc())?;
+    let found = board.look(&mut viewer);
+    assert!(rt; found.count() == 3);
+    assert!(rt; found.bits() == 0x6a_552a_6a1c);
     Ok(())
 }
 

@@ -1,8 +1,9 @@
 //! A run of rows that hold no key, and its publishing.
-ghost use Rattle.std.specs.Prelude.{◌≡◌, ◌≤◌, []};
-ghost use Rattle.c8_board_tests.specs.Idle.{IsIdleRun, idle_rows};
+ghost use Rattle.std.specs.Prelude.{◌≡◌, ◌≤◌, [], IfOk};
+ghost use Rattle.c8_board_tests.specs.Idle.{IsIdleRun, first_start, idle_rows};
 
-use c8_board::{Board, Pen};
+use c8_board::laws::the_first_start_is_serial;
+use c8_board::{Board, Pen, Viewer};
 use c8_digest::mark;
 use c8_game::{Game, Keys, MOST_FRAMES, Row};
 use c8_machine::Machine;
@@ -42,6 +43,19 @@ impl<'g> Run<'g> {
         }
     }
 
+    /// A board on which this run is published, and its viewer.
+    pub(crate) fn shown(&self, alloc: Global) -> Result<(Board, Viewer), Fail>
+        ensures { IfOk result (λ r. r.1.board ≡ r.0) }
+    {
+        self.game.in_range();
+        the_first_start_is_serial();
+        let (board, _, mut viewers) = Board::open(alloc, self.game, self.count, &self.machine, 1)?;
+        match viewers.pop() {
+            Some(viewer) => Ok((board, viewer)),
+            None => Err(Fail::new("no viewer")),
+        }
+    }
+
     /// The first five bytes of the machine's mark, as a number.
     pub(crate) fn bits(&self) -> u64 {
         mark(&self.machine)
@@ -58,6 +72,7 @@ pub(crate) struct Publisher<'g> {
     pub(crate) pen: Pen,
     published: u32,
     ghost game_is: { pen.game ≡ run.game.now },
+    ghost from_is: { pen.from ≡ first_start run.game.now },
     ghost rows: { pen.rows ≡ idle_rows published },
     ghost earlier: { published ≤ run.count },
 }
@@ -65,6 +80,7 @@ pub(crate) struct Publisher<'g> {
 impl<'g> Publisher<'g> {
     pub(crate) fn start(game: &'g Game, pen: Pen) -> Publisher<'g>
         requires game { pen.game ≡ game.now }
+        requires from { pen.from ≡ first_start game.now }
         requires rows { pen.rows ≡ [] }
         ensures { result.pen ≡ pen }
     {
@@ -89,6 +105,8 @@ impl<'g> Publisher<'g> {
         requires { self.old.pen.board ≡ board.now }
         ensures { self.new.pen.board ≡ self.old.pen.board }
     {
+        self.run.game.in_range();
+        the_first_start_is_serial();
         let Run { machine, count, .. } = self.run;
         board.publish(&mut self.pen, count, &machine);
         self.published = count;

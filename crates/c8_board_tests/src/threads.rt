@@ -1,5 +1,6 @@
 //! A pen and two viewers, each in a thread of its own.
 ghost use Rattle.std.specs.Prelude.{◌≡◌, []};
+ghost use Rattle.c8_board_tests.specs.Idle.{first_start};
 
 use crate::board::opened;
 use crate::run::{Publisher, Run, counting};
@@ -28,6 +29,7 @@ fn bits_of_all(alloc: Global, game: &Game) -> Result<Vec<u64>, AllocError> {
 fn publish_all(board: &Board, pen: Pen, game: &Game)
     requires board { pen.board ≡ board.now }
     requires game { pen.game ≡ game.now }
+    requires from { pen.from ≡ first_start game.now }
     requires rows { pen.rows ≡ [] }
 {
     let mut publisher = Publisher::start(game, pen);

@@ -18,6 +18,7 @@ pub const SIM_ENDING: &str =
   give I P           P hears datagram I; the first one said is 0, and all can be heard again
   leave L            player 1 lets player L go
   decide L           player 1 decides where L's inputs end
+  check P            P records the next piece of a checkpoint, or, after all 36, their digest
   stop K PICK EVENT  the event's player stops inside the event: its disk fails after K more calls,
                      and then keeps what a crash leaves: with PICK 0 what was synced, with 1 what
                      was written, with any other a choice that the number makes
@@ -27,10 +28,11 @@ pub const SIM_ENDING: &str =
 P, TO and L are 1 to 4; I, K and PICK are decimals. Datagrams that no line gives are lost.
 
 Each event prints its number and what is answered: epoch N, now N confirmed N, datagram I length N,
-nothing, kept, out, leaving, cut N, stopped; up where P is open already, down where P is not open,
-none where there is no datagram I; or why it is refused, as '12 no tick 1 Threshold'. Then each
-player has a line: how far it is, how many frames it has confirmed, and how many inputs it holds of
-each player. The last line says whether all who were not let go agree.
+nothing, kept, out, leaving, cut N, piece N, checked N, stopped; up where P is open already, down
+where P is not open, none where there is no datagram I; or why it is refused, as
+'12 no tick 1 Threshold'. Then each player has a line: how far it is, how many frames it has
+confirmed, and how many inputs it holds of each player. The last line says whether all who were not
+let go agree.
 
 Refusals, each one line on standard error, as 'refused: script 1 Line':
   game 1 Line to 6 Memory: those of the command run

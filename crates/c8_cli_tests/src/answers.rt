@@ -2,7 +2,9 @@
 use c8_disk::DiskError;
 use c8_hand::HandError;
 use c8_known::KnownError;
-use c8_peer::{DecideError, Heard, LeaveError, OpenError, Refused, TickError, Unsayable};
+use c8_peer::{
+    Check, CheckError, DecideError, Heard, LeaveError, OpenError, Refused, TickError, Unsayable,
+};
 use c8_script::{write_answers, write_ends};
 use c8_wire::WireError;
 use c8_world::{Answer, Counts, Ends, Posted, Tally};
@@ -10,7 +12,7 @@ use std::alloc::Global;
 use std::test::Fail;
 
 /// What is answered, but for refusals.
-const ANSWERS: [Answer; 12] = [
+const ANSWERS: [Answer; 14] = [
     Answer::Opened(Ok(4_294_967_295)),
     Answer::Up,
     Answer::Ticked(Ok(Counts {
@@ -27,6 +29,8 @@ const ANSWERS: [Answer; 12] = [
     Answer::NoSuch,
     Answer::Left(Ok(())),
     Answer::Decided(Ok(262_148)),
+    Answer::Checked(Ok(Check::Piece(35))),
+    Answer::Checked(Ok(Check::Done(262_143))),
     Answer::Down,
     Answer::Stopped,
 ];
@@ -45,12 +49,14 @@ const TOLD_ANSWERS: &str = "1 epoch 4294967295
 8 none
 9 leaving
 10 cut 262148
-11 down
-12 stopped
+11 piece 35
+12 checked 262143
+13 down
+14 stopped
 ";
 
 /// What is refused, but for deliveries.
-const REFUSALS: [Answer; 23] = [
+const REFUSALS: [Answer; 26] = [
     Answer::Opened(Err(OpenError::WrongGame)),
     Answer::Opened(Err(OpenError::WrongPlayer)),
     Answer::Opened(Err(OpenError::BadRecord(7))),
@@ -74,6 +80,9 @@ const REFUSALS: [Answer; 23] = [
     Answer::Decided(Err(DecideError::NotReady)),
     Answer::Decided(Err(DecideError::Already)),
     Answer::Decided(Err(DecideError::Disk(DiskError::Full))),
+    Answer::Checked(Err(CheckError::Nothing)),
+    Answer::Checked(Err(CheckError::Dropped)),
+    Answer::Checked(Err(CheckError::Disk(DiskError::Failed))),
 ];
 
 fn refusals() -> &'static [Answer] {
@@ -103,6 +112,9 @@ const TOLD_REFUSALS: &str = "1 no open 1 WrongGame
 21 no decide 2 NotReady
 22 no decide 3 Already
 23 no decide 4 Disk
+24 no check 1 Nothing
+25 no check 2 Dropped
+26 no check 3 Disk
 ";
 
 /// Each refusal of a delivery that a peer that is up may give.

@@ -22,6 +22,7 @@ enum Deed {
     Give(u64, u8),
     Leave(u8),
     Decide(u8),
+    Check(u8),
 }
 
 const HELLO: u8 = 1;
@@ -38,7 +39,7 @@ const CUT: u8 = 6;
 
 /// Each shape of a line, and its act.
 #[rattlefmt::skip]
-const ACTS: [(&'static str, Deed); 20] = [
+const ACTS: [(&'static str, Deed); 22] = [
     ("open 1", Deed::Open(1)),
     ("open 4", Deed::Open(4)),
     ("tick 2 0aF9", Deed::Tick(2, 0x0af9)),
@@ -59,6 +60,8 @@ const ACTS: [(&'static str, Deed); 20] = [
     ("leave 3", Deed::Leave(3)),
     ("leave 1", Deed::Leave(1)),
     ("decide 4", Deed::Decide(4)),
+    ("check 1", Deed::Check(1)),
+    ("check 3", Deed::Check(3)),
 ];
 
 fn acts() -> &'static [(&'static str, Deed)] {
@@ -88,6 +91,7 @@ fn act_of(deed: Deed) -> Option<Act> {
         Deed::Give(number, who) => Some(Act::Give(number, Player::new(who)?)),
         Deed::Leave(who) => Some(Act::Leave(Player::new(who)?)),
         Deed::Decide(who) => Some(Act::Decide(Player::new(who)?)),
+        Deed::Check(who) => Some(Act::Check(Player::new(who)?)),
     }
 }
 

@@ -44,6 +44,7 @@ where
         turns: 10_000,
         patience: None,
         stop,
+        checkpoint: 1,
         progress: false,
         explain: false,
     };
@@ -65,6 +66,11 @@ fn two_peers_print_one_report(rt: HostRuntime) -> Result<(), Fail> {
     );
     assert!(rt; one.starts_with(b"frames 30\n"));
     assert!(rt; one.as_slice() == two.as_slice());
+    // A checkpoint stands in its journal, which has 61 records else, and it opens there to the same end.
+    let journal = fs::read(&rt, "cli_one.journal")?;
+    assert!(rt; journal.len() > 62 * 144);
+    let again = printed(&rt, 1, "cli_one.journal", here, there, Some(30));
+    assert!(rt; again.as_slice() == one.as_slice());
     // Nobody answers: it would go on for its turns.
     let stopped = printed(&rt, 1, "cli_alone.journal", here, there, Some(0));
     assert!(rt; stopped.starts_with(b"frames 0\n"));

@@ -119,6 +119,7 @@ where
         turns: 3,
         patience: None,
         stop: None,
+        checkpoint: 0,
         progress: false,
         explain: false,
     };

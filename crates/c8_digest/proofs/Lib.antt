@@ -4,3 +4,5 @@ pub mod StackLemmas
 pub mod StateLemmas
 pub mod LengthLemmas
 pub mod SameLemmas
+pub mod ReadLemmas
+pub mod MarkBytesLemmas

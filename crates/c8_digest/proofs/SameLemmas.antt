@@ -74,7 +74,7 @@ one_bit : (b : Bool) → (if b then 1 else 0) ≤ 1
 one_bit true = omega arith
 one_bit false = omega arith
 
-columns_lt : (p : Points) (y n : ℕ) → columns p y n < 2 ^ n
+pub columns_lt : (p : Points) (y n : ℕ) → columns p y n < 2 ^ n
 unfolding columns
 columns_lt p y zero = omega arith
 columns_lt p y (suc n) = omega (arith, columns_lt p y n, pow-suc 2 n, one_bit (p n y))
@@ -92,7 +92,7 @@ rows_same p q a (suc n) same y from to =
       | inr apart ↦ rows_same p q (a + 1) n both.1 y (omega (arith, from, apart)) (omega (arith, to))
     ]
 
-off : (p : Points) (x y : ℕ) → AreOnScreen p → ((x < 64) → (y < 32) → ⊥) → p x y ≡ false
+pub off : (p : Points) (x y : ℕ) → AreOnScreen p → ((x < 64) → (y < 32) → ⊥) → p x y ≡ false
 off p x y on outside = ⊎_elim (λ lit. absurd (outside (on x y lit).0 (on x y lit).1)) (λ dark. dark) (cases_Bool (p x y))
 
 points_same : (p q : Points) → AreOnScreen p → AreOnScreen q → screen_bytes p ≡ screen_bytes q → (x y : ℕ) → p x y ≡ q x y

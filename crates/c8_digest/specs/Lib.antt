@@ -1,2 +1,5 @@
 pub mod StateBytes
+pub mod Reading
 pub mod Marks
+pub mod Origin
+pub mod checked

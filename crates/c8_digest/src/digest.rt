@@ -41,7 +41,7 @@ pub fn mark(machine: &Machine) -> [u8; MARK_LENGTH]
 }
 
 #[tactic(auto, unfolding(crate::specs::StateBytes::state_bytes))]
-fn spelled(machine: &Machine) -> ArrayVec<u8, STATE_LENGTH>
+pub(crate) fn spelled(machine: &Machine) -> ArrayVec<u8, STATE_LENGTH>
     ensures bytes { result.items ≡ state_bytes (state machine.now) }
     ensures length { array_vec_len result ≡ STATE_LENGTH }
 {
@@ -125,8 +125,8 @@ fn row_bytes(row: u64) -> [u8; 8]
 }
 
 /// Appends bytes.
-fn put(bytes: &[u8], out: &mut ArrayVec<u8, STATE_LENGTH>)
-    requires { array_vec_len out.old + length bytes.now ≤ STATE_LENGTH }
+pub(crate) fn put<const N: usize>(bytes: &[u8], out: &mut ArrayVec<u8, N>)
+    requires { array_vec_len out.old + length bytes.now ≤ N }
     ensures bytes { out.new.items ≡ out.old.items ++ bytes.now }
     ensures size { array_vec_len out.new ≡ array_vec_len out.old + length bytes.now }
 {

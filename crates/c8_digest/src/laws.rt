@@ -1,10 +1,11 @@
 //! What callers may rest on that is no single call's, each the contract of a function that does
 //! nothing.
-ghost use Rattle.std.specs.Prelude.{◌≡◌, ◌≤◌, ℕ, List, [], ◌∷◌, ◌++◌, length, Some, slice_get};
+ghost use Rattle.std.specs.Prelude.{◌≡◌, ◌≤◌, true, ℕ, List, [], ◌∷◌, ◌++◌, length, Some, slice_get};
 ghost use Rattle.c8_machine.specs.State.{State, IsState};
 ghost use Rattle.c8_digest.specs.declared.marks.FrameMark.{FrameMark};
 ghost use Rattle.c8_digest.specs.StateBytes.{state_length, state_bytes};
-ghost use Rattle.c8_digest.specs.Marks.{most_marks, kept, mark_at, newest_of, IsLastFor};
+ghost use Rattle.c8_digest.specs.Reading.{state_in};
+ghost use Rattle.c8_digest.specs.Marks.{most_marks, kept, mark_at, newest_of, IsLastFor, AreMarksAfter, marks_bytes, marks_in, are_marks};
 
 /// The bytes of a state that a machine can have are 4419.
 pub fn state_bytes_are_4419()
@@ -15,6 +16,11 @@ pub fn state_bytes_are_4419()
 /// reader makes of bytes, if it has these bytes, it is the state that they were made of.
 pub fn state_bytes_tell_the_state()
     ensures { (s t : State) → IsState s → IsState t → state_bytes s ≡ state_bytes t → s ≡ t }
+{}
+
+/// The bytes of a state that a machine can have tell it.
+pub fn states_are_read_again()
+    ensures { (s : State) → IsState s → state_in (state_bytes s) ≡ s }
 {}
 
 /// Keeping sixteen after every put leaves the last sixteen of all that were put, the newest among
@@ -39,4 +45,12 @@ pub fn kept_marks_are_found()
     ensures { (marks : List FrameMark) (place : ℕ) (m : FrameMark)
         → slice_get marks place ≡ Some m → IsLastFor marks place m.frame
         → mark_at m.frame marks ≡ Some m.mark }
+{}
+
+/// Marks that are kept after so many frames are read again from their bytes, behind which there are zeros.
+pub fn marks_are_read_again()
+    ensures read { (frames : ℕ) (marks : List FrameMark) → AreMarksAfter frames marks
+        → marks_in frames (marks_bytes marks) ≡ marks }
+    ensures zeros { (frames : ℕ) (marks : List FrameMark) → AreMarksAfter frames marks
+        → are_marks frames (marks_bytes marks) ≡ true }
 {}

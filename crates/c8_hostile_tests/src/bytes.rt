@@ -182,8 +182,11 @@ fn slot_of(kind: u64, player: u64, start: u64, count: u64) -> Letter {
     slot
 }
 
+/// The HEAD: in version 2 of the datagrams of a journal of the second form, in version 1 of one of the
+/// first, which goes on in the second.
 fn head(scene: &Scene) -> Letter {
-    let mut slot = slot_with(1, scene.me, 1, 0, 20);
+    let form = if scene.table.wire == 2 { 2 } else { 0 };
+    let mut slot = slot_with(1, scene.me, 1, form, 20);
     for byte in scene.table.id {
         slot.put(u64::from(byte), 1);
     }

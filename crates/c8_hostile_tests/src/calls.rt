@@ -9,7 +9,9 @@ use crate::scene::{ROOM, THREE, THREE_IN_PAIRS, Table};
 use crate::told::{Tells, telling};
 use c8_disk::MemDisk;
 use c8_game::{Game, Keys, Player};
-use c8_peer::{DecideError, Heard, Kind, LeaveError, Peer, Refused, TickError, Unsayable};
+use c8_peer::{
+    Check, CheckError, DecideError, Heard, Kind, LeaveError, Peer, Refused, TickError, Unsayable,
+};
 use rand_pcg::Pcg32;
 use rand_pcg::rand_core::SeedableRng;
 use rand_pcg::rand_core::utils::NextWord;
@@ -33,6 +35,7 @@ enum Call {
     Hear(usize, usize, u8),
     Leave,
     Decide,
+    Check,
 }
 
 #[derive(Clone, Copy, PartialEq, Eq)]
@@ -42,6 +45,7 @@ enum Answer {
     Heard(Result<Heard, Refused>),
     Left(Result<(), LeaveError>),
     Decided(Result<u32, DecideError>),
+    Checked(Result<Check, CheckError>),
 }
 
 /// The peers of a match.
@@ -89,6 +93,7 @@ fn answered(peer: &mut Peer<'_, MemDisk>, call: Call, letters: &mut [Letter; HEL
         }
         Call::Leave => Answer::Left(peer.leave(LEAVER)),
         Call::Decide => Answer::Decided(peer.decide(LEAVER)),
+        Call::Check => Answer::Checked(peer.checkpoint()),
     }
 }
 
@@ -201,6 +206,7 @@ impl Chance {
             18 if number > CALLS / 2 => (0, Call::Leave),
             19 => (0, Call::Decide),
             20..26 => (self.below(3), self.letter()),
+            26..29 => (self.below(3), Call::Check),
             _ => (self.to, Call::Hear(HELD - 1, 0, 0)),
         }
     }
@@ -214,6 +220,8 @@ struct Counted {
     left: u32,
     decided: u32,
     out: u32,
+    /// Checkpoints that are whole.
+    checked: u32,
 }
 
 fn count(counted: &mut Counted, answer: Answer) {
@@ -223,6 +231,7 @@ fn count(counted: &mut Counted, answer: Answer) {
         Answer::Heard(Ok(Heard::Out)) => &mut counted.out,
         Answer::Left(Ok(_)) => &mut counted.left,
         Answer::Decided(Ok(_)) => &mut counted.decided,
+        Answer::Checked(Ok(Check::Done(_))) => &mut counted.checked,
         _ => return,
     };
     *number = number.saturating_add(1);
@@ -240,6 +249,7 @@ fn play(one: &mut Match<'_>, other: &mut Match<'_>, seed: u64) -> Option<Counted
         left: 0,
         decided: 0,
         out: 0,
+        checked: 0,
     };
     let mut letters = [Letter::new(); HELD];
     let mut others = letters;
@@ -271,6 +281,7 @@ fn has_some_of_each(counted: Counted) -> bool {
         && counted.left == 1
         && counted.decided == 1
         && counted.out == 1
+        && counted.checked > 1
 }
 
 #[test]

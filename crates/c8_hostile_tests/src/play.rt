@@ -115,7 +115,7 @@ impl<'a> Stage<'a> {
 
     /// Whether a disk holds the journal, the epoch that began, this slot, and a closed gate.
     fn is_recorded(self, bytes: &[u8], slot: &Option<Letter>) -> bool {
-        let epoch = slot_with(2, self.scene.me, EPOCH, 0, 0);
+        let epoch = slot_with(2, self.scene.me, EPOCH, 2, 0);
         let held = self.image.len().saturating_sub(1);
         let (count, is_slot) = match slot {
             Some(slot) => (2, has_slot(bytes, held.saturating_add(144), slot)),

@@ -3,13 +3,14 @@ use Rattle.std.specs.Prelude.{ℕ, List, [], ◌∷◌, ◌++◌, length, Bool, 
 use Rattle.std.specs.List.{count_by, flat_map, list_any, slice_get}
 use Rattle.c8_game.specs.Rules.{Rules}
 
--- A record, with all that its spelling says. Head, Epoch and Own are of the player whose journal it is, the others of
--- the player whom they name. A start is the place in the player's list of inputs where the record's inputs stand.
+-- A record, with all that its spelling says. Head, Epoch, Own, State and Check are of the player whose journal it is, the
+-- others of the player whom they name. A start is the place in the player's list of inputs where the record's inputs stand.
+-- A form is 0 or 2: that of the records from there on, of which the second has State and Check too.
 pub data Record : Type 0 where
   -- whose journal this is, and of which match: the game's id in 32 bytes, and the room
-  Head : (player : ℕ) → (id : List ℕ) → (room : ℕ) → Record
+  Head : (player : ℕ) → (form : ℕ) → (id : List ℕ) → (room : ℕ) → Record
   -- the peer was opened again
-  Epoch : (player : ℕ) → (number : ℕ) → Record
+  Epoch : (player : ℕ) → (number : ℕ) → (form : ℕ) → Record
   -- the own player entered a key set
   Own : (player : ℕ) → (start : ℕ) → (word : ℕ) → Record
   -- key sets of another player came
@@ -20,75 +21,93 @@ pub data Record : Type 0 where
   Leave : (player : ℕ) → Record
   -- the player's list of inputs ends at a length, and these are the last of them
   Cut : (player : ℕ) → (length : ℕ) → (start : ℕ) → (words : List ℕ) → Record
+  -- a piece of a checkpoint: of the bytes of the machine after so many confirmed frames, and of its marks
+  State : (player : ℕ) → (frames : ℕ) → (piece : ℕ) → (words : List ℕ) → Record
+  -- all pieces of a checkpoint stand, and this is their digest
+  Check : (player : ℕ) → (frames : ℕ) → (words : List ℕ) → Record
 
 -- ---- what one record says
 
 -- of whom it is
 abbrev pub player_of : Record → ℕ
-player_of (Head player id room) = player
-player_of (Epoch player number) = player
+player_of (Head player form id room) = player
+player_of (Epoch player number form) = player
 player_of (Own player start word) = player
 player_of (Got player start words) = player
 player_of (Freeze player) = player
 player_of (Leave player) = player
 player_of (Cut player length start words) = player
+player_of (State player frames piece words) = player
+player_of (Check player frames words) = player
 
 -- the inputs that it adds to a player's list
 abbrev pub words_of : ℕ → Record → List ℕ
-words_of q (Head player id room) = []
-words_of q (Epoch player number) = []
+words_of q (Head player form id room) = []
+words_of q (Epoch player number form) = []
 words_of q (Own player start word) = if player == q then word ∷ [] else []
 words_of q (Got player start words) = if player == q then words else []
 words_of q (Freeze player) = []
 words_of q (Leave player) = []
 words_of q (Cut player length start words) = if player == q then words else []
+words_of q (State player frames piece words) = []
+words_of q (Check player frames words) = []
 
 abbrev pub is_own : Record → Bool
-is_own (Head player id room) = false
-is_own (Epoch player number) = false
+is_own (Head player form id room) = false
+is_own (Epoch player number form) = false
 is_own (Own player start word) = true
 is_own (Got player start words) = false
 is_own (Freeze player) = false
 is_own (Leave player) = false
 is_own (Cut player length start words) = false
+is_own (State player frames piece words) = false
+is_own (Check player frames words) = false
 
 -- the epoch that it begins; a HEAD begins epoch 1
 abbrev pub epochs_of : Record → List ℕ
-epochs_of (Head player id room) = 1 ∷ []
-epochs_of (Epoch player number) = number ∷ []
+epochs_of (Head player form id room) = 1 ∷ []
+epochs_of (Epoch player number form) = number ∷ []
 epochs_of (Own player start word) = []
 epochs_of (Got player start words) = []
 epochs_of (Freeze player) = []
 epochs_of (Leave player) = []
 epochs_of (Cut player length start words) = []
+epochs_of (State player frames piece words) = []
+epochs_of (Check player frames words) = []
 
 abbrev pub freezes : ℕ → Record → Bool
-freezes q (Head player id room) = false
-freezes q (Epoch player number) = false
+freezes q (Head player form id room) = false
+freezes q (Epoch player number form) = false
 freezes q (Own player start word) = false
 freezes q (Got player start words) = false
 freezes q (Freeze player) = player == q
 freezes q (Leave player) = false
 freezes q (Cut player length start words) = false
+freezes q (State player frames piece words) = false
+freezes q (Check player frames words) = false
 
 abbrev pub lets_go : ℕ → Record → Bool
-lets_go q (Head player id room) = false
-lets_go q (Epoch player number) = false
+lets_go q (Head player form id room) = false
+lets_go q (Epoch player number form) = false
 lets_go q (Own player start word) = false
 lets_go q (Got player start words) = false
 lets_go q (Freeze player) = false
 lets_go q (Leave player) = player == q
 lets_go q (Cut player length start words) = false
+lets_go q (State player frames piece words) = false
+lets_go q (Check player frames words) = false
 
 -- the length at which it cuts a player's list
 abbrev pub cuts_of : ℕ → Record → List ℕ
-cuts_of q (Head player id room) = []
-cuts_of q (Epoch player number) = []
+cuts_of q (Head player form id room) = []
+cuts_of q (Epoch player number form) = []
 cuts_of q (Own player start word) = []
 cuts_of q (Got player start words) = []
 cuts_of q (Freeze player) = []
 cuts_of q (Leave player) = []
 cuts_of q (Cut player length start words) = if player == q then length ∷ [] else []
+cuts_of q (State player frames piece words) = []
+cuts_of q (Check player frames words) = []
 
 -- ---- what a journal says
 

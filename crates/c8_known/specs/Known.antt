@@ -3,7 +3,7 @@ use Rattle.std.specs.Prelude.{ℕ, ◌+◌, ◌-◌, ◌≡◌, ◌≤◌, List,
 use Rattle.std.specs.List.{range_with_len}
 use Rattle.c8_game.specs.Rules.{Rules, limit_of, most_inputs}
 use Rattle.c8_known.specs.Journal as journals
-use Rattle.c8_known.specs.Journal.{Record, Head, Epoch, Own, Got, Freeze, Leave, Cut, player_of}
+use Rattle.c8_known.specs.Journal.{Record, Head, Epoch, Own, Got, Freeze, Leave, Cut, State, Check, player_of}
 
 -- what is known of one player: its inputs as far as they are held, whether a FREEZE and whether a LEAVE of it stands,
 -- and the length at which its list is cut, if it is
@@ -78,13 +78,15 @@ abbrev pub with_cut : PlayerValue → ℕ → PlayerValue
 with_cut p length = record p { cut = cut_at p.cut length }
 
 abbrev pub with_record : KnownValue → Record → KnownValue
-with_record k (Head player id room) = k
-with_record k (Epoch player number) = k
+with_record k (Head player form id room) = k
+with_record k (Epoch player number form) = k
 with_record k (Own player start word) = record (with_player k player (with_words (player_in k player) (word ∷ []))) { ticks = k.ticks + 1 }
 with_record k (Got player start words) = with_player k player (with_words (player_in k player) words)
 with_record k (Freeze player) = with_player k player (record (player_in k player) { frozen = true })
 with_record k (Leave player) = with_player k player (record (player_in k player) { leaving = true })
 with_record k (Cut player length start words) = with_player k player (with_cut (with_words (player_in k player) words) length)
+with_record k (State player frames piece words) = k
+with_record k (Check player frames words) = k
 
 -- ---- what is true of all that a peer can know
 

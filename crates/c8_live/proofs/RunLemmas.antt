@@ -1,18 +1,24 @@
 -- How runs of one peer are put together.
-use Rattle.std.proofs.Common.{◌≡◌, ℕ, List, [], ◌∷◌, ◌++◌, Option, Some, refl, sym, ap, subst, ◌∙◌, map, append_assoc, arith}
-use Rattle.std.proofs.lemmas.List.{map-append}
+use Rattle.std.proofs.Common.{◌≡◌, ℕ, List, [], ◌∷◌, ◌++◌, true, false, Option, Some, None, refl, sym, ap, subst, ◌∙◌, map, append_assoc, arith}
+use Rattle.std.specs.Prelude.{option_to_list}
+use Rattle.std.proofs.lemmas.List.{map-append, append-nil}
 use Rattle.c8_game.specs.Rules.{Rules}
 use Rattle.c8_disk.specs.declared.disk.Disk.{Ghosts}
 use Rattle.c8_disk.specs.checked.RunLaws.{same_then}
 use Rattle.c8_peer.specs.State.{State, Call, Reply}
-use Rattle.c8_peer.specs.Steps.{Works}
-use Rattle.c8_peer.specs.Peer.{PeerValue, IsAnswered, known_by, luck_of}
-use Rattle.c8_peer.specs.Runs.{Deed, Does, IsDone, IsRun}
+use Rattle.c8_peer.specs.Steps.{Works, Stepped}
+use Rattle.c8_peer.specs.Opening.{opening_record, Stands, opened}
+use Rattle.c8_peer.specs.Opened.{bodies_found, IsOpened}
+use Rattle.c8_peer.specs.TrueChecks.{HasTrueChecks}
+use Rattle.c8_peer.specs.Peer.{PeerValue, IsAnswered, known_by, begun_by, luck_of}
+use Rattle.c8_peer.specs.Runs.{Deed, Does, IsDone, IsRun, TellsTruly}
+use Rattle.c8_record.specs.Body.{records_of}
 use Rattle.c8_game.specs.declared.row.Row.{Row}
 use Rattle.c8_known.specs.Journal.{Record}
 use Rattle.c8_known.specs.Known.{known_of}
 use Rattle.c8_known.specs.Confirmed.{confirmed_rows}
 use Rattle.c8_known.specs.Growth.{Begins as BeginsKnown}
+use Rattle.c8_check.specs.Checks.{begun_at}
 use Rattle.c8_board.specs.Tokens.{Begins}
 use Rattle.c8_live.specs.declared.error.SessionError.{SessionError}
 use Rattle.c8_live.specs.declared.error.SessionError.TheVariants.{Disk, Wire}
@@ -85,6 +91,28 @@ ended disk join first middle last (Disk why) ran end = record {
   refused = end.refused;
 }
 ended disk join first middle last (Wire failed) ran end = tt
+
+-- its machine began where it did, told of the rules that are the same
+pub begun_still : {D : Type 0} (disk : Ghosts D) (old new : PeerValue D) → HasRunOn disk old new → begun_at old.rules new.state.journal ≡ begun_at old.rules old.state.journal → begun_by new ≡ begun_by old
+begun_still disk old new ran same = ap (λ (rules : Rules). begun_at rules new.state.journal) ran.rules ∙ same
+
+-- ---- checkpoints
+
+-- what a reading finds where nothing is pending
+tells_alone : (rules : Rules) (me : ℕ) (s : State) → s.pending ≡ None → HasTrueChecks rules me s.journal → TellsTruly rules me s
+tells_alone rules me s none are true = subst (HasTrueChecks rules me) (sym (ap (λ (o : Option Record). s.journal ++ option_to_list o) none ∙ append-nil s.journal)) are
+tells_alone rules me s none are false = are
+
+-- an opened peer's journal is what was found and the opening's record
+pub opened_tells : {D : Type 0} (g : Ghosts D) (disk : D) (rules : Rules) (room me : ℕ) (p : PeerValue D) → IsOpened g disk rules room me p
+    → HasTrueChecks rules me (records_of (bodies_found g disk) ++ opening_record rules room me (records_of (bodies_found g disk)) ∷ []) → TellsTruly p.rules p.me p.state
+opened_tells g disk rules room me p is are =
+    let found : List Record = records_of (bodies_found g disk) in
+    let same : p.state ≡ (opened rules room me p.state found Stands).state = ap (λ (s : Stepped). s.state) (is.opening p.state) in
+    subst (λ (r : Rules). TellsTruly r p.me p.state) (sym is.rules_are)
+    (subst (λ (n : ℕ). TellsTruly rules n p.state) (sym is.me_is)
+    (tells_alone rules me p.state (ap (λ (s : State). s.pending) same)
+    (subst (λ (s : State). HasTrueChecks rules me s.journal) (sym same) are)))
 
 -- ---- rows
 

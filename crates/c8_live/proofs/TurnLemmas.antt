@@ -9,7 +9,7 @@ use Rattle.c8_peer.specs.Peer.{PeerValue, IsAnswered, IsSaid, luck_of}
 use Rattle.c8_peer.specs.Runs.{Does, IsDone}
 use Rattle.c8_live.specs.declared.wire.Wire.{Ghosts as WireGhosts}
 use Rattle.c8_live.specs.Runs.{HasRunOn}
-use Rattle.c8_live.specs.Turns.{Doing, Hears, Ticks, LetsGo, Cuts, Speaks, doing, HasDone, HasTicked, AreDeliveriesOf, HasHeardOf, HasHeard, most_packets, WereSaid, HasSpoken, IsTurn, AreTurns}
+use Rattle.c8_live.specs.Turns.{Doing, Hears, Ticks, LetsGo, Cuts, Saves, Speaks, doing, HasDone, HasDoneOnce, AreDeliveriesOf, HasHeardOf, HasHeard, most_packets, WereSaid, HasSpoken, IsTurn, AreTurns}
 use Rattle.c8_live.specs.Wire.{MayTake}
 use Rattle.c8_live.proofs.RunLemmas.{RunsJoin, still, joined, once, says}
 
@@ -127,20 +127,21 @@ module _ {D W : Type 0} (disk : DiskGhosts D) (wire : WireGhosts W) where
 
   -- ---- turns
 
-  abbrev pub turn_of : (old heard ticked let_go new : PeerValue D) (before between after : W) → HasHeard disk wire most_packets old heard before between → HasTicked disk heard ticked → HasDone disk LetsGo ticked let_go
-      → HasDone disk Cuts let_go new → HasSpoken disk wire new between after → IsTurn disk wire old new before after
-  turn_of old heard ticked let_go new before between after hears ticks lets_go cuts speaks =
-      record { heard = heard; ticked = ticked; let_go = let_go; between = between; hears = hears; ticks = ticks; lets_go = lets_go; cuts = cuts; speaks = speaks }
+  abbrev pub turn_of : (old heard ticked let_go cut new : PeerValue D) (before between after : W) → HasHeard disk wire most_packets old heard before between → HasDoneOnce disk Ticks heard ticked → HasDone disk LetsGo ticked let_go
+      → HasDone disk Cuts let_go cut → HasDoneOnce disk Saves cut new → HasSpoken disk wire new between after → IsTurn disk wire old new before after
+  turn_of old heard ticked let_go cut new before between after hears ticks lets_go cuts saves speaks =
+      record { heard = heard; ticked = ticked; let_go = let_go; cut = cut; between = between; hears = hears; ticks = ticks; lets_go = lets_go; cuts = cuts; saves = saves; speaks = speaks }
 
-  abbrev pub no_tick : (p : PeerValue D) → HasTicked disk p p
-  no_tick p = (done_still disk Ticks p, omega arith)
+  abbrev pub none_done : (what : Doing) (p : PeerValue D) → HasDoneOnce disk what p p
+  none_done what p = (done_still disk what p, omega arith)
 
   pub turn_ran : RunsJoin → (old new : PeerValue D) (before after : W) → IsTurn disk wire old new before after → HasRunOn disk old new
   turn_ran join old new before after turn =
       joined disk join old turn.heard new turn.hears.heard.0.ran
       (joined disk join turn.heard turn.ticked new turn.ticks.0.ran
       (joined disk join turn.ticked turn.let_go new turn.lets_go.ran
-      (joined disk join turn.let_go new new turn.cuts.ran turn.speaks.done.ran)))
+      (joined disk join turn.let_go turn.cut new turn.cuts.ran
+      (joined disk join turn.cut new new turn.saves.0.ran turn.speaks.done.ran))))
 
   pub turns_more : (n : ℕ) (old middle new : PeerValue D) (before between after : W) → AreTurns disk wire n old middle before between → IsTurn disk wire middle new between after
       → AreTurns disk wire (n + 1) old new before after

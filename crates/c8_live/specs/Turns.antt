@@ -4,7 +4,7 @@ use Rattle.std.specs.List.{All}
 use Rattle.c8_disk.specs.declared.disk.Disk.{Ghosts as DiskGhosts}
 use Rattle.c8_wire.specs.Packet.{Packet}
 use Rattle.c8_wire.specs.Spelling.{Spells}
-use Rattle.c8_peer.specs.State.{Call, Reply, Tick, Deliver, Say, Leave, Decide, Said}
+use Rattle.c8_peer.specs.State.{Call, Reply, Tick, Deliver, Say, Leave, Decide, Checkpoint, Said}
 use Rattle.c8_peer.specs.Steps.{Luck}
 use Rattle.c8_peer.specs.Peer.{PeerValue}
 use Rattle.c8_live.specs.declared.wire.Wire.{Ghosts as WireGhosts}
@@ -17,6 +17,7 @@ pub data Doing : Type 0 where
   Ticks : Doing
   LetsGo : Doing
   Cuts : Doing
+  Saves : Doing
   Speaks : Doing
 
 abbrev pub doing : Call → Doing
@@ -24,6 +25,7 @@ doing (Deliver told) = Hears
 doing (Tick keys) = Ticks
 doing (Leave leaver) = LetsGo
 doing (Decide leaver) = Cuts
+doing Checkpoint = Saves
 doing (Say to what) = Speaks
 
 -- a run of calls that all do the same
@@ -32,8 +34,8 @@ pub record HasDone {D : Type 0} (disk : DiskGhosts D) (what : Doing) (old new : 
   pub alike : All (λ (call : Call × Luck). doing call.0 ≡ what) ran.calls
 
 -- and once at most
-abbrev pub HasTicked : {D : Type 0} → DiskGhosts D → PeerValue D → PeerValue D → Type 0
-HasTicked disk old new = (done : HasDone disk Ticks old new) × (length done.ran.calls ≤ 1)
+abbrev pub HasDoneOnce : {D : Type 0} → DiskGhosts D → Doing → PeerValue D → PeerValue D → Type 0
+HasDoneOnce disk what old new = (done : HasDone disk what old new) × (length done.ran.calls ≤ 1)
 
 -- ---- what is heard
 
@@ -84,17 +86,19 @@ pub record HasSpoken {D W : Type 0} (disk : DiskGhosts D) (wire : WireGhosts W) 
 abbrev pub most_packets : ℕ
 most_packets = 256
 
--- A turn: the peer hears what the wire gives, at most `most_packets` packets, ticks at most once, lets go, cuts and speaks. Where the
--- disk or the wire ends it, nothing follows.
+-- A turn: the peer hears what the wire gives, at most `most_packets` packets, ticks at most once, lets go, cuts, records of a checkpoint
+-- at most once and speaks. Where the disk or the wire ends it, nothing follows.
 pub record IsTurn {D W : Type 0} (disk : DiskGhosts D) (wire : WireGhosts W) (old new : PeerValue D) (before after : W) : Type 0 where
   pub heard : PeerValue D
   pub ticked : PeerValue D
   pub let_go : PeerValue D
+  pub cut : PeerValue D
   pub between : W
   pub hears : HasHeard disk wire most_packets old heard before between
-  pub ticks : HasTicked disk heard ticked
+  pub ticks : HasDoneOnce disk Ticks heard ticked
   pub lets_go : HasDone disk LetsGo ticked let_go
-  pub cuts : HasDone disk Cuts let_go new
+  pub cuts : HasDone disk Cuts let_go cut
+  pub saves : HasDoneOnce disk Saves cut new
   pub speaks : HasSpoken disk wire new between after
 
 -- so many turns, one after another; between two of them nothing is given or sent

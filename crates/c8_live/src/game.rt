@@ -1,31 +1,39 @@
 //! The thread that owns the peer, so that the machine never waits for the network.
-ghost use Rattle.std.specs.Prelude.{◌≡◌, ◌≤◌, ℕ, List, length, IfOk, IfErr};
-ghost use Rattle.c8_board.specs.Tokens.{Begins};
+ghost use Rattle.std.specs.Prelude.{◌≡◌, ◌≤◌, ℕ, List, length, vec_len, IfOk, IfErr};
+ghost use Rattle.std.specs.List.{All};
+ghost use Rattle.c8_board.specs.Starts.{RunValue, start_of, origin_from};
+ghost use Rattle.c8_board.specs.Tokens.{Begins, new_viewer};
 ghost use Rattle.c8_game.specs.Rules.{most_frames};
 ghost use Rattle.c8_game.specs.declared.row.Row.{Row};
 ghost use Rattle.c8_known.specs.Confirmed.{confirmed_rows};
 ghost use Rattle.c8_machine.specs.State.{state};
-ghost use Rattle.c8_machine.specs.Serial.{serial};
-ghost use Rattle.c8_peer.specs.Peer.{known_by, IsSound};
-ghost use Rattle.c8_live.specs.Published.{IsShown};
+ghost use Rattle.c8_digest.specs.Origin.{run_since};
+ghost use Rattle.c8_peer.specs.Peer.{known_by, begun_by, IsSound};
+ghost use Rattle.c8_live.specs.Published.{IsShown, MayShow, pen_at, viewer_at};
 ghost use Rattle.c8_live.specs.Runs.{HasRunOn, IsEnd};
 ghost use Rattle.c8_live.specs.Turns.{AreTurns};
 
 use crate::counters::Counters;
 use crate::error::SessionError;
 use crate::gate::{Gate, Worker};
-use crate::laws::{confirmed_rows_grow, peers_run_on, turns_join};
+use crate::laws::{confirmed_rows_grow, machines_begin_where_they_did, peers_run_on, turns_join};
 use crate::session::Session;
 use crate::wire::Wire;
-use c8_board::{Board, Pen};
+use c8_board::laws::starts_tell_origins;
+use c8_board::{Board, Pen, Viewer};
 use c8_disk::Disk;
+use c8_game::Game;
 use c8_machine::Machine;
 use c8_peer::Peer;
+use c8_record::laws::checkpoints_are_in_order;
+use std::alloc::{AllocError, Global};
 
 /// Makes turns of a session, at most so many, until it is over, a viewer of the board asks for the
 /// end, or the gate ends it; answers how many it made. Before the first one and after each the pen
-/// publishes what is confirmed, and after each the counters note it. The error is that of the disk or
-/// of the wire; the pen shows what was confirmed before that turn then.
+/// publishes what is confirmed, and after each the counters note it. The board's run begins where the
+/// peer's machine began, so that what is shown is at the serial run where the checkpoints of the
+/// peer's journal are true (`true_checks_show_the_serial_run`). The error is that of the disk or of
+/// the wire; the pen shows what was confirmed before that turn then.
 pub fn game_worker<D: Disk, W: Wire, G: Gate>(
     session: &mut Session<'_, D>,
     wire: &mut W,
@@ -37,18 +45,21 @@ pub fn game_worker<D: Disk, W: Wire, G: Gate>(
 ) -> Result<u64, SessionError>
     requires board { pen.old.board ≡ board.now }
     requires game { pen.old.game ≡ session.old.peer.rules }
+    requires from { origin_from pen.old.from ≡ begun_by session.old.peer }
     requires rows { Begins pen.old.rows (confirmed_rows (known_by session.old.peer)) }
     ensures turns { (n : ℕ)
         × AreTurns D.Disk W.Wire n session.old.peer session.new.peer wire.old wire.new }
     ensures ran { HasRunOn D.Disk session.old.peer session.new.peer }
     ensures end { IfErr result (IsEnd D.Disk session.old.peer session.new.peer) }
     ensures shown { IfOk result (λ made. IsShown session.new.peer pen.old pen.new) }
-    ensures pen { (pen.new.board ≡ pen.old.board) × (pen.new.game ≡ pen.old.game) }
+    ensures pen { (pen.new.board ≡ pen.old.board) × (pen.new.game ≡ pen.old.game)
+        × (pen.new.from ≡ pen.old.from) }
     ensures begins { Begins pen.old.rows pen.new.rows }
 {
     peers_run_on::<D>();
     turns_join::<D, W>();
     confirmed_rows_grow::<D>();
+    machines_begin_where_they_did::<D>();
     let mut made: u64 = 0;
     publish(session.peer(), board, pen);
     for turn in 0..turns {
@@ -64,10 +75,65 @@ pub fn game_worker<D: Disk, W: Wire, G: Gate>(
     Ok(made)
 }
 
+/// A board of the game, which shows what is confirmed at a peer, with its pen and 1 to 4 viewers. Its run
+/// begins where the peer's machine began. The error is want of memory.
+pub fn open_board<D: Disk>(
+    alloc: Global,
+    game: &Game,
+    peer: &Peer<'_, D>,
+    viewers: usize,
+) -> Result<(Board, Pen, Vec<Viewer>), AllocError>
+    requires game { game.now ≡ peer.now.rules }
+    requires some { 1 ≤ viewers }
+    requires few { viewers ≤ 4 }
+    ensures pen { IfOk result (λ r. r.1 ≡ pen_at r.0 peer.now) }
+    ensures shows { IfOk result (λ r. MayShow peer.now r.1) }
+    ensures viewers { IfOk result (λ r. All (λ v. v ≡ viewer_at r.0 peer.now) r.2.items) }
+    ensures count { IfOk result (λ r. vec_len r.2 ≡ viewers) }
+{
+    // For the proof: the peer is sound, its frames are within the game's, and where its machine began
+    // can be told as data.
+    let _down = peer.is_down();
+    let _confirmed = peer.confirmed();
+    checkpoints_are_in_order();
+    starts_tell_origins();
+    let (frames, machine) = peer.base();
+    open_at(alloc, peer, game, frames, machine, viewers)
+}
+
+/// The same of a machine and its count that are the peer's.
+fn open_at<D: Disk>(
+    alloc: Global,
+    _peer: &Peer<'_, D>,
+    game: &Game,
+    count: u32,
+    machine: &Machine,
+    viewers: usize,
+) -> Result<(Board, Pen, Vec<Viewer>), AllocError>
+    ghost run: { RunValue }
+    requires run { run ≡ record {
+      from = start_of (begun_by _peer.now);
+      rows = confirmed_rows (known_by _peer.now);
+    } }
+    requires count { count ≡ length run.rows }
+    requires frames { count ≤ most_frames }
+    requires machine { state machine.now ≡ run_since game.now (origin_from run.from) run.rows }
+    requires some { 1 ≤ viewers }
+    requires few { viewers ≤ 4 }
+    ensures pen { IfOk result (λ r.
+        r.1 ≡ record { board = r.0; game = game.now; from = run.from; rows = run.rows }) }
+    ensures viewers { IfOk result (λ r.
+        All (λ v. v ≡ new_viewer r.0 game.now run.from run.rows) r.2.items) }
+    ensures count { IfOk result (λ r. vec_len r.2 ≡ viewers) }
+{
+    Board::open(alloc, game, count, machine, viewers)
+}
+
 /// The pen publishes what is confirmed at a peer.
 fn publish<D: Disk>(peer: &Peer<'_, D>, board: &Board, pen: &mut Pen)
     requires board { pen.old.board ≡ board.now }
     requires game { pen.old.game ≡ peer.now.rules }
+    requires from { origin_from pen.old.from ≡ begun_by peer.now }
     requires rows { Begins pen.old.rows (confirmed_rows (known_by peer.now)) }
     ensures shown { IsShown peer.now pen.old pen.new }
     ensures sound { IsSound D.Disk peer.now }
@@ -87,7 +153,8 @@ fn show<D: Disk>(_peer: &Peer<'_, D>, count: u32, machine: &Machine, board: &Boa
     requires later { Begins pen.old.rows rows }
     requires count { count ≡ length rows }
     requires few { count ≤ most_frames }
-    requires machine { state machine.now ≡ serial pen.old.game rows }
+    requires machine { state machine.now
+        ≡ run_since pen.old.game (origin_from pen.old.from) rows }
     ensures { pen.new ≡ record pen.old { rows = rows } }
 {
     board.publish(pen, count, machine);

@@ -1,9 +1,16 @@
 //! What callers may rest on that is no single call's.
 ghost use Rattle.std.specs.Prelude.{◌≡◌, ℕ, ◌+◌, List, [], ◌∷◌, ◌++◌, length, Ok};
 ghost use Rattle.c8_peer.specs.Lawful.{IsCall};
-ghost use Rattle.c8_peer.specs.Peer.{PeerValue, IsAnswered, IsSaid, IsSound, known_by};
+ghost use Rattle.c8_peer.specs.Peer.{PeerValue, IsAnswered, IsSaid, IsSound, known_by, begun_by};
+ghost use Rattle.c8_game.specs.Rules.{Rules};
+ghost use Rattle.c8_record.specs.Body.{records_of};
+ghost use Rattle.c8_peer.specs.Opened.{bodies_found, IsOpened};
+ghost use Rattle.c8_peer.specs.Runs.{TellsTruly};
+ghost use Rattle.c8_peer.specs.TrueChecks.{HasTrueChecks};
 ghost use Rattle.c8_board.specs.Tokens.{Begins};
+ghost use Rattle.c8_digest.specs.Origin.{run_since};
 ghost use Rattle.c8_known.specs.Confirmed.{confirmed_rows};
+ghost use Rattle.c8_machine.specs.Serial.{serial};
 ghost use Rattle.c8_peer.specs.State.{Call, Reply, Deliver};
 ghost use Rattle.c8_wire.specs.Packet.{Packet};
 ghost use Rattle.c8_wire.specs.Spelling.{Spells};
@@ -16,9 +23,11 @@ ghost use Rattle.c8_live.specs.Wire.{MayTake};
 use crate::wire::Wire;
 use c8_disk::Disk;
 use c8_peer::laws::{
-    a_peers_word_stands, a_word_stands_from_any_journal, calls_are_deeds, runs_join,
+    a_machine_begins_at_an_opening, a_peers_word_stands, a_word_stands_from_any_journal,
+    calls_are_deeds, openings_are_lawful, runs_join,
 };
 use c8_record::laws::what_a_journal_says_stays;
+use c8_roll::laws::a_run_may_begin_on_the_way;
 
 /// How a peer runs on: by no call (`still`), by one call more (`call`), and by what it runs on by
 /// after that (`joined`). What ends a session then ends it after all of it (`ended`).
@@ -114,6 +123,35 @@ pub fn confirmed_rows_grow<D: Disk>()
     a_peers_word_stands();
     a_word_stands_from_any_journal::<D>();
     what_a_journal_says_stays();
+}
+
+/// However a peer runs on, its machine began where it did, at its opening.
+pub fn machines_begin_where_they_did<D: Disk>()
+    ensures { (old new : PeerValue D) → IsSound D.Disk old → HasRunOn D.Disk old new
+        → begun_by new ≡ begun_by old }
+{
+    a_machine_begins_at_an_opening();
+    a_word_stands_from_any_journal::<D>();
+}
+
+/// What the journal of a peer says of checkpoints is true where that was so of what its opening found
+/// (`opened`), and stays true however the peer runs on (`stays`). While it is true the run on the
+/// confirmed rows from where the machine began is the serial run (`serial`).
+pub fn true_checks_show_the_serial_run<D: Disk>()
+    ensures opened { (disk : D) (rules : Rules) (room me : ℕ) (p : PeerValue D)
+        → IsOpened D.Disk disk rules room me p
+        → HasTrueChecks rules me (records_of (bodies_found D.Disk disk))
+        → TellsTruly p.rules p.me p.state }
+    ensures stays { (old new : PeerValue D) → IsSound D.Disk old
+        → TellsTruly old.rules old.me old.state → HasRunOn D.Disk old new
+        → TellsTruly new.rules new.me new.state }
+    ensures serial { (p : PeerValue D) → HasTrueChecks p.rules p.me p.state.journal
+        → run_since p.rules (begun_by p) (confirmed_rows (known_by p))
+        ≡ serial p.rules (confirmed_rows (known_by p)) }
+{
+    a_word_stands_from_any_journal::<D>();
+    openings_are_lawful();
+    a_run_may_begin_on_the_way();
 }
 
 /// By a turn a peer runs on.

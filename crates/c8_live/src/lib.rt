@@ -8,7 +8,7 @@
 //! was said, is `Session::turn`'s contract.
 //!
 //! A peer may run in two threads: [`game_worker`] makes the turns of a session and shows on a board
-//! what is confirmed, [`net_worker`] moves packets between a wire and the inlets of a [`Relay`], the
+//! what is confirmed ([`open_board`] opens one that can show a peer), [`net_worker`] moves packets between a wire and the inlets of a [`Relay`], the
 //! game thread's own wire. A [`Gate`] holds both back, and ends them; [`Counters`] are what they tell
 //! whoever watches them.
 #![tactic(auto)]
@@ -29,7 +29,7 @@ mod wire;
 
 pub use counters::{Counters, Standing};
 pub use error::{SessionError, WireFailed};
-pub use game::game_worker;
+pub use game::{game_worker, open_board};
 pub use gate::{Gate, Worker};
 pub use net::{PLACES, net_worker};
 pub use progress::{Progress, tell_end};

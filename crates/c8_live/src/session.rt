@@ -1,8 +1,8 @@
-//! The loop of one peer, turn by turn: it hears, ticks, lets go, cuts and speaks.
+//! The loop of one peer, turn by turn: it hears, ticks, lets go, cuts, records of a checkpoint and speaks.
 
 ghost use Rattle.std.specs.Prelude.{◌≡◌, ◌≤◌, [], ◌∷◌, IfSome, IfErr};
 ghost use Rattle.c8_live.specs.Runs.{HasRunOn, IsEnd};
-ghost use Rattle.c8_live.specs.Turns.{LetsGo, Cuts, HasDone, HasHeardOf, HasHeard, HasTicked, HasSpoken, most_packets, IsTurn};
+ghost use Rattle.c8_live.specs.Turns.{Ticks, LetsGo, Cuts, Saves, HasDone, HasDoneOnce, HasHeardOf, HasHeard, HasSpoken, most_packets, IsTurn};
 
 mod calls;
 
@@ -15,7 +15,7 @@ use crate::silence::Silence;
 use crate::wire::{LONGEST_PACKET, Wire};
 use c8_disk::Disk;
 use c8_game::{Game, Keys, MOST_PLAYERS, Player};
-use c8_peer::{DecideError, Heard, Kind, LeaveError, Peer, Refused, TickError};
+use c8_peer::{Check, CheckError, DecideError, Heard, Kind, LeaveError, Peer, Refused, TickError};
 use c8_wire::{Header, LONGEST_DATAGRAM, view};
 use std::fmt;
 
@@ -37,6 +37,10 @@ pub struct Session<'g, D: Disk> {
     entered: usize,
     /// After how many turns of silence player one lets a player go.
     patience: Option<u64>,
+    /// How many confirmed frames more than at the last checkpoint begin the next one, 0 for never; and
+    /// whether one is under way.
+    interval: u32,
+    is_saving: bool,
     silence: Silence,
     /// The rollbacks of the turn made last.
     rollbacks: Rollbacks,
@@ -54,12 +58,15 @@ impl<'g, D: Disk> fmt::Debug for Session<'g, D> {
 }
 
 impl<'g, D: Disk> Session<'g, D> {
-    /// A peer that has made no turn yet.
+    /// A peer that has made no turn yet. Once `interval` frames more are confirmed than at the last
+    /// checkpoint, the next one begins: one record a turn, 37 of them, and then a later opening of the
+    /// journal begins there. With 0 it makes none.
     pub fn new(
         peer: Peer<'g, D>,
         game: &Game,
         keys: Vec<Keys>,
         patience: Option<u64>,
+        interval: u32,
     ) -> Session<'g, D>
         ensures { result.peer ≡ peer.entry }
     {
@@ -69,6 +76,8 @@ impl<'g, D: Disk> Session<'g, D> {
             keys,
             entered: 0,
             patience,
+            interval,
+            is_saving: false,
             silence: Silence::new(),
             rollbacks: Rollbacks::default(),
             rested: 0,
@@ -102,9 +111,9 @@ impl<'g, D: Disk> Session<'g, D> {
         self.peer.dropped() || self.rested > REST
     }
 
-    /// One turn: the peer hears what the wire gives, at most `MOST_PACKETS` packets, ticks, and as player
-    /// one lets go and cuts, each a step of the definitions; then it speaks, and what the wire takes is
-    /// what it said. The error is that of the disk or of the wire, which ends the session.
+    /// One turn: the peer hears what the wire gives, at most `MOST_PACKETS` packets, ticks, as player
+    /// one lets go and cuts, and records of a checkpoint, each a step of the definitions; then it speaks,
+    /// and what the wire takes is what it said. The error is that of the disk or of the wire, which ends the session.
     pub fn turn<W: Wire>(&mut self, wire: &mut W) -> Result<(), SessionError>
         ensures turn { IsTurn D.Disk W.Wire self.old.peer self.new.peer wire.old wire.new }
         ensures ran { HasRunOn D.Disk self.old.peer self.new.peer }
@@ -118,6 +127,7 @@ impl<'g, D: Disk> Session<'g, D> {
         self.tick()?;
         self.let_go()?;
         self.cut()?;
+        self.save()?;
         self.speak(wire, greeters)?;
         if self.is_finished() {
             self.rested = self.rested.saturating_add(1);
@@ -184,7 +194,7 @@ impl<'g, D: Disk> Session<'g, D> {
     /// Enters the next key set, after the last an empty one. One that is refused is entered again in
     /// the next turn.
     fn tick(&mut self) -> Result<(), SessionError>
-        ensures ran { HasTicked D.Disk self.old.peer self.new.peer }
+        ensures ran { HasDoneOnce D.Disk Ticks self.old.peer self.new.peer }
         ensures end { IfErr result (IsEnd D.Disk self.old.peer self.new.peer) }
     {
         let (next, is_past) = match self.keys.get(self.entered) {
@@ -238,6 +248,33 @@ impl<'g, D: Disk> Session<'g, D> {
             }
         }
         Ok(())
+    }
+
+    /// Records what comes next of a checkpoint, where one is under way or it is time for the next.
+    fn save(&mut self) -> Result<(), SessionError>
+        ensures ran { HasDoneOnce D.Disk Saves self.old.peer self.new.peer }
+        ensures end { IfErr result (IsEnd D.Disk self.old.peer self.new.peer) }
+    {
+        if !self.is_saving && !self.is_time_to_save() {
+            return Ok(());
+        }
+        match self.peer_saves() {
+            Ok(check) => {
+                self.is_saving = matches!(check, Check::Piece(_));
+                Ok(())
+            }
+            Err(CheckError::Disk(error)) => Err(SessionError::Disk(error)),
+            Err(_) => Ok(()),
+        }
+    }
+
+    /// Whether so many frames were confirmed since the last checkpoint.
+    fn is_time_to_save(&self) -> bool {
+        let since = self
+            .peer
+            .confirmed()
+            .saturating_sub(self.peer.last_checkpoint());
+        self.interval > 0 && since >= self.interval
     }
 
     /// Says to each other player what there is to say.

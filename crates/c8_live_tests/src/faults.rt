@@ -36,7 +36,7 @@ fn faults() -> &'static [Fault] {
 /// What the first turn of player one answers.
 fn first_turn(alloc: Global, game: &Game, fault: &Fault) -> Result<Result<(), SessionError>, Fail> {
     let me = Player { number: 1 };
-    let mut session = session_on(alloc, game, me, fault.capacity, fault.arm)?;
+    let mut session = session_on(alloc, game, me, fault.capacity, fault.arm, 0)?;
     Ok(session.turn(&mut Lossy {
         fails_to_send: fault.fails_to_send,
         fails_to_receive: fault.fails_to_receive,

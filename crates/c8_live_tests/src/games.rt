@@ -186,7 +186,7 @@ fn rests_before_it_ends(rt: HostRuntime) -> Result<(), Fail> {
 
 /// What player 2 of four tells in nine turns of a quarter of a second in which nobody is heard.
 fn told_alone(alloc: Global, game: &Game) -> Result<Vec<u8>, Fail> {
-    let mut session = session_on(alloc, game, Player { number: 2 }, 100_000, Arm::Off)?;
+    let mut session = session_on(alloc, game, Player { number: 2 }, 100_000, Arm::Off, 0)?;
     let mut wire = Lossy {
         fails_to_send: false,
         fails_to_receive: false,

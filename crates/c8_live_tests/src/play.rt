@@ -48,13 +48,15 @@ pub(crate) fn opened<'g>(
     }
 }
 
-/// A session on a new disk of so many bytes, whose calls fail when it is so armed.
+/// A session on a new disk of so many bytes, whose calls fail when it is so armed; it makes checkpoints
+/// in this interval.
 pub(crate) fn session_on<'g>(
     alloc: Global,
     game: &'g Game,
     me: Player,
     capacity: u32,
     arm: Arm,
+    interval: u32,
 ) -> Result<Session<'g, MemDisk>, Fail> {
     let mut peer = opened(alloc, MemDisk::new(alloc, capacity, 4000)?, game, me)?;
     peer.arm(arm);
@@ -65,17 +67,28 @@ pub(crate) fn session_on<'g>(
     } else {
         None
     };
-    Ok(Session::new(peer, game, keys, patience))
+    Ok(Session::new(peer, game, keys, patience, interval))
 }
 
-/// A session of each player of a game, player 1's first, on disks with room for all.
+/// A session of each player of a game, player 1's first, on disks with room for all. None makes a
+/// checkpoint.
 pub(crate) fn sessions<'g>(
     alloc: Global,
     game: &'g Game,
 ) -> Result<Vec<Session<'g, MemDisk>>, Fail> {
+    saving_sessions(alloc, game, 0)
+}
+
+/// The same sessions, which make checkpoints in this interval.
+pub(crate) fn saving_sessions<'g>(
+    alloc: Global,
+    game: &'g Game,
+    interval: u32,
+) -> Result<Vec<Session<'g, MemDisk>>, Fail> {
     let mut sessions = Vec::new(alloc);
     for number in 1..game.players() + 1 {
-        sessions.push(session_on(alloc, game, Player { number }, 100_000, Arm::Off)?)?;
+        let me = Player { number };
+        sessions.push(session_on(alloc, game, me, 100_000, Arm::Off, interval)?)?;
     }
     Ok(sessions)
 }

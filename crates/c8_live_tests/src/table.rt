@@ -122,7 +122,7 @@ fn session_of<'g>(
 ) -> Result<Session<'g, MemDisk>, Fail> {
     let peer = new_peer(alloc, game, me)?;
     let keys = key_sets(alloc, lines.as_bytes())?;
-    Ok(Session::new(peer, game, keys, patience))
+    Ok(Session::new(peer, game, keys, patience, 0))
 }
 
 /// The session, and a peer of each other player.

@@ -314,7 +314,7 @@ joined_in : (rules : Rules) (row : Row) → AreInRange rules → joined rules ro
 joined_in rules row range =
     or_lt 16 _ _ (masked_in rules row 0 range) (or_lt 16 _ _ (masked_in rules row 1 range) (or_lt 16 _ _ (masked_in rules row 2 range) (masked_in rules row 3 range)))
 
-run_in : (rules : Rules) (s : State) (rows : List Row) → AreInRange rules → IsState s → IsState (fold (λ s row. frame_of rules (joined rules row) s) s rows)
+pub run_in : (rules : Rules) (s : State) (rows : List Row) → AreInRange rules → IsState s → IsState (fold (λ s row. frame_of rules (joined rules row) s) s rows)
 run_in rules s [] range is = is
 run_in rules s (row ∷ rows) range is = run_in rules (frame_of rules (joined rules row) s) rows range (frame_of_in rules (joined rules row) s (joined_in rules row range) is)
 

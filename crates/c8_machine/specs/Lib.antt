@@ -1,4 +1,5 @@
 pub mod State
+pub mod Parts
 pub mod Instructions
 pub mod Steps
 pub mod Frames

@@ -3,7 +3,8 @@
 //! Contracts see a machine as its `State` (`specs/State.antt`). One step is `IsStep`
 //! (`specs/Steps.antt`), one case for each row of the instruction table; one frame is `IsFrame`
 //! (`specs/Frames.antt`), a relation over chains of steps. `serial` (`specs/Serial.antt`) is the
-//! run of many rows. `laws` has what callers chain, and `Machine::in_range` says that every
+//! run of many rows. `Machine::of_parts` makes a machine of what was read elsewhere
+//! (`specs/Parts.antt`). `laws` has what callers chain, and `Machine::in_range` says that every
 //! machine's state is in range (`IsState`). Nothing here takes memory.
 #![tactic(auto)]
 
@@ -12,4 +13,4 @@ mod machine;
 mod operation;
 mod start;
 
-pub use machine::{MEMORY_SIZE, Machine, Step, Stop};
+pub use machine::{MEMORY_SIZE, Machine, Parts, Step, Stop};

@@ -11,8 +11,11 @@ mod drawing;
 mod flow;
 mod frames;
 mod memory;
+mod parts;
 mod ranges;
 mod steps;
+
+pub use parts::Parts;
 
 /// How many bytes of memory a machine has. Every address is below it.
 pub const MEMORY_SIZE: usize = 4096;

@@ -1,6 +1,6 @@
 //! States at the places of the table, and marks of another implementation of SHA-256.
-use crate::play::play;
-use c8_digest::{STATE_LENGTH, mark, state_bytes};
+use crate::play::{game_of, play};
+use c8_digest::{Checkpoint, STATE_LENGTH, mark, read_state, state_bytes};
 use c8_machine::Machine;
 use std::alloc::Global;
 use std::test::Fail;
@@ -103,5 +103,75 @@ fn marks_a_state(rt: HostRuntime) -> Result<(), Fail> {
         let found = u64::from_be_bytes(mark(&play(rt.alloc(), 100, "6003f015f10a1206", keys)?));
         assert!(rt; found == wanted, "{keys}: {found:016x}");
     }
+    Ok(())
+}
+
+#[test]
+fn reads_states_again(rt: HostRuntime) -> Result<(), Fail> {
+    for row in rows() {
+        let machine = play(rt.alloc(), 100, row.code, row.keys)?;
+        assert!(rt; read_state(&bytes_of(&machine)) == Some(machine), "{row:?}");
+    }
+    Ok(())
+}
+
+/// A byte at a place of the state of a machine with one call, and whether a machine has the state then.
+const CHANGED: [(usize, u8, bool); 20] = [
+    (0, 0x01, true),
+    (4095, 0xff, true),
+    (4112, 0x0f, true),
+    (4112, 0x10, false),
+    (4114, 0x0f, true),
+    (4114, 0x10, false),
+    // how many calls, the place of the one, and places not in use
+    (4116, 0, false),
+    (4116, 2, true),
+    (4116, 16, true),
+    (4116, 17, false),
+    (4117, 0x0f, true),
+    (4117, 0x10, false),
+    (4119, 0x01, false),
+    (4148, 0x01, false),
+    // the register that is waited for, and the stop
+    (4409, 0x0f, true),
+    (4409, 0x10, false),
+    (4409, 0xfe, false),
+    (4418, 0, true),
+    (4418, 3, true),
+    (4418, 4, false),
+];
+
+fn is_read_so(alloc: Global, (place, byte, is_read): (usize, u8, bool)) -> Result<bool, Fail> {
+    let code = "220600000000c0ffc1ffc2ff6709f7180000";
+    let mut bytes = bytes_of(&play(alloc, 100, code, "0000")?);
+    if let Some(at) = bytes.get_mut(place) {
+        *at = byte;
+    }
+    Ok(match read_state(&bytes) {
+        Some(machine) => is_read && bytes_of(&machine) == bytes,
+        None => !is_read,
+    })
+}
+
+#[test]
+fn reads_what_a_machine_has(rt: HostRuntime) -> Result<(), Fail> {
+    for row in CHANGED {
+        assert!(rt; is_read_so(rt.alloc(), row)?, "{row:?}");
+    }
+    Ok(())
+}
+
+#[test]
+fn begins_with_one_mark(rt: HostRuntime) -> Result<(), Fail> {
+    let game = game_of(rt.alloc(), 100, "6003f015f10a1206")?;
+    let mut marks = [0; 128];
+    marks[..8].copy_from_slice(b"\x23\xb9\x3a\x7f\xee\x3d\xee\x1b");
+    let machine = play(rt.alloc(), 100, "6003f015f10a1206", "")?;
+    let begin = Checkpoint {
+        frames: 0,
+        machine,
+        marks,
+    };
+    assert!(rt; Checkpoint::start(&game) == begin);
     Ok(())
 }

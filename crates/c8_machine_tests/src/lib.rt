@@ -15,6 +15,8 @@ mod machine;
 #[cfg(test)]
 mod marks;
 #[cfg(test)]
+mod parts;
+#[cfg(test)]
 mod play;
 #[cfg(test)]
 mod rows;

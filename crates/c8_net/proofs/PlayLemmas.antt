@@ -1,14 +1,19 @@
 -- What a session on a journal comes to.
-use Rattle.std.proofs.Common.{◌≡◌, ◌⊎◌, ◌<◌, ◌≤◌, ℕ, Result, Err, IfErr, refl, sym, ap, subst, ◌∙◌, inl, inr, ⊎_elim}
+use Rattle.std.proofs.Common.{◌≡◌, ℕ, Result, Err, IfErr, false, refl, sym, ap, subst, ◌∙◌, inl, inr}
 use Rattle.c8_game.specs.Rules.{Rules}
 use Rattle.c8_machine.specs.State.{state}
 use Rattle.c8_machine.specs.Serial.{serial}
+use Rattle.c8_digest.specs.Origin.{Origin, run_since}
+use Rattle.c8_record.specs.Body.{records_of}
 use Rattle.c8_disk.specs.declared.disk.Disk.{Ghosts}
 use Rattle.c8_known.specs.Confirmed.{confirmed, confirmed_rows}
 use Rattle.c8_peer.specs.declared.error.OpenError.{OpenError}
 use Rattle.c8_peer.specs.declared.error.OpenError.TheVariants as opens
-use Rattle.c8_peer.specs.Opened.{IsOpened, IsRefusedFor, IsRefusedOpening}
-use Rattle.c8_peer.specs.Peer.{PeerValue, known_by}
+use Rattle.c8_peer.specs.Opened.{bodies_found, IsOpened, IsRefusedOpening}
+use Rattle.c8_peer.specs.Peer.{PeerValue, known_by, begun_by, IsSound}
+use Rattle.c8_peer.specs.Runs.{TellsTruly}
+use Rattle.c8_peer.specs.TrueChecks.{HasTrueChecks}
+use Rattle.c8_net.specs.declared.error.PeerError.TheVariants.{Open}
 use Rattle.c8_keys.specs.declared.lines.Played.{Played}
 use Rattle.c8_live.specs.declared.error.SessionError.{SessionError}
 use Rattle.c8_live.specs.declared.error.SessionError.TheVariants as sessions
@@ -27,23 +32,40 @@ module _ {D : Type 0} (g : Ghosts D) (disk : D) (rules : Rules) (room me : ℕ) 
   ended_failed peer first last turns error opened same ended is =
       session_failed peer first last error opened same (subst (λ (t : Result ℕ SessionError). IfErr t (IsEnd g first last)) is ended.end)
 
-  -- before the disk is touched
-  pub without_room : (error : OpenError) → ((rules.players < me) × (error ≡ opens.WrongPlayer)) ⊎ ((me ≤ rules.players) × (error ≡ opens.Memory)) → (left : D) × IsRefusedOpening g disk rules room me error left
-  without_room error why = (
-    disk,
-    ⊎_elim (λ none. inl (none.0, none.1, refl)) (λ some. inr (some.0, subst (λ (e : OpenError). IsRefusedFor g disk rules room me e disk) (sym some.1) refl)) why,
-  )
+  -- an opening that is refused
+  pub not_opened : (error : OpenError) (left : D) → IsRefusedOpening g disk rules room me error left → HasFailed g disk rules room me (Open error)
+  not_opened error left refused = inl (left, refused)
 
-  pub has_played : (peer first last shown : PeerValue D) (played : Played) → IsOpened g disk rules room me peer → first ≡ peer → HasRunOn g first last → shown ≡ last → played.frames ≡ confirmed (known_by shown)
-      → state played.machine ≡ serial shown.rules (confirmed_rows (known_by shown)) → HasPlayed g disk rules room me played
-  has_played peer first last shown played opened same ran is frames machine =
+  pub without_room : (peer : PeerValue D) → IsOpened g disk rules room me peer → HasFailed g disk rules room me (Open opens.Memory)
+  without_room peer opened = inr (refl, peer, opened)
+
+  -- that a machine begins where it did, and that what is true of checkpoints stays so and shows the serial run, as c8_live says it
+  abbrev pub BeginsThere : Type 0
+  BeginsThere = (old new : PeerValue D) → IsSound g old → HasRunOn g old new → begun_by new ≡ begun_by old
+
+  abbrev pub TellsThere : Type 0
+  TellsThere = (disk : D) (rules : Rules) (room me : ℕ) (p : PeerValue D) → IsOpened g disk rules room me p → HasTrueChecks rules me (records_of (bodies_found g disk)) → TellsTruly p.rules p.me p.state
+
+  abbrev pub StaysTrue : Type 0
+  StaysTrue = (old new : PeerValue D) → IsSound g old → TellsTruly old.rules old.me old.state → HasRunOn g old new → TellsTruly new.rules new.me new.state
+
+  pub has_played : BeginsThere → TellsThere → StaysTrue → (peer first last shown : PeerValue D) (played : Played) → IsOpened g disk rules room me peer → first ≡ peer → HasRunOn g first last → shown ≡ last → played.frames ≡ confirmed (known_by shown)
+      → state played.machine ≡ run_since shown.rules (begun_by shown) (confirmed_rows (known_by shown))
+      → (HasTrueChecks shown.rules shown.me shown.state.journal → state played.machine ≡ serial shown.rules (confirmed_rows (known_by shown))) → HasPlayed g disk rules room me played
+  has_played begins tells stays peer first last shown played opened same ran is frames machine serially =
       let here = subst (IsOpened g disk rules room me) (sym same) opened in
       let on = subst (HasRunOn g first) (sym is) ran in
+      let rules_are = on.rules ∙ here.rules_are in
       record {
         first = first;
         opened = here;
         last = shown;
         ran = on;
         frames = frames;
-        machine = machine ∙ ap (λ (r : Rules). serial r (confirmed_rows (known_by shown))) (on.rules ∙ here.rules_are);
+        machine =
+            machine ∙ ap (λ (r : Rules). run_since r (begun_by shown) (confirmed_rows (known_by shown))) rules_are
+            ∙ ap (λ (from : Origin). run_since rules from (confirmed_rows (known_by shown))) (begins first shown here.sound on);
+        serial_is = λ are.
+            serially (stays first shown here.sound (tells disk rules room me first here are) on false)
+            ∙ ap (λ (r : Rules). serial r (confirmed_rows (known_by shown))) rules_are;
       }

@@ -9,8 +9,13 @@ use Rattle.c8_machine.specs.Serial.{serial}
 use Rattle.c8_disk.specs.declared.disk.Disk.{Ghosts}
 use Rattle.c8_disk.specs.declared.error.DiskError.TheVariants as disks
 use Rattle.c8_known.specs.Confirmed.{confirmed, confirmed_rows}
-use Rattle.c8_peer.specs.Opened.{IsOpened, IsRefusedOpening}
-use Rattle.c8_peer.specs.Peer.{PeerValue, known_by}
+use Rattle.c8_peer.specs.Opened.{bodies_found, IsOpened, IsRefusedOpening}
+use Rattle.c8_record.specs.Body.{records_of}
+use Rattle.c8_digest.specs.Origin.{run_since}
+use Rattle.c8_peer.specs.Peer.{PeerValue, known_by, begun_by}
+use Rattle.c8_peer.specs.TrueChecks.{HasTrueChecks}
+use Rattle.c8_peer.specs.declared.error.OpenError.{OpenError}
+use Rattle.c8_peer.specs.declared.error.OpenError.TheVariants as opens
 use Rattle.c8_keys.specs.KeySets.{IsFaultOfSets}
 use Rattle.c8_keys.specs.declared.lines.Played.{Played}
 use Rattle.c8_live.specs.declared.error.SessionError.{SessionError}
@@ -55,21 +60,28 @@ pub record HasEnded {D : Type 0} (disk : Ghosts D) (first last : PeerValue D) (t
 
 module _ {D : Type 0} (g : Ghosts D) (disk : D) (rules : Rules) (room me : ℕ) where
   -- The journal was opened, and the peer ran on, each of its calls one step of the definitions. These are the frames that it counts
-  -- as confirmed then, and the machine is the serial run on their rows.
+  -- as confirmed then, and the machine is the run on their rows from where the opening began, at the last checkpoint that was
+  -- found or before the first frame. Where what the journal that was found says of checkpoints is true, it is the serial run on
+  -- them: so it is where peers alone have written that journal, and where it says nothing of checkpoints.
   pub record HasPlayed (played : Played) : Type 0 where
     pub first : PeerValue D
     pub opened : IsOpened g disk rules room me first
     pub last : PeerValue D
     pub ran : HasRunOn g first last
     pub frames : played.frames ≡ confirmed (known_by last)
-    pub machine : state played.machine ≡ serial rules (confirmed_rows (known_by last))
+    pub machine : state played.machine ≡ run_since rules (begun_by first) (confirmed_rows (known_by last))
+    pub serial_is : HasTrueChecks rules me (records_of (bodies_found g disk)) → state played.machine ≡ serial rules (confirmed_rows (known_by last))
 
-  -- The journal's opening is refused; or the peer ran on until its disk, which was to blame, refused a record. Of a socket that
-  -- failed nothing is said.
+  -- the journal was opened, and there is no memory for what else a match takes
+  abbrev pub IsWithoutRoom : OpenError → Type 0
+  IsWithoutRoom error = (error ≡ opens.Memory) × (first : PeerValue D) × IsOpened g disk rules room me first
+
+  -- The journal's opening is refused, or there is no memory for more; or the peer ran on until its disk, which was to blame,
+  -- refused a record. Of a socket that failed nothing is said.
   abbrev pub HasFailed : PeerError → Type 0
   HasFailed (Game error) = ⊥
   HasFailed (Keys error) = ⊥
-  HasFailed (Open error) = (left : D) × IsRefusedOpening g disk rules room me error left
+  HasFailed (Open error) = ((left : D) × IsRefusedOpening g disk rules room me error left) ⊎ IsWithoutRoom error
   HasFailed (Disk why) = (first : PeerValue D) × (last : PeerValue D) × IsOpened g disk rules room me first × IsStopped g first last why
   HasFailed (Socket sockets.Failed) = Unit {0}
   HasFailed (Socket sockets.Remotes) = ⊥

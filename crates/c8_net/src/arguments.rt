@@ -24,6 +24,8 @@ pub struct Asked<'m, 'a> {
     pub patience: Option<u64>,
     /// How many confirmed frames are enough to end, if any are.
     pub stop: Option<u64>,
+    /// After how many confirmed frames more the peer makes a checkpoint, 0 for never.
+    pub checkpoint: u32,
     /// Whether the peer says where it stands.
     pub progress: bool,
     /// Whether a second line says where the fault of a refusal is.
@@ -73,6 +75,12 @@ fn with_options<'a>(alloc: Global, command: Command<'a>) -> Result<Command<'a>, 
     let command = command.arg(number(alloc, "patience", patience))?;
     let stop = "Ends once so many frames are confirmed [default: never]";
     let command = command.arg(number(alloc, "stop", stop))?;
+    let checkpoint = number(
+        alloc,
+        "checkpoint",
+        "Makes a checkpoint after every N confirmed frames, 0 for never",
+    );
+    let command = command.arg(checkpoint.default_value("0"))?;
     let progress = Arg::new(alloc, "progress")
         .long("progress")
         .help("Says each second, on standard error, how far the game is, and then how it ended")
@@ -103,9 +111,15 @@ pub(crate) fn asked_of<'m, 'a>(given: &'m ArgMatches<'a>) -> Option<Asked<'m, 'a
         turns: number_of(given, "turns").unwrap_or(0),
         patience: number_of(given, "patience"),
         stop: number_of(given, "stop"),
+        checkpoint: interval_of(number_of(given, "checkpoint").unwrap_or(0)),
         progress: given.get_flag("progress"),
         explain: is_explained(given),
     })
+}
+
+/// The interval of a number of frames; no game has as many as the greatest.
+fn interval_of(frames: u64) -> u32 {
+    u32::try_from(frames).unwrap_or(u32::MAX)
 }
 
 fn number_of(given: &ArgMatches<'_>, name: &str) -> Option<u64> {

@@ -6,7 +6,9 @@ pub const PEER_ENDING: &str =
 a line, four hexadecimal digits, for one frame each; no key is held down after the last line.
 It ends when all have the whole game, when its player was dropped, once as many frames are
 confirmed as --stop says, or after the last turn, and then prints the machine after the frames that
-it counts as confirmed. A player who was killed starts again with the same journal.
+it counts as confirmed. A player who was killed starts again with the same journal: at its last
+checkpoint, if it has one, and else at the first frame. A checkpoint is 37 records of the journal,
+of which each turn makes one.
 
 Two players, each in a terminal of their own:
   ./c8play peer games/duel.game 1 one.journal 127.0.0.1:4001 127.0.0.1:4002 < games/duel.1.keys

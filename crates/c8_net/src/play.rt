@@ -1,6 +1,6 @@
 //! A match over UDP: what it takes to begin, and what is played of it on a journal.
 
-ghost use Rattle.std.specs.Prelude.{◌≡◌, ◌⊎◌, ◌<◌, ◌≤◌, ◌+◌, length, IfOk, IfErr, IfSome};
+ghost use Rattle.std.specs.Prelude.{◌≡◌, ◌+◌, length, IfOk, IfErr, IfSome};
 ghost use Rattle.c8_game.specs.GameText.{Spells};
 ghost use Rattle.c8_keys.specs.KeySets.{AreSetsOf};
 ghost use Rattle.c8_net.specs.Match.{IsNoKeys, IsNoMatch, HasPlayed, HasFailed};
@@ -14,6 +14,7 @@ use c8_command::{TextError, text_of};
 use c8_disk::{Disk, DiskError};
 use c8_game::{Game, Keys, Player};
 use c8_keys::{KeysError, Played, key_sets};
+use c8_live::laws::{machines_begin_where_they_did, true_checks_show_the_serial_run};
 use c8_live::{Session, tell_end};
 use c8_peer::{OpenError, Peer};
 use std::alloc::Global;
@@ -108,7 +109,9 @@ fn keys_in<I: Read + Drop>(alloc: Global, input: I) -> Result<Vec<Keys>, Unprepa
 
 /// Plays a match on the disk that holds the own journal: opens that first, then the socket, and makes
 /// turns until the session is over, as many were made as are asked for, or as many frames are confirmed
-/// as are enough. The caller's thread makes the turns, one moves packets, and one watches. Answers the confirmed machine.
+/// as are enough. The caller's thread makes the turns, one moves packets, and one watches. Answers the
+/// confirmed machine, which began at the last checkpoint that was found; where that is true it is the
+/// machine of the serial run.
 pub fn play_on<R, D, E>(
     rt: &R,
     asked: &Asked<'_, '_>,
@@ -130,18 +133,18 @@ where
         addresses,
         keys,
     } = it;
-    let Ok(stage) = Stage::open(rt.alloc(), &game) else {
-        return Err(PeerError::Open(without_room(&game, asked.player)));
-    };
     let peer = match Peer::open(rt.alloc(), disk, &game, asked.player, asked.room) {
         Ok(peer) => peer,
         Err((error, _disk)) => return Err(PeerError::Open(error)),
+    };
+    let Ok(stage) = Stage::open(rt.alloc(), &game, &peer) else {
+        return Err(PeerError::Open(OpenError::Memory));
     };
     let wire = match Udp::open(rt, &addresses) {
         Ok(wire) => wire,
         Err(error) => return Err(PeerError::Socket(error)),
     };
-    let session = Session::new(peer, &game, keys, asked.patience);
+    let session = Session::new(peer, &game, keys, asked.patience, asked.checkpoint);
     let (ended, moved) = stage.play(rt, asked, session, wire, progress);
     let Ended { session, turns } = ended;
     let made = match turns {
@@ -154,21 +157,11 @@ where
     if asked.progress {
         let _ = tell_end(progress, made, &session);
     }
+    machines_begin_where_they_did::<D>();
+    true_checks_show_the_serial_run::<D>();
     let (frames, machine) = session.peer().base();
     Ok(Played {
         frames,
         machine: *machine,
     })
-}
-
-/// Why a peer is not opened for which there is no memory: a player of another game is refused first.
-fn without_room(game: &Game, me: Player) -> OpenError
-    ensures { ((game.now.players < me.number) × (result ≡ OpenError.WrongPlayer))
-        ⊎ ((me.number ≤ game.now.players) × (result ≡ OpenError.Memory)) }
-{
-    if me.number > game.players() {
-        OpenError::WrongPlayer
-    } else {
-        OpenError::Memory
-    }
 }

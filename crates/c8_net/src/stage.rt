@@ -1,5 +1,6 @@
 //! The threads of a peer, and what they share.
-ghost use Rattle.std.specs.Prelude.{◌≡◌, [], IfOk};
+ghost use Rattle.std.specs.Prelude.{◌≡◌, IfOk};
+ghost use Rattle.c8_live.specs.Published.{MayShow};
 ghost use Rattle.c8_net.specs.Match.{HasEnded};
 
 use crate::arguments::Asked;
@@ -10,8 +11,9 @@ use c8_game::Game;
 use c8_inlet::{Putter, Taker, inlet};
 use c8_live::{
     Counters, PLACES, Progress, Relay, Session, SessionError, Wire, WireFailed, Worker,
-    game_worker, net_worker,
+    game_worker, net_worker, open_board,
 };
+use c8_peer::Peer;
 use std::alloc::{AllocError, Global};
 use std::io::Write;
 use std::sync::Wait;
@@ -32,7 +34,6 @@ pub(crate) struct Stage {
     pen: Pen,
     viewer: Viewer,
     ghost writes: { pen.board ≡ board },
-    ghost fresh: { pen.rows ≡ [] },
     ghost watches: { viewer.board ≡ board },
 }
 
@@ -68,14 +69,19 @@ pub(crate) struct Ended<'g, D: Disk> {
 }
 
 impl Stage {
-    /// The inlets, and a board of the game with one viewer.
-    pub(crate) fn open(alloc: Global, game: &Game) -> Result<Stage, AllocError>
-        ensures { IfOk result (λ stage. stage.pen.game ≡ game.now) }
+    /// The inlets, and a board with one viewer that shows a peer of the game.
+    pub(crate) fn open<D: Disk>(
+        alloc: Global,
+        game: &Game,
+        peer: &Peer<'_, D>,
+    ) -> Result<Stage, AllocError>
+        requires { game.now ≡ peer.now.rules }
+        ensures { IfOk result (λ stage. MayShow peer.now stage.pen) }
     {
         let (to_net, outbox) = inlet(alloc, PLACES)?;
         let (inbox, from_net) = inlet(alloc, PLACES)?;
         let relay = Relay::new(to_net, from_net);
-        let (board, pen, mut viewers) = Board::open(alloc, game, 1)?;
+        let (board, pen, mut viewers) = open_board(alloc, game, peer, 1)?;
         let Some(viewer) = viewers.pop() else {
             unreachable!();
         };
@@ -106,7 +112,7 @@ impl Stage {
         D: Disk + Drop,
         W: Wire + Drop + Send,
         E: Write + Send,
-        requires { self.pen.game ≡ session.peer.rules }
+        requires { MayShow session.peer self.pen }
         ensures { HasEnded D.Disk session.entry.peer result.0.session.peer result.0.turns }
     {
         let Stage {
@@ -150,8 +156,7 @@ fn make_turns<'g, R: Clock, D: Disk>(
     shared: &Shared<'_, R>,
 ) -> Ended<'g, D>
     requires board { pen.board ≡ shared.now.board }
-    requires game { pen.game ≡ session.peer.rules }
-    requires fresh { pen.rows ≡ [] }
+    requires shows { MayShow session.peer pen }
     ensures { HasEnded D.Disk session.entry.peer result.session.peer result.turns }
 {
     let Shared {

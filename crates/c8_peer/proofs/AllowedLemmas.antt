@@ -24,13 +24,16 @@ use Rattle.c8_record.specs.Body.{HasSpelling}
 use Rattle.c8_record.specs.Allowed.{Past, past_of, MayFollow, IsAllowedAfter, IsAllowed, IsJournal, IsOrderlyOf, IsOrderly}
 use Rattle.c8_record.specs.checked.JournalLaws.{journal_known, of_game}
 use Rattle.c8_record.specs.checked.LeaverLaws.{journal_orderly}
-use Rattle.c8_peer.specs.State.{Memory, Reply, Outcome, answered, recorded, Saying, Call, Tick, Deliver, Say, Decide}
+use Rattle.c8_peer.specs.Told.{Told, told_of}
+use Rattle.c8_peer.specs.State.{Memory, Reply, Outcome, answered, recorded, Saying, Call, Tick, Deliver, Say, Decide, Checkpoint}
 use Rattle.c8_peer.specs.State as calls
-use Rattle.c8_peer.specs.Calls.{tick, leave, decide}
+use Rattle.c8_peer.specs.Calls.{tick, leave, decide, checkpoint}
 use Rattle.c8_peer.specs.Saying.{say, is_not_mine, lacks_record, lacks_link}
 use Rattle.c8_peer.specs.Hearing.{got, is_desync, unless_misfit, is_of_other_wire, unless_hand, hear_data, hear_welcome, hear_freeze, hear_frozen, cut_or_got, hear_end, hear_cut, hear_message, hear_told, deliver}
 use Rattle.c8_peer.specs.Steps.{outcome}
 use Rattle.c8_peer.specs.Lawful.{IsMemory, IsCall}
+use Rattle.c8_peer.proofs.Tests.{failed, either_way}
+use Rattle.c8_peer.proofs.CheckpointLemmas.{adds_next, next_may, next_player}
 
 -- ---- what the records before say
 
@@ -44,16 +47,6 @@ abbrev Stays : KnownValue → Type 0
 Stays k = k.me ≢ 1 → (player_in k k.me).leaving ≡ false
 
 -- ---- tests
-
--- a test whose refusal records nothing has failed
-failed : (test : Bool) (m : Memory) (reply : Reply) (others : Outcome) (r : Record) → (cond test (answered m reply) others).keeps ≡ Some r → (test ≡ false) × (others.keeps ≡ Some r)
-failed true m reply others r is = absurd cc
-failed false m reply others r is = (refl, is)
-
-either_way : (test : Bool) (one other : Outcome) (r : Record) (P : Type 0) → (cond test one other).keeps ≡ Some r
-    → (test ≡ true → one.keeps ≡ Some r → P) → (test ≡ false → other.keeps ≡ Some r → P) → P
-either_way true one other r P is f g = f refl is
-either_way false one other r P is f g = g refl is
 
 past_misfit : (m : Memory) (o : Option KnownError) (others : Outcome) (r : Record) → (unless_misfit m o others).keeps ≡ Some r → (o ≡ None) × (others.keeps ≡ Some r)
 past_misfit m None others r is = (refl, is)
@@ -263,16 +256,16 @@ second_false : (a b : Bool) → a ≡ true → (a && b) ≡ false → b ≡ fals
 second_false true b is none = none
 second_false false b is none = absurd cc
 
-data_allowed : (rules : Rules) (room : ℕ) (past : Past) (m : Memory) (q : ℕ) (d : DataMessage) (r : Record) → IsPast past → Stays past.known
+data_allowed : (rules : Rules) (t : Told) (room : ℕ) (past : Past) (m : Memory) (q : ℕ) (d : DataMessage) (r : Record) → IsPast past → Stays past.known
     → Plays past.known q → q ≢ past.known.me → IsDataMessage d → AreWords d.words
-    → (hear_data rules past.known m q d).keeps ≡ Some r → IsAllowedAfter rules room past r
+    → (hear_data t past.known m q d).keeps ≡ Some r → IsAllowedAfter rules room past r
 unfolding hear_data
-data_allowed rules room past m q d r is stays plays other data_is fits kept =
+data_allowed rules t room past m q d r is stays plays other data_is fits kept =
     let k : KnownValue = past.known in
     let leaver = failed (is_from_leaver k q q) m _ _ r kept in
     let acked = failed (nat_lt (count_in k k.me) d.ack) m _ _ r leaver.1 in
     let held = past_misfit m (misfit k q d.start d.words) _ r acked.1 in
-    let same = failed (is_desync rules k d) (record m { alarm = true }) _ _ r held.1 in
+    let same = failed (is_desync t d) (record m { alarm = true }) _ _ r held.1 in
     let free = or_parts (player_in k q).frozen (player_in k q).leaving (second_false (q == q) (is_frozen_in k q) (eq-eqb q q refl) leaver.0) in
     got_allowed rules room past (record m { acks = acked_more m.acks q d.ack }) q (fresh_words k q d.start d.words) r is stays plays other
     (uncut k.me q (player_in k q) (is.orderly q plays.from_one) free.0 free.1)
@@ -430,41 +423,41 @@ record IsFromOther (k : KnownValue) (q : ℕ) : Type 0 where
   plays : Plays k q
   other : q ≢ k.me
 
-message_allowed : (rules : Rules) (room : ℕ) (past : Past) (m : Memory) (head : HeadValue) (message : Message) (r : Record) → IsPast past → (player_in past.known past.known.me).leaving ≡ false
-    → IsFromOther past.known head.from → IsMessage message → Fits message → (hear_message rules past.known m head message).keeps ≡ Some r → IsAllowedAfter rules room past r
-message_allowed rules room past m head packets.Hello r is stays from means fits kept = absurd cc
-message_allowed rules room past m head (packets.Welcome ack) r is stays from means fits kept = welcome_allowed rules room past m head ack r kept
-message_allowed rules room past m head (packets.Data d) r is stays from means fits kept =
-    data_allowed rules room past m head.from d r is (λ at. stays) from.plays from.other means fits.1 kept
-message_allowed rules room past m head (packets.Freeze f) r is stays from means fits kept = freeze_allowed rules room past m head.from f r is (λ at. stays) from.other means kept
-message_allowed rules room past m head (packets.Frozen f) r is stays from means fits kept = frozen_allowed rules room past m head.from f r is (λ at. stays) means fits kept
-message_allowed rules room past m head (packets.Cut c) r is stays from means fits kept = cut_allowed rules room past m head.from c r is stays from.other means fits kept
+message_allowed : (rules : Rules) (t : Told) (room : ℕ) (past : Past) (m : Memory) (head : HeadValue) (message : Message) (r : Record) → IsPast past → (player_in past.known past.known.me).leaving ≡ false
+    → IsFromOther past.known head.from → IsMessage message → Fits message → (hear_message rules t past.known m head message).keeps ≡ Some r → IsAllowedAfter rules room past r
+message_allowed rules t room past m head packets.Hello r is stays from means fits kept = absurd cc
+message_allowed rules t room past m head (packets.Welcome ack) r is stays from means fits kept = welcome_allowed rules room past m head ack r kept
+message_allowed rules t room past m head (packets.Data d) r is stays from means fits kept =
+    data_allowed rules t room past m head.from d r is (λ at. stays) from.plays from.other means fits.1 kept
+message_allowed rules t room past m head (packets.Freeze f) r is stays from means fits kept = freeze_allowed rules room past m head.from f r is (λ at. stays) from.other means kept
+message_allowed rules t room past m head (packets.Frozen f) r is stays from means fits kept = frozen_allowed rules room past m head.from f r is (λ at. stays) means fits kept
+message_allowed rules t room past m head (packets.Cut c) r is stays from means fits kept = cut_allowed rules room past m head.from c r is stays from.other means fits kept
 
 -- who is heard is another player of the game
 FromOthers : KnownValue → Memory → Type 0
 FromOthers k m = (head : HeadValue) → links.refusal m.links head ≡ None → IsFromOther k head.from
 
-told_allowed : (rules : Rules) (room : ℕ) (past : Past) (m : Memory) (told : Result Packet WireError) (r : Record) → IsPast past → (player_in past.known past.known.me).leaving ≡ false
-    → FromOthers past.known m → IsCall (Deliver told) → (hear_told rules past.known m told).keeps ≡ Some r → IsAllowedAfter rules room past r
+told_allowed : (rules : Rules) (t : Told) (room : ℕ) (past : Past) (m : Memory) (told : Result Packet WireError) (r : Record) → IsPast past → (player_in past.known past.known.me).leaving ≡ false
+    → FromOthers past.known m → IsCall (Deliver told) → (hear_told rules t past.known m told).keeps ≡ Some r → IsAllowedAfter rules room past r
 unfolding FromOthers
-told_allowed rules room past m (Err error) r is stays others call_is kept = absurd cc
-told_allowed rules room past m (Ok p) r is stays others call_is kept =
+told_allowed rules t room past m (Err error) r is stays others call_is kept = absurd cc
+told_allowed rules t room past m (Ok p) r is stays others call_is kept =
     let own = failed (is_of_other_wire rules p.head) m _ _ r kept in
-    let admitted = past_hand m (links.refusal m.links p.head) (hear_message rules past.known m p.head p.message) r own.1 in
-    message_allowed rules room past m p.head p.message r is stays (others p.head admitted.0) call_is.message call_is.fits admitted.1
+    let admitted = past_hand m (links.refusal m.links p.head) (hear_message rules t past.known m p.head p.message) r own.1 in
+    message_allowed rules t room past m p.head p.message r is stays (others p.head admitted.0) call_is.message call_is.fits admitted.1
 
-deliver_allowed : (rules : Rules) (room : ℕ) (past : Past) (m : Memory) (told : Result Packet WireError) (r : Record) → IsPast past
-    → FromOthers past.known m → IsCall (Deliver told) → (deliver rules past.known m told).keeps ≡ Some r → IsAllowedAfter rules room past r
-deliver_allowed rules room past m told r is others call_is kept =
+deliver_allowed : (rules : Rules) (t : Told) (room : ℕ) (past : Past) (m : Memory) (told : Result Packet WireError) (r : Record) → IsPast past
+    → FromOthers past.known m → IsCall (Deliver told) → (deliver rules t past.known m told).keeps ≡ Some r → IsAllowedAfter rules room past r
+deliver_allowed rules t room past m told r is others call_is kept =
     let stays = failed (player_in past.known past.known.me).leaving m _ _ r kept in
-    told_allowed rules room past m told r is stays.0 others call_is stays.1
+    told_allowed rules t room past m told r is stays.0 others call_is stays.1
 
 -- ---- any call
 
 -- a saying records nothing
-say_allowed : (rules : Rules) (room : ℕ) (past : Past) (m : Memory) (to : ℕ) (what : Saying) (r : Record) → (say rules past.known m to what).keeps ≡ Some r → IsAllowedAfter rules room past r
+say_allowed : (rules : Rules) (t : Told) (room : ℕ) (past : Past) (m : Memory) (to : ℕ) (what : Saying) (r : Record) → (say rules t past.known m to what).keeps ≡ Some r → IsAllowedAfter rules room past r
 unfolding say
-say_allowed rules room past m to what r kept =
+say_allowed rules t room past m to what r kept =
     let k : KnownValue = past.known in
     let stays = failed (player_in k k.me).leaving m _ _ r kept in
     let player = failed (to == k.me || not (is_player k to)) m _ _ r stays.1 in
@@ -474,13 +467,15 @@ say_allowed rules room past m to what r kept =
     let none = linked.1 in
     absurd cc
 
-call_allowed : (rules : Rules) (room : ℕ) (past : Past) (m : Memory) (call : Call) (r : Record) → IsPast past → FromOthers past.known m → IsCall call
-    → (outcome rules past.known m call).keeps ≡ Some r → IsAllowedAfter rules room past r
-call_allowed rules room past m (Tick keys) r is others call_is kept = tick_allowed rules room past m keys r is call_is kept
-call_allowed rules room past m (Deliver told) r is others call_is kept = deliver_allowed rules room past m told r is others call_is kept
-call_allowed rules room past m (Say to what) r is others call_is kept = say_allowed rules room past m to what r kept
-call_allowed rules room past m (calls.Leave leaver) r is others call_is kept = leave_allowed rules room past m leaver r is kept
-call_allowed rules room past m (Decide leaver) r is others call_is kept = decide_allowed rules room past m leaver r is kept
+call_allowed : (rules : Rules) (t : Told) (room : ℕ) (past : Past) (m : Memory) (call : Call) (r : Record) → IsPast past → FromOthers past.known m
+    → ((checkpoint t past.known m).keeps ≡ Some r → IsAllowedAfter rules room past r) → IsCall call
+    → (outcome rules t past.known m call).keeps ≡ Some r → IsAllowedAfter rules room past r
+call_allowed rules t room past m (Tick keys) r is others checkpoints call_is kept = tick_allowed rules room past m keys r is call_is kept
+call_allowed rules t room past m (Deliver told) r is others checkpoints call_is kept = deliver_allowed rules t room past m told r is others call_is kept
+call_allowed rules t room past m (Say to what) r is others checkpoints call_is kept = say_allowed rules t room past m to what r kept
+call_allowed rules t room past m (calls.Leave leaver) r is others checkpoints call_is kept = leave_allowed rules room past m leaver r is kept
+call_allowed rules t room past m (Decide leaver) r is others checkpoints call_is kept = decide_allowed rules room past m leaver r is kept
+call_allowed rules t room past m Checkpoint r is others checkpoints call_is kept = checkpoints kept
 
 -- a journal that has had an epoch has a record
 some_record : (number : ℕ) (journal : List Record) → had_epoch number journal ≡ true → length journal ≢ 0
@@ -498,13 +493,22 @@ from_others rules me room journal m memory head admitted =
       other = λ same. sender.apart (same ∙ game.player ∙ sym memory.player);
     }
 
+checkpoint_allowed : (rules : Rules) (me room : ℕ) (journal : List Record) (m : Memory) (r : Record) → AreInRange rules → 1 ≤ me → me ≤ rules.players → IsJournal rules me room journal → IsMemory rules room me journal m
+    → IsPast (past_of rules me journal) → (checkpoint (told_of rules me journal) (known_of rules me journal) m).keeps ≡ Some r → IsAllowed rules me room journal r
+checkpoint_allowed rules me room journal m r range from to is memory past_is kept =
+    let next = adds_next rules me room journal m r range from to is memory.saving kept in
+    let may = next_may rules me room journal r range from to is memory.saving next.1 in
+    let plays : Plays (known_of rules me journal) (player_of r) = rw (next_player rules me journal r next.1) past_is.known.me in
+    allowed rules room (past_of rules me journal) r past_is (λ other. next.0) plays may.0 may.1
+
 pub keeps_allowed : (rules : Rules) (me room : ℕ) (journal : List Record) (m : Memory) (call : Call) (r : Record)
     → AreInRange rules → 1 ≤ me → me ≤ rules.players → IsJournal rules me room journal → IsMemory rules room me journal m → IsCall call
-    → (outcome rules (known_of rules me journal) m call).keeps ≡ Some r → IsAllowed rules me room journal r
+    → (outcome rules (told_of rules me journal) (known_of rules me journal) m call).keeps ≡ Some r → IsAllowed rules me room journal r
 keeps_allowed rules me room journal m call r range from to is memory call_is kept =
     let past_is : IsPast (past_of rules me journal) = record {
       known = journal_known rules me room journal range from to is;
       orderly = journal_orderly rules me room journal is;
       some = some_record m.links.epoch journal memory.epoch;
     } in
-    call_allowed rules room (past_of rules me journal) m call r past_is (from_others rules me room journal m memory) call_is kept
+    call_allowed rules (told_of rules me journal) room (past_of rules me journal) m call r past_is (from_others rules me room journal m memory)
+    (checkpoint_allowed rules me room journal m r range from to is memory past_is) call_is kept

@@ -8,23 +8,24 @@ use Rattle.c8_disk.specs.Runs.{LeavesOnly, IsSameDisk}
 use Rattle.c8_disk.specs.Asks.{Answer, Asks}
 use Rattle.c8_log.specs.Asked.{AppendWithin}
 use Rattle.c8_log.specs.Slots.{slot_length}
-use Rattle.c8_record.specs.Body.{body_of}
+use Rattle.c8_record.specs.Body.{body_of, records_of}
 use Rattle.c8_log.specs.Journal.{JournalValue}
 use Rattle.c8_known.specs.Journal.{Record}
 use Rattle.c8_known.specs.Known.{KnownValue}
+use Rattle.c8_peer.specs.Told.{told_of}
 use Rattle.c8_peer.specs.State.{Memory, Open, Down, Call, Reply, Outcome, answered, recorded}
 use Rattle.c8_peer.specs.Steps.{Works, Refuses, outcome, refused_by_disk}
-use Rattle.c8_peer.specs.Peer.{PeerValue, known_by, luck_of, IsStep, added, most_run, RunsFrames, KeepsWithOrWithout, LeavesJournal, HasAppendCause, IsAnswered, IsSound}
+use Rattle.c8_peer.specs.Peer.{PeerValue, known_by, told_by, luck_of, IsStep, added, most_run, RunsFrames, KeepsWithOrWithout, LeavesJournal, HasAppendCause, IsAnswered, IsSound}
 use Rattle.c8_peer.specs.checked.Held.{IsPeer}
 use Rattle.c8_peer.proofs.PeerLemmas.{view}
 use Rattle.c8_peer.proofs.RoomLemmas.{had_room}
 
 -- what a call comes to, by what the peer knows inside and as it is seen
 pub outcome_seen : {D : Type 0} {ran : ℕ} (v : PeerValue D) (rules : Rules) (room : ℕ) (j : JournalValue D) (k : KnownValue) (m : Memory) → IsPeer rules room j k m → view rules room k.me j m ran ≡ v
-    → (call : Call) (o : Memory → Outcome) → outcome rules k m call ≡ o m → outcome v.rules (known_by v) v.state.memory call ≡ o v.state.memory
+    → (call : Call) (o : Memory → Outcome) → outcome rules (told_of rules k.me (records_of j.bodies)) k m call ≡ o m → outcome v.rules (told_by v) (known_by v) v.state.memory call ≡ o v.state.memory
 outcome_seen {D} {ran} v rules room j k m is seen call o comes =
-    subst (λ (x : PeerValue D). outcome x.rules (known_by x) x.state.memory call ≡ o x.state.memory) seen
-    (subst (λ (known : KnownValue). outcome rules known m call ≡ o m) is.known comes)
+    subst (λ (x : PeerValue D). outcome x.rules (told_by x) (known_by x) x.state.memory call ≡ o x.state.memory) seen
+    (subst (λ (known : KnownValue). outcome rules (told_of rules k.me (records_of j.bodies)) known m call ≡ o m) is.known comes)
 
 module _ {D : Type 0} (g : Ghosts D) where
   -- the disk is left alone
@@ -44,7 +45,7 @@ module _ {D : Type 0} (g : Ghosts D) where
   }
 
   -- nothing is recorded; the memory may change
-  pub answers : (v : PeerValue D) (m : Memory) (call : Call) (reply : Reply) → IsSound g v → v.state.mode ≡ Open → outcome v.rules (known_by v) v.state.memory call ≡ answered m reply
+  pub answers : (v : PeerValue D) (m : Memory) (call : Call) (reply : Reply) → IsSound g v → v.state.mode ≡ Open → outcome v.rules (told_by v) (known_by v) v.state.memory call ≡ answered m reply
       → luck_of reply ≡ Works → IsAnswered g v call reply (record v { state = record v.state { memory = m } })
   answers v m call reply sound mode comes luck = quiet v m call reply sound (rw (mode, comes) refl) luck (rw (mode, comes) refl)
 
@@ -68,7 +69,7 @@ module _ {D : Type 0} (g : Ghosts D) where
 
   -- the disk takes the record
   pub records : (v : PeerValue D) (disk : D) (m : Memory) (ran : ℕ) (call : Call) (reply : Reply) (r : Record) → v.state.mode ≡ Open
-      → outcome v.rules (known_by v) v.state.memory call ≡ recorded m reply r → luck_of reply ≡ Works → Kept v r (Ok tt) disk
+      → outcome v.rules (told_by v) (known_by v) v.state.memory call ≡ recorded m reply r → luck_of reply ≡ Works → Kept v r (Ok tt) disk
       → RunsFrames (most_run v.rules call) (known_by v) (known_by (with_record v disk r m ran)) ran
       → LeavesJournal g (with_record v disk r m ran) → IsAnswered g v call reply (with_record v disk r m ran)
   records v disk m ran call reply r mode comes luck kept runs leaves = record {
@@ -88,7 +89,7 @@ module _ {D : Type 0} (g : Ghosts D) where
 
   -- the disk refuses it
   pub is_refused : (v : PeerValue D) (disk : D) (m : Memory) (call : Call) (reply said : Reply) (r : Record) (why : DiskError) → v.state.mode ≡ Open
-      → outcome v.rules (known_by v) v.state.memory call ≡ recorded m said r → reply ≡ refused_by_disk call why → luck_of reply ≡ Refuses why → Kept v r (Err why) disk
+      → outcome v.rules (told_by v) (known_by v) v.state.memory call ≡ recorded m said r → reply ≡ refused_by_disk call why → luck_of reply ≡ Refuses why → Kept v r (Err why) disk
       → HasAppendCause g v (without_record v disk r) why → LeavesJournal g (without_record v disk r) → IsAnswered g v call reply (without_record v disk r)
   is_refused v disk m call reply said r why mode comes is luck kept cause leaves = record {
     step = rw (mode, comes, luck, is) refl;

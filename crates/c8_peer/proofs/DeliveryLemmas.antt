@@ -17,7 +17,7 @@ use Rattle.c8_peer.specs.State.{Deliver, Outcome}
 use Rattle.c8_peer.specs.Hearing.{is_of_other_wire, hear_message}
 use Rattle.c8_peer.specs.Steps.{outcome}
 use Rattle.c8_peer.specs.Lawful.{IsMemory}
-use Rattle.c8_peer.specs.Peer.{PeerValue, known_by, IsSound, HasAppendCause}
+use Rattle.c8_peer.specs.Peer.{PeerValue, known_by, told_by, IsSound, HasAppendCause}
 use Rattle.c8_peer.specs.declared.verdict.Verdict.{Verdict}
 use Rattle.c8_peer.specs.checked.Verdicts.{AcksWithin, IsLater, by_verdict, memory_after}
 use Rattle.c8_peer.proofs.AllowedLemmas.{keeps_allowed}
@@ -45,22 +45,22 @@ heard_later verdict found later same = subst IsLater same later
 module _ {D : Type 0} where
   -- what it comes to is what its message does
   pub heard_is : (v : PeerValue D) (p : Packet) → (player_in (known_by v) v.me).leaving ≡ false → is_of_other_wire v.rules p.head ≡ false → refusal v.state.memory.links p.head ≡ None
-      → outcome v.rules (known_by v) v.state.memory (Deliver (Ok p)) ≡ hear_message v.rules (known_by v) v.state.memory p.head p.message
+      → outcome v.rules (told_by v) (known_by v) v.state.memory (Deliver (Ok p)) ≡ hear_message v.rules (told_by v) (known_by v) v.state.memory p.head p.message
   heard_is v p stays wire admitted = rw (own_player v.rules v.me v.state.journal, stays, wire, admitted) refl
 
   pub comes_to : (v : PeerValue D) (p : Packet) (verdict found : Verdict) → (player_in (known_by v) v.me).leaving ≡ false → is_of_other_wire v.rules p.head ≡ false → refusal v.state.memory.links p.head ≡ None
-      → hear_message v.rules (known_by v) v.state.memory p.head p.message ≡ by_verdict found v.state.memory (memory_after v.state.memory p) → found ≡ verdict
-      → outcome v.rules (known_by v) v.state.memory (Deliver (Ok p)) ≡ by_verdict verdict v.state.memory (memory_after v.state.memory p)
+      → hear_message v.rules (told_by v) (known_by v) v.state.memory p.head p.message ≡ by_verdict found v.state.memory (memory_after v.state.memory p) → found ≡ verdict
+      → outcome v.rules (told_by v) (known_by v) v.state.memory (Deliver (Ok p)) ≡ by_verdict verdict v.state.memory (memory_after v.state.memory p)
   comes_to v p verdict found stays wire admitted comes same = heard_is v p stays wire admitted ∙ comes ∙ ap (λ (x : Verdict). by_verdict x v.state.memory (memory_after v.state.memory p)) same
 
   pub memory_noted : (g : Ghosts D) (v : PeerValue D) (p : Packet) (o : Outcome) → IsSound g v → IsPacket p
-      → outcome v.rules (known_by v) v.state.memory (Deliver (Ok p)) ≡ o → IsMemory v.rules v.room v.me v.state.journal o.memory
+      → outcome v.rules (told_by v) (known_by v) v.state.memory (Deliver (Ok p)) ≡ o → IsMemory v.rules v.room v.me v.state.journal o.memory
   memory_noted g v p o sound packet is =
       subst (λ (x : Outcome). IsMemory v.rules v.room v.me v.state.journal x.memory) is
       (memory_kept v.rules v.me v.room v.state.journal v.state.memory (Deliver (Ok p)) sound.range sound.plays.0 sound.plays.1 sound.is_journal sound.memory packet)
 
   pub record_allowed : (g : Ghosts D) (v : PeerValue D) (p : Packet) (o : Outcome) (r : Record) → IsSound g v → IsPacket p
-      → outcome v.rules (known_by v) v.state.memory (Deliver (Ok p)) ≡ o → o.keeps ≡ Some r → IsAllowed v.rules v.me v.room v.state.journal r
+      → outcome v.rules (told_by v) (known_by v) v.state.memory (Deliver (Ok p)) ≡ o → o.keeps ≡ Some r → IsAllowed v.rules v.me v.room v.state.journal r
   record_allowed g v p o r sound packet is keeps =
       keeps_allowed v.rules v.me v.room v.state.journal v.state.memory (Deliver (Ok p)) r sound.range sound.plays.0 sound.plays.1 sound.is_journal sound.memory packet (ap (λ (x : Outcome). x.keeps) is ∙ keeps)
 

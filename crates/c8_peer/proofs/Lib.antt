@@ -1,4 +1,6 @@
-pub mod DigestLemmas
+pub mod Tests
+pub mod CheckpointCall
+pub mod CheckpointLemmas
 pub mod AllowedLemmas
 pub mod OpeningLemmas
 pub mod MemoryLemmas
@@ -18,3 +20,4 @@ pub mod OpenLemmas
 pub mod OpeningDeeds
 pub mod OneOpening
 pub mod PlainLemmas
+pub mod BegunLemmas

@@ -1,5 +1,5 @@
 -- A peer's memory stays in order, whatever it is called to do.
-use Rattle.std.proofs.Common.{◌≡◌, ℕ, zero, suc, ◌+◌, ◌^◌, ◌<◌, ◌≤◌, List, [], ◌∷◌, length, Bool, true, false, Option, Some, None, Ok, Err, refl, ap, arith}
+use Rattle.std.proofs.Common.{◌≡◌, ℕ, zero, suc, ◌+◌, ◌^◌, ◌<◌, ◌≤◌, List, [], ◌∷◌, ◌++◌, length, Bool, true, false, Option, Some, None, Ok, Err, refl, ap, arith}
 use Rattle.std.specs.Prelude.{◌==◌, ◌||◌, not, nat_lt, nat_le, is_some, if◌then◌else◌, Result}
 use Rattle.std.proofs.lemmas.Bool.{ltb-false, ne_eqb}
 use Rattle.c8_game.specs.Rules.{Rules, AreInRange}
@@ -15,23 +15,29 @@ use Rattle.c8_known.specs.declared.error.KnownError.{KnownError}
 use Rattle.c8_known.specs.Journal.{Record, count}
 use Rattle.c8_known.specs.Known.{PlayerValue, KnownValue, player_in, count_in, is_player, known_of}
 use Rattle.c8_known.specs.checked.OneMore.{player_known}
+use Rattle.c8_known.specs.checked.JournalLaws.{epoch_stays}
 use Rattle.c8_known.specs.Fresh.{is_from_leaver, misfit, fresh_words}
 use Rattle.c8_known.specs.Confirmed.{confirmed}
 use Rattle.c8_window.specs.Window.{WindowValue, acked_of, acked_more, with_acked}
 use Rattle.c8_round.specs.Round.{ChairValue, StayerValue, with_report, with_have, is_ready}
+use Rattle.c8_check.specs.Checks.{Pieces, frames_of}
 use Rattle.c8_record.specs.Allowed.{IsJournal}
+use Rattle.c8_peer.specs.Told.{Told, told_of}
 use Rattle.c8_peer.specs.declared.error.TickError.{TickError}
 use Rattle.c8_peer.specs.declared.error.Refused.{Refused}
 use Rattle.c8_peer.specs.declared.error.Unsayable.{Unsayable}
 use Rattle.c8_peer.specs.declared.error.LeaveError.{LeaveError}
 use Rattle.c8_peer.specs.declared.error.DecideError.{DecideError}
+use Rattle.c8_peer.specs.declared.error.CheckError.{CheckError}
+use Rattle.c8_peer.specs.declared.check.Check.{Check}
 use Rattle.c8_peer.specs.declared.heard.Heard.{Heard}
-use Rattle.c8_peer.specs.State.{Memory, Call, Tick, Deliver, Say, Leave, Decide, Saying, Ticked, Delivered, Said, Left, Decided, Outcome}
-use Rattle.c8_peer.specs.Calls.{tick, leave, decide}
+use Rattle.c8_peer.specs.State.{Memory, Call, Tick, Deliver, Say, Leave, Decide, Checkpoint, Saying, Ticked, Delivered, Said, Left, Decided, Checked, Outcome}
+use Rattle.c8_peer.specs.Calls.{tick, leave, decide, next_piece, checkpoint}
 use Rattle.c8_peer.specs.Hearing.{is_desync, hear_data, hear_welcome, hear_freeze, hear_frozen, hear_cut, hear_end, got, unless_misfit, is_of_other_wire, unless_hand, hear_message, deliver}
 use Rattle.c8_peer.specs.Saying.{is_not_mine, lacks_record, lacks_link, say}
 use Rattle.c8_peer.specs.Steps.{outcome}
-use Rattle.c8_peer.specs.Lawful.{IsMemory, IsCall}
+use Rattle.c8_peer.specs.Lawful.{IsSaving, IsMemory, IsCall}
+use Rattle.c8_peer.specs.checked.TruthLaws.{count_rises}
 
 -- ---- links and acknowledgements
 
@@ -100,6 +106,7 @@ with_rest rules room me journal m chair stayer alarm is = record {
   epoch_fits = is.epoch_fits;
   known_fits = is.known_fits;
   acked = is.acked;
+  saving = is.saving;
 }
 
 with_acks : (rules : Rules) (room me : ℕ) (journal : List Record) (m : Memory) (q n : ℕ) → IsMemory rules room me journal m → n ≤ count rules me journal
@@ -113,6 +120,7 @@ with_acks rules room me journal m q n is few = record {
   epoch_fits = is.epoch_fits;
   known_fits = is.known_fits;
   acked = λ other. few_more m.acks q other n (count rules me journal) is.acked few;
+  saving = is.saving;
 }
 
 with_heard : (rules : Rules) (room me : ℕ) (journal : List Record) (m : Memory) (head : HeadValue) → IsMemory rules room me journal m → head.sender_epoch < 2 ^ 32
@@ -126,6 +134,7 @@ with_heard rules room me journal m head is low = record {
   epoch_fits = is.epoch_fits;
   known_fits = λ other. low_heard m.links head other (2 ^ 32) is.known_fits low;
   acked = is.acked;
+  saving = is.saving;
 }
 
 -- ---- what calls come to
@@ -148,6 +157,9 @@ Leaves M m = (answer : Result (Unit {0}) LeaveError) (keeps : Option Record) →
 abbrev Decides : (Outcome → Type 0) → Memory → Type 0
 Decides M m = (answer : Result ℕ DecideError) (keeps : Option Record) → M (record { reply = Decided answer; keeps = keeps; memory = m })
 
+abbrev Checks : (Outcome → Type 0) → Memory → Type 0
+Checks M m = (answer : Result Check CheckError) (keeps : Option Record) → M (record { reply = Checked answer; keeps = keeps; memory = m })
+
 abbrev Delivers : (Outcome → Type 0) → Memory → Type 0
 Delivers M m = (answer : Result Heard Refused) (keeps : Option Record) → M (record { reply = Delivered answer; keeps = keeps; memory = m })
 
@@ -169,6 +181,14 @@ decide_is M k m leaver is =
     either M (not (k.me == 1) || not (player_in k leaver).leaving) _ _ (is _ _)
     (either M (is_some (player_in k leaver).cut) _ _ (is _ _) (either M (not (is_ready m.chair k leaver)) _ _ (is _ _) (is _ _)))
 
+piece_is : (M : Outcome → Type 0) (t : Told) (k : KnownValue) (m : Memory) (o : Option Pieces) → Checks M m → M (next_piece t k m o)
+piece_is M t k m None is = either M (nat_le (confirmed k) (frames_of t.checks.last)) _ _ (is _ _) (is _ _)
+piece_is M t k m (Some p) is = either M (p.count == 36) _ _ (is _ _) (is _ _)
+
+pub checkpoint_is : (M : Outcome → Type 0) (t : Told) (k : KnownValue) (m : Memory) → Checks M m → M (checkpoint t k m)
+unfolding checkpoint
+checkpoint_is M t k m is = either M (player_in k k.me).leaving _ _ (is _ _) (piece_is M t k m t.checks.under_way is)
+
 misfit_is : (M : Outcome → Type 0) (m : Memory) (error : Option KnownError) (o : Outcome) → Delivers M m → M o → M (unless_misfit m error o)
 misfit_is M m None o was is = is
 misfit_is M m (Some error) o was is = was _ _
@@ -177,13 +197,13 @@ got_is : (M : Outcome → Type 0) (k : KnownValue) (m : Memory) (q : ℕ) (words
 got_is M k m q [] is = is _ _
 got_is M k m q (word ∷ words) is = is _ _
 
-data_is : (M : Outcome → Type 0) (rules : Rules) (k : KnownValue) (m : Memory) (q : ℕ) (d : DataMessage) → Delivers M m → Delivers M (record m { alarm = true })
-    → (d.ack ≤ count_in k k.me → Delivers M (record m { acks = acked_more m.acks q d.ack })) → M (hear_data rules k m q d)
+data_is : (M : Outcome → Type 0) (t : Told) (k : KnownValue) (m : Memory) (q : ℕ) (d : DataMessage) → Delivers M m → Delivers M (record m { alarm = true })
+    → (d.ack ≤ count_in k k.me → Delivers M (record m { acks = acked_more m.acks q d.ack })) → M (hear_data t k m q d)
 unfolding hear_data
-data_is M rules k m q d is alarmed acked =
+data_is M t k m q d is alarmed acked =
     either M (is_from_leaver k q q) _ _ (is _ _) (unless M (nat_lt (count_in k k.me) d.ack) _ _ (is _ _) (λ few.
     misfit_is M m (misfit k q d.start d.words) _ is
-    (either M (is_desync rules k d) _ _ (alarmed _ _)
+    (either M (is_desync t d) _ _ (alarmed _ _)
     (got_is M k (record m { acks = acked_more m.acks q d.ack }) q (fresh_words k q d.start d.words) (acked (ltb-false (count_in k k.me) d.ack few))))))
 
 welcome_is : (M : Outcome → Type 0) (k : KnownValue) (m : Memory) (head : HeadValue) (ack : ℕ) → Delivers M m
@@ -225,32 +245,32 @@ pub record Changes (M : Outcome → Type 0) (m : Memory) (head : HeadValue) (own
   pub links : Delivers M (record m { links = heard m.links head })
   pub both : (n : ℕ) → n ≤ own → Delivers M (record m { links = heard m.links head; acks = acked_more m.acks head.from n })
 
-message_is : (M : Outcome → Type 0) (rules : Rules) (k : KnownValue) (m : Memory) (head : HeadValue) (message : Message) → Changes M m head (count_in k k.me) → M (hear_message rules k m head message)
-message_is M rules k m head packets.Hello may = may.links _ _
-message_is M rules k m head (packets.Welcome ack) may = welcome_is M k m head ack (may.rest m.chair m.stayer m.alarm) (may.both ack)
-message_is M rules k m head (packets.Data d) may = data_is M rules k m head.from d (may.rest m.chair m.stayer m.alarm) (may.rest m.chair m.stayer true) (may.acks d.ack)
-message_is M rules k m head (packets.Freeze f) may = freeze_is M k m head.from f (may.rest m.chair m.stayer m.alarm) (may.rest m.chair (with_have m.stayer f.leaver f.have) m.alarm)
-message_is M rules k m head (packets.Frozen f) may = frozen_is M k m head.from f (may.rest m.chair m.stayer m.alarm) (may.rest (with_report m.chair f.leaver head.from f.length) m.stayer m.alarm)
-message_is M rules k m head (packets.Cut c) may = cut_is M k m head.from c (may.rest m.chair m.stayer m.alarm)
+message_is : (M : Outcome → Type 0) (rules : Rules) (t : Told) (k : KnownValue) (m : Memory) (head : HeadValue) (message : Message) → Changes M m head (count_in k k.me) → M (hear_message rules t k m head message)
+message_is M rules t k m head packets.Hello may = may.links _ _
+message_is M rules t k m head (packets.Welcome ack) may = welcome_is M k m head ack (may.rest m.chair m.stayer m.alarm) (may.both ack)
+message_is M rules t k m head (packets.Data d) may = data_is M t k m head.from d (may.rest m.chair m.stayer m.alarm) (may.rest m.chair m.stayer true) (may.acks d.ack)
+message_is M rules t k m head (packets.Freeze f) may = freeze_is M k m head.from f (may.rest m.chair m.stayer m.alarm) (may.rest m.chair (with_have m.stayer f.leaver f.have) m.alarm)
+message_is M rules t k m head (packets.Frozen f) may = frozen_is M k m head.from f (may.rest m.chair m.stayer m.alarm) (may.rest (with_report m.chair f.leaver head.from f.length) m.stayer m.alarm)
+message_is M rules t k m head (packets.Cut c) may = cut_is M k m head.from c (may.rest m.chair m.stayer m.alarm)
 
 hand_is : (M : Outcome → Type 0) (m : Memory) (error : Option HandError) (o : Outcome) → Delivers M m → M o → M (unless_hand m error o)
 hand_is M m None o was is = is
 hand_is M m (Some error) o was is = was _ _
 
-pub deliver_is : (M : Outcome → Type 0) (rules : Rules) (k : KnownValue) (m : Memory) (p : Packet) → Changes M m p.head (count_in k k.me) → M (deliver rules k m (Ok p))
-deliver_is M rules k m p may =
+pub deliver_is : (M : Outcome → Type 0) (rules : Rules) (t : Told) (k : KnownValue) (m : Memory) (p : Packet) → Changes M m p.head (count_in k k.me) → M (deliver rules t k m (Ok p))
+deliver_is M rules t k m p may =
     let same : Delivers M m = may.rest m.chair m.stayer m.alarm in
     either M (player_in k k.me).leaving _ _ (same _ _)
     (either M (is_of_other_wire rules p.head) _ _ (same _ _)
-    (hand_is M m (links.refusal m.links p.head) (hear_message rules k m p.head p.message) same (message_is M rules k m p.head p.message may)))
+    (hand_is M m (links.refusal m.links p.head) (hear_message rules t k m p.head p.message) same (message_is M rules t k m p.head p.message may)))
 
-pub no_packet_is : (M : Outcome → Type 0) (rules : Rules) (k : KnownValue) (m : Memory) (error : WireError) → Delivers M m → M (deliver rules k m (Err error))
-no_packet_is M rules k m error is = either M (player_in k k.me).leaving _ _ (is _ _) (is _ _)
+pub no_packet_is : (M : Outcome → Type 0) (rules : Rules) (t : Told) (k : KnownValue) (m : Memory) (error : WireError) → Delivers M m → M (deliver rules t k m (Err error))
+no_packet_is M rules t k m error is = either M (player_in k k.me).leaving _ _ (is _ _) (is _ _)
 
-pub say_is : (M : Outcome → Type 0) (rules : Rules) (k : KnownValue) (m : Memory) (to : ℕ) (what : Saying)
-    → ((answer : Result Packet Unsayable) → M (record { reply = Said answer; keeps = None; memory = m })) → M (say rules k m to what)
+pub say_is : (M : Outcome → Type 0) (rules : Rules) (t : Told) (k : KnownValue) (m : Memory) (to : ℕ) (what : Saying)
+    → ((answer : Result Packet Unsayable) → M (record { reply = Said answer; keeps = None; memory = m })) → M (say rules t k m to what)
 unfolding say
-say_is M rules k m to what is =
+say_is M rules t k m to what is =
     either M (player_in k k.me).leaving _ _ (is _) (either M (to == k.me || not (is_player k to)) _ _ (is _)
     (either M (is_not_mine k to what) _ _ (is _) (either M (lacks_record k what) _ _ (is _) (either M (lacks_link m to what) _ _ (is _) (is _)))))
 
@@ -278,13 +298,28 @@ own_count rules me journal from to = ap (λ (p : PlayerValue). length p.held) (p
 pub memory_kept : (rules : Rules) (me room : ℕ) (journal : List Record) (m : Memory) (call : Call)
     → AreInRange rules → 1 ≤ me → me ≤ rules.players → IsJournal rules me room journal
     → IsMemory rules room me journal m → IsCall call
-    → IsMemory rules room me journal (outcome rules (known_of rules me journal) m call).memory
+    → IsMemory rules room me journal (outcome rules (told_of rules me journal) (known_of rules me journal) m call).memory
 memory_kept rules me room journal m (Tick keys) range from to journal_is is fits = tick_is (Keeps rules room me journal) rules (known_of rules me journal) m keys (λ answer keeps. is)
-memory_kept rules me room journal m (Deliver (Err error)) range from to journal_is is fits = no_packet_is (Keeps rules room me journal) rules (known_of rules me journal) m error (λ answer keeps. is)
+memory_kept rules me room journal m (Deliver (Err error)) range from to journal_is is fits = no_packet_is (Keeps rules room me journal) rules (told_of rules me journal) (known_of rules me journal) m error (λ answer keeps. is)
 memory_kept rules me room journal m (Deliver (Ok p)) range from to journal_is is fits =
     let k : KnownValue = known_of rules me journal in
-    deliver_is (Keeps rules room me journal) rules k m p
+    deliver_is (Keeps rules room me journal) rules (told_of rules me journal) k m p
     (changes rules room me journal m p.head (count_in k k.me) is fits.head.sender_epoch (own_count rules me journal from to))
-memory_kept rules me room journal m (Say q what) range from to journal_is is fits = say_is (Keeps rules room me journal) rules (known_of rules me journal) m q what (λ answer. is)
+memory_kept rules me room journal m (Say q what) range from to journal_is is fits = say_is (Keeps rules room me journal) rules (told_of rules me journal) (known_of rules me journal) m q what (λ answer. is)
 memory_kept rules me room journal m (Leave leaver) range from to journal_is is fits = leave_is (Keeps rules room me journal) (known_of rules me journal) m leaver (λ answer keeps. is)
 memory_kept rules me room journal m (Decide leaver) range from to journal_is is fits = decide_is (Keeps rules room me journal) (known_of rules me journal) m leaver (λ answer keeps. is)
+memory_kept rules me room journal m Checkpoint range from to journal_is is fits = checkpoint_is (Keeps rules room me journal) (told_of rules me journal) (known_of rules me journal) m (λ answer keeps. is)
+
+-- it stays so with a record more, if that leaves checkpoints in order
+pub memory_more : (rules : Rules) (room me : ℕ) (journal : List Record) (r : Record) (m : Memory) → IsMemory rules room me journal m → IsSaving rules me (journal ++ r ∷ []) → IsMemory rules room me (journal ++ r ∷ []) m
+memory_more rules room me journal r m is saving = record {
+  player = is.player;
+  players = is.players;
+  version = is.version;
+  session = is.session;
+  epoch = epoch_stays m.links.epoch journal (r ∷ []) is.epoch;
+  epoch_fits = is.epoch_fits;
+  known_fits = is.known_fits;
+  acked = λ q. let few = is.acked q in omega (arith, few, count_rises rules me journal (r ∷ []));
+  saving = saving;
+}

@@ -14,17 +14,24 @@ use Rattle.c8_log.specs.Log.{AllKeep, KeepsOneOf, LogValue, repaired}
 use Rattle.c8_log.specs.Journal.{JournalValue, AllKeepBodies}
 use Rattle.c8_known.specs.Journal.{Record, Head, Epoch, epoch, epochs}
 use Rattle.c8_known.specs.Known.{KnownValue, known_of, with_record}
+use Rattle.c8_known.specs.Confirmed.{confirmed}
+use Rattle.c8_digest.specs.Origin.{Origin}
+use Rattle.c8_check.specs.Checks.{ChecksValue, with_form, checks_of, or_first, begun_at}
+use Rattle.c8_check.specs.checked.CheckLaws.{opened_more}
+use Rattle.c8_roll.specs.Roll.{RollValue, roll_since}
+use Rattle.c8_record.specs.Allowed.{AreInOrder}
+use Rattle.c8_record.specs.checked.CheckLaws.{or_first_confirmed}
 use Rattle.c8_record.specs.Body.{record_of, records_of}
 use Rattle.c8_record.specs.Replay.{AreJournalBodies, IsRefusal, IsReplayedFromDisk, ReplayRun, is_failed, told_by}
 use Rattle.c8_record.specs.declared.error.ReplayError.{ReplayError}
 use Rattle.c8_record.specs.declared.error.ReplayError.TheVariants as replays
-use Rattle.c8_record.specs.checked.JournalLaws.{epoch_more, known_more, of_game}
+use Rattle.c8_record.specs.checked.JournalLaws.{epoch_more, known_more, checks_more, of_game}
 use Rattle.c8_peer.specs.declared.error.OpenError.{OpenError}
 use Rattle.c8_peer.specs.declared.error.OpenError.TheVariants as opens
 use Rattle.c8_peer.specs.State.{Memory, Opened, fresh_memory}
-use Rattle.c8_peer.specs.Opening.{last_epoch, unfit, opening_record}
+use Rattle.c8_peer.specs.Opening.{last_epoch, second_form, unfit, opening_record}
 use Rattle.c8_peer.specs.Peer.{PeerValue, mode_of, IsSound}
-use Rattle.c8_peer.specs.checked.Held.{IsPeer}
+use Rattle.c8_peer.specs.checked.Held.{IsPeer, IsRolled}
 use Rattle.c8_peer.specs.Opened.{opening_body, bodies_found, ReadRun, AllRead, OpenRun, MayBegin, IsOpened, IsSettled, IsUnread, IsUnfit, IsNotWritten, IsRefusedFor, IsRefusedOpening, OpeningLeaves}
 use Rattle.c8_peer.specs.checked.OpenedParts.{IsRead, BeginRun, IsBegun, IsNotBegun, BeginningLeaves}
 use Rattle.c8_peer.proofs.OpeningLemmas.{opening_allowed, opening_memory}
@@ -36,13 +43,24 @@ use Rattle.c8_peer.proofs.RoomLemmas.{had_room_after}
 
 pub next_epoch : (rules : Rules) (room me : ℕ) (journal : List Record) (last : ℕ) → last ≡ epoch journal → last + 1 ≡ epoch (journal ++ opening_record rules room me journal ∷ [])
 unfolding epochs
-next_epoch rules room me [] last is = ap (λ (n : ℕ). n + 1) is ∙ sym (epoch_more [] (Head me (id_of rules) room))
-next_epoch rules room me (r ∷ rest) last is = ap (λ (n : ℕ). n + 1) is ∙ sym (epoch_more (r ∷ rest) (Epoch me (epoch (r ∷ rest) + 1)))
+next_epoch rules room me [] last is = ap (λ (n : ℕ). n + 1) is ∙ sym (epoch_more [] (Head me second_form (id_of rules) room))
+next_epoch rules room me (r ∷ rest) last is = ap (λ (n : ℕ). n + 1) is ∙ sym (epoch_more (r ∷ rest) (Epoch me (epoch (r ∷ rest) + 1) second_form))
 
 -- an opening's record makes nothing known
 nothing_known : (rules : Rules) (room me : ℕ) (journal : List Record) (k : KnownValue) → with_record k (opening_record rules room me journal) ≡ k
 nothing_known rules room me [] k = refl
 nothing_known rules room me (r ∷ rest) k = refl
+
+-- ---- where the machine begins
+
+-- the last checkpoint before it, whatever the opening's record
+new_beginning : (rules : Rules) (room me : ℕ) (journal : List Record) → begun_at rules (journal ++ opening_record rules room me journal ∷ []) ≡ or_first rules (checks_of journal).last
+new_beginning rules room me [] = ap (or_first rules) (opened_more [] (Head me second_form (id_of rules) room))
+new_beginning rules room me (r ∷ rest) = ap (or_first rules) (opened_more (r ∷ rest) (Epoch me (epoch (r ∷ rest) + 1) second_form))
+
+new_form : (rules : Rules) (room me : ℕ) (journal : List Record) → checks_of (journal ++ opening_record rules room me journal ∷ []) ≡ with_form (checks_of journal) second_form
+new_form rules room me [] = checks_more [] (Head me second_form (id_of rules) room)
+new_form rules room me (r ∷ rest) = checks_more (r ∷ rest) (Epoch me (epoch (r ∷ rest) + 1) second_form)
 
 -- ---- which calls of the disk lead to what was read
 
@@ -79,13 +97,13 @@ module _ {D : Type 0} (g : Ghosts D) (reads_now : (disk : D) → g.may_leave dis
     unfit_after : (error : ReplayError) → IsRefusal rules me room (bodies_found g mid) error → Asks g (ReadRun g disk rules room me (Err error)) (Ok tt) disk left → IsUnfit g disk rules room me error left
     unfit_after error is asks = (subst (λ (bodies : List (List ℕ)). IsRefusal rules me room bodies error) same is, settled_after disk mid left same mended rests reads, asks)
 
-    pub refused_reading : (error : ReplayError) → Asks g (ReadRun g disk rules room me (Err error)) (told_by (Err error)) disk left → (is_failed (Err error) ≡ true → g.failures mid < g.failures left) → IsReplayedFromDisk rules me room (bodies_found g mid) (Err error) k
+    pub refused_reading : (checks : ChecksValue) (error : ReplayError) → Asks g (ReadRun g disk rules room me (Err error)) (told_by (Err error)) disk left → (is_failed (Err error) ≡ true → g.failures mid < g.failures left) → IsReplayedFromDisk rules me room (bodies_found g mid) (Err error) k checks
         → IsRefusedFor g disk rules room me (unfit error) left
-    refused_reading replays.WrongGame asks fails is = unfit_after replays.WrongGame is.0 asks
-    refused_reading replays.WrongPlayer asks fails is = unfit_after replays.WrongPlayer is.0 asks
-    refused_reading (replays.BadRecord n) asks fails is = unfit_after (replays.BadRecord n) is.0 asks
-    refused_reading (replays.Disk Failed) asks fails is = inl (omega (arith, fails refl, first.no_fewer), settled_unread disk left (settled_after disk mid left same mended rests reads), asks)
-    refused_reading (replays.Disk Full) asks fails is = absurd (let why = is.0 in cc)
+    refused_reading checks replays.WrongGame asks fails is = unfit_after replays.WrongGame is.0 asks
+    refused_reading checks replays.WrongPlayer asks fails is = unfit_after replays.WrongPlayer is.0 asks
+    refused_reading checks (replays.BadRecord n) asks fails is = unfit_after (replays.BadRecord n) is.0 asks
+    refused_reading checks (replays.Disk Failed) asks fails is = inl (omega (arith, fails refl, first.no_fewer), settled_unread disk left (settled_after disk mid left same mended rests reads), asks)
+    refused_reading checks (replays.Disk Full) asks fails is = absurd (let why = is.0 in cc)
 
 -- ---- what the record comes to, on the disk as it was found
 
@@ -147,8 +165,17 @@ module _ {D : Type 0} (g : Ghosts D) (disk mid : D) (rules : Rules) (room me : �
 
 -- ---- the peer
 
+-- it begins at frames that are confirmed
+pub begins_confirmed : {D : Type 0} (g : Ghosts D) (disk : D) (rules : Rules) (room me : ℕ) (k : KnownValue) (checks : ChecksValue) (log : LogValue D) (last : ℕ) (from : Origin) → IsRead g disk rules room me k checks log last
+    → from ≡ or_first rules checks.last → AreInOrder (checks_of (records_of (bodies_found g disk))) (known_of rules me (records_of (bodies_found g disk))) → from.frames ≤ confirmed k
+begins_confirmed g disk rules room me k checks log last from read at are =
+    let found : List Record = records_of (bodies_found g disk) in
+    let there : from ≡ or_first rules (checks_of found).last = at ∙ ap (λ (c : ChecksValue). or_first rules c.last) read.checks_are in
+    subst (λ (now : KnownValue). from.frames ≤ confirmed now) (sym read.known)
+    (subst (λ (o : Origin). o.frames ≤ confirmed (known_of rules me found)) (sym there) (or_first_confirmed rules (checks_of found).last (known_of rules me found) are.last))
+
 module _ {D : Type 0} (g : Ghosts D) (disk : D) (rules : Rules) (room me : ℕ) (range : AreInRange rules) (from_one : 1 ≤ me) (in_game : me ≤ rules.players) (low : room < 2 ^ 64)
-    (k : KnownValue) (log : LogValue D) (last : ℕ) (read : IsRead g disk rules room me k log last)
+    (k : KnownValue) (checks : ChecksValue) (log : LogValue D) (last : ℕ) (read : IsRead g disk rules room me k checks log last)
     (journal : JournalValue D) (number : ℕ) (begun : IsBegun g disk rules room me journal number)
     (m : Memory) (fresh : m ≡ fresh_memory rules room me number) where
   longer : records_of journal.bodies ≡ records_of (bodies_found g disk) ++ opening_record rules room me (records_of (bodies_found g disk)) ∷ []
@@ -178,8 +205,23 @@ module _ {D : Type 0} (g : Ghosts D) (disk : D) (rules : Rules) (room me : ℕ) 
         last = ap (λ (one : Memory). one.links.epoch) in_epoch ∙ ap epoch (sym longer);
       })
 
-  pub opened_peer : (ran : ℕ) → ran ≡ k.ticks → IsSound g (view rules room k.me journal m ran) → IsSameDisk g disk journal.disk → Asks g (OpenRun g disk rules room me) (Ok tt) disk journal.disk → IsOpened g disk rules room me (view rules room k.me journal m ran)
-  opened_peer ran runs sound same asks = record {
+  -- where its machine begins
+  begins : begun_at rules (records_of journal.bodies) ≡ or_first rules checks.last
+  begins = ap (begun_at rules) longer ∙ new_beginning rules room me (records_of (bodies_found g disk)) ∙ ap (λ (c : ChecksValue). or_first rules c.last) (sym read.checks_are)
+
+  pub rolled_opened : (c : ChecksValue) (v : RollValue) (from : Origin) (ran : ℕ) → from ≡ or_first rules checks.last → from.frames ≤ confirmed k → c ≡ with_form checks second_form → v ≡ roll_since rules from k → ran + from.frames ≡ k.ticks
+      → IsRolled rules (records_of journal.bodies) k c v ran
+  rolled_opened c v from ran at starts noted rolls runs =
+      let same : begun_at rules (records_of journal.bodies) ≡ from = begins ∙ sym at in
+      record {
+        starts = rw same starts;
+        roll = rolls ∙ ap (λ (o : Origin). roll_since rules o k) (sym same);
+        checks_are = noted ∙ ap (λ (x : ChecksValue). with_form x second_form) read.checks_are ∙ sym (new_form rules room me (records_of (bodies_found g disk))) ∙ ap checks_of (sym longer);
+        bound = inr (rw same runs);
+      }
+
+  pub opened_peer : (from : Origin) (ran : ℕ) → from ≡ or_first rules checks.last → ran + from.frames ≡ k.ticks → IsSound g (view rules room k.me journal m ran) → IsSameDisk g disk journal.disk → Asks g (OpenRun g disk rules room me) (Ok tt) disk journal.disk → IsOpened g disk rules room me (view rules room k.me journal m ran)
+  opened_peer from ran at runs sound same asks = record {
     rules_are = refl;
     room_is = refl;
     me_is = ap (λ (known : KnownValue). known.me) read.known ∙ (of_game rules me (records_of (bodies_found g disk))).player;
@@ -190,7 +232,7 @@ module _ {D : Type 0} (g : Ghosts D) (disk : D) (rules : Rules) (room me : ℕ) 
     may = (read.bodies.journal, begun.not_spent, in_game);
     bodies = read.bodies;
     sound = sound;
-    ran = runs ∙ ticks_are (view rules room k.me journal m ran) rules room journal k m refl peer_opened;
+    ran = ap (λ (o : Origin). ran + o.frames) (begins ∙ sym at) ∙ runs ∙ ticks_are (view rules room k.me journal m ran) rules room journal k m refl peer_opened;
     same = same;
     has_room = had_room_after (AllRead g disk rules room me) (g.capacity disk) (length (bodies_found g disk)) _ asks.calls asks.is;
     asks = asks;

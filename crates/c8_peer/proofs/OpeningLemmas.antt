@@ -1,6 +1,6 @@
 -- What an opening records is allowed after the journal that it finds, and the memory of a peer that
 -- has just been opened is in order.
-use Rattle.std.proofs.Common.{◌≡◌, ℕ, ◌+◌, ◌^◌, ◌<◌, ◌≤◌, List, [], ◌∷◌, ◌++◌, length, Bool, true, false, cond, refl, sym, ap, ◌∙◌, arith, length-append, replicate}
+use Rattle.std.proofs.Common.{◌≡◌, ℕ, ◌+◌, ◌^◌, ◌<◌, ◌≤◌, List, [], ◌∷◌, ◌++◌, length, Bool, true, false, cond, inr, refl, sym, ap, ◌∙◌, arith, length-append, replicate}
 use Rattle.std.specs.Prelude.{◌==◌}
 use Rattle.std.specs.List.{flat_map, list_any}
 use Rattle.std.proofs.lemmas.Bool.{eq-eqb, or_left, or_right}
@@ -13,21 +13,24 @@ use Rattle.c8_hand.specs.Links.{LinkValue, no_link, no_links, link_to}
 use Rattle.c8_known.specs.Journal.{Record, Head, Epoch, words_of, epochs_of, epochs, epoch, had_epoch, held, count}
 use Rattle.c8_known.specs.Known.{known_of, Plays}
 use Rattle.c8_known.specs.checked.StartLaws.{players_known}
+use Rattle.c8_check.specs.Checks.{ChecksValue}
 use Rattle.c8_record.specs.Body.{HasSpelling}
 use Rattle.c8_record.specs.Allowed.{IsAllowed, IsJournal}
-use Rattle.c8_record.specs.checked.JournalLaws.{epoch_more, of_game}
+use Rattle.c8_record.specs.checked.JournalLaws.{epoch_more, checks_more, of_game}
 use Rattle.c8_window.specs.Window.{first_window, acked_of}
 use Rattle.c8_peer.specs.State.{fresh_memory}
-use Rattle.c8_peer.specs.Opening.{last_epoch, opening_record}
-use Rattle.c8_peer.specs.Lawful.{IsMemory}
-use Rattle.c8_peer.proofs.DigestLemmas.{digest_length, digest_bytes_fit}
+use Rattle.c8_peer.specs.Opening.{last_epoch, second_form, opening_record}
+use Rattle.c8_peer.specs.TrueChecks.{HasTrueChecks}
+use Rattle.c8_peer.specs.Lawful.{IsSaving, IsMemory}
+use Rattle.c8_peer.specs.checked.TrueCheckLaws.{opening_true}
+use Rattle.c8_digest.specs.checked.DigestLaws.{digest_length, digest_bytes_fit}
 
 -- ---- the record
 
 me_plays : (rules : Rules) (me : ℕ) (found : List Record) → 1 ≤ me → me ≤ rules.players → Plays (known_of rules me found) me
 me_plays rules me found from to = record { from_one = from; in_game = omega (arith, to, players_known rules me found) }
 
-head_spelled : (rules : Rules) (me room : ℕ) → AreInRange rules → 1 ≤ me → me ≤ rules.players → room < 2 ^ 64 → HasSpelling (Head me (id_of rules) room)
+head_spelled : (rules : Rules) (me room : ℕ) → AreInRange rules → 1 ≤ me → me ≤ rules.players → room < 2 ^ 64 → HasSpelling (Head me second_form (id_of rules) room)
 head_spelled rules me room range from to low =
     let id : List ℕ = id_of rules in
     let long : length id ≡ 32 = digest_length (id_bytes rules) in
@@ -37,17 +40,17 @@ head_spelled rules me room range from to low =
       number = omega arith;
       start = omega arith;
       short = omega (arith, long, length-append id (bytes_high_first 8 room));
-      parts = (long, digest_bytes_fit (id_bytes rules), low);
+      parts = (inr refl, long, digest_bytes_fit (id_bytes rules), low);
     }
 
-epoch_spelled : (rules : Rules) (me number : ℕ) → AreInRange rules → 1 ≤ me → me ≤ rules.players → number ≤ last_epoch → HasSpelling (Epoch me number)
+epoch_spelled : (rules : Rules) (me number : ℕ) → AreInRange rules → 1 ≤ me → me ≤ rules.players → number ≤ last_epoch → HasSpelling (Epoch me number second_form)
 epoch_spelled rules me number range from to low = record {
   from_one = from;
   to_four = omega (arith, to, range.at_most_four);
   number = omega (arith, low);
   start = omega arith;
   short = omega arith;
-  parts = tt;
+  parts = inr refl;
 }
 
 pub opening_allowed : (rules : Rules) (me room : ℕ) (found : List Record) → AreInRange rules → 1 ≤ me → me ≤ rules.players → room < 2 ^ 64
@@ -62,10 +65,16 @@ opening_allowed rules me room [] range from to low is few = record {
 opening_allowed rules me room (r ∷ rest) range from to low is few = record {
   spelled = epoch_spelled rules me (epoch (r ∷ rest) + 1) range from to (omega (arith, few));
   plays = me_plays rules me (r ∷ rest) from to;
-  may = record { own = sym (of_game rules me (r ∷ rest)).player; above = omega arith };
+  may = record { own = sym (of_game rules me (r ∷ rest)).player; above = omega arith; second = λ before. refl };
   begins = λ none. absurd (omega (arith, none));
   dropped = λ other leaving. tt;
 }
+
+-- with it what the journal says of checkpoints stays true
+pub opening_stays : (rules : Rules) (me room : ℕ) (found : List Record) → AreInRange rules → 1 ≤ me → me ≤ rules.players → room < 2 ^ 64
+    → IsJournal rules me room found → epoch found < last_epoch → HasTrueChecks rules me found → HasTrueChecks rules me (found ++ opening_record rules room me found ∷ [])
+opening_stays rules me room found range from to low is few true_checks =
+    opening_true rules me room found range from to is (opening_allowed rules me room found range from to low is few) true_checks
 
 -- ---- the memory
 
@@ -85,11 +94,11 @@ record IsBegun (rules : Rules) (room me : ℕ) (found : List Record) : Type 0 wh
   fits : number < 2 ^ 32
 
 begun : (rules : Rules) (room me : ℕ) (found : List Record) → epoch found < last_epoch → IsBegun rules room me found
-begun rules room me [] few = record { number = 1; begins = refl; last = epoch_more [] (Head me (id_of rules) room); fits = omega arith }
+begun rules room me [] few = record { number = 1; begins = refl; last = epoch_more [] (Head me second_form (id_of rules) room); fits = omega arith }
 begun rules room me (r ∷ rest) few = record {
   number = epoch (r ∷ rest) + 1;
   begins = refl;
-  last = epoch_more (r ∷ rest) (Epoch me (epoch (r ∷ rest) + 1));
+  last = epoch_more (r ∷ rest) (Epoch me (epoch (r ∷ rest) + 1) second_form);
   fits = omega (arith, few);
 }
 
@@ -115,6 +124,15 @@ delay_held : (rules : Rules) (q : ℕ) (journal : List Record) → rules.delay �
 unfolding held
 delay_held rules q journal = omega (arith, length-append (replicate rules.delay 0) (flat_map (words_of q) journal), length-replicate {A = ℕ} rules.delay 0)
 
+-- the second form begins, and no checkpoint is under way
+opening_saving : (rules : Rules) (room me : ℕ) (found : List Record) → IsSaving rules me (found ++ opening_record rules room me found ∷ [])
+opening_saving rules room me [] =
+    let checks = checks_more [] (Head me second_form (id_of rules) room) in
+    record { form = ap (λ (c : ChecksValue). c.form) checks; starts = λ p e. absurd (let none = ap (λ (c : ChecksValue). c.under_way) (sym checks) ∙ e in cc); bytes = λ p e. absurd (let none = ap (λ (c : ChecksValue). c.under_way) (sym checks) ∙ e in cc) }
+opening_saving rules room me (r ∷ rest) =
+    let checks = checks_more (r ∷ rest) (Epoch me (epoch (r ∷ rest) + 1) second_form) in
+    record { form = ap (λ (c : ChecksValue). c.form) checks; starts = λ p e. absurd (let none = ap (λ (c : ChecksValue). c.under_way) (sym checks) ∙ e in cc); bytes = λ p e. absurd (let none = ap (λ (c : ChecksValue). c.under_way) (sym checks) ∙ e in cc) }
+
 pub opening_memory : (rules : Rules) (me room : ℕ) (found : List Record) → AreInRange rules → 1 ≤ me → me ≤ rules.players
     → IsJournal rules me room found → epoch found < last_epoch
     → IsMemory rules room me (found ++ opening_record rules room me found ∷ []) (fresh_memory rules room me (epoch (found ++ opening_record rules room me found ∷ [])))
@@ -132,4 +150,5 @@ opening_memory rules me room found range from to is few =
       epoch_fits = omega (arith, last, new_epoch.fits);
       known_fits = λ q. omega (arith, none_known rules me room (epoch later) q);
       acked = λ q. omega (arith, delay_acked rules.delay q, delay_held rules me later);
+      saving = opening_saving rules room me found;
     }

@@ -10,9 +10,10 @@ use Rattle.c8_disk.specs.checked.RunLaws.{weaker}
 use Rattle.c8_disk.specs.Asks.{Answer, Asks}
 use Rattle.c8_log.specs.Asked.{AppendWithin}
 use Rattle.c8_log.specs.Journal.{JournalValue, KeepsBodies}
-use Rattle.c8_known.specs.Journal.{Record, Head, Epoch, Own, Got, Freeze, Leave, Cut, epoch}
-use Rattle.c8_known.specs.checked.JournalLaws.{epoch_stays}
+use Rattle.c8_known.specs.Journal as journals
+use Rattle.c8_known.specs.Journal.{Record, Head, Epoch, Own, Got, Freeze, Leave, Cut, Check, epoch}
 use Rattle.c8_known.specs.Known.{KnownValue, known_of, with_record, IsOfGame}
+use Rattle.c8_known.specs.checked.ConfirmedLaws.{confirmed_rises}
 use Rattle.c8_known.specs.Growth.{IsStillKnown}
 use Rattle.c8_record.specs.Body.{body_of, record_of, records_of, HasSpelling, Spells}
 use Rattle.c8_record.specs.checked.BodyLaws.{bodies_back, read_again}
@@ -20,39 +21,31 @@ use Rattle.c8_record.specs.checked.RefusalLaws.{journal_bodies}
 use Rattle.c8_record.specs.Allowed.{IsAllowed, past_of, CanFollow}
 use Rattle.c8_record.specs.Replay.{AreJournalBodies}
 use Rattle.c8_record.specs.checked.JournalLaws.{journal_more, known_more, epoch_more, of_game}
-use Rattle.c8_roll.specs.Roll.{RollValue, roll_of}
+use Rattle.c8_digest.specs.Origin.{Origin}
+use Rattle.c8_check.specs.Checks.{ChecksValue, checks_of, begun_at}
+use Rattle.c8_roll.specs.Roll.{RollValue, roll_since, IsRollSince, GrowsTo}
 use Rattle.c8_roll.specs.checked.RollLaws.{roll_rules}
 use Rattle.c8_roll.specs.Rollback.{KeepsRows, IsWithinWindow, RunsFromOldest, RunsFromWhatWasKnown}
 use Rattle.c8_peer.specs.State.{Memory, Open, Down, Call, Reply, Outcome, recorded}
+use Rattle.c8_peer.specs.Told.{told_of}
 use Rattle.c8_peer.specs.Steps.{outcome}
 use Rattle.c8_peer.proofs.AllowedLemmas.{keeps_allowed}
-use Rattle.c8_peer.specs.Lawful.{IsMemory, IsCall}
-use Rattle.c8_peer.specs.checked.TruthLaws.{count_rises}
+use Rattle.c8_peer.specs.Lawful.{IsSaving, IsMemory, IsCall}
+use Rattle.c8_peer.proofs.MemoryLemmas.{memory_more}
 use Rattle.c8_peer.specs.Peer.{PeerValue, known_by, mode_of, state_of, RunsFrames, KeepsWithOrWithout}
-use Rattle.c8_peer.specs.checked.Held.{IsPeer, is_opening, is_entry, most_run_with, WasRoll}
+use Rattle.c8_peer.specs.checked.Held.{IsPeer, IsRolled, is_play, is_entry, most_run_with, WasRoll}
 
--- the memory stays in order with each record more
-pub memory_more : (rules : Rules) (room me : ℕ) (journal more : List Record) (m : Memory) → IsMemory rules room me journal m → IsMemory rules room me (journal ++ more) m
-memory_more rules room me journal more m is = record {
-  player = is.player;
-  players = is.players;
-  version = is.version;
-  session = is.session;
-  epoch = epoch_stays m.links.epoch journal more is.epoch;
-  epoch_fits = is.epoch_fits;
-  known_fits = is.known_fits;
-  acked = λ q. let few = is.acked q in omega (arith, few, count_rises rules me journal more);
-}
-
--- a record that no opening adds begins no epoch
-same_epoch : (journal : List Record) (r : Record) → is_opening r ≡ false → epoch (journal ++ r ∷ []) ≡ epoch journal
-same_epoch journal (Head player id room) other = absurd cc
-same_epoch journal (Epoch player number) other = absurd cc
+-- what players do begins no epoch
+pub same_epoch : (journal : List Record) (r : Record) → is_play r ≡ true → epoch (journal ++ r ∷ []) ≡ epoch journal
+same_epoch journal (Head player form id room) other = absurd cc
+same_epoch journal (Epoch player number form) other = absurd cc
 same_epoch journal (Own player start word) other = epoch_more journal (Own player start word)
 same_epoch journal (Got player start words) other = epoch_more journal (Got player start words)
 same_epoch journal (Freeze player) other = epoch_more journal (Freeze player)
 same_epoch journal (Leave player) other = epoch_more journal (Leave player)
 same_epoch journal (Cut player length start words) other = epoch_more journal (Cut player length start words)
+same_epoch journal (journals.State player frames piece words) other = absurd cc
+same_epoch journal (Check player frames words) other = absurd cc
 
 -- ---- bodies and records
 
@@ -113,9 +106,9 @@ module _ {D : Type 0} where
   }
 
   pub peer_more : (rules : Rules) (room : ℕ) (old new : JournalValue D) (k later : KnownValue) (m : Memory) (r : Record) → IsPeer rules room old k m
-      → IsAllowed rules k.me room (records_of old.bodies) r → is_opening r ≡ false
+      → IsAllowed rules k.me room (records_of old.bodies) r → epoch (records_of old.bodies ++ r ∷ []) ≡ epoch (records_of old.bodies) → IsSaving rules k.me (records_of old.bodies ++ r ∷ [])
       → new.bodies ≡ old.bodies ++ body_of r ∷ [] → new.pending ≡ None → later ≡ with_record k r → later.me ≡ k.me → IsPeer rules room new later m
-  peer_more rules room old new k later m r is may other more pending known same =
+  peer_more rules room old new k later m r is may other saving more pending known same =
       let journal : List Record = records_of old.bodies in
       let longer : records_of new.bodies ≡ journal ++ r ∷ [] = ap records_of more ∙ one_body_more old.bodies r may.spelled in
       let all : IsPeer rules room new later m = record {
@@ -127,30 +120,39 @@ module _ {D : Type 0} where
         pending = λ body e. let never : None ≡ Some body = sym pending ∙ e in absurd cc;
         pending_may = λ body e. let never : None ≡ Some body = sym pending ∙ e in absurd cc;
         known = known ∙ rw (same, longer) (ap (λ (before : KnownValue). with_record before r) is.known ∙ sym (known_more rules k.me room journal r may));
-        memory = rw (same, longer) (memory_more rules room k.me journal (r ∷ []) m is.memory);
-        last = is.last ∙ sym (same_epoch journal r other) ∙ ap epoch (sym longer);
+        memory = rw (same, longer) (memory_more rules room k.me journal r m is.memory saving);
+        last = is.last ∙ sym other ∙ ap epoch (sym longer);
       } in
       all
 
 -- ---- the roll
 
+since : (rules : Rules) (journal : List Record) (k : KnownValue) (checks : ChecksValue) (v : RollValue) (ran : ℕ) → IsRolled rules journal k checks v ran → IsRollSince (begun_at rules journal) k v
+since rules journal k checks v ran is =
+    let game : v.rules ≡ rules = roll_rules rules (begun_at rules journal) k v is.roll in
+    record { starts = is.starts; is = is.roll ∙ ap (λ (one : Rules). roll_since one (begun_at rules journal) k) (sym game) }
+
 one_tick : (k : KnownValue) (r : Record) → (with_record k r).ticks ≤ k.ticks + 1
-one_tick k (Head player id room) = omega arith
-one_tick k (Epoch player number) = omega arith
+one_tick k (Head player form id room) = omega arith
+one_tick k (Epoch player number form) = omega arith
 one_tick k (Own player start word) = omega arith
 one_tick k (Got player start words) = omega arith
 one_tick k (Freeze player) = omega arith
 one_tick k (Leave player) = omega arith
 one_tick k (Cut player length start words) = omega arith
+one_tick k (journals.State player frames piece words) = omega arith
+one_tick k (Check player frames words) = omega arith
 
 no_tick : (k : KnownValue) (r : Record) → is_entry r ≡ false → (with_record k r).ticks ≡ k.ticks
-no_tick k (Head player id room) other = refl
-no_tick k (Epoch player number) other = refl
+no_tick k (Head player form id room) other = refl
+no_tick k (Epoch player number form) other = refl
 no_tick k (Own player start word) other = absurd cc
 no_tick k (Got player start words) other = refl
 no_tick k (Freeze player) other = refl
 no_tick k (Leave player) other = refl
 no_tick k (Cut player length start words) other = refl
+no_tick k (journals.State player frames piece words) other = refl
+no_tick k (Check player frames words) other = refl
 
 -- a roll within the window runs no more than the record is worth
 pub runs_few : (rules : Rules) (k later : KnownValue) (r : Record) (ran : ℕ) → later ≡ with_record k r → ran ≤ rules.window + 1 → (later.ticks ≤ k.ticks → ran ≤ rules.window)
@@ -163,20 +165,35 @@ runs_few rules k later r ran more most settled = elim (cases_Bool (is_entry r)) 
 ]
 
 -- the rows that a roll kept are those of what was known
-pub runs_anew : (rules : Rules) (v : RollValue) (rows : List Row) (k later : KnownValue) (ran : ℕ) → v ≡ roll_of rules k → KeepsRows rules.window k rows → IsWithinWindow v
-    → RunsFromWhatWasKnown v rows later ran → RunsFromOldest k later ran
-runs_anew rules v rows k later ran is keeps few again =
-    let game : v.rules ≡ rules = roll_rules rules k v is in
-    again k (is ∙ ap (λ (one : Rules). roll_of one k) (sym game)) (subst (λ (one : Rules). KeepsRows one.window k rows) (sym game) keeps) (omega (arith, few))
+pub runs_anew : (rules : Rules) (journal : List Record) (v : RollValue) (checks : ChecksValue) (rows : List Row) (k later : KnownValue) (was ran : ℕ) → IsRolled rules journal k checks v was → KeepsRows rules.window k rows
+    → IsWithinWindow v → RunsFromWhatWasKnown v rows later ran → RunsFromOldest k later ran
+runs_anew rules journal v checks rows k later was ran is keeps few again =
+    let game : v.rules ≡ rules = roll_rules rules (begun_at rules journal) k v is.roll in
+    again (begun_at rules journal) k (since rules journal k checks v was is) (subst (λ (one : Rules). KeepsRows one.window k rows) (sym game) keeps) (omega (arith, few))
 
-pub was_roll : (rules : Rules) (v : RollValue) (k later : KnownValue) (r : Record) → v ≡ roll_of rules k → later ≡ with_record k r → IsStillKnown k later → WasRoll v later
-unfolding roll_of
-was_roll rules v k later r is more still = record {
+pub was_roll : (rules : Rules) (journal : List Record) (v : RollValue) (checks : ChecksValue) (k later : KnownValue) (r : Record) (was : ℕ) → IsRolled rules journal k checks v was → later ≡ with_record k r → IsStillKnown k later → WasRoll v later
+was_roll rules journal v checks k later r was is more still = record {
+  from = begun_at rules journal;
   before = k;
-  was = is ∙ ap (λ (one : Rules). roll_of one k) (sym (ap (λ (x : RollValue). x.rules) is));
+  was = since rules journal k checks v was is;
   still = still;
   one_tick = rw more (one_tick k r);
 }
+
+-- with one more thing done the roll is that of what is known now
+pub rolled_more : (rules : Rules) (before now : List Record) (checks noted : ChecksValue) (v next : RollValue) (k later : KnownValue) (r : Record) (was ran : ℕ) → IsRolled rules before k checks v was
+    → begun_at rules (before ++ r ∷ []) ≡ begun_at rules before → noted ≡ checks_of (before ++ r ∷ []) → now ≡ before ++ r ∷ []
+    → IsStillKnown k later → GrowsTo v next later → ran ≤ v.rules.window + 1 → IsRolled rules now later noted next ran
+rolled_more rules before now checks noted v next k later r was ran is same_start note more still grows few =
+    let game : v.rules ≡ rules = roll_rules rules (begun_at rules before) k v is.roll in
+    let begun : begun_at rules now ≡ begun_at rules before = ap (begun_at rules) more ∙ same_start in
+    let starts = is.starts in
+    record {
+      starts = rw begun (omega (arith, starts, confirmed_rises k later still));
+      roll = grows (begun_at rules before) k (since rules before k checks v was is) still ∙ ap (λ (one : Rules). roll_since one (begun_at rules before) later) game ∙ ap (λ (from : Origin). roll_since rules from later) (sym begun);
+      checks_are = note ∙ ap checks_of (sym more);
+      bound = inl (subst (λ (one : Rules). ran ≤ one.window + 1) game few);
+    }
 
 -- ---- the peer as it is seen
 
@@ -254,10 +271,10 @@ module _ {D : Type 0} where
 
   -- what a call records may be recorded
   pub may_record : (rules : Rules) (room : ℕ) (j : JournalValue D) (k : KnownValue) (m : Memory) → IsPeer rules room j k m → (call : Call) → IsCall call
-      → (noted : Memory) (reply : Reply) (r : Record) → outcome rules k m call ≡ recorded noted reply r → IsAllowed rules k.me room (records_of j.bodies) r
+      → (noted : Memory) (reply : Reply) (r : Record) → outcome rules (told_of rules k.me (records_of j.bodies)) k m call ≡ recorded noted reply r → IsAllowed rules k.me room (records_of j.bodies) r
   may_record rules room j k m is call may noted reply r comes =
-      let keeps : (outcome rules (known_of rules k.me (records_of j.bodies)) m call).keeps ≡ Some r =
-      subst (λ (known : KnownValue). (outcome rules known m call).keeps ≡ Some r) is.known (ap (λ (o : Outcome). o.keeps) comes) in
+      let keeps : (outcome rules (told_of rules k.me (records_of j.bodies)) (known_of rules k.me (records_of j.bodies)) m call).keeps ≡ Some r =
+      subst (λ (known : KnownValue). (outcome rules (told_of rules k.me (records_of j.bodies)) known m call).keeps ≡ Some r) is.known (ap (λ (o : Outcome). o.keeps) comes) in
       keeps_allowed rules k.me room (records_of j.bodies) m call r is.range is.from_one is.in_game is.bodies.journal is.memory may keeps
 
 pub is_up : (is_down : Bool) → mode_of is_down ≡ Open → is_down ≡ false

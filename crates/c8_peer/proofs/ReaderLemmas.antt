@@ -20,10 +20,13 @@ use Rattle.c8_known.specs.checked.StartLaws.{players_known}
 use Rattle.c8_record.specs.Body.{body_of, record_of, records_of, Spells}
 use Rattle.c8_record.specs.checked.BodyLaws.{bodies_back}
 use Rattle.c8_record.specs.Replay.{AreJournalBodies}
-use Rattle.c8_roll.specs.Roll.{RollValue, roll_of}
+use Rattle.c8_check.specs.Checks.{ChecksValue}
+use Rattle.c8_roll.specs.Roll.{RollValue, roll_of, roll_since}
+use Rattle.c8_roll.specs.checked.RollLaws.{on_the_way}
 use Rattle.c8_peer.specs.State.{Memory, Open, Down}
-use Rattle.c8_peer.specs.Peer.{PeerValue, known_by, mode_of, KeepsWithOrWithout, IsSound}
-use Rattle.c8_peer.specs.checked.Held.{IsPeer}
+use Rattle.c8_peer.specs.TrueChecks.{HasTrueChecks}
+use Rattle.c8_peer.specs.Peer.{PeerValue, known_by, begun_by, mode_of, KeepsWithOrWithout, IsSound}
+use Rattle.c8_peer.specs.checked.Held.{IsPeer, IsRolled}
 use Rattle.c8_peer.proofs.PeerLemmas.{view}
 use Rattle.c8_peer.proofs.MemoryLemmas.{own_count}
 
@@ -106,12 +109,16 @@ module _ {D : Type 0} where
   unfolding known_of
   ticks_are v rules room j k m seen is = ap (λ (known : KnownValue). known.ticks) (known_is v rules room j k m seen is)
 
-  pub roll_is : {ran : ℕ} (v : PeerValue D) (rules : Rules) (room : ℕ) (j : JournalValue D) (k : KnownValue) (m : Memory) (roll : RollValue) → view rules room k.me j m ran ≡ v → IsPeer rules room j k m
-      → roll ≡ roll_of rules k → roll ≡ roll_of v.rules (known_by v)
+  pub roll_is : {ran was : ℕ} {checks : ChecksValue} (v : PeerValue D) (rules : Rules) (room : ℕ) (j : JournalValue D) (k : KnownValue) (m : Memory) (roll : RollValue) → view rules room k.me j m ran ≡ v → IsPeer rules room j k m
+      → IsRolled rules (records_of j.bodies) k checks roll was → roll ≡ roll_since v.rules (begun_by v) (known_by v)
   roll_is v rules room j k m roll seen is rolled =
       let same : rules ≡ v.rules = ap (λ (x : PeerValue D). x.rules) seen in
       let known : k ≡ known_by v = known_is v rules room j k m seen is in
-      rolled ∙ (λ i. roll_of (same i) (known i))
+      rolled.roll ∙ (λ i. roll_since (same i) (begun_by (seen i)) (known i))
+
+  -- where what the journal says of checkpoints is true it is the roll that is run from the first frame on
+  pub true_roll : (v : PeerValue D) (roll : RollValue) → roll ≡ roll_since v.rules (begun_by v) (known_by v) → HasTrueChecks v.rules v.me v.state.journal → roll ≡ roll_of v.rules (known_by v)
+  true_roll v roll is true_checks = is ∙ on_the_way v.rules (known_by v) (begun_by v) true_checks.begun
 
   -- ---- how much there can be
 

@@ -15,10 +15,12 @@ use Rattle.c8_known.specs.Confirmed.{confirmed}
 use Rattle.c8_known.specs.Fresh.{is_from_leaver, misfit, fresh_words}
 use Rattle.c8_round.specs.Round.{is_ready, with_report}
 use Rattle.c8_window.specs.Window.{acked_more}
+use Rattle.c8_check.specs.Checks.{Pieces, frames_of}
+use Rattle.c8_peer.specs.Told.{Told, told_of}
 use Rattle.c8_peer.specs.declared.error.Refused.{Refused}
 use Rattle.c8_peer.specs.declared.error.Refused.TheVariants as refusals
-use Rattle.c8_peer.specs.State.{Memory, Mode, Open, Down, Away, State, Saying, Call, Tick, Deliver, Say, Leave, Decide, Reply, Delivered, Outcome, answered}
-use Rattle.c8_peer.specs.Calls.{tick, leave, decide}
+use Rattle.c8_peer.specs.State.{Memory, Mode, Open, Down, Away, State, Saying, Call, Tick, Deliver, Say, Leave, Decide, Checkpoint, Reply, Delivered, Outcome, answered}
+use Rattle.c8_peer.specs.Calls.{tick, leave, decide, next_piece, checkpoint}
 use Rattle.c8_peer.specs.Saying.{say}
 use Rattle.c8_peer.specs.Hearing.{refused, unless_misfit, got, is_desync, hear_data, hear_welcome, hear_freeze, hear_frozen, hear_end, hear_cut, hear_message, is_of_other_wire, unless_hand, deliver}
 use Rattle.c8_peer.specs.Steps.{outcome, Luck, Works, Refuses, refused_by_disk, when_down, Stepped, done, at_mode, step, IsPlainRefusal}
@@ -72,6 +74,14 @@ decide_fits k m leaver =
     (either (OutcomeFits m) (is_some (player_in k leaver).cut) _ _ (answered_fits m _ (λ e. cc e))
     (either (OutcomeFits m) (not (is_ready m.chair k leaver)) _ _ (answered_fits m _ (λ e. cc e)) (taken_fits m _ (λ none. none) (λ e. cc e))))
 
+piece_fits : (t : Told) (k : KnownValue) (m : Memory) (o : Option Pieces) → OutcomeFits m (next_piece t k m o)
+piece_fits t k m None = either (OutcomeFits m) (nat_le (confirmed k) (frames_of t.checks.last)) _ _ (answered_fits m _ (λ e. cc e)) (taken_fits m _ (λ none. none) (λ e. cc e))
+piece_fits t k m (Some p) = either (OutcomeFits m) (p.count == 36) _ _ (taken_fits m _ (λ none. none) (λ e. cc e)) (taken_fits m _ (λ none. none) (λ e. cc e))
+
+checkpoint_fits : (t : Told) (k : KnownValue) (m : Memory) → OutcomeFits m (checkpoint t k m)
+unfolding checkpoint
+checkpoint_fits t k m = either (OutcomeFits m) (player_in k k.me).leaving _ _ (answered_fits m _ (λ e. cc e)) (piece_fits t k m t.checks.under_way)
+
 misfit_fits : (m : Memory) (error : Option KnownError) (o : Outcome) → OutcomeFits m o → OutcomeFits m (unless_misfit m error o)
 misfit_fits m None o fits = fits
 misfit_fits m (Some error) o fits = refused_fits m (refusals.Known error) (λ e. cc e)
@@ -81,13 +91,13 @@ got_fits : (k : KnownValue) (m left : Memory) (q : ℕ) (words : List ℕ) → O
 got_fits k m left q [] = taken_fits m _ (λ none. none) (λ e. cc e)
 got_fits k m left q (word ∷ words) = taken_fits m _ (λ none. none) (λ e. cc e)
 
-data_fits : (rules : Rules) (k : KnownValue) (m : Memory) (q : ℕ) (d : DataMessage) → OutcomeFits m (hear_data rules k m q d)
+data_fits : (rules : Rules) (t : Told) (k : KnownValue) (m : Memory) (q : ℕ) (d : DataMessage) → OutcomeFits m (hear_data t k m q d)
 unfolding hear_data
-data_fits rules k m q d =
+data_fits rules t k m q d =
     either (OutcomeFits m) (is_from_leaver k q q) _ _ (refused_fits m _ (λ e. cc e))
     (either (OutcomeFits m) (nat_lt (count_in k k.me) d.ack) _ _ (refused_fits m _ (λ e. cc e))
     (misfit_fits m (misfit k q d.start d.words) _
-    (either (OutcomeFits m) (is_desync rules k d) _ _ (desync_fits m) (got_fits k m (record m { acks = acked_more m.acks q d.ack }) q (fresh_words k q d.start d.words)))))
+    (either (OutcomeFits m) (is_desync t d) _ _ (desync_fits m) (got_fits k m (record m { acks = acked_more m.acks q d.ack }) q (fresh_words k q d.start d.words)))))
 
 welcome_fits : (k : KnownValue) (m : Memory) (head : HeadValue) (ack : ℕ) → OutcomeFits m (hear_welcome k m head ack)
 unfolding hear_welcome
@@ -127,44 +137,46 @@ cut_fits k m q c =
     (either (OutcomeFits m) (not (is_player k c.leaver)) _ _ (refused_fits m _ (λ e. cc e))
     (either (OutcomeFits m) (not (player_in k c.leaver).frozen) _ _ (refused_fits m _ (λ e. cc e)) (end_fits k m c (player_in k c.leaver).cut))))
 
-message_fits : (rules : Rules) (k : KnownValue) (m : Memory) (head : HeadValue) (message : Message) → OutcomeFits m (hear_message rules k m head message)
-message_fits rules k m head packets.Hello = taken_fits m _ (λ none. none) (λ e. cc e)
-message_fits rules k m head (packets.Welcome ack) = welcome_fits k m head ack
-message_fits rules k m head (packets.Data d) = data_fits rules k m head.from d
-message_fits rules k m head (packets.Freeze f) = freeze_fits k m head.from f
-message_fits rules k m head (packets.Frozen f) = frozen_fits k m head.from f
-message_fits rules k m head (packets.Cut c) = cut_fits k m head.from c
+message_fits : (rules : Rules) (t : Told) (k : KnownValue) (m : Memory) (head : HeadValue) (message : Message) → OutcomeFits m (hear_message rules t k m head message)
+message_fits rules t k m head packets.Hello = taken_fits m _ (λ none. none) (λ e. cc e)
+message_fits rules t k m head (packets.Welcome ack) = welcome_fits k m head ack
+message_fits rules t k m head (packets.Data d) = data_fits rules t k m head.from d
+message_fits rules t k m head (packets.Freeze f) = freeze_fits k m head.from f
+message_fits rules t k m head (packets.Frozen f) = frozen_fits k m head.from f
+message_fits rules t k m head (packets.Cut c) = cut_fits k m head.from c
 
 hand_fits : (m : Memory) (error : Option HandError) (o : Outcome) → OutcomeFits m o → OutcomeFits m (unless_hand m error o)
 hand_fits m None o fits = fits
 hand_fits m (Some error) o fits = refused_fits m (refusals.Hand error) (λ e. cc e)
 
-deliver_fits : (rules : Rules) (k : KnownValue) (m : Memory) (told : Result Packet WireError) → OutcomeFits m (deliver rules k m told)
-deliver_fits rules k m (Ok p) =
+deliver_fits : (rules : Rules) (t : Told) (k : KnownValue) (m : Memory) (told : Result Packet WireError) → OutcomeFits m (deliver rules t k m told)
+deliver_fits rules t k m (Ok p) =
     either (OutcomeFits m) (player_in k k.me).leaving _ _ (refused_fits m _ (λ e. cc e))
     (either (OutcomeFits m) (is_of_other_wire rules p.head) _ _ (refused_fits m _ (λ e. cc e))
-    (hand_fits m (links.refusal m.links p.head) (hear_message rules k m p.head p.message) (message_fits rules k m p.head p.message)))
-deliver_fits rules k m (Err error) = either (OutcomeFits m) (player_in k k.me).leaving _ _ (refused_fits m _ (λ e. cc e)) (refused_fits m _ (λ e. cc e))
+    (hand_fits m (links.refusal m.links p.head) (hear_message rules t k m p.head p.message) (message_fits rules t k m p.head p.message)))
+deliver_fits rules t k m (Err error) = either (OutcomeFits m) (player_in k k.me).leaving _ _ (refused_fits m _ (λ e. cc e)) (refused_fits m _ (λ e. cc e))
 
-call_fits : (rules : Rules) (k : KnownValue) (m : Memory) (call : Call) → OutcomeFits m (outcome rules k m call)
-call_fits rules k m (Tick keys) = tick_fits rules k m keys
-call_fits rules k m (Deliver told) = deliver_fits rules k m told
-call_fits rules k m (Say to what) = say_is (OutcomeFits m) rules k m to what (λ answer. answered_fits m _ (λ e. cc e))
-call_fits rules k m (Leave leaver) = leave_fits k m leaver
-call_fits rules k m (Decide leaver) = decide_fits k m leaver
+call_fits : (rules : Rules) (t : Told) (k : KnownValue) (m : Memory) (call : Call) → OutcomeFits m (outcome rules t k m call)
+call_fits rules t k m (Tick keys) = tick_fits rules k m keys
+call_fits rules t k m (Deliver told) = deliver_fits rules t k m told
+call_fits rules t k m (Say to what) = say_is (OutcomeFits m) rules t k m to what (λ answer. answered_fits m _ (λ e. cc e))
+call_fits rules t k m (Leave leaver) = leave_fits k m leaver
+call_fits rules t k m (Decide leaver) = decide_fits k m leaver
+call_fits rules t k m Checkpoint = checkpoint_fits t k m
 
 -- ---- what the disk refuses
 
-say_keeps_none : (rules : Rules) (k : KnownValue) (m : Memory) (to : ℕ) (what : Saying) → (say rules k m to what).keeps ≡ None
-say_keeps_none rules k m to what = say_is (λ o. o.keeps ≡ None) rules k m to what (λ answer. refl)
+say_keeps_none : (rules : Rules) (t : Told) (k : KnownValue) (m : Memory) (to : ℕ) (what : Saying) → (say rules t k m to what).keeps ≡ None
+say_keeps_none rules t k m to what = say_is (λ o. o.keeps ≡ None) rules t k m to what (λ answer. refl)
 
-disk_is_not_plain : (rules : Rules) (k : KnownValue) (m : Memory) (call : Call) (r : Record) (why : DiskError) → (outcome rules k m call).keeps ≡ Some r
+disk_is_not_plain : (rules : Rules) (t : Told) (k : KnownValue) (m : Memory) (call : Call) (r : Record) (why : DiskError) → (outcome rules t k m call).keeps ≡ Some r
     → IsPlainRefusal (refused_by_disk call why) → ⊥
-disk_is_not_plain rules k m (Tick keys) r why keeps plain = plain why refl
-disk_is_not_plain rules k m (Deliver told) r why keeps plain = plain.1 why refl
-disk_is_not_plain rules k m (Say to what) r why keeps plain = let none = say_keeps_none rules k m to what in cc
-disk_is_not_plain rules k m (Leave leaver) r why keeps plain = plain why refl
-disk_is_not_plain rules k m (Decide leaver) r why keeps plain = plain why refl
+disk_is_not_plain rules t k m (Tick keys) r why keeps plain = plain why refl
+disk_is_not_plain rules t k m (Deliver told) r why keeps plain = plain.1 why refl
+disk_is_not_plain rules t k m (Say to what) r why keeps plain = let none = say_keeps_none rules t k m to what in cc
+disk_is_not_plain rules t k m (Leave leaver) r why keeps plain = plain why refl
+disk_is_not_plain rules t k m (Decide leaver) r why keeps plain = plain why refl
+disk_is_not_plain rules t k m Checkpoint r why keeps plain = plain why refl
 
 disk_is_not_desync : (call : Call) (why : DiskError) → refused_by_disk call why ≢ Delivered (Err refusals.Desync)
 disk_is_not_desync (Tick keys) why = λ e. cc e
@@ -172,6 +184,7 @@ disk_is_not_desync (Deliver told) why = λ e. cc e
 disk_is_not_desync (Say to what) why = λ e. cc e
 disk_is_not_desync (Leave leaver) why = λ e. cc e
 disk_is_not_desync (Decide leaver) why = λ e. cc e
+disk_is_not_desync Checkpoint why = λ e. cc e
 
 down_is_not_desync : (call : Call) → when_down call ≢ Delivered (Err refusals.Desync)
 down_is_not_desync (Tick keys) = λ e. cc e
@@ -179,6 +192,7 @@ down_is_not_desync (Deliver told) = λ e. cc e
 down_is_not_desync (Say to what) = λ e. cc e
 down_is_not_desync (Leave leaver) = λ e. cc e
 down_is_not_desync (Decide leaver) = λ e. cc e
+down_is_not_desync Checkpoint = λ e. cc e
 
 -- ---- the step
 
@@ -187,33 +201,33 @@ record StepFits (s : State) (t : Stepped) : Type 0 where
   plain : IsPlainRefusal t.reply → t.state ≡ s
   desync : t.reply ≡ Delivered (Err refusals.Desync) → t.state ≡ record s { memory = record s.memory { alarm = true } }
 
-done_fits : (rules : Rules) (k : KnownValue) (s : State) (call : Call) (keeps : Option Record) (luck : Luck) → (outcome rules k s.memory call).keeps ≡ keeps
-    → StepFits s (done s call (outcome rules k s.memory call) keeps luck)
-done_fits rules k s call None luck is =
-    let fits = call_fits rules k s.memory call in
+done_fits : (rules : Rules) (t : Told) (k : KnownValue) (s : State) (call : Call) (keeps : Option Record) (luck : Luck) → (outcome rules t k s.memory call).keeps ≡ keeps
+    → StepFits s (done s call (outcome rules t k s.memory call) keeps luck)
+done_fits rules t k s call None luck is =
+    let fits = call_fits rules t k s.memory call in
     record {
       plain = λ plain. ap (λ (m : Memory). record s { memory = m }) (fits.plain plain).same;
       desync = λ desync. ap (λ (m : Memory). record s { memory = m }) (fits.desync desync).same;
     }
-done_fits rules k s call (Some r) Works is =
-    let fits = call_fits rules k s.memory call in
+done_fits rules t k s call (Some r) Works is =
+    let fits = call_fits rules t k s.memory call in
     record {
       plain = λ plain. absurd (let none = (fits.plain plain).none in cc);
       desync = λ desync. absurd (let none = (fits.desync desync).none in cc);
     }
-done_fits rules k s call (Some r) (Refuses why) is = record {
-  plain = λ plain. absurd (disk_is_not_plain rules k s.memory call r why is plain);
+done_fits rules t k s call (Some r) (Refuses why) is = record {
+  plain = λ plain. absurd (disk_is_not_plain rules t k s.memory call r why is plain);
   desync = λ desync. absurd (disk_is_not_desync call why desync);
 }
 
-mode_fits : (rules : Rules) (k : KnownValue) (s : State) (call : Call) (mode : Mode) (luck : Luck) → StepFits s (at_mode s call (outcome rules k s.memory call) mode luck)
-mode_fits rules k s call Open luck = done_fits rules k s call (outcome rules k s.memory call).keeps luck refl
-mode_fits rules k s call Down luck = record { plain = λ plain. refl; desync = λ desync. absurd (down_is_not_desync call desync) }
-mode_fits rules k s call Away luck = record { plain = λ plain. refl; desync = λ desync. absurd (down_is_not_desync call desync) }
+mode_fits : (rules : Rules) (t : Told) (k : KnownValue) (s : State) (call : Call) (mode : Mode) (luck : Luck) → StepFits s (at_mode s call (outcome rules t k s.memory call) mode luck)
+mode_fits rules t k s call Open luck = done_fits rules t k s call (outcome rules t k s.memory call).keeps luck refl
+mode_fits rules t k s call Down luck = record { plain = λ plain. refl; desync = λ desync. absurd (down_is_not_desync call desync) }
+mode_fits rules t k s call Away luck = record { plain = λ plain. refl; desync = λ desync. absurd (down_is_not_desync call desync) }
 
 pub refused_stays : (rules : Rules) (me : ℕ) (s : State) (call : Call) (luck : Luck) → IsPlainRefusal (step rules me s call luck).reply → (step rules me s call luck).state ≡ s
-refused_stays rules me s call luck = (mode_fits rules (known_of rules me s.journal) s call s.mode luck).plain
+refused_stays rules me s call luck = (mode_fits rules (told_of rules me s.journal) (known_of rules me s.journal) s call s.mode luck).plain
 
 pub desync_alarms : (rules : Rules) (me : ℕ) (s : State) (call : Call) (luck : Luck) → (step rules me s call luck).reply ≡ Delivered (Err refusals.Desync)
     → (step rules me s call luck).state ≡ record s { memory = record s.memory { alarm = true } }
-desync_alarms rules me s call luck = (mode_fits rules (known_of rules me s.journal) s call s.mode luck).desync
+desync_alarms rules me s call luck = (mode_fits rules (told_of rules me s.journal) (known_of rules me s.journal) s call s.mode luck).desync

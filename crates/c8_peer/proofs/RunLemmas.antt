@@ -10,27 +10,30 @@ use Rattle.c8_disk.specs.declared.error.DiskError.TheVariants.{Failed}
 use Rattle.c8_disk.specs.declared.disk.Disk.{Ghosts}
 use Rattle.c8_log.specs.Slots.{kept}
 use Rattle.c8_wire.specs.Packet.{Packet}
-use Rattle.c8_known.specs.Journal.{Record}
+use Rattle.c8_known.specs.Journal.{Record, epoch}
 use Rattle.c8_known.specs.Known.{known_of}
 use Rattle.c8_known.specs.Confirmed.{confirmed, rows_below}
 use Rattle.c8_record.specs.Body.{records_of}
 use Rattle.c8_record.specs.Allowed.{IsAllowed, IsJournal}
 use Rattle.c8_record.specs.checked.JournalLaws.{journal_none, journal_more}
 use Rattle.c8_record.specs.checked.RefusalLaws.{journal_back}
+use Rattle.c8_peer.specs.Told.{told_of}
 use Rattle.c8_peer.specs.State.{Memory, Mode, Open, Down, Away, State, Call, Reply, Said, Outcome}
 use Rattle.c8_peer.specs.State as states
 use Rattle.c8_peer.specs.Steps.{outcome, Luck, Works, Refuses, refused_by_disk, when_down, done, at_mode, step}
-use Rattle.c8_peer.specs.Opening.{found, opening_record, Opening, NoPlayer, Stands, NotWritten, NoMemory, NotRead, Unfit, Spent, away, opened, MayBecome}
+use Rattle.c8_peer.specs.Opening.{last_epoch, found, opening_record, Opening, NoPlayer, Stands, NotWritten, NoMemory, NotRead, Unfit, Spent, away, opened, MayBecome}
 use Rattle.c8_peer.specs.Truth.{IsTrue}
+use Rattle.c8_peer.specs.TrueChecks.{HasTrueChecks}
+use Rattle.c8_peer.specs.checked.TrueCheckLaws.{none_true}
 use Rattle.c8_peer.specs.checked.TruthLaws.{truth_stays, confirmed_counts, confirmed_stays}
 use Rattle.c8_peer.specs.Lawful.{IsMemory, IsCall}
 use Rattle.c8_peer.specs.Peer.{PeerValue, luck_of, Keeps, KeepsWithOrWithout, or_pending, added_at, MayLeave, IsAnswered, IsSaid, IsSound}
-use Rattle.c8_peer.specs.Runs.{never_opened, Deed, Does, Opens, Closes, Stops, StopsOpening, After, as_answered, crashed, after, MayDo, IsDone, IsRun, IsLawful, IsReached, IsAmong, known_at}
+use Rattle.c8_peer.specs.Runs.{never_opened, Deed, Does, Opens, Closes, Stops, StopsOpening, After, as_answered, crashed, after, MayDo, IsDone, IsRun, IsLawful, TellsTruly, IsReached, IsAmong, known_at}
 use Rattle.c8_peer.proofs.AllowedLemmas.{keeps_allowed}
 use Rattle.c8_peer.proofs.MemoryLemmas.{memory_kept}
-use Rattle.c8_peer.proofs.OpeningLemmas.{opening_allowed, opening_memory}
+use Rattle.c8_peer.proofs.OpeningLemmas.{opening_allowed, opening_memory, opening_stays}
 use Rattle.c8_peer.proofs.SayingLemmas.{said_true}
-use Rattle.c8_peer.proofs.PeerLemmas.{memory_more}
+use Rattle.c8_peer.proofs.PlainLemmas.{keeps_true, keeps_memory}
 
 -- the game, the room and the player
 record IsMatch (rules : Rules) (room me : ℕ) : Type 0 where
@@ -81,7 +84,7 @@ mode_grows s call o Down luck = same_grows s s refl
 mode_grows s call o Away luck = same_grows s s refl
 
 step_grows : (rules : Rules) (me : ℕ) (s : State) (call : Call) (luck : Luck) → Grows s (step rules me s call luck).state
-step_grows rules me s call luck = mode_grows s call (outcome rules (known_of rules me s.journal) s.memory call) s.mode luck
+step_grows rules me s call luck = mode_grows s call (outcome rules (told_of rules me s.journal) (known_of rules me s.journal) s.memory call) s.mode luck
 
 opened_grows : (rules : Rules) (room me : ℕ) (s : State) (finds : Bool) (opening : Opening) → Grows s (opened rules room me s (found s finds) opening).state
 opened_grows rules room me s finds Stands =
@@ -156,8 +159,8 @@ crash_held rules room me s leaves held =
     away_held rules room me s (found s leaves) None is (none_pending rules room me (found s leaves) is)
 
 done_held : (rules : Rules) (room me : ℕ) (s : State) (call : Call) (keeps : Option Record) (luck : Luck) → IsMatch rules room me → IsHeld rules room me s → s.mode ≡ Open → IsCall call
-    → (outcome rules (known_of rules me s.journal) s.memory call).keeps ≡ keeps
-    → IsHeld rules room me (done s call (outcome rules (known_of rules me s.journal) s.memory call) keeps luck).state
+    → (outcome rules (told_of rules me s.journal) (known_of rules me s.journal) s.memory call).keeps ≡ keeps
+    → IsHeld rules room me (done s call (outcome rules (told_of rules me s.journal) (known_of rules me s.journal) s.memory call) keeps luck).state
 done_held rules room me s call None luck game held up fits keeps = record {
   journal = held.journal;
   longer = held.longer;
@@ -170,8 +173,7 @@ done_held rules room me s call (Some r) Works game held up fits keeps =
     record {
       journal = more;
       longer = subst (IsJournal rules me room) (sym (none_more (s.journal ++ r ∷ []) s.pending (held.settled up))) more;
-      memory = λ opened. memory_more rules room me s.journal (r ∷ []) (outcome rules (known_of rules me s.journal) s.memory call).memory
-          (memory_kept rules me room s.journal s.memory call game.range game.from game.to held.journal (held.memory up) fits);
+      memory = λ opened. keeps_memory rules me room s.journal s.memory call r game.range game.from game.to held.journal (held.memory up) fits keeps;
       settled = held.settled;
     }
 done_held rules room me s call (Some r) (Refuses why) game held up fits keeps = record {
@@ -183,9 +185,9 @@ done_held rules room me s call (Some r) (Refuses why) game held up fits keeps = 
 }
 
 mode_held : (rules : Rules) (room me : ℕ) (s : State) (call : Call) (luck : Luck) (mode : Mode) → IsMatch rules room me → IsHeld rules room me s → s.mode ≡ mode → IsCall call
-    → IsHeld rules room me (at_mode s call (outcome rules (known_of rules me s.journal) s.memory call) mode luck).state
+    → IsHeld rules room me (at_mode s call (outcome rules (told_of rules me s.journal) (known_of rules me s.journal) s.memory call) mode luck).state
 mode_held rules room me s call luck Open game held up fits =
-    done_held rules room me s call (outcome rules (known_of rules me s.journal) s.memory call).keeps luck game held up fits refl
+    done_held rules room me s call (outcome rules (told_of rules me s.journal) (known_of rules me s.journal) s.memory call).keeps luck game held up fits refl
 mode_held rules room me s call luck Down game held down fits = held
 mode_held rules room me s call luck Away game held gone fits = held
 
@@ -265,6 +267,107 @@ run_lawful rules room me s t deeds answers range from to low lawful run =
 pub reached_lawful : (rules : Rules) (room me : ℕ) (s : State) → AreInRange rules → 1 ≤ me → me ≤ rules.players → room < 2 ^ 64 → IsReached rules room me s → IsLawful rules room me s
 reached_lawful rules room me s range from to low reached = run_lawful rules room me never_opened s reached.deeds reached.answers range from to low (never_lawful rules room me) reached.run
 
+-- ---- what is said of checkpoints stays true
+
+-- the journal's word on checkpoints is true, with the pending record and without
+record AreChecked (rules : Rules) (me : ℕ) (s : State) : Type 0 where
+  journal : HasTrueChecks rules me s.journal
+  longer : HasTrueChecks rules me (s.journal ++ option_to_list s.pending)
+
+found_checked : (rules : Rules) (me : ℕ) (s : State) (finds : Bool) → AreChecked rules me s → HasTrueChecks rules me (found s finds)
+found_checked rules me s true are = are.longer
+found_checked rules me s false are = are.journal
+
+none_checked : (rules : Rules) (me : ℕ) (journal : List Record) → HasTrueChecks rules me journal → HasTrueChecks rules me (journal ++ [])
+none_checked rules me journal is = subst (HasTrueChecks rules me) (sym (append-nil journal)) is
+
+away_checked : (rules : Rules) (me : ℕ) (s : State) (journal : List Record) (pending : Option Record) → HasTrueChecks rules me journal → HasTrueChecks rules me (journal ++ option_to_list pending) → AreChecked rules me (away s journal pending)
+away_checked rules me s journal pending is longer = record { journal = is; longer = longer }
+
+crash_checked : (rules : Rules) (me : ℕ) (s : State) (leaves : Bool) → AreChecked rules me s → AreChecked rules me (crashed s leaves)
+crash_checked rules me s leaves are =
+    let is = found_checked rules me s leaves are in
+    away_checked rules me s (found s leaves) None is (none_checked rules me (found s leaves) is)
+
+record_checked : (rules : Rules) (room me : ℕ) (s : State) (call : Call) (r : Record) → IsMatch rules room me → IsHeld rules room me s → AreChecked rules me s → s.mode ≡ Open → IsCall call
+    → (outcome rules (told_of rules me s.journal) (known_of rules me s.journal) s.memory call).keeps ≡ Some r → HasTrueChecks rules me (s.journal ++ r ∷ [])
+record_checked rules room me s call r game held are up fits keeps =
+    keeps_true rules me room s.journal s.memory call r game.range game.from game.to held.journal (held.memory up) fits are.journal keeps
+
+done_checked : (rules : Rules) (room me : ℕ) (s : State) (call : Call) (keeps : Option Record) (luck : Luck) → IsMatch rules room me → IsHeld rules room me s → AreChecked rules me s → s.mode ≡ Open → IsCall call
+    → (outcome rules (told_of rules me s.journal) (known_of rules me s.journal) s.memory call).keeps ≡ keeps
+    → AreChecked rules me (done s call (outcome rules (told_of rules me s.journal) (known_of rules me s.journal) s.memory call) keeps luck).state
+done_checked rules room me s call None luck game held are up fits keeps = record { journal = are.journal; longer = are.longer }
+done_checked rules room me s call (Some r) Works game held are up fits keeps =
+    let more = record_checked rules room me s call r game held are up fits keeps in
+    record { journal = more; longer = subst (HasTrueChecks rules me) (sym (none_more (s.journal ++ r ∷ []) s.pending (held.settled up))) more }
+done_checked rules room me s call (Some r) (Refuses why) game held are up fits keeps = record { journal = are.journal; longer = record_checked rules room me s call r game held are up fits keeps }
+
+mode_checked : (rules : Rules) (room me : ℕ) (s : State) (call : Call) (luck : Luck) (mode : Mode) → IsMatch rules room me → IsHeld rules room me s → AreChecked rules me s → s.mode ≡ mode → IsCall call
+    → AreChecked rules me (at_mode s call (outcome rules (told_of rules me s.journal) (known_of rules me s.journal) s.memory call) mode luck).state
+mode_checked rules room me s call luck Open game held are up fits =
+    done_checked rules room me s call (outcome rules (told_of rules me s.journal) (known_of rules me s.journal) s.memory call).keeps luck game held are up fits refl
+mode_checked rules room me s call luck Down game held are down fits = are
+mode_checked rules room me s call luck Away game held are gone fits = are
+
+step_checked : (rules : Rules) (room me : ℕ) (s : State) (call : Call) (luck : Luck) → IsMatch rules room me → IsHeld rules room me s → AreChecked rules me s → IsCall call → AreChecked rules me (step rules me s call luck).state
+step_checked rules room me s call luck game held are fits = mode_checked rules room me s call luck s.mode game held are refl fits
+
+opening_checked : (rules : Rules) (room me : ℕ) (journal : List Record) → IsMatch rules room me → IsJournal rules me room journal → epoch journal < last_epoch → HasTrueChecks rules me journal → HasTrueChecks rules me (journal ++ opening_record rules room me journal ∷ [])
+opening_checked rules room me journal game is few are =
+    opening_stays rules me room journal game.range game.from game.to game.low is few are
+
+opened_checked : (rules : Rules) (room me : ℕ) (s : State) (journal : List Record) (opening : Opening) → IsMatch rules room me → AreChecked rules me s → IsJournal rules me room journal → HasTrueChecks rules me journal
+    → MayBecome rules room me journal opening → AreChecked rules me (opened rules room me s journal opening).state
+opened_checked rules room me s journal Stands game was is are may =
+    let more = opening_checked rules room me journal game is may.1 are in
+    record { journal = more; longer = none_checked rules me (journal ++ opening_record rules room me journal ∷ []) more }
+opened_checked rules room me s journal (NotWritten why) game was is are may = away_checked rules me s journal (Some (opening_record rules room me journal)) are (opening_checked rules room me journal game is may.1 are)
+opened_checked rules room me s journal NoPlayer game was is are may = away_checked rules me s s.journal s.pending was.journal was.longer
+opened_checked rules room me s journal NoMemory game was is are may = away_checked rules me s s.journal s.pending was.journal was.longer
+opened_checked rules room me s journal (NotRead why) game was is are may = away_checked rules me s s.journal s.pending was.journal was.longer
+opened_checked rules room me s journal (Unfit error) game was is are may = away_checked rules me s journal None are (none_checked rules me journal are)
+opened_checked rules room me s journal Spent game was is are may = away_checked rules me s journal None are (none_checked rules me journal are)
+
+opens_checked : (rules : Rules) (room me : ℕ) (s : State) (finds : Bool) (opening : Opening) → IsMatch rules room me → IsHeld rules room me s → AreChecked rules me s → MayBecome rules room me (found s finds) opening
+    → AreChecked rules me (opened rules room me s (found s finds) opening).state
+opens_checked rules room me s finds opening game held are may =
+    opened_checked rules room me s (found s finds) opening game are (found_journal rules room me s finds held) (found_checked rules me s finds are) may
+
+after_checked : (rules : Rules) (room me : ℕ) (s : State) (deed : Deed) → IsMatch rules room me → IsHeld rules room me s → AreChecked rules me s → MayDo rules room me s deed → AreChecked rules me (after rules room me s deed).state
+after_checked rules room me s (Does call luck) game held are may = step_checked rules room me s call luck game held are may
+after_checked rules room me s (Opens finds opening) game held are may = opens_checked rules room me s finds opening game held are may.1
+after_checked rules room me s Closes game held are may = away_checked rules me s s.journal s.pending are.journal are.longer
+after_checked rules room me s (Stops call luck leaves) game held are may = crash_checked rules me (step rules me s call luck).state leaves (step_checked rules room me s call luck game held are may)
+after_checked rules room me s (StopsOpening finds opening leaves) game held are may =
+    crash_checked rules me (opened rules room me s (found s finds) opening).state leaves (opens_checked rules room me s finds opening game held are may.1)
+
+done_deed_checked : (rules : Rules) (room me : ℕ) (s u : State) (deed : Deed) (answer : Option Reply) → IsMatch rules room me → IsHeld rules room me s → AreChecked rules me s → IsDone rules room me s deed answer u → AreChecked rules me u
+done_deed_checked rules room me s u deed answer game held are is = subst (λ (a : After). AreChecked rules me a.state) is.is (after_checked rules room me s deed game held are is.may)
+
+run_checked : (rules : Rules) (room me : ℕ) (s t : State) (deeds : List Deed) (answers : List (Option Reply)) → IsMatch rules room me → IsHeld rules room me s → AreChecked rules me s → IsRun rules room me s deeds answers t → AreChecked rules me t
+run_checked rules room me s t [] [] game held are same = subst (AreChecked rules me) (sym same) are
+run_checked rules room me s t [] (answer ∷ answers) game held are none = absurd none
+run_checked rules room me s t (deed ∷ deeds) [] game held are none = absurd none
+run_checked rules room me s t (deed ∷ deeds) (answer ∷ answers) game held are (u, is, run) =
+    run_checked rules room me u t deeds answers game (done_deed_held rules room me s u deed answer game held is) (done_deed_checked rules room me s u deed answer game held are is) run
+
+checked_of : (rules : Rules) (me : ℕ) (s : State) → TellsTruly rules me s → AreChecked rules me s
+checked_of rules me s tells = record { journal = tells false; longer = tells true }
+
+pub never_tells : (rules : Rules) (me : ℕ) → TellsTruly rules me never_opened
+never_tells rules me true = none_true rules me
+never_tells rules me false = none_true rules me
+
+pub run_tells : (rules : Rules) (room me : ℕ) (s t : State) (deeds : List Deed) (answers : List (Option Reply)) → AreInRange rules → 1 ≤ me → me ≤ rules.players → room < 2 ^ 64
+    → IsLawful rules room me s → TellsTruly rules me s → IsRun rules room me s deeds answers t → TellsTruly rules me t
+run_tells rules room me s t deeds answers range from to low lawful tells run = λ finds.
+    found_checked rules me t finds (run_checked rules room me s t deeds answers (match_of rules room me range from to low) (held_of rules room me s lawful) (checked_of rules me s tells) run)
+
+pub reached_tells : (rules : Rules) (room me : ℕ) (s : State) → AreInRange rules → 1 ≤ me → me ≤ rules.players → room < 2 ^ 64 → IsReached rules room me s → TellsTruly rules me s
+reached_tells rules room me s range from to low reached =
+    run_tells rules room me never_opened s reached.deeds reached.answers range from to low (never_lawful rules room me) (never_tells rules me) reached.run
+
 -- ---- what was said stays true
 
 disk_says_nothing : (call : Call) (why : DiskError) (packet : Packet) → refused_by_disk call why ≢ Said (Ok packet)
@@ -273,6 +376,7 @@ disk_says_nothing (states.Deliver told) why packet = λ e. cc e
 disk_says_nothing (states.Say to what) why packet = λ e. cc e
 disk_says_nothing (states.Leave leaver) why packet = λ e. cc e
 disk_says_nothing (states.Decide leaver) why packet = λ e. cc e
+disk_says_nothing states.Checkpoint why packet = λ e. cc e
 
 down_says_nothing : (call : Call) (packet : Packet) → when_down call ≢ Said (Ok packet)
 down_says_nothing (states.Tick keys) packet = λ e. cc e
@@ -280,19 +384,20 @@ down_says_nothing (states.Deliver told) packet = λ e. cc e
 down_says_nothing (states.Say to what) packet = λ e. cc e
 down_says_nothing (states.Leave leaver) packet = λ e. cc e
 down_says_nothing (states.Decide leaver) packet = λ e. cc e
+down_says_nothing states.Checkpoint packet = λ e. cc e
 
-done_says : (rules : Rules) (room me : ℕ) (s : State) (call : Call) (packet : Packet) (keeps : Option Record) (luck : Luck) → IsMatch rules room me → IsHeld rules room me s → s.mode ≡ Open → IsCall call
-    → (done s call (outcome rules (known_of rules me s.journal) s.memory call) keeps luck).reply ≡ Said (Ok packet) → IsTrue rules me s.journal packet
-done_says rules room me s call packet None luck game held up fits said = said_true rules me room s.journal s.memory call packet game.range game.from game.to held.journal (held.memory up) fits said
-done_says rules room me s call packet (Some r) Works game held up fits said = said_true rules me room s.journal s.memory call packet game.range game.from game.to held.journal (held.memory up) fits said
-done_says rules room me s call packet (Some r) (Refuses why) game held up fits said = absurd (disk_says_nothing call why packet said)
+done_says : (rules : Rules) (room me : ℕ) (s : State) (call : Call) (packet : Packet) (keeps : Option Record) (luck : Luck) → IsMatch rules room me → IsHeld rules room me s → AreChecked rules me s → s.mode ≡ Open → IsCall call
+    → (done s call (outcome rules (told_of rules me s.journal) (known_of rules me s.journal) s.memory call) keeps luck).reply ≡ Said (Ok packet) → IsTrue rules me s.journal packet
+done_says rules room me s call packet None luck game held are up fits said = said_true rules me room s.journal s.memory call packet game.range game.from game.to held.journal (held.memory up) fits are.journal said
+done_says rules room me s call packet (Some r) Works game held are up fits said = said_true rules me room s.journal s.memory call packet game.range game.from game.to held.journal (held.memory up) fits are.journal said
+done_says rules room me s call packet (Some r) (Refuses why) game held are up fits said = absurd (disk_says_nothing call why packet said)
 
-mode_says : (rules : Rules) (room me : ℕ) (s : State) (call : Call) (packet : Packet) (mode : Mode) (luck : Luck) → IsMatch rules room me → IsHeld rules room me s → s.mode ≡ mode → IsCall call
-    → (at_mode s call (outcome rules (known_of rules me s.journal) s.memory call) mode luck).reply ≡ Said (Ok packet) → IsTrue rules me s.journal packet
-mode_says rules room me s call packet Open luck game held up fits said =
-    done_says rules room me s call packet (outcome rules (known_of rules me s.journal) s.memory call).keeps luck game held up fits said
-mode_says rules room me s call packet Down luck game held down fits said = absurd (down_says_nothing call packet said)
-mode_says rules room me s call packet Away luck game held gone fits said = absurd (down_says_nothing call packet said)
+mode_says : (rules : Rules) (room me : ℕ) (s : State) (call : Call) (packet : Packet) (mode : Mode) (luck : Luck) → IsMatch rules room me → IsHeld rules room me s → AreChecked rules me s → s.mode ≡ mode → IsCall call
+    → (at_mode s call (outcome rules (told_of rules me s.journal) (known_of rules me s.journal) s.memory call) mode luck).reply ≡ Said (Ok packet) → IsTrue rules me s.journal packet
+mode_says rules room me s call packet Open luck game held are up fits said =
+    done_says rules room me s call packet (outcome rules (told_of rules me s.journal) (known_of rules me s.journal) s.memory call).keeps luck game held are up fits said
+mode_says rules room me s call packet Down luck game held are down fits said = absurd (down_says_nothing call packet said)
+mode_says rules room me s call packet Away luck game held are gone fits said = absurd (down_says_nothing call packet said)
 
 opened_says_nothing : (rules : Rules) (room me : ℕ) (s : State) (journal : List Record) (opening : Opening) (packet : Packet) → (opened rules room me s journal opening).reply ≢ Said (Ok packet)
 opened_says_nothing rules room me s journal Stands packet = λ e. cc e
@@ -303,13 +408,13 @@ opened_says_nothing rules room me s journal (NotRead why) packet = λ e. cc e
 opened_says_nothing rules room me s journal (Unfit error) packet = λ e. cc e
 opened_says_nothing rules room me s journal Spent packet = λ e. cc e
 
-after_says : (rules : Rules) (room me : ℕ) (s : State) (deed : Deed) (packet : Packet) → IsMatch rules room me → IsHeld rules room me s → MayDo rules room me s deed
+after_says : (rules : Rules) (room me : ℕ) (s : State) (deed : Deed) (packet : Packet) → IsMatch rules room me → IsHeld rules room me s → AreChecked rules me s → MayDo rules room me s deed
     → (after rules room me s deed).answer ≡ Some (Said (Ok packet)) → IsTrue rules me s.journal packet
-after_says rules room me s (Does call luck) packet game held may said = mode_says rules room me s call packet s.mode luck game held refl may cc
-after_says rules room me s (Opens finds opening) packet game held may said = absurd (opened_says_nothing rules room me s (found s finds) opening packet cc)
-after_says rules room me s Closes packet game held may said = absurd cc
-after_says rules room me s (Stops call luck leaves) packet game held may said = absurd cc
-after_says rules room me s (StopsOpening finds opening leaves) packet game held may said = absurd cc
+after_says rules room me s (Does call luck) packet game held are may said = mode_says rules room me s call packet s.mode luck game held are refl may cc
+after_says rules room me s (Opens finds opening) packet game held are may said = absurd (opened_says_nothing rules room me s (found s finds) opening packet cc)
+after_says rules room me s Closes packet game held are may said = absurd cc
+after_says rules room me s (Stops call luck leaves) packet game held are may said = absurd cc
+after_says rules room me s (StopsOpening finds opening leaves) packet game held are may said = absurd cc
 
 -- what is true at a moment is so at each later one
 stays_true : (rules : Rules) (room me : ℕ) (s t : State) (packet : Packet) → IsMatch rules room me → Grows s t → IsHeld rules room me t → IsTrue rules me s.journal packet → IsTrue rules me t.journal packet
@@ -317,23 +422,23 @@ stays_true rules room me s t packet game (rest, same) held is =
     subst (λ (journal : List Record). IsTrue rules me journal packet) (sym same)
     (truth_stays rules me room s.journal rest packet game.range game.from game.to (subst (IsJournal rules me room) same held.journal) is)
 
-run_says : (rules : Rules) (room me : ℕ) (s t : State) (deeds : List Deed) (answers : List (Option Reply)) (packet : Packet) (n : ℕ) → IsMatch rules room me → IsHeld rules room me s
+run_says : (rules : Rules) (room me : ℕ) (s t : State) (deeds : List Deed) (answers : List (Option Reply)) (packet : Packet) (n : ℕ) → IsMatch rules room me → IsHeld rules room me s → AreChecked rules me s
     → IsRun rules room me s deeds answers t → slice_get answers n ≡ Some (Some (Said (Ok packet))) → IsTrue rules me t.journal packet
-run_says rules room me s t [] [] packet n game held run there = absurd cc
-run_says rules room me s t [] (answer ∷ answers) packet n game held none there = absurd none
-run_says rules room me s t (deed ∷ deeds) [] packet n game held none there = absurd none
-run_says rules room me s t (deed ∷ deeds) (answer ∷ answers) packet zero game held (u, is, run) there =
+run_says rules room me s t [] [] packet n game held are run there = absurd cc
+run_says rules room me s t [] (answer ∷ answers) packet n game held are none there = absurd none
+run_says rules room me s t (deed ∷ deeds) [] packet n game held are none there = absurd none
+run_says rules room me s t (deed ∷ deeds) (answer ∷ answers) packet zero game held are (u, is, run) there =
     let said : (after rules room me s deed).answer ≡ Some (Said (Ok packet)) = ap (λ (a : After). a.answer) is.is ∙ cc in
     let grows : Grows s t = grows_then s u t (done_deed_grows rules room me s u deed answer is) (run_grows rules room me u t deeds answers run) in
     let later : IsHeld rules room me t = run_held rules room me u t deeds answers game (done_deed_held rules room me s u deed answer game held is) run in
-    stays_true rules room me s t packet game grows later (after_says rules room me s deed packet game held is.may said)
-run_says rules room me s t (deed ∷ deeds) (answer ∷ answers) packet (suc n) game held (u, is, run) there =
-    run_says rules room me u t deeds answers packet n game (done_deed_held rules room me s u deed answer game held is) run there
+    stays_true rules room me s t packet game grows later (after_says rules room me s deed packet game held are is.may said)
+run_says rules room me s t (deed ∷ deeds) (answer ∷ answers) packet (suc n) game held are (u, is, run) there =
+    run_says rules room me u t deeds answers packet n game (done_deed_held rules room me s u deed answer game held is) (done_deed_checked rules room me s u deed answer game held are is) run there
 
 pub said_stands : (rules : Rules) (room me : ℕ) (s t : State) (deeds : List Deed) (answers : List (Option Reply)) (packet : Packet) → AreInRange rules → 1 ≤ me → me ≤ rules.players → room < 2 ^ 64
-    → IsLawful rules room me s → IsRun rules room me s deeds answers t → IsAmong answers packet → IsTrue rules me t.journal packet
-said_stands rules room me s t deeds answers packet range from to low lawful run (n, there) =
-    run_says rules room me s t deeds answers packet n (match_of rules room me range from to low) (held_of rules room me s lawful) run there
+    → IsLawful rules room me s → TellsTruly rules me s → IsRun rules room me s deeds answers t → IsAmong answers packet → IsTrue rules me t.journal packet
+said_stands rules room me s t deeds answers packet range from to low lawful tells run (n, there) =
+    run_says rules room me s t deeds answers packet n (match_of rules room me range from to low) (held_of rules room me s lawful) (checked_of rules me s tells) run there
 
 -- ---- what is confirmed stays
 
@@ -387,7 +492,7 @@ module _ {D : Type 0} where
 
   pub inside_call : (p : PeerValue D) (call : Call) (image : List ℕ) → MayLeave p call image
       → (luck : Luck) × (leaves : Bool) × Keeps (found (step p.rules p.me p.state call luck).state leaves) image
-  inside_call p call image left = inside_mode p.state call (outcome p.rules (known_of p.rules p.me p.state.journal) p.state.memory call) p.state.mode image left
+  inside_call p call image left = inside_mode p.state call (outcome p.rules (told_of p.rules p.me p.state.journal) (known_of p.rules p.me p.state.journal) p.state.memory call) p.state.mode image left
 
   pub left_bodies : (g : Ghosts D) (p : PeerValue D) (image : List ℕ) → IsSound g p → g.may_leave p.disk image → (finds : Bool) × Keeps (found p.state finds) image
   left_bodies g p image sound left = ⊎_elim (λ without. (false, without)) (λ with. (true, with)) (sound.leaves image left)

@@ -1,6 +1,6 @@
 -- What an open peer says is true of its journal.
 use Rattle.std.proofs.Common.{◌≡◌, ◌≢◌, ℕ, zero, suc, ◌-◌, ◌/◌, ◌≤◌, List, [], ◌∷◌, ◌++◌, length, take, drop, Bool, true, false, Option, Some, None, Ok, Err, refl, sym, ap, subst, ◌∙◌, inl, inr, arith}
-use Rattle.std.specs.Prelude.{◌==◌, ◌||◌, not, nat_le, is_none}
+use Rattle.std.specs.Prelude.{◌*◌, ◌==◌, ◌||◌, not, nat_le, is_none, replicate, unwrap_or}
 use Rattle.std.proofs.lemmas.Bool.{cases_lt, cases_eq, ne_eqb, eqb-true, eqb-false, leb-true, not-false, or_parts, and_parts, both_ways}
 use Rattle.std.proofs.lemmas.List.{length-drop, get_or_past}
 use Rattle.c8_game.specs.Rules.{Rules, AreInRange}
@@ -15,65 +15,72 @@ use Rattle.c8_known.specs.checked.BeginsLaws.{begins_length, begins_more, begins
 use Rattle.c8_known.specs.checked.OneMore.{player_known}
 use Rattle.c8_known.specs.checked.StartLaws.{players_known}
 use Rattle.c8_known.specs.Confirmed.{confirmed}
-use Rattle.c8_roll.specs.Roll.{mark_step}
+use Rattle.c8_digest.specs.declared.marks.FrameMark.{FrameMark}
+use Rattle.c8_digest.specs.Marks.{mark_step, newest_of}
+use Rattle.c8_check.specs.Checks.{begun_at}
+use Rattle.c8_roll.specs.Roll.{mark_after}
+use Rattle.c8_roll.specs.checked.RollLaws.{newest_up_to, marks_on_the_way}
 use Rattle.c8_window.specs.Window.{acked_of, pending_of}
 use Rattle.c8_round.specs.Round.{owed, answer_from}
 use Rattle.c8_record.specs.Allowed.{IsJournal, IsOrderly}
 use Rattle.c8_record.specs.checked.JournalLaws.{of_game, journal_known}
 use Rattle.c8_record.specs.checked.LeaverLaws.{journal_orderly}
-use Rattle.c8_peer.specs.State.{Memory, Call, Tick, Deliver, Say, Leave, Decide, Saying, Hello, Welcome, Data, Freeze, Frozen, Cut, Said, Outcome}
-use Rattle.c8_peer.specs.Saying.{is_not_mine, lacks_record, lacks_link, run_from, cut_length, message, packet, say}
+use Rattle.c8_peer.specs.State.{Memory, Call, Tick, Deliver, Say, Leave, Decide, Checkpoint, Saying, Hello, Welcome, Data, Freeze, Frozen, Cut, Said, Outcome}
+use Rattle.c8_peer.specs.Told.{Told, told_of}
+use Rattle.c8_peer.specs.Saying.{is_not_mine, lacks_record, lacks_link, run_from, newest_mark, cut_length, message, packet, say}
 use Rattle.c8_peer.specs.Steps.{outcome}
-use Rattle.c8_peer.specs.Truth.{Stands, IsFrozenAt, IsTrueMessage, IsTrue}
+use Rattle.c8_peer.specs.Truth.{Stands, IsTrueMark, IsFrozenAt, IsTrueMessage, IsTrue}
+use Rattle.c8_peer.specs.TrueChecks.{HasTrueChecks}
 use Rattle.c8_peer.specs.checked.TruthLaws.{count_rises}
 use Rattle.c8_peer.specs.Lawful.{IsMemory, IsCall}
-use Rattle.c8_peer.proofs.MemoryLemmas.{unless, tick_is, leave_is, decide_is, deliver_is, no_packet_is}
+use Rattle.c8_peer.proofs.MemoryLemmas.{unless, tick_is, leave_is, decide_is, checkpoint_is, deliver_is, no_packet_is}
 
 -- ---- what was judged of what is said
 
 -- This was asked, and nothing refused it.
-pub record IsSaid (rules : Rules) (k : KnownValue) (m : Memory) (p : Packet) : Type 0 where
+pub record IsSaid (rules : Rules) (t : Told) (k : KnownValue) (m : Memory) (p : Packet) : Type 0 where
   pub to : ℕ
   pub what : Saying
   pub apart : to ≢ k.me
   pub plays : Plays k to
   pub mine : is_not_mine k to what ≡ false
   pub has : lacks_record k what ≡ false
-  pub is : p ≡ packet rules k m to what
+  pub is : p ≡ packet rules t k m to what
 
 plays_of : (k : KnownValue) (q : ℕ) → not (is_player k q) ≡ false → Plays k q
 plays_of k q is =
     let both = and_parts (nat_le 1 q) (nat_le q (length k.players)) (not-false (is_player k q) is) in
     record { from_one = leb-true 1 q both.0; in_game = leb-true q (length k.players) both.1 }
 
-abbrev Tells : Rules → KnownValue → Memory → Packet → Outcome → Type 0
-Tells rules k m p o = o.reply ≡ Said (Ok p) → IsSaid rules k m p
+abbrev Tells : Rules → Told → KnownValue → Memory → Packet → Outcome → Type 0
+Tells rules t k m p o = o.reply ≡ Said (Ok p) → IsSaid rules t k m p
 
-say_said : (rules : Rules) (k : KnownValue) (m : Memory) (to : ℕ) (what : Saying) (p : Packet) → Tells rules k m p (say rules k m to what)
+say_said : (rules : Rules) (t : Told) (k : KnownValue) (m : Memory) (to : ℕ) (what : Saying) (p : Packet) → Tells rules t k m p (say rules t k m to what)
 unfolding say
-say_said rules k m to what p =
-    unless (Tells rules k m p) (player_in k k.me).leaving _ _ (λ e. absurd cc) (λ stays.
-    unless (Tells rules k m p) (to == k.me || not (is_player k to)) _ _ (λ e. absurd cc) (λ player.
-    unless (Tells rules k m p) (is_not_mine k to what) _ _ (λ e. absurd cc) (λ mine.
-    unless (Tells rules k m p) (lacks_record k what) _ _ (λ e. absurd cc) (λ has.
-    unless (Tells rules k m p) (lacks_link m to what) _ _ (λ e. absurd cc) (λ link e.
+say_said rules t k m to what p =
+    unless (Tells rules t k m p) (player_in k k.me).leaving _ _ (λ e. absurd cc) (λ stays.
+    unless (Tells rules t k m p) (to == k.me || not (is_player k to)) _ _ (λ e. absurd cc) (λ player.
+    unless (Tells rules t k m p) (is_not_mine k to what) _ _ (λ e. absurd cc) (λ mine.
+    unless (Tells rules t k m p) (lacks_record k what) _ _ (λ e. absurd cc) (λ has.
+    unless (Tells rules t k m p) (lacks_link m to what) _ _ (λ e. absurd cc) (λ link e.
     let other = or_parts (to == k.me) (not (is_player k to)) player in
     record { to = to; what = what; apart = eqb-false to k.me other.0; plays = plays_of k to other.1; mine = mine; has = has; is = cc })))))
 
 -- nothing but a saying is answered by a packet
-pub what_is_said : (rules : Rules) (k : KnownValue) (m : Memory) (call : Call) (p : Packet) → (outcome rules k m call).reply ≡ Said (Ok p) → IsSaid rules k m p
-what_is_said rules k m (Tick keys) p = tick_is (Tells rules k m p) rules k m keys (λ answer keeps e. absurd cc)
-what_is_said rules k m (Deliver (Err error)) p = no_packet_is (Tells rules k m p) rules k m error (λ answer keeps e. absurd cc)
-what_is_said rules k m (Deliver (Ok came)) p =
-    deliver_is (Tells rules k m p) rules k m came (record {
+pub what_is_said : (rules : Rules) (t : Told) (k : KnownValue) (m : Memory) (call : Call) (p : Packet) → (outcome rules t k m call).reply ≡ Said (Ok p) → IsSaid rules t k m p
+what_is_said rules t k m (Tick keys) p = tick_is (Tells rules t k m p) rules k m keys (λ answer keeps e. absurd cc)
+what_is_said rules t k m (Deliver (Err error)) p = no_packet_is (Tells rules t k m p) rules t k m error (λ answer keeps e. absurd cc)
+what_is_said rules t k m (Deliver (Ok came)) p =
+    deliver_is (Tells rules t k m p) rules t k m came (record {
       rest = λ chair stayer alarm answer keeps e. absurd cc;
       acks = λ n few answer keeps e. absurd cc;
       links = λ answer keeps e. absurd cc;
       both = λ n few answer keeps e. absurd cc;
     })
-what_is_said rules k m (Say to what) p = say_said rules k m to what p
-what_is_said rules k m (Leave leaver) p = leave_is (Tells rules k m p) k m leaver (λ answer keeps e. absurd cc)
-what_is_said rules k m (Decide leaver) p = decide_is (Tells rules k m p) k m leaver (λ answer keeps e. absurd cc)
+what_is_said rules t k m (Say to what) p = say_said rules t k m to what p
+what_is_said rules t k m (Leave leaver) p = leave_is (Tells rules t k m p) k m leaver (λ answer keeps e. absurd cc)
+what_is_said rules t k m (Decide leaver) p = decide_is (Tells rules t k m p) k m leaver (λ answer keeps e. absurd cc)
+what_is_said rules t k m Checkpoint p = checkpoint_is (Tells rules t k m p) t k m (λ answer keeps e. absurd cc)
 
 -- ---- leavers
 
@@ -122,8 +129,8 @@ later q r journal at = record { before = r ∷ at.before; rest = at.rest; is = a
 splits : (q : ℕ) (journal : List Record) → has_freeze q journal ≡ true → Splits q journal
 unfolding has_freeze
 splits q [] is = absurd cc
-splits q (Head player id room ∷ journal) is = later q (Head player id room) journal (splits q journal is)
-splits q (Epoch player number ∷ journal) is = later q (Epoch player number) journal (splits q journal is)
+splits q (Head player form id room ∷ journal) is = later q (Head player form id room) journal (splits q journal is)
+splits q (Epoch player number form ∷ journal) is = later q (Epoch player number form) journal (splits q journal is)
 splits q (Own player start word ∷ journal) is = later q (Own player start word) journal (splits q journal is)
 splits q (Got player start words ∷ journal) is = later q (Got player start words) journal (splits q journal is)
 splits q (journals.Freeze player ∷ journal) is =
@@ -133,6 +140,8 @@ splits q (journals.Freeze player ∷ journal) is =
     ]
 splits q (journals.Leave player ∷ journal) is = later q (journals.Leave player) journal (splits q journal is)
 splits q (journals.Cut player length start words ∷ journal) is = later q (journals.Cut player length start words) journal (splits q journal is)
+splits q (journals.State player frames piece words ∷ journal) is = later q (journals.State player frames piece words) journal (splits q journal is)
+splits q (journals.Check player frames words ∷ journal) is = later q (journals.Check player frames words) journal (splits q journal is)
 
 frozen_at : (rules : Rules) (q : ℕ) (journal : List Record) (n : ℕ) → has_freeze q journal ≡ true → n ≡ count rules q journal → IsFrozenAt rules q n journal
 frozen_at rules q journal n is all =
@@ -172,20 +181,35 @@ stands_less start n words ys stands =
 -- ---- each kind
 
 abbrev TrueOf : Rules → ℕ → List Record → Memory → ℕ → Saying → Type 0
-TrueOf rules me journal m to what = IsTrueMessage rules me to journal (message rules (known_of rules me journal) m to what)
+TrueOf rules me journal m to what = IsTrueMessage rules me to journal (message rules (told_of rules me journal) (known_of rules me journal) m to what)
 
 welcome_true : (rules : Rules) (me : ℕ) (journal : List Record) (m : Memory) (to : ℕ) → Plays (known_of rules me journal) to → TrueOf rules me journal m to Welcome
 welcome_true rules me journal m to plays = omega (arith, count_is rules me to journal plays)
 
-data_true : (rules : Rules) (me : ℕ) (journal : List Record) (m : Memory) (to : ℕ) → IsKnown (known_of rules me journal) → acked_of m.acks to ≤ count rules me journal → Plays (known_of rules me journal) to → TrueOf rules me journal m to Data
-data_true rules me journal m to known acked plays =
+-- the newest mark is that of the machine after the last multiple of 32 confirmed frames
+newest_is : (rules : Rules) (me : ℕ) (journal : List Record) → HasTrueChecks rules me journal
+    → newest_mark (told_of rules me journal) ≡ mark_after rules (known_of rules me journal) (mark_step * (confirmed (known_of rules me journal) / mark_step))
+unfolding told_of
+newest_is rules me journal true_checks =
+    let k : KnownValue = known_of rules me journal in
+    let way = true_checks.begun in
+    ap (λ (marks : List FrameMark). unwrap_or (newest_of marks) (record { frame = 0; mark = replicate 8 0 })) (marks_on_the_way rules k (begun_at rules journal) (confirmed k) way way.confirmed_is)
+    ∙ ap (λ (newest : Option FrameMark). unwrap_or newest (record { frame = 0; mark = replicate 8 0 })) (newest_up_to rules k (confirmed k))
+
+mark_true : (rules : Rules) (me : ℕ) (journal : List Record) → HasTrueChecks rules me journal → IsTrueMark rules me journal (newest_mark (told_of rules me journal)).frame (newest_mark (told_of rules me journal)).mark
+mark_true rules me journal true_checks =
+    subst (λ (newest : FrameMark). IsTrueMark rules me journal newest.frame newest.mark) (sym (newest_is rules me journal true_checks))
+    (record { steps = confirmed (known_of rules me journal) / mark_step; at = refl; confirmed = omega arith; is = refl })
+
+data_true : (rules : Rules) (me : ℕ) (journal : List Record) (m : Memory) (to : ℕ) → HasTrueChecks rules me journal → IsKnown (known_of rules me journal) → acked_of m.acks to ≤ count rules me journal → Plays (known_of rules me journal) to → TrueOf rules me journal m to Data
+data_true rules me journal m to true_checks known acked plays =
     let k : KnownValue = known_of rules me journal in
     let own : (player_in k k.me).held ≡ held rules me journal =
     ap (λ (p : PlayerValue). p.held) (said_is rules me k.me journal known.me) ∙ ap (λ (q : ℕ). held rules q journal) (own_player rules me journal) in (
       omega (arith, count_is rules me to journal plays),
       stands_less (acked_of m.acks to) (fits_in rules.wire (pending_of m.acks k to)) (pending_of m.acks k to) (held rules me journal)
           (stands_in (player_in k k.me).held (held rules me journal) longest_run (acked_of m.acks to) own (omega (arith, acked, ap (λ (xs : List ℕ). length xs) own))),
-      record { steps = confirmed k / mark_step; at = refl; confirmed = omega arith; is = refl },
+      mark_true rules me journal true_checks,
     )
 
 leaver_of : (rules : Rules) (me q : ℕ) (journal : List Record) → IsOrderly (known_of rules me journal) → is_frozen_in (known_of rules me journal) q ≡ true → Plays (known_of rules me journal) q
@@ -235,29 +259,29 @@ cut_true rules me journal m to leaver orderly known mine has =
       run_stands rules me leaver (owed m.chair k to leaver) journal plays (omega arith),
     )
 
-message_true : (rules : Rules) (me : ℕ) (journal : List Record) (m : Memory) (to : ℕ) (what : Saying) → IsOrderly (known_of rules me journal) → IsKnown (known_of rules me journal) → acked_of m.acks to ≤ count rules me journal
+message_true : (rules : Rules) (me : ℕ) (journal : List Record) (m : Memory) (to : ℕ) (what : Saying) → HasTrueChecks rules me journal → IsOrderly (known_of rules me journal) → IsKnown (known_of rules me journal) → acked_of m.acks to ≤ count rules me journal
     → Plays (known_of rules me journal) to → is_not_mine (known_of rules me journal) to what ≡ false → lacks_record (known_of rules me journal) what ≡ false → TrueOf rules me journal m to what
-message_true rules me journal m to Hello orderly known acked plays mine has = tt
-message_true rules me journal m to Welcome orderly known acked plays mine has = welcome_true rules me journal m to plays
-message_true rules me journal m to Data orderly known acked plays mine has = data_true rules me journal m to known acked plays
-message_true rules me journal m to (Freeze leaver) orderly known acked plays mine has = freeze_true rules me journal m to leaver orderly mine has
-message_true rules me journal m to (Frozen leaver) orderly known acked plays mine has = frozen_true rules me journal m to leaver orderly has
-message_true rules me journal m to (Cut leaver) orderly known acked plays mine has = cut_true rules me journal m to leaver orderly known mine has
+message_true rules me journal m to Hello true_checks orderly known acked plays mine has = tt
+message_true rules me journal m to Welcome true_checks orderly known acked plays mine has = welcome_true rules me journal m to plays
+message_true rules me journal m to Data true_checks orderly known acked plays mine has = data_true rules me journal m to true_checks known acked plays
+message_true rules me journal m to (Freeze leaver) true_checks orderly known acked plays mine has = freeze_true rules me journal m to leaver orderly mine has
+message_true rules me journal m to (Frozen leaver) true_checks orderly known acked plays mine has = frozen_true rules me journal m to leaver orderly has
+message_true rules me journal m to (Cut leaver) true_checks orderly known acked plays mine has = cut_true rules me journal m to leaver orderly known mine has
 
 -- ---- all of it
 
 pub said_true : (rules : Rules) (me room : ℕ) (journal : List Record) (m : Memory)
     (call : Call) (p : Packet)
     → AreInRange rules → 1 ≤ me → me ≤ rules.players → IsJournal rules me room journal
-    → IsMemory rules room me journal m → IsCall call
-    → (outcome rules (known_of rules me journal) m call).reply ≡ Said (Ok p)
+    → IsMemory rules room me journal m → IsCall call → HasTrueChecks rules me journal
+    → (outcome rules (told_of rules me journal) (known_of rules me journal) m call).reply ≡ Said (Ok p)
     → IsTrue rules me journal p
-said_true rules me room journal m call p range from to journal_is is fits said =
+said_true rules me room journal m call p range from to journal_is is fits true_checks said =
     let k : KnownValue = known_of rules me journal in
-    let s = what_is_said rules k m call p said in
+    let s = what_is_said rules (told_of rules me journal) k m call p said in
     let known : IsKnown k = journal_known rules me room journal range from to journal_is in
     subst (λ (one : Packet). IsTrue rules me journal one) (sym s.is) (record {
       from = is.player;
       epoch = is.epoch;
-      message = message_true rules me journal m s.to s.what (journal_orderly rules me room journal journal_is) known (is.acked s.to) s.plays s.mine s.has;
+      message = message_true rules me journal m s.to s.what true_checks (journal_orderly rules me room journal journal_is) known (is.acked s.to) s.plays s.mine s.has;
     })

@@ -1,14 +1,13 @@
 -- What an open peer says can be spelled.
-use Rattle.std.proofs.Common.{◌+◌, ◌≡◌, ◌≢◌, ℕ, zero, suc, ◌*◌, ◌/◌, ◌^◌, ◌<◌, ◌≤◌, List, [], ◌∷◌, ◌++◌, length, take, drop, replicate, Bool, true, false, Some, Ok, refl, sym, ap, subst, ◌∙◌, arith}
-use Rattle.std.specs.Prelude.{◌==◌, slice_index, if◌then◌else◌}
+use Rattle.std.proofs.Common.{◌+◌, ◌≡◌, ◌≢◌, ℕ, zero, suc, ◌^◌, ◌<◌, ◌≤◌, List, [], ◌∷◌, ◌++◌, length, take, drop, replicate, get_or, Bool, true, false, Option, Some, Ok, refl, sym, ap, subst, ◌∙◌, arith}
+use Rattle.std.specs.Prelude.{◌-◌, ◌==◌, slice_index, unwrap_or, if◌then◌else◌}
 use Rattle.std.specs.Int.{from_be_bytes, to_be_bytes, w64}
 use Rattle.std.specs.List.{slice_get, flat_map}
 use Rattle.std.proofs.lemmas.Bool.{not-false}
+use Rattle.std.proofs.lemmas.Option.{slice_get-get_or}
 use Rattle.std.proofs.lemmas.List.{length-take, length-drop}
 use Rattle.sha2.specs.Sha256.{sha256}
 use Rattle.c8_game.specs.Rules.{Rules, AreInRange, id_of, session_of, most_inputs}
-use Rattle.c8_machine.specs.Serial.{serial}
-use Rattle.c8_digest.specs.StateBytes.{state_bytes}
 use Rattle.c8_wire.specs.declared.kinds.DatagramKind.{DatagramKind}
 use Rattle.c8_game.specs.declared.wire.WireVersion.{WireVersion}
 use Rattle.c8_wire.specs.Sizes.{longest_run}
@@ -20,34 +19,30 @@ use Rattle.c8_known.specs.Journal as journals
 use Rattle.c8_known.specs.Journal.{Record, Head, Epoch, Own, Got, words_of, held, count}
 use Rattle.c8_known.specs.Known.{PlayerValue, KnownValue, player_in, count_in, known_of, Plays, IsKnown}
 use Rattle.c8_known.specs.checked.StartLaws.{players_known}
-use Rattle.c8_known.specs.Confirmed.{confirmed, rows_below}
+use Rattle.c8_known.specs.Confirmed.{confirmed}
 use Rattle.c8_known.specs.checked.ConfirmedLaws.{confirmed_is}
-use Rattle.c8_roll.specs.Roll.{mark_step}
+use Rattle.c8_digest.specs.declared.marks.FrameMark.{FrameMark}
+use Rattle.c8_digest.specs.Marks.{newest_of, AreMarksAfter}
+use Rattle.c8_digest.specs.checked.OriginLaws.{take_low, drop_low}
+use Rattle.c8_check.specs.Checks.{begun_at}
+use Rattle.c8_roll.specs.Roll.{marks_since}
+use Rattle.c8_roll.specs.checked.RollLaws.{origin_goes_on}
+use Rattle.c8_record.specs.checked.CheckLaws.{begun_confirmed, begun_in_order}
 use Rattle.c8_window.specs.Window.{acked_of}
 use Rattle.c8_round.specs.Round.{owed, answer_from}
 use Rattle.c8_record.specs.Body.{HasSpelling}
 use Rattle.c8_record.specs.Allowed.{IsJournal, IsOrderly}
 use Rattle.c8_record.specs.checked.JournalLaws.{journal_known}
 use Rattle.c8_record.specs.checked.LeaverLaws.{journal_orderly}
-use Rattle.c8_peer.proofs.DigestLemmas.{digest_length, digest_bytes_fit}
+use Rattle.c8_digest.specs.checked.DigestLaws.{digest_length, digest_bytes_fit}
 use Rattle.c8_peer.specs.State.{Memory, Call, Saying, Hello, Welcome, Data, Freeze, Frozen, Cut, Said}
-use Rattle.c8_peer.specs.Saying.{lacks_record, run_from, cut_length, message}
+use Rattle.c8_peer.specs.Told.{Told, told_of}
+use Rattle.c8_peer.specs.Saying.{lacks_record, run_from, newest_mark, cut_length, message}
 use Rattle.c8_peer.specs.Steps.{outcome}
 use Rattle.c8_peer.specs.Lawful.{IsMemory, IsCall}
 use Rattle.c8_peer.proofs.SayingLemmas.{IsLeaver, is_leaver, leaver_plays, frozen_or, leaving_or, some_cut, own_player, said_is, what_is_said}
 
 -- ---- parts of lists
-
-take_low : (xs : List ℕ) (n bound : ℕ) → ((i : ℕ) → slice_index xs i < bound) → (i : ℕ) → slice_index (take n xs) i < bound
-take_low xs zero bound low i = let one = low 0 in omega (arith, one)
-take_low [] (suc n) bound low i = low i
-take_low (x ∷ xs) (suc n) bound low zero = low 0
-take_low (x ∷ xs) (suc n) bound low (suc i) = take_low xs n bound (λ j. low (suc j)) i
-
-drop_low : (xs : List ℕ) (n bound : ℕ) → ((i : ℕ) → slice_index xs i < bound) → (i : ℕ) → slice_index (drop n xs) i < bound
-drop_low xs zero bound low i = low i
-drop_low [] (suc n) bound low i = low i
-drop_low (x ∷ xs) (suc n) bound low i = drop_low xs n bound (λ j. low (suc j)) i
 
 append_low : (xs ys : List ℕ) (bound : ℕ) → ((i : ℕ) → slice_index xs i < bound) → ((i : ℕ) → slice_index ys i < bound) → (i : ℕ) → slice_index (xs ++ ys) i < bound
 append_low [] ys bound one two i = two i
@@ -92,13 +87,15 @@ one_word word low zero = low
 one_word word low (suc i) = omega arith
 
 words_fit : (q : ℕ) (r : Record) → HasSpelling r → AreWords (words_of q r)
-words_fit q (Head player id room) has = no_words
-words_fit q (Epoch player number) has = no_words
+words_fit q (Head player form id room) has = no_words
+words_fit q (Epoch player number form) has = no_words
 words_fit q (Own player start word) has = words_if (player == q) (word ∷ []) (one_word word has.parts)
 words_fit q (Got player start words) has = words_if (player == q) words has.parts.1
 words_fit q (journals.Freeze player) has = no_words
 words_fit q (journals.Leave player) has = no_words
 words_fit q (journals.Cut player K start words) has = words_if (player == q) words has.parts
+words_fit q (journals.State player frames piece words) has = no_words
+words_fit q (journals.Check player frames words) has = no_words
 
 all_words : (q : ℕ) (journal : List Record) → ((n : ℕ) (r : Record) → slice_get journal n ≡ Some r → HasSpelling r) → AreWords (flat_map (words_of q) journal)
 all_words q [] has = no_words
@@ -144,9 +141,31 @@ few k q known =
     let limit = known.limit in
     omega (arith, within, limit)
 
-data_spelled : (rules : Rules) (me room : ℕ) (journal : List Record) (m : Memory) (to : ℕ) → IsJournal rules me room journal → IsMemory rules room me journal m
-    → IsKnown (known_of rules me journal) → IsSpelled rules.wire (message rules (known_of rules me journal) m to Data)
-data_spelled rules me room journal m to is memory known =
+-- the newest mark is one of a frame that is confirmed
+newest_of_marks : (frames : ℕ) (marks : List FrameMark) (default : FrameMark) → AreMarksAfter frames marks → (m : FrameMark) × (unwrap_or (newest_of marks) default ≡ m) × IsMark m.mark × (m.frame ≤ frames)
+newest_of_marks frames marks default are =
+    let last : ℕ = length marks - 1 in
+    let below : last < length marks = omega (arith, are.count) in
+    let m : FrameMark = get_or marks last default in
+    let there : slice_get marks last ≡ Some m = slice_get-get_or marks last default below in
+    let one = are.each last m there in
+    (m, ap (λ (found : Option FrameMark). unwrap_or found default) there, (one.long, one.bytes), omega (arith, one.frame_is, are.count))
+
+newest_fits : (rules : Rules) (me room : ℕ) (journal : List Record) → AreInRange rules → 1 ≤ me → me ≤ rules.players → IsJournal rules me room journal
+    → IsMark (newest_mark (told_of rules me journal)).mark × ((newest_mark (told_of rules me journal)).frame ≤ confirmed (known_of rules me journal))
+unfolding told_of
+newest_fits rules me room journal range from to is =
+    let k : KnownValue = known_of rules me journal in
+    let origin = begun_in_order rules me room journal range from to is in
+    let starts = begun_confirmed rules me room journal range from to is in
+    let marks = (origin_goes_on rules (begun_at rules journal) k (confirmed k) range origin starts).marks_are in
+    let (m, newest, fits, low) = newest_of_marks (confirmed k) (marks_since rules (begun_at rules journal) k (confirmed k)) (record { frame = 0; mark = replicate 8 0 }) marks in
+    subst (λ (x : FrameMark). IsMark x.mark × (x.frame ≤ confirmed k)) (sym newest) (fits, low)
+
+data_spelled : (rules : Rules) (me room : ℕ) (journal : List Record) (m : Memory) (to : ℕ) → AreInRange rules → 1 ≤ me → me ≤ rules.players → IsJournal rules me room journal → IsMemory rules room me journal m
+    → IsKnown (known_of rules me journal) → IsSpelled rules.wire (message rules (told_of rules me journal) (known_of rules me journal) m to Data)
+data_spelled rules me room journal m to range from within is memory known =
+    let newest = newest_fits rules me room journal range from within is in
     let k : KnownValue = known_of rules me journal in
     let own : List ℕ = (player_in k k.me).held in
     let left : List ℕ = drop (acked_of m.acks to) own in
@@ -159,20 +178,20 @@ data_spelled rules me room journal m to is memory known =
     let ticks = known.own in
     record {
       fits = (
-        front_is_mark (state_bytes (serial rules (rows_below k (mark_step * (confirmed k / mark_step))))),
+        newest.0,
         carried_words rules.wire pending (take_low left longest_run (2 ^ 16) (drop_low own (acked_of m.acks to) (2 ^ 16) (known_words rules me room k.me journal is known.me))),
       );
       may = record {
         ack = few k to known;
-        mark_frame = omega (arith, least, ticked, ticks);
+        mark_frame = let low = newest.1 in omega (arith, low, least, ticked, ticks);
         run = carried_is rules.wire pending (acked_of m.acks to) most_inputs
             (omega (arith, length-take longest_run left, left_within own (acked_of m.acks to) most_inputs (omega (arith, acked, all, least)) least));
       };
       room = carried_room rules.wire pending;
     }
 
-freeze_spelled : (rules : Rules) (k : KnownValue) (m : Memory) (to leaver : ℕ) → IsKnown k → IsLeaver k leaver → IsSpelled rules.wire (message rules k m to (Freeze leaver))
-freeze_spelled rules k m to leaver known leaves =
+freeze_spelled : (rules : Rules) (t : Told) (k : KnownValue) (m : Memory) (to leaver : ℕ) → IsKnown k → IsLeaver k leaver → IsSpelled rules.wire (message rules t k m to (Freeze leaver))
+freeze_spelled rules t k m to leaver known leaves =
     let four = known.at_most_four in
     let within = leaves.in_game in
     record { fits = tt; may = record { leaver_from_two = leaves.from_two; leaver_to_four = omega (arith, four, within); have = few k leaver known }; room = refl }
@@ -191,38 +210,38 @@ leaver_spelled rules k leaver end start known leaves all from =
       run = carried_is rules.wire (drop start (player_in k leaver).held) start end (left_within (player_in k leaver).held start end from (omega (arith, all)));
     }
 
-frozen_spelled : (rules : Rules) (k : KnownValue) (m : Memory) (to leaver : ℕ) → IsKnown k → IsLeaver k leaver → AreWords (player_in k leaver).held → IsSpelled rules.wire (message rules k m to (Frozen leaver))
-frozen_spelled rules k m to leaver known leaves words = record {
+frozen_spelled : (rules : Rules) (t : Told) (k : KnownValue) (m : Memory) (to leaver : ℕ) → IsKnown k → IsLeaver k leaver → AreWords (player_in k leaver).held → IsSpelled rules.wire (message rules t k m to (Frozen leaver))
+frozen_spelled rules t k m to leaver known leaves words = record {
   fits = carried_words rules.wire (drop (answer_from m.stayer k leaver) (player_in k leaver).held) (drop_low (player_in k leaver).held (answer_from m.stayer k leaver) (2 ^ 16) words);
   room = carried_room rules.wire (drop (answer_from m.stayer k leaver) (player_in k leaver).held);
   may = leaver_spelled rules k leaver (count_in k leaver) (answer_from m.stayer k leaver) known leaves refl (omega arith);
 }
 
-cut_spelled : (rules : Rules) (k : KnownValue) (m : Memory) (to leaver : ℕ) → IsKnown k → IsLeaver k leaver → count_in k leaver ≡ cut_length (player_in k leaver).cut
-    → AreWords (player_in k leaver).held → IsSpelled rules.wire (message rules k m to (Cut leaver))
-cut_spelled rules k m to leaver known leaves all words = record {
+cut_spelled : (rules : Rules) (t : Told) (k : KnownValue) (m : Memory) (to leaver : ℕ) → IsKnown k → IsLeaver k leaver → count_in k leaver ≡ cut_length (player_in k leaver).cut
+    → AreWords (player_in k leaver).held → IsSpelled rules.wire (message rules t k m to (Cut leaver))
+cut_spelled rules t k m to leaver known leaves all words = record {
   fits = carried_words rules.wire (drop (owed m.chair k to leaver) (player_in k leaver).held) (drop_low (player_in k leaver).held (owed m.chair k to leaver) (2 ^ 16) words);
   room = carried_room rules.wire (drop (owed m.chair k to leaver) (player_in k leaver).held);
   may = leaver_spelled rules k leaver (cut_length (player_in k leaver).cut) (owed m.chair k to leaver) known leaves all (omega (arith, all));
 }
 
-message_spelled : (rules : Rules) (me room : ℕ) (journal : List Record) (m : Memory) (to : ℕ) (what : Saying) → IsJournal rules me room journal → IsMemory rules room me journal m
-    → IsOrderly (known_of rules me journal) → IsKnown (known_of rules me journal) → lacks_record (known_of rules me journal) what ≡ false → IsSpelled rules.wire (message rules (known_of rules me journal) m to what)
-message_spelled rules me room journal m to Hello is memory orderly known has = record { fits = tt; may = tt; room = refl }
-message_spelled rules me room journal m to Welcome is memory orderly known has = record { fits = tt; may = few (known_of rules me journal) to known; room = refl }
-message_spelled rules me room journal m to Data is memory orderly known has = data_spelled rules me room journal m to is memory known
-message_spelled rules me room journal m to (Freeze leaver) is memory orderly known has =
+message_spelled : (rules : Rules) (me room : ℕ) (journal : List Record) (m : Memory) (to : ℕ) (what : Saying) → AreInRange rules → 1 ≤ me → me ≤ rules.players → IsJournal rules me room journal → IsMemory rules room me journal m
+    → IsOrderly (known_of rules me journal) → IsKnown (known_of rules me journal) → lacks_record (known_of rules me journal) what ≡ false → IsSpelled rules.wire (message rules (told_of rules me journal) (known_of rules me journal) m to what)
+message_spelled rules me room journal m to Hello range from within is memory orderly known has = record { fits = tt; may = tt; room = refl }
+message_spelled rules me room journal m to Welcome range from within is memory orderly known has = record { fits = tt; may = few (known_of rules me journal) to known; room = refl }
+message_spelled rules me room journal m to Data range from within is memory orderly known has = data_spelled rules me room journal m to range from within is memory known
+message_spelled rules me room journal m to (Freeze leaver) range from within is memory orderly known has =
     let k : KnownValue = known_of rules me journal in
-    freeze_spelled rules k m to leaver known (is_leaver k leaver orderly (leaving_or (player_in k leaver) (not-false (player_in k leaver).leaving has)))
-message_spelled rules me room journal m to (Frozen leaver) is memory orderly known has =
+    freeze_spelled rules (told_of rules me journal) k m to leaver known (is_leaver k leaver orderly (leaving_or (player_in k leaver) (not-false (player_in k leaver).leaving has)))
+message_spelled rules me room journal m to (Frozen leaver) range from within is memory orderly known has =
     let k : KnownValue = known_of rules me journal in
     let leaves = is_leaver k leaver orderly (frozen_or (player_in k leaver) (not-false (player_in k leaver).frozen has)) in
-    frozen_spelled rules k m to leaver known leaves (known_words rules me room leaver journal is (leaver_plays k leaver leaves))
-message_spelled rules me room journal m to (Cut leaver) is memory orderly known has =
+    frozen_spelled rules (told_of rules me journal) k m to leaver known leaves (known_words rules me room leaver journal is (leaver_plays k leaver leaves))
+message_spelled rules me room journal m to (Cut leaver) range from within is memory orderly known has =
     let k : KnownValue = known_of rules me journal in
     let ends = known.cuts leaver (cut_length (player_in k leaver).cut) (some_cut (player_in k leaver).cut has) in
     let leaves = is_leaver k leaver orderly ends.leaves in
-    cut_spelled rules k m to leaver known leaves ends.count (known_words rules me room leaver journal is (leaver_plays k leaver leaves))
+    cut_spelled rules (told_of rules me journal) k m to leaver known leaves ends.count (known_words rules me room leaver journal is (leaver_plays k leaver leaves))
 
 -- ---- the head, and all of it
 
@@ -248,17 +267,17 @@ pub said_spelled : (rules : Rules) (me room : ℕ) (journal : List Record) (m : 
     (call : Call) (p : Packet)
     → AreInRange rules → 1 ≤ me → me ≤ rules.players → IsJournal rules me room journal
     → IsMemory rules room me journal m → IsCall call
-    → (outcome rules (known_of rules me journal) m call).reply ≡ Said (Ok p)
+    → (outcome rules (told_of rules me journal) (known_of rules me journal) m call).reply ≡ Said (Ok p)
     → IsPacket p
 said_spelled rules me room journal m call p range from within journal_is memory fits said =
     let k : KnownValue = known_of rules me journal in
-    let s = what_is_said rules k m call p said in
+    let s = what_is_said rules (told_of rules me journal) k m call p said in
     let known : IsKnown k = journal_known rules me room journal range from within journal_is in
-    let spelled = message_spelled rules me room journal m s.to s.what journal_is memory (journal_orderly rules me room journal journal_is) known s.has in
+    let spelled = message_spelled rules me room journal m s.to s.what range from within journal_is memory (journal_orderly rules me room journal journal_is) known s.has in
     subst IsPacket (sym s.is) (record {
-      head = head_spelled rules me room journal m s.to (kind_of (message rules k m s.to s.what)) range from within memory s.apart s.plays;
+      head = head_spelled rules me room journal m s.to (kind_of (message rules (told_of rules me journal) k m s.to s.what)) range from within memory s.apart s.plays;
       kind = refl;
       fits = spelled.fits;
       message = spelled.may;
-      room = ap (λ (v : WireVersion). has_room v (message rules k m s.to s.what)) memory.version ∙ spelled.room;
+      room = ap (λ (v : WireVersion). has_room v (message rules (told_of rules me journal) k m s.to s.what)) memory.version ∙ spelled.room;
     })

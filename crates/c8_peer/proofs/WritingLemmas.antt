@@ -13,9 +13,11 @@ use Rattle.c8_peer.specs.declared.kind.Kind.TheVariants as kinds
 use Rattle.c8_peer.specs.Asked.{saying_of, wire_of}
 use Rattle.c8_peer.specs.State.{Memory, Open, Saying, Say, Said, Outcome, answered}
 use Rattle.c8_peer.specs.Saying.{message, packet, say}
+use Rattle.c8_peer.specs.Told.{Told, told_of}
 use Rattle.c8_peer.specs.Steps.{outcome}
 use Rattle.c8_peer.specs.Truth.{IsTrue}
-use Rattle.c8_peer.specs.Peer.{PeerValue, known_by, IsSaid}
+use Rattle.c8_peer.specs.TrueChecks.{HasTrueChecks}
+use Rattle.c8_peer.specs.Peer.{PeerValue, known_by, told_by, IsSaid}
 use Rattle.c8_peer.specs.checked.Held.{IsPeer}
 use Rattle.c8_peer.proofs.SayingLemmas.{said_true}
 use Rattle.c8_peer.proofs.SpellingLemmas.{said_spelled}
@@ -28,32 +30,37 @@ rest_from xs start to all = take_all (to - start) (drop start xs) (omega (arith,
 
 -- ---- what is said has a spelling, and is true
 
-kind_said : (rules : Rules) (k : KnownValue) (m : Memory) (to : ℕ) (kind : Kind) → kind_of (message rules k m to (saying_of kind)) ≡ wire_of kind
-kind_said rules k m to kinds.Hello = refl
-kind_said rules k m to kinds.Welcome = refl
-kind_said rules k m to kinds.Data = refl
-kind_said rules k m to (kinds.Freeze leaver) = refl
-kind_said rules k m to (kinds.Frozen leaver) = refl
-kind_said rules k m to (kinds.Cut leaver) = refl
+kind_said : (rules : Rules) (t : Told) (k : KnownValue) (m : Memory) (to : ℕ) (kind : Kind) → kind_of (message rules t k m to (saying_of kind)) ≡ wire_of kind
+kind_said rules t k m to kinds.Hello = refl
+kind_said rules t k m to kinds.Welcome = refl
+kind_said rules t k m to kinds.Data = refl
+kind_said rules t k m to (kinds.Freeze leaver) = refl
+kind_said rules t k m to (kinds.Frozen leaver) = refl
+kind_said rules t k m to (kinds.Cut leaver) = refl
 
 -- a header and a body that are to be written
-pub record IsWritten (rules : Rules) (k : KnownValue) (m : Memory) (to : ℕ) (what : Saying) (head : HeadValue) (body : Message) : Type 0 where
-  pub is : ◌≡◌ {A = Packet} (record { head = head; message = body }) (packet rules k m to what)
+pub record IsWritten (rules : Rules) (t : Told) (k : KnownValue) (m : Memory) (to : ℕ) (what : Saying) (head : HeadValue) (body : Message) : Type 0 where
+  pub is : ◌≡◌ {A = Packet} (record { head = head; message = body }) (packet rules t k m to what)
   pub kind : head.kind ≡ kind_of body
   pub message_is : IsMessage body
   pub room : has_room head.version body ≡ true
 
 module _ {D : Type 0} where
+  -- what the journal inside tells
+  abbrev told_in : Rules → JournalValue D → KnownValue → Told
+  told_in rules j k = told_of rules k.me (records_of j.bodies)
+
   pub may_say : (rules : Rules) (room : ℕ) (j : JournalValue D) (k : KnownValue) (m : Memory) (to : ℕ) (kind : Kind) (head : HeadValue) (body : Message) → IsPeer rules room j k m
-      → say rules k m to (saying_of kind) ≡ answered m (Said (Ok (packet rules k m to (saying_of kind))))
-      → head ≡ head_to m.links to (wire_of kind) → body ≡ message rules k m to (saying_of kind) → IsWritten rules k m to (saying_of kind) head body
+      → say rules (told_in rules j k) k m to (saying_of kind) ≡ answered m (Said (Ok (packet rules (told_in rules j k) k m to (saying_of kind))))
+      → head ≡ head_to m.links to (wire_of kind) → body ≡ message rules (told_in rules j k) k m to (saying_of kind) → IsWritten rules (told_in rules j k) k m to (saying_of kind) head body
   may_say rules room j k m to kind head body is comes heads says =
       let what : Saying = saying_of kind in
-      let same : kind_of (message rules k m to what) ≡ wire_of kind = kind_said rules k m to kind in
-      let replies : (outcome rules (known_of rules k.me (records_of j.bodies)) m (Say to what)).reply ≡ Said (Ok (packet rules k m to what)) =
-      subst (λ (known : KnownValue). (outcome rules known m (Say to what)).reply ≡ Said (Ok (packet rules k m to what))) is.known (ap (λ (o : Outcome). o.reply) comes) in
-      let spelled : IsPacket (packet rules k m to what) =
-      said_spelled rules k.me room (records_of j.bodies) m (Say to what) (packet rules k m to what) is.range is.from_one is.in_game is.bodies.journal is.memory tt replies in
+      let t : Told = told_in rules j k in
+      let same : kind_of (message rules t k m to what) ≡ wire_of kind = kind_said rules t k m to kind in
+      let replies : (outcome rules t (known_of rules k.me (records_of j.bodies)) m (Say to what)).reply ≡ Said (Ok (packet rules t k m to what)) =
+      subst (λ (known : KnownValue). (outcome rules t known m (Say to what)).reply ≡ Said (Ok (packet rules t k m to what))) is.known (ap (λ (o : Outcome). o.reply) comes) in
+      let spelled : IsPacket (packet rules t k m to what) =
+      said_spelled rules k.me room (records_of j.bodies) m (Say to what) (packet rules t k m to what) is.range is.from_one is.in_game is.bodies.journal is.memory tt replies in
       record {
         is = λ i. record { head = (heads ∙ ap (head_to m.links to) (sym same)) i; message = says i };
         kind = rw (heads, says) (sym same);
@@ -63,15 +70,16 @@ module _ {D : Type 0} where
 
   pub is_said : {ran : ℕ} (v : PeerValue D) (rules : Rules) (room : ℕ) (j : JournalValue D) (k : KnownValue) (m : Memory) (to : ℕ) (what : Saying) (bytes : List ℕ) (p : Packet)
       → view rules room k.me j m ran ≡ v → IsPeer rules room j k m → v.state.mode ≡ Open
-      → say rules k m to what ≡ answered m (Said (Ok p)) → Spells bytes p → IsSaid v (Say to what) bytes
+      → say rules (told_in rules j k) k m to what ≡ answered m (Said (Ok p)) → Spells bytes p → IsSaid v (Say to what) bytes
   is_said v rules room j k m to what bytes p seen is mode comes spells =
-      let here : outcome v.rules (known_by v) v.state.memory (Say to what) ≡ answered v.state.memory (Said (Ok p)) = outcome_seen v rules room j k m is seen (Say to what) (λ noted. answered noted (Said (Ok p))) comes in
-      let sound : IsTrue rules k.me (records_of j.bodies) p =
-      said_true rules k.me room (records_of j.bodies) m (Say to what) p is.range is.from_one is.in_game is.bodies.journal is.memory tt
-      (subst (λ (known : KnownValue). (outcome rules known m (Say to what)).reply ≡ Said (Ok p)) is.known (ap (λ (o : Outcome). o.reply) comes)) in
+      let t : Told = told_in rules j k in
+      let here : outcome v.rules (told_by v) (known_by v) v.state.memory (Say to what) ≡ answered v.state.memory (Said (Ok p)) = outcome_seen v rules room j k m is seen (Say to what) (λ noted. answered noted (Said (Ok p))) comes in
+      let sound : HasTrueChecks rules k.me (records_of j.bodies) → IsTrue rules k.me (records_of j.bodies) p = λ true_checks.
+      said_true rules k.me room (records_of j.bodies) m (Say to what) p is.range is.from_one is.in_game is.bodies.journal is.memory tt true_checks
+      (subst (λ (known : KnownValue). (outcome rules t known m (Say to what)).reply ≡ Said (Ok p)) is.known (ap (λ (o : Outcome). o.reply) comes)) in
       record {
         packet = p;
         spelled = spells;
         step = rw (mode, here) refl;
-        is_true = subst (λ (x : PeerValue D). IsTrue x.rules x.me x.state.journal p) seen sound;
+        is_true = subst (λ (x : PeerValue D). HasTrueChecks x.rules x.me x.state.journal → IsTrue x.rules x.me x.state.journal p) seen sound;
       }

@@ -1,14 +1,19 @@
--- A tick, and what player one does of a drop round by itself. Each line is a refusal, in the order in which they are judged.
-use Rattle.std.specs.Prelude.{ℕ, ◌+◌, ◌==◌, ◌||◌, not, nat_le, [], is_some, Ok, Err, if◌then◌else◌}
+-- A tick, what player one does of a drop round by itself, and a checkpoint. Each line is a refusal, in the order in which they are judged.
+use Rattle.std.specs.Prelude.{ℕ, ◌+◌, ◌==◌, ◌||◌, not, nat_le, [], Option, Some, None, is_some, Ok, Err, if◌then◌else◌}
 use Rattle.c8_game.specs.Rules.{Rules}
+use Rattle.c8_wire.specs.Reading.{words_of}
 use Rattle.c8_known.specs.Journal as records
 use Rattle.c8_known.specs.Known.{KnownValue, player_in, count_in, is_player}
 use Rattle.c8_known.specs.Confirmed.{confirmed}
 use Rattle.c8_round.specs.Round.{is_ready}
+use Rattle.c8_check.specs.Checks.{Pieces, all_pieces, piece_in, digest_of, frames_of}
 use Rattle.c8_peer.specs.declared.error.TickError.TheVariants as ticks
 use Rattle.c8_peer.specs.declared.error.LeaveError.TheVariants as leaves
 use Rattle.c8_peer.specs.declared.error.DecideError.TheVariants as decides
-use Rattle.c8_peer.specs.State.{Memory, Ticked, Left, Decided, Outcome, answered, recorded}
+use Rattle.c8_peer.specs.declared.error.CheckError.TheVariants as checks
+use Rattle.c8_peer.specs.declared.check.Check.TheVariants.{Piece, Done}
+use Rattle.c8_peer.specs.Told.{Told}
+use Rattle.c8_peer.specs.State.{Memory, Ticked, Left, Decided, Checked, Outcome, answered, recorded}
 
 -- the own player enters a key set, for the frame of its tick and the delay
 unfoldable pub tick : Rules → KnownValue → Memory → ℕ → Outcome
@@ -34,3 +39,16 @@ decide k m leaver =
     else (if is_some (player_in k leaver).cut then answered m (Decided (Err decides.Already))
     else (if not (is_ready m.chair k leaver) then answered m (Decided (Err decides.NotReady))
     else recorded m (Decided (Ok (count_in k leaver))) (records.Cut leaver (count_in k leaver) (count_in k leaver) [])))
+
+-- The next record of a checkpoint: where none is under way its first piece, at the frames that are confirmed now; then each piece of
+-- the machine and the marks of that moment; and after the last one their digest.
+abbrev pub next_piece : Told → KnownValue → Memory → Option Pieces → Outcome
+next_piece t k m None =
+    if nat_le (confirmed k) (frames_of t.checks.last) then answered m (Checked (Err checks.Nothing))
+    else recorded m (Checked (Ok (Piece 0))) (records.State k.me (confirmed k) 0 (words_of (piece_in 0 (t.saved (confirmed k)))))
+next_piece t k m (Some p) =
+    if p.count == all_pieces then recorded m (Checked (Ok (Done p.frames))) (records.Check k.me p.frames (words_of (digest_of p.bytes)))
+    else recorded m (Checked (Ok (Piece p.count))) (records.State k.me p.frames p.count (words_of (piece_in p.count (t.saved p.frames))))
+
+unfoldable pub checkpoint : Told → KnownValue → Memory → Outcome
+checkpoint t k m = if (player_in k k.me).leaving then answered m (Checked (Err checks.Dropped)) else next_piece t k m t.checks.under_way

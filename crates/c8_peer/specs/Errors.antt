@@ -15,6 +15,8 @@ use Rattle.c8_peer.specs.declared.error.LeaveError.{LeaveError}
 use Rattle.c8_peer.specs.declared.error.LeaveError.TheVariants as leaves
 use Rattle.c8_peer.specs.declared.error.DecideError.{DecideError}
 use Rattle.c8_peer.specs.declared.error.DecideError.TheVariants as decides
+use Rattle.c8_peer.specs.declared.error.CheckError.{CheckError}
+use Rattle.c8_peer.specs.declared.error.CheckError.TheVariants as checks
 
 abbrev pub open_number_of : OpenError → ℕ
 open_number_of opens.WrongGame = 1
@@ -67,3 +69,9 @@ decide_number_of decides.NotReady = 2
 decide_number_of decides.Already = 3
 decide_number_of (decides.Disk why) = 4
 decide_number_of decides.Down = 5
+
+abbrev pub check_number_of : CheckError → ℕ
+check_number_of checks.Nothing = 1
+check_number_of checks.Dropped = 2
+check_number_of (checks.Disk why) = 3
+check_number_of checks.Down = 4

@@ -12,16 +12,15 @@ use Rattle.c8_known.specs.declared.error.KnownError.{KnownError}
 use Rattle.c8_known.specs.declared.error.KnownError.TheVariants as knowns
 use Rattle.c8_known.specs.Journal as records
 use Rattle.c8_known.specs.Known.{KnownValue, player_in, count_in, is_player}
-use Rattle.c8_known.specs.Confirmed.{confirmed}
 use Rattle.c8_known.specs.Fresh.{differ, is_from_leaver, misfit, fresh_words}
 use Rattle.c8_digest.specs.Marks.{mark_at}
-use Rattle.c8_roll.specs.Roll.{marks_up_to}
 use Rattle.c8_window.specs.Window.{acked_more}
 use Rattle.c8_round.specs.Round.{with_report, with_have}
 use Rattle.c8_peer.specs.declared.error.Refused.{Refused}
 use Rattle.c8_peer.specs.declared.error.Refused.TheVariants as refusals
 use Rattle.c8_peer.specs.declared.heard.Heard.{Heard}
 use Rattle.c8_peer.specs.declared.heard.Heard.TheVariants as heards
+use Rattle.c8_peer.specs.Told.{Told}
 use Rattle.c8_peer.specs.State.{Memory, Delivered, Outcome, answered, recorded}
 
 abbrev pub refused : Memory → Refused → Outcome
@@ -49,16 +48,16 @@ abbrev pub differs_from : Option (List ℕ) → List ℕ → Bool
 differs_from None mark = false
 differs_from (Some own) mark = differ own mark
 
-unfoldable pub is_desync : Rules → KnownValue → DataMessage → Bool
-is_desync rules k d = differs_from (mark_at d.mark_frame (marks_up_to rules k (confirmed k))) d.mark
+unfoldable pub is_desync : Told → DataMessage → Bool
+is_desync t d = differs_from (mark_at d.mark_frame t.marks) d.mark
 
 -- From player q. An acknowledgement is kept last, when nothing refuses any more.
-unfoldable pub hear_data : Rules → KnownValue → Memory → ℕ → DataMessage → Outcome
-hear_data rules k m q d =
+unfoldable pub hear_data : Told → KnownValue → Memory → ℕ → DataMessage → Outcome
+hear_data t k m q d =
     if is_from_leaver k q q then refused m (refusals.Known knowns.FromLeaver)
     else (if nat_lt (count_in k k.me) d.ack then refused m refusals.BadAck
     else unless_misfit m (misfit k q d.start d.words)
-    (if is_desync rules k d then answered (record m { alarm = true }) (Delivered (Err refusals.Desync))
+    (if is_desync t d then answered (record m { alarm = true }) (Delivered (Err refusals.Desync))
     else got k (record m { acks = acked_more m.acks q d.ack }) q (fresh_words k q d.start d.words)))
 
 -- ---- HELLO and WELCOME
@@ -113,13 +112,13 @@ hear_cut k m q c =
 
 -- ---- any delivery
 
-abbrev pub hear_message : Rules → KnownValue → Memory → HeadValue → Message → Outcome
-hear_message rules k m head packets.Hello = taken (record m { links = heard m.links head }) heards.Nothing
-hear_message rules k m head (packets.Welcome ack) = hear_welcome k m head ack
-hear_message rules k m head (packets.Data d) = hear_data rules k m head.from d
-hear_message rules k m head (packets.Freeze f) = hear_freeze k m head.from f
-hear_message rules k m head (packets.Frozen f) = hear_frozen k m head.from f
-hear_message rules k m head (packets.Cut c) = hear_cut k m head.from c
+abbrev pub hear_message : Rules → Told → KnownValue → Memory → HeadValue → Message → Outcome
+hear_message rules t k m head packets.Hello = taken (record m { links = heard m.links head }) heards.Nothing
+hear_message rules t k m head (packets.Welcome ack) = hear_welcome k m head ack
+hear_message rules t k m head (packets.Data d) = hear_data t k m head.from d
+hear_message rules t k m head (packets.Freeze f) = hear_freeze k m head.from f
+hear_message rules t k m head (packets.Frozen f) = hear_frozen k m head.from f
+hear_message rules t k m head (packets.Cut c) = hear_cut k m head.from c
 
 -- a datagram in another version of the format than the game's
 abbrev pub is_of_other_wire : Rules → HeadValue → Bool
@@ -129,15 +128,15 @@ abbrev pub unless_hand : Memory → Option HandError → Outcome → Outcome
 unless_hand m None outcome = outcome
 unless_hand m (Some error) outcome = refused m (refusals.Hand error)
 
-abbrev pub hear : Rules → KnownValue → Memory → Packet → Outcome
-hear rules k m p =
+abbrev pub hear : Rules → Told → KnownValue → Memory → Packet → Outcome
+hear rules t k m p =
     if is_of_other_wire rules p.head then refused m refusals.OtherWire
-    else unless_hand m (links.refusal m.links p.head) (hear_message rules k m p.head p.message)
+    else unless_hand m (links.refusal m.links p.head) (hear_message rules t k m p.head p.message)
 
-abbrev pub hear_told : Rules → KnownValue → Memory → Result Packet WireError → Outcome
-hear_told rules k m (Ok p) = hear rules k m p
-hear_told rules k m (Err error) = refused m (refusals.Wire error)
+abbrev pub hear_told : Rules → Told → KnownValue → Memory → Result Packet WireError → Outcome
+hear_told rules t k m (Ok p) = hear rules t k m p
+hear_told rules t k m (Err error) = refused m (refusals.Wire error)
 
 -- what bytes say, to a peer that is open: one that has been dropped hears nothing
-abbrev pub deliver : Rules → KnownValue → Memory → Result Packet WireError → Outcome
-deliver rules k m told = if (player_in k k.me).leaving then refused m refusals.Dropped else hear_told rules k m told
+abbrev pub deliver : Rules → Told → KnownValue → Memory → Result Packet WireError → Outcome
+deliver rules t k m told = if (player_in k k.me).leaving then refused m refusals.Dropped else hear_told rules t k m told

@@ -1,11 +1,13 @@
 pub mod Errors
 pub mod State
+pub mod Told
 pub mod Calls
 pub mod Hearing
 pub mod Saying
 pub mod Steps
 pub mod Opening
 pub mod Truth
+pub mod TrueChecks
 pub mod Lawful
 pub mod Peer
 pub mod Replies

@@ -11,6 +11,7 @@ use Rattle.c8_log.specs.Slots.{slot_length, kept}
 use Rattle.c8_log.specs.Log.{AllKeep, KeepsOneOf, has_closed_gate, repaired}
 use Rattle.c8_log.specs.Journal.{AllKeepBodies}
 use Rattle.c8_known.specs.Journal.{epoch, ticks}
+use Rattle.c8_check.specs.Checks.{begun_at}
 use Rattle.c8_record.specs.Body.{body_of, records_of}
 use Rattle.c8_record.specs.Replay.{AreJournalBodies, IsRefusal, ReplayRun}
 use Rattle.c8_record.specs.declared.error.ReplayError.{ReplayError}
@@ -87,7 +88,7 @@ module _ {D : Type 0} (g : Ghosts D) (disk : D) (rules : Rules) (room me : ℕ) 
   -- - `may`: what was found is a journal of this match and player, and its epochs are not spent.
   -- - `bodies`: the bodies found are those of that journal.
   -- - `sound`: what is so of every peer is so of this one.
-  -- - `ran`: as many frames were run as the journal has ticks.
+  -- - `ran`: as many frames were run as the journal has ticks after the last checkpoint that was found.
   -- - `has_room`: there was room for one slot more and the gate after it.
   -- - `same`, `asks`: it stands on the same disk, to which these calls led.
   pub record IsOpened (p : PeerValue D) : Type 0 where
@@ -98,7 +99,7 @@ module _ {D : Type 0} (g : Ghosts D) (disk : D) (rules : Rules) (room me : ℕ) 
     pub may : MayBecome rules room me (records_of (bodies_found g disk)) Stands
     pub bodies : AreJournalBodies rules me room (bodies_found g disk)
     pub sound : IsSound g p
-    pub ran : p.last_run ≡ ticks p.state.journal
+    pub ran : p.last_run + (begun_at rules p.state.journal).frames ≡ ticks p.state.journal
     pub has_room : slot_length * (length (bodies_found g disk) + 1) + 1 ≤ g.capacity disk
     pub same : IsSameDisk g disk p.disk
     pub asks : Asks g OpenRun (Ok tt) disk p.disk

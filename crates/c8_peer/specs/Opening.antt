@@ -21,10 +21,14 @@ last_epoch = 4294967295
 abbrev pub found : State → Bool → List Record
 found s with_pending = if with_pending then s.journal ++ option_to_list s.pending else s.journal
 
+-- the form of the records that are written
+abbrev pub second_form : ℕ
+second_form = 2
+
 -- an empty journal gets a HEAD, another one the next epoch
 abbrev pub opening_record : Rules → ℕ → ℕ → List Record → Record
-opening_record rules room me [] = Head me (id_of rules) room
-opening_record rules room me (r ∷ rest) = Epoch me (epoch (r ∷ rest) + 1)
+opening_record rules room me [] = Head me second_form (id_of rules) room
+opening_record rules room me (r ∷ rest) = Epoch me (epoch (r ∷ rest) + 1) second_form
 
 -- What became of an opening: there is no such player in the game; its record stands; the disk refused its record; memory was
 -- refused or the disk failed before all was read, and nothing is settled; what was found is no journal that this peer may

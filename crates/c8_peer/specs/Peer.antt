@@ -10,6 +10,8 @@ use Rattle.c8_log.specs.Asked.{AppendWithin}
 use Rattle.c8_log.specs.Slots.{slot_length, kept}
 use Rattle.c8_known.specs.Journal.{Record, epoch}
 use Rattle.c8_known.specs.Known.{KnownValue, known_of}
+use Rattle.c8_digest.specs.Origin.{Origin}
+use Rattle.c8_check.specs.Checks.{begun_at}
 use Rattle.c8_roll.specs.Rollback.{RunsFromOldest}
 use Rattle.c8_record.specs.Body.{body_of, record_of, records_of}
 use Rattle.c8_record.specs.Allowed.{IsJournal}
@@ -21,10 +23,15 @@ use Rattle.c8_peer.specs.declared.error.LeaveError.{LeaveError}
 use Rattle.c8_peer.specs.declared.error.LeaveError.TheVariants as leaves
 use Rattle.c8_peer.specs.declared.error.DecideError.{DecideError}
 use Rattle.c8_peer.specs.declared.error.DecideError.TheVariants as decides
-use Rattle.c8_peer.specs.State.{Memory, Mode, Open, Down, Away, State, Call, Tick, Deliver, Say, Leave, Decide, Reply, Opened, Ticked, Delivered, Said, Left, Decided}
+use Rattle.c8_peer.specs.declared.error.CheckError.{CheckError}
+use Rattle.c8_peer.specs.declared.error.CheckError.TheVariants as checks
+use Rattle.c8_peer.specs.declared.check.Check.{Check}
+use Rattle.c8_peer.specs.State.{Memory, Mode, Open, Down, Away, State, Call, Tick, Deliver, Say, Leave, Decide, Checkpoint, Reply, Opened, Ticked, Delivered, Said, Left, Decided, Checked}
 use Rattle.c8_wire.specs.Packet.{Packet}
 use Rattle.c8_wire.specs.Spelling.{Spells}
 use Rattle.c8_peer.specs.Truth.{IsTrue}
+use Rattle.c8_peer.specs.TrueChecks.{HasTrueChecks}
+use Rattle.c8_peer.specs.Told.{Told, told_of}
 use Rattle.c8_peer.specs.Opening.{found}
 use Rattle.c8_peer.specs.Lawful.{IsMemory}
 use Rattle.c8_peer.specs.Steps.{Luck, Works, Refuses, Stepped, outcome, step}
@@ -56,6 +63,14 @@ state_of bodies pending is_down m = record {
 -- what a peer knows by its journal
 abbrev pub known_by : {D : Type 0} → PeerValue D → KnownValue
 known_by p = known_of p.rules p.me p.state.journal
+
+-- where its machine began
+abbrev pub begun_by : {D : Type 0} → PeerValue D → Origin
+begun_by p = begun_at p.rules p.state.journal
+
+-- what its journal tells beside
+abbrev pub told_by : {D : Type 0} → PeerValue D → Told
+told_by p = told_of p.rules p.me p.state.journal
 
 -- it is a peer of the same match and player, on the same disk
 pub record IsSamePeer {D : Type 0} (disk : Ghosts D) (old new : PeerValue D) : Type 0 where
@@ -106,6 +121,13 @@ luck_of_decision (Err decides.Already) = Works
 luck_of_decision (Err (decides.Disk why)) = Refuses why
 luck_of_decision (Err decides.Down) = Works
 
+abbrev pub luck_of_check : Result Check CheckError → Luck
+luck_of_check (Ok said) = Works
+luck_of_check (Err checks.Nothing) = Works
+luck_of_check (Err checks.Dropped) = Works
+luck_of_check (Err (checks.Disk why)) = Refuses why
+luck_of_check (Err checks.Down) = Works
+
 abbrev pub luck_of : Reply → Luck
 luck_of (Opened result) = Works
 luck_of (Ticked result) = luck_of_tick result
@@ -114,6 +136,7 @@ luck_of (Delivered (Err why)) = luck_of_refusal why
 luck_of (Said result) = Works
 luck_of (Left result) = luck_of_leave result
 luck_of (Decided result) = luck_of_decision result
+luck_of (Checked result) = luck_of_check result
 
 -- an answer, and the state after it
 abbrev pub stepped : {D : Type 0} → Reply → PeerValue D → Stepped
@@ -132,15 +155,16 @@ added_at Down keeps = None
 added_at Away keeps = None
 
 abbrev pub added : {D : Type 0} → PeerValue D → Call → Option Record
-added p call = added_at p.state.mode (outcome p.rules (known_by p) p.state.memory call).keeps
+added p call = added_at p.state.mode (outcome p.rules (told_by p) (known_by p) p.state.memory call).keeps
 
--- the most frames that a call runs: the window's, and for a tick its own one more
+-- the most frames that a call runs: the window's, and for a tick its own one more; for a checkpoint none
 abbrev pub most_run : Rules → Call → ℕ
 most_run rules (Tick keys) = rules.window + 1
 most_run rules (Deliver told) = rules.window
 most_run rules (Say to what) = rules.window
 most_run rules (Leave leaver) = rules.window
 most_run rules (Decide leaver) = rules.window
+most_run rules Checkpoint = 0
 
 -- How many frames a call runs whose record stands: those from the oldest on whose best guess it changes, or, where it changes none,
 -- those that are new; and no more than that.
@@ -190,7 +214,7 @@ abbrev pub disk_answer : Luck → Answer
 disk_answer Works = Ok tt
 disk_answer (Refuses why) = Err why
 
--- What a tick, a delivery, a leave and a decision answer for, of a peer before the call and after it. The record that it adds is
+-- What a tick, a delivery, a leave, a decision and a checkpoint answer for, of a peer before the call and after it. The record that it adds is
 -- that of `added`.
 --
 -- - `step`: it is the one step of the definitions.
@@ -237,9 +261,10 @@ pub record IsSound {D : Type 0} (disk : Ghosts D) (p : PeerValue D) : Type 0 whe
   pub leaves : LeavesJournal disk p
   pub still : LeavesOnly disk p.disk p.disk (KeepsWithOrWithout p.state.journal p.state.pending)
 
--- What is said: a packet that the bytes spell, which is the answer to the call, and true of the journal.
+-- What is said: a packet that the bytes spell, which is the answer to the call, and true of the journal, where what that says of
+-- checkpoints is true.
 pub record IsSaid {D : Type 0} (p : PeerValue D) (call : Call) (bytes : List ℕ) : Type 0 where
   pub packet : Packet
   pub spelled : Spells bytes packet
   pub step : IsStep p call (Said (Ok packet)) p
-  pub is_true : IsTrue p.rules p.me p.state.journal packet
+  pub is_true : HasTrueChecks p.rules p.me p.state.journal → IsTrue p.rules p.me p.state.journal packet

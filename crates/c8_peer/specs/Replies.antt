@@ -1,6 +1,6 @@
 -- What an answer tells of the peer that gave it.
 use Rattle.std.specs.Prelude.{Ok, Err}
-use Rattle.c8_peer.specs.State.{Mode, Open, Down, Away, Reply, Opened, Ticked, Delivered, Said, Left, Decided}
+use Rattle.c8_peer.specs.State.{Mode, Open, Down, Away, Reply, Opened, Ticked, Delivered, Said, Left, Decided, Checked}
 use Rattle.c8_peer.specs.Steps.{Luck, Works, Refuses}
 use Rattle.c8_peer.specs.Peer.{luck_of}
 
@@ -18,3 +18,4 @@ mode_told (Delivered result) = mode_by (luck_of (Delivered result))
 mode_told (Said result) = Open
 mode_told (Left result) = mode_by (luck_of (Left result))
 mode_told (Decided result) = mode_by (luck_of (Decided result))
+mode_told (Checked result) = mode_by (luck_of (Checked result))

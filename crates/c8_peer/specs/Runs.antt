@@ -16,6 +16,7 @@ use Rattle.c8_disk.specs.declared.disk.Disk.{Ghosts}
 use Rattle.c8_peer.specs.declared.error.OpenError.{OpenError}
 use Rattle.c8_peer.specs.Peer.{Keeps}
 use Rattle.c8_record.specs.Allowed.{IsJournal}
+use Rattle.c8_peer.specs.TrueChecks.{HasTrueChecks}
 use Rattle.c8_peer.specs.Lawful.{IsMemory, IsCall}
 
 -- a peer that was never opened: nothing is asked of its memory
@@ -102,6 +103,10 @@ pub record IsLawful (rules : Rules) (room me : ℕ) (s : State) : Type 0 where
   pub journal : (finds : Bool) → IsJournal rules me room (found s finds)
   pub memory : s.mode ≡ states.Open → IsMemory rules room me s.journal s.memory
   pub settled : s.mode ≡ states.Open → s.pending ≡ None
+
+-- what a reading of the disk finds of checkpoints is true
+abbrev pub TellsTruly : Rules → ℕ → State → Type 0
+TellsTruly rules me s = (finds : Bool) → HasTrueChecks rules me (found s finds)
 
 -- the packet is said in one of these answers
 abbrev pub IsAmong : List (Option Reply) → Packet → Type 0

@@ -1,17 +1,17 @@
 -- What a peer says when it is asked to, or why it does not. Each line is a refusal, in the order in which they are judged.
-use Rattle.std.specs.Prelude.{ℕ, ◌*◌, ◌/◌, ◌==◌, ◌||◌, List, drop, Bool, false, not, is_none, Option, Some, None, Ok, Err, if◌then◌else◌}
+use Rattle.std.specs.Prelude.{ℕ, ◌==◌, ◌||◌, List, drop, replicate, unwrap_or, Bool, false, not, is_none, Option, Some, None, Ok, Err, if◌then◌else◌}
 use Rattle.c8_game.specs.Rules.{Rules}
 use Rattle.c8_wire.specs.Carried.{carried}
 use Rattle.c8_wire.specs.Packet.{Message, Packet, kind_of}
 use Rattle.c8_wire.specs.Packet as packets
 use Rattle.c8_hand.specs.Links.{link_to, head_to}
 use Rattle.c8_known.specs.Known.{KnownValue, player_in, count_in, is_player}
-use Rattle.c8_known.specs.Confirmed.{confirmed}
 use Rattle.c8_digest.specs.declared.marks.FrameMark.{FrameMark}
-use Rattle.c8_roll.specs.Roll.{mark_step, mark_after}
+use Rattle.c8_digest.specs.Marks.{mark_length, newest_of}
 use Rattle.c8_window.specs.Window.{acked_of, pending_of}
 use Rattle.c8_round.specs.Round.{owed, answer_from}
 use Rattle.c8_peer.specs.declared.error.Unsayable.TheVariants as unsayables
+use Rattle.c8_peer.specs.Told.{Told}
 use Rattle.c8_peer.specs.State.{Memory, Saying, Hello, Welcome, Data, Freeze, Frozen, Cut, Said, Outcome, answered}
 
 -- ---- what may not be said
@@ -49,47 +49,47 @@ lacks_link m to (Cut leaver) = not (link_to m.links to).is_open
 abbrev pub run_from : Rules → KnownValue → ℕ → ℕ → List ℕ
 run_from rules k q start = carried rules.wire (drop start (player_in k q).held)
 
--- the mark at the greatest multiple of 32 confirmed frames
-abbrev pub newest_mark : Rules → KnownValue → FrameMark
-newest_mark rules k = mark_after rules k (mark_step * (confirmed k / mark_step))
+-- the newest mark that is kept: that at the greatest multiple of 32 confirmed frames (there always is one)
+abbrev pub newest_mark : Told → FrameMark
+newest_mark t = unwrap_or (newest_of t.marks) (record { frame = 0; mark = replicate mark_length 0 })
 
 -- the length at which a list is cut (a list that is not cut is not asked for)
 abbrev pub cut_length : Option ℕ → ℕ
 cut_length None = 0
 cut_length (Some K) = K
 
-abbrev pub message : Rules → KnownValue → Memory → ℕ → Saying → Message
-message rules k m to Hello = packets.Hello
-message rules k m to Welcome = packets.Welcome (count_in k to)
-message rules k m to Data = packets.Data (record {
+abbrev pub message : Rules → Told → KnownValue → Memory → ℕ → Saying → Message
+message rules t k m to Hello = packets.Hello
+message rules t k m to Welcome = packets.Welcome (count_in k to)
+message rules t k m to Data = packets.Data (record {
   ack = count_in k to;
-  mark_frame = (newest_mark rules k).frame;
-  mark = (newest_mark rules k).mark;
+  mark_frame = (newest_mark t).frame;
+  mark = (newest_mark t).mark;
   start = acked_of m.acks to;
   words = carried rules.wire (pending_of m.acks k to);
 })
-message rules k m to (Freeze leaver) = packets.Freeze (record { leaver = leaver; have = count_in k leaver })
-message rules k m to (Frozen leaver) = packets.Frozen (record {
+message rules t k m to (Freeze leaver) = packets.Freeze (record { leaver = leaver; have = count_in k leaver })
+message rules t k m to (Frozen leaver) = packets.Frozen (record {
   leaver = leaver;
   length = count_in k leaver;
   start = answer_from m.stayer k leaver;
   words = run_from rules k leaver (answer_from m.stayer k leaver);
 })
-message rules k m to (Cut leaver) = packets.Cut (record {
+message rules t k m to (Cut leaver) = packets.Cut (record {
   leaver = leaver;
   length = cut_length (player_in k leaver).cut;
   start = owed m.chair k to leaver;
   words = run_from rules k leaver (owed m.chair k to leaver);
 })
 
-abbrev pub packet : Rules → KnownValue → Memory → ℕ → Saying → Packet
-packet rules k m to what = record { head = head_to m.links to (kind_of (message rules k m to what)); message = message rules k m to what }
+abbrev pub packet : Rules → Told → KnownValue → Memory → ℕ → Saying → Packet
+packet rules t k m to what = record { head = head_to m.links to (kind_of (message rules t k m to what)); message = message rules t k m to what }
 
-unfoldable pub say : Rules → KnownValue → Memory → ℕ → Saying → Outcome
-say rules k m to what =
+unfoldable pub say : Rules → Told → KnownValue → Memory → ℕ → Saying → Outcome
+say rules t k m to what =
     if (player_in k k.me).leaving then answered m (Said (Err unsayables.Dropped))
     else (if to == k.me || not (is_player k to) then answered m (Said (Err unsayables.NotAPlayer))
     else (if is_not_mine k to what then answered m (Said (Err unsayables.NotMine))
     else (if lacks_record k what then answered m (Said (Err unsayables.NoRecord))
     else (if lacks_link m to what then answered m (Said (Err unsayables.NoLink))
-    else answered m (Said (Ok (packet rules k m to what)))))))
+    else answered m (Said (Ok (packet rules t k m to what)))))))

@@ -13,6 +13,8 @@ use Rattle.c8_peer.specs.declared.error.Refused.{Refused}
 use Rattle.c8_peer.specs.declared.error.Unsayable.{Unsayable}
 use Rattle.c8_peer.specs.declared.error.LeaveError.{LeaveError}
 use Rattle.c8_peer.specs.declared.error.DecideError.{DecideError}
+use Rattle.c8_peer.specs.declared.error.CheckError.{CheckError}
+use Rattle.c8_peer.specs.declared.check.Check.{Check}
 use Rattle.c8_peer.specs.declared.heard.Heard.{Heard}
 
 -- ---- the state
@@ -61,16 +63,17 @@ pub data Saying : Type 0 where
   Frozen : (leaver : ℕ) → Saying
   Cut : (leaver : ℕ) → Saying
 
--- a call; what is delivered is what the bytes say, a packet or the wire's refusal
+-- A call; what is delivered is what the bytes say, a packet or the wire's refusal. A checkpoint is recorded piece by piece, one a call.
 pub data Call : Type 0 where
   Tick : (keys : ℕ) → Call
   Deliver : (told : Result Packet WireError) → Call
   Say : (to : ℕ) → (what : Saying) → Call
   Leave : (leaver : ℕ) → Call
   Decide : (leaver : ℕ) → Call
+  Checkpoint : Call
 
 -- The answer to an opening and to each call: an opening answers its epoch, a saying the packet that is said, a decision the
--- length at which it cuts.
+-- length at which it cuts, a checkpoint the piece that was recorded or that it is whole.
 pub data Reply : Type 0 where
   Opened : Result ℕ OpenError → Reply
   Ticked : Result (Unit {0}) TickError → Reply
@@ -78,6 +81,7 @@ pub data Reply : Type 0 where
   Said : Result Packet Unsayable → Reply
   Left : Result (Unit {0}) LeaveError → Reply
   Decided : Result ℕ DecideError → Reply
+  Checked : Result Check CheckError → Reply
 
 -- What a call comes to where the disk takes what it records: the answer, at most one record, and the memory after it.
 pub record Outcome : Type 0 where

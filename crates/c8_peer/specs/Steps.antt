@@ -9,18 +9,21 @@ use Rattle.c8_peer.specs.declared.error.Refused.TheVariants as refusals
 use Rattle.c8_peer.specs.declared.error.Unsayable.TheVariants as unsayables
 use Rattle.c8_peer.specs.declared.error.LeaveError.TheVariants as leaves
 use Rattle.c8_peer.specs.declared.error.DecideError.TheVariants as decides
-use Rattle.c8_peer.specs.State.{Memory, Mode, Open, Down, Away, State, Call, Tick, Deliver, Say, Leave, Decide, Reply, Opened, Ticked, Delivered, Said, Left, Decided, Outcome}
-use Rattle.c8_peer.specs.Calls.{tick, leave, decide}
+use Rattle.c8_peer.specs.declared.error.CheckError.TheVariants as checks
+use Rattle.c8_peer.specs.Told.{Told, told_of}
+use Rattle.c8_peer.specs.State.{Memory, Mode, Open, Down, Away, State, Call, Tick, Deliver, Say, Leave, Decide, Checkpoint, Reply, Opened, Ticked, Delivered, Said, Left, Decided, Checked, Outcome}
+use Rattle.c8_peer.specs.Calls.{tick, leave, decide, checkpoint}
 use Rattle.c8_peer.specs.Hearing.{deliver}
 use Rattle.c8_peer.specs.Saying.{say}
 
--- what a call of an open peer comes to, by what is known
-abbrev pub outcome : Rules → KnownValue → Memory → Call → Outcome
-outcome rules k m (Tick keys) = tick rules k m keys
-outcome rules k m (Deliver told) = deliver rules k m told
-outcome rules k m (Say to what) = say rules k m to what
-outcome rules k m (Leave leaver) = leave k m leaver
-outcome rules k m (Decide leaver) = decide k m leaver
+-- what a call of an open peer comes to, by what its journal tells
+abbrev pub outcome : Rules → Told → KnownValue → Memory → Call → Outcome
+outcome rules t k m (Tick keys) = tick rules k m keys
+outcome rules t k m (Deliver told) = deliver rules t k m told
+outcome rules t k m (Say to what) = say rules t k m to what
+outcome rules t k m (Leave leaver) = leave k m leaver
+outcome rules t k m (Decide leaver) = decide k m leaver
+outcome rules t k m Checkpoint = checkpoint t k m
 
 -- What the disk does with a record: it takes it, or it refuses. Where there is nothing to record this says nothing.
 pub data Luck : Type 0 where
@@ -34,6 +37,7 @@ refused_by_disk (Deliver told) why = Delivered (Err (refusals.Disk why))
 refused_by_disk (Say to what) why = Said (Err unsayables.Down)
 refused_by_disk (Leave leaver) why = Left (Err (leaves.Disk why))
 refused_by_disk (Decide leaver) why = Decided (Err (decides.Disk why))
+refused_by_disk Checkpoint why = Checked (Err (checks.Disk why))
 
 -- the answer of a peer that is down
 abbrev pub when_down : Call → Reply
@@ -42,6 +46,7 @@ when_down (Deliver told) = Delivered (Err refusals.Down)
 when_down (Say to what) = Said (Err unsayables.Down)
 when_down (Leave leaver) = Left (Err leaves.Down)
 when_down (Decide leaver) = Decided (Err decides.Down)
+when_down Checkpoint = Checked (Err checks.Down)
 
 -- an answer and the state after it
 pub record Stepped : Type 0 where
@@ -62,7 +67,7 @@ at_mode s call o Down luck = record { reply = when_down call; state = s }
 at_mode s call o Away luck = record { reply = when_down call; state = s }
 
 abbrev pub step : Rules → ℕ → State → Call → Luck → Stepped
-step rules me s call luck = at_mode s call (outcome rules (known_of rules me s.journal) s.memory call) s.mode luck
+step rules me s call luck = at_mode s call (outcome rules (told_of rules me s.journal) (known_of rules me s.journal) s.memory call) s.mode luck
 
 -- ---- refusals
 
@@ -74,3 +79,4 @@ IsPlainRefusal (Delivered result) = IsErrAnd result (λ error. (error ≢ refusa
 IsPlainRefusal (Said result) = IsErr result
 IsPlainRefusal (Left result) = IsErrAnd result (λ error. (why : DiskError) → error ≢ leaves.Disk why)
 IsPlainRefusal (Decided result) = IsErrAnd result (λ error. (why : DiskError) → error ≢ decides.Disk why)
+IsPlainRefusal (Checked result) = IsErrAnd result (λ error. (why : DiskError) → error ≢ checks.Disk why)

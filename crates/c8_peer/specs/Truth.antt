@@ -9,7 +9,7 @@ use Rattle.c8_known.specs.Journal.{Record, Freeze, held, count, had_epoch, has_l
 use Rattle.c8_known.specs.Known.{known_of}
 use Rattle.c8_known.specs.Confirmed.{confirmed, rows_below}
 use Rattle.c8_known.specs.Growth.{Begins}
-use Rattle.c8_roll.specs.Roll.{mark_step}
+use Rattle.c8_digest.specs.Marks.{mark_step}
 
 -- A run stands in a list at a start: the list reaches to its end, and has these inputs there.
 pub record Stands (start : ℕ) (words list : List ℕ) : Type 0 where

@@ -1,4 +1,5 @@
 pub mod Held
 pub mod OpenedParts
 pub mod TruthLaws
+pub mod TrueCheckLaws
 pub mod Verdicts

@@ -1,6 +1,6 @@
 //! What the calls of a peer answer where they do nothing, each with the state after it.
 ghost use Rattle.std.specs.Prelude.{◌≡◌};
-ghost use Rattle.c8_peer.specs.Errors.{open_number_of, tick_number_of, refused_number_of, unsayable_number_of, leave_number_of, decide_number_of};
+ghost use Rattle.c8_peer.specs.Errors.{open_number_of, tick_number_of, refused_number_of, unsayable_number_of, leave_number_of, decide_number_of, check_number_of};
 
 use c8_disk::DiskError;
 use c8_hand::HandError;
@@ -333,6 +333,47 @@ impl DecideError {
             DecideError::Already => "Already",
             DecideError::Disk(_) => "Disk",
             DecideError::Down => "Down",
+        }
+    }
+}
+
+/// Why nothing of a checkpoint was recorded. The peer stays as it was, unless the disk refused.
+#[derive(Clone, Copy, Debug, PartialEq, Eq, Hash, Error)]
+pub enum CheckError {
+    /// No checkpoint is under way, and no frame was confirmed after the last one.
+    #[error("nothing was confirmed since the last checkpoint")]
+    Nothing,
+    /// This peer's player has been dropped.
+    #[error("this player has been dropped")]
+    Dropped,
+    /// The disk refused the record. The peer is down, and the next opening that reads the journal
+    /// decides whether the record stands.
+    #[error("the disk refused a call")]
+    Disk(DiskError),
+    /// The disk refused a record before; the peer has to be opened again.
+    #[error("the peer is down")]
+    Down,
+}
+
+impl CheckError {
+    /// The number that stands for it in what a program prints.
+    pub fn number(self) -> u8
+        ensures { result ≡ check_number_of self }
+    {
+        match self {
+            CheckError::Nothing => 1,
+            CheckError::Dropped => 2,
+            CheckError::Disk(_) => 3,
+            CheckError::Down => 4,
+        }
+    }
+
+    pub fn name(self) -> &'static str {
+        match self {
+            CheckError::Nothing => "Nothing",
+            CheckError::Dropped => "Dropped",
+            CheckError::Disk(_) => "Disk",
+            CheckError::Down => "Down",
         }
     }
 }

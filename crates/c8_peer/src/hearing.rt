@@ -5,12 +5,11 @@ ghost use Rattle.c8_wire.specs.Packet.{HeadValue};
 ghost use Rattle.c8_wire.specs.Packet as packets;
 ghost use Rattle.c8_wire.specs.Lent.{words, ack_of, data_of, freeze_of, frozen_of, cut_of, packet_of};
 ghost use Rattle.c8_known.specs.Known.{Plays, player_in, count_in};
-ghost use Rattle.c8_known.specs.Confirmed.{confirmed};
 ghost use Rattle.c8_known.specs.Fresh.{differ, is_from_leaver, misfit, fresh_words};
 ghost use Rattle.c8_digest.specs.Marks.{mark_at};
-ghost use Rattle.c8_roll.specs.Roll.{marks_up_to};
 ghost use Rattle.c8_window.specs.Window.{acked_more};
 ghost use Rattle.c8_round.specs.Round.{with_report, with_have};
+ghost use Rattle.c8_peer.specs.Told.{Told};
 ghost use Rattle.c8_peer.specs.State.{Memory, Outcome};
 ghost use Rattle.c8_peer.specs.Hearing.{refused, unless_misfit, got, differs_from, hear_data, hear_welcome, hear_freeze, hear_frozen, hear_end, hear_cut, cut_or_got, hear_message};
 ghost use Rattle.c8_peer.specs.Steps.{Works};
@@ -35,9 +34,8 @@ pub(crate) fn judge<'a>(
 ) -> Result<Verdict<'a>, Refused>
     requires plays { Plays known.now q.number }
     requires from { q.number ≡ (packet_of datagram.now).head.from }
-    ensures judged { (rules : Rules) (m : Memory)
-        → marks.now ≡ marks_up_to rules known.now (confirmed known.now)
-        → Judges (hear_message rules known.now m (packet_of datagram.now).head
+    ensures judged { (rules : Rules) (t : Told) (m : Memory) → marks.now ≡ t.marks
+        → Judges (hear_message rules t known.now m (packet_of datagram.now).head
         (packet_of datagram.now).message)
         m (memory_after m (packet_of datagram.now)) result }
     ensures acks { OnOk result (AcksWithin known.now (packet_of datagram.now).message) }
@@ -75,9 +73,8 @@ fn judge_data<'a>(
     data: &Data<'a>,
 ) -> Result<Verdict<'a>, Refused>
     requires { Plays known.now q.number }
-    ensures judged { (rules : Rules) (m : Memory)
-        → marks.now ≡ marks_up_to rules known.now (confirmed known.now)
-        → Judges (hear_data rules known.now m q.number (data_of data.now)) m
+    ensures judged { (t : Told) (m : Memory) → marks.now ≡ t.marks
+        → Judges (hear_data t known.now m q.number (data_of data.now)) m
         (record m { acks = acked_more m.acks q.number (data_of data.now).ack }) result }
     ensures acks { OnOk result ((data_of data.now).ack ≤ count_in known.now known.now.me) }
 {

@@ -1,6 +1,6 @@
 //! What callers may rest on that is no single call's: laws of peers, each the contract of a
 //! function that does nothing.
-ghost use Rattle.std.specs.Prelude.{◌≡◌, ℕ, ◌^◌, ◌<◌, ◌≤◌, List, [], ◌∷◌, ◌++◌, Bool, true, Option, Ok, Err, Some};
+ghost use Rattle.std.specs.Prelude.{◌≡◌, ℕ, ◌^◌, ◌<◌, ◌≤◌, List, [], ◌∷◌, ◌++◌, map, Bool, true, Option, Ok, Err, Some};
 ghost use Rattle.c8_game.specs.Rules.{Rules, AreInRange};
 ghost use Rattle.c8_wire.specs.Packet.{AreBytes, Packet, IsPacket};
 ghost use Rattle.c8_wire.specs.checked.Read.{read};
@@ -9,17 +9,20 @@ ghost use Rattle.c8_known.specs.Journal.{Record, epoch};
 ghost use Rattle.c8_known.specs.Known.{known_of};
 ghost use Rattle.c8_known.specs.Confirmed.{confirmed, rows_below};
 ghost use Rattle.c8_log.specs.Slots.{kept};
+ghost use Rattle.c8_check.specs.Checks.{begun_at};
 ghost use Rattle.c8_record.specs.Allowed.{IsAllowed, IsJournal};
 ghost use Rattle.c8_record.specs.Body.{records_of};
 ghost use Rattle.c8_peer.specs.State.{Memory, Open, State, Call, Deliver, Reply, Opened, Delivered, Said, fresh_memory};
+ghost use Rattle.c8_peer.specs.Told.{told_of};
 ghost use Rattle.c8_peer.specs.Steps.{Luck, Works, outcome, step, IsPlainRefusal};
 ghost use Rattle.c8_disk.specs.declared.error.DiskError.{DiskError};
 ghost use Rattle.c8_peer.specs.Opening.{Opening, NotWritten, Stands, opened, MayBecome, IsServed, last_epoch, opening_record, found};
 ghost use Rattle.c8_peer.specs.Replies.{mode_told};
 ghost use Rattle.c8_peer.specs.Truth.{IsTrue};
+ghost use Rattle.c8_peer.specs.TrueChecks.{SaysNoCheck, HasTrueChecks};
 ghost use Rattle.c8_peer.specs.Lawful.{IsMemory, IsCall};
 ghost use Rattle.c8_peer.specs.Peer.{PeerValue, IsSound, IsAnswered, IsSaid, IsStep, Keeps, MayLeave, luck_of};
-ghost use Rattle.c8_peer.specs.Runs.{Deed, Does, Opens, IsDone, IsRun, IsLawful, IsReached, IsAmong, Tells, IsRefusedDeed, IsStoppedOpening, never_opened, known_at};
+ghost use Rattle.c8_peer.specs.Runs.{Deed, Does, Opens, IsDone, IsRun, IsLawful, TellsTruly, IsReached, IsAmong, Tells, IsRefusedDeed, IsStoppedOpening, never_opened, known_at};
 ghost use Rattle.c8_peer.specs.Opened.{IsOpened, IsRefusedOpening, OpeningLeaves};
 
 use crate::error::{OpenError, Refused, Unsayable};
@@ -49,7 +52,8 @@ pub fn what_is_confirmed_stays()
         ≡ rows_below (known_of rules me journal) n }
 {}
 
-/// An opening adds a record that the rules allow, and begins with a memory that is in order.
+/// An opening adds a record that the rules allow, and begins with a memory that is in order. What the
+/// journal says of checkpoints stays true.
 pub fn openings_are_lawful()
     ensures keeps { (rules : Rules) (me room : ℕ) (found : List Record)
         → AreInRange rules → 1 ≤ me → me ≤ rules.players → room < 2 ^ 64
@@ -60,33 +64,52 @@ pub fn openings_are_lawful()
         → IsJournal rules me room found → epoch found < last_epoch
         → IsMemory rules room me (found ++ opening_record rules room me found ∷ [])
         (fresh_memory rules room me (epoch (found ++ opening_record rules room me found ∷ []))) }
+    ensures checks { (rules : Rules) (me room : ℕ) (found : List Record)
+        → AreInRange rules → 1 ≤ me → me ≤ rules.players → room < 2 ^ 64
+        → IsJournal rules me room found → epoch found < last_epoch
+        → HasTrueChecks rules me found
+        → HasTrueChecks rules me (found ++ opening_record rules room me found ∷ []) }
 {}
 
-/// What an open peer records is allowed by the rules, its memory stays in order, and what it says
-/// is true of its journal and has a spelling.
+/// What an open peer records is allowed by the rules, its memory stays in order, with that record
+/// too (`grows`), and what it says is true of its journal and has a spelling, where what the journal says of checkpoints is true,
+/// which stays so.
 pub fn steps_are_lawful()
     ensures keeps { (rules : Rules) (me room : ℕ) (journal : List Record) (m : Memory)
         (call : Call) (r : Record)
         → AreInRange rules → 1 ≤ me → me ≤ rules.players → IsJournal rules me room journal
         → IsMemory rules room me journal m → IsCall call
-        → (outcome rules (known_of rules me journal) m call).keeps ≡ Some r
+        → (outcome rules (told_of rules me journal) (known_of rules me journal) m call).keeps ≡ Some r
         → IsAllowed rules me room journal r }
     ensures memory { (rules : Rules) (me room : ℕ) (journal : List Record) (m : Memory)
         (call : Call)
         → AreInRange rules → 1 ≤ me → me ≤ rules.players → IsJournal rules me room journal
         → IsMemory rules room me journal m → IsCall call
-        → IsMemory rules room me journal (outcome rules (known_of rules me journal) m call).memory }
+        → IsMemory rules room me journal (outcome rules (told_of rules me journal) (known_of rules me journal) m call).memory }
+    ensures grows { (rules : Rules) (me room : ℕ) (journal : List Record) (m : Memory)
+        (call : Call) (r : Record)
+        → AreInRange rules → 1 ≤ me → me ≤ rules.players → IsJournal rules me room journal
+        → IsMemory rules room me journal m → IsCall call
+        → (outcome rules (told_of rules me journal) (known_of rules me journal) m call).keeps
+        ≡ Some r
+        → IsMemory rules room me (journal ++ r ∷ []) (outcome rules (told_of rules me journal) (known_of rules me journal) m call).memory }
+    ensures checks { (rules : Rules) (me room : ℕ) (journal : List Record) (m : Memory)
+        (call : Call) (r : Record)
+        → AreInRange rules → 1 ≤ me → me ≤ rules.players → IsJournal rules me room journal
+        → IsMemory rules room me journal m → IsCall call → HasTrueChecks rules me journal
+        → (outcome rules (told_of rules me journal) (known_of rules me journal) m call).keeps
+        ≡ Some r → HasTrueChecks rules me (journal ++ r ∷ []) }
     ensures says { (rules : Rules) (me room : ℕ) (journal : List Record) (m : Memory)
         (call : Call) (p : Packet)
         → AreInRange rules → 1 ≤ me → me ≤ rules.players → IsJournal rules me room journal
-        → IsMemory rules room me journal m → IsCall call
-        → (outcome rules (known_of rules me journal) m call).reply ≡ Said (Ok p)
-        → IsTrue rules me journal p }
+        → IsMemory rules room me journal m → IsCall call → HasTrueChecks rules me journal
+        → (outcome rules (told_of rules me journal) (known_of rules me journal) m call).reply
+        ≡ Said (Ok p) → IsTrue rules me journal p }
     ensures spelled { (rules : Rules) (me room : ℕ) (journal : List Record) (m : Memory)
         (call : Call) (p : Packet)
         → AreInRange rules → 1 ≤ me → me ≤ rules.players → IsJournal rules me room journal
         → IsMemory rules room me journal m → IsCall call
-        → (outcome rules (known_of rules me journal) m call).reply ≡ Said (Ok p)
+        → (outcome rules (told_of rules me journal) (known_of rules me journal) m call).reply ≡ Said (Ok p)
         → IsPacket p }
 {}
 
@@ -105,7 +128,8 @@ pub fn refusals_change_nothing()
 /// Every run of a peer, from before it is first opened, over openings, closes, disks that refuse
 /// and crashes. What a reading of the disk finds, with the pending record or without, is a journal
 /// of the rules. The journal only grows. What was said at any moment is true of the journal from
-/// then on. Frames that are confirmed stay confirmed, with the same rows.
+/// then on. Frames that are confirmed stay confirmed, with the same rows. What the journal says of
+/// checkpoints is true (`checks`), so that the machine is that of the serial run.
 pub fn a_peers_word_stands()
     ensures journal { (rules : Rules) (room me : ℕ) (s : State) (finds : Bool)
         → AreInRange rules → 1 ≤ me → me ≤ rules.players → room < 2 ^ 64
@@ -119,6 +143,9 @@ pub fn a_peers_word_stands()
         → AreInRange rules → 1 ≤ me → me ≤ rules.players → room < 2 ^ 64
         → IsRun rules room me never_opened deeds answers s → IsAmong answers packet
         → IsTrue rules me s.journal packet }
+    ensures checks { (rules : Rules) (room me : ℕ) (s : State)
+        → AreInRange rules → 1 ≤ me → me ≤ rules.players → room < 2 ^ 64
+        → IsReached rules room me s → TellsTruly rules me s }
     ensures confirmed { (rules : Rules) (room me : ℕ) (s t : State) (deeds : List Deed)
         (answers : List (Option Reply))
         → AreInRange rules → 1 ≤ me → me ≤ rules.players → room < 2 ^ 64
@@ -165,7 +192,9 @@ pub fn an_opening_has_one_answer()
 /// The same from any lawful state, such as that of a peer on a journal that was brought from
 /// elsewhere: in which what a reading of the disk finds is a journal of the rules (`IsLawful`).
 /// `sound`: each peer is in such a state; `reached`: so is one that a run from the start leads to;
-/// `stays`: so it is after every run.
+/// `stays`: so it is after every run. Where what the journal says of checkpoints is true it stays so
+/// (`checks`), and then what is said is true; it is true of a journal that says nothing of them, such
+/// as one of the first form (`first_form`).
 pub fn a_word_stands_from_any_journal<D: Disk>()
     ensures sound { (p : PeerValue D) → IsSound D.Disk p
         → IsLawful p.rules p.room p.me p.state }
@@ -180,8 +209,15 @@ pub fn a_word_stands_from_any_journal<D: Disk>()
     ensures said { (rules : Rules) (room me : ℕ) (s t : State) (deeds : List Deed)
         (answers : List (Option Reply)) (packet : Packet)
         → AreInRange rules → 1 ≤ me → me ≤ rules.players → room < 2 ^ 64
-        → IsLawful rules room me s → IsRun rules room me s deeds answers t
+        → IsLawful rules room me s → TellsTruly rules me s → IsRun rules room me s deeds answers t
         → IsAmong answers packet → IsTrue rules me t.journal packet }
+    ensures checks { (rules : Rules) (room me : ℕ) (s t : State) (deeds : List Deed)
+        (answers : List (Option Reply))
+        → AreInRange rules → 1 ≤ me → me ≤ rules.players → room < 2 ^ 64
+        → IsLawful rules room me s → TellsTruly rules me s → IsRun rules room me s deeds answers t
+        → TellsTruly rules me t }
+    ensures first_form { (rules : Rules) (me : ℕ) (journal : List Record)
+        → SaysNoCheck journal → HasTrueChecks rules me journal }
     ensures confirmed { (rules : Rules) (room me : ℕ) (s t : State) (deeds : List Deed)
         (answers : List (Option Reply))
         → AreInRange rules → 1 ≤ me → me ≤ rules.players → room < 2 ^ 64
@@ -193,6 +229,16 @@ pub fn a_word_stands_from_any_journal<D: Disk>()
         → IsLawful rules room me s → IsRun rules room me s deeds answers t
         → n ≤ confirmed (known_at rules me s)
         → rows_below (known_at rules me t) n ≡ rows_below (known_at rules me s) n }
+{}
+
+/// A machine begins where its peer was last opened: no call moves that.
+pub fn a_machine_begins_at_an_opening()
+    ensures { (rules : Rules) (room me : ℕ) (s t : State) (calls : List (Call × Luck))
+        (answers : List (Option Reply))
+        → AreInRange rules → 1 ≤ me → me ≤ rules.players → room < 2 ^ 64
+        → IsLawful rules room me s
+        → IsRun rules room me s (map (λ call. Does call.0 call.1) calls) answers t
+        → begun_at rules t.journal ≡ begun_at rules s.journal }
 {}
 
 /// A delivery of any bytes is a call of the definitions.

@@ -9,6 +9,7 @@
 //! it. `laws` has what follows from the definitions.
 #![tactic(auto)]
 
+mod check;
 mod error;
 mod heard;
 mod hearing;
@@ -20,7 +21,8 @@ mod peer;
 mod saying;
 mod verdict;
 
-pub use error::{DecideError, LeaveError, OpenError, Refused, TickError, Unsayable};
+pub use check::Check;
+pub use error::{CheckError, DecideError, LeaveError, OpenError, Refused, TickError, Unsayable};
 pub use heard::Heard;
 pub use kind::Kind;
 pub use peer::{Peer, Rows};

@@ -1,5 +1,5 @@
 //! One peer, and how a record comes into its journal.
-ghost use Rattle.std.specs.Prelude.{◌≡◌, ◌≤◌, ◌<◌, ◌+◌, ◌*◌, [], ◌∷◌, ◌++◌, length, false, Some, Ok, Err, MatchResult, OnOk, OnErr, IsErrOf};
+ghost use Rattle.std.specs.Prelude.{◌≡◌, ◌≤◌, ◌<◌, ◌+◌, ◌*◌, [], ◌∷◌, ◌++◌, length, true, Some, Ok, Err, MatchResult, OnOk, OnErr, IsErrOf};
 ghost use Rattle.c8_disk.specs.Disk.{AddsNone};
 ghost use Rattle.c8_disk.specs.Runs.{LeavesOnly, IsSameDisk};
 ghost use Rattle.c8_disk.specs.Asks.{Asks};
@@ -9,13 +9,14 @@ ghost use Rattle.c8_log.specs.Slots.{slot_length};
 ghost use Rattle.c8_known.specs.Known.{known_of};
 ghost use Rattle.c8_record.specs.Allowed.{IsAllowed};
 ghost use Rattle.c8_record.specs.Lent.{value_of};
-ghost use Rattle.c8_roll.specs.Roll.{roll_of};
+ghost use Rattle.c8_roll.specs.Roll.{GrowsTo};
 ghost use Rattle.c8_roll.specs.Seen.{value_of as seen, rows_run, last_run_of};
 ghost use Rattle.c8_roll.specs.Rollback.{IsWithinWindow, KeepsRows, RunsFromWhatWasKnown};
 ghost use Rattle.c8_peer.specs.State.{Open, Down};
-ghost use Rattle.c8_peer.specs.checked.Held.{is_opening, most_run_with, WasRoll};
+ghost use Rattle.c8_peer.specs.checked.Held.{is_play, most_run_with, WasRoll};
 
 mod calls;
+mod checkpoint;
 mod hear;
 mod open;
 mod readers;
@@ -23,6 +24,7 @@ mod rows;
 mod say;
 
 use crate::memory::Memory;
+use c8_check::Checks;
 use c8_disk::{Arm, Disk, DiskError};
 use c8_game::Game;
 use c8_known::Known;
@@ -47,17 +49,18 @@ pub struct Peer<'g, D: Disk> {
     room: u64,
     journal: Journal<D>,
     known: Known,
+    checks: Checks,
     roll: Roll<'g>,
     memory: Memory,
 }
 
 impl<'g, D: Disk> Model for Peer<'g, D> {
-    ghost use Rattle.std.specs.Prelude.{◌≡◌, ◌≤◌, ◌+◌, ◌⊎◌};
-    ghost use Rattle.c8_roll.specs.Roll.{roll_of};
+    ghost use Rattle.c8_check.specs.Seen.{value_of as checked};
     ghost use Rattle.c8_roll.specs.Seen.{value_of, rows_run, last_run_of};
     ghost use Rattle.c8_roll.specs.Rollback.{KeepsRows};
+    ghost use Rattle.c8_record.specs.Body.{records_of};
     ghost use Rattle.c8_peer.specs.Peer.{PeerValue, state_of};
-    ghost use Rattle.c8_peer.specs.checked.Held.{IsPeer};
+    ghost use Rattle.c8_peer.specs.checked.Held.{IsPeer, IsRolled, IsPlanned};
 
     ghost Value = { PeerValue D };
 
@@ -71,9 +74,10 @@ impl<'g, D: Disk> Model for Peer<'g, D> {
     } };
 
     ghost invariant = { λ p. IsPeer p.game.now p.room p.journal p.known p.memory
-        × (value_of p.roll ≡ roll_of p.game.now p.known)
-        × ((last_run_of p.roll ≤ p.game.now.window + 1) ⊎ (last_run_of p.roll ≡ p.known.ticks))
-        × KeepsRows p.game.now.window p.known (rows_run p.roll) };
+        × IsRolled p.game.now (records_of p.journal.bodies) p.known (checked p.checks)
+        (value_of p.roll) (last_run_of p.roll)
+        × KeepsRows p.game.now.window p.known (rows_run p.roll)
+        × IsPlanned p.game.now p.known.me (records_of p.journal.bodies) p.checks };
 }
 
 /// Whose it is, its epoch, its ticks and confirmed frames, and whether it is down.
@@ -129,12 +133,12 @@ impl<'g, D: Disk> Peer<'g, D> {
         self.journal.close()
     }
 
-    /// Adds a record to the journal, and makes known what it says.
+    /// Adds what players do to the journal, and makes it known.
     fn keep(&mut self, lent: &Record<'_>) -> Result<(), DiskError>
         requires up { self.old.state.mode ≡ Open }
         requires allowed { IsAllowed self.old.rules self.old.me self.old.room
             self.old.state.journal (value_of lent.now) }
-        requires later { is_opening (value_of lent.now) ≡ false }
+        requires play { is_play (value_of lent.now) ≡ true }
         ensures ok { OnOk result (self.new ≡ record self.old {
           disk = self.new.disk;
           state = record self.old.state {
@@ -190,7 +194,7 @@ impl<'g, D: Disk> Peer<'g, D> {
 /// Takes what is known now.
 fn go_on(roll: &mut Roll<'_>, known: &Known)
     requires { WasRoll (seen roll.old) known.now }
-    ensures grown { seen roll.new ≡ roll_of (seen roll.old).rules known.now }
+    ensures grown { GrowsTo (seen roll.old) (seen roll.new) known.now }
     ensures kept { KeepsRows (seen roll.old).rules.window known.now (rows_run roll.new) }
     ensures again { RunsFromWhatWasKnown (seen roll.old) (rows_run roll.old) known.now
         (last_run_of roll.new) }

@@ -5,6 +5,7 @@ ghost use Rattle.c8_wire.specs.Saying.{message_of};
 ghost use Rattle.c8_wire.specs.Carried.{carried};
 ghost use Rattle.c8_known.specs.Known.{KnownValue, Plays, count_in};
 ghost use Rattle.c8_peer.specs.Asked.{saying_of};
+ghost use Rattle.c8_peer.specs.Told.{Told};
 ghost use Rattle.c8_peer.specs.State.{Said, Frozen, Cut, answered};
 ghost use Rattle.c8_peer.specs.Saying.{is_not_mine, lacks_record, lacks_link, run_from, newest_mark, message, packet, say};
 
@@ -24,11 +25,11 @@ pub(crate) fn judge_saying(
     to: Player,
     kind: Kind,
 ) -> Result<(), Unsayable>
-    ensures judged { (rules : Rules) → MatchResult result
-        (λ _. say rules known.now memory.now to.number (saying_of kind)
-        ≡ answered memory.now (Said (Ok (packet rules known.now memory.now to.number
+    ensures judged { (rules : Rules) (t : Told) → MatchResult result
+        (λ _. say rules t known.now memory.now to.number (saying_of kind)
+        ≡ answered memory.now (Said (Ok (packet rules t known.now memory.now to.number
         (saying_of kind)))))
-        (λ error. say rules known.now memory.now to.number (saying_of kind)
+        (λ error. say rules t known.now memory.now to.number (saying_of kind)
         ≡ answered memory.now (Said (Err error))) }
     ensures plays { OnOk result (Plays known.now to.number) }
     ensures other { OnOk result (to.number ≢ known.now.me) }
@@ -98,8 +99,8 @@ pub(crate) fn message<'a>(
 ) -> Body<'a>
     requires plays { Plays known.now to.number }
     requires has { lacks_record known.now (saying_of kind) ≡ false }
-    ensures { (rules : Rules) → newest ≡ newest_mark rules known.entry.now → wire ≡ rules.wire
-        → message_of result ≡ message rules known.entry.now memory.now to.number (saying_of kind) }
+    ensures { (rules : Rules) (t : Told) → newest ≡ newest_mark t → wire ≡ rules.wire
+        → message_of result ≡ message rules t known.entry.now memory.now to.number (saying_of kind) }
 {
     let FrameMark {
         frame: mark_frame,
@@ -129,8 +130,8 @@ pub(crate) fn message<'a>(
 /// What is held of a leaver, for player one.
 fn frozen<'a>(known: &'a Known, memory: &Memory, wire: WireVersion, leaver: Player) -> Body<'a>
     requires { Plays known.now leaver.number }
-    ensures { (rules : Rules) (to : ℕ) → wire ≡ rules.wire → message_of result
-        ≡ message rules known.entry.now memory.now to (Frozen leaver.number) }
+    ensures { (rules : Rules) (t : Told) (to : ℕ) → wire ≡ rules.wire → message_of result
+        ≡ message rules t known.entry.now memory.now to (Frozen leaver.number) }
 {
     let start = memory.stayer.from(leaver, known);
     Body::Frozen {
@@ -150,8 +151,8 @@ fn cut<'a>(
     leaver: Player,
 ) -> Body<'a>
     requires { Plays known.now leaver.number }
-    ensures { (rules : Rules) → wire ≡ rules.wire → message_of result
-        ≡ message rules known.entry.now memory.now to.number (Cut leaver.number) }
+    ensures { (rules : Rules) (t : Told) → wire ≡ rules.wire → message_of result
+        ≡ message rules t known.entry.now memory.now to.number (Cut leaver.number) }
 {
     let start = memory.chair.owed(to, leaver, known);
     Body::Cut {

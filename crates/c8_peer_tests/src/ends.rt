@@ -19,13 +19,13 @@ const NARROW: &str =
     "players 2\nipf 10\nframes 1\ndelay 0\nwindow 1\nseed 0\nmask1 000f\nmask2 fff0\ncode 1200\n";
 
 /// The HEAD of player 1, with the short game's id and the room.
-const HEAD_OF_SHORT: &[u8] = b"\xa5\x01\x01\0\0\0\x01\0\0\0\0\0\x14\
+const HEAD_OF_SHORT: &[u8] = b"\xa5\x01\x01\0\0\0\x01\0\0\0\x02\0\x14\
     \x56\x09\x92\x6b\x8b\x05\x1e\x21\xe0\x4d\x55\x20\x27\xa1\x6f\x8a\
     \x05\xe3\x70\x25\xd0\x9b\x31\x38\xb9\x38\x90\x7b\x77\xd3\x18\xad\
     \x01\x02\x03\x04\x05\x06\x07\x08";
 
 /// The same with the narrow game's.
-const HEAD_OF_NARROW: &[u8] = b"\xa5\x01\x01\0\0\0\x01\0\0\0\0\0\x14\
+const HEAD_OF_NARROW: &[u8] = b"\xa5\x01\x01\0\0\0\x01\0\0\0\x02\0\x14\
     \x00\x0e\xce\x36\x16\x7a\x90\xe4\xaa\x3b\x89\xe4\xa8\x4c\x68\x39\
     \xfc\x3a\x26\x1c\x02\xfc\xca\x87\xd9\x2e\x8f\xd0\xad\xa5\x4c\xbf\
     \x01\x02\x03\x04\x05\x06\x07\x08";
@@ -122,7 +122,8 @@ fn ends(alloc: Global, text: &str, end: End<'_>) -> Result<(), Fail> {
     table.walk(seen)?;
     table.walk(&REFUSED)?;
     table.walk(seen)?;
-    table.walk(held)
+    table.walk(held)?;
+    Ok(())
 }
 
 #[test]

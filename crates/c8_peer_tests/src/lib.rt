@@ -2,6 +2,8 @@
 #![tactic(auto)]
 
 #[cfg(test)]
+mod checkpoints;
+#[cfg(test)]
 mod drops;
 #[cfg(test)]
 mod ends;
@@ -15,3 +17,5 @@ mod playing;
 mod refused;
 #[cfg(test)]
 mod stops;
+#[cfg(test)]
+mod walking;

@@ -19,26 +19,40 @@ const GAME_IN_PAIRS: &str =
     "players 3\nipf 10\nframes 100\ndelay 1\nwindow 2\nseed 0\nwire 2\nmask1 000f\nmask2 fff0\nmask3 ffff\ncode 1200\n";
 
 /// The HEAD of player 2, with the game's id and the room.
-pub(crate) const HEAD: &[u8] = b"\xa5\x01\x02\0\0\0\x01\0\0\0\0\0\x14\
+pub(crate) const HEAD: &[u8] = b"\xa5\x01\x02\0\0\0\x01\0\0\0\x02\0\x14\
     \x2e\x8b\x77\x15\x18\x50\x29\xbf\xac\x57\xed\x9b\xa6\x7f\x7d\xa5\
     \x2c\x11\xbd\x08\x1d\xcc\x85\x9c\x7e\x82\xf4\x4b\x4b\x9e\x27\xe8\
     \x01\x02\x03\x04\x05\x06\x07\x08";
 
 /// The same of player 1.
-const HEAD_OF_ONE: &[u8] = b"\xa5\x01\x01\0\0\0\x01\0\0\0\0\0\x14\
+const HEAD_OF_ONE: &[u8] = b"\xa5\x01\x01\0\0\0\x01\0\0\0\x02\0\x14\
     \x2e\x8b\x77\x15\x18\x50\x29\xbf\xac\x57\xed\x9b\xa6\x7f\x7d\xa5\
     \x2c\x11\xbd\x08\x1d\xcc\x85\x9c\x7e\x82\xf4\x4b\x4b\x9e\x27\xe8\
     \x01\x02\x03\x04\x05\x06\x07\x08";
 
-const SECOND: &[u8] = b"\xa5\x02\x02\0\0\0\x02";
+/// The HEAD of player 2 in a journal of the first form, and the EPOCH after it.
+const HEAD_BEFORE: &[u8] = b"\xa5\x01\x02\0\0\0\x01\0\0\0\0\0\x14\
+    \x2e\x8b\x77\x15\x18\x50\x29\xbf\xac\x57\xed\x9b\xa6\x7f\x7d\xa5\
+    \x2c\x11\xbd\x08\x1d\xcc\x85\x9c\x7e\x82\xf4\x4b\x4b\x9e\x27\xe8\
+    \x01\x02\x03\x04\x05\x06\x07\x08";
 
-const THIRD: &[u8] = b"\xa5\x02\x02\0\0\0\x03";
+const SECOND_BEFORE: &[u8] = b"\xa5\x02\x02\0\0\0\x02";
 
-const FIFTH: &[u8] = b"\xa5\x02\x02\0\0\0\x05";
+/// The HEAD of a form that there is not.
+const HEAD_OF_NO_FORM: &[u8] = b"\xa5\x01\x02\0\0\0\x01\0\0\0\x01\0\x14\
+    \x2e\x8b\x77\x15\x18\x50\x29\xbf\xac\x57\xed\x9b\xa6\x7f\x7d\xa5\
+    \x2c\x11\xbd\x08\x1d\xcc\x85\x9c\x7e\x82\xf4\x4b\x4b\x9e\x27\xe8\
+    \x01\x02\x03\x04\x05\x06\x07\x08";
 
-const LAST_BUT_ONE: &[u8] = b"\xa5\x02\x02\xff\xff\xff\xfe";
+const SECOND: &[u8] = b"\xa5\x02\x02\0\0\0\x02\0\0\0\x02";
 
-const LAST: &[u8] = b"\xa5\x02\x02\xff\xff\xff\xff";
+const THIRD: &[u8] = b"\xa5\x02\x02\0\0\0\x03\0\0\0\x02";
+
+const FIFTH: &[u8] = b"\xa5\x02\x02\0\0\0\x05\0\0\0\x02";
+
+const LAST_BUT_ONE: &[u8] = b"\xa5\x02\x02\xff\xff\xff\xfe\0\0\0\x02";
+
+const LAST: &[u8] = b"\xa5\x02\x02\xff\xff\xff\xff\0\0\0\x02";
 
 const NOBODY: [Row; 0] = [];
 
@@ -74,6 +88,28 @@ const EPOCHS: [Row; 11] = [
 #[test]
 fn each_opening_begins_an_epoch(rt: HostRuntime) -> Result<(), Fail> {
     plays_beside(rt.alloc(), GAME, OTHER_GAME, &NOBODY, &EPOCHS)
+}
+
+/// A journal of the first form goes on in the second one, and no journal goes back.
+#[rattlefmt::skip]
+const FORMS: [Row; 12] = [
+    (2, Deed::Hold(&[HEAD_BEFORE]), Answer::Done),
+    (2, Deed::Open, Answer::Opened(Ok(2))),
+    (2, Deed::Holds(&[HEAD_BEFORE, SECOND]), YES),
+    (2, Deed::Open, Answer::Opened(Ok(3))),
+    (2, Deed::Holds(&[HEAD_BEFORE, SECOND, THIRD]), YES),
+    (2, Deed::Hold(&[HEAD_BEFORE, SECOND_BEFORE]), Answer::Done),
+    (2, Deed::Open, Answer::Opened(Ok(3))),
+    (2, Deed::Holds(&[HEAD_BEFORE, SECOND_BEFORE, THIRD]), YES),
+    (2, Deed::Hold(&[HEAD, SECOND_BEFORE]), Answer::Done),
+    (2, Deed::Open, Answer::Opened(Err(OpenError::BadRecord(1)))),
+    (2, Deed::Hold(&[HEAD_OF_NO_FORM]), Answer::Done),
+    (2, Deed::Open, Answer::Opened(Err(OpenError::BadRecord(0)))),
+];
+
+#[test]
+fn a_journal_of_the_first_form_goes_on_in_the_second(rt: HostRuntime) -> Result<(), Fail> {
+    plays_beside(rt.alloc(), GAME, OTHER_GAME, &NOBODY, &FORMS)
 }
 
 /// The player opens in the other game.
@@ -122,11 +158,11 @@ fn refuses_a_journal_of_another_match(rt: HostRuntime) -> Result<(), Fail> {
 /// Two bodies of no kind, of which the first is told, and an epoch that is not above the last.
 #[rattlefmt::skip]
 const NO_JOURNALS: [Row; 10] = [
-    (2, Deed::Hold(&[HEAD, FIFTH, b"\xa5\x08\x02", b"\xa5\x09\x02"]), Answer::Done),
+    (2, Deed::Hold(&[HEAD, FIFTH, b"\xa5\x0a\x02", b"\xa5\x0b\x02"]), Answer::Done),
     (2, Deed::Open, Answer::Opened(Err(OpenError::BadRecord(2)))),
-    (2, Deed::Holds(&[HEAD, FIFTH, b"\xa5\x08\x02", b"\xa5\x09\x02"]), YES),
+    (2, Deed::Holds(&[HEAD, FIFTH, b"\xa5\x0a\x02", b"\xa5\x0b\x02"]), YES),
     (2, Deed::Crash(0), Answer::Done),
-    (2, Deed::Holds(&[HEAD, FIFTH, b"\xa5\x08\x02", b"\xa5\x09\x02"]), YES),
+    (2, Deed::Holds(&[HEAD, FIFTH, b"\xa5\x0a\x02", b"\xa5\x0b\x02"]), YES),
     (2, Deed::Hold(&[HEAD, FIFTH, FIFTH]), Answer::Done),
     (2, Deed::Open, Answer::Opened(Err(OpenError::BadRecord(2)))),
     (2, Deed::Holds(&[HEAD, FIFTH, FIFTH]), YES),

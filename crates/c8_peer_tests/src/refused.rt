@@ -97,7 +97,7 @@ const SEEN: [Row; 8] = [
 /// The HEAD of player 2, with the game's id and the room; its first input, the two of player 1, and
 /// its second and third.
 const BODIES: &[&[u8]] = &[
-    b"\xa5\x01\x02\0\0\0\x01\0\0\0\0\0\x14\
+    b"\xa5\x01\x02\0\0\0\x01\0\0\0\x02\0\x14\
         \xd4\x28\x25\xe7\x73\xe7\x8e\x46\x62\x5a\x94\x5e\xc4\x05\xde\xdb\
         \x99\x46\x09\x49\xe2\x33\xa3\xf3\xc7\x30\x0a\x32\x21\x3f\x52\x2c\
         \x01\x02\x03\x04\x05\x06\x07\x08",
@@ -109,7 +109,7 @@ const BODIES: &[&[u8]] = &[
 
 /// The same with the other game's id.
 const BODIES_IN_PAIRS: &[&[u8]] = &[
-    b"\xa5\x01\x02\0\0\0\x01\0\0\0\0\0\x14\
+    b"\xa5\x01\x02\0\0\0\x01\0\0\0\x02\0\x14\
         \x42\x6d\xf3\x8c\xcf\xb6\xdb\xdf\x24\xcf\x3e\x37\xc0\x8c\x9d\x86\
         \x20\x57\x67\x22\xe0\xfc\xfd\xd3\x9b\x30\x5c\xef\xfe\xc1\x79\xc0\
         \x01\x02\x03\x04\x05\x06\x07\x08",
@@ -207,7 +207,8 @@ fn stays(
     table.walk(&[(2, Deed::HearBytes(bytes), Answer::Delivered(Err(why)))])?;
     table.walk(case.says)?;
     table.walk(&SEEN)?;
-    table.walk(case.held)
+    table.walk(case.held)?;
+    Ok(())
 }
 
 /// All stays as it was after each delivery that is refused in the game of this text.

@@ -1,20 +1,26 @@
 -- Which record may stand after which others in the journal of a player.
-use Rattle.std.specs.Prelude.{ℕ, ◌+◌, ◌≡◌, ◌≢◌, ◌<◌, ◌≤◌, List, length, take, true, false, Some, None}
+use Rattle.std.specs.Prelude.{ℕ, ◌+◌, ◌≡◌, ◌≢◌, ◌<◌, ◌≤◌, List, length, take, true, false, Option, Some, None}
 use Rattle.std.specs.List.{slice_get}
 use Rattle.c8_game.specs.Rules.{Rules, id_of}
-use Rattle.c8_known.specs.Journal.{Record, Head, Epoch, Own, Got, Freeze, Leave, Cut, player_of, epoch}
+use Rattle.c8_known.specs.Journal.{Record, Head, Epoch, Own, Got, Freeze, Leave, Cut, State, Check, player_of, epoch}
 use Rattle.c8_known.specs.Known.{PlayerValue, KnownValue, player_in, count_in, known_of, Plays, IsOfGame}
 use Rattle.c8_known.specs.Confirmed.{confirmed}
+use Rattle.c8_wire.specs.Spelling.{words_bytes}
+use Rattle.c8_wire.specs.Packet.{AreBytes}
+use Rattle.c8_digest.specs.Origin.{Origin, IsOrigin}
+use Rattle.c8_check.specs.Checks.{Pieces, ChecksValue, all_pieces, before_piece, checks_of, may_take, MayCheck}
 use Rattle.c8_record.specs.Body.{HasSpelling}
 
--- What the records before say, as far as the rules ask: how many there are, the last epoch, and what is known by them.
+-- What the records before say, as far as the rules ask: how many there are, the last epoch, what they say of checkpoints, and what
+-- is known by them.
 pub record Past : Type 0 where
   pub count : ℕ
   pub epoch : ℕ
+  pub checks : ChecksValue
   pub known : KnownValue
 
 abbrev pub past_of : Rules → ℕ → List Record → Past
-past_of rules me before = record { count = length before; epoch = epoch before; known = known_of rules me before }
+past_of rules me before = record { count = length before; epoch = epoch before; checks = checks_of before; known = known_of rules me before }
 
 -- HEAD: the first, of this match and this player
 pub record MayHead (rules : Rules) (room : ℕ) (past : Past) (player : ℕ) (id : List ℕ) (named : ℕ) : Type 0 where
@@ -23,10 +29,11 @@ pub record MayHead (rules : Rules) (room : ℕ) (past : Past) (player : ℕ) (id
   pub in_room : named ≡ room
   pub own : player ≡ past.known.me
 
--- EPOCH: above the last one
-pub record MayEpoch (past : Past) (player number : ℕ) : Type 0 where
-  pub own : player ≡ past.known.me
-  pub above : past.epoch < number
+-- EPOCH: above the last one, and once records are of the second form they stay so
+pub record MayEpoch (k : KnownValue) (last : ℕ) (checks : ChecksValue) (player number form : ℕ) : Type 0 where
+  pub own : player ≡ k.me
+  pub above : last < number
+  pub second : checks.form ≡ 2 → form ≡ 2
 
 -- OWN: the next own input, with fewer ticks than frames and fewer than a window past the confirmed ones, by no player who
 -- has been dropped
@@ -69,33 +76,49 @@ pub record MayCut (k : KnownValue) (player cut start : ℕ) (words : List ℕ) :
   pub elsewhere : k.me ≢ 1 → (player_in k player).frozen ≡ true
   pub once : (player_in k player).cut ≡ None
 
+-- STATE: the next piece of a checkpoint, by the own player
+pub record MayState (k : KnownValue) (checks : ChecksValue) (player frames piece : ℕ) (words : List ℕ) : Type 0 where
+  pub own : player ≡ k.me
+  pub next : may_take checks (confirmed k) frames piece (words_bytes words) ≡ true
+
+-- CHECK: the digest of all its pieces, by the own player
+pub record MayEnd (k : KnownValue) (checks : ChecksValue) (player frames : ℕ) (words : List ℕ) : Type 0 where
+  pub own : player ≡ k.me
+  pub whole : MayCheck checks frames (words_bytes words)
+
 abbrev pub MayFollow : Rules → ℕ → Past → Record → Type 0
-MayFollow rules room past (Head player id named) = MayHead rules room past player id named
-MayFollow rules room past (Epoch player number) = MayEpoch past player number
+MayFollow rules room past (Head player form id named) = MayHead rules room past player id named
+MayFollow rules room past (Epoch player number form) = MayEpoch past.known past.epoch past.checks player number form
 MayFollow rules room past (Own player start word) = MayOwn rules past.known player start
 MayFollow rules room past (Got player start words) = MayGot past.known player start words
 MayFollow rules room past (Freeze player) = MayFreeze past.known player
 MayFollow rules room past (Leave player) = MayLeave past.known player
 MayFollow rules room past (Cut player length start words) = MayCut past.known player length start words
+MayFollow rules room past (State player frames piece words) = MayState past.known past.checks player frames piece words
+MayFollow rules room past (Check player frames words) = MayEnd past.known past.checks player frames words
 
 abbrev pub IsHead : Record → Type 0
-IsHead (Head player id room) = Unit {0}
-IsHead (Epoch player number) = ⊥
+IsHead (Head player form id room) = Unit {0}
+IsHead (Epoch player number form) = ⊥
 IsHead (Own player start word) = ⊥
 IsHead (Got player start words) = ⊥
 IsHead (Freeze player) = ⊥
 IsHead (Leave player) = ⊥
 IsHead (Cut player length start words) = ⊥
+IsHead (State player frames piece words) = ⊥
+IsHead (Check player frames words) = ⊥
 
 -- a record that an opening adds
 abbrev pub IsOpening : Record → Type 0
-IsOpening (Head player id room) = Unit {0}
-IsOpening (Epoch player number) = Unit {0}
+IsOpening (Head player form id room) = Unit {0}
+IsOpening (Epoch player number form) = Unit {0}
 IsOpening (Own player start word) = ⊥
 IsOpening (Got player start words) = ⊥
 IsOpening (Freeze player) = ⊥
 IsOpening (Leave player) = ⊥
 IsOpening (Cut player length start words) = ⊥
+IsOpening (State player frames piece words) = ⊥
+IsOpening (Check player frames words) = ⊥
 
 -- A record that the rules allow: it can be spelled, its player is one of the game, and what its kind asks is so; the first
 -- is a HEAD, and after its own LEAVE a player other than player one adds openings alone.
@@ -135,3 +158,19 @@ pub record IsOrderlyOf (me q : ℕ) (p : PlayerValue) : Type 0 where
 
 abbrev pub IsOrderly : KnownValue → Type 0
 IsOrderly k = (q : ℕ) → 1 ≤ q → IsOrderlyOf k.me q (player_in k q)
+
+-- A checkpoint, if there is one, is at frames that are confirmed, and one that a machine can have come to.
+abbrev pub IsInOrder : Option Origin → KnownValue → Type 0
+IsInOrder last k = (from : Origin) → last ≡ Some from → (from.frames ≤ confirmed k) × IsOrigin from
+
+-- Pieces are at frames that are confirmed, no more than there can be, bytes, and as many as they have to be.
+pub record ArePieces (p : Pieces) (k : KnownValue) : Type 0 where
+  pub confirmed_is : p.frames ≤ confirmed k
+  pub few : p.count ≤ all_pieces
+  pub bytes : AreBytes p.bytes
+  pub long : length p.bytes ≡ before_piece p.count
+
+-- the last checkpoint and the one under way
+pub record AreInOrder (c : ChecksValue) (k : KnownValue) : Type 0 where
+  pub last : IsInOrder c.last k
+  pub under_way : (p : Pieces) → c.under_way ≡ Some p → ArePieces p k

@@ -1,11 +1,12 @@
 -- How a record is spelled in the 143 bytes of a slot's body.
-use Rattle.std.specs.Prelude.{ℕ, ◌-◌, ◌*◌, ◌/◌, ◌^◌, ◌≡◌, ◌<◌, ◌≤◌, ◌==◌, if◌then◌else◌, List, [], ◌∷◌, ◌++◌, length, take, drop, replicate, slice_index, map}
+use Rattle.std.specs.Prelude.{ℕ, ◌-◌, ◌*◌, ◌/◌, ◌^◌, ◌≡◌, ◌<◌, ◌≤◌, ◌==◌, ◌⊎◌, if◌then◌else◌, List, [], ◌∷◌, ◌++◌, length, take, drop, replicate, slice_index, map}
 use Rattle.byteorder.specs.Endian.{big_bytes}
 use Rattle.c8_wire.specs.Packet.{AreBytes, AreWords}
 use Rattle.c8_wire.specs.Reading.{number_at, words_of}
 use Rattle.c8_wire.specs.Sizes.{longest_run}
 use Rattle.c8_wire.specs.Spelling.{words_bytes}
-use Rattle.c8_known.specs.Journal.{Record, Head, Epoch, Own, Got, Freeze, Leave, Cut}
+use Rattle.c8_check.specs.Checks.{all_pieces}
+use Rattle.c8_known.specs.Journal.{Record, Head, Epoch, Own, Got, Freeze, Leave, Cut, State, Check}
 
 -- where the run stands
 abbrev pub run_place : ℕ
@@ -24,15 +25,18 @@ pub record Fields : Type 0 where
   pub run : List ℕ
 
 -- The fields of each kind of record; a number that a kind has no use for is 0, and a run is empty. A HEAD's number is the
--- epoch that it begins, and its run is the game's id and the room.
+-- epoch that it begins, and its run is the game's id and the room; of a HEAD and an EPOCH the start is the form of what follows. A
+-- CHECK's start is the number of the pieces.
 abbrev pub fields_of : Record → Fields
-fields_of (Head player id room) = record { kind = 1; player = player; number = 1; start = 0; run = id ++ big_bytes 8 room }
-fields_of (Epoch player number) = record { kind = 2; player = player; number = number; start = 0; run = [] }
+fields_of (Head player form id room) = record { kind = 1; player = player; number = 1; start = form; run = id ++ big_bytes 8 room }
+fields_of (Epoch player number form) = record { kind = 2; player = player; number = number; start = form; run = [] }
 fields_of (Own player start word) = record { kind = 3; player = player; number = 0; start = start; run = words_bytes (word ∷ []) }
 fields_of (Got player start words) = record { kind = 4; player = player; number = 0; start = start; run = words_bytes words }
 fields_of (Freeze player) = record { kind = 5; player = player; number = 0; start = 0; run = [] }
 fields_of (Leave player) = record { kind = 6; player = player; number = 0; start = 0; run = [] }
 fields_of (Cut player length start words) = record { kind = 7; player = player; number = length; start = start; run = words_bytes words }
+fields_of (State player frames piece words) = record { kind = 8; player = player; number = frames; start = piece; run = words_bytes words }
+fields_of (Check player frames words) = record { kind = 9; player = player; number = frames; start = all_pieces; run = words_bytes words }
 
 -- The fields in 143 bytes, where the run is not too long, each number with its most significant byte first: the run comes
 -- after the number of its words, and after the run there are zeros.
@@ -43,15 +47,26 @@ field_bytes f =
 unfoldable pub body_of : Record → List ℕ
 body_of r = field_bytes (fields_of r)
 
--- the parts that are a kind's own: a game's id has 32 bytes, a room fits 8, an input fits 2, and a GOT has an input at least
+-- the form of records is the first or the second
+abbrev pub IsForm : ℕ → Type 0
+IsForm form = (form ≡ 0) ⊎ (form ≡ 2)
+
+-- how many words the digest in a CHECK has
+abbrev pub digest_words : ℕ
+digest_words = 4
+
+-- the parts that are a kind's own: a game's id has 32 bytes, a room fits 8, a word fits 2, a GOT has an input at least, and a CHECK
+-- the words of a digest
 abbrev pub HasParts : Record → Type 0
-HasParts (Head player id room) = (length id ≡ 32) × AreBytes id × (room < 2 ^ 64)
-HasParts (Epoch player number) = Unit {0}
+HasParts (Head player form id room) = IsForm form × (length id ≡ 32) × AreBytes id × (room < 2 ^ 64)
+HasParts (Epoch player number form) = IsForm form
 HasParts (Own player start word) = word < 2 ^ 16
 HasParts (Got player start words) = (1 ≤ length words) × AreWords words
 HasParts (Freeze player) = Unit {0}
 HasParts (Leave player) = Unit {0}
 HasParts (Cut player length start words) = AreWords words
+HasParts (State player frames piece words) = AreWords words
+HasParts (Check player frames words) = (length words ≡ digest_words) × AreWords words
 
 -- the record can be spelled
 pub record HasSpelling (r : Record) : Type 0 where
@@ -73,17 +88,19 @@ pub record Spells (bytes : List ℕ) (r : Record) : Type 0 where
 abbrev pub run_at : List ℕ → List ℕ
 run_at bytes = words_of (take (2 * number_at 10 2 bytes) (drop run_place bytes))
 
--- The record that bytes would spell, whose kind is told by the first byte: any but 1 to 6 is taken for a CUT's. Whether they
+-- The record that bytes would spell, whose kind is told by the first byte: any but 1 to 8 is taken for a CHECK's. Whether they
 -- spell it is for `Spells` to say.
 unfoldable pub record_of : List ℕ → Record
 record_of bytes =
-    if slice_index bytes 0 == 1 then Head (slice_index bytes 1) (take 32 (drop run_place bytes)) (number_at 44 8 bytes)
-    else (if slice_index bytes 0 == 2 then Epoch (slice_index bytes 1) (number_at 2 4 bytes)
+    if slice_index bytes 0 == 1 then Head (slice_index bytes 1) (number_at 6 4 bytes) (take 32 (drop run_place bytes)) (number_at 44 8 bytes)
+    else (if slice_index bytes 0 == 2 then Epoch (slice_index bytes 1) (number_at 2 4 bytes) (number_at 6 4 bytes)
     else (if slice_index bytes 0 == 3 then Own (slice_index bytes 1) (number_at 6 4 bytes) (number_at 12 2 bytes)
     else (if slice_index bytes 0 == 4 then Got (slice_index bytes 1) (number_at 6 4 bytes) (run_at bytes)
     else (if slice_index bytes 0 == 5 then Freeze (slice_index bytes 1)
     else (if slice_index bytes 0 == 6 then Leave (slice_index bytes 1)
-    else Cut (slice_index bytes 1) (number_at 2 4 bytes) (number_at 6 4 bytes) (run_at bytes))))))
+    else (if slice_index bytes 0 == 7 then Cut (slice_index bytes 1) (number_at 2 4 bytes) (number_at 6 4 bytes) (run_at bytes)
+    else (if slice_index bytes 0 == 8 then State (slice_index bytes 1) (number_at 2 4 bytes) (number_at 6 4 bytes) (run_at bytes)
+    else Check (slice_index bytes 1) (number_at 2 4 bytes) (run_at bytes))))))))
 
 -- the records of a list of bodies
 abbrev pub records_of : List (List ℕ) → List Record

@@ -5,44 +5,53 @@ use Rattle.c8_wire.specs.Lent.{version_of, words, spelled}
 use Rattle.c8_known.specs.Journal as journals
 use Rattle.c8_record.specs.declared.record.Record.{Record}
 use Rattle.c8_record.specs.declared.record.Record.TheVariants as lent
-use Rattle.c8_record.specs.Body.{run_place}
+use Rattle.c8_record.specs.Body.{run_place, IsForm, digest_words}
 
 -- the record that it is
 abbrev pub value_of : Record → journals.Record
-value_of (lent.Head player id room) = journals.Head player.number id.now room
-value_of (lent.Epoch player number) = journals.Epoch player.number number
+value_of (lent.Head player form id room) = journals.Head player.number form id.now room
+value_of (lent.Epoch player number form) = journals.Epoch player.number number form
 value_of (lent.Own player start keys) = journals.Own player.number start keys.0
 value_of (lent.Got player start run) = journals.Got player.number start (words run)
 value_of (lent.Freeze player) = journals.Freeze player.number
 value_of (lent.Leave player) = journals.Leave player.number
 value_of (lent.Cut player cut start run) = journals.Cut player.number cut start (words run)
+value_of (lent.State player frames piece run) = journals.State player.number frames piece (words run)
+value_of (lent.Check player frames run) = journals.Check player.number frames (words run)
 
 -- what it lends is the slice of the body where it stands
 abbrev pub IsSliceOf : List ℕ → Record → Type 0
-IsSliceOf body (lent.Head player id room) = id.now ≡ take 32 (drop run_place body)
-IsSliceOf body (lent.Epoch player number) = Unit {0}
+IsSliceOf body (lent.Head player form id room) = id.now ≡ take 32 (drop run_place body)
+IsSliceOf body (lent.Epoch player number form) = Unit {0}
 IsSliceOf body (lent.Own player start keys) = Unit {0}
 IsSliceOf body (lent.Got player start run) = spelled run ≡ take (length (spelled run)) (drop run_place body)
 IsSliceOf body (lent.Freeze player) = Unit {0}
 IsSliceOf body (lent.Leave player) = Unit {0}
 IsSliceOf body (lent.Cut player cut start run) = spelled run ≡ take (length (spelled run)) (drop run_place body)
+IsSliceOf body (lent.State player frames piece run) = spelled run ≡ take (length (spelled run)) (drop run_place body)
+IsSliceOf body (lent.Check player frames run) = spelled run ≡ take (length (spelled run)) (drop run_place body)
 
 -- its inputs, where it has some, are lent from bytes that spell them two bytes each, as bodies have them
 abbrev pub IsOfWords : Record → Type 0
-IsOfWords (lent.Head player id room) = Unit {0}
-IsOfWords (lent.Epoch player number) = Unit {0}
+IsOfWords (lent.Head player form id room) = Unit {0}
+IsOfWords (lent.Epoch player number form) = Unit {0}
 IsOfWords (lent.Own player start keys) = Unit {0}
 IsOfWords (lent.Got player start run) = version_of run ≡ versions.One
 IsOfWords (lent.Freeze player) = Unit {0}
 IsOfWords (lent.Leave player) = Unit {0}
 IsOfWords (lent.Cut player cut start run) = version_of run ≡ versions.One
+IsOfWords (lent.State player frames piece run) = version_of run ≡ versions.One
+IsOfWords (lent.Check player frames run) = version_of run ≡ versions.One
 
--- a Got has an input at least
-abbrev pub HasInputs : Record → Type 0
-HasInputs (lent.Head player id room) = Unit {0}
-HasInputs (lent.Epoch player number) = Unit {0}
-HasInputs (lent.Own player start keys) = Unit {0}
-HasInputs (lent.Got player start run) = 0 < length (words run)
-HasInputs (lent.Freeze player) = Unit {0}
-HasInputs (lent.Leave player) = Unit {0}
-HasInputs (lent.Cut player cut start run) = Unit {0}
+-- What a spelling asks of its parts: a form is the first or the second, a Got has an input at least, and a Check the words of a
+-- digest.
+abbrev pub IsComplete : Record → Type 0
+IsComplete (lent.Head player form id room) = IsForm form
+IsComplete (lent.Epoch player number form) = IsForm form
+IsComplete (lent.Own player start keys) = Unit {0}
+IsComplete (lent.Got player start run) = 0 < length (words run)
+IsComplete (lent.Freeze player) = Unit {0}
+IsComplete (lent.Leave player) = Unit {0}
+IsComplete (lent.Cut player cut start run) = Unit {0}
+IsComplete (lent.State player frames piece run) = Unit {0}
+IsComplete (lent.Check player frames run) = length (words run) ≡ digest_words

@@ -4,6 +4,7 @@ use Rattle.std.specs.List.{slice_get, All}
 use Rattle.c8_game.specs.Rules.{Rules, id_of}
 use Rattle.c8_known.specs.Journal.{Record, Head, epoch}
 use Rattle.c8_known.specs.Known.{KnownValue, known_of}
+use Rattle.c8_check.specs.Checks.{ChecksValue, checks_of}
 use Rattle.c8_record.specs.Body.{Spells, record_of, records_of}
 use Rattle.c8_record.specs.Allowed.{IsAllowed, IsJournal}
 use Rattle.c8_disk.specs.declared.error.DiskError.TheVariants.{Failed}
@@ -19,7 +20,7 @@ pub record AreJournalBodies (rules : Rules) (me room : ℕ) (bodies : List (List
 
 -- the first body spells this HEAD
 abbrev pub BeginsWithHead : List (List ℕ) → ℕ → List ℕ → ℕ → Type 0
-BeginsWithHead bodies player id room = (body : List ℕ) × (slice_get bodies 0 ≡ Some body) × Spells body (Head player id room)
+BeginsWithHead bodies player id room = (body : List ℕ) × (form : ℕ) × (slice_get bodies 0 ≡ Some body) × Spells body (Head player form id room)
 
 -- Body n is the first that spells no record, or one that is not allowed there.
 pub record IsFirstBad (rules : Rules) (me room : ℕ) (bodies : List (List ℕ)) (n : ℕ) : Type 0 where
@@ -45,12 +46,12 @@ taken_before WrongPlayer = 0
 taken_before (BadRecord n) = n
 taken_before (Disk why) = 0
 
--- What a replay answers and makes known: what the records say, and the last epoch, 0 if there is none; or the refusal, and
--- what the records before the refused one say.
-abbrev pub IsReplayed : Rules → ℕ → ℕ → List (List ℕ) → Result ℕ ReplayError → KnownValue → Type 0
-IsReplayed rules me room bodies (Ok last) known =
-    AreJournalBodies rules me room bodies × (known ≡ known_of rules me (records_of bodies)) × (last ≡ epoch (records_of bodies))
-IsReplayed rules me room bodies (Err error) known =
+-- What a replay answers and makes known: what the records say, of checkpoints too, and the last epoch, 0 if there is none; or the
+-- refusal, and what the records before the refused one make known.
+abbrev pub IsReplayed : Rules → ℕ → ℕ → List (List ℕ) → Result ℕ ReplayError → KnownValue → ChecksValue → Type 0
+IsReplayed rules me room bodies (Ok last) known checks =
+    AreJournalBodies rules me room bodies × (known ≡ known_of rules me (records_of bodies)) × (last ≡ epoch (records_of bodies)) × (checks ≡ checks_of (records_of bodies))
+IsReplayed rules me room bodies (Err error) known checks =
     IsRefusal rules me room bodies error × (known ≡ known_of rules me (records_of (take (taken_before error) bodies)))
 
 -- the disk failed
@@ -71,13 +72,13 @@ told_by (Err (Disk why)) = Err why
 
 -- The same of bodies that are read from a disk, which may fail at one of them: then what is known is what some first
 -- records say, which are all in order.
-abbrev pub IsReplayedFromDisk : Rules → ℕ → ℕ → List (List ℕ) → Result ℕ ReplayError → KnownValue → Type 0
-IsReplayedFromDisk rules me room bodies (Err (Disk why)) known =
+abbrev pub IsReplayedFromDisk : Rules → ℕ → ℕ → List (List ℕ) → Result ℕ ReplayError → KnownValue → ChecksValue → Type 0
+IsReplayedFromDisk rules me room bodies (Err (Disk why)) known checks =
     (why ≡ Failed) × (n : ℕ) × (n < length bodies) × AreJournalBodies rules me room (take n bodies) × (known ≡ known_of rules me (records_of (take n bodies)))
-IsReplayedFromDisk rules me room bodies (Err WrongGame) known = IsReplayed rules me room bodies (Err WrongGame) known
-IsReplayedFromDisk rules me room bodies (Err WrongPlayer) known = IsReplayed rules me room bodies (Err WrongPlayer) known
-IsReplayedFromDisk rules me room bodies (Err (BadRecord n)) known = IsReplayed rules me room bodies (Err (BadRecord n)) known
-IsReplayedFromDisk rules me room bodies (Ok last) known = IsReplayed rules me room bodies (Ok last) known
+IsReplayedFromDisk rules me room bodies (Err WrongGame) known checks = IsReplayed rules me room bodies (Err WrongGame) known checks
+IsReplayedFromDisk rules me room bodies (Err WrongPlayer) known checks = IsReplayed rules me room bodies (Err WrongPlayer) known checks
+IsReplayedFromDisk rules me room bodies (Err (BadRecord n)) known checks = IsReplayed rules me room bodies (Err (BadRecord n)) known checks
+IsReplayedFromDisk rules me room bodies (Ok last) known checks = IsReplayed rules me room bodies (Ok last) known checks
 
 -- How many bodies a replay looks at: all, or those up to the one that it refuses. Where the disk fails, those before the last
 -- of them are in order.

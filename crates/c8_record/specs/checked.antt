@@ -3,3 +3,4 @@ pub mod JournalLaws
 pub mod LeaverLaws
 pub mod RefusalLaws
 pub mod Taken
+pub mod CheckLaws

@@ -2,42 +2,47 @@
 ghost use Rattle.std.specs.Prelude.{◌≡◌, ◌≢◌, ◌↔◌, ℕ, true, MatchResult};
 ghost use Rattle.c8_game.specs.Rules.{id_of};
 ghost use Rattle.c8_known.specs.Known.{Plays, IsKnown, IsOfGame};
-ghost use Rattle.c8_wire.specs.Lent.{words};
-ghost use Rattle.c8_record.specs.Allowed.{MayOwn, MayGot, MayFreeze, MayLeave, MayCut, IsAllowedAfter};
+ghost use Rattle.c8_wire.specs.Lent.{version_of, words};
+ghost use Rattle.c8_game.specs.declared.wire.WireVersion.TheVariants as versions;
+ghost use Rattle.c8_record.specs.Allowed.{MayEpoch, MayOwn, MayGot, MayFreeze, MayLeave, MayCut, MayState, MayEnd, IsAllowedAfter};
 ghost use Rattle.c8_record.specs.Body.{HasSpelling};
-ghost use Rattle.c8_record.specs.Lent.{value_of};
+ghost use Rattle.c8_record.specs.Lent.{value_of, IsOfWords};
+ghost use Rattle.c8_check.specs.Seen.{value_of as value_in};
 ghost use Rattle.c8_record.specs.checked.Taken.{IsUnfit};
 
 use crate::error::ReplayError;
 use crate::record::Record;
+use c8_check::Checks;
 use c8_game::{Game, Player};
 use c8_known::Known;
 use c8_wire::Run;
 
-/// Judges a record after `count` others, of which `epoch` is the last epoch, and by which this is
-/// known.
+/// Judges a record after `count` others, of which `epoch` is the last epoch, which say this of checkpoints,
+/// and by which this is known.
 pub(crate) fn judge(
     game: &Game,
     room: u64,
     count: usize,
     epoch: u32,
+    checks: &Checks,
     known: &Known,
     lent: &Record<'_>,
 ) -> Result<(), ReplayError>
     requires of_game { IsOfGame game.now known.now.me known.now }
     requires spelled { HasSpelling (value_of lent.now) }
+    requires words { IsOfWords lent.now }
     ensures known { IsKnown known.now }
     ensures judged { MatchResult result
         (λ _. IsAllowedAfter game.now room
-        (record { count = count; epoch = epoch; known = known.now }) (value_of lent.now))
+        (record { count = count; epoch = epoch; checks = value_in checks.now; known = known.now }) (value_of lent.now))
         (λ error. IsUnfit game.now room
-        (record { count = count; epoch = epoch; known = known.now }) (value_of lent.now) error) }
+        (record { count = count; epoch = epoch; checks = value_in checks.now; known = known.now }) (value_of lent.now) error) }
 {
     let me = known.me();
     if count == 0 {
-        return judge_first(game, room, epoch, known, me, lent);
+        return judge_first(game, room, epoch, checks, known, me, lent);
     }
-    if may_follow(game, room, count, epoch, known, lent) {
+    if may_follow(game, room, count, epoch, checks, known, lent) {
         Ok(())
     } else {
         Err(ReplayError::BadRecord(count))
@@ -49,6 +54,7 @@ fn judge_first(
     game: &Game,
     room: u64,
     epoch: u32,
+    checks: &Checks,
     known: &Known,
     me: Player,
     lent: &Record<'_>,
@@ -58,12 +64,13 @@ fn judge_first(
     requires spelled { HasSpelling (value_of lent.now) }
     ensures { MatchResult result
         (λ _. IsAllowedAfter game.now room
-        (record { count = 0; epoch = epoch; known = known.now }) (value_of lent.now))
+        (record { count = 0; epoch = epoch; checks = value_in checks.now; known = known.now }) (value_of lent.now))
         (λ error. IsUnfit game.now room
-        (record { count = 0; epoch = epoch; known = known.now }) (value_of lent.now) error) }
+        (record { count = 0; epoch = epoch; checks = value_in checks.now; known = known.now }) (value_of lent.now) error) }
 {
     let Record::Head {
         player,
+        form: _,
         id,
         room: named,
     } = *lent
@@ -85,13 +92,15 @@ fn may_follow(
     room: u64,
     count: usize,
     epoch: u32,
+    checks: &Checks,
     known: &Known,
     lent: &Record<'_>,
 ) -> bool
     requires later { count ≢ 0 }
     requires spelled { HasSpelling (value_of lent.now) }
+    requires words { IsOfWords lent.now }
     ensures { (result ≡ true) ↔ IsAllowedAfter game.now room
-        (record { count = count; epoch = epoch; known = known.now }) (value_of lent.now) }
+        (record { count = count; epoch = epoch; checks = value_in checks.now; known = known.now }) (value_of lent.now) }
 {
     let me = known.me();
     let dropped = me.number != 1 && known.leaving(me);
@@ -99,7 +108,11 @@ fn may_follow(
         return false;
     }
     match *lent {
-        Record::Epoch { player, number } => player.number == me.number && number > epoch,
+        Record::Epoch {
+            player,
+            number,
+            form,
+        } => may_epoch(known, epoch, checks, player, number, form),
         Record::Head { .. } => false,
         _ if dropped => false,
         Record::Own { player, start, .. } => may_own(game, known, player, start),
@@ -112,7 +125,58 @@ fn may_follow(
             start,
             run,
         } => may_cut(known, player, length, start, run),
+        Record::State {
+            player,
+            frames,
+            piece,
+            run,
+        } => may_state(known, checks, player, frames, piece, run),
+        Record::Check {
+            player,
+            frames,
+            run,
+        } => may_end(known, checks, player, frames, run),
     }
+}
+
+fn may_epoch(
+    known: &Known,
+    epoch: u32,
+    checks: &Checks,
+    player: Player,
+    number: u32,
+    form: u32,
+) -> bool
+    ensures { (result ≡ true)
+        ↔ MayEpoch known.now epoch (value_in checks.now) player.number number form }
+{
+    let me = known.me();
+    player.number == me.number && number > epoch && (checks.form() != 2 || form == 2)
+}
+
+fn may_state(
+    known: &Known,
+    checks: &Checks,
+    player: Player,
+    frames: u32,
+    piece: u32,
+    run: Run<'_>,
+) -> bool
+    requires { version_of run ≡ versions.One }
+    ensures { (result ≡ true) ↔ MayState known.now (value_in checks.now) player.number frames piece
+        (words run.entry) }
+{
+    let me = known.me();
+    player.number == me.number && checks.may_take(known.confirmed(), frames, piece, run.bytes())
+}
+
+fn may_end(known: &Known, checks: &Checks, player: Player, frames: u32, run: Run<'_>) -> bool
+    requires { version_of run ≡ versions.One }
+    ensures { (result ≡ true)
+        ↔ MayEnd known.now (value_in checks.now) player.number frames (words run.entry) }
+{
+    let me = known.me();
+    player.number == me.number && checks.may_check(frames, run.bytes())
 }
 
 fn may_own(game: &Game, known: &Known, player: Player, start: u32) -> bool

@@ -6,9 +6,11 @@ ghost use Rattle.c8_known.specs.Journal.{Record, epoch};
 ghost use Rattle.c8_known.specs.Known.{known_of, with_record, IsKnown};
 ghost use Rattle.c8_known.specs.Confirmed.{confirmed, confirmed_rows};
 ghost use Rattle.c8_known.specs.Growth.{Begins, IsStillKnown};
+ghost use Rattle.c8_check.specs.Checks.{with_check, checks_of, begun_at};
+ghost use Rattle.c8_digest.specs.Origin.{IsOrigin};
 ghost use Rattle.c8_record.specs.Body.{body_of, record_of, records_of, HasSpelling, Spells};
 ghost use Rattle.c8_record.specs.declared.error.ReplayError.{ReplayError};
-ghost use Rattle.c8_record.specs.Allowed.{IsAllowed, IsJournal, IsOrderly};
+ghost use Rattle.c8_record.specs.Allowed.{IsAllowed, IsJournal, IsOrderly, AreInOrder};
 ghost use Rattle.c8_record.specs.Replay.{AreJournalBodies, IsRefusal};
 
 /// A record that can be spelled has one spelling, of 143 bytes, which is read as that record and no
@@ -45,6 +47,8 @@ pub fn journals_grow_by_one()
     ensures known { (rules : Rules) (me room : ℕ) (journal : List Record) (r : Record)
         → IsAllowed rules me room journal r
         → known_of rules me (journal ++ r ∷ []) ≡ with_record (known_of rules me journal) r }
+    ensures checks { (journal : List Record) (r : Record)
+        → checks_of (journal ++ r ∷ []) ≡ with_check (checks_of journal) r }
 {}
 
 /// What a journal says is sound, and nothing of it is taken back by a longer one: the confirmed
@@ -87,4 +91,18 @@ pub fn journals_stay_within_the_window()
         → 1 ≤ me → me ≤ rules.players → IsJournal rules me room journal
         → (known_of rules me journal).ticks
         ≤ confirmed (known_of rules me journal) + rules.window }
+{}
+
+/// The checkpoints of a journal are at frames that it confirms, and such as a machine can have come
+/// to; so is where the machine of a peer with this journal began.
+pub fn checkpoints_are_in_order()
+    ensures checks { (rules : Rules) (me room : ℕ) (journal : List Record) → AreInRange rules
+        → 1 ≤ me → me ≤ rules.players → IsJournal rules me room journal
+        → AreInOrder (checks_of journal) (known_of rules me journal) }
+    ensures begun { (rules : Rules) (me room : ℕ) (journal : List Record) → AreInRange rules
+        → 1 ≤ me → me ≤ rules.players → IsJournal rules me room journal
+        → (begun_at rules journal).frames ≤ confirmed (known_of rules me journal) }
+    ensures origin { (rules : Rules) (me room : ℕ) (journal : List Record) → AreInRange rules
+        → 1 ≤ me → me ≤ rules.players → IsJournal rules me room journal
+        → IsOrigin (begun_at rules journal) }
 {}

@@ -1,14 +1,14 @@
 //! Which record a body spells.
-ghost use Rattle.std.specs.Prelude.{◌≡◌, ◌<◌, ◌*◌, ◌↔◌, false, take, drop, MatchOption, IfSome};
+ghost use Rattle.std.specs.Prelude.{◌≡◌, ◌<◌, ◌*◌, ◌↔◌, true, take, drop, MatchOption, IfSome};
 ghost use Rattle.c8_wire.specs.Lent.{version_of, words, spelled};
 ghost use Rattle.c8_game.specs.declared.wire.WireVersion.TheVariants as versions;
 ghost use Rattle.c8_wire.specs.Reading.{number_at};
 ghost use Rattle.c8_known.specs.Journal as journals;
-ghost use Rattle.c8_record.specs.Body.{Spells, record_of, run_place, run_at};
-ghost use Rattle.c8_record.specs.Lent.{value_of, IsSliceOf, HasInputs, IsOfWords};
+ghost use Rattle.c8_record.specs.Body.{Spells, record_of, run_place, run_at, IsForm};
+ghost use Rattle.c8_record.specs.Lent.{value_of, IsSliceOf, IsComplete, IsOfWords};
 ghost use Rattle.c8_wire.specs.Sizes.{longest_run};
 
-use crate::record::{RUN_PLACE, Record};
+use crate::record::{DIGEST_WORDS, RUN_PLACE, Record};
 use crate::writing::is_body_of;
 use c8_game::{Keys, Player};
 use c8_log::BODY_LENGTH;
@@ -22,7 +22,7 @@ pub fn view(body: &[u8; BODY_LENGTH]) -> Option<Record<'_>>
     ensures words { IfSome result (λ lent. IsOfWords lent) }
 {
     let lent = read(body)?;
-    if lacks_inputs(&lent) || !is_body_of(body, &lent) {
+    if !is_complete(&lent) || !is_body_of(body, &lent) {
         return None;
     }
     Some(lent)
@@ -45,10 +45,15 @@ fn read(body: &[u8; BODY_LENGTH]) -> Option<Record<'_>>
     match kind {
         1 => Some(Record::Head {
             player,
+            form: start,
             id: id_of(body),
             room: u64_at(body, 44),
         }),
-        2 => Some(Record::Epoch { player, number }),
+        2 => Some(Record::Epoch {
+            player,
+            number,
+            form: start,
+        }),
         3 => Some(Record::Own {
             player,
             start,
@@ -61,6 +66,17 @@ fn read(body: &[u8; BODY_LENGTH]) -> Option<Record<'_>>
             player,
             length: number,
             start,
+            run,
+        }),
+        8 => Some(Record::State {
+            player,
+            frames: number,
+            piece: start,
+            run,
+        }),
+        9 => Some(Record::Check {
+            player,
+            frames: number,
             run,
         }),
         _ => None,
@@ -94,12 +110,20 @@ fn run_of(body: &[u8; BODY_LENGTH]) -> Option<Run<'_>>
     Some(Run::new(run))
 }
 
-/// Whether it tells of inputs that came, and has none.
-fn lacks_inputs(lent: &Record<'_>) -> bool
-    ensures { (result ≡ false) ↔ HasInputs lent.now }
+/// Whether it has all that a spelling asks of its parts.
+fn is_complete(lent: &Record<'_>) -> bool
+    ensures { (result ≡ true) ↔ IsComplete lent.now }
 {
-    match lent {
-        Record::Got { run, .. } => run.is_empty(),
-        _ => false,
+    match *lent {
+        Record::Head { form, .. } | Record::Epoch { form, .. } => is_form(form),
+        Record::Got { run, .. } => !run.is_empty(),
+        Record::Check { run, .. } => run.len() == DIGEST_WORDS,
+        _ => true,
     }
+}
+
+fn is_form(form: u32) -> bool
+    ensures { (result ≡ true) ↔ IsForm form }
+{
+    form == 0 || form == 2
 }

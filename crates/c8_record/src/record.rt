@@ -9,16 +9,22 @@ use c8_wire::Run;
 /// Where a run stands in a body.
 pub(crate) const RUN_PLACE: usize = 12;
 
-/// A record. Its inputs, and the id in a `Head`, are lent from where they stand: in a body, or in the
+/// How many words the digest in a `Check` has.
+pub(crate) const DIGEST_WORDS: usize = 4;
+
+/// A record. Its words, and the id in a `Head`, are lent from where they stand: in a body, or in the
 /// datagram that brings them.
 ///
-/// `Head`, `Epoch` and `Own` are of the player whose journal it is, the others of the player whom
-/// they name. A start is the place in the player's list of inputs where the record's inputs stand.
+/// `Head`, `Epoch`, `Own`, `State` and `Check` are of the player whose journal it is, the others of the
+/// player whom they name. A start is the place in the player's list of inputs where the record's inputs
+/// stand. A form is 0 or 2: that of the records from there on, of which the second has `State` and `Check`
+/// too.
 #[derive(Clone, Copy, Debug, PartialEq, Eq)]
 pub enum Record<'a> {
     /// Whose journal this is, and of which match.
     Head {
         player: Player,
+        form: u32,
         id: &'a [u8; 32],
         room: u64,
     },
@@ -26,6 +32,7 @@ pub enum Record<'a> {
     Epoch {
         player: Player,
         number: u32,
+        form: u32,
     },
     /// The own player entered a key set.
     Own {
@@ -54,6 +61,20 @@ pub enum Record<'a> {
         start: u32,
         run: Run<'a>,
     },
+    /// A piece of a checkpoint after so many confirmed frames: of the machine's bytes and its marks', as
+    /// c8_check cuts them.
+    State {
+        player: Player,
+        frames: u32,
+        piece: u32,
+        run: Run<'a>,
+    },
+    /// All pieces of it stand, and this is their digest.
+    Check {
+        player: Player,
+        frames: u32,
+        run: Run<'a>,
+    },
 }
 
 impl Record<'_> {
@@ -68,7 +89,9 @@ impl Record<'_> {
             | Record::Got { player, .. }
             | Record::Freeze { player }
             | Record::Leave { player }
-            | Record::Cut { player, .. } => player,
+            | Record::Cut { player, .. }
+            | Record::State { player, .. }
+            | Record::Check { player, .. } => player,
         }
     }
 }

@@ -1,16 +1,17 @@
 //! The body that spells a record.
 ghost use Rattle.std.specs.Prelude.{◌≡◌, ◌≤◌, ◌*◌, ◌/◌, ◌↔◌, ◌∷◌, ◌++◌, true, drop, length, replicate};
-ghost use Rattle.c8_known.specs.Journal.{Head, Own, Got, Cut};
+ghost use Rattle.c8_known.specs.Journal.{Head, Epoch, Own, Got, Cut, State, Check};
 ghost use Rattle.c8_game.specs.declared.wire.WireVersion.TheVariants as versions;
 ghost use Rattle.c8_wire.specs.Packet.{AreWords};
 ghost use Rattle.c8_wire.specs.Spelling.{words_bytes};
 ghost use Rattle.c8_wire.specs.Lent.{version_of, words, words_left};
 ghost use Rattle.byteorder.specs.Endian.{big_bytes};
 ghost use Rattle.c8_wire.specs.Sizes.{longest_run};
-ghost use Rattle.c8_record.specs.Body.{field_bytes, body_of, Spells, run_place};
-ghost use Rattle.c8_record.specs.Lent.{value_of, HasInputs, IsOfWords};
+ghost use Rattle.c8_record.specs.Body.{field_bytes, body_of, Spells, run_place, IsForm, digest_words};
+ghost use Rattle.c8_record.specs.Lent.{value_of, IsComplete, IsOfWords};
 
 use crate::record::{RUN_PLACE, Record};
+use c8_check::PIECES;
 use c8_game::{Keys, Player};
 use c8_log::BODY_LENGTH;
 use c8_wire::{Inputs, Run, u16_at, u32_at};
@@ -20,11 +21,20 @@ use c8_wire::{Inputs, Run, u16_at, u32_at};
 #[tactic(auto, unfolding(crate::specs::Body::body_of))]
 pub fn body_of(lent: &Record<'_>) -> [u8; BODY_LENGTH]
     ensures body { result ≡ body_of (value_of lent.now) }
-    ensures spells { HasInputs lent.now → Spells result (value_of lent.now) }
+    ensures spells { IsComplete lent.now → Spells result (value_of lent.now) }
 {
     match *lent {
-        Record::Head { player, id, room } => head_body(player, id, room),
-        Record::Epoch { player, number } => spell(2, player, number, 0, &[]),
+        Record::Head {
+            player,
+            form,
+            id,
+            room,
+        } => head_body(player, form, id, room),
+        Record::Epoch {
+            player,
+            number,
+            form,
+        } => epoch_body(player, number, form),
         Record::Own {
             player,
             start,
@@ -39,6 +49,17 @@ pub fn body_of(lent: &Record<'_>) -> [u8; BODY_LENGTH]
             start,
             run,
         } => cut_body(player, length, start, run),
+        Record::State {
+            player,
+            frames,
+            piece,
+            run,
+        } => state_body(player, frames, piece, run),
+        Record::Check {
+            player,
+            frames,
+            run,
+        } => check_body(player, frames, run),
     }
 }
 
@@ -47,11 +68,20 @@ pub fn body_of(lent: &Record<'_>) -> [u8; BODY_LENGTH]
 pub(crate) fn is_body_of(body: &[u8; BODY_LENGTH], lent: &Record<'_>) -> bool
     requires { IsOfWords lent.now }
     ensures is { (result ≡ true) ↔ (body.now ≡ body_of (value_of lent.now)) }
-    ensures spells { result ≡ true → HasInputs lent.now → Spells body.now (value_of lent.now) }
+    ensures spells { result ≡ true → IsComplete lent.now → Spells body.now (value_of lent.now) }
 {
     match *lent {
-        Record::Head { player, id, room } => is_head_body(body, player, id, room),
-        Record::Epoch { player, number } => has_fields(body, 2, player, number, 0, &[]),
+        Record::Head {
+            player,
+            form,
+            id,
+            room,
+        } => is_head_body(body, player, form, id, room),
+        Record::Epoch {
+            player,
+            number,
+            form,
+        } => is_epoch_body(body, player, number, form),
         Record::Own {
             player,
             start,
@@ -66,15 +96,42 @@ pub(crate) fn is_body_of(body: &[u8; BODY_LENGTH], lent: &Record<'_>) -> bool
             start,
             run,
         } => is_cut_body(body, player, length, start, run),
+        Record::State {
+            player,
+            frames,
+            piece,
+            run,
+        } => is_state_body(body, player, frames, piece, run),
+        Record::Check {
+            player,
+            frames,
+            run,
+        } => is_check_body(body, player, frames, run),
     }
 }
 
 #[tactic(auto, unfolding(crate::specs::Body::body_of))]
-fn is_head_body(body: &[u8; BODY_LENGTH], player: Player, id: &[u8; 32], room: u64) -> bool
-    ensures is { (result ≡ true) ↔ (body.now ≡ body_of (Head player.number id.now room)) }
-    ensures spells { result ≡ true → Spells body.now (Head player.number id.now room) }
+fn is_head_body(
+    body: &[u8; BODY_LENGTH],
+    player: Player,
+    form: u32,
+    id: &[u8; 32],
+    room: u64,
+) -> bool
+    ensures is { (result ≡ true) ↔ (body.now ≡ body_of (Head player.number form id.now room)) }
+    ensures spells { result ≡ true → IsForm form
+        → Spells body.now (Head player.number form id.now room) }
 {
-    has_fields(body, 1, player, 1, 0, &match_run(id, room))
+    has_fields(body, 1, player, 1, form, &match_run(id, room))
+}
+
+#[tactic(auto, unfolding(crate::specs::Body::body_of))]
+fn is_epoch_body(body: &[u8; BODY_LENGTH], player: Player, number: u32, form: u32) -> bool
+    ensures is { (result ≡ true) ↔ (body.now ≡ body_of (Epoch player.number number form)) }
+    ensures spells { result ≡ true → IsForm form
+        → Spells body.now (Epoch player.number number form) }
+{
+    has_fields(body, 2, player, number, form, &[])
 }
 
 #[tactic(auto, unfolding(crate::specs::Body::body_of))]
@@ -113,11 +170,47 @@ fn is_cut_body(
 }
 
 #[tactic(auto, unfolding(crate::specs::Body::body_of))]
-fn head_body(player: Player, id: &[u8; 32], room: u64) -> [u8; BODY_LENGTH]
-    ensures body { result ≡ body_of (Head player.number id.now room) }
-    ensures spells { Spells result (Head player.number id.now room) }
+fn is_state_body(
+    body: &[u8; BODY_LENGTH],
+    player: Player,
+    frames: u32,
+    piece: u32,
+    run: Run<'_>,
+) -> bool
+    requires { version_of run ≡ versions.One }
+    ensures is { (result ≡ true)
+        ↔ (body.now ≡ body_of (State player.number frames piece (words run.entry))) }
+    ensures spells { result ≡ true
+        → Spells body.now (State player.number frames piece (words run.entry)) }
 {
-    spell(1, player, 1, 0, &match_run(id, room))
+    has_fields(body, 8, player, frames, piece, run.bytes())
+}
+
+#[tactic(auto, unfolding(crate::specs::Body::body_of))]
+fn is_check_body(body: &[u8; BODY_LENGTH], player: Player, frames: u32, run: Run<'_>) -> bool
+    requires { version_of run ≡ versions.One }
+    ensures is { (result ≡ true)
+        ↔ (body.now ≡ body_of (Check player.number frames (words run.entry))) }
+    ensures spells { result ≡ true → length (words run.entry) ≡ digest_words
+        → Spells body.now (Check player.number frames (words run.entry)) }
+{
+    has_fields(body, 9, player, frames, PIECES, run.bytes())
+}
+
+#[tactic(auto, unfolding(crate::specs::Body::body_of))]
+fn head_body(player: Player, form: u32, id: &[u8; 32], room: u64) -> [u8; BODY_LENGTH]
+    ensures body { result ≡ body_of (Head player.number form id.now room) }
+    ensures spells { IsForm form → Spells result (Head player.number form id.now room) }
+{
+    spell(1, player, 1, form, &match_run(id, room))
+}
+
+#[tactic(auto, unfolding(crate::specs::Body::body_of))]
+fn epoch_body(player: Player, number: u32, form: u32) -> [u8; BODY_LENGTH]
+    ensures body { result ≡ body_of (Epoch player.number number form) }
+    ensures spells { IsForm form → Spells result (Epoch player.number number form) }
+{
+    spell(2, player, number, form, &[])
 }
 
 #[tactic(auto, unfolding(crate::specs::Body::body_of))]
@@ -143,6 +236,23 @@ fn cut_body(player: Player, length: u32, start: u32, run: Run<'_>) -> [u8; BODY_
     ensures spells { Spells result (Cut player.number length start (words run.entry)) }
 {
     spell_inputs(7, player, length, start, run)
+}
+
+#[tactic(auto, unfolding(crate::specs::Body::body_of))]
+fn state_body(player: Player, frames: u32, piece: u32, run: Run<'_>) -> [u8; BODY_LENGTH]
+    ensures body { result ≡ body_of (State player.number frames piece (words run.entry)) }
+    ensures spells { Spells result (State player.number frames piece (words run.entry)) }
+{
+    spell_inputs(8, player, frames, piece, run)
+}
+
+#[tactic(auto, unfolding(crate::specs::Body::body_of))]
+fn check_body(player: Player, frames: u32, run: Run<'_>) -> [u8; BODY_LENGTH]
+    ensures body { result ≡ body_of (Check player.number frames (words run.entry)) }
+    ensures spells { length (words run.entry) ≡ digest_words
+        → Spells result (Check player.number frames (words run.entry)) }
+{
+    spell_inputs(9, player, frames, PIECES, run)
 }
 
 /// What the run of a `Head` says: the game's id and the room.

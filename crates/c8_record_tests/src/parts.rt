@@ -22,6 +22,16 @@ pub enum Rec {
     Leave(u8),
     /// A length, a start, and inputs.
     Cut(u8, u32, u32, u16, u8),
+    /// A form.
+    HeadOfForm(u8, u32),
+    /// The same after the epoch.
+    EpochOfForm(u8, u32, u32),
+    /// The frames, the number of a piece, and its words.
+    State(u8, u32, u32, u16, u8),
+    /// A piece of so many zeros.
+    Zeros(u8, u32, u32, u8),
+    /// The frames and the digest.
+    Check(u8, u32, u64),
 }
 
 /// A body with this start and no inputs yet.
@@ -64,6 +74,15 @@ fn head(player: u8, number: u32, game: &Game, room: u64) -> [u8; BODY_LENGTH] {
     with_match(started(1, player, number, 0, 20), &game.id(), room)
 }
 
+/// The body with the eight bytes of a digest.
+fn with_digest(body: [u8; BODY_LENGTH], digest: u64) -> [u8; BODY_LENGTH] {
+    let mut body = body;
+    for (place, byte) in body.iter_mut().skip(12).zip(digest.to_be_bytes()) {
+        *place = byte;
+    }
+    body
+}
+
 /// Spells a record of a match as the table of bodies has it.
 pub fn spelled(game: &Game, other: &Game, rec: Rec) -> [u8; BODY_LENGTH] {
     match rec {
@@ -80,6 +99,17 @@ pub fn spelled(game: &Game, other: &Game, rec: Rec) -> [u8; BODY_LENGTH] {
         Rec::Leave(player) => started(6, player, 0, 0, 0),
         Rec::Cut(player, length, start, first, many) => {
             with_inputs(started(7, player, length, start, many), first, many)
+        }
+        Rec::HeadOfForm(player, form) => {
+            with_match(started(1, player, 1, form, 20), &game.id(), ROOM)
+        }
+        Rec::EpochOfForm(player, number, form) => started(2, player, number, form, 0),
+        Rec::State(player, frames, piece, first, many) => {
+            with_inputs(started(8, player, frames, piece, many), first, many)
+        }
+        Rec::Zeros(player, frames, piece, many) => started(8, player, frames, piece, many),
+        Rec::Check(player, frames, digest) => {
+            with_digest(started(9, player, frames, 36, 4), digest)
         }
     }
 }

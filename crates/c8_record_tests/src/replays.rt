@@ -2,6 +2,7 @@
 mod whole;
 
 use crate::parts::{ROOM, Rec, spelled};
+use c8_check::Checks;
 use c8_game::{Game, Player};
 use c8_known::Known;
 use c8_record::{ReplayError, replay_bytes};
@@ -48,7 +49,7 @@ enum Step {
     Refused(Rec, ReplayError),
 }
 
-const STEPS: [Step; 121] = [
+const STEPS: [Step; 212] = [
     Step::Case("an empty journal says nothing"),
     Step::Empty(1),
     Step::Now(0),
@@ -170,6 +171,97 @@ const STEPS: [Step; 121] = [
     Step::Begin(1),
     Step::Add(Rec::Leave(2)),
     Step::Good(Rec::Own(1, 1, 5), 1),
+    Step::Case("pieces of a checkpoint in order, of what is confirmed, and their digest"),
+    Step::Empty(1),
+    Step::Add(Rec::HeadOfForm(1, 2)),
+    Step::Bad(Rec::Zeros(1, 0, 0, 64)),
+    Step::Add(Rec::Own(1, 1, 5)),
+    Step::Bad(Rec::Zeros(1, 1, 1, 64)),
+    Step::Bad(Rec::Zeros(1, 2, 0, 64)),
+    Step::Bad(Rec::Zeros(2, 1, 0, 64)),
+    Step::Bad(Rec::Check(1, 1, 0x65407c1db0a6518e)),
+    Step::Bad(Rec::Zeros(1, 1, 0, 63)),
+    Step::Good(Rec::Zeros(1, 1, 0, 64), 1),
+    Step::Add(Rec::State(1, 1, 0, 0x0a0b, 64)),
+    Step::Bad(Rec::Zeros(1, 1, 0, 64)),
+    Step::Bad(Rec::Zeros(1, 1, 2, 64)),
+    Step::Bad(Rec::Zeros(1, 2, 1, 64)),
+    Step::Bad(Rec::Zeros(2, 1, 1, 64)),
+    Step::Add(Rec::Zeros(1, 1, 1, 64)),
+    Step::Add(Rec::Own(1, 2, 6)),
+    Step::Add(Rec::Got(2, 1, 1, 1)),
+    Step::Add(Rec::Got(3, 1, 1, 1)),
+    Step::Add(Rec::Zeros(1, 1, 2, 64)),
+    Step::Add(Rec::Zeros(1, 1, 3, 64)),
+    Step::Add(Rec::Zeros(1, 1, 4, 64)),
+    Step::Add(Rec::Zeros(1, 1, 5, 64)),
+    Step::Add(Rec::Zeros(1, 1, 6, 64)),
+    Step::Add(Rec::Zeros(1, 1, 7, 64)),
+    Step::Add(Rec::Zeros(1, 1, 8, 64)),
+    Step::Add(Rec::Zeros(1, 1, 9, 64)),
+    Step::Add(Rec::Zeros(1, 1, 10, 64)),
+    Step::Add(Rec::Zeros(1, 1, 11, 64)),
+    Step::Add(Rec::Zeros(1, 1, 12, 64)),
+    Step::Add(Rec::Zeros(1, 1, 13, 64)),
+    Step::Add(Rec::Zeros(1, 1, 14, 64)),
+    Step::Add(Rec::Zeros(1, 1, 15, 64)),
+    Step::Add(Rec::Zeros(1, 1, 16, 64)),
+    Step::Add(Rec::Zeros(1, 1, 17, 64)),
+    Step::Add(Rec::Zeros(1, 1, 18, 64)),
+    Step::Add(Rec::Zeros(1, 1, 19, 64)),
+    Step::Add(Rec::Zeros(1, 1, 20, 64)),
+    Step::Add(Rec::Zeros(1, 1, 21, 64)),
+    Step::Add(Rec::Zeros(1, 1, 22, 64)),
+    Step::Add(Rec::Zeros(1, 1, 23, 64)),
+    Step::Add(Rec::Zeros(1, 1, 24, 64)),
+    Step::Add(Rec::Zeros(1, 1, 25, 64)),
+    Step::Add(Rec::Zeros(1, 1, 26, 64)),
+    Step::Add(Rec::Zeros(1, 1, 27, 64)),
+    Step::Add(Rec::Zeros(1, 1, 28, 64)),
+    Step::Add(Rec::Zeros(1, 1, 29, 64)),
+    Step::Add(Rec::Zeros(1, 1, 30, 64)),
+    Step::Add(Rec::Zeros(1, 1, 31, 64)),
+    Step::Add(Rec::Zeros(1, 1, 32, 64)),
+    Step::Add(Rec::Zeros(1, 1, 33, 64)),
+    Step::Bad(Rec::Zeros(1, 1, 34, 64)),
+    Step::Bad(Rec::State(1, 1, 34, 1, 34)),
+    Step::Add(Rec::Zeros(1, 1, 34, 34)),
+    Step::Bad(Rec::Check(1, 1, 0x65407c1db0a6518e)),
+    Step::Bad(Rec::State(1, 1, 35, 1, 64)),
+    Step::Add(Rec::Zeros(1, 1, 35, 64)),
+    Step::Bad(Rec::Zeros(1, 1, 36, 64)),
+    Step::Bad(Rec::Check(1, 1, 0xcc34da889bab835b)),
+    Step::Bad(Rec::Check(1, 2, 0x65407c1db0a6518e)),
+    Step::Bad(Rec::Check(2, 1, 0x65407c1db0a6518e)),
+    Step::Good(Rec::Check(1, 1, 0x65407c1db0a6518e), 1),
+    Step::Add(Rec::Check(1, 1, 0x65407c1db0a6518e)),
+    Step::Bad(Rec::Check(1, 1, 0x65407c1db0a6518e)),
+    Step::Bad(Rec::Zeros(1, 1, 0, 64)),
+    Step::Good(Rec::Zeros(1, 2, 0, 64), 1),
+    Step::Add(Rec::Zeros(1, 2, 0, 64)),
+    Step::Bad(Rec::Epoch(1, 2)),
+    Step::Bad(Rec::EpochOfForm(1, 2, 1)),
+    Step::Add(Rec::EpochOfForm(1, 2, 2)),
+    Step::Bad(Rec::Zeros(1, 2, 1, 64)),
+    Step::Good(Rec::Zeros(1, 2, 0, 64), 2),
+    Step::Case("only the second form has checkpoints"),
+    Step::Empty(1),
+    Step::Bad(Rec::HeadOfForm(1, 1)),
+    Step::Begin(1),
+    Step::Add(Rec::Own(1, 1, 5)),
+    Step::Bad(Rec::Zeros(1, 1, 0, 64)),
+    Step::Add(Rec::Epoch(1, 2)),
+    Step::Bad(Rec::Zeros(1, 1, 0, 64)),
+    Step::Add(Rec::EpochOfForm(1, 3, 2)),
+    Step::Good(Rec::Zeros(1, 1, 0, 64), 3),
+    Step::Case("a dropped player adds no checkpoint"),
+    Step::Empty(2),
+    Step::Add(Rec::HeadOfForm(2, 2)),
+    Step::Add(Rec::Own(2, 1, 5)),
+    Step::Good(Rec::Zeros(2, 1, 0, 64), 1),
+    Step::Add(Rec::Leave(2)),
+    Step::Bad(Rec::Zeros(2, 1, 0, 64)),
+    Step::Good(Rec::EpochOfForm(2, 2, 2), 2),
 ];
 
 /// Adds a slot with the record's body to an image. Whether there was memory.
@@ -197,7 +289,7 @@ pub fn replayed(
         return None;
     };
     let mut known = known;
-    let answer = replay_bytes(image, game, ROOM, &mut known);
+    let answer = replay_bytes(image, game, ROOM, &mut known, &mut Checks::new());
     Some((answer, known))
 }
 

@@ -32,6 +32,7 @@ fn spells_an_input_as_the_table_has_it(rt: HostRuntime) {
 fn spells_a_match(rt: HostRuntime) {
     let head = Record::Head {
         player: Player { number: 3 },
+        form: 0,
         id: b"abcdefghijklmnopqrstuvwxyz012345",
         room: 0xa1a2a3a4a5a6a7a8,
     };
@@ -50,6 +51,25 @@ fn spells_a_cut(rt: HostRuntime) {
     };
     let bytes = b"\x07\x04\x01\x02\x03\x04\x05\x06\x07\x08\0\x02\x11\x12\x13\x14";
     assert!(rt; is_spelled_by(&cut, bytes));
+}
+
+#[test]
+fn spells_a_piece_and_a_digest(rt: HostRuntime) {
+    let piece = Record::State {
+        player: Player { number: 2 },
+        frames: 0x01020304,
+        piece: 0x05060708,
+        run: Run::new(b"\x11\x12\x13\x14"),
+    };
+    let bytes = b"\x08\x02\x01\x02\x03\x04\x05\x06\x07\x08\0\x02\x11\x12\x13\x14";
+    assert!(rt; is_spelled_by(&piece, bytes));
+    let digest = Record::Check {
+        player: Player { number: 3 },
+        frames: 0x01020304,
+        run: Run::new(b"\x11\x12\x13\x14\x15\x16\x17\x18"),
+    };
+    let bytes = b"\x09\x03\x01\x02\x03\x04\0\0\0\x24\0\x04\x11\x12\x13\x14\x15\x16\x17\x18";
+    assert!(rt; is_spelled_by(&digest, bytes));
 }
 
 /// A DATA of three inputs 0041 and one 1234, in each version.
@@ -155,7 +175,7 @@ fn is_spelled(body: &[u8; BODY_LENGTH]) -> bool {
 }
 
 /// Records of each kind.
-const KINDS: [Rec; 7] = [
+const KINDS: [Rec; 12] = [
     Rec::Head(4),
     Rec::Epoch(1, 0xf1f2f3f4),
     Rec::Own(2, 0x01020304, 0xabcd),
@@ -163,6 +183,11 @@ const KINDS: [Rec; 7] = [
     Rec::Freeze(4),
     Rec::Leave(1),
     Rec::Cut(2, 9, 9, 0, 0),
+    Rec::HeadOfForm(3, 2),
+    Rec::EpochOfForm(2, 7, 2),
+    Rec::State(3, 0xf1f2f3f4, 0x01020304, 0x1234, 64),
+    Rec::Zeros(2, 1, 34, 0),
+    Rec::Check(1, 0x01020304, 0xa1a2a3a4a5a6a7a8),
 ];
 
 #[test]
@@ -189,9 +214,9 @@ fn reads_inputs(rt: HostRuntime) -> Result<(), Fail> {
 }
 
 /// Bodies that spell a record, and a byte at a place with which they spell none.
-const CHANGES: [(Rec, usize, u8); 31] = [
+const CHANGES: [(Rec, usize, u8); 42] = [
     (Rec::Got(2, 5, 0x1111, 2), 0, 0),
-    (Rec::Got(2, 5, 0x1111, 2), 0, 8),
+    (Rec::Got(2, 5, 0x1111, 2), 0, 10),
     (Rec::Got(2, 5, 0x1111, 2), 1, 0),
     (Rec::Got(2, 5, 0x1111, 2), 1, 5),
     (Rec::Got(2, 5, 0x1111, 2), 5, 1),
@@ -221,6 +246,17 @@ const CHANGES: [(Rec, usize, u8); 31] = [
     (Rec::Leave(2), 9, 1),
     (Rec::Leave(2), 11, 1),
     (Rec::Cut(2, 9, 9, 0, 0), 12, 1),
+    (Rec::HeadOfForm(1, 2), 9, 1),
+    (Rec::HeadOfForm(1, 2), 9, 3),
+    (Rec::EpochOfForm(1, 2, 2), 9, 3),
+    (Rec::EpochOfForm(1, 2, 2), 8, 1),
+    (Rec::State(1, 5, 3, 1, 64), 11, 65),
+    (Rec::State(1, 5, 3, 1, 2), 11, 1),
+    (Rec::State(1, 5, 3, 1, 2), 16, 1),
+    (Rec::Check(1, 5, 7), 9, 35),
+    (Rec::Check(1, 5, 7), 11, 3),
+    (Rec::Check(1, 5, 7), 11, 5),
+    (Rec::Check(1, 5, 7), 20, 1),
 ];
 
 /// Whether the body, with one byte of it changed, spells no record.

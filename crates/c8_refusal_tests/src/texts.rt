@@ -2,7 +2,7 @@
 use c8_disk::DiskError;
 use c8_hand::HandError;
 use c8_known::KnownError;
-use c8_peer::{DecideError, LeaveError, OpenError, Refused, TickError, Unsayable};
+use c8_peer::{CheckError, DecideError, LeaveError, OpenError, Refused, TickError, Unsayable};
 use c8_wire::WireError;
 use std::alloc::Global;
 use std::fmt::Display;
@@ -17,6 +17,7 @@ enum Refusal {
     Saying(Unsayable),
     Leave(LeaveError),
     Decision(DecideError),
+    Checkpoint(CheckError),
 }
 
 /// A refusal, its number, its name and its sentence.
@@ -26,7 +27,7 @@ fn told<E: Display + Copy>(alloc: Global, error: E) -> Result<String, Fail> {
     Ok(format!(in alloc; "{error}")?)
 }
 
-const TEXTS: [Text; 41] = [
+const TEXTS: [Text; 45] = [
     (
         Refusal::Opening(OpenError::WrongGame),
         1,
@@ -273,6 +274,30 @@ const TEXTS: [Text; 41] = [
         "Down",
         "the peer is down",
     ),
+    (
+        Refusal::Checkpoint(CheckError::Nothing),
+        1,
+        "Nothing",
+        "nothing was confirmed since the last checkpoint",
+    ),
+    (
+        Refusal::Checkpoint(CheckError::Dropped),
+        2,
+        "Dropped",
+        "this player has been dropped",
+    ),
+    (
+        Refusal::Checkpoint(CheckError::Disk(DiskError::Full)),
+        3,
+        "Disk",
+        "the disk refused a call",
+    ),
+    (
+        Refusal::Checkpoint(CheckError::Down),
+        4,
+        "Down",
+        "the peer is down",
+    ),
 ];
 
 /// The number, the name and the sentence of a refusal.
@@ -284,6 +309,7 @@ fn shown(alloc: Global, refusal: Refusal) -> Result<(u8, &'static str, String), 
         Refusal::Saying(error) => Ok((error.number(), error.name(), told(alloc, error)?)),
         Refusal::Leave(error) => Ok((error.number(), error.name(), told(alloc, error)?)),
         Refusal::Decision(error) => Ok((error.number(), error.name(), told(alloc, error)?)),
+        Refusal::Checkpoint(error) => Ok((error.number(), error.name(), told(alloc, error)?)),
     }
 }
 

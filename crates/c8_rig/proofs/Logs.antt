@@ -9,11 +9,12 @@ use Rattle.c8_wire.specs.Packet.{Packet}
 use Rattle.c8_wire.specs.Spelling.{Spells}
 use Rattle.c8_wire.specs.checked.Read.{read}
 use Rattle.c8_known.specs.Known.{known_of}
+use Rattle.c8_peer.specs.Told.{told_of}
 use Rattle.c8_peer.specs.State as calls
 use Rattle.c8_peer.specs.State.{Mode, Down, Away, State, Call, Reply, Said}
 use Rattle.c8_peer.specs.Steps.{Luck, Works, Stepped, outcome, when_down, at_mode, step}
 use Rattle.c8_peer.specs.Opening.{NoMemory, found, opened}
-use Rattle.c8_world.specs.World.{World, is_player, start, never_opened, peer_of, Act, Open, Tick, Say, Give, Leave, Decide, player_of, Event, Answer, Happening, said_by as said_in_reply, stepped, call_at_mode, call_at, open_at_mode, open_at, give_to, acted, CanHappen, Chain, IsReached}
+use Rattle.c8_world.specs.World.{World, is_player, start, never_opened, peer_of, Act, Open, Tick, Say, Give, Leave, Decide, player_of, Event, Answer, Happening, said_by as said_in_reply, stepped, call_at_mode, call_at, open_at_mode, open_at, give_to, acted, CanHappen, Chain, IsReached, Check}
 use Rattle.c8_world.specs.Agreement.{IsPlayer}
 use Rattle.c8_world.specs.Headline.{IsHeadline}
 use Rattle.c8_live.specs.Turns.{SpellsAnswer}
@@ -78,11 +79,11 @@ mode_becomes : (rules : Rules) (w : World) (p : ℕ) (call : Call) (luck : Luck)
 mode_becomes rules w p call luck calls.Open size plays is = stepped_becomes rules w p (step rules p (peer_of w p) call luck) size plays
 mode_becomes rules w p call luck Down size plays is =
     let at : step rules p (peer_of w p) call luck ≡ record { reply = when_down call; state = peer_of w p } =
-    ap (λ (mode : Mode). at_mode (peer_of w p) call (outcome rules (known_of rules p (peer_of w p).journal) (peer_of w p).memory call) mode luck) is in
+    ap (λ (mode : Mode). at_mode (peer_of w p) call (outcome rules (told_of rules p (peer_of w p).journal) (known_of rules p (peer_of w p).journal) (peer_of w p).memory call) mode luck) is in
     stays_becomes rules w p (step rules p (peer_of w p) call luck) (ap (λ (t : Stepped). t.state) at) (ap (λ (t : Stepped). said_in_reply t.reply) at ∙ down_silent call)
 mode_becomes rules w p call luck Away size plays is =
     let at : step rules p (peer_of w p) call luck ≡ record { reply = when_down call; state = peer_of w p } =
-    ap (λ (mode : Mode). at_mode (peer_of w p) call (outcome rules (known_of rules p (peer_of w p).journal) (peer_of w p).memory call) mode luck) is in
+    ap (λ (mode : Mode). at_mode (peer_of w p) call (outcome rules (told_of rules p (peer_of w p).journal) (known_of rules p (peer_of w p).journal) (peer_of w p).memory call) mode luck) is in
     stays_becomes rules w p (step rules p (peer_of w p) call luck) (ap (λ (t : Stepped). t.state) at) (ap (λ (t : Stepped). said_in_reply t.reply) at ∙ down_silent call)
 
 call_becomes : (rules : Rules) (w : World) (p : ℕ) (call : Call) (luck : Luck) → length w.peers ≡ rules.players → IsPlayer rules p
@@ -220,6 +221,9 @@ turn reads rules room w (Leave leaver) bytes said t size plays are was follows =
 turn reads rules room w (Decide leaver) bytes said t size plays are was follows =
     silent_turns rules room w (record { act = Decide leaver; bytes = bytes }) t (calls.Decide leaver) size plays tt refl
     (λ luck. ((call_at rules w 1 (calls.Decide leaver) luck).answer, record { happening = with_luck luck; may = tt; is = refl })) follows
+turn reads rules room w (Check p) bytes said t size plays are was follows =
+    silent_turns rules room w (record { act = Check p; bytes = bytes }) t calls.Checkpoint size plays tt refl
+    (λ luck. ((call_at rules w p calls.Checkpoint luck).answer, record { happening = with_luck luck; may = tt; is = refl })) follows
 
 -- ---- a log, note by note
 

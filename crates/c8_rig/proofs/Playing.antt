@@ -1,5 +1,8 @@
 -- How a peer plays on with a note of each of its calls.
-use Rattle.std.proofs.Common.{◌≡◌, ℕ, List, [], ◌∷◌, ◌++◌, Some, Ok, refl, sym, ap, subst, ◌∙◌, append-nil, append_assoc}
+use Rattle.std.specs.Prelude.{Result, Ok, Err}
+use Rattle.std.specs.Result.{OnOk, OnErr}
+use Rattle.std.specs.declared.alloc.AllocError.{AllocError}
+use Rattle.std.proofs.Common.{◌≡◌, ℕ, List, [], ◌∷◌, ◌++◌, Some, refl, sym, ap, subst, ◌∙◌, append-nil, append_assoc}
 use Rattle.c8_game.specs.Rules.{Rules}
 use Rattle.c8_disk.specs.declared.disk.Disk.{Ghosts}
 use Rattle.c8_log.specs.Slots.{kept, kept_count}
@@ -76,6 +79,12 @@ module _ {D : Type 0} where
   -- the same of an entry that is that one
   pub with_entry : (before : EntryValue) (old new : PeerValue D) (after with_it : EntryValue) → after ≡ with_it → HasPlayed before old with_it new → HasPlayed before old after new
   with_entry before old new after with_it same is = subst (λ (e : EntryValue). HasPlayed before old e new) (sym same) is
+
+  -- the same of a note that is there unless no memory was left for it
+  pub noted : (before : EntryValue) (peer : PeerValue D) (after with_it : EntryValue) (result : Result (Unit {0}) AllocError) → HasPlayed before peer with_it peer
+      → OnOk result (after ≡ with_it) → OnErr result (after ≡ before) → HasPlayed before peer after peer
+  noted before peer after with_it (Ok done) is same none = with_entry before peer peer after with_it same is
+  noted before peer after with_it (Err error) is same none = with_entry before peer peer after before none (stays before peer)
 
   -- a peer that was opened on a disk, and played on
   pub worked : (s : State) (rules : Rules) (room me player : ℕ) (first opened last : EntryValue) (peer new : PeerValue D) → first.notes ≡ [] → opened ≡ with_note first (acts.Open player) []

@@ -15,9 +15,11 @@ use Rattle.c8_known.specs.Confirmed.{confirmed}
 use Rattle.c8_known.specs.Fresh.{is_from_leaver, misfit, fresh_words}
 use Rattle.c8_window.specs.Window.{acked_more}
 use Rattle.c8_round.specs.Round.{is_ready, with_report}
-use Rattle.c8_peer.specs.State.{Memory, Mode, Open, Down, Away, State, Call, Tick, Deliver, Say, Leave, Decide, Outcome}
+use Rattle.c8_peer.specs.Told.{Told, told_of}
+use Rattle.c8_peer.specs.State.{Memory, Mode, Open, Down, Away, State, Call, Tick, Deliver, Say, Leave, Decide, Outcome, Checkpoint}
 use Rattle.c8_peer.specs.Steps.{Luck, Works, Refuses, refused_by_disk, when_down, outcome, done, at_mode, step}
-use Rattle.c8_peer.specs.Calls.{tick, leave, decide}
+use Rattle.c8_check.specs.Checks.{Pieces, frames_of}
+use Rattle.c8_peer.specs.Calls.{tick, leave, decide, next_piece, checkpoint}
 use Rattle.c8_peer.specs.Hearing.{is_of_other_wire, is_desync, unless_misfit, got, cut_or_got, hear_data, hear_welcome, hear_freeze, hear_frozen, hear_end, hear_cut, hear_message, unless_hand, hear_told}
 use Rattle.c8_peer.specs.Opening.{Opening, NoPlayer, Stands, NotWritten, NoMemory, NotRead, Unfit, Spent, opened}
 use Rattle.c8_world.specs.World.{said_by}
@@ -62,12 +64,12 @@ got_silent : (k : KnownValue) (m : Memory) (q : ℕ) (words : List ℕ) → IsSi
 got_silent k m q [] = silent _ refl
 got_silent k m q (word ∷ words) = silent _ refl
 
-data_silent : (rules : Rules) (k : KnownValue) (m : Memory) (q : ℕ) (d : DataMessage) → IsSilent (hear_data rules k m q d)
+data_silent : (t : Told) (k : KnownValue) (m : Memory) (q : ℕ) (d : DataMessage) → IsSilent (hear_data t k m q d)
 unfolding hear_data
-data_silent rules k m q d =
+data_silent t k m q d =
     either IsSilent (is_from_leaver k q q) _ _ (silent _ refl) (either IsSilent (nat_lt (count_in k k.me) d.ack) _ _ (silent _ refl)
     (misfit_silent m (misfit k q d.start d.words) _
-    (either IsSilent (is_desync rules k d) _ _ (silent _ refl) (got_silent k (record m { acks = acked_more m.acks q d.ack }) q (fresh_words k q d.start d.words)))))
+    (either IsSilent (is_desync t d) _ _ (silent _ refl) (got_silent k (record m { acks = acked_more m.acks q d.ack }) q (fresh_words k q d.start d.words)))))
 
 welcome_silent : (k : KnownValue) (m : Memory) (head : HeadValue) (ack : ℕ) → IsSilent (hear_welcome k m head ack)
 unfolding hear_welcome
@@ -104,22 +106,30 @@ cut_silent k m q c =
     (either IsSilent (not (is_player k c.leaver)) _ _ (silent _ refl) (either IsSilent (not (player_in k c.leaver).frozen) _ _ (silent _ refl)
     (end_silent k m c (player_in k c.leaver).cut))))
 
-message_silent : (rules : Rules) (k : KnownValue) (m : Memory) (head : HeadValue) (message : Message) → IsSilent (hear_message rules k m head message)
-message_silent rules k m head packets.Hello = silent _ refl
-message_silent rules k m head (packets.Welcome ack) = welcome_silent k m head ack
-message_silent rules k m head (packets.Data d) = data_silent rules k m head.from d
-message_silent rules k m head (packets.Freeze f) = freeze_silent k m head.from f
-message_silent rules k m head (packets.Frozen f) = frozen_silent k m head.from f
-message_silent rules k m head (packets.Cut c) = cut_silent k m head.from c
+message_silent : (rules : Rules) (t : Told) (k : KnownValue) (m : Memory) (head : HeadValue) (message : Message) → IsSilent (hear_message rules t k m head message)
+message_silent rules t k m head packets.Hello = silent _ refl
+message_silent rules t k m head (packets.Welcome ack) = welcome_silent k m head ack
+message_silent rules t k m head (packets.Data d) = data_silent t k m head.from d
+message_silent rules t k m head (packets.Freeze f) = freeze_silent k m head.from f
+message_silent rules t k m head (packets.Frozen f) = frozen_silent k m head.from f
+message_silent rules t k m head (packets.Cut c) = cut_silent k m head.from c
 
 hand_silent : (m : Memory) (o : Option HandError) (x : Outcome) → IsSilent x → IsSilent (unless_hand m o x)
 hand_silent m None x is = is
 hand_silent m (Some error) x is = silent _ refl
 
-told_silent : (rules : Rules) (k : KnownValue) (m : Memory) (told : Result Packet WireError) → IsSilent (hear_told rules k m told)
-told_silent rules k m (Ok p) =
-    either IsSilent (is_of_other_wire rules p.head) _ _ (silent _ refl) (hand_silent m (links.refusal m.links p.head) _ (message_silent rules k m p.head p.message))
-told_silent rules k m (Err error) = silent _ refl
+told_silent : (rules : Rules) (t : Told) (k : KnownValue) (m : Memory) (told : Result Packet WireError) → IsSilent (hear_told rules t k m told)
+told_silent rules t k m (Ok p) =
+    either IsSilent (is_of_other_wire rules p.head) _ _ (silent _ refl) (hand_silent m (links.refusal m.links p.head) _ (message_silent rules t k m p.head p.message))
+told_silent rules t k m (Err error) = silent _ refl
+
+piece_silent : (t : Told) (k : KnownValue) (m : Memory) (o : Option Pieces) → IsSilent (next_piece t k m o)
+piece_silent t k m None = either IsSilent (nat_le (confirmed k) (frames_of t.checks.last)) _ _ (silent _ refl) (silent _ refl)
+piece_silent t k m (Some p) = either IsSilent (p.count == 36) _ _ (silent _ refl) (silent _ refl)
+
+checkpoint_silent : (t : Told) (k : KnownValue) (m : Memory) → IsSilent (checkpoint t k m)
+unfolding checkpoint
+checkpoint_silent t k m = either IsSilent (player_in k k.me).leaving _ _ (silent _ refl) (piece_silent t k m t.checks.under_way)
 
 -- ---- any call
 
@@ -130,13 +140,15 @@ IsNoSaying (Deliver told) = Unit {0}
 IsNoSaying (Say to what) = ⊥
 IsNoSaying (Leave leaver) = Unit {0}
 IsNoSaying (Decide leaver) = Unit {0}
+IsNoSaying Checkpoint = Unit {0}
 
-outcome_silent : (rules : Rules) (k : KnownValue) (m : Memory) (call : Call) → IsNoSaying call → said_by (outcome rules k m call).reply ≡ []
-outcome_silent rules k m (Tick keys) other = (tick_silent rules k m keys).told
-outcome_silent rules k m (Deliver told) other = (either IsSilent (player_in k k.me).leaving _ _ (silent _ refl) (told_silent rules k m told)).told
-outcome_silent rules k m (Say to what) other = absurd other
-outcome_silent rules k m (Leave leaver) other = (leave_silent k m leaver).told
-outcome_silent rules k m (Decide leaver) other = (decide_silent k m leaver).told
+outcome_silent : (rules : Rules) (t : Told) (k : KnownValue) (m : Memory) (call : Call) → IsNoSaying call → said_by (outcome rules t k m call).reply ≡ []
+outcome_silent rules t k m (Tick keys) other = (tick_silent rules k m keys).told
+outcome_silent rules t k m (Deliver told) other = (either IsSilent (player_in k k.me).leaving _ _ (silent _ refl) (told_silent rules t k m told)).told
+outcome_silent rules t k m (Say to what) other = absurd other
+outcome_silent rules t k m (Leave leaver) other = (leave_silent k m leaver).told
+outcome_silent rules t k m (Decide leaver) other = (decide_silent k m leaver).told
+outcome_silent rules t k m Checkpoint other = (checkpoint_silent t k m).told
 
 refused_silent : (call : Call) (why : DiskError) → said_by (refused_by_disk call why) ≡ []
 refused_silent (Tick keys) why = refl
@@ -144,6 +156,7 @@ refused_silent (Deliver told) why = refl
 refused_silent (Say to what) why = refl
 refused_silent (Leave leaver) why = refl
 refused_silent (Decide leaver) why = refl
+refused_silent Checkpoint why = refl
 
 pub down_silent : (call : Call) → said_by (when_down call) ≡ []
 down_silent (Tick keys) = refl
@@ -151,6 +164,7 @@ down_silent (Deliver told) = refl
 down_silent (Say to what) = refl
 down_silent (Leave leaver) = refl
 down_silent (Decide leaver) = refl
+down_silent Checkpoint = refl
 
 done_silent : (s : State) (call : Call) (o : Outcome) (keeps : Option Record) (luck : Luck) → said_by o.reply ≡ [] → said_by (done s call o keeps luck).reply ≡ []
 done_silent s call o None luck is = is
@@ -163,7 +177,7 @@ mode_silent s call o Down luck is = down_silent call
 mode_silent s call o Away luck is = down_silent call
 
 pub step_silent : (rules : Rules) (p : ℕ) (s : State) (call : Call) (luck : Luck) → IsNoSaying call → said_by (step rules p s call luck).reply ≡ []
-step_silent rules p s call luck other = mode_silent s call (outcome rules (known_of rules p s.journal) s.memory call) s.mode luck (outcome_silent rules (known_of rules p s.journal) s.memory call other)
+step_silent rules p s call luck other = mode_silent s call (outcome rules (told_of rules p s.journal) (known_of rules p s.journal) s.memory call) s.mode luck (outcome_silent rules (told_of rules p s.journal) (known_of rules p s.journal) s.memory call other)
 
 pub opened_silent : (rules : Rules) (room p : ℕ) (s : State) (journal : List Record) (opening : Opening) → said_by (opened rules room p s journal opening).reply ≡ []
 opened_silent rules room p s journal NoPlayer = refl

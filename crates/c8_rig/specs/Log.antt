@@ -11,7 +11,7 @@ use Rattle.c8_peer.specs.Steps.{Luck}
 use Rattle.c8_peer.specs.Opening.{Opening}
 use Rattle.c8_peer.specs.Runs.{Does, Opens, IsDone}
 use Rattle.c8_live.specs.Turns.{SpellsAnswer}
-use Rattle.c8_world.specs.World.{World, start, never_opened, peer_of, Act, Open, Tick, Say, Give, Leave, Decide, player_of, Event, Do, Answer, Chain}
+use Rattle.c8_world.specs.World.{World, start, never_opened, peer_of, Act, Open, Tick, Say, Give, Leave, Decide, player_of, Event, Do, Answer, Chain, Check}
 use Rattle.c8_world.specs.Agreement.{IsPlayer}
 use Rattle.c8_world.specs.Headline.{IsHeadline}
 
@@ -28,6 +28,7 @@ IsSaying (Say p to what) = Unit {0}
 IsSaying (Give number p) = ⊥
 IsSaying (Leave leaver) = ⊥
 IsSaying (Decide leaver) = ⊥
+IsSaying (Check p) = ⊥
 
 -- a peer does what neither says nor delivers anything
 abbrev pub IsDoing : Act → Type 0
@@ -37,6 +38,7 @@ IsDoing (Say p to what) = ⊥
 IsDoing (Give number p) = ⊥
 IsDoing (Leave leaver) = Unit {0}
 IsDoing (Decide leaver) = Unit {0}
+IsDoing (Check p) = Unit {0}
 
 -- ---- a log
 
@@ -47,6 +49,7 @@ said_in (Say p to what) bytes = bytes ∷ []
 said_in (Give number p) bytes = []
 said_in (Leave leaver) bytes = []
 said_in (Decide leaver) bytes = []
+said_in (Check p) bytes = []
 
 -- all that was said, the first with the number 0
 abbrev pub said_by : List NoteValue → List (List ℕ)
@@ -61,6 +64,7 @@ WasSaid said (Say p to what) bytes = Unit {0}
 WasSaid said (Give number p) bytes = slice_get said number ≡ Some bytes
 WasSaid said (Leave leaver) bytes = Unit {0}
 WasSaid said (Decide leaver) bytes = Unit {0}
+WasSaid said (Check p) bytes = Unit {0}
 
 -- A note may follow those of a log of so many players: its peer is one of theirs, and what it delivers was said before.
 pub record MayFollow (players : ℕ) (log : List NoteValue) (n : NoteValue) : Type 0 where
@@ -102,6 +106,7 @@ Follows rules room p s (Say q to what) bytes t = IsCalled rules room p s (calls.
 Follows rules room p s (Give number q) bytes t = IsCalled rules room p s (calls.Deliver (read bytes)) IsAnything t
 Follows rules room p s (Leave leaver) bytes t = IsCalled rules room p s (calls.Leave leaver) IsAnything t
 Follows rules room p s (Decide leaver) bytes t = IsCalled rules room p s (calls.Decide leaver) IsAnything t
+Follows rules room p s (Check q) bytes t = IsCalled rules room p s calls.Checkpoint IsAnything t
 
 -- a list of notes of one peer leads from a state to another
 abbrev pub Leads : Rules → ℕ → ℕ → State → List NoteValue → State → Type 0

@@ -50,6 +50,7 @@ fn is_same_act(one: Act, other: Act) -> bool
         (Act::Give(n, a), Act::Give(m, b)) => n == m && a.number == b.number,
         (Act::Leave(a), Act::Leave(b)) => a.number == b.number,
         (Act::Decide(a), Act::Decide(b)) => a.number == b.number,
+        (Act::Check(a), Act::Check(b)) => a.number == b.number,
         _ => false,
     }
 }

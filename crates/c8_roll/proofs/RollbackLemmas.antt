@@ -1,20 +1,22 @@
 -- What a roll is after a call, how far it went back, and what it keeps.
 use Rattle.std.proofs.Common.{◌≡◌, ◌≢◌, inl, inr, ⊎_elim, ℕ, ◌+◌, ◌<◌, ◌≤◌, ◌-◌, List, length, map, Option, Some, None, refl, sym, ap, subst, ◌∙◌, arith}
-use Rattle.std.specs.Prelude.{unwrap_or, option_map, MatchOption, IfSome}
+use Rattle.std.specs.Prelude.{unwrap_or, option_map, MatchOption, IfSome, fold}
 use Rattle.std.specs.List.{slice_get}
 use Rattle.std.proofs.lemmas.Bool.{cases_lt}
 use Rattle.std.proofs.lemmas.Option.{slice_get-map, slice_get_within}
-use Rattle.std.proofs.lemmas.List.{length-map}
+use Rattle.std.proofs.lemmas.List.{length-map, drop_all}
+use Rattle.std.proofs.lemmas.List.FromFn.{length-map-range_with_len}
 use Rattle.circular_buffer.proofs.Places.{slice_get-some}
-use Rattle.c8_game.specs.Rules.{Rules}
+use Rattle.c8_game.specs.Rules.{Rules, joined}
 use Rattle.c8_game.specs.declared.row.Row.{Row}
-use Rattle.c8_machine.specs.State.{state, first_state}
-use Rattle.c8_machine.specs.Serial.{serial}
+use Rattle.c8_machine.specs.State.{state}
+use Rattle.c8_machine.specs.Serial.{frame_of}
+use Rattle.c8_digest.specs.Origin.{Origin, run_since}
 use Rattle.c8_digest.specs.declared.marks.FrameMark.{FrameMark}
 use Rattle.c8_known.specs.Known.{KnownValue}
 use Rattle.c8_known.specs.Confirmed.{confirmed, best_row, best_rows, best_rows_below}
 use Rattle.c8_roll.specs.declared.timeline.Snapshot.{Snapshot}
-use Rattle.c8_roll.specs.Roll.{marks_up_to, RollValue, roll_of}
+use Rattle.c8_roll.specs.Roll.{marks_since, RollValue, roll_since, IsRollSince}
 use Rattle.c8_roll.specs.checked.RollLaws.{roll_ticks, roll_confirmed}
 use Rattle.c8_roll.specs.checked.Timeline.{TimelineValue, machine_or, state_at, IsAll, IsNew, IsTimeline, back_at, AreBest, IsChange, IsRunOf}
 use Rattle.c8_roll.specs.Rollback.{KeepsRows, AreAsRun, IsOldest, IsOldestChange, IsOldestOrLast, AreStillBest, IsOldestWrong, HasAllRows, RunsFromOldest, run_from}
@@ -26,27 +28,31 @@ use Rattle.c8_roll.proofs.TimelineLemmas.{base_is, back_run}
 abbrev pub seen_of : TimelineValue → List FrameMark → RollValue
 seen_of t marks = record { rules = t.rules; ticks = t.ticks; shown = state t.shown; confirmed = t.first; base = state_at t 0; marks = marks }
 
-pub rolled : (rules : Rules) (k : KnownValue) (t : TimelineValue) (marks : List FrameMark) → t.rules ≡ rules → t.first ≡ confirmed k → t.ticks ≡ k.ticks → IsRunOf k t
-    → state t.shown ≡ serial rules (best_rows k) → marks ≡ marks_up_to rules k (confirmed k) → seen_of t marks ≡ roll_of rules k
-unfolding roll_of
-rolled rules k t marks same sure made run seen noted =
-    let base = base_is rules k t (confirmed k) run same sure (omega arith) in
+pub rolled : (rules : Rules) (from : Origin) (k : KnownValue) (t : TimelineValue) (marks : List FrameMark) → t.rules ≡ rules → t.first ≡ confirmed k → t.ticks ≡ k.ticks → IsRunOf from k t
+    → state t.shown ≡ run_since rules from (best_rows k) → marks ≡ marks_since rules from k (confirmed k) → seen_of t marks ≡ roll_since rules from k
+unfolding roll_since
+rolled rules from k t marks same sure made run seen noted =
+    let base = base_is rules from k t (confirmed k) run same sure (omega arith) in
     λ i. record { rules = same i; ticks = made i; shown = seen i; confirmed = sure i; base = base i; marks = noted i }
 
-pub new_run : (rules : Rules) (k : KnownValue) (t : TimelineValue) → IsNew rules t → IsRunOf k t
-new_run rules k t new = record {
+nothing_run : (rules : Rules) (from : Origin) (k : KnownValue) → run_since rules from (best_rows_below k from.frames) ≡ from.machine
+nothing_run rules from k = ap (fold (λ s row. frame_of rules (joined rules row) s) from.machine) (drop_all from.frames (best_rows_below k from.frames) (omega (arith, length-map-range_with_len (best_row k) 0 from.frames)))
+
+pub new_run : (rules : Rules) (from : Origin) (k : KnownValue) (t : TimelineValue) → IsNew rules from t → IsRunOf from k t
+new_run rules from k t new = record {
+  starts = let first = new.first in omega (arith, first);
   base = ap (λ (xs : List Snapshot). state (machine_or t.shown (slice_get xs 0))) new.snapshots
-      ∙ new.shown ∙ ap first_state (sym new.rules) ∙ ap (λ (n : ℕ). serial t.rules (best_rows_below k n)) (sym new.first);
+      ∙ new.shown ∙ sym (nothing_run t.rules from k) ∙ ap (λ (n : ℕ). run_since t.rules from (best_rows_below k n)) (sym new.first);
   rows = λ i s within kept. let none : length t.snapshots ≡ 0 = ap length new.snapshots in absurd (omega (arith, within, none));
 }
 
 -- what was run before, as far as it is the best guess still
-pub back_of : (rules : Rules) (k : KnownValue) (old new : TimelineValue) (marks : List FrameMark) → old.rules ≡ rules → IsStill rules k (seen_of old marks) → new ≡ back_at old (length new.snapshots)
-    → length new.snapshots ≤ length old.snapshots → AreBest old k (length new.snapshots) → IsRunOf k new
-back_of rules k old new marks same still back fits best =
-    let base : state_at old 0 ≡ serial old.rules (best_rows_below k old.first) =
-    still.base ∙ ap (serial rules) (sym (best_sure k old.first still.order)) ∙ ap (λ (r : Rules). serial r (best_rows_below k old.first)) (sym same) in
-    subst (IsRunOf k) (sym back) (back_run k old (length new.snapshots) fits base best)
+pub back_of : (rules : Rules) (from : Origin) (k : KnownValue) (old new : TimelineValue) (marks : List FrameMark) → old.rules ≡ rules → IsStill rules from k (seen_of old marks) → new ≡ back_at old (length new.snapshots)
+    → length new.snapshots ≤ length old.snapshots → AreBest old k (length new.snapshots) → IsRunOf from k new
+back_of rules from k old new marks same still back fits best =
+    let base : state_at old 0 ≡ run_since old.rules from (best_rows_below k old.first) =
+    still.base ∙ ap (run_since rules from) (sym (best_sure k old.first still.order)) ∙ ap (λ (r : Rules). run_since r from (best_rows_below k old.first)) (sym same) in
+    subst (IsRunOf from k) (sym back) (back_run from k old (length new.snapshots) fits still.starts base best)
 
 -- ---- what is kept
 
@@ -55,9 +61,9 @@ row_kept xs i within =
     let kept = slice_get-some xs i within in
     (kept.0, kept.1, slice_get-map (λ (s : Snapshot). s.row) xs i ∙ ap (option_map (λ (s : Snapshot). s.row)) kept.1)
 
-pub keeps : (rules : Rules) (k : KnownValue) (t : TimelineValue) → t.rules ≡ rules → IsTimeline t → IsRunOf k t → t.first ≡ confirmed k → t.ticks ≡ k.ticks
+pub keeps : (rules : Rules) (from : Origin) (k : KnownValue) (t : TimelineValue) → t.rules ≡ rules → IsTimeline t → IsRunOf from k t → t.first ≡ confirmed k → t.ticks ≡ k.ticks
     → KeepsRows rules.window k (map (λ (s : Snapshot). s.row) t.snapshots)
-keeps rules k t same is run sure made =
+keeps rules from k t same is run sure made =
     let many : length (map (λ (s : Snapshot). s.row) t.snapshots) ≡ length t.snapshots = length-map t.snapshots (λ (s : Snapshot). s.row) in
     let window : t.rules.window ≡ rules.window = ap (λ (r : Rules). r.window) same in
     let fits = is.fits in
@@ -164,11 +170,11 @@ oldest_wrong window before now rows answer keeps few is =
     ⊎_elim (λ (full : window < length rows). omega (arith, few, most, within, full)) keeps.all (cases_lt window (length rows)) in
     oldest_wrong_of before now rows answer all keeps.best is
 
-pub runs_from : (old : RollValue) (rows : List Row) (before now : KnownValue) (answer : Option ℕ) (ran : ℕ) → old ≡ roll_of old.rules before → KeepsRows old.rules.window before rows
+pub runs_from : (old : RollValue) (rows : List Row) (before now : KnownValue) (answer : Option ℕ) (ran : ℕ) (from : Origin) → IsRollSince from before old → KeepsRows old.rules.window before rows
     → HasAllRows old → IsOldestChange rows old.confirmed now answer → ran + run_from old.ticks answer ≡ now.ticks → RunsFromOldest before now ran
-runs_from old rows before now answer ran was keeps few is all =
-    let ticks = roll_ticks old.rules before old was in
-    let sure = roll_confirmed old.rules before old was in
+runs_from old rows before now answer ran from was keeps few is all =
+    let ticks = roll_ticks old.rules from before old was.is in
+    let sure = roll_confirmed old.rules from before old was.is in
     record {
       oldest = answer;
       is = oldest_wrong old.rules.window before now rows answer keeps (omega (arith, ticks, sure, few)) (subst (λ (n : ℕ). IsOldestChange rows n now answer) sure is);

@@ -1,17 +1,19 @@
 -- What going back, confirming and running on make of a timeline.
 use Rattle.std.proofs.Common.{◌≡◌, ◌≢◌, ◌⊎◌, inl, inr, ⊎_elim, ℕ, zero, suc, ◌+◌, ◌-◌, ◌<◌, ◌≤◌, List, [], ◌∷◌, ◌++◌, length, take, drop, Option, Some, None, sym, ap, ◌∙◌, arith}
 use Rattle.std.specs.List.{slice_get}
-use Rattle.std.specs.Prelude.{unwrap_or}
+use Rattle.std.specs.Prelude.{unwrap_or, fold}
 use Rattle.std.proofs.lemmas.Option.{slice_get_past, slice_get_within, slice_get_cases}
-use Rattle.std.proofs.lemmas.List.{length-append, length-take-le, length-drop}
+use Rattle.std.proofs.lemmas.List.{drop-append-le, length-append, length-take-le, length-drop}
+use Rattle.std.proofs.lemmas.List.FromFn.{length-map-range_with_len}
 use Rattle.std.proofs.lemmas.List.Sums.{fold-append}
 use Rattle.circular_buffer.specs.Buffer.{keep_last}
 use Rattle.circular_buffer.proofs.Places.{slice_get-take, slice_get-drop, slice_get-append_left, slice_get-last, slice_get-some}
 use Rattle.c8_game.specs.Rules.{Rules, joined}
 use Rattle.c8_game.specs.declared.row.Row.{Row}
 use Rattle.c8_machine.specs.declared.machine.Machine.{Machine}
-use Rattle.c8_machine.specs.State.{state, first_state}
-use Rattle.c8_machine.specs.Serial.{frame_of, serial}
+use Rattle.c8_machine.specs.State.{state}
+use Rattle.c8_machine.specs.Serial.{frame_of}
+use Rattle.c8_digest.specs.Origin.{Origin, run_since}
 use Rattle.c8_known.specs.Known.{KnownValue}
 use Rattle.c8_known.specs.Confirmed.{confirmed, rows_below, best_row, best_rows_below}
 use Rattle.c8_roll.specs.declared.timeline.Snapshot.{Snapshot}
@@ -20,22 +22,26 @@ use Rattle.c8_roll.proofs.RollLemmas.{best_next, best_sure}
 
 -- ---- runs
 
--- the serial run of one best row more
-pub serial_next : (rules : Rules) (k : KnownValue) (n : ℕ) → serial rules (best_rows_below k (n + 1)) ≡ frame_of rules (joined rules (best_row k n)) (serial rules (best_rows_below k n))
-serial_next rules k n =
-    ap (serial rules) (best_next k n) ∙ fold-append (λ s row. frame_of rules (joined rules row) s) (first_state rules) (best_rows_below k n) (best_row k n ∷ [])
+-- the run of one best row more
+pub next_run : (rules : Rules) (from : Origin) (k : KnownValue) (n : ℕ) → from.frames ≤ n → run_since rules from (best_rows_below k (n + 1)) ≡ frame_of rules (joined rules (best_row k n)) (run_since rules from (best_rows_below k n))
+next_run rules from k n starts =
+    let many : length (best_rows_below k n) ≡ n = length-map-range_with_len (best_row k) 0 n in
+    ap (run_since rules from) (best_next k n)
+    ∙ ap (fold (λ s row. frame_of rules (joined rules row) s) from.machine) (drop-append-le from.frames (best_rows_below k n) (best_row k n ∷ []) (omega (arith, starts, many)))
+    ∙ fold-append (λ s row. frame_of rules (joined rules row) s) from.machine (drop from.frames (best_rows_below k n)) (best_row k n ∷ [])
 
 -- each machine that is kept is the serial run of the best rows before it
-pub run_at : (k : KnownValue) (t : TimelineValue) → IsTimeline t → IsRunOf k t → (i : ℕ) → (i < length t.snapshots) ⊎ (IsAll t × (i ≤ length t.snapshots))
-    → state_at t i ≡ serial t.rules (best_rows_below k (t.first + i))
-run_at k t is run zero within =
+pub run_at : (from : Origin) (k : KnownValue) (t : TimelineValue) → IsTimeline t → IsRunOf from k t → (i : ℕ) → (i < length t.snapshots) ⊎ (IsAll t × (i ≤ length t.snapshots))
+    → state_at t i ≡ run_since t.rules from (best_rows_below k (t.first + i))
+run_at from k t is run zero within =
     let at : t.first ≡ t.first + 0 = omega arith in
-    run.base ∙ ap (λ (n : ℕ). serial t.rules (best_rows_below k n)) at
-run_at k t is run (suc i) within =
+    run.base ∙ ap (λ (n : ℕ). run_since t.rules from (best_rows_below k n)) at
+run_at from k t is run (suc i) within =
+    let starts = run.starts in
     let place : i < length t.snapshots = ⊎_elim (λ (w : suc i < length t.snapshots). omega (arith, w)) (λ (w : IsAll t × (suc i ≤ length t.snapshots)). let some = w.1 in omega (arith, some)) within in
     let kept = slice_get-some t.snapshots i place in
-    let so_far : state_at t i ≡ serial t.rules (best_rows_below k (t.first + i)) = run_at k t is run i (inl place) in
-    let here : state kept.0.machine ≡ serial t.rules (best_rows_below k (t.first + i)) = ap (λ (o : Option Snapshot). state (machine_or t.shown o)) (sym kept.1) ∙ so_far in
+    let so_far : state_at t i ≡ run_since t.rules from (best_rows_below k (t.first + i)) = run_at from k t is run i (inl place) in
+    let here : state kept.0.machine ≡ run_since t.rules from (best_rows_below k (t.first + i)) = ap (λ (o : Option Snapshot). state (machine_or t.shown o)) (sym kept.1) ∙ so_far in
     let next : state_at t (i + 1) ≡ frame_of t.rules (joined t.rules kept.0.row) (state kept.0.machine) =
     is.followed i (⊎_elim (λ (w : suc i < length t.snapshots). inl (omega (arith, w))) (λ (w : IsAll t × (suc i ≤ length t.snapshots)). inr w.0) within) kept.0 kept.1 in
     let one : suc i ≡ i + 1 = omega arith in
@@ -43,14 +49,14 @@ run_at k t is run (suc i) within =
     ap (state_at t) one ∙ next
     ∙ ap (λ (row : Row). frame_of t.rules (joined t.rules row) (state kept.0.machine)) (run.rows i kept.0 place kept.1)
     ∙ ap (frame_of t.rules (joined t.rules (best_row k (t.first + i)))) here
-    ∙ sym (serial_next t.rules k (t.first + i))
-    ∙ ap (λ (n : ℕ). serial t.rules (best_rows_below k n)) up
+    ∙ sym (next_run t.rules from k (t.first + i) (omega (arith, starts)))
+    ∙ ap (λ (n : ℕ). run_since t.rules from (best_rows_below k n)) up
 
-pub run_shown : (k : KnownValue) (t : TimelineValue) → IsTimeline t → IsRunOf k t → IsAll t → state t.shown ≡ serial t.rules (best_rows_below k t.ticks)
-run_shown k t is run all =
+pub run_shown : (from : Origin) (k : KnownValue) (t : TimelineValue) → IsTimeline t → IsRunOf from k t → IsAll t → state t.shown ≡ run_since t.rules from (best_rows_below k t.ticks)
+run_shown from k t is run all =
     ap (λ (o : Option Snapshot). state (machine_or t.shown o)) (sym (slice_get_past t.snapshots (length t.snapshots) (omega arith)))
-    ∙ run_at k t is run (length t.snapshots) (inr (all, omega arith))
-    ∙ ap (λ (n : ℕ). serial t.rules (best_rows_below k n)) all
+    ∙ run_at from k t is run (length t.snapshots) (inr (all, omega arith))
+    ∙ ap (λ (n : ℕ). run_since t.rules from (best_rows_below k n)) all
 
 -- ---- going back
 
@@ -95,8 +101,9 @@ back_is t n is fits why =
       counted = omega arith;
     }
 
-pub back_run : (k : KnownValue) (t : TimelineValue) (n : ℕ) → n ≤ length t.snapshots → state_at t 0 ≡ serial t.rules (best_rows_below k t.first) → AreBest t k n → IsRunOf k (back_at t n)
-back_run k t n fits base best = record {
+pub back_run : (from : Origin) (k : KnownValue) (t : TimelineValue) (n : ℕ) → n ≤ length t.snapshots → from.frames ≤ t.first → state_at t 0 ≡ run_since t.rules from (best_rows_below k t.first) → AreBest t k n → IsRunOf from k (back_at t n)
+back_run from k t n fits starts base best = record {
+  starts = starts;
   base = ap state (back_machine t n 0 fits (omega arith)) ∙ base;
   rows = λ i s within kept. let at = back_kept t n i s fits kept in best i s at.0 at.1;
 }
@@ -130,9 +137,10 @@ dropped_is t is all some =
       all_now,
     )
 
-pub dropped_run : (k : KnownValue) (t : TimelineValue) → IsTimeline t → IsAll t → length t.snapshots ≢ 0 → IsRunOf k t → IsRunOf k (dropped t)
-dropped_run k t is all some run = record {
-  base = ap state (dropped_machine t 0) ∙ run_at k t is run 1 (inr (all, omega (arith, some)));
+pub dropped_run : (from : Origin) (k : KnownValue) (t : TimelineValue) → IsTimeline t → IsAll t → length t.snapshots ≢ 0 → IsRunOf from k t → IsRunOf from k (dropped t)
+dropped_run from k t is all some run = record {
+  starts = let starts = run.starts in omega (arith, starts);
+  base = ap state (dropped_machine t 0) ∙ run_at from k t is run 1 (inr (all, omega (arith, some)));
   rows = λ i s within kept.
       let left : length (drop 1 t.snapshots) ≡ length t.snapshots - 1 = length-drop 1 t.snapshots in
       let place : t.first + (i + 1) ≡ t.first + 1 + i = omega arith in
@@ -155,14 +163,15 @@ extended_is t machine is all none =
       all_now,
     )
 
-pub extended_run : (k : KnownValue) (t : TimelineValue) (machine : Machine) (row : Row) → IsTimeline t → IsAll t → length t.snapshots ≡ 0 → state machine ≡ frame_of t.rules (joined t.rules row) (state t.shown)
-    → row ≡ best_row k t.first → IsRunOf k t → IsRunOf k (extended t machine)
-extended_run k t machine row is all none went best run =
+pub extended_run : (from : Origin) (k : KnownValue) (t : TimelineValue) (machine : Machine) (row : Row) → IsTimeline t → IsAll t → length t.snapshots ≡ 0 → state machine ≡ frame_of t.rules (joined t.rules row) (state t.shown)
+    → row ≡ best_row k t.first → IsRunOf from k t → IsRunOf from k (extended t machine)
+extended_run from k t machine row is all none went best run =
     let empty : slice_get t.snapshots 0 ≡ None = slice_get_past t.snapshots 0 (omega (arith, none)) in
-    let base : state t.shown ≡ serial t.rules (best_rows_below k t.first) = ap (λ (o : Option Snapshot). state (machine_or t.shown o)) (sym empty) ∙ run.base in
+    let base : state t.shown ≡ run_since t.rules from (best_rows_below k t.first) = ap (λ (o : Option Snapshot). state (machine_or t.shown o)) (sym empty) ∙ run.base in
     record {
+      starts = let starts = run.starts in omega (arith, starts);
       base = ap (λ (o : Option Snapshot). state (machine_or machine o)) empty
-          ∙ went ∙ ap (λ (r : Row). frame_of t.rules (joined t.rules r) (state t.shown)) best ∙ ap (frame_of t.rules (joined t.rules (best_row k t.first))) base ∙ sym (serial_next t.rules k t.first);
+          ∙ went ∙ ap (λ (r : Row). frame_of t.rules (joined t.rules r) (state t.shown)) best ∙ ap (frame_of t.rules (joined t.rules (best_row k t.first))) base ∙ sym (next_run t.rules from k t.first run.starts);
       rows = λ i s within kept. absurd (omega (arith, within, none));
     }
 
@@ -230,8 +239,9 @@ snapped_is t row machine is all few went =
       counted = omega (arith, ran);
     }
 
-pub snapped_run : (k : KnownValue) (t : TimelineValue) (row : Row) (machine : Machine) → IsAll t → row ≡ best_row k t.ticks → IsRunOf k t → IsRunOf k (snapped t row machine)
-snapped_run k t row machine all best run = record {
+pub snapped_run : (from : Origin) (k : KnownValue) (t : TimelineValue) (row : Row) (machine : Machine) → IsAll t → row ≡ best_row k t.ticks → IsRunOf from k t → IsRunOf from k (snapped t row machine)
+snapped_run from k t row machine all best run = record {
+  starts = run.starts;
   base = ap state (snapped_machine t row machine 0 (omega arith)) ∙ run.base;
   rows = λ i s within kept.
       ⊎_elim
@@ -263,10 +273,10 @@ passed_is t machine is full =
       counted = omega (arith, ran);
     }
 
-pub passed_run : (k : KnownValue) (t : TimelineValue) (machine : Machine) → IsTimeline t → t.room ≤ length t.snapshots → IsRunOf k t → IsRunOf k (passed t machine)
-passed_run k t machine is full run =
+pub passed_run : (from : Origin) (k : KnownValue) (t : TimelineValue) (machine : Machine) → IsTimeline t → t.room ≤ length t.snapshots → IsRunOf from k t → IsRunOf from k (passed t machine)
+passed_run from k t machine is full run =
     let room = is.room in
-    record { base = ap state (passed_machine t machine 0 (omega (arith, room, full))) ∙ run.base; rows = run.rows }
+    record { starts = run.starts; base = ap state (passed_machine t machine 0 (omega (arith, room, full))) ∙ run.base; rows = run.rows }
 
 -- ---- of a ring
 
@@ -283,6 +293,6 @@ all_of_more xs x room few =
 
 -- ---- the confirmed machine
 
-pub base_is : (rules : Rules) (k : KnownValue) (t : TimelineValue) (n : ℕ) → IsRunOf k t → t.rules ≡ rules → t.first ≡ n → n ≤ confirmed k → state_at t 0 ≡ serial rules (rows_below k n)
-base_is rules k t n run same first sure =
-    run.base ∙ ap (λ (r : Rules). serial r (best_rows_below k t.first)) same ∙ ap (λ (m : ℕ). serial rules (best_rows_below k m)) first ∙ ap (serial rules) (best_sure k n sure)
+pub base_is : (rules : Rules) (from : Origin) (k : KnownValue) (t : TimelineValue) (n : ℕ) → IsRunOf from k t → t.rules ≡ rules → t.first ≡ n → n ≤ confirmed k → state_at t 0 ≡ run_since rules from (rows_below k n)
+base_is rules from k t n run same first sure =
+    run.base ∙ ap (λ (r : Rules). run_since r from (best_rows_below k t.first)) same ∙ ap (λ (m : ℕ). run_since rules from (best_rows_below k m)) first ∙ ap (run_since rules from) (best_sure k n sure)

@@ -1,25 +1,35 @@
 -- What a player sees and what is certain: serial runs of the machine on what is known.
-use Rattle.std.specs.Prelude.{◌≡◌, ℕ, ◌+◌, ◌*◌, ◌/◌, List, map}
+use Rattle.std.specs.Prelude.{◌≡◌, ◌≤◌, ℕ, ◌+◌, ◌-◌, ◌*◌, ◌/◌, List, ◌++◌, map}
 use Rattle.std.specs.List.{range_with_len}
 use Rattle.c8_game.specs.Rules.{Rules}
+use Rattle.c8_game.specs.declared.row.Row.{Row}
 use Rattle.c8_machine.specs.State.{State}
 use Rattle.c8_machine.specs.Serial.{serial}
 use Rattle.c8_digest.specs.declared.marks.FrameMark.{FrameMark}
 use Rattle.c8_digest.specs.StateBytes.{mark_of}
-use Rattle.c8_digest.specs.Marks.{kept}
+use Rattle.c8_digest.specs.Marks.{mark_step, kept}
+use Rattle.c8_digest.specs.Origin.{Origin, run_since}
 use Rattle.c8_known.specs.Known.{KnownValue}
 use Rattle.c8_known.specs.Growth.{IsStillKnown}
 use Rattle.c8_known.specs.Confirmed.{confirmed, rows_below, confirmed_rows, best_rows}
 
--- a mark stands at each multiple of this many frames
-abbrev pub mark_step : ℕ
-mark_step = 32
-
 -- the mark of the machine after so many confirmed frames
+abbrev pub mark_since : Rules → Origin → KnownValue → ℕ → FrameMark
+mark_since rules from k n = record { frame = n; mark = mark_of (run_since rules from (rows_below k n)) }
+
+-- of the origin's marks and those at the later multiples up to a number of frames the last sixteen
+abbrev pub marks_since : Rules → Origin → KnownValue → ℕ → List FrameMark
+marks_since rules from k n =
+    kept (from.marks ++ map (λ m. mark_since rules from k (mark_step * m)) (range_with_len (from.frames / mark_step + 1) (n / mark_step - from.frames / mark_step)))
+
+-- the machine and the marks after so many confirmed frames
+abbrev pub origin_at : Rules → Origin → KnownValue → ℕ → Origin
+origin_at rules from k n = record { frames = n; machine = run_since rules from (rows_below k n); marks = marks_since rules from k n }
+
+-- the same, where all is run from the first frame on
 abbrev pub mark_after : Rules → KnownValue → ℕ → FrameMark
 mark_after rules k n = record { frame = n; mark = mark_of (serial rules (rows_below k n)) }
 
--- of the marks at the multiples from 0 up to a number of frames the last sixteen
 abbrev pub marks_up_to : Rules → KnownValue → ℕ → List FrameMark
 marks_up_to rules k n = kept (map (λ m. mark_after rules k (mark_step * m)) (range_with_len 0 (n / mark_step + 1)))
 
@@ -33,7 +43,18 @@ pub record RollValue : Type 0 where
   pub base : State
   pub marks : List FrameMark
 
--- the roll of what is known: shown is the run of the best rows, base that of the confirmed ones
+-- the roll of what is known, run from an origin: shown is the run of the best rows, base that of the confirmed ones
+unfoldable pub roll_since : Rules → Origin → KnownValue → RollValue
+roll_since rules from k = record {
+  rules = rules;
+  ticks = k.ticks;
+  shown = run_since rules from (best_rows k);
+  confirmed = confirmed k;
+  base = run_since rules from (confirmed_rows k);
+  marks = marks_since rules from k (confirmed k);
+}
+
+-- the roll of what is known, run from the first frame on
 unfoldable pub roll_of : Rules → KnownValue → RollValue
 roll_of rules k = record {
   rules = rules;
@@ -44,6 +65,18 @@ roll_of rules k = record {
   marks = marks_up_to rules k (confirmed k);
 }
 
--- Whatever was known whose roll the old one is: if all of it is still known, the new one is the roll of what is known now.
+-- An origin that the confirmed rows lead to: the machine is their run, and the marks are those of the run.
+pub record IsOnTheWay (rules : Rules) (k : KnownValue) (from : Origin) : Type 0 where
+  pub confirmed_is : from.frames ≤ confirmed k
+  pub machine : from.machine ≡ serial rules (rows_below k from.frames)
+  pub marks : from.marks ≡ marks_up_to rules k from.frames
+
+-- it is the roll of what was known, run from this origin, which was confirmed
+pub record IsRollSince (from : Origin) (before : KnownValue) (v : RollValue) : Type 0 where
+  pub starts : from.frames ≤ confirmed before
+  pub is : v ≡ roll_since v.rules from before
+
+-- Whatever was known whose roll the old one is: if all of it is still known, the new one is the roll of what is known now, run
+-- from where the old one was.
 abbrev pub GrowsTo : RollValue → RollValue → KnownValue → Type 0
-GrowsTo old new now = (before : KnownValue) → old ≡ roll_of old.rules before → IsStillKnown before now → new ≡ roll_of old.rules now
+GrowsTo old new now = (from : Origin) (before : KnownValue) → IsRollSince from before old → IsStillKnown before now → new ≡ roll_since old.rules from now

@@ -5,7 +5,8 @@ use Rattle.c8_game.specs.declared.row.Row.{Row}
 use Rattle.c8_known.specs.Known.{KnownValue}
 use Rattle.c8_known.specs.Confirmed.{confirmed, best_row}
 use Rattle.c8_known.specs.Growth.{IsStillKnown}
-use Rattle.c8_roll.specs.Roll.{RollValue, roll_of}
+use Rattle.c8_digest.specs.Origin.{Origin}
+use Rattle.c8_roll.specs.Roll.{RollValue, IsRollSince}
 
 -- The player has not run further ahead of the confirmed frames than the game's window.
 abbrev pub IsWithinWindow : RollValue → Type 0
@@ -21,8 +22,9 @@ LacksRows v = v.confirmed + v.rules.window + 1 < v.ticks
 
 -- It is the roll of what was known before, all of which is still known now.
 pub record WasKnown (v : RollValue) (now : KnownValue) : Type 0 where
+  pub from : Origin
   pub before : KnownValue
-  pub was : v ≡ roll_of v.rules before
+  pub was : IsRollSince from before v
   pub still : IsStillKnown before now
 
 -- the rows of all frames that are not confirmed, the best guesses as they are known now; but where there are more of them than a
@@ -79,4 +81,4 @@ pub record RunsFromOldest (before now : KnownValue) (ran : ℕ) : Type 0 where
 -- That many, of a roll that kept the rows of what was known before, all of them.
 abbrev pub RunsFromWhatWasKnown : RollValue → List Row → KnownValue → ℕ → Type 0
 RunsFromWhatWasKnown old rows now ran =
-    (before : KnownValue) → old ≡ roll_of old.rules before → KeepsRows old.rules.window before rows → HasAllRows old → RunsFromOldest before now ran
+    (from : Origin) (before : KnownValue) → IsRollSince from before old → KeepsRows old.rules.window before rows → HasAllRows old → RunsFromOldest before now ran

@@ -2,12 +2,13 @@
 //! nothing.
 ghost use Rattle.std.specs.Prelude.{◌≡◌, ℕ, ◌+◌, ◌*◌, ◌/◌, ◌≤◌, List, Option, Some};
 ghost use Rattle.c8_game.specs.Rules.{Rules};
-ghost use Rattle.c8_digest.specs.Marks.{newest_of};
+ghost use Rattle.c8_digest.specs.Marks.{mark_step, newest_of};
 ghost use Rattle.c8_known.specs.Known.{KnownValue};
 ghost use Rattle.c8_known.specs.Confirmed.{confirmed};
 ghost use Rattle.c8_game.specs.declared.row.Row.{Row};
 ghost use Rattle.c8_roll.specs.Rollback.{KeepsRows, IsOldestChange, IsOldestWrong};
-ghost use Rattle.c8_roll.specs.Roll.{mark_step, mark_after, marks_up_to, RollValue, roll_of};
+ghost use Rattle.c8_digest.specs.Origin.{Origin, first_origin};
+ghost use Rattle.c8_roll.specs.Roll.{mark_after, marks_up_to, RollValue, roll_of, roll_since, IsOnTheWay};
 
 /// The newest mark is that of the machine after the last multiple of 32 confirmed frames.
 pub fn the_newest_mark_is_at_the_last_step()
@@ -17,6 +18,14 @@ pub fn the_newest_mark_is_at_the_last_step()
     ensures roll { (rules : Rules) (k : KnownValue) (v : RollValue) → v ≡ roll_of rules k
         → newest_of v.marks
         ≡ Some (mark_after rules k (mark_step * (confirmed k / mark_step))) }
+{}
+
+/// Where the confirmed rows lead to an origin, the roll that is run from there is the one that is run from
+/// the first frame on; before the first frame there is such an origin.
+pub fn a_run_may_begin_on_the_way()
+    ensures roll { (rules : Rules) (k : KnownValue) (from : Origin) → IsOnTheWay rules k from
+        → roll_since rules from k ≡ roll_of rules k }
+    ensures first { (rules : Rules) (k : KnownValue) → IsOnTheWay rules k (first_origin rules) }
 {}
 
 /// Of a player who is at most a window and one frame ahead: where the rows that were run are kept

@@ -1,12 +1,14 @@
 //! A roll over a game.
 ghost use Rattle.std.specs.Prelude.{◌≡◌, ◌+◌, ◌<◌, ◌≤◌, ℕ, Option, IfOk};
 ghost use Rattle.c8_machine.specs.State.{state};
-ghost use Rattle.c8_roll.specs.Roll.{roll_of, GrowsTo};
+ghost use Rattle.c8_digest.specs.Origin.{origin_of};
+ghost use Rattle.c8_known.specs.Confirmed.{confirmed};
+ghost use Rattle.c8_roll.specs.Roll.{roll_of, roll_since, IsOnTheWay, GrowsTo};
 ghost use Rattle.c8_roll.specs.Rollback.{WasKnown, IsWithinWindow, HasAllRows, LacksRows, KeepsRows, IsOldestChange, IsOldestOrLast, run_from, RunsFromWhatWasKnown};
 
 use crate::buffers::Buffers;
 use crate::timeline::Timeline;
-use c8_digest::{Marks, mark};
+use c8_digest::{Checkpoint, Marks};
 use c8_game::Game;
 use c8_known::Known;
 use c8_machine::Machine;
@@ -31,7 +33,7 @@ impl<'g> fmt::Debug for Roll<'g> {
 impl<'g> Roll<'g> {
     ghost use Rattle.c8_roll.specs.Seen.{value_of, rows_run, last_run_of};
 
-    /// The roll of what is known. All its room is reserved here.
+    /// The roll of what is known. All frames are run. All its room is reserved here.
     pub fn open(alloc: Global, game: &'g Game, known: &Known) -> Result<Roll<'g>, AllocError>
         ensures roll { IfOk result (λ roll. value_of roll ≡ roll_of game.entry.now known.now) }
         ensures ticks { IfOk result (λ roll. (value_of roll).ticks ≡ known.now.ticks) }
@@ -39,21 +41,45 @@ impl<'g> Roll<'g> {
             KeepsRows game.entry.now.window known.now (rows_run roll)) }
         ensures ran { IfOk result (λ roll. last_run_of roll ≡ known.now.ticks) }
     {
-        Ok(Roll::over(game, known, Buffers::new(alloc, game)?))
+        Roll::open_at(alloc, game, known, &Checkpoint::start(game))
     }
 
-    /// The roll of what is known, in room that was reserved before; this takes none.
-    pub fn over(game: &'g Game, known: &Known, buffers: Buffers) -> Roll<'g>
-        requires { buffers ≡ game.now.window + 1 }
-        ensures roll { value_of result ≡ roll_of game.entry.now known.now }
+    /// The roll of what is known, run from a checkpoint on. Where that is on the way (`IsOnTheWay`: its
+    /// machine is the run of the confirmed rows, its marks are those of the run) it is the roll that
+    /// `open` makes. All its room is reserved here.
+    pub fn open_at(
+        alloc: Global,
+        game: &'g Game,
+        known: &Known,
+        from: &Checkpoint,
+    ) -> Result<Roll<'g>, AllocError>
+        requires { from.now.frames ≤ confirmed known.now }
+        ensures roll { IfOk result (λ roll.
+            value_of roll ≡ roll_since game.entry.now (origin_of from.now) known.now) }
+        ensures on_the_way { IsOnTheWay game.entry.now known.now (origin_of from.now)
+            → IfOk result (λ roll. value_of roll ≡ roll_of game.entry.now known.now) }
+        ensures ticks { IfOk result (λ roll. (value_of roll).ticks ≡ known.now.ticks) }
+        ensures kept { IfOk result (λ roll.
+            KeepsRows game.entry.now.window known.now (rows_run roll)) }
+        ensures ran { IfOk result (λ roll. last_run_of roll + from.now.frames ≡ known.now.ticks) }
+    {
+        Ok(Roll::over(game, known, from, Buffers::new(alloc, game)?))
+    }
+
+    /// The roll of what is known, run from a checkpoint on, in room that was reserved before; this takes
+    /// none.
+    pub fn over(game: &'g Game, known: &Known, from: &Checkpoint, buffers: Buffers) -> Roll<'g>
+        requires room { buffers ≡ game.now.window + 1 }
+        requires confirmed { from.now.frames ≤ confirmed known.now }
+        ensures roll { value_of result ≡ roll_since game.entry.now (origin_of from.now) known.now }
         ensures ticks { (value_of result).ticks ≡ known.now.ticks }
         ensures kept { KeepsRows game.entry.now.window known.now (rows_run result) }
-        ensures ran { last_run_of result ≡ known.now.ticks }
+        ensures ran { last_run_of result + from.now.frames ≡ known.now.ticks }
     {
         let Buffers { marks, snapshots } = buffers;
         let mut marks = marks;
-        let mut timeline = Timeline::new(game, snapshots);
-        marks.put(0, mark(timeline.shown()));
+        let mut timeline = Timeline::new(game, from, snapshots);
+        marks.read(from.frames, &from.marks);
         timeline.confirm_all(known, &mut marks);
         timeline.run_on(known);
         Roll { timeline, marks }

@@ -3,21 +3,19 @@ ghost use Rattle.std.specs.Prelude.{◌≡◌, ◌+◌, ◌<◌, ◌≤◌, ◌^
 ghost use Rattle.circular_buffer.specs.Buffer.{buffer};
 ghost use Rattle.c8_game.specs.Rules.{joined};
 ghost use Rattle.c8_machine.specs.State.{state};
-ghost use Rattle.c8_machine.specs.Serial.{frame_of, serial};
+ghost use Rattle.c8_machine.specs.Serial.{frame_of};
+ghost use Rattle.c8_digest.specs.Origin.{Origin, origin_of, run_since};
 ghost use Rattle.c8_known.specs.Known.{KnownValue};
 ghost use Rattle.c8_known.specs.Confirmed.{confirmed, best_row, best_rows_below};
-ghost use Rattle.c8_roll.specs.Roll.{marks_up_to};
+ghost use Rattle.c8_roll.specs.Roll.{marks_since};
 ghost use Rattle.c8_roll.specs.checked.Timeline.{IsNew, IsTimeline, state_at, back_at, IsAll, AreBest, IsChange, IsRunOf};
 
-use c8_digest::{Marks, mark};
+use c8_digest::{Checkpoint, MARK_STEP, Marks, mark};
 use c8_game::{Game, Row};
 use c8_known::Known;
 use c8_machine::Machine;
 use circular_buffer::HeapCircularBuffer;
 use std::marker::Model;
-
-/// A mark stands at each multiple of this many frames.
-const MARK_STEP: u32 = 32;
 
 /// The machine before a frame, and the row that was run from it.
 #[derive(Clone, Copy)]
@@ -68,16 +66,20 @@ impl<'g> Model for Timeline<'g> {
 }
 
 impl<'g> Timeline<'g> {
-    /// No frame has been run.
-    pub(crate) fn new(game: &'g Game, snapshots: HeapCircularBuffer<Snapshot>) -> Timeline<'g>
+    /// No frame has been run since the checkpoint.
+    pub(crate) fn new(
+        game: &'g Game,
+        from: &Checkpoint,
+        snapshots: HeapCircularBuffer<Snapshot>,
+    ) -> Timeline<'g>
         requires { snapshots ≡ buffer [] (game.now.window + 1) }
-        ensures { IsNew game.entry.now result }
+        ensures { IsNew game.entry.now (origin_of from.now) result }
     {
         Timeline {
             game,
-            first: 0,
-            ticks: 0,
-            shown: Machine::start(game),
+            first: from.frames,
+            ticks: from.frames,
+            shown: from.machine,
             snapshots,
             last_run: 0,
         }
@@ -177,8 +179,8 @@ impl<'g> Timeline<'g> {
         ensures later { self.old.ticks ≤ self.new.ticks }
         ensures within { (n : ℕ) → self.old.ticks ≤ n → self.new.first ≤ n → self.new.ticks ≤ n }
         ensures counted { self.new.last_run + self.old.ticks ≡ self.old.last_run + self.new.ticks }
-        ensures run { (known : KnownValue) → IsRunOf known self.old
-            → row.now ≡ best_row known self.old.first → IsRunOf known self.new }
+        ensures run { (from : Origin) (known : KnownValue) → IsRunOf from known self.old
+            → row.now ≡ best_row known self.old.first → IsRunOf from known self.new }
     {
         let kept = self.snapshots.len();
         if kept > 0 {
@@ -199,8 +201,8 @@ impl<'g> Timeline<'g> {
         ensures first { self.new.first ≡ self.old.first }
         ensures ticks { self.new.ticks ≡ self.old.ticks + 1 }
         ensures counted { self.new.last_run ≡ self.old.last_run + 1 }
-        ensures run { (known : KnownValue) → IsRunOf known self.old
-            → row ≡ best_row known self.old.ticks → IsRunOf known self.new }
+        ensures run { (from : Origin) (known : KnownValue) → IsRunOf from known self.old
+            → row ≡ best_row known self.old.ticks → IsRunOf from known self.new }
         ensures shown { state self.new.shown
             ≡ frame_of self.old.rules (joined self.old.rules row) (state self.old.shown) }
     {
@@ -224,10 +226,12 @@ impl<'g> Timeline<'g> {
         ensures within { (n : ℕ) → self.old.ticks ≤ n → confirmed known.now ≤ n
             → self.new.ticks ≤ n }
         ensures counted { self.new.last_run + self.old.ticks ≡ self.old.last_run + self.new.ticks }
-        ensures run { IsRunOf known.now self.old → IsRunOf known.now self.new }
-        ensures marks { IsRunOf known.now self.old → self.old.first ≤ confirmed known.now
-            → marks.old ≡ marks_up_to self.old.rules known.now self.old.first
-            → marks.new ≡ marks_up_to self.old.rules known.now (confirmed known.now) }
+        ensures run { (from : Origin) → IsRunOf from known.now self.old
+            → IsRunOf from known.now self.new }
+        ensures marks { (from : Origin) → IsRunOf from known.now self.old
+            → self.old.first ≤ confirmed known.now
+            → marks.old ≡ marks_since self.old.rules from known.now self.old.first
+            → marks.new ≡ marks_since self.old.rules from known.now (confirmed known.now) }
     {
         c8_digest::laws::marks_are_the_last_sixteen();
         for frame in self.first..known.confirmed() {
@@ -246,9 +250,11 @@ impl<'g> Timeline<'g> {
         ensures first { self.new.first ≡ self.old.first }
         ensures ticks { self.old.ticks ≤ known.now.ticks → self.new.ticks ≡ known.now.ticks }
         ensures counted { self.new.last_run + self.old.ticks ≡ self.old.last_run + self.new.ticks }
-        ensures run { IsRunOf known.now self.old → IsRunOf known.now self.new }
-        ensures shown { IsRunOf known.now self.old → self.old.ticks ≤ known.now.ticks
-            → state self.new.shown ≡ serial self.old.rules (best_rows_below known.now known.now.ticks) }
+        ensures run { (from : Origin) → IsRunOf from known.now self.old
+            → IsRunOf from known.now self.new }
+        ensures shown { (from : Origin) → IsRunOf from known.now self.old
+            → self.old.ticks ≤ known.now.ticks → state self.new.shown
+            ≡ run_since self.old.rules from (best_rows_below known.now known.now.ticks) }
     {
         for frame in self.ticks..known.ticks() {
             self.run(known.best(frame));

@@ -1,5 +1,5 @@
 -- A screen as the set of its lit points.
-use Rattle.std.specs.Prelude.{◌≡◌, ℕ, ◌+◌, ◌-◌, ◌<◌, ◌==◌, ◌&&◌, Bool, true, false, not, nat_le, nat_lt, slice_index, if◌then◌else◌}
+use Rattle.std.specs.Prelude.{◌≡◌, ℕ, ◌+◌, ◌-◌, ◌<◌, ◌==◌, ◌&&◌, Bool, true, false, not, nat_le, nat_lt, List, slice_index, if◌then◌else◌}
 use Rattle.std.specs.List.{list_any, range_with_len}
 use Rattle.std.specs.Int.{bit_at}
 use Rattle.c8_screen.specs.declared.Screen.{Screen}
@@ -23,9 +23,13 @@ no_points x y = false
 abbrev pub row_has : ℕ → ℕ → Bool
 row_has row x = bit_at row (63 - x) == 1
 
--- the lit points of a screen, all of them within 64 columns and 32 rows
+-- the points that rows have within 64 columns and 32 rows
+abbrev pub points_in : List ℕ → Points
+points_in rows x y = if nat_lt x width && nat_lt y height then row_has (slice_index rows y) x else false
+
+-- the lit points of a screen
 abbrev pub points_of : Screen → Points
-points_of screen x y = if nat_lt x width && nat_lt y height then row_has (slice_index screen.rows y) x else false
+points_of screen = points_in screen.rows
 
 -- the points of a sprite of n rows of 8 points each, a byte a row with its highest bit leftmost, whose
 -- upper left point is in column `left` of row `top`

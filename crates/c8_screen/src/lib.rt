@@ -21,13 +21,20 @@ pub struct Screen {
 }
 
 impl Screen {
-    ghost use Rattle.c8_screen.specs.Points.{points_of, no_points, row_has, sprite, clipped, exclusive_or, meets};
+    ghost use Rattle.c8_screen.specs.Points.{points_of, points_in, no_points, row_has, sprite, clipped, exclusive_or, meets};
 
     /// A dark screen.
     pub fn new() -> Self
         ensures { points_of result ≡ no_points }
     {
         Screen { rows: [0; 32] }
+    }
+
+    /// The screen with these rows, bit 63 of a row for column 0.
+    pub fn of_rows(rows: &[u64; 32]) -> Self
+        ensures { points_of result ≡ points_in rows.now }
+    {
+        Screen { rows: *rows }
     }
 
     /// Puts out every point.

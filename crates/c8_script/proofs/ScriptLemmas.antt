@@ -13,7 +13,7 @@ use Rattle.c8_game.specs.declared.row.Player.{Player}
 use Rattle.c8_peer.specs.declared.kind.Kind.{Kind}
 use Rattle.c8_peer.specs.declared.kind.Kind.TheVariants.{Hello, Welcome, Data, Freeze, Frozen, Cut}
 use Rattle.c8_world.specs.declared.event.Act.{Act}
-use Rattle.c8_world.specs.declared.event.Act.TheVariants.{Open, Tick, Say, Give, Leave, Decide}
+use Rattle.c8_world.specs.declared.event.Act.TheVariants.{Open, Tick, Say, Give, Leave, Decide, Check}
 use Rattle.c8_world.specs.declared.event.Event.{Event}
 use Rattle.c8_world.specs.declared.event.Event.TheVariants.{Do, Stop, Fail}
 use Rattle.c8_script.specs.Script.{player_word, SpellsKeys, SpellsNumber, kind_words, SpellsAct, WordsSpell}
@@ -183,7 +183,10 @@ act_spelt (verb ∷ word ∷ []) act is =
         | inl here ↦ player_act Leave (codes "leave") verb word act (λ p same. same) here.0 here.1
         | inr last ↦ elim (chosen (bytes_eq verb (codes "decide")) _ _ act last) [
           | inl here ↦ player_act Decide (codes "decide") verb word act (λ p same. same) here.0 here.1
-          | inr none ↦ absurd (cc)
+          | inr check ↦ elim (chosen (bytes_eq verb (codes "check")) _ _ act check) [
+            | inl here ↦ player_act Check (codes "check") verb word act (λ p same. same) here.0 here.1
+            | inr none ↦ absurd (cc)
+          ]
         ]
       ]
     ]
@@ -217,6 +220,7 @@ act_read : (words : List (List ℕ)) (act : Act) → SpellsAct words act → act
 act_read words (Open player) spelt = ap act_in spelt ∙ ap (option_map Open) (player_read player)
 act_read words (Leave player) spelt = ap act_in spelt ∙ ap (option_map Leave) (player_read player)
 act_read words (Decide player) spelt = ap act_in spelt ∙ ap (option_map Decide) (player_read player)
+act_read words (Check player) spelt = ap act_in spelt ∙ ap (option_map Check) (player_read player)
 act_read words (Tick player keys) spelt =
     ap act_in spelt.1 ∙ ap (λ o. act_of Tick o (keys_in spelt.0)) (player_read player) ∙ ap (option_map (Tick player)) (keys_read spelt.0 keys spelt.2)
 act_read words (Give number player) spelt =

@@ -17,7 +17,7 @@ use Rattle.c8_game.specs.declared.row.Player.{Player}
 use Rattle.c8_peer.specs.declared.kind.Kind.{Kind}
 use Rattle.c8_peer.specs.declared.kind.Kind.TheVariants.{Hello, Welcome, Data, Freeze, Frozen, Cut}
 use Rattle.c8_world.specs.declared.event.Act.{Act}
-use Rattle.c8_world.specs.declared.event.Act.TheVariants.{Open, Tick, Say, Give, Leave, Decide}
+use Rattle.c8_world.specs.declared.event.Act.TheVariants.{Open, Tick, Say, Give, Leave, Decide, Check}
 use Rattle.c8_world.specs.declared.event.Event.{Event}
 use Rattle.c8_world.specs.declared.event.Event.TheVariants.{Do, Stop, Fail}
 use Rattle.c8_script.specs.Script.{player_word, SpellsNumber, kind_words, SpellsAct, WordsSpell, SpellsEvent, not_skipped, event_lines, IsFaultOfScript}
@@ -89,6 +89,7 @@ act_no_space : (words : List (List ℕ)) (act : Act) → SpellsAct words act →
 act_no_space words (Open player) spelt = rw spelt (refl, (player_no_space player, tt))
 act_no_space words (Leave player) spelt = rw spelt (refl, (player_no_space player, tt))
 act_no_space words (Decide player) spelt = rw spelt (refl, (player_no_space player, tt))
+act_no_space words (Check player) spelt = rw spelt (refl, (player_no_space player, tt))
 act_no_space words (Tick player keys) spelt = rw spelt.1 (refl, (player_no_space player, (keys_no_space spelt.0 spelt.2.0, tt)))
 act_no_space words (Give number player) spelt = rw spelt.1 (refl, (number_no_space spelt.0 number spelt.2, (player_no_space player, tt)))
 act_no_space words (Say player to kind) spelt = rw spelt (refl, (player_no_space player, (player_no_space to, kind_no_space kind)))
@@ -105,6 +106,7 @@ spelt_by_some : (event : Event) → WordsSpell [] event → ⊥
 spelt_by_some (Do (Open player)) spelt = cc
 spelt_by_some (Do (Leave player)) spelt = cc
 spelt_by_some (Do (Decide player)) spelt = cc
+spelt_by_some (Do (Check player)) spelt = cc
 spelt_by_some (Do (Tick player keys)) spelt = let none = spelt.1 in cc
 spelt_by_some (Do (Give number player)) spelt = let none = spelt.1 in cc
 spelt_by_some (Do (Say player to kind)) spelt = cc

@@ -2,13 +2,15 @@
 use Rattle.std.specs.Prelude.{◌≡◌, ℕ, ◌+◌, List, [], ◌∷◌, ◌++◌, length, min, take, codes, Bool, true, false, Ok, Err}
 use Rattle.std.specs.List.{flat_map}
 use Rattle.std.specs.Fmt.{decimal}
-use Rattle.c8_peer.specs.Errors.{open_number_of, tick_number_of, refused_number_of, unsayable_number_of, leave_number_of, decide_number_of}
+use Rattle.c8_peer.specs.Errors.{open_number_of, tick_number_of, refused_number_of, unsayable_number_of, leave_number_of, decide_number_of, check_number_of}
 use Rattle.c8_peer.specs.declared.error.Refused.{Refused}
 use Rattle.c8_peer.specs.declared.error.Refused.TheVariants as refusals
+use Rattle.c8_peer.specs.declared.check.Check.{Check}
+use Rattle.c8_peer.specs.declared.check.Check.TheVariants.{Piece, Done}
 use Rattle.c8_peer.specs.declared.heard.Heard.{Heard}
 use Rattle.c8_peer.specs.declared.heard.Heard.TheVariants.{Nothing, Kept, Out}
 use Rattle.c8_world.specs.declared.answer.Answer.{Answer}
-use Rattle.c8_world.specs.declared.answer.Answer.TheVariants.{Opened, Up, Ticked, Said, Delivered, NoSuch, Left, Decided, Down, Stopped}
+use Rattle.c8_world.specs.declared.answer.Answer.TheVariants.{Opened, Up, Ticked, Said, Delivered, NoSuch, Left, Decided, Checked, Down, Stopped}
 use Rattle.c8_world.specs.declared.answer.Counts.{Counts}
 use Rattle.c8_world.specs.declared.ends.Tally.{Tally}
 
@@ -43,6 +45,11 @@ part_word refusals.OtherWire = codes "deliver"
 abbrev pub ticked_text : Counts → List ℕ
 ticked_text counts = line (codes "now " ∷ decimal counts.now ∷ codes " confirmed " ∷ decimal counts.confirmed ∷ [])
 
+-- what is recorded of a checkpoint
+abbrev pub check_text : Check → List ℕ
+check_text (Piece piece) = line (codes "piece " ∷ decimal piece ∷ [])
+check_text (Done frames) = line (codes "checked " ∷ decimal frames ∷ [])
+
 -- why an event was refused: by which part, and the number and the name of it there
 abbrev pub refusal_text : List ℕ → ℕ → List ℕ → List ℕ
 refusal_text part number name = line (codes "no " ∷ part ∷ codes " " ∷ decimal number ∷ codes " " ∷ name ∷ [])
@@ -63,6 +70,8 @@ answer_text name (Left (Ok done)) = line (codes "leaving" ∷ [])
 answer_text name (Left (Err error)) = refusal_text (codes "leave") (leave_number_of error) name
 answer_text name (Decided (Ok count)) = line (codes "cut " ∷ decimal count ∷ [])
 answer_text name (Decided (Err error)) = refusal_text (codes "decide") (decide_number_of error) name
+answer_text name (Checked (Ok check)) = check_text check
+answer_text name (Checked (Err error)) = refusal_text (codes "check") (check_number_of error) name
 answer_text name Down = line (codes "down" ∷ [])
 answer_text name Stopped = line (codes "stopped" ∷ [])
 

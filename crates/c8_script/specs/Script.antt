@@ -10,7 +10,7 @@ use Rattle.c8_game.specs.declared.row.Player.{Player}
 use Rattle.c8_peer.specs.declared.kind.Kind.{Kind}
 use Rattle.c8_peer.specs.declared.kind.Kind.TheVariants.{Hello, Welcome, Data, Freeze, Frozen, Cut}
 use Rattle.c8_world.specs.declared.event.Act.{Act}
-use Rattle.c8_world.specs.declared.event.Act.TheVariants.{Open, Tick, Say, Give, Leave, Decide}
+use Rattle.c8_world.specs.declared.event.Act.TheVariants.{Open, Tick, Say, Give, Leave, Decide, Check}
 use Rattle.c8_world.specs.declared.event.Event.{Event}
 use Rattle.c8_world.specs.declared.event.Event.TheVariants.{Do, Stop, Fail}
 use Rattle.c8_script.specs.declared.error.ScriptError.{ScriptError}
@@ -47,6 +47,7 @@ SpellsAct words (Give number player) =
     (digits : List ℕ) × (words ≡ codes "give" ∷ digits ∷ player_word player ∷ []) × SpellsNumber digits number
 SpellsAct words (Leave leaver) = words ≡ codes "leave" ∷ player_word leaver ∷ []
 SpellsAct words (Decide leaver) = words ≡ codes "decide" ∷ player_word leaver ∷ []
+SpellsAct words (Check player) = words ≡ codes "check" ∷ player_word player ∷ []
 
 -- the words spell the event: an act, a stop with its two numbers and the words of the act inside it, or a failure with its one
 -- number and those words

@@ -18,6 +18,7 @@ pub fn write_act<W: Write>(out: &mut W, act: Act) -> io::Result<()> {
         Act::Give(datagram, Player { number }) => writeln!(out, "give {datagram} {number}"),
         Act::Leave(Player { number }) => writeln!(out, "leave {number}"),
         Act::Decide(Player { number }) => writeln!(out, "decide {number}"),
+        Act::Check(Player { number }) => writeln!(out, "check {number}"),
     }
 }
 

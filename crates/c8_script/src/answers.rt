@@ -3,9 +3,9 @@
 ghost use Rattle.std.specs.Prelude.{◌≡◌, ℕ, List, [], ◌∷◌, OnOk, length};
 ghost use Rattle.std.specs.List.{flat_map};
 ghost use Rattle.std.specs.Io.KnownBytes.{Appends};
-ghost use Rattle.c8_script.specs.Printed.{AreLines, IsLine, answer_text, refusal_text, part_word, heard_word, ticked_text, line, count_text, tallies_text, tally_text, ends_text};
+ghost use Rattle.c8_script.specs.Printed.{AreLines, IsLine, answer_text, refusal_text, part_word, heard_word, ticked_text, check_text, line, count_text, tallies_text, tally_text, ends_text};
 
-use c8_peer::{Heard, Refused};
+use c8_peer::{Check, Heard, Refused};
 use c8_world::{Answer, Counts, Ends, Posted, Tally};
 use std::io;
 use std::io::Write;
@@ -53,6 +53,8 @@ fn write_answer<W: Write>(out: &mut W, answer: Answer) -> io::Result<()>
         Answer::Left(Err(error)) => write_refusal(out, "leave", error.number(), error.name()),
         Answer::Decided(Ok(length)) => writeln!(out, "cut {length}"),
         Answer::Decided(Err(error)) => write_refusal(out, "decide", error.number(), error.name()),
+        Answer::Checked(Ok(check)) => write_check(out, check),
+        Answer::Checked(Err(error)) => write_refusal(out, "check", error.number(), error.name()),
         Answer::Down => writeln!(out, "down"),
         Answer::Stopped => writeln!(out, "stopped"),
     }
@@ -74,6 +76,15 @@ fn write_heard<W: Write>(out: &mut W, heard: Heard) -> io::Result<()>
         Heard::Nothing => writeln!(out, "nothing"),
         Heard::Kept => writeln!(out, "kept"),
         Heard::Out => writeln!(out, "out"),
+    }
+}
+
+fn write_check<W: Write>(out: &mut W, check: Check) -> io::Result<()>
+    ensures { OnOk result (Appends (W.contents out.old) (W.contents out.new) (check_text check)) }
+{
+    match check {
+        Check::Piece(piece) => writeln!(out, "piece {piece}"),
+        Check::Done(frames) => writeln!(out, "checked {frames}"),
     }
 }
 

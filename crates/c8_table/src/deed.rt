@@ -1,6 +1,8 @@
 //! What a row of a table says: whose peer is asked what, and what it answers.
 use c8_disk::DiskError;
-use c8_peer::{DecideError, Heard, LeaveError, OpenError, Refused, TickError, Unsayable};
+use c8_peer::{
+    Check, CheckError, DecideError, Heard, LeaveError, OpenError, Refused, TickError, Unsayable,
+};
 
 /// The room in which all tests play, but where a row says another.
 pub const ROOM: u64 = 0x0102030405060708;
@@ -30,6 +32,10 @@ pub enum Deed {
     Hold(&'static [&'static [u8]]),
     /// The same of a disk of this capacity, with these bytes in place of the gate.
     HoldTorn(u32, &'static [&'static [u8]], &'static [u8]),
+    /// A disk takes its place that holds the same, with these bytes at a place of the slot of this number.
+    Write(usize, usize, &'static [u8]),
+    /// A disk takes its place that holds the same, and the slot of this number once more behind the last.
+    Repeat(usize),
     /// The disk serves so many calls more.
     Stop(u64),
     /// One call of the disk.
@@ -60,6 +66,8 @@ pub enum Deed {
     Hear(usize),
     /// The same with the lowest bit of the byte at a place changed.
     HearChanged(usize, usize),
+    /// Hears the DATA of this number with another mark, of this frame.
+    HearMarked(usize, u32, u64),
     /// Hears the DATA of this number in the other version of the format.
     HearOther(usize),
     /// Hears these bytes.
@@ -71,6 +79,10 @@ pub enum Deed {
     Rounds(u16, u16, u32),
     Leave(u8),
     Decide(u8),
+    /// One call for a checkpoint.
+    Check,
+    /// So many calls for one, until one is refused. The answer is the last one's.
+    Checks(u32),
     Look(Look),
     /// Asks about a player.
     Of(u8, About),
@@ -103,6 +115,7 @@ pub enum Look {
     Dropped,
     Alarm,
     LastRun,
+    LastCheckpoint,
     /// All registers of the machine that is shown.
     Registers,
     /// The program counter of the machine that is shown.
@@ -134,6 +147,7 @@ pub enum Answer {
     Delivered(Result<Heard, Refused>),
     Left(Result<(), LeaveError>),
     Decided(Result<u32, DecideError>),
+    Checked(Result<Check, CheckError>),
     Served(Result<(), DiskError>),
     Is(u32),
     Tells(bool),

@@ -31,6 +31,17 @@ impl Letter {
         changed
     }
 
+    /// The same DATA with another mark, of this frame.
+    pub(crate) fn marked(&self, frame: u32, mark: u64) -> Letter {
+        let mut marked = *self;
+        let (_, rest) = marked.bytes.split_at_mut(28);
+        let (at, rest) = rest.split_at_mut(4);
+        at.copy_from_slice(&frame.to_be_bytes());
+        let (place, _) = rest.split_at_mut(8);
+        place.copy_from_slice(&mark.to_be_bytes());
+        marked
+    }
+
     /// The same DATA in the other version of the format.
     pub(crate) fn in_other_version(&self) -> Option<Letter> {
         let datagram = view(self.bytes()).ok()?;
@@ -77,6 +88,7 @@ pub(crate) struct Told {
     now: u32,
     confirmed: u32,
     is_dropped: bool,
+    last_checkpoint: u32,
     certain: Machine,
     shown: Machine,
     players: [OfPlayer; 4],
@@ -221,6 +233,22 @@ impl<'g> Node<'g> {
         }
     }
 
+    /// Asks for a checkpoint so often, until it is refused.
+    pub(crate) fn check(&mut self, times: u32) -> Answer {
+        let Some(peer) = &mut self.peer else {
+            return Answer::Impossible;
+        };
+        let mut answer = Answer::Nothing;
+        for _ in 0..times {
+            let checked = peer.checkpoint();
+            answer = Answer::Checked(checked);
+            if checked.is_err() {
+                return answer;
+            }
+        }
+        answer
+    }
+
     pub(crate) fn look(&self, look: Look) -> Answer {
         let Some(peer) = &self.peer else {
             return Answer::Impossible;
@@ -235,6 +263,7 @@ impl<'g> Node<'g> {
             Look::Dropped => Answer::Tells(peer.dropped()),
             Look::Alarm => Answer::Tells(peer.alarm()),
             Look::LastRun => Answer::Is(peer.last_run()),
+            Look::LastCheckpoint => Answer::Is(peer.last_checkpoint()),
             Look::Registers => Answer::Registers(*peer.shown().registers()),
             Look::Counter => Answer::Is(u32::from(peer.shown().counter())),
             Look::Base => Answer::Is(peer.base().0),
@@ -251,6 +280,7 @@ impl<'g> Node<'g> {
             now: peer.now(),
             confirmed,
             is_dropped: peer.dropped(),
+            last_checkpoint: peer.last_checkpoint(),
             certain: *certain,
             shown: *peer.shown(),
             players: [
@@ -324,6 +354,8 @@ impl<'g> Node<'g> {
             Deed::Tick(keys) => self.tick(keys, 1),
             Deed::Ticks(keys, times) => self.tick(keys, times),
             Deed::HearBytes(bytes) => self.hear(bytes),
+            Deed::Check => self.check(1),
+            Deed::Checks(times) => self.check(times),
             Deed::Look(look) => self.look(look),
             Deed::Row(frame) => self.row(frame),
             _ => self.does_to(deed),

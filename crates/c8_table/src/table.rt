@@ -21,10 +21,10 @@ pub struct Table<'g> {
 }
 
 /// A row that is answered otherwise.
-#[derive(Debug, Drop)]
+#[derive(Clone, Copy, Debug, PartialEq, Eq)]
 pub struct Wrong {
-    row: usize,
-    answer: Answer,
+    pub row: usize,
+    pub answer: Answer,
 }
 
 /// All rows are answered as they say, at a table where the first rows were walked before.
@@ -67,7 +67,8 @@ pub fn plays_beside(
     let other = Game::read(alloc, other.as_bytes())?;
     let mut table = Table::new(alloc, &game, &other)?;
     table.walk(first)?;
-    table.walk(rows)
+    table.walk(rows)?;
+    Ok(())
 }
 
 impl<'g> Table<'g> {
@@ -95,11 +96,11 @@ impl<'g> Table<'g> {
     }
 
     /// Each row is answered as it says.
-    pub fn walk(&mut self, rows: &[Row]) -> Result<(), Fail> {
+    pub fn walk(&mut self, rows: &[Row]) -> Result<(), Wrong> {
         for (row, (at, deed, wanted)) in rows.iter().enumerate() {
             let answer = self.does(*at, *deed);
             if answer != *wanted {
-                return Err(Fail::from(Wrong { row, answer }));
+                return Err(Wrong { row, answer });
             }
         }
         Ok(())
@@ -118,6 +119,8 @@ impl<'g> Table<'g> {
             Deed::Disk(capacity, calls) => self.put(at, capacity, calls, &[]),
             Deed::Hold(slots) => self.hold(at, 1000, slots, CLOSED),
             Deed::HoldTorn(capacity, slots, rest) => self.hold(at, capacity, slots, rest),
+            Deed::Write(slot, place, bytes) => self.write(at, slot, place, bytes),
+            Deed::Repeat(slot) => self.repeat(at, slot),
             Deed::Holds(slots) => self.holds(at, slots, CLOSED),
             Deed::HoldsTorn(slots, rest) => self.holds(at, slots, rest),
             Deed::Say(to, what) => self.say(at, to, what),
@@ -130,6 +133,7 @@ impl<'g> Table<'g> {
             Deed::Link(to) => self.link(at, to),
             Deed::Hear(number) => self.hear(at, number, 174),
             Deed::HearChanged(number, place) => self.hear(at, number, place),
+            Deed::HearMarked(number, frame, mark) => self.hear_marked(at, number, frame, mark),
             Deed::HearOther(number) => self.hear_other(at, number),
             Deed::Rounds(one, other, times) => self.rounds(one, other, times),
             Deed::Spells(number, place, bytes) => self.spells(number, place, bytes),
@@ -247,7 +251,7 @@ impl<'g> Table<'g> {
 
     fn hold(&mut self, at: u8, capacity: u32, slots: &[&[u8]], rest: &[u8]) -> Answer {
         match image(self.alloc, slots, rest) {
-            Some(image) => self.put(at, capacity, 100, &image),
+            Some(image) => self.put(at, capacity, 4000, &image),
             None => Answer::Impossible,
         }
     }
@@ -258,6 +262,31 @@ impl<'g> Table<'g> {
         };
         match self.node(at) {
             Some(node) => { Answer::Tells(node.image() == image.as_slice()) }
+            None => Answer::Impossible,
+        }
+    }
+
+    /// Puts a disk in the place of a player's, that holds the same but for these bytes.
+    fn write(&mut self, at: u8, slot: usize, place: usize, bytes: &[u8]) -> Answer {
+        let alloc = self.alloc;
+        let Some(node) = self.node(at) else {
+            return Answer::Impossible;
+        };
+        let place = slot.saturating_mul(144).saturating_add(place);
+        match written(alloc, node.image(), place, bytes) {
+            Some(image) => self.put(at, 20000, 4000, &image),
+            None => Answer::Impossible,
+        }
+    }
+
+    /// The same, with a slot once more behind the last.
+    fn repeat(&mut self, at: u8, slot: usize) -> Answer {
+        let alloc = self.alloc;
+        let Some(node) = self.node(at) else {
+            return Answer::Impossible;
+        };
+        match repeated(alloc, node.image(), slot) {
+            Some(image) => self.put(at, 20000, 4000, &image),
             None => Answer::Impossible,
         }
     }
@@ -314,6 +343,13 @@ impl<'g> Table<'g> {
     fn hear(&mut self, to: u8, number: usize, place: usize) -> Answer {
         match self.letters.get(number).copied() {
             Some(letter) => self.give(to, &letter.changed(place)),
+            None => Answer::Impossible,
+        }
+    }
+
+    fn hear_marked(&mut self, to: u8, number: usize, frame: u32, mark: u64) -> Answer {
+        match self.letters.get(number).copied() {
+            Some(letter) => self.give(to, &letter.marked(frame, mark)),
             None => Answer::Impossible,
         }
     }
@@ -388,4 +424,26 @@ fn image(alloc: Global, slots: &[&[u8]], rest: &[u8]) -> Option<Vec<u8>> {
     }
     image.extend_from_slice(rest).ok()?;
     Some(image)
+}
+
+/// The bytes of an image with others at a place, within it.
+fn written(alloc: Global, image: &[u8], place: usize, bytes: &[u8]) -> Option<Vec<u8>> {
+    let (front, rest) = image.split_at_checked(place)?;
+    let (_, back) = rest.split_at_checked(bytes.len())?;
+    joined(alloc, [front, bytes, back])
+}
+
+/// The bytes of an image with a slot once more before the gate behind all.
+fn repeated(alloc: Global, image: &[u8], slot: usize) -> Option<Vec<u8>> {
+    let again = image.chunks(144).nth(slot)?;
+    let (gate, slots) = image.split_last()?;
+    joined(alloc, [slots, again, &[*gate]])
+}
+
+fn joined(alloc: Global, parts: [&[u8]; 3]) -> Option<Vec<u8>> {
+    let mut joined = Vec::new(alloc);
+    for part in parts {
+        joined.extend_from_slice(part).ok()?;
+    }
+    Some(joined)
 }

@@ -96,6 +96,9 @@ impl<'g> Replay<'g> {
             Act::Decide(leaver) => {
                 let _decided = peer.as_mut()?.decide(leaver);
             }
+            Act::Check(_) => {
+                let _checked = peer.as_mut()?.checkpoint();
+            }
         }
         Some(())
     }

@@ -1,13 +1,16 @@
 //! The players of a game, each with what its worker takes.
-ghost use Rattle.std.specs.Prelude.{◌≡◌, [], IfOk};
-ghost use Rattle.c8_board.specs.Tokens.{new_viewer};
+ghost use Rattle.std.specs.Prelude.{◌≡◌, IfOk};
+ghost use Rattle.c8_board.specs.Starts.{origin_from};
+ghost use Rattle.c8_known.specs.Confirmed.{confirmed_rows};
+ghost use Rattle.c8_peer.specs.Peer.{known_by, begun_by};
+ghost use Rattle.c8_live.specs.Published.{MayShow, pen_at};
 
 use c8_board::{Board, Look, Pen, Viewer};
 use c8_disk::MemDisk;
 use c8_game::{Game, Player};
 use c8_inlet::inlet;
 use c8_keys::key_sets;
-use c8_live::{Counters, Gate, Relay, Session, Standing, Wire, game_worker};
+use c8_live::{Counters, Gate, Relay, Session, Standing, Wire, game_worker, open_board};
 use c8_machine::Machine;
 use c8_peer::Peer;
 use std::alloc::{AllocError, Global};
@@ -32,7 +35,8 @@ pub(crate) struct Side<'g, W> {
     ghost writes: { pen.board ≡ board },
     ghost watches: { viewer.board ≡ board },
     ghost plays: { pen.game ≡ session.peer.rules },
-    ghost fresh: { pen.rows ≡ [] },
+    ghost begins: { origin_from pen.from ≡ begun_by session.peer },
+    ghost shows: { pen.rows ≡ confirmed_rows (known_by session.peer) },
 }
 
 /// What a worker came to: how many turns it made if it did not fail, how many frames are confirmed
@@ -91,18 +95,23 @@ fn session_of<'g>(
     let keys = key_sets(alloc, keys.as_bytes())?;
     let disk = MemDisk::new(alloc, 100_000, 4000)?;
     match Peer::open(alloc, disk, game, me, 7) {
-        Ok(peer) => Ok(Session::new(peer, game, keys, None)),
+        Ok(peer) => Ok(Session::new(peer, game, keys, None, 0)),
         Err((error, _disk)) => Err(Fail::new(error)),
     }
 }
 
-/// A board with its pen and a viewer.
-fn opened(alloc: Global, game: &Game) -> Result<(Board, Pen, Viewer), Fail>
-    ensures pen { IfOk result (λ r.
-        r.1 ≡ record { board = r.0; game = game.now; rows = [] }) }
-    ensures viewer { IfOk result (λ r. r.2 ≡ new_viewer r.0 game.now) }
+/// A board that shows a peer, with its pen and a viewer.
+fn opened(
+    alloc: Global,
+    game: &Game,
+    peer: &Peer<'_, MemDisk>,
+) -> Result<(Board, Pen, Viewer), Fail>
+    requires { game.now ≡ peer.now.rules }
+    ensures pen { IfOk result (λ r. r.1 ≡ pen_at r.0 peer.now) }
+    ensures shows { IfOk result (λ r. MayShow peer.now r.1) }
+    ensures viewer { IfOk result (λ r. r.2.board ≡ r.0) }
 {
-    let (board, pen, mut viewers) = Board::open(alloc, game, 1)?;
+    let (board, pen, mut viewers) = open_board(alloc, game, peer, 1)?;
     match viewers.pop() {
         Some(viewer) => Ok((board, pen, viewer)),
         None => Err(Fail::new("no viewer")),
@@ -118,7 +127,7 @@ impl<'g, W: Wire + Drop> Side<'g, W> {
         wire: W,
     ) -> Result<Side<'g, W>, Fail> {
         let session = session_of(alloc, game, number, keys)?;
-        let (board, pen, viewer) = opened(alloc, game)?;
+        let (board, pen, viewer) = opened(alloc, game, session.peer())?;
         Ok(Side {
             session,
             wire,

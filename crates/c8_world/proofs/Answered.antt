@@ -7,6 +7,7 @@ use Rattle.c8_wire.specs.Packet.{Packet}
 use Rattle.c8_known.specs.declared.error.KnownError.TheVariants.{Differs}
 use Rattle.c8_known.specs.Journal.{Record}
 use Rattle.c8_known.specs.Known.{known_of}
+use Rattle.c8_peer.specs.Told.{told_of}
 use Rattle.c8_peer.specs.declared.error.Refused.{Refused}
 use Rattle.c8_peer.specs.declared.error.Refused.TheVariants.{BadAck, Desync, Known}
 use Rattle.c8_peer.specs.State as states
@@ -14,7 +15,7 @@ use Rattle.c8_peer.specs.State.{Mode, Down, Away, State, Call, Outcome, Delivere
 use Rattle.c8_peer.specs.Steps.{outcome, Luck, Works, Refuses, refused_by_disk, Stepped, done, at_mode, step}
 use Rattle.c8_peer.specs.Opening.{Opening, NoPlayer, Stands, NotWritten, NoMemory, NotRead, Unfit, Spent, found, opened}
 use Rattle.c8_world.specs.checked.Below.{ArePeersLawful}
-use Rattle.c8_world.specs.World.{World, is_player, peer_of, journal_of, Act, Open, Tick, Say, Give, Leave, Decide, Event, Do, Stop, Happening, Answer, Told, NoSuch, After, call_at_mode, call_at, open_at_mode, give_to, acted, after, CanHappen, Chain, IsReached}
+use Rattle.c8_world.specs.World.{World, is_player, peer_of, journal_of, Act, Open, Tick, Say, Give, Leave, Decide, Event, Do, Stop, Happening, Answer, Told, NoSuch, After, call_at_mode, call_at, open_at_mode, give_to, acted, after, CanHappen, Chain, IsReached, Check}
 use Rattle.c8_world.specs.Agreement.{IsPlayer, IsUndropped, NobodyLeaves, refused_for}
 use Rattle.c8_world.proofs.Events.{IsWorldly}
 use Rattle.c8_world.proofs.Worlds.{IsSound, plays_if}
@@ -32,6 +33,7 @@ calm_by_disk J p q (states.Deliver told) why = calm_other J p q _ (λ e. cc e) (
 calm_by_disk J p q (states.Say to what) why = unrefused J p q _ (λ x e. cc e)
 calm_by_disk J p q (states.Leave leaver) why = unrefused J p q _ (λ x e. cc e)
 calm_by_disk J p q (states.Decide leaver) why = unrefused J p q _ (λ x e. cc e)
+calm_by_disk J p q states.Checkpoint why = unrefused J p q _ (λ x e. cc e)
 
 calm_done : (J : ℕ → List Record) (p q : ℕ) (s : State) (call : Call) (o : Outcome) (kept : Option Record) (luck : Luck) → EndsCalmly J p q o → AnswersCalmly J p q (done s call o kept luck).reply
 calm_done J p q s call o None luck calm = calm
@@ -47,7 +49,7 @@ calm_mode : (rules : Rules) (room : ℕ) (w : World) (p : ℕ) (call : Call) (lu
 calm_mode rules room w p call luck states.Open range sound plays up worldly why e =
     let J : ℕ → List Record = journal_of w in
     let q : ℕ = teller_of call in
-    let o : Outcome = outcome rules (known_of rules p (J p)) (peer_of w p).memory call in
+    let o : Outcome = outcome rules (told_of rules p (J p)) (known_of rules p (J p)) (peer_of w p).memory call in
     let at : step rules p (peer_of w p) call luck ≡ done (peer_of w p) call o o.keeps luck = ap (λ (mode : Mode). at_mode (peer_of w p) call o mode luck) up in
     let awake = (sound.peers p plays).awake (λ gone. absurd (cc (up, gone))) in
     let calm : EndsCalmly J p q o = calm_call rules room J w.said p (peer_of w p).memory call range sound.journals plays awake worldly in
@@ -122,6 +124,7 @@ acted_well rules room w (Say p to what) h range sound = λ e. (calm_call_at rule
 acted_well rules room w (Give number p) h range sound = λ e. (calm_given rules room w p number h.luck (slice_get w.said number) BadAck range sound refl e).calm.ack refl
 acted_well rules room w (Leave leaver) h range sound = λ e. (calm_call_at rules room w 1 (states.Leave leaver) h.luck range sound tt BadAck e).ack refl
 acted_well rules room w (Decide leaver) h range sound = λ e. (calm_call_at rules room w 1 (states.Decide leaver) h.luck range sound tt BadAck e).ack refl
+acted_well rules room w (Check p) h range sound = λ e. (calm_call_at rules room w p states.Checkpoint h.luck range sound tt BadAck e).ack refl
 
 after_well : (rules : Rules) (room : ℕ) (w : World) (event : Event) (h : Happening) → AreInRange rules → IsSound rules room w → (after rules room w event h).answer ≢ refused_for BadAck
 after_well rules room w (Do act) h range sound = acted_well rules room w act h range sound

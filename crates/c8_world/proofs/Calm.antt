@@ -8,8 +8,10 @@ use Rattle.c8_game.specs.declared.row.Row.{Row}
 use Rattle.c8_machine.specs.Serial.{serial}
 use Rattle.c8_digest.specs.declared.marks.FrameMark.{FrameMark}
 use Rattle.c8_digest.specs.StateBytes.{mark_of}
-use Rattle.c8_digest.specs.Marks.{mark_at}
-use Rattle.c8_roll.specs.Roll.{mark_step, mark_after, marks_up_to}
+use Rattle.c8_digest.specs.Marks.{mark_step, mark_at}
+use Rattle.c8_roll.specs.Roll.{mark_after, marks_up_to}
+use Rattle.c8_roll.specs.checked.RollLaws.{marks_on_the_way}
+use Rattle.c8_check.specs.Checks.{begun_at}
 use Rattle.c8_known.specs.declared.error.KnownError.{KnownError}
 use Rattle.c8_known.specs.declared.error.KnownError.TheVariants as knowns
 use Rattle.c8_known.specs.Journal.{Record, held, count, has_leave}
@@ -18,6 +20,8 @@ use Rattle.c8_known.specs.Confirmed.{confirmed, rows_below}
 use Rattle.c8_known.specs.Fresh.{differ, misfit}
 use Rattle.c8_known.specs.checked.BeginsLaws.{begins_same, begins_drop, begins_length, begin_one}
 use Rattle.c8_wire.specs.Packet.{DataMessage}
+use Rattle.c8_peer.specs.TrueChecks.{HasTrueChecks}
+use Rattle.c8_peer.specs.Told.{told_of}
 use Rattle.c8_peer.specs.Hearing.{differs_from, is_desync}
 use Rattle.c8_peer.specs.Truth.{Stands, IsTrueMark}
 use Rattle.c8_world.specs.Agreement.{IsPlayer}
@@ -115,10 +119,16 @@ same_mark Q (Some own) mark holds same =
     subst (λ (other : List ℕ). differ own other ≡ false) (same own holds) (begin_one own own own (begins_same own) (begins_same own))
 
 -- two undropped players have the same mark of a frame
+-- the own marks are those of the serial run
+own_marks : (rules : Rules) (p : ℕ) (journal : List Record) → HasTrueChecks rules p journal → (told_of rules p journal).marks ≡ marks_up_to rules (known_of rules p journal) (confirmed (known_of rules p journal))
+unfolding told_of
+own_marks rules p journal true_checks = marks_on_the_way rules (known_of rules p journal) (begun_at rules journal) (confirmed (known_of rules p journal)) true_checks.begun true_checks.begun.confirmed_is
+
 pub no_desync : (rules : Rules) (room : ℕ) (J : ℕ → List Record) (p q : ℕ) (d : DataMessage) → AreInRange rules → AreSound rules room J → IsPlayer rules p → IsPlayer rules q
-    → has_leave p (J 1) ≡ false → has_leave q (J 1) ≡ false → IsTrueMark rules q (J q) d.mark_frame d.mark → is_desync rules (known_of rules p (J p)) d ≡ false
+    → has_leave p (J 1) ≡ false → has_leave q (J 1) ≡ false → IsTrueMark rules q (J q) d.mark_frame d.mark → is_desync (told_of rules p (J p)) d ≡ false
 unfolding is_desync
 no_desync rules room J p q d range sound plays q_plays stays q_stays is =
     let k : KnownValue = known_of rules p (J p) in
-    same_mark (IsMarkOf rules k d.mark_frame) (mark_at d.mark_frame (marks_up_to rules k (confirmed k))) d.mark (kept_marks rules k d.mark_frame) (λ own here.
+    let marks = own_marks rules p (J p) (sound.checks p plays) in
+    same_mark (IsMarkOf rules k d.mark_frame) (mark_at d.mark_frame (told_of rules p (J p)).marks) d.mark (subst (λ (kept : List FrameMark). HoldsIf (IsMarkOf rules k d.mark_frame) (mark_at d.mark_frame kept)) (sym marks) (kept_marks rules k d.mark_frame)) (λ own here.
     here.1 ∙ ap (λ (rows : List Row). mark_of (serial rules rows)) (rows_agree rules room J p q d.mark_frame range sound plays q_plays stays q_stays here.0 is.confirmed) ∙ sym is.is)

@@ -19,6 +19,7 @@ use Rattle.c8_known.specs.Confirmed.{row, rows_below}
 use Rattle.c8_known.specs.checked.ConfirmedLaws.{map_same}
 use Rattle.c8_record.specs.Body.{body_of, records_of}
 use Rattle.c8_record.specs.Allowed.{IsJournal}
+use Rattle.c8_check.specs.Checks.{ChecksValue}
 use Rattle.c8_record.specs.Replay.{AreJournalBodies, IsRefusal, IsReplayed}
 use Rattle.c8_record.specs.declared.error.ReplayError.{ReplayError}
 use Rattle.c8_peer.specs.State.{State}
@@ -48,16 +49,16 @@ same_row_of a b frame same within =
 -- ---- a read of a disk
 
 -- a replay of what a disk keeps makes known what the journal says, with the pending record or without
-pub replayed_known : (rules : Rules) (room p : ℕ) (s : State) (disk : MemDisk) (result : Result ℕ ReplayError) (known : KnownValue) → Tells s disk
+pub replayed_known : (rules : Rules) (room p : ℕ) (s : State) (disk : MemDisk) (result : Result ℕ ReplayError) (known : KnownValue) (checks : ChecksValue) → Tells s disk
     → ((finds : Bool) → IsJournal rules p room (found s finds))
     → ((journal : List Record) → IsJournal rules p room journal → records_of (map body_of journal) ≡ journal)
     → ((journal : List Record) → IsJournal rules p room journal → AreJournalBodies rules p room (map body_of journal))
     → ((bodies : List (List ℕ)) (error : ReplayError) → AreJournalBodies rules p room bodies → IsRefusal rules p room bodies error → ⊥)
-    → IsReplayed rules p room (kept (bytes_of disk)) result known → (finds : Bool) × (known ≡ known_of rules p (found s finds)) × Keeps (found s finds) (bytes_of disk)
-replayed_known rules room p s disk (Ok last) known tells journals back spell unrefused is =
+    → IsReplayed rules p room (kept (bytes_of disk)) result known checks → (finds : Bool) × (known ≡ known_of rules p (found s finds)) × Keeps (found s finds) (bytes_of disk)
+replayed_known rules room p s disk (Ok last) known checks tells journals back spell unrefused is =
     let now = found_now s disk tells in
     (now.0, is.1 ∙ ap (known_of rules p) (ap records_of now.1 ∙ back (found s now.0) (journals now.0)), now.1)
-replayed_known rules room p s disk (Err error) known tells journals back spell unrefused is =
+replayed_known rules room p s disk (Err error) known checks tells journals back spell unrefused is =
     let now = found_now s disk tells in
     let bodies : AreJournalBodies rules p room (kept (bytes_of disk)) = subst (λ (xs : List (List ℕ)). AreJournalBodies rules p room xs) (sym now.1) (spell (found s now.0) (journals now.0)) in
     absurd (unrefused (kept (bytes_of disk)) error bodies is.0)

@@ -20,10 +20,11 @@ use Rattle.c8_known.specs.Fresh.{is_from_leaver, misfit, fresh_words}
 use Rattle.c8_known.specs.checked.StartLaws.{players_known}
 use Rattle.c8_window.specs.Window.{acked_more}
 use Rattle.c8_round.specs.Round.{ChairValue, report_of, with_report, with_have, is_ready}
-use Rattle.c8_record.specs.Allowed.{IsAllowed}
+use Rattle.c8_check.specs.Checks.{Pieces, frames_of}
+use Rattle.c8_peer.specs.Told.{Told, told_of}
 use Rattle.c8_peer.specs.declared.error.Refused.TheVariants as refusals
-use Rattle.c8_peer.specs.State.{Memory, Saying, Call, Tick, Deliver, Say, Leave, Decide, Reply, Outcome, answered, recorded}
-use Rattle.c8_peer.specs.Calls.{tick, leave, decide}
+use Rattle.c8_peer.specs.State.{Memory, Saying, Call, Tick, Deliver, Say, Leave, Decide, Reply, Outcome, answered, recorded, Checkpoint}
+use Rattle.c8_peer.specs.Calls.{tick, leave, decide, next_piece, checkpoint}
 use Rattle.c8_peer.specs.Hearing.{is_of_other_wire, refused, unless_misfit, got, is_desync, hear_data, hear_welcome, hear_freeze, hear_frozen, hear_end, hear_cut, hear_message, unless_hand, deliver}
 use Rattle.c8_peer.specs.Saying.{is_not_mine, lacks_record, lacks_link, say}
 use Rattle.c8_peer.specs.Steps.{outcome}
@@ -31,8 +32,8 @@ use Rattle.c8_peer.specs.Truth.{Stands, IsFrozenAt, IsTrue, IsTrueMessage}
 use Rattle.c8_peer.specs.Lawful.{IsMemory}
 use Rattle.c8_world.specs.checked.Below.{ArePeersLawful}
 use Rattle.c8_world.specs.Agreement.{IsPlayer, IsAmong, Names}
-use Rattle.c8_world.proofs.Journals.{AreSound, Fits}
-use Rattle.c8_world.proofs.Records.{count_known, freeze_known_by, leave_known_by, me_is, names_player, one_unfrozen, stands_entered, fits_own, fits_got, fits_freeze, fits_leave, fits_cut, fits_decision}
+use Rattle.c8_world.proofs.Journals.{AreSound, MayAdd, Fits}
+use Rattle.c8_world.proofs.Records.{count_known, freeze_known_by, leave_known_by, me_is, names_player, one_unfrozen, stands_entered, fits_own, fits_got, fits_freeze, fits_leave, fits_cut, fits_decision, fits_state, fits_check}
 
 -- ---- what holds of what is kept in memory
 
@@ -58,7 +59,7 @@ pub record IsSaid (rules : Rules) (J : ℕ → List Record) (packet : Packet) : 
 -- ---- what a call owes
 
 pub record IsGood (rules : Rules) (room : ℕ) (J : ℕ → List Record) (said : List Packet) (p : ℕ) (o : Outcome) : Type 0 where
-  pub keeps : (r : Record) → o.keeps ≡ Some r → IsAllowed rules p room (J p) r → Fits rules room J p r
+  pub keeps : (r : Record) → o.keeps ≡ Some r → MayAdd rules room J p r → Fits rules room J p r
   pub chair : AreReported rules J p o.memory.chair
   pub links : AreNamed said p o.memory.links
 
@@ -71,9 +72,9 @@ good_answered : (rules : Rules) (room : ℕ) (J : ℕ → List Record) (said : L
 good_answered rules room J said p m reply chair named = record { keeps = λ r e. absurd cc; chair = chair; links = named }
 
 good_recorded : (rules : Rules) (room : ℕ) (J : ℕ → List Record) (said : List Packet) (p : ℕ) (m : Memory) (reply : Reply) (r : Record) → AreReported rules J p m.chair → AreNamed said p m.links
-    → (IsAllowed rules p room (J p) r → Fits rules room J p r) → IsGood rules room J said p (recorded m reply r)
+    → (MayAdd rules room J p r → Fits rules room J p r) → IsGood rules room J said p (recorded m reply r)
 good_recorded rules room J said p m reply r chair named fits = record {
-  keeps = λ s e allowed. let same : r ≡ s = cc in subst (λ (x : Record). Fits rules room J p x) same (fits (subst (λ (x : Record). IsAllowed rules p room (J p) x) (sym same) allowed));
+  keeps = λ s e allowed. let same : r ≡ s = cc in subst (λ (x : Record). Fits rules room J p x) same (fits (subst (λ (x : Record). MayAdd rules room J p x) (sym same) allowed));
   chair = chair;
   links = named;
 }
@@ -129,7 +130,7 @@ good_tick rules room J said p m keys sound plays awake =
     branch P (nat_le (confirmed k + rules.window) k.ticks) _ _ (λ is. refuses _) (λ within.
     good_recorded rules room J said p m _ (records.Own k.me (count_in k k.me) keys) awake.chair awake.links (λ allowed.
     subst (λ (me : ℕ). Fits rules room J p (records.Own me (count_in k k.me) keys)) (sym (me_is rules p (J p)))
-    (fits_own rules room J p (count_in k k.me) keys sound plays (subst (λ (me : ℕ). IsAllowed rules p room (J p) (records.Own me (count_in k k.me) keys)) (me_is rules p (J p)) allowed))))))
+    (fits_own rules room J p (count_in k k.me) keys sound plays (subst (λ (me : ℕ). MayAdd rules room J p (records.Own me (count_in k k.me) keys)) (me_is rules p (J p)) allowed))))))
 
 good_leave : (rules : Rules) (room : ℕ) (J : ℕ → List Record) (said : List Packet) (p : ℕ) (m : Memory) (leaver : ℕ) → AreSound rules room J → IsPlayer rules p → IsAwake rules room J said p m
     → IsGood rules room J said p (leave (known_of rules p (J p)) m leaver)
@@ -173,7 +174,7 @@ good_decide laws rules room J said p m leaver sound plays awake =
     let first : p ≡ 1 = is_one rules p (J p) (or_parts (not (k.me == 1)) (not (player_in k leaver).leaving) chair).0 in
     let ready : is_ready m.chair k leaver ≡ true = not-false (is_ready m.chair k leaver) all in
     good_recorded rules room J said p m _ (records.Cut leaver (count_in k leaver) (count_in k leaver) []) awake.chair awake.links (λ allowed.
-    let leaver_plays = names_player rules room p (J p) (records.Cut leaver (count_in k leaver) (count_in k leaver) []) allowed in
+    let leaver_plays = names_player rules room p (J p) (records.Cut leaver (count_in k leaver) (count_in k leaver) []) allowed.allowed in
     fits_decision rules room J p leaver (count_in k leaver) (count_in k leaver) sound plays leaver_plays first allowed (decided_by_all laws rules room J said p m leaver plays leaver_plays awake first ready)))))
 
 -- ---- deliveries
@@ -189,7 +190,7 @@ good_got rules room J said p m q start words (w ∷ ws) sound plays q_plays chai
     let k : KnownValue = known_of rules p (J p) in
     good_recorded rules room J said p m _ (records.Got q (count_in k q) (w ∷ ws)) chair named (λ allowed.
     subst (λ (all : List ℕ). Fits rules room J p (records.Got q (count_in k q) all)) (sym e)
-    (fits_got rules room J p q (count_in k q) start words sound plays q_plays (subst (λ (all : List ℕ). IsAllowed rules p room (J p) (records.Got q (count_in k q) all)) e allowed) from stands frozen))
+    (fits_got rules room J p q (count_in k q) start words sound plays q_plays (subst (λ (all : List ℕ). MayAdd rules room J p (records.Got q (count_in k q) all)) e allowed) from stands frozen))
 
 fresh_is : (rules : Rules) (p q start : ℕ) (words : List ℕ) (journal : List Record) → IsPlayer rules q → fresh_words (known_of rules p journal) q start words ≡ drop (count rules q journal - start) words
 fresh_is rules p q start words journal plays = ap (λ (n : ℕ). drop (n - start) words) (count_known rules p q journal plays)
@@ -209,7 +210,7 @@ from_off k q e = frozen_off (player_in k q) (and_off (q == q) (is_frozen_of (pla
 
 -- the datagram that is delivered: said by a player, true of its journal, and spelled
 good_data : (rules : Rules) (room : ℕ) (J : ℕ → List Record) (said : List Packet) (p q : ℕ) (m : Memory) (d : DataMessage) → AreSound rules room J → IsPlayer rules p → IsPlayer rules q → IsAwake rules room J said p m
-    → Stands d.start d.words (held rules q (J q)) → IsGood rules room J said p (hear_data rules (known_of rules p (J p)) m q d)
+    → Stands d.start d.words (held rules q (J q)) → IsGood rules room J said p (hear_data (told_of rules p (J p)) (known_of rules p (J p)) m q d)
 unfolding hear_data
 good_data rules room J said p q m d sound plays q_plays awake stands =
     let P : Outcome → Type 0 = IsGood rules room J said p in
@@ -220,7 +221,7 @@ good_data rules room J said p q m d sound plays q_plays awake stands =
     unless_misfit_by P m (misfit k q d.start d.words) _ (λ error. refuses _) (λ fits.
     let fit = is_fit k q d.start d.words fits in
     let thawed : has_freeze q (J p) ≡ false = sym (freeze_known_by rules p q (J p) q_plays) ∙ from_off k q itself in
-    branch P (is_desync rules k d) _ _ (λ is. good_answered rules room J said p _ _ awake.chair awake.links) (λ same.
+    branch P (is_desync (told_of rules p (J p)) d) _ _ (λ is. good_answered rules room J said p _ _ awake.chair awake.links) (λ same.
     good_got rules room J said p (record m { acks = acked_more m.acks q d.ack }) q d.start d.words (fresh_words k q d.start d.words) sound plays q_plays awake.chair awake.links
     (fresh_is rules p q d.start d.words (J p) q_plays) (no_gap_is rules p q d.start d.words (J p) q_plays fit) stands
     (λ is. absurd (both_ways (has_freeze q (J p)) thawed is))))))
@@ -303,7 +304,7 @@ good_end rules room J said p m c None sound plays leaver awake elsewhere cut sta
     (λ is. good_recorded rules room J said p m _ (records.Cut c.leaver c.length (count_in k c.leaver) fresh) awake.chair awake.links (λ allowed.
     subst (λ (all : List ℕ). Fits rules room J p (records.Cut c.leaver c.length (count_in k c.leaver) all)) (sym same)
     (fits_cut rules room J p c.leaver c.length (count_in k c.leaver) c.start c.words sound plays leaver elsewhere
-    (subst (λ (all : List ℕ). IsAllowed rules p room (J p) (records.Cut c.leaver c.length (count_in k c.leaver) all)) same allowed) from stands cut whole)))
+    (subst (λ (all : List ℕ). MayAdd rules room J p (records.Cut c.leaver c.length (count_in k c.leaver) all)) same allowed) from stands cut whole)))
     (λ short. good_got rules room J said p m c.leaver c.start c.words fresh sound plays leaver awake.chair awake.links same from stands (λ is. (c.length, cut, whole)))))
 
 good_cut : (rules : Rules) (room : ℕ) (J : ℕ → List Record) (said : List Packet) (p q : ℕ) (m : Memory) (c : LeaverMessage) → AreSound rules room J → IsPlayer rules p → IsPlayer rules q → IsAwake rules room J said p m
@@ -351,7 +352,7 @@ good_welcome rules room J said p m packet ack awake among admitted =
 good_message : (laws : ArePeersLawful) (rules : Rules) (room : ℕ) (J : ℕ → List Record) (said : List Packet) (p : ℕ) (m : Memory) (packet : Packet) (message : Message) → AreSound rules room J → IsPlayer rules p → IsAwake rules room J said p m → IsAmong said packet
     → links.refusal m.links packet.head ≡ None → IsPlayer rules packet.head.from → packet.head.from ≢ p
     → IsTrueMessage rules packet.head.from packet.head.to (J packet.head.from) message → IsMessage message
-    → IsGood rules room J said p (hear_message rules (known_of rules p (J p)) m packet.head message)
+    → IsGood rules room J said p (hear_message rules (told_of rules p (J p)) (known_of rules p (J p)) m packet.head message)
 good_message laws rules room J said p m packet packets.Hello sound plays awake among admitted from apart is_true fits =
     good_answered rules room J said p _ _ awake.chair (named_heard said p m.links packet awake.lawful.player among admitted awake.links)
 good_message laws rules room J said p m packet (packets.Welcome ack) sound plays awake among admitted from apart is_true fits =
@@ -370,7 +371,7 @@ pub sender_apart : (rules : Rules) (room p : ℕ) (journal : List Record) (m : M
 sender_apart rules room p journal m head lawful admitted e = (is_for_me m.links head admitted).apart (e ∙ sym lawful.player)
 
 good_delivery : (laws : ArePeersLawful) (rules : Rules) (room : ℕ) (J : ℕ → List Record) (said : List Packet) (p : ℕ) (m : Memory) (packet : Packet) → AreSound rules room J → IsPlayer rules p → IsAwake rules room J said p m → IsAmong said packet → IsSaid rules J packet
-    → IsGood rules room J said p (deliver rules (known_of rules p (J p)) m (Ok packet))
+    → IsGood rules room J said p (deliver rules (told_of rules p (J p)) (known_of rules p (J p)) m (Ok packet))
 good_delivery laws rules room J said p m packet sound plays awake among is_said =
     let P : Outcome → Type 0 = IsGood rules room J said p in
     let refuses = λ (reply : Reply). good_answered rules room J said p m reply awake.chair awake.links in
@@ -381,7 +382,7 @@ good_delivery laws rules room J said p m packet sound plays awake among is_said 
     good_message laws rules room J said p m packet packet.message sound plays awake among admitted is_said.from
     (sender_apart rules room p (J p) m packet.head awake.lawful admitted) is_said.true_now.message is_said.spelled.message)))
 
-good_say : (rules : Rules) (room : ℕ) (J : ℕ → List Record) (said : List Packet) (p : ℕ) (m : Memory) (to : ℕ) (what : Saying) → IsAwake rules room J said p m → IsGood rules room J said p (say rules (known_of rules p (J p)) m to what)
+good_say : (rules : Rules) (room : ℕ) (J : ℕ → List Record) (said : List Packet) (p : ℕ) (m : Memory) (to : ℕ) (what : Saying) → IsAwake rules room J said p m → IsGood rules room J said p (say rules (told_of rules p (J p)) (known_of rules p (J p)) m to what)
 unfolding say
 good_say rules room J said p m to what awake =
     let P : Outcome → Type 0 = IsGood rules room J said p in
@@ -393,6 +394,25 @@ good_say rules room J said p m to what awake =
     branch P (lacks_record k what) _ _ (λ is. refuses _) (λ kept.
     branch P (lacks_link m to what) _ _ (λ is. refuses _) (λ linked. refuses _)))))
 
+good_piece : (rules : Rules) (room : ℕ) (J : ℕ → List Record) (said : List Packet) (p : ℕ) (m : Memory) (o : Option Pieces) → AreSound rules room J → IsPlayer rules p → IsAwake rules room J said p m
+    → IsGood rules room J said p (next_piece (told_of rules p (J p)) (known_of rules p (J p)) m o)
+good_piece rules room J said p m None sound plays awake =
+    let k : KnownValue = known_of rules p (J p) in
+    let t : Told = told_of rules p (J p) in
+    branch (IsGood rules room J said p) (nat_le (confirmed k) (frames_of t.checks.last)) _ _ (λ is. good_answered rules room J said p m _ awake.chair awake.links)
+    (λ above. good_recorded rules room J said p m _ _ awake.chair awake.links (fits_state rules room J p _ _ _ _ sound plays))
+good_piece rules room J said p m (Some pieces) sound plays awake =
+    branch (IsGood rules room J said p) (pieces.count == 36) _ _ (λ all. good_recorded rules room J said p m _ _ awake.chair awake.links (fits_check rules room J p _ _ _ sound plays))
+    (λ more. good_recorded rules room J said p m _ _ awake.chair awake.links (fits_state rules room J p _ _ _ _ sound plays))
+
+good_checkpoint : (rules : Rules) (room : ℕ) (J : ℕ → List Record) (said : List Packet) (p : ℕ) (m : Memory) → AreSound rules room J → IsPlayer rules p → IsAwake rules room J said p m
+    → IsGood rules room J said p (checkpoint (told_of rules p (J p)) (known_of rules p (J p)) m)
+unfolding checkpoint
+good_checkpoint rules room J said p m sound plays awake =
+    let k : KnownValue = known_of rules p (J p) in
+    branch (IsGood rules room J said p) (player_in k k.me).leaving _ _ (λ is. good_answered rules room J said p m _ awake.chair awake.links)
+    (λ stays. good_piece rules room J said p m (told_of rules p (J p)).checks.under_way sound plays awake)
+
 -- ---- any call of an open peer in a world: what is delivered was said
 
 abbrev pub IsWorldly : Rules → (ℕ → List Record) → List Packet → Call → Type 0
@@ -402,12 +422,14 @@ IsWorldly rules J said (Deliver (Err error)) = ⊥
 IsWorldly rules J said (Say to what) = Unit {0}
 IsWorldly rules J said (Leave leaver) = Unit {0}
 IsWorldly rules J said (Decide leaver) = Unit {0}
+IsWorldly rules J said Checkpoint = Unit {0}
 
 pub good_call : (laws : ArePeersLawful) (rules : Rules) (room : ℕ) (J : ℕ → List Record) (said : List Packet) (p : ℕ) (m : Memory) (call : Call) → AreSound rules room J → IsPlayer rules p → IsAwake rules room J said p m → IsWorldly rules J said call
-    → IsGood rules room J said p (outcome rules (known_of rules p (J p)) m call)
+    → IsGood rules room J said p (outcome rules (told_of rules p (J p)) (known_of rules p (J p)) m call)
 good_call laws rules room J said p m (Tick keys) sound plays awake worldly = good_tick rules room J said p m keys sound plays awake
 good_call laws rules room J said p m (Deliver (Ok packet)) sound plays awake worldly = good_delivery laws rules room J said p m packet sound plays awake worldly.0 worldly.1
 good_call laws rules room J said p m (Deliver (Err error)) sound plays awake worldly = absurd worldly
 good_call laws rules room J said p m (Say to what) sound plays awake worldly = good_say rules room J said p m to what awake
 good_call laws rules room J said p m (Leave leaver) sound plays awake worldly = good_leave rules room J said p m leaver sound plays awake
 good_call laws rules room J said p m (Decide leaver) sound plays awake worldly = good_decide laws rules room J said p m leaver sound plays awake
+good_call laws rules room J said p m Checkpoint sound plays awake worldly = good_checkpoint rules room J said p m sound plays awake

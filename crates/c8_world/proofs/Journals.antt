@@ -11,6 +11,7 @@ use Rattle.c8_known.specs.checked.JournalLaws.{held_next, held_begins, had_staye
 use Rattle.c8_record.specs.Allowed.{IsAllowed, IsJournal}
 use Rattle.c8_record.specs.checked.JournalLaws.{journal_more}
 use Rattle.c8_peer.specs.Truth.{IsFrozenAt}
+use Rattle.c8_peer.specs.TrueChecks.{HasTrueChecks}
 use Rattle.c8_peer.specs.checked.TruthLaws.{frozen_stays}
 use Rattle.c8_world.specs.Agreement.{IsPlayer}
 
@@ -29,10 +30,16 @@ pub record AreSound (rules : Rules) (room : ℕ) (J : ℕ → List Record) : Typ
   pub cuts : (p L K : ℕ) → IsPlayer rules p → cut_of L (J p) ≡ Some K → cut_of L (J 1) ≡ Some K
   pub decided : (L K s : ℕ) → cut_of L (J 1) ≡ Some K → IsPlayer rules s → s ≢ 1 → has_leave s (J 1) ≡ false → IsFrozenAt rules L K (J s)
   pub frozen : (s L : ℕ) (before rest : List Record) → IsPlayer rules s → J s ≡ before ++ Freeze L ∷ rest → HoldsNoMore rules J s L (count rules L before)
+  pub checks : (p : ℕ) → IsPlayer rules p → HasTrueChecks rules p (J p)
+
+-- The rules allow the record in a player's journal, and what that says of checkpoints stays true with it.
+pub record MayAdd (rules : Rules) (room : ℕ) (J : ℕ → List Record) (p : ℕ) (r : Record) : Type 0 where
+  pub allowed : IsAllowed rules p room (J p) r
+  pub checks : HasTrueChecks rules p (J p ++ r ∷ [])
 
 -- What a record of a player has to do with the others' journals, so that all stays sound with it.
 pub record Fits (rules : Rules) (room : ℕ) (J : ℕ → List Record) (p : ℕ) (r : Record) : Type 0 where
-  pub allowed : IsAllowed rules p room (J p) r
+  pub may : MayAdd rules room J p r
   pub adds : (q : ℕ) → IsPlayer rules q → q ≢ p → Begins (held rules q (J p) ++ words_of q r) (held rules q (J q))
   pub cuts : (L K : ℕ) → p ≢ 1 → slice_get (cuts_of L r) 0 ≡ Some K → cut_of L (J 1) ≡ Some K
   pub decides : (L K s : ℕ) → p ≡ 1 → slice_get (cuts_of L r) 0 ≡ Some K → IsPlayer rules s → s ≢ 1 → has_leave s (J 1) ≡ false → IsFrozenAt rules L K (J s)
@@ -128,7 +135,7 @@ sound_more rules room J J' p r range sound plays fits more =
     let grown = more_grown rules J J' p r more in
     record {
       valid = λ q q_plays. elim (cases_eq q p) [
-        | inl same ↦ subst (λ (x : ℕ). IsJournal rules x room (J' x)) (sym same) (subst (λ (journal : List Record). IsJournal rules p room journal) (sym more.here) (journal_more rules p room (J p) r (sound.valid p plays) fits.allowed))
+        | inl same ↦ subst (λ (x : ℕ). IsJournal rules x room (J' x)) (sym same) (subst (λ (journal : List Record). IsJournal rules p room journal) (sym more.here) (journal_more rules p room (J p) r (sound.valid p plays) fits.may.allowed))
         | inr other ↦ subst (λ (journal : List Record). IsJournal rules q room journal) (sym (more.there q q_plays other)) (sound.valid q q_plays)
       ];
       begins = λ a q a_plays q_plays. elim (cases_eq a p) [
@@ -173,6 +180,10 @@ sound_more rules room J J' p r range sound plays fits more =
             (λ cut. inr (cut.0, cut_grown L cut.0 (J 1) (J' 1) (grown 1 one) cut.1, subst (λ (journal : List Record). count rules L journal ≤ cut.0) (sym unchanged) cut.2))
             (sound.frozen s L before rest s_plays (sym unchanged ∙ e))
       ];
+      checks = λ q q_plays. elim (cases_eq q p) [
+        | inl same ↦ subst (λ (x : ℕ). HasTrueChecks rules x (J' x)) (sym same) (subst (HasTrueChecks rules p) (sym more.here) fits.may.checks)
+        | inr other ↦ subst (HasTrueChecks rules q) (sym (more.there q q_plays other)) (sound.checks q q_plays)
+      ];
     }
 
 -- What fits goes on to fit while the others' journals grow.
@@ -180,7 +191,10 @@ pub fits_later : (rules : Rules) (room : ℕ) (J J' : ℕ → List Record) (p : 
 fits_later rules room J J' p r range fits same grown =
     let one = player_one rules range in
     record {
-      allowed = subst (λ (journal : List Record). IsAllowed rules p room journal r) (sym same) fits.allowed;
+      may = record {
+        allowed = subst (λ (journal : List Record). IsAllowed rules p room journal r) (sym same) fits.may.allowed;
+        checks = subst (λ (journal : List Record). HasTrueChecks rules p (journal ++ r ∷ [])) (sym same) fits.may.checks;
+      };
       adds = λ q plays other. rw same (begins_more (held rules q (J p) ++ words_of q r) (held rules q (J q)) (held rules q (J' q)) (fits.adds q plays other) (held_grown rules q (J q) (J' q) (grown q plays)));
       cuts = λ L K not_one is. cut_grown L K (J 1) (J' 1) (grown 1 one) (fits.cuts L K not_one is);
       decides = λ L K s first is plays not_one stays.

@@ -149,6 +149,7 @@ other_act (act_ofs.Say player to what) p other e = cc e
 other_act (act_ofs.Give number player) p other e = cc e
 other_act (act_ofs.Leave leaver) p other e = cc e
 other_act (act_ofs.Decide leaver) p other e = cc e
+other_act (act_ofs.Check player) p other e = cc e
 
 -- what a run that ran out has lived: the events so far, and then what the event adds
 pub lived_on : (old mid new : WorldValue) (events : List asked.Event) (i : ℕ) (event : asked.Event) (told : List codes.Answer) → i < length events → event ≡ slice_index_or events i event

@@ -1,5 +1,5 @@
 -- The worked matches, worked out.
-use Rattle.std.proofs.Common.{◌≡◌, ◌≢◌, ◌⊎◌, ℕ, zero, suc, ◌<◌, ◌≤◌, ◌^◌, List, [], ◌∷◌, ◌++◌, length, slice_index_or, Bool, true, false, refl, ap, arith}
+use Rattle.std.proofs.Common.{◌≡◌, ◌≢◌, ◌⊎◌, ℕ, zero, suc, ◌<◌, ◌≤◌, ◌^◌, List, [], ◌∷◌, ◌++◌, length, slice_index_or, Bool, true, false, refl, inl, ap, arith}
 use Rattle.std.specs.Prelude.{slice_index}
 use Rattle.std.proofs.lemmas.Bool.{leb-true}
 use Rattle.std.proofs.lemmas.List.{length-append}
@@ -23,6 +23,8 @@ use Rattle.c8_digest.specs.Marks.{mark_at}
 use Rattle.c8_round.specs.Round.{is_ready}
 use Rattle.c8_record.specs.Body.{body_of, HasSpelling}
 use Rattle.c8_record.specs.declared.error.ReplayError.TheVariants as replays
+use Rattle.c8_check.specs.Checks.{opened_since, checks_of}
+use Rattle.c8_peer.specs.Told.{told_of}
 use Rattle.c8_peer.specs.Opening.{Unfit}
 use Rattle.c8_peer.specs.Calls.{tick, leave, decide}
 use Rattle.c8_peer.specs.Hearing.{hear_welcome, hear_freeze, hear_frozen, hear_cut}
@@ -144,15 +146,15 @@ abbrev turn_end : World
 turn_end = (course (two 100 1) 0 both goes_on).world
 
 begins_worked : ArePeersLawful → IsWorked (two 100 1) (start (two 100 1)) begins one
-unfolding acted tick leave decide say hear_welcome hear_freeze hear_frozen hear_cut known_of has_leave held ticks cut_of has_freeze epochs confirmed greatest input_of differ mark_at is_ready fits_in
+unfolding acted tick leave decide say hear_welcome hear_freeze hear_frozen hear_cut known_of told_of opened_since checks_of has_leave held ticks cut_of has_freeze epochs confirmed greatest input_of differ mark_at is_ready fits_in
 begins_worked laws = worked laws (two 100 1) (start (two 100 1)) begins turn_range (start_sound (two 100 1) 0 turn_range) refl refl refl
 
 replies_worked : ArePeersLawful → IsWorked (two 100 1) one replies both
-unfolding acted tick leave decide say hear_welcome hear_freeze hear_frozen hear_cut known_of has_leave held ticks cut_of has_freeze epochs confirmed greatest input_of differ mark_at is_ready fits_in
+unfolding acted tick leave decide say hear_welcome hear_freeze hear_frozen hear_cut known_of told_of opened_since checks_of has_leave held ticks cut_of has_freeze epochs confirmed greatest input_of differ mark_at is_ready fits_in
 replies_worked laws = worked laws (two 100 1) one replies turn_range (begins_worked laws).sound refl refl refl
 
 goes_on_worked : ArePeersLawful → IsWorked (two 100 1) both goes_on turn_end
-unfolding acted tick leave decide say hear_welcome hear_freeze hear_frozen hear_cut known_of has_leave held ticks cut_of has_freeze epochs confirmed greatest input_of differ mark_at is_ready fits_in
+unfolding acted tick leave decide say hear_welcome hear_freeze hear_frozen hear_cut known_of told_of opened_since checks_of has_leave held ticks cut_of has_freeze epochs confirmed greatest input_of differ mark_at is_ready fits_in
 goes_on_worked laws = worked laws (two 100 1) both goes_on turn_range (replies_worked laws).sound refl refl refl
 
 -- DATA with one input has 48 bytes
@@ -165,7 +167,7 @@ one_input head ack frame start word mark first eight =
     omega (arith, length-append mark (run_bytes head.version start (word ∷ [])), eight, run, same)
 
 turn_lengths : ArePeersLawful → lengths_from 0 turn_end ≡ 24 ∷ 28 ∷ 24 ∷ 28 ∷ 48 ∷ 48 ∷ []
-unfolding spelling acted tick leave decide say hear_welcome hear_freeze hear_frozen hear_cut known_of has_leave held ticks cut_of has_freeze epochs confirmed greatest input_of differ mark_at is_ready fits_in
+unfolding spelling acted tick leave decide say hear_welcome hear_freeze hear_frozen hear_cut known_of told_of opened_since checks_of has_leave held ticks cut_of has_freeze epochs confirmed greatest input_of differ mark_at is_ready fits_in
 turn_lengths laws =
     let one_said : Packet = datagram (two 100 1) 1 1 2 1 (inputs (two 100 1) 0 0 (0x0020 ∷ [])) in
     let other_said : Packet = datagram (two 100 1) 2 1 1 1 (inputs (two 100 1) 1 0 (0x0000 ∷ [])) in
@@ -175,7 +177,7 @@ turn_lengths laws =
     λ i. 24 ∷ 28 ∷ 24 ∷ 28 ∷ one i ∷ other i ∷ []
 
 pub goes_in_turn : ArePeersLawful → GoesInTurn
-unfolding acted tick leave decide say hear_welcome hear_freeze hear_frozen hear_cut known_of has_leave held ticks cut_of has_freeze epochs confirmed greatest input_of differ mark_at is_ready fits_in
+unfolding acted tick leave decide say hear_welcome hear_freeze hear_frozen hear_cut known_of told_of opened_since checks_of has_leave held ticks cut_of has_freeze epochs confirmed greatest input_of differ mark_at is_ready fits_in
 goes_in_turn laws = record {
   one = one;
   both = both;
@@ -199,15 +201,15 @@ stop_range : AreInRange (two 100 8)
 stop_range = two_range 100 8 (omega arith) (omega arith) (omega arith) (omega arith)
 
 lost_worked : ArePeersLawful → (calls pick : ℕ) → IsWorked (two 100 8) (start (two 100 8)) (lost calls pick) (course (two 100 8) 0 (start (two 100 8)) (lost calls pick)).world
-unfolding acted tick leave decide say hear_welcome hear_freeze hear_frozen hear_cut known_of has_leave held ticks cut_of has_freeze epochs confirmed greatest input_of differ mark_at is_ready fits_in
+unfolding acted tick leave decide say hear_welcome hear_freeze hear_frozen hear_cut known_of told_of opened_since checks_of has_leave held ticks cut_of has_freeze epochs confirmed greatest input_of differ mark_at is_ready fits_in
 lost_worked laws calls pick = worked laws (two 100 8) (start (two 100 8)) (lost calls pick) stop_range (start_sound (two 100 8) 0 stop_range) refl refl refl
 
 left_worked : ArePeersLawful → (calls pick : ℕ) → IsWorked (two 100 8) (start (two 100 8)) (left calls pick) (course (two 100 8) 0 (start (two 100 8)) (left calls pick)).world
-unfolding acted tick leave decide say hear_welcome hear_freeze hear_frozen hear_cut known_of has_leave held ticks cut_of has_freeze epochs confirmed greatest input_of differ mark_at is_ready fits_in
+unfolding acted tick leave decide say hear_welcome hear_freeze hear_frozen hear_cut known_of told_of opened_since checks_of has_leave held ticks cut_of has_freeze epochs confirmed greatest input_of differ mark_at is_ready fits_in
 left_worked laws calls pick = worked laws (two 100 8) (start (two 100 8)) (left calls pick) stop_range (start_sound (two 100 8) 0 stop_range) refl refl refl
 
 taken_worked : ArePeersLawful → (calls pick : ℕ) (leaves : Bool) → IsWorked (two 100 8) (start (two 100 8)) (taken calls pick leaves) (course (two 100 8) 0 (start (two 100 8)) (taken calls pick leaves)).world
-unfolding acted tick leave decide say hear_welcome hear_freeze hear_frozen hear_cut known_of has_leave held ticks cut_of has_freeze epochs confirmed greatest input_of differ mark_at is_ready fits_in
+unfolding acted tick leave decide say hear_welcome hear_freeze hear_frozen hear_cut known_of told_of opened_since checks_of has_leave held ticks cut_of has_freeze epochs confirmed greatest input_of differ mark_at is_ready fits_in
 taken_worked laws calls pick true = worked laws (two 100 8) (start (two 100 8)) (taken calls pick true) stop_range (start_sound (two 100 8) 0 stop_range) refl refl refl
 taken_worked laws calls pick false = worked laws (two 100 8) (start (two 100 8)) (taken calls pick false) stop_range (start_sound (two 100 8) 0 stop_range) refl refl refl
 
@@ -230,19 +232,19 @@ abbrev cut_end : World
 cut_end = (course three 0 brought cuts).world
 
 play_worked : ArePeersLawful → IsWorked three (start three) (play ++ let_go) played
-unfolding acted tick leave decide say hear_welcome hear_freeze hear_frozen hear_cut known_of has_leave held ticks cut_of has_freeze epochs confirmed greatest input_of differ mark_at is_ready fits_in
+unfolding acted tick leave decide say hear_welcome hear_freeze hear_frozen hear_cut known_of told_of opened_since checks_of has_leave held ticks cut_of has_freeze epochs confirmed greatest input_of differ mark_at is_ready fits_in
 play_worked laws = worked laws three (start three) (play ++ let_go) three_range (start_sound three 0 three_range) refl refl refl
 
 answers_worked : ArePeersLawful → IsWorked three played answers brought
-unfolding acted tick leave decide say hear_welcome hear_freeze hear_frozen hear_cut known_of has_leave held ticks cut_of has_freeze epochs confirmed greatest input_of differ mark_at is_ready fits_in
+unfolding acted tick leave decide say hear_welcome hear_freeze hear_frozen hear_cut known_of told_of opened_since checks_of has_leave held ticks cut_of has_freeze epochs confirmed greatest input_of differ mark_at is_ready fits_in
 answers_worked laws = worked laws three played answers three_range (play_worked laws).sound refl refl refl
 
 cuts_worked : ArePeersLawful → IsWorked three brought cuts cut_end
-unfolding acted tick leave decide say hear_welcome hear_freeze hear_frozen hear_cut known_of has_leave held ticks cut_of has_freeze epochs confirmed greatest input_of differ mark_at is_ready fits_in
+unfolding acted tick leave decide say hear_welcome hear_freeze hear_frozen hear_cut known_of told_of opened_since checks_of has_leave held ticks cut_of has_freeze epochs confirmed greatest input_of differ mark_at is_ready fits_in
 cuts_worked laws = worked laws three brought cuts three_range (answers_worked laws).sound refl refl refl
 
 pub cuts_where_held : ArePeersLawful → CutsWhereHeld
-unfolding spelling acted tick leave decide say hear_welcome hear_freeze hear_frozen hear_cut known_of has_leave held ticks cut_of has_freeze epochs confirmed greatest input_of differ mark_at is_ready fits_in
+unfolding spelling acted tick leave decide say hear_welcome hear_freeze hear_frozen hear_cut known_of told_of opened_since checks_of has_leave held ticks cut_of has_freeze epochs confirmed greatest input_of differ mark_at is_ready fits_in
 cuts_where_held laws = record {
   played = played;
   brought = brought;
@@ -268,11 +270,11 @@ abbrev out : World
 out = (course three 0 eleven told).world
 
 eleven_worked : ArePeersLawful → IsWorked three (start three) all_eleven eleven
-unfolding acted tick leave decide say hear_welcome hear_freeze hear_frozen hear_cut known_of has_leave held ticks cut_of has_freeze epochs confirmed greatest input_of differ mark_at is_ready fits_in
+unfolding acted tick leave decide say hear_welcome hear_freeze hear_frozen hear_cut known_of told_of opened_since checks_of has_leave held ticks cut_of has_freeze epochs confirmed greatest input_of differ mark_at is_ready fits_in
 eleven_worked laws = worked laws three (start three) all_eleven three_range (start_sound three 0 three_range) refl refl refl
 
 told_worked : ArePeersLawful → IsWorked three eleven told out
-unfolding acted tick leave decide say hear_welcome hear_freeze hear_frozen hear_cut known_of has_leave held ticks cut_of has_freeze epochs confirmed greatest input_of differ mark_at is_ready fits_in
+unfolding acted tick leave decide say hear_welcome hear_freeze hear_frozen hear_cut known_of told_of opened_since checks_of has_leave held ticks cut_of has_freeze epochs confirmed greatest input_of differ mark_at is_ready fits_in
 told_worked laws = worked laws three eleven told three_range (eleven_worked laws).sound refl refl refl
 
 -- player three's set in a row
@@ -280,20 +282,20 @@ abbrev third : Row → ℕ
 third r = set_at r 2
 
 tenth_differs : row (known_by three eleven 1) 10 ≢ row (known_by three eleven 3) 10
-unfolding acted tick leave decide say hear_welcome hear_freeze hear_frozen hear_cut known_of has_leave held ticks cut_of has_freeze epochs confirmed greatest input_of differ mark_at is_ready fits_in
+unfolding acted tick leave decide say hear_welcome hear_freeze hear_frozen hear_cut known_of told_of opened_since checks_of has_leave held ticks cut_of has_freeze epochs confirmed greatest input_of differ mark_at is_ready fits_in
 tenth_differs same =
     let sets : 0 ≡ 4 = ap third same in
     omega (arith, sets)
 
 eleven_differ : AgreeUpTo three eleven eleven 1 3 → ⊥
-unfolding acted tick leave decide say hear_welcome hear_freeze hear_frozen hear_cut known_of has_leave held ticks cut_of has_freeze epochs confirmed greatest input_of differ mark_at is_ready fits_in
+unfolding acted tick leave decide say hear_welcome hear_freeze hear_frozen hear_cut known_of told_of opened_since checks_of has_leave held ticks cut_of has_freeze epochs confirmed greatest input_of differ mark_at is_ready fits_in
 eleven_differ agree =
     let same = (agree 11 (leb-true 11 (confirmed_by three eleven 1) refl) (leb-true 11 (confirmed_by three eleven 3) refl)).rows in
     let sets : 0 ≡ 4 = ap (λ (rows : List Row). third (slice_index_or rows 10 (record { sets = [] }))) same in
     omega (arith, sets)
 
 pub differs_when_dropped : ArePeersLawful → DiffersWhenDropped
-unfolding acted tick leave decide say hear_welcome hear_freeze hear_frozen hear_cut known_of has_leave held ticks cut_of has_freeze epochs confirmed greatest input_of differ mark_at is_ready fits_in
+unfolding acted tick leave decide say hear_welcome hear_freeze hear_frozen hear_cut known_of told_of opened_since checks_of has_leave held ticks cut_of has_freeze epochs confirmed greatest input_of differ mark_at is_ready fits_in
 differs_when_dropped laws = record {
   end = eleven;
   leads = (eleven_worked laws).leads;
@@ -319,11 +321,11 @@ abbrev again : World
 again = (course three 0 (start three) (play ++ let_go ++ opened_again)).world
 
 again_worked : ArePeersLawful → IsWorked three (start three) (play ++ let_go ++ opened_again) again
-unfolding acted tick leave decide say hear_welcome hear_freeze hear_frozen hear_cut known_of has_leave held ticks cut_of has_freeze epochs confirmed greatest input_of differ mark_at is_ready fits_in
+unfolding acted tick leave decide say hear_welcome hear_freeze hear_frozen hear_cut known_of told_of opened_since checks_of has_leave held ticks cut_of has_freeze epochs confirmed greatest input_of differ mark_at is_ready fits_in
 again_worked laws = worked laws three (start three) (play ++ let_go ++ opened_again) three_range (start_sound three 0 three_range) refl refl refl
 
 pub cuts_after_restart : ArePeersLawful → CutsAfterRestart
-unfolding acted tick leave decide say hear_welcome hear_freeze hear_frozen hear_cut known_of has_leave held ticks cut_of has_freeze epochs confirmed greatest input_of differ mark_at is_ready fits_in
+unfolding acted tick leave decide say hear_welcome hear_freeze hear_frozen hear_cut known_of told_of opened_since checks_of has_leave held ticks cut_of has_freeze epochs confirmed greatest input_of differ mark_at is_ready fits_in
 cuts_after_restart laws = record { end = again; leads = (again_worked laws).leads; ends = refl }
 
 -- ---- a silent player
@@ -332,11 +334,11 @@ abbrev quiet : World
 quiet = (course four 0 (start four) silent).world
 
 quiet_worked : ArePeersLawful → IsWorked four (start four) silent quiet
-unfolding acted tick leave decide say hear_welcome hear_freeze hear_frozen hear_cut known_of has_leave held ticks cut_of has_freeze epochs confirmed greatest input_of differ mark_at is_ready fits_in
+unfolding acted tick leave decide say hear_welcome hear_freeze hear_frozen hear_cut known_of told_of opened_since checks_of has_leave held ticks cut_of has_freeze epochs confirmed greatest input_of differ mark_at is_ready fits_in
 quiet_worked laws = worked laws four (start four) silent four_range (start_sound four 0 four_range) refl refl refl
 
 pub waits_for_silent : ArePeersLawful → WaitsForSilent
-unfolding acted tick leave decide say hear_welcome hear_freeze hear_frozen hear_cut known_of has_leave held ticks cut_of has_freeze epochs confirmed greatest input_of differ mark_at is_ready fits_in
+unfolding acted tick leave decide say hear_welcome hear_freeze hear_frozen hear_cut known_of told_of opened_since checks_of has_leave held ticks cut_of has_freeze epochs confirmed greatest input_of differ mark_at is_ready fits_in
 waits_for_silent laws = record { end = quiet; leads = (quiet_worked laws).leads; ends = refl }
 
 -- ---- the last frame
@@ -348,23 +350,23 @@ last_range : AreInRange (two 1 1)
 last_range = two_range 1 1 (omega arith) (omega arith) (omega arith) (omega arith)
 
 last_worked : ArePeersLawful → IsWorked (two 1 1) (start (two 1 1)) over last_end
-unfolding acted tick leave decide say hear_welcome hear_freeze hear_frozen hear_cut known_of has_leave held ticks cut_of has_freeze epochs confirmed greatest input_of differ mark_at is_ready fits_in
+unfolding acted tick leave decide say hear_welcome hear_freeze hear_frozen hear_cut known_of told_of opened_since checks_of has_leave held ticks cut_of has_freeze epochs confirmed greatest input_of differ mark_at is_ready fits_in
 last_worked laws = worked laws (two 1 1) (start (two 1 1)) over last_range (start_sound (two 1 1) 0 last_range) refl refl refl
 
 pub ends_after_last_frame : ArePeersLawful → EndsAfterLastFrame
-unfolding acted tick leave decide say hear_welcome hear_freeze hear_frozen hear_cut known_of has_leave held ticks cut_of has_freeze epochs confirmed greatest input_of differ mark_at is_ready fits_in
+unfolding acted tick leave decide say hear_welcome hear_freeze hear_frozen hear_cut known_of told_of opened_since checks_of has_leave held ticks cut_of has_freeze epochs confirmed greatest input_of differ mark_at is_ready fits_in
 ends_after_last_frame laws = record { end = last_end; leads = (last_worked laws).leads; confirmed = refl }
 
 -- ---- another game's journal
 
-head_spelled : (id : List ℕ) (room : ℕ) → length id ≡ 32 → AreBytes id → room < 2 ^ 64 → HasSpelling (Head 1 id room)
+head_spelled : (id : List ℕ) (room : ℕ) → length id ≡ 32 → AreBytes id → room < 2 ^ 64 → HasSpelling (Head 1 0 id room)
 head_spelled id room long fit few = record {
   from_one = omega arith;
   to_four = omega arith;
   number = omega arith;
   start = omega arith;
   short = let eight : length (bytes_high_first 8 room) ≡ 8 = refl in omega (arith, long, eight, length-append id (bytes_high_first 8 room));
-  parts = (long, fit, few);
+  parts = (inl refl, long, fit, few);
 }
 
 abbrev refuses : Happening
@@ -376,7 +378,7 @@ refuses_other id room long fit few other = record {
   end = (acted (two 100 8) 0 (with_head id room) (Open 1) refuses).world;
   refused = record {
     happening = refuses;
-    may = λ plays. ((1, id, room, (body_of (Head 1 id room), refl, record { has = head_spelled id room long fit few; is = refl }), other), omega arith);
+    may = λ plays. ((1, id, room, (body_of (Head 1 0 id room), 0, refl, record { has = head_spelled id room long fit few; is = refl }), other), omega arith);
     is = refl;
   };
   stays = refl;

@@ -6,12 +6,12 @@ use Rattle.std.proofs.lemmas.Bool.{cases_eq, cases_Bool, eq-eqb, ne_eqb}
 use Rattle.c8_game.specs.Rules.{Rules, AreInRange}
 use Rattle.c8_wire.specs.Packet.{Packet}
 use Rattle.c8_peer.specs.State as states
-use Rattle.c8_peer.specs.State.{Mode, Down, Away, State, Call, Reply, Opened, Ticked, Delivered, Said, Left, Decided}
+use Rattle.c8_peer.specs.State.{Mode, Down, Away, State, Call, Reply, Opened, Ticked, Delivered, Said, Left, Decided, Checked}
 use Rattle.c8_peer.specs.Steps.{Luck, Stepped, step}
 use Rattle.c8_peer.specs.Opening.{found, away, opened}
 use Rattle.c8_peer.specs.Replies.{mode_told}
 use Rattle.c8_world.specs.checked.Below.{ArePeersLawful}
-use Rattle.c8_world.specs.World.{World, start, is_player, peer_of, with_peer, Act, Open, Tick, Say, Give, Leave, Decide, player_of, Event, Do, Stop, Happening, Answer, Told, IsUp, IsDown, NoSuch, Stopped, After, said_by, stepped, call_at_mode, call_at, open_at_mode, open_at, give_to, acted, crashed, after, MayAct, act_inside, CanHappen, Chain}
+use Rattle.c8_world.specs.World.{World, start, is_player, peer_of, with_peer, Act, Open, Tick, Say, Give, Leave, Decide, player_of, Event, Do, Stop, Happening, Answer, Told, IsUp, IsDown, NoSuch, Stopped, After, said_by, stepped, call_at_mode, call_at, open_at_mode, open_at, give_to, acted, crashed, after, MayAct, act_inside, CanHappen, Chain, Check}
 use Rattle.c8_world.specs.Agreement.{IsPlayer}
 use Rattle.c8_world.specs.declared.answer.Answer as codes
 use Rattle.c8_world.specs.declared.answer.Answer.TheVariants as answers
@@ -92,6 +92,7 @@ module _ (laws : ArePeersLawful) (rules : Rules) (room p : ℕ) (plays : IsPlaye
   acted_tells w (Give number q) h nodes = give_tells w q h.luck (slice_get w.said number) nodes
   acted_tells w (Leave leaver) h nodes = call_tells w 1 (states.Leave leaver) h.luck nodes
   acted_tells w (Decide leaver) h nodes = call_tells w 1 (states.Decide leaver) h.luck nodes
+  acted_tells w (Check q) h nodes = call_tells w q states.Checkpoint h.luck nodes
 
   -- a stop takes its player away, and no other
   crash_tells : (w u : World) (q : ℕ) (leaves : Bool) (answer : Answer) → length u.peers ≡ rules.players → Tells w q (record { answer = answer; world = u })
@@ -145,6 +146,7 @@ reported_mode rules q u mode (Told (Said (Ok packet))) = refl
 reported_mode rules q u mode (Told (Said (Err error))) = refl
 reported_mode rules q u mode (Told (Left result)) = refl
 reported_mode rules q u mode (Told (Decided result)) = refl
+reported_mode rules q u mode (Told (Checked result)) = refl
 reported_mode rules q u mode IsUp = refl
 reported_mode rules q u mode IsDown = refl
 reported_mode rules q u mode NoSuch = refl
@@ -159,6 +161,7 @@ reported_down rules q u (Told (Said (Ok packet))) down = absurd (cc down)
 reported_down rules q u (Told (Said (Err error))) down = absurd (cc down)
 reported_down rules q u (Told (Left result)) down = absurd (cc down)
 reported_down rules q u (Told (Decided result)) down = absurd (cc down)
+reported_down rules q u (Told (Checked result)) down = absurd (cc down)
 reported_down rules q u IsUp down = absurd (cc down)
 reported_down rules q u IsDown down = refl
 reported_down rules q u NoSuch down = absurd (cc down)
@@ -214,6 +217,7 @@ acted_not_down rules room w (Say q to what) h in_game up down = call_not_down ru
 acted_not_down rules room w (Give number q) h in_game up down = give_not_down rules w q h.luck (slice_get w.said number) in_game up down
 acted_not_down rules room w (Leave leaver) h in_game up down = call_not_down rules w 1 (states.Leave leaver) h.luck in_game up down
 acted_not_down rules room w (Decide leaver) h in_game up down = call_not_down rules w 1 (states.Decide leaver) h.luck in_game up down
+acted_not_down rules room w (Check q) h in_game up down = call_not_down rules w q states.Checkpoint h.luck in_game up down
 
 pub down_told : (laws : ArePeersLawful) (rules : Rules) (room : ℕ) (v u : World) (events : List Event) (answers : List Answer) (act : Act) → AreInRange rules → room < 2 ^ 64 → Chain rules room (start rules) events answers v
     → IsPlayer rules (player_of act) → CanHappen rules room v (Do act) IsDown u → mode_by (player_of act) Away events answers ≢ states.Open

@@ -10,7 +10,7 @@ use Rattle.c8_world.specs.World.{never_opened}
 use Rattle.c8_known.specs.Journal.{Record}
 use Rattle.c8_peer.specs.declared.error.OpenError.{OpenError}
 use Rattle.c8_peer.specs.declared.error.OpenError.TheVariants as opens
-use Rattle.c8_peer.specs.State.{Away, State, Reply, Opened, Ticked, Delivered, Said, Left, Decided}
+use Rattle.c8_peer.specs.State.{Away, State, Reply, Opened, Ticked, Delivered, Said, Left, Decided, Checked}
 use Rattle.c8_peer.specs.Opening.{Opening, NoPlayer, Stands, NotWritten, NoMemory, NotRead, Unfit, Spent, found, opened}
 use Rattle.c8_peer.specs.Peer.{Keeps}
 use Rattle.c8_world.specs.Nodes.{Tells}
@@ -31,6 +31,7 @@ IsOpenedOk (Delivered result) = ⊥
 IsOpenedOk (Said result) = ⊥
 IsOpenedOk (Left result) = ⊥
 IsOpenedOk (Decided result) = ⊥
+IsOpenedOk (Checked result) = ⊥
 
 -- a peer that was not opened is away
 pub refused_away : (rules : Rules) (room p : ℕ) (s : State) (journal : List Record) (opening : Opening) (error : OpenError)

@@ -211,6 +211,7 @@ opened_by t place p at within plays w holds (answers.Delivered result) (Some nod
 opened_by t place p at within plays w holds answers.NoSuch (Some node) is = absurd is
 opened_by t place p at within plays w holds (answers.Left result) (Some node) is = absurd is
 opened_by t place p at within plays w holds (answers.Decided result) (Some node) is = absurd is
+opened_by t place p at within plays w holds (answers.Checked result) (Some node) is = absurd is
 opened_by t place p at within plays w holds answers.Down (Some node) is = absurd is
 opened_by t place p at within plays w holds answers.Stopped (Some node) is = absurd is
 

@@ -22,7 +22,7 @@ found_by : (rules : Rules) (room : ℕ) (w : World) (p : ℕ) (finds : Bool) (o 
 found_by rules room w p false o sound plays e = sound.journals.valid p plays
 found_by rules room w p true None sound plays e = subst (λ (journal : List Record). IsJournal rules p room journal) (sym (append-nil (journal_of w p))) (sound.journals.valid p plays)
 found_by rules room w p true (Some r) sound plays e =
-    journal_more rules p room (journal_of w p) r (sound.journals.valid p plays) (((sound.peers p plays).pending r e).1).allowed
+    journal_more rules p room (journal_of w p) r (sound.journals.valid p plays) (((sound.peers p plays).pending r e).1).may.allowed
 
 -- whatever is found of a pending record
 found_valid : (rules : Rules) (room : ℕ) (w : World) (p : ℕ) (finds : Bool) → IsSound rules room w → IsPlayer rules p → IsJournal rules p room (found (peer_of w p) finds)

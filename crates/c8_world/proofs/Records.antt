@@ -5,7 +5,7 @@ use Rattle.std.specs.List.{slice_get}
 use Rattle.std.proofs.lemmas.Bool.{cases_eq, eq-eqb, ne_eqb, both_ways}
 use Rattle.std.proofs.lemmas.List.{append-nil}
 use Rattle.c8_game.specs.Rules.{Rules}
-use Rattle.c8_known.specs.Journal.{Record, Head, Epoch, Own, Got, Freeze, Leave, Cut, player_of, words_of, cuts_of, held, count, has_freeze, has_leave, cut_of}
+use Rattle.c8_known.specs.Journal.{Record, Head, Epoch, Own, Got, Freeze, Leave, Cut, State, Check, player_of, words_of, cuts_of, held, count, has_freeze, has_leave, cut_of}
 use Rattle.c8_known.specs.Known.{PlayerValue, KnownValue, player_in, count_in, said_of, known_of}
 use Rattle.c8_known.specs.Growth.{Begins}
 use Rattle.c8_known.specs.checked.BeginsLaws.{begins_fresh}
@@ -16,7 +16,7 @@ use Rattle.c8_record.specs.checked.LeaverLaws.{journal_orderly}
 use Rattle.c8_peer.specs.checked.TruthLaws.{stands_longer}
 use Rattle.c8_peer.specs.Truth.{Stands, IsFrozenAt}
 use Rattle.c8_world.specs.Agreement.{IsPlayer}
-use Rattle.c8_world.proofs.Journals.{AreSound, Fits}
+use Rattle.c8_world.proofs.Journals.{AreSound, MayAdd, Fits}
 
 -- ---- what is known of a player of the game is what the journal says
 
@@ -39,22 +39,26 @@ me_is rules p journal = refl
 -- ---- a record fits if what it says of its own player does
 
 words_of_other : (q : ℕ) (r : Record) → player_of r ≢ q → words_of q r ≡ []
-words_of_other q (Head player id room) other = refl
-words_of_other q (Epoch player number) other = refl
+words_of_other q (Head player form id room) other = refl
+words_of_other q (Epoch player number form) other = refl
 words_of_other q (Own player start word) other = rw (ne_eqb player q other) refl
 words_of_other q (Got player start words) other = rw (ne_eqb player q other) refl
 words_of_other q (Freeze player) other = refl
 words_of_other q (Leave player) other = refl
 words_of_other q (Cut player K start words) other = rw (ne_eqb player q other) refl
+words_of_other q (State player frames piece words) other = refl
+words_of_other q (Check player frames words) other = refl
 
 cuts_of_other : (q : ℕ) (r : Record) → player_of r ≢ q → cuts_of q r ≡ []
-cuts_of_other q (Head player id room) other = refl
-cuts_of_other q (Epoch player number) other = refl
+cuts_of_other q (Head player form id room) other = refl
+cuts_of_other q (Epoch player number form) other = refl
 cuts_of_other q (Own player start word) other = refl
 cuts_of_other q (Got player start words) other = refl
 cuts_of_other q (Freeze player) other = refl
 cuts_of_other q (Leave player) other = refl
 cuts_of_other q (Cut player K start words) other = rw (ne_eqb player q other) refl
+cuts_of_other q (State player frames piece words) other = refl
+cuts_of_other q (Check player frames words) other = refl
 
 -- whose cut it is
 cut_is_of : (q K : ℕ) (r : Record) → slice_get (cuts_of q r) 0 ≡ Some K → q ≡ player_of r
@@ -77,10 +81,10 @@ names_player rules room p journal r allowed =
     let to = allowed.plays.in_game in
     record { from_one = from; in_game = omega (arith, to, players_known rules p journal) }
 
-pub fits_by : (rules : Rules) (room : ℕ) (J : ℕ → List Record) (p : ℕ) (r : Record) → AreSound rules room J → IsPlayer rules p → IsAllowed rules p room (J p) r
+pub fits_by : (rules : Rules) (room : ℕ) (J : ℕ → List Record) (p : ℕ) (r : Record) → AreSound rules room J → IsPlayer rules p → MayAdd rules room J p r
     → FitsOf rules J p (player_of r) (words_of (player_of r) r) (cuts_of (player_of r) r) → Fits rules room J p r
-fits_by rules room J p r sound plays allowed of = record {
-  allowed = allowed;
+fits_by rules room J p r sound plays may of = record {
+  may = may;
   adds = λ q q_plays other. elim (cases_eq (player_of r) q) [
     | inl same ↦ subst (λ (x : ℕ). Begins (held rules x (J p) ++ words_of x r) (held rules x (J x))) same (of.adds (λ e. other (sym same ∙ e)))
     | inr apart ↦ rw (words_of_other q r apart, append-nil (held rules q (J p))) (sound.begins p q plays q_plays)
@@ -112,25 +116,35 @@ quiet rules room J p q sound plays q_plays = record {
 self : (q : ℕ) → (q == q) ≡ true
 self q = eq-eqb q q refl
 
-pub fits_head : (rules : Rules) (room : ℕ) (J : ℕ → List Record) (p player : ℕ) (id : List ℕ) (named : ℕ) → AreSound rules room J → IsPlayer rules p
-    → IsAllowed rules p room (J p) (Head player id named) → Fits rules room J p (Head player id named)
-fits_head rules room J p player id named sound plays allowed =
-    fits_by rules room J p (Head player id named) sound plays allowed (quiet rules room J p player sound plays (names_player rules room p (J p) (Head player id named) allowed))
+pub fits_head : (rules : Rules) (room : ℕ) (J : ℕ → List Record) (p player form : ℕ) (id : List ℕ) (named : ℕ) → AreSound rules room J → IsPlayer rules p
+    → MayAdd rules room J p (Head player form id named) → Fits rules room J p (Head player form id named)
+fits_head rules room J p player form id named sound plays may =
+    fits_by rules room J p (Head player form id named) sound plays may (quiet rules room J p player sound plays (names_player rules room p (J p) (Head player form id named) may.allowed))
 
-pub fits_epoch : (rules : Rules) (room : ℕ) (J : ℕ → List Record) (p player number : ℕ) → AreSound rules room J → IsPlayer rules p
-    → IsAllowed rules p room (J p) (Epoch player number) → Fits rules room J p (Epoch player number)
-fits_epoch rules room J p player number sound plays allowed =
-    fits_by rules room J p (Epoch player number) sound plays allowed (quiet rules room J p player sound plays (names_player rules room p (J p) (Epoch player number) allowed))
+pub fits_epoch : (rules : Rules) (room : ℕ) (J : ℕ → List Record) (p player number form : ℕ) → AreSound rules room J → IsPlayer rules p
+    → MayAdd rules room J p (Epoch player number form) → Fits rules room J p (Epoch player number form)
+fits_epoch rules room J p player number form sound plays may =
+    fits_by rules room J p (Epoch player number form) sound plays may (quiet rules room J p player sound plays (names_player rules room p (J p) (Epoch player number form) may.allowed))
 
 pub fits_freeze : (rules : Rules) (room : ℕ) (J : ℕ → List Record) (p L : ℕ) → AreSound rules room J → IsPlayer rules p
-    → IsAllowed rules p room (J p) (Freeze L) → Fits rules room J p (Freeze L)
-fits_freeze rules room J p L sound plays allowed =
-    fits_by rules room J p (Freeze L) sound plays allowed (quiet rules room J p L sound plays (names_player rules room p (J p) (Freeze L) allowed))
+    → MayAdd rules room J p (Freeze L) → Fits rules room J p (Freeze L)
+fits_freeze rules room J p L sound plays may =
+    fits_by rules room J p (Freeze L) sound plays may (quiet rules room J p L sound plays (names_player rules room p (J p) (Freeze L) may.allowed))
 
 pub fits_leave : (rules : Rules) (room : ℕ) (J : ℕ → List Record) (p L : ℕ) → AreSound rules room J → IsPlayer rules p
-    → IsAllowed rules p room (J p) (Leave L) → Fits rules room J p (Leave L)
-fits_leave rules room J p L sound plays allowed =
-    fits_by rules room J p (Leave L) sound plays allowed (quiet rules room J p L sound plays (names_player rules room p (J p) (Leave L) allowed))
+    → MayAdd rules room J p (Leave L) → Fits rules room J p (Leave L)
+fits_leave rules room J p L sound plays may =
+    fits_by rules room J p (Leave L) sound plays may (quiet rules room J p L sound plays (names_player rules room p (J p) (Leave L) may.allowed))
+
+pub fits_state : (rules : Rules) (room : ℕ) (J : ℕ → List Record) (p player frames piece : ℕ) (words : List ℕ) → AreSound rules room J → IsPlayer rules p
+    → MayAdd rules room J p (State player frames piece words) → Fits rules room J p (State player frames piece words)
+fits_state rules room J p player frames piece words sound plays may =
+    fits_by rules room J p (State player frames piece words) sound plays may (quiet rules room J p player sound plays (names_player rules room p (J p) (State player frames piece words) may.allowed))
+
+pub fits_check : (rules : Rules) (room : ℕ) (J : ℕ → List Record) (p player frames : ℕ) (words : List ℕ) → AreSound rules room J → IsPlayer rules p
+    → MayAdd rules room J p (Check player frames words) → Fits rules room J p (Check player frames words)
+fits_check rules room J p player frames words sound plays may =
+    fits_by rules room J p (Check player frames words) sound plays may (quiet rules room J p player sound plays (names_player rules room p (J p) (Check player frames words) may.allowed))
 
 -- nobody freezes itself, and player one freezes nobody
 pub own_unfrozen : (rules : Rules) (room : ℕ) (J : ℕ → List Record) (p : ℕ) → AreSound rules room J → IsPlayer rules p → has_freeze p (J p) ≡ false
@@ -146,9 +160,9 @@ one_unfrozen rules room J p q sound plays q_plays first =
     sym (freeze_known_by rules p q (J p) q_plays) ∙ (orderly q q_plays.from_one).at_one (me_is rules p (J p) ∙ first)
 
 pub fits_own : (rules : Rules) (room : ℕ) (J : ℕ → List Record) (p start word : ℕ) → AreSound rules room J → IsPlayer rules p
-    → IsAllowed rules p room (J p) (Own p start word) → Fits rules room J p (Own p start word)
-fits_own rules room J p start word sound plays allowed =
-    fits_by rules room J p (Own p start word) sound plays allowed (record {
+    → MayAdd rules room J p (Own p start word) → Fits rules room J p (Own p start word)
+fits_own rules room J p start word sound plays may =
+    fits_by rules room J p (Own p start word) sound plays may (record {
       adds = λ other. absurd (other refl);
       cut = λ K not_one is. absurd cc;
       decides = λ K s first is s_plays not_one stays. absurd cc;
@@ -167,13 +181,13 @@ stands_entered rules room J s q start words sound plays q_plays stands =
     stands_longer start words (held rules q (J s)) (held rules q (J q)) (sound.begins s q plays q_plays) stands
 
 pub fits_got : (rules : Rules) (room : ℕ) (J : ℕ → List Record) (p q at start : ℕ) (words : List ℕ) → AreSound rules room J → IsPlayer rules p → IsPlayer rules q
-    → IsAllowed rules p room (J p) (Got q at (drop (count rules q (J p) - start) words)) → start ≤ count rules q (J p) → Stands start words (held rules q (J q))
+    → MayAdd rules room J p (Got q at (drop (count rules q (J p) - start) words)) → start ≤ count rules q (J p) → Stands start words (held rules q (J q))
     → (has_freeze q (J p) ≡ true → (K : ℕ) × (cut_of q (J 1) ≡ Some K) × (count rules q (J p) + length (drop (count rules q (J p) - start) words) ≤ K))
     → Fits rules room J p (Got q at (drop (count rules q (J p) - start) words))
-fits_got rules room J p q at start words sound plays q_plays allowed from stands frozen =
+fits_got rules room J p q at start words sound plays q_plays may from stands frozen =
     let fresh : List ℕ = drop (count rules q (J p) - start) words in
     let here : words_of q (Got q at fresh) ≡ fresh = rw (self q) refl in
-    fits_by rules room J p (Got q at fresh) sound plays allowed (record {
+    fits_by rules room J p (Got q at fresh) sound plays may (record {
       adds = λ other. rw here (adds_fresh rules room J p q start words sound plays q_plays from stands);
       cut = λ K not_one is. absurd cc;
       decides = λ K s first is s_plays not_one stays. absurd cc;
@@ -185,13 +199,13 @@ cut_here q K L is = let e = rw (self q) at is in cc
 
 -- a CUT elsewhere than at player one, of a player whose cut stands there
 pub fits_cut : (rules : Rules) (room : ℕ) (J : ℕ → List Record) (p q K at start : ℕ) (words : List ℕ) → AreSound rules room J → IsPlayer rules p → IsPlayer rules q → p ≢ 1
-    → IsAllowed rules p room (J p) (Cut q K at (drop (count rules q (J p) - start) words)) → start ≤ count rules q (J p) → Stands start words (held rules q (J q))
+    → MayAdd rules room J p (Cut q K at (drop (count rules q (J p) - start) words)) → start ≤ count rules q (J p) → Stands start words (held rules q (J q))
     → cut_of q (J 1) ≡ Some K → count rules q (J p) + length (drop (count rules q (J p) - start) words) ≤ K
     → Fits rules room J p (Cut q K at (drop (count rules q (J p) - start) words))
-fits_cut rules room J p q K at start words sound plays q_plays elsewhere allowed from stands cut within =
+fits_cut rules room J p q K at start words sound plays q_plays elsewhere may from stands cut within =
     let fresh : List ℕ = drop (count rules q (J p) - start) words in
     let here : words_of q (Cut q K at fresh) ≡ fresh = rw (self q) refl in
-    fits_by rules room J p (Cut q K at fresh) sound plays allowed (record {
+    fits_by rules room J p (Cut q K at fresh) sound plays may (record {
       adds = λ other. rw here (adds_fresh rules room J p q start words sound plays q_plays from stands);
       cut = λ L not_one is. cut ∙ ap Some (cut_here q K L is);
       decides = λ L s first is s_plays not_one stays. absurd (elsewhere first);
@@ -200,12 +214,12 @@ fits_cut rules room J p q K at start words sound plays q_plays elsewhere allowed
 
 -- player one's decision, which all who stay have answered
 pub fits_decision : (rules : Rules) (room : ℕ) (J : ℕ → List Record) (p q K at : ℕ) → AreSound rules room J → IsPlayer rules p → IsPlayer rules q → p ≡ 1
-    → IsAllowed rules p room (J p) (Cut q K at [])
+    → MayAdd rules room J p (Cut q K at [])
     → ((s : ℕ) → IsPlayer rules s → s ≢ 1 → has_leave s (J 1) ≡ false → IsFrozenAt rules q K (J s))
     → Fits rules room J p (Cut q K at [])
-fits_decision rules room J p q K at sound plays q_plays first allowed answered =
+fits_decision rules room J p q K at sound plays q_plays first may answered =
     let here : words_of q (Cut q K at []) ≡ [] = rw (self q) refl in
-    fits_by rules room J p (Cut q K at []) sound plays allowed (record {
+    fits_by rules room J p (Cut q K at []) sound plays may (record {
       adds = λ other. rw (here, append-nil (held rules q (J p))) (sound.begins p q plays q_plays);
       cut = λ L not_one is. absurd (not_one first);
       decides = λ L s one is s_plays not_one stays. subst (λ (n : ℕ). IsFrozenAt rules q n (J s)) (cut_here q K L is) (answered s s_plays not_one stays);

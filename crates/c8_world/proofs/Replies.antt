@@ -16,15 +16,19 @@ use Rattle.c8_known.specs.Known.{PlayerValue, KnownValue, player_in, count_in, k
 use Rattle.c8_known.specs.Confirmed.{confirmed}
 use Rattle.c8_known.specs.Fresh.{is_from_leaver, misfit, fresh_words}
 use Rattle.c8_round.specs.Round.{is_ready}
+use Rattle.c8_check.specs.Checks.{Pieces, frames_of}
+use Rattle.c8_peer.specs.Told.{Told, told_of}
 use Rattle.c8_peer.specs.declared.error.Refused.{Refused}
 use Rattle.c8_peer.specs.declared.error.Refused.TheVariants as refusals
 use Rattle.c8_peer.specs.declared.error.TickError.{TickError}
 use Rattle.c8_peer.specs.declared.error.Unsayable.{Unsayable}
 use Rattle.c8_peer.specs.declared.error.LeaveError.{LeaveError}
 use Rattle.c8_peer.specs.declared.error.DecideError.{DecideError}
+use Rattle.c8_peer.specs.declared.error.CheckError.{CheckError}
+use Rattle.c8_peer.specs.declared.check.Check.{Check}
 use Rattle.c8_peer.specs.declared.heard.Heard.{Heard}
-use Rattle.c8_peer.specs.State.{Memory, Saying, Call, Tick, Deliver, Say, Leave, Decide, Reply, Ticked, Delivered, Said, Left, Decided, Outcome}
-use Rattle.c8_peer.specs.Calls.{tick, leave, decide}
+use Rattle.c8_peer.specs.State.{Memory, Saying, Call, Tick, Deliver, Say, Leave, Decide, Checkpoint, Reply, Ticked, Delivered, Said, Left, Decided, Checked, Outcome}
+use Rattle.c8_peer.specs.Calls.{tick, leave, decide, next_piece, checkpoint}
 use Rattle.c8_peer.specs.Hearing.{is_of_other_wire, refused, unless_misfit, got, is_desync, hear_data, hear_welcome, hear_freeze, hear_frozen, hear_end, hear_cut, hear_message, unless_hand, deliver}
 use Rattle.c8_peer.specs.Saying.{is_not_mine, lacks_record, lacks_link, say}
 use Rattle.c8_peer.specs.Steps.{outcome}
@@ -81,7 +85,7 @@ calm_got J p q k m player (w ∷ ws) = unrefused J p q _ (λ why e. cc e)
 
 calm_data : (rules : Rules) (room : ℕ) (J : ℕ → List Record) (p q : ℕ) (m : Memory) (d : DataMessage) → AreInRange rules → AreSound rules room J → IsPlayer rules p → IsPlayer rules q
     → d.ack ≤ count rules p (J q) → Stands d.start d.words (held rules q (J q)) → IsTrueMark rules q (J q) d.mark_frame d.mark
-    → EndsCalmly J p q (hear_data rules (known_of rules p (J p)) m q d)
+    → EndsCalmly J p q (hear_data (told_of rules p (J p)) (known_of rules p (J p)) m q d)
 unfolding hear_data
 calm_data rules room J p q m d range sound plays q_plays few stands is_mark =
     let P : Outcome → Type 0 = EndsCalmly J p q in
@@ -90,11 +94,11 @@ calm_data rules room J p q m d range sound plays q_plays few stands is_mark =
     branch P (nat_lt (count_in k k.me) d.ack) _ _ (λ is. absurd (no_bad_ack rules room J p q d.ack sound plays q_plays few is)) (λ ack.
     unless_misfit_calm P m (misfit k q d.start d.words) _
     (λ error e. calm_known J p q error (not_differs k q d.start d.words error (no_difference rules room J p q d.start d.words sound plays q_plays stands) e))
-    (branch P (is_desync rules k d) _ _
+    (branch P (is_desync (told_of rules p (J p)) d) _ _
     (λ is. calm_reply J p q refusals.Desync (record {
       ack = λ e. cc e;
       inputs = λ stays e. cc e;
-      machines = λ stays q_stays. absurd (both_ways (is_desync rules k d) (no_desync rules room J p q d range sound plays q_plays stays q_stays is_mark) is);
+      machines = λ stays q_stays. absurd (both_ways (is_desync (told_of rules p (J p)) d) (no_desync rules room J p q d range sound plays q_plays stays q_stays is_mark) is);
     }))
     (λ same. calm_got J p q k _ q (fresh_words k q d.start d.words)))))
 
@@ -178,7 +182,7 @@ calm_welcome rules room J p m head ack sound plays q_plays few =
     branch P (nat_lt (count_in k k.me) ack) _ _ (λ is. absurd (no_bad_ack rules room J p head.from ack sound plays q_plays few is)) (λ within. hears _)
 
 calm_message : (rules : Rules) (room : ℕ) (J : ℕ → List Record) (p : ℕ) (m : Memory) (head : HeadValue) (message : Message) → AreInRange rules → AreSound rules room J → IsPlayer rules p → IsPlayer rules head.from
-    → IsTrueMessage rules head.from p (J head.from) message → EndsCalmly J p head.from (hear_message rules (known_of rules p (J p)) m head message)
+    → IsTrueMessage rules head.from p (J head.from) message → EndsCalmly J p head.from (hear_message rules (told_of rules p (J p)) (known_of rules p (J p)) m head message)
 calm_message rules room J p m head packets.Hello range sound plays q_plays is_true = unrefused J p head.from _ (λ why e. cc e)
 calm_message rules room J p m head (packets.Welcome ack) range sound plays q_plays is_true = calm_welcome rules room J p m head ack sound plays q_plays is_true
 calm_message rules room J p m head (packets.Data d) range sound plays q_plays is_true = calm_data rules room J p head.from m d range sound plays q_plays is_true.0 is_true.1 is_true.2
@@ -187,7 +191,7 @@ calm_message rules room J p m head (packets.Frozen f) range sound plays q_plays 
 calm_message rules room J p m head (packets.Cut c) range sound plays q_plays is_true = calm_cut rules room J p head.from m c range sound plays q_plays is_true.0 is_true.1 is_true.2
 
 calm_delivery : (rules : Rules) (room : ℕ) (J : ℕ → List Record) (said : List Packet) (p : ℕ) (m : Memory) (packet : Packet) → AreInRange rules → AreSound rules room J → IsPlayer rules p → IsAwake rules room J said p m → IsSaid rules J packet
-    → EndsCalmly J p packet.head.from (deliver rules (known_of rules p (J p)) m (Ok packet))
+    → EndsCalmly J p packet.head.from (deliver rules (told_of rules p (J p)) (known_of rules p (J p)) m (Ok packet))
 calm_delivery rules room J said p m packet range sound plays awake is_said =
     let q : ℕ = packet.head.from in
     let P : Outcome → Type 0 = EndsCalmly J p q in
@@ -229,9 +233,9 @@ calm_decide J p q k m leaver =
     branch P (is_some (player_in k leaver).cut) _ _ (λ is. told _) (λ uncut.
     branch P (not (is_ready m.chair k leaver)) _ _ (λ is. told _) (λ all. told _)))
 
-calm_say : (J : ℕ → List Record) (p q : ℕ) (rules : Rules) (k : KnownValue) (m : Memory) (to : ℕ) (what : Saying) → EndsCalmly J p q (say rules k m to what)
+calm_say : (J : ℕ → List Record) (p q : ℕ) (rules : Rules) (t : Told) (k : KnownValue) (m : Memory) (to : ℕ) (what : Saying) → EndsCalmly J p q (say rules t k m to what)
 unfolding say
-calm_say J p q rules k m to what =
+calm_say J p q rules t k m to what =
     let P : Outcome → Type 0 = EndsCalmly J p q in
     let told = λ (result : Result Packet Unsayable). unrefused J p q (Said result) (λ why e. cc e) in
     branch P (player_in k k.me).leaving _ _ (λ is. told _) (λ stays.
@@ -239,6 +243,20 @@ calm_say J p q rules k m to what =
     branch P (is_not_mine k to what) _ _ (λ is. told _) (λ mine.
     branch P (lacks_record k what) _ _ (λ is. told _) (λ kept.
     branch P (lacks_link m to what) _ _ (λ is. told _) (λ linked. told _)))))
+
+calm_piece : (J : ℕ → List Record) (p q : ℕ) (t : Told) (k : KnownValue) (m : Memory) (o : Option Pieces) → EndsCalmly J p q (next_piece t k m o)
+calm_piece J p q t k m None =
+    let told = λ (result : Result Check CheckError). unrefused J p q (Checked result) (λ why e. cc e) in
+    branch (EndsCalmly J p q) (nat_le (confirmed k) (frames_of t.checks.last)) _ _ (λ is. told _) (λ above. told _)
+calm_piece J p q t k m (Some pieces) =
+    let told = λ (result : Result Check CheckError). unrefused J p q (Checked result) (λ why e. cc e) in
+    branch (EndsCalmly J p q) (pieces.count == 36) _ _ (λ is. told _) (λ more. told _)
+
+calm_checkpoint : (J : ℕ → List Record) (p q : ℕ) (t : Told) (k : KnownValue) (m : Memory) → EndsCalmly J p q (checkpoint t k m)
+unfolding checkpoint
+calm_checkpoint J p q t k m =
+    let told = λ (result : Result Check CheckError). unrefused J p q (Checked result) (λ why e. cc e) in
+    branch (EndsCalmly J p q) (player_in k k.me).leaving _ _ (λ is. told _) (λ stays. calm_piece J p q t k m t.checks.under_way)
 
 -- ---- any call
 
@@ -250,12 +268,14 @@ teller_of (Deliver (Err error)) = 0
 teller_of (Say to what) = 0
 teller_of (Leave leaver) = 0
 teller_of (Decide leaver) = 0
+teller_of Checkpoint = 0
 
 pub calm_call : (rules : Rules) (room : ℕ) (J : ℕ → List Record) (said : List Packet) (p : ℕ) (m : Memory) (call : Call) → AreInRange rules → AreSound rules room J → IsPlayer rules p → IsAwake rules room J said p m → IsWorldly rules J said call
-    → EndsCalmly J p (teller_of call) (outcome rules (known_of rules p (J p)) m call)
+    → EndsCalmly J p (teller_of call) (outcome rules (told_of rules p (J p)) (known_of rules p (J p)) m call)
 calm_call rules room J said p m (Tick keys) range sound plays awake worldly = calm_tick J p 0 rules (known_of rules p (J p)) m keys
 calm_call rules room J said p m (Deliver (Ok packet)) range sound plays awake worldly = calm_delivery rules room J said p m packet range sound plays awake worldly.1
 calm_call rules room J said p m (Deliver (Err error)) range sound plays awake worldly = absurd worldly
-calm_call rules room J said p m (Say to what) range sound plays awake worldly = calm_say J p 0 rules (known_of rules p (J p)) m to what
+calm_call rules room J said p m (Say to what) range sound plays awake worldly = calm_say J p 0 rules (told_of rules p (J p)) (known_of rules p (J p)) m to what
 calm_call rules room J said p m (Leave leaver) range sound plays awake worldly = calm_leave J p 0 (known_of rules p (J p)) m leaver
 calm_call rules room J said p m (Decide leaver) range sound plays awake worldly = calm_decide J p 0 (known_of rules p (J p)) m leaver
+calm_call rules room J said p m Checkpoint range sound plays awake worldly = calm_checkpoint J p 0 (told_of rules p (J p)) (known_of rules p (J p)) m

@@ -14,20 +14,19 @@ use Rattle.c8_hand.specs.Links as links
 use Rattle.c8_known.specs.declared.error.KnownError.TheVariants as knowns
 use Rattle.c8_known.specs.Journal.{epoch}
 use Rattle.c8_known.specs.Known.{KnownValue, player_in, count_in, known_of}
-use Rattle.c8_known.specs.Confirmed.{confirmed}
 use Rattle.c8_known.specs.Fresh.{is_from_leaver, misfit, fresh_words}
 use Rattle.c8_known.specs.checked.BeginsLaws.{begins_same, begin_one}
 use Rattle.c8_digest.specs.Marks.{mark_at}
-use Rattle.c8_roll.specs.Roll.{marks_up_to}
 use Rattle.c8_window.specs.Window.{acked_more}
 use Rattle.c8_peer.specs.declared.error.Refused.TheVariants as refusals
+use Rattle.c8_peer.specs.Told.{Told, told_of}
 use Rattle.c8_peer.specs.State as states
 use Rattle.c8_peer.specs.State.{Memory, Mode, Down, Away, State, Call, Outcome}
 use Rattle.c8_peer.specs.Steps.{outcome, Luck, done, at_mode}
 use Rattle.c8_peer.specs.Hearing.{is_of_other_wire, refused, unless_misfit, got, differs_from, is_desync, hear_data, hear_message, unless_hand, deliver}
 use Rattle.c8_peer.specs.Opening.{Opening, NoPlayer, Stands, NotWritten, NoMemory, NotRead, Unfit, Spent, found, MayBecome, last_epoch}
 use Rattle.c8_world.specs.checked.Below.{ArePeersLawful}
-use Rattle.c8_world.specs.World.{World, is_player, peer_of, journal_of, Act, Open, Tick, Say, Give, Leave, Decide, Event, Do, Stop, player_of, Happening, Answer, IsDown, NoSuch, Stopped, After, stepped, call_at_mode, give_to, acted, crashed, after, MayAct, act_inside, Chain}
+use Rattle.c8_world.specs.World.{World, is_player, peer_of, journal_of, Act, Open, Tick, Say, Give, Leave, Decide, Event, Do, Stop, player_of, Happening, Answer, IsDown, NoSuch, Stopped, After, stepped, call_at_mode, give_to, acted, crashed, after, MayAct, act_inside, Chain, Check}
 use Rattle.c8_world.specs.Agreement.{IsPlayer}
 use Rattle.c8_world.specs.Matches.{Line, events_of, answers_of, Leads}
 use Rattle.c8_world.proofs.Worlds.{IsSound, plays_if, after_sound}
@@ -48,23 +47,23 @@ data_here k m q d =
     else (if nat_lt (count_in k k.me) d.ack then refused m refusals.BadAck
     else unless_misfit m (misfit k q d.start d.words) (got k (record m { acks = acked_more m.acks q d.ack }) q (fresh_words k q d.start d.words)))
 
-data_is : (rules : Rules) (k : KnownValue) (m : Memory) (q : ℕ) (d : DataMessage) → is_desync rules k d ≡ false → hear_data rules k m q d ≡ data_here k m q d
+data_is : (t : Told) (k : KnownValue) (m : Memory) (q : ℕ) (d : DataMessage) → is_desync t d ≡ false → hear_data t k m q d ≡ data_here k m q d
 unfolding hear_data
-data_is rules k m q d same = rw same refl
+data_is t k m q d same = rw same refl
 
-abbrev pub message_here : Rules → KnownValue → Memory → HeadValue → Message → Outcome
-message_here rules k m head packets.Hello = hear_message rules k m head packets.Hello
-message_here rules k m head (packets.Welcome ack) = hear_message rules k m head (packets.Welcome ack)
-message_here rules k m head (packets.Data d) = data_here k m head.from d
-message_here rules k m head (packets.Freeze f) = hear_message rules k m head (packets.Freeze f)
-message_here rules k m head (packets.Frozen f) = hear_message rules k m head (packets.Frozen f)
-message_here rules k m head (packets.Cut c) = hear_message rules k m head (packets.Cut c)
+abbrev pub message_here : Rules → Told → KnownValue → Memory → HeadValue → Message → Outcome
+message_here rules t k m head packets.Hello = hear_message rules t k m head packets.Hello
+message_here rules t k m head (packets.Welcome ack) = hear_message rules t k m head (packets.Welcome ack)
+message_here rules t k m head (packets.Data d) = data_here k m head.from d
+message_here rules t k m head (packets.Freeze f) = hear_message rules t k m head (packets.Freeze f)
+message_here rules t k m head (packets.Frozen f) = hear_message rules t k m head (packets.Frozen f)
+message_here rules t k m head (packets.Cut c) = hear_message rules t k m head (packets.Cut c)
 
-abbrev pub deliver_here : Rules → KnownValue → Memory → Packet → Outcome
-deliver_here rules k m packet =
+abbrev pub deliver_here : Rules → Told → KnownValue → Memory → Packet → Outcome
+deliver_here rules t k m packet =
     if (player_in k k.me).leaving then refused m refusals.Dropped
     else (if is_of_other_wire rules packet.head then refused m refusals.OtherWire
-    else unless_hand m (refusal_here m.links packet.head) (message_here rules k m packet.head packet.message))
+    else unless_hand m (refusal_here m.links packet.head) (message_here rules t k m packet.head packet.message))
 
 -- ---- what has to be the same
 
@@ -81,57 +80,57 @@ mark_in (packets.Freeze f) = None
 mark_in (packets.Frozen f) = None
 mark_in (packets.Cut c) = None
 
-abbrev pub mark_for : Rules → KnownValue → Message → Option (List ℕ)
-mark_for rules k packets.Hello = None
-mark_for rules k (packets.Welcome ack) = None
-mark_for rules k (packets.Data d) = mark_at d.mark_frame (marks_up_to rules k (confirmed k))
-mark_for rules k (packets.Freeze f) = None
-mark_for rules k (packets.Frozen f) = None
-mark_for rules k (packets.Cut c) = None
+abbrev pub mark_for : Told → Message → Option (List ℕ)
+mark_for t packets.Hello = None
+mark_for t (packets.Welcome ack) = None
+mark_for t (packets.Data d) = mark_at d.mark_frame t.marks
+mark_for t (packets.Freeze f) = None
+mark_for t (packets.Frozen f) = None
+mark_for t (packets.Cut c) = None
 
 -- those of a datagram, and the peer's own ones
 abbrev pub named_in : Packet → Marks
 named_in packet = record { session = packet.head.session; mark = mark_in packet.message }
 
-abbrev pub own_for : Rules → KnownValue → Memory → Packet → Marks
-own_for rules k m packet = record { session = m.links.session; mark = mark_for rules k packet.message }
+abbrev pub own_for : Told → Memory → Packet → Marks
+own_for t m packet = record { session = m.links.session; mark = mark_for t packet.message }
 
 same_mark : (own : Option (List ℕ)) (mark : List ℕ) → Some mark ≡ own → differs_from own mark ≡ false
 same_mark own mark is = subst (λ (x : Option (List ℕ)). differs_from x mark ≡ false) is (begin_one mark mark mark (begins_same mark) (begins_same mark))
 
-alike : (rules : Rules) (k : KnownValue) (d : DataMessage) → Some d.mark ≡ mark_at d.mark_frame (marks_up_to rules k (confirmed k)) → is_desync rules k d ≡ false
+alike : (t : Told) (d : DataMessage) → Some d.mark ≡ mark_at d.mark_frame t.marks → is_desync t d ≡ false
 unfolding is_desync
-alike rules k d is = same_mark (mark_at d.mark_frame (marks_up_to rules k (confirmed k))) d.mark is
+alike t d is = same_mark (mark_at d.mark_frame t.marks) d.mark is
 
-message_is : (rules : Rules) (k : KnownValue) (m : Memory) (head : HeadValue) (message : Message) → mark_in message ≡ mark_for rules k message
-    → hear_message rules k m head message ≡ message_here rules k m head message
-message_is rules k m head packets.Hello same = refl
-message_is rules k m head (packets.Welcome ack) same = refl
-message_is rules k m head (packets.Data d) same = data_is rules k m head.from d (alike rules k d same)
-message_is rules k m head (packets.Freeze f) same = refl
-message_is rules k m head (packets.Frozen f) same = refl
-message_is rules k m head (packets.Cut c) same = refl
+message_is : (rules : Rules) (t : Told) (k : KnownValue) (m : Memory) (head : HeadValue) (message : Message) → mark_in message ≡ mark_for t message
+    → hear_message rules t k m head message ≡ message_here rules t k m head message
+message_is rules t k m head packets.Hello same = refl
+message_is rules t k m head (packets.Welcome ack) same = refl
+message_is rules t k m head (packets.Data d) same = data_is t k m head.from d (alike t d same)
+message_is rules t k m head (packets.Freeze f) same = refl
+message_is rules t k m head (packets.Frozen f) same = refl
+message_is rules t k m head (packets.Cut c) same = refl
 
 choose : (b : Bool) (x y z : Outcome) → y ≡ z → (if b then x else y) ≡ (if b then x else z)
 choose true x y z same = refl
 choose false x y z same = same
 
-deliver_is : (rules : Rules) (k : KnownValue) (m : Memory) (packet : Packet) → named_in packet ≡ own_for rules k m packet
-    → deliver rules k m (Ok packet) ≡ deliver_here rules k m packet
-deliver_is rules k m packet same =
+deliver_is : (rules : Rules) (t : Told) (k : KnownValue) (m : Memory) (packet : Packet) → named_in packet ≡ own_for t m packet
+    → deliver rules t k m (Ok packet) ≡ deliver_here rules t k m packet
+deliver_is rules t k m packet same =
     let session = ap (λ (t : Marks). t.session) same in
     let mark = ap (λ (t : Marks). t.mark) same in
     choose (player_in k k.me).leaving _ _ _
     (choose (is_of_other_wire rules packet.head) _ _ _
-    (ap (λ (o : Option HandError). unless_hand m o (hear_message rules k m packet.head packet.message)) (refusal_is m.links packet.head session)
-    ∙ ap (λ (o : Outcome). unless_hand m (refusal_here m.links packet.head) o) (message_is rules k m packet.head packet.message mark)))
+    (ap (λ (o : Option HandError). unless_hand m o (hear_message rules t k m packet.head packet.message)) (refusal_is m.links packet.head session)
+    ∙ ap (λ (o : Outcome). unless_hand m (refusal_here m.links packet.head) o) (message_is rules t k m packet.head packet.message mark)))
 
 -- ---- an event
 
 abbrev pub given_at : Rules → World → ℕ → Luck → Packet → Mode → After
 given_at rules w p luck packet states.Open =
-    stepped w p (done (peer_of w p) (states.Deliver (Ok packet)) (deliver_here rules (known_of rules p (journal_of w p)) (peer_of w p).memory packet)
-    (deliver_here rules (known_of rules p (journal_of w p)) (peer_of w p).memory packet).keeps luck)
+    stepped w p (done (peer_of w p) (states.Deliver (Ok packet)) (deliver_here rules (told_of rules p (journal_of w p)) (known_of rules p (journal_of w p)) (peer_of w p).memory packet)
+    (deliver_here rules (told_of rules p (journal_of w p)) (known_of rules p (journal_of w p)) (peer_of w p).memory packet).keeps luck)
 given_at rules w p luck packet Down = record { answer = IsDown; world = w }
 given_at rules w p luck packet Away = record { answer = IsDown; world = w }
 
@@ -146,6 +145,7 @@ acted_here rules room w (Say p to what) h = acted rules room w (Say p to what) h
 acted_here rules room w (Give number p) h = give_here rules w p h.luck (slice_get w.said number)
 acted_here rules room w (Leave leaver) h = acted rules room w (Leave leaver) h
 acted_here rules room w (Decide leaver) h = acted rules room w (Decide leaver) h
+acted_here rules room w (Check p) h = acted rules room w (Check p) h
 
 abbrev pub after_here : Rules → ℕ → World → Event → Happening → After
 after_here rules room w (Do act) h = acted_here rules room w act h
@@ -159,7 +159,7 @@ named_of (Some packet) = Some (named_in packet)
 
 abbrev pub own_of : Rules → World → ℕ → Option Packet → Option Marks
 own_of rules w p None = None
-own_of rules w p (Some packet) = Some (own_for rules (known_of rules p (journal_of w p)) (peer_of w p).memory packet)
+own_of rules w p (Some packet) = Some (own_for (told_of rules p (journal_of w p)) (peer_of w p).memory packet)
 
 abbrev pub named_by : World → Act → Option Marks
 named_by w (Open p) = None
@@ -168,6 +168,7 @@ named_by w (Say p to what) = None
 named_by w (Give number p) = named_of (slice_get w.said number)
 named_by w (Leave leaver) = None
 named_by w (Decide leaver) = None
+named_by w (Check p) = None
 
 abbrev pub own_by : Rules → World → Act → Option Marks
 own_by rules w (Open p) = None
@@ -176,16 +177,17 @@ own_by rules w (Say p to what) = None
 own_by rules w (Give number p) = own_of rules w p (slice_get w.said number)
 own_by rules w (Leave leaver) = None
 own_by rules w (Decide leaver) = None
+own_by rules w (Check p) = None
 
 given_is : (rules : Rules) (w : World) (p : ℕ) (luck : Luck) (packet : Packet) (mode : Mode) → (peer_of w p).mode ≡ mode
-    → named_in packet ≡ own_for rules (known_of rules p (journal_of w p)) (peer_of w p).memory packet
+    → named_in packet ≡ own_for (told_of rules p (journal_of w p)) (peer_of w p).memory packet
     → call_at_mode rules w p (states.Deliver (Ok packet)) luck mode ≡ given_at rules w p luck packet mode
 given_is rules w p luck packet states.Open up same =
     let s : State = peer_of w p in
     let call : Call = states.Deliver (Ok packet) in
-    let o : Outcome = outcome rules (known_of rules p s.journal) s.memory call in
+    let o : Outcome = outcome rules (told_of rules p s.journal) (known_of rules p s.journal) s.memory call in
     ap (λ (mode : Mode). stepped w p (at_mode s call o mode luck)) up
-    ∙ ap (λ (o : Outcome). stepped w p (done s call o o.keeps luck)) (deliver_is rules (known_of rules p s.journal) s.memory packet same)
+    ∙ ap (λ (o : Outcome). stepped w p (done s call o o.keeps luck)) (deliver_is rules (told_of rules p s.journal) (known_of rules p s.journal) s.memory packet same)
 given_is rules w p luck packet Down up same = refl
 given_is rules w p luck packet Away up same = refl
 
@@ -206,6 +208,7 @@ acted_is rules room w (Say p to what) h same = refl
 acted_is rules room w (Give number p) h same = give_is rules w p h.luck (slice_get w.said number) same
 acted_is rules room w (Leave leaver) h same = refl
 acted_is rules room w (Decide leaver) h same = refl
+acted_is rules room w (Check p) h same = refl
 
 after_is : (rules : Rules) (room : ℕ) (w : World) (event : Event) (h : Happening) → named_by w (act_inside event) ≡ own_by rules w (act_inside event)
     → after rules room w event h ≡ after_here rules room w event h
@@ -232,6 +235,7 @@ may_here w (Say p to what) h = true
 may_here w (Give number p) h = true
 may_here w (Leave leaver) h = true
 may_here w (Decide leaver) h = true
+may_here w (Check p) h = true
 
 both_hold : (a b : Bool) → (not a && b) ≡ true → (a ≡ false) × (b ≡ true)
 both_hold false b is = (refl, is)
@@ -257,6 +261,7 @@ may_is rules room w (Say p to what) h sound is = tt
 may_is rules room w (Give number p) h sound is = tt
 may_is rules room w (Leave leaver) h sound is = tt
 may_is rules room w (Decide leaver) h sound is = tt
+may_is rules room w (Check p) h sound is = tt
 
 -- ---- a list of events
 

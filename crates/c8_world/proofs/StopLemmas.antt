@@ -10,7 +10,7 @@ use Rattle.c8_peer.specs.Runs as runs
 use Rattle.c8_world.specs.declared.answer.Answer as codes
 use Rattle.c8_world.specs.declared.answer.Answer.TheVariants as answers
 use Rattle.c8_world.specs.declared.node.Node.{Node}
-use Rattle.c8_world.specs.World.{World, never_opened, is_player, peer_of, with_peer, Act, Open, Tick, Say, Give, Leave, Decide, player_of, Event, Do, Stop, Stopped, Happening, After, acted, crashed, MayAct, CanHappen}
+use Rattle.c8_world.specs.World.{World, never_opened, is_player, peer_of, with_peer, Act, Open, Tick, Say, Give, Leave, Decide, player_of, Event, Do, Stop, Stopped, Happening, After, acted, crashed, MayAct, CanHappen, Check}
 use Rattle.c8_world.specs.Agreement.{IsPlayer}
 use Rattle.c8_world.specs.Table.{TableValue, IsTaken, node_of, IsSameMatch, Holds, HasHappened, HasNotHappened, HasCrashed}
 use Rattle.c8_world.proofs.Openings.{plays_so}
@@ -80,6 +80,7 @@ acted_same rules room w (Say p to what) h leaves = refl
 acted_same rules room w (Give number p) h leaves = refl
 acted_same rules room w (Leave leaver) h leaves = refl
 acted_same rules room w (Decide leaver) h leaves = refl
+acted_same rules room w (Check p) h leaves = refl
 
 may_same : (rules : Rules) (room : ℕ) (w : World) (act : Act) (h : Happening) (leaves : Bool) → MayAct rules room w act h → MayAct rules room w act (record h { leaves = leaves })
 may_same rules room w (Open p) h leaves may = may
@@ -88,6 +89,7 @@ may_same rules room w (Say p to what) h leaves may = may
 may_same rules room w (Give number p) h leaves may = may
 may_same rules room w (Leave leaver) h leaves may = may
 may_same rules room w (Decide leaver) h leaves may = may
+may_same rules room w (Check p) h leaves may = may
 
 crashed_if : (P : World → Type 0) (b : Bool) (x w : World) → P x → P w → P (cond b x w)
 crashed_if P true x w is was = is

@@ -7,7 +7,7 @@ use Rattle.c8_game.specs.Rules.{Rules}
 use Rattle.c8_wire.specs.Packet.{Packet}
 use Rattle.c8_wire.specs.Spelling.{spelling}
 use Rattle.c8_peer.specs.State as states
-use Rattle.c8_peer.specs.State.{Mode, Down, Away, State, Call, Reply, Opened, Ticked, Delivered, Said, Left, Decided}
+use Rattle.c8_peer.specs.State.{Mode, Down, Away, State, Call, Reply, Opened, Ticked, Delivered, Said, Left, Decided, Checked}
 use Rattle.c8_peer.specs.Steps.{Luck, Works, step}
 use Rattle.c8_peer.specs.Opening.{Stands, NoMemory}
 use Rattle.c8_peer.specs.Peer.{luck_of}
@@ -15,7 +15,7 @@ use Rattle.c8_world.specs.declared.answer.Answer as codes
 use Rattle.c8_world.specs.declared.answer.Answer.TheVariants as answers
 use Rattle.c8_world.specs.declared.answer.Counts.{Counts}
 use Rattle.c8_world.specs.declared.node.Node.{Node}
-use Rattle.c8_world.specs.World.{World, never_opened, start, is_player, peer_of, Act, Tick, Leave, Decide, player_of, Event, Do, Happening, Answer, Told, IsDown, said_by, stepped, call_at_mode, call_at, acted, MayAct, CanHappen, Chain, IsReached}
+use Rattle.c8_world.specs.World.{World, never_opened, start, is_player, peer_of, Act, Tick, Leave, Decide, player_of, Event, Do, Happening, Answer, Told, IsDown, said_by, stepped, call_at_mode, call_at, acted, MayAct, CanHappen, Chain, IsReached, Check}
 use Rattle.c8_world.specs.Agreement.{IsPlayer}
 use Rattle.c8_world.specs.Nodes.{IsNode, IsCalled, IsAsked}
 use Rattle.c8_world.specs.Table.{TableValue, IsTaken, node_of, Holds, HadMemory, HasHappened, reported_reply, reported}
@@ -233,6 +233,7 @@ module _ (t : TableValue) (place p : ℕ) (node : Node) (act : Act) (call : Call
   asked_as (answers.Delivered result) asked = replied (Delivered result) (answers.Delivered result) asked refl (λ n. refl)
   asked_as (answers.Left result) asked = replied (Left result) (answers.Left result) asked refl (λ n. refl)
   asked_as (answers.Decided result) asked = replied (Decided result) (answers.Decided result) asked refl (λ n. refl)
+  asked_as (answers.Checked result) asked = replied (Checked result) (answers.Checked result) asked refl (λ n. refl)
   asked_as answers.Down asked = unasked asked
   asked_as (answers.Opened result) asked = absurd asked
   asked_as answers.Up asked = absurd asked
@@ -281,3 +282,7 @@ leave_call leaver rules room w = record { by = refl; is = λ h. refl; may = λ h
 pub decide_call : (leaver : ℕ) → (rules : Rules) (room : ℕ) (w : World) → IsCallOf rules room w (Decide leaver) 1 (states.Decide leaver)
 unfolding acted
 decide_call leaver rules room w = record { by = refl; is = λ h. refl; may = λ h. tt }
+
+pub check_call : (p : ℕ) → (rules : Rules) (room : ℕ) (w : World) → IsCallOf rules room w (Check p) p states.Checkpoint
+unfolding acted
+check_call p rules room w = record { by = refl; is = λ h. refl; may = λ h. tt }

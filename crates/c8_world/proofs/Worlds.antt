@@ -17,16 +17,19 @@ use Rattle.c8_round.specs.Round.{report_of, no_reports}
 use Rattle.c8_record.specs.Allowed.{IsAllowed, IsJournal}
 use Rattle.c8_record.specs.checked.JournalLaws.{journal_none}
 use Rattle.c8_peer.specs.State as states
-use Rattle.c8_peer.specs.State.{Memory, Mode, Down, Away, State, Call, Reply, Opened, Ticked, Delivered, Said, Left, Decided, Outcome, fresh_memory}
+use Rattle.c8_peer.specs.State.{Memory, Mode, Down, Away, State, Call, Reply, Opened, Ticked, Delivered, Said, Left, Decided, Outcome, fresh_memory, Checked}
 use Rattle.c8_peer.specs.Steps.{outcome, Luck, Works, Refuses, refused_by_disk, Stepped, done, at_mode, step}
-use Rattle.c8_peer.specs.Opening.{Opening, NoPlayer, Stands, NotWritten, NoMemory, NotRead, Unfit, Spent, found, opening_record, away, opened, MayBecome}
+use Rattle.c8_peer.specs.Opening.{last_epoch, Opening, NoPlayer, Stands, NotWritten, NoMemory, NotRead, Unfit, Spent, found, opening_record, away, opened, MayBecome}
 use Rattle.c8_peer.specs.Lawful.{IsMemory, IsCall}
 use Rattle.c8_peer.specs.Truth.{IsTrue}
+use Rattle.c8_peer.specs.TrueChecks.{HasTrueChecks}
+use Rattle.c8_peer.specs.checked.TrueCheckLaws.{none_true}
+use Rattle.c8_peer.specs.Told.{told_of}
 use Rattle.c8_peer.specs.checked.TruthLaws.{truth_stays}
 use Rattle.c8_world.specs.checked.Below.{ArePeersLawful}
-use Rattle.c8_world.specs.World.{World, never_opened, start, is_player, peer_of, journal_of, with_peer, Act, Open, Tick, Say, Give, Leave, Decide, Event, Do, Stop, player_of, Happening, Answer, After, said_by, stepped, call_at_mode, call_at, open_at_mode, give_to, acted, crashed, after, MayAct, act_inside, CanHappen, Chain}
+use Rattle.c8_world.specs.World.{World, never_opened, start, is_player, peer_of, journal_of, with_peer, Act, Open, Tick, Say, Give, Leave, Decide, Event, Do, Stop, player_of, Happening, Answer, After, said_by, stepped, call_at_mode, call_at, open_at_mode, give_to, acted, crashed, after, MayAct, act_inside, CanHappen, Chain, Check}
 use Rattle.c8_world.specs.Agreement.{IsPlayer, IsAmong}
-use Rattle.c8_world.proofs.Journals.{AreSound, Fits, Grown, HasMore, player_one, more_grown, held_grown, frozen_grown, sound_more, fits_later}
+use Rattle.c8_world.proofs.Journals.{AreSound, MayAdd, Fits, Grown, HasMore, player_one, more_grown, held_grown, frozen_grown, sound_more, fits_later}
 use Rattle.c8_world.proofs.Records.{fits_head, fits_epoch}
 use Rattle.c8_world.proofs.Events.{AreNamed, IsAwake, IsSaid, IsWorldly, good_call}
 
@@ -62,26 +65,10 @@ sound_same rules room J J' range sound same =
       cuts = λ p L K plays. rw (same p plays, one) (sound.cuts p L K plays);
       decided = λ L K s is plays. rw (one, same s plays) (sound.decided L K s (subst (λ (journal : List Record). cut_of L journal ≡ Some K) one is) plays);
       frozen = λ s L before rest plays. rw (same s plays, one) (sound.frozen s L before rest plays);
+      checks = λ p plays. rw (same p plays) (sound.checks p plays);
     }
 
 -- ---- what stays while journals grow
-
-epoch_grown : (number : ℕ) (early late : List Record) → Begins early late → had_epoch number early ≡ true → had_epoch number late ≡ true
-epoch_grown number early late begins is = subst (λ (all : List Record). had_epoch number all ≡ true) (sym begins.is) (epoch_stays number early begins.rest is)
-
-memory_later : (rules : Rules) (room p : ℕ) (early late : List Record) (m : Memory) → Begins early late → IsMemory rules room p early m → IsMemory rules room p late m
-memory_later rules room p early late m begins is =
-    let rises = begins_length (held rules p early) (held rules p late) (held_grown rules p early late begins) in
-    record {
-      player = is.player;
-      players = is.players;
-      version = is.version;
-      session = is.session;
-      epoch = epoch_grown m.links.epoch early late begins is.epoch;
-      epoch_fits = is.epoch_fits;
-      known_fits = is.known_fits;
-      acked = λ q. let few = is.acked q in omega (arith, few, rises);
-    }
 
 among_more : (said new : List Packet) (packet : Packet) → IsAmong said packet → IsAmong (said ++ new) packet
 among_more said new packet among = (among.0, begins_get said (said ++ new) among.0 packet (begins_append said new) among.1)
@@ -91,9 +78,9 @@ named_more said new p m named q is =
     let n = named q is in
     record { packet = n.packet; among = among_more said new n.packet n.among; from = n.from; to = n.to; sender_epoch = n.sender_epoch; addressee_epoch = n.addressee_epoch }
 
-awake_later : (rules : Rules) (room : ℕ) (J J' : ℕ → List Record) (said new : List Packet) (p : ℕ) (m : Memory) → Grown rules J J' → IsPlayer rules p → IsAwake rules room J said p m → IsAwake rules room J' (said ++ new) p m
-awake_later rules room J J' said new p m grown plays awake = record {
-  lawful = memory_later rules room p (J p) (J' p) m (grown p plays) awake.lawful;
+awake_later : (rules : Rules) (room : ℕ) (J J' : ℕ → List Record) (said new : List Packet) (p : ℕ) (m : Memory) → Grown rules J J' → IsMemory rules room p (J' p) m → IsAwake rules room J said p m → IsAwake rules room J' (said ++ new) p m
+awake_later rules room J J' said new p m grown lawful awake = record {
+  lawful = lawful;
   chair = λ first L s n s_plays told. frozen_grown rules L n (J s) (J' s) (grown s s_plays) (awake.chair first L s n s_plays told);
   links = named_more said new p m awake.links;
 }
@@ -158,7 +145,9 @@ placed_by rules room w p s new range sound plays journals grown peer news =
               subst (λ (t : State). IsSoundPeer rules room (journal_of v) v.said q t) (sym there) (record {
                 pending = λ r e. let fits = was.pending r e in
                     (fits.0, fits_later rules room (journal_of w) (journal_of v) q r range fits.1 (ap (λ (t : State). t.journal) there) grown);
-                awake = λ up. awake_later rules room (journal_of w) (journal_of v) w.said new q (peer_of w q).memory grown q_plays (was.awake up);
+                awake = λ up.
+                    let lawful = subst (λ (t : State). IsMemory rules room q t.journal (peer_of w q).memory) (sym there) (was.awake up).lawful in
+                    awake_later rules room (journal_of w) (journal_of v) w.said new q (peer_of w q).memory grown lawful (was.awake up);
               })
         ];
       };
@@ -186,7 +175,9 @@ placed_same rules room w p s new range sound plays stays peer news =
     placed_by rules room w p s new range sound plays journals grown
     (record {
       pending = λ r e. let fits = peer.pending r e in (fits.0, fits_later rules room (journal_of w) (journal_of v) p r range fits.1 (same p plays) grown);
-      awake = λ up. awake_later rules room (journal_of w) (journal_of v) w.said new p s.memory grown plays (peer.awake up);
+      awake = λ up.
+          let lawful = subst (λ (journal : List Record). IsMemory rules room p journal s.memory) (sym (same p plays)) (peer.awake up).lawful in
+          awake_later rules room (journal_of w) (journal_of v) w.said new p s.memory grown lawful (peer.awake up);
     })
     (λ packet among. said_later rules room (journal_of w) (journal_of v) packet range journals grown (news packet among))
 
@@ -222,6 +213,7 @@ said_is (Said (Ok told)) packet (suc n, e) = absurd cc
 said_is (Said (Err error)) packet (n, e) = absurd cc
 said_is (Left result) packet (n, e) = absurd cc
 said_is (Decided result) packet (n, e) = absurd cc
+said_is (Checked result) packet (n, e) = absurd cc
 
 none_by_disk : (call : Call) (why : DiskError) → said_by (refused_by_disk call why) ≡ []
 none_by_disk (states.Tick keys) why = refl
@@ -229,15 +221,17 @@ none_by_disk (states.Deliver told) why = refl
 none_by_disk (states.Say to what) why = refl
 none_by_disk (states.Leave leaver) why = refl
 none_by_disk (states.Decide leaver) why = refl
+none_by_disk states.Checkpoint why = refl
 
 -- what a call of an open peer owes, all together
 record Owes (rules : Rules) (room : ℕ) (w : World) (p : ℕ) (o : Outcome) : Type 0 where
   fits : (r : Record) → o.keeps ≡ Some r → Fits rules room (journal_of w) p r
   awake : IsAwake rules room (journal_of w) w.said p o.memory
+  grows : (r : Record) → o.keeps ≡ Some r → IsMemory rules room p (journal_of w p ++ r ∷ []) o.memory
   says : (packet : Packet) → IsAmong (said_by o.reply) packet → IsSaid rules (journal_of w) packet
 
 call_owes : (laws : ArePeersLawful) (rules : Rules) (room : ℕ) (w : World) (p : ℕ) (call : Call) → AreInRange rules → IsSound rules room w → IsPlayer rules p → (peer_of w p).mode ≡ states.Open → IsCall call → IsWorldly rules (journal_of w) w.said call
-    → Owes rules room w p (outcome rules (known_of rules p (journal_of w p)) (peer_of w p).memory call)
+    → Owes rules room w p (outcome rules (told_of rules p (journal_of w p)) (known_of rules p (journal_of w p)) (peer_of w p).memory call)
 call_owes laws rules room w p call range sound plays up is_call worldly =
     let m : Memory = (peer_of w p).memory in
     let J : ℕ → List Record = journal_of w in
@@ -247,11 +241,15 @@ call_owes laws rules room w p call range sound plays up is_call worldly =
     let to = plays.in_game in
     let good = good_call laws rules room J w.said p m call sound.journals plays awake worldly in
     record {
-      fits = λ r e. good.keeps r e (laws.keeps_allowed rules p room (J p) m call r range from to valid awake.lawful is_call e);
+      fits = λ r e. good.keeps r e (record {
+        allowed = laws.keeps_allowed rules p room (J p) m call r range from to valid awake.lawful is_call e;
+        checks = laws.keeps_true rules p room (J p) m call r range from to valid awake.lawful is_call (sound.journals.checks p plays) e;
+      });
       awake = record { lawful = laws.memory_kept rules p room (J p) m call range from to valid awake.lawful is_call; chair = good.chair; links = good.links };
+      grows = λ r e. laws.memory_grows rules p room (J p) m call r range from to valid awake.lawful is_call e;
       says = λ packet among.
-          let e = said_is (outcome rules (known_of rules p (J p)) m call).reply packet among in
-          let is_true = laws.said_true rules p room (J p) m call packet range from to valid awake.lawful is_call e in
+          let e = said_is (outcome rules (told_of rules p (J p)) (known_of rules p (J p)) m call).reply packet among in
+          let is_true = laws.said_true rules p room (J p) m call packet range from to valid awake.lawful is_call (sound.journals.checks p plays) e in
           let whose : p ≡ packet.head.from = sym is_true.from in
           record {
             from = subst (λ (q : ℕ). IsPlayer rules q) whose plays;
@@ -280,7 +278,10 @@ done_sound rules room w p call o None luck range sound plays up owes e =
 done_sound rules room w p call o (Some r) Works range sound plays up owes e =
     let s : State = record (peer_of w p) { journal = journal_of w p ++ r ∷ []; memory = o.memory } in
     placed_more rules room w p s (said_by o.reply) r range sound plays refl (owes.fits r e) (settled_up rules room w p sound plays up)
-    (λ journals grown mode. awake_later rules room (journal_of w) (journal_of (placed w p s (said_by o.reply))) w.said (said_by o.reply) p o.memory grown plays owes.awake)
+    (λ journals grown mode.
+    let here = journal_here rules w p s (said_by o.reply) sound.nodes plays in
+    awake_later rules room (journal_of w) (journal_of (placed w p s (said_by o.reply))) w.said (said_by o.reply) p o.memory grown
+    (subst (λ (journal : List Record). IsMemory rules room p journal o.memory) (sym here) (owes.grows r e)) owes.awake)
     owes.says
 done_sound rules room w p call o (Some r) (Refuses why) range sound plays up owes e =
     let s : State = record (peer_of w p) { pending = Some r; mode = Down } in
@@ -298,7 +299,7 @@ stays_as rules room w sound = record { sound = sound; grown = λ q plays. begins
 mode_sound : (laws : ArePeersLawful) (rules : Rules) (room : ℕ) (w : World) (p : ℕ) (call : Call) (luck : Luck) (mode : Mode) → AreInRange rules → IsSound rules room w → IsPlayer rules p → (peer_of w p).mode ≡ mode → IsCall call → IsWorldly rules (journal_of w) w.said call
     → Reaches rules room w (call_at_mode rules w p call luck mode).world
 mode_sound laws rules room w p call luck states.Open range sound plays up is_call worldly =
-    let o : Outcome = outcome rules (known_of rules p (journal_of w p)) (peer_of w p).memory call in
+    let o : Outcome = outcome rules (told_of rules p (journal_of w p)) (known_of rules p (journal_of w p)) (peer_of w p).memory call in
     let at : step rules p (peer_of w p) call luck ≡ done (peer_of w p) call o o.keeps luck = ap (λ (mode : Mode). at_mode (peer_of w p) call o mode luck) up in
     subst (λ (t : Stepped). Reaches rules room w (stepped w p t).world) (sym at)
     (done_sound rules room w p call o o.keeps luck range sound plays up (call_owes laws rules room w p call range sound plays up is_call worldly) refl)
@@ -368,9 +369,9 @@ reaches_more rules room w u v one two = record {
 
 -- ---- openings
 
-fits_opening : (rules : Rules) (room p : ℕ) (J : ℕ → List Record) (journal : List Record) → AreSound rules room J → IsPlayer rules p → IsAllowed rules p room (J p) (opening_record rules room p journal) → Fits rules room J p (opening_record rules room p journal)
-fits_opening rules room p J [] sound plays allowed = fits_head rules room J p p _ room sound plays allowed
-fits_opening rules room p J (r ∷ rest) sound plays allowed = fits_epoch rules room J p p _ sound plays allowed
+fits_opening : (rules : Rules) (room p : ℕ) (J : ℕ → List Record) (journal : List Record) → AreSound rules room J → IsPlayer rules p → MayAdd rules room J p (opening_record rules room p journal) → Fits rules room J p (opening_record rules room p journal)
+fits_opening rules room p J [] sound plays allowed = fits_head rules room J p p _ _ room sound plays allowed
+fits_opening rules room p J (r ∷ rest) sound plays allowed = fits_epoch rules room J p p _ _ sound plays allowed
 
 -- a fresh memory is sound
 no_report : (L s n : ℕ) → report_of no_reports L s ≡ Some n → ⊥
@@ -409,6 +410,17 @@ fresh_awake rules room p J said n lawful = record {
 placed_twice : (w : World) (p : ℕ) (s t : State) (new : List Packet) → placed (placed w p s []) p t new ≡ placed w p t new
 placed_twice w p s t new = λ i. record { peers = set-set w.peers (p - 1) s t i; said = append-nil w.said i ++ new }
 
+-- an opening's record may be added
+may_open : (laws : ArePeersLawful) (rules : Rules) (room : ℕ) (w : World) (p : ℕ) (journal : List Record) → AreInRange rules → room < 2 ^ 64 → IsSound rules room w → IsPlayer rules p → journal_of w p ≡ journal
+    → IsJournal rules p room journal → epoch journal < last_epoch → MayAdd rules room (journal_of w) p (opening_record rules room p journal)
+may_open laws rules room w p journal range few sound plays is valid low =
+    let r : Record = opening_record rules room p journal in
+    let checks = subst (HasTrueChecks rules p) is (sound.journals.checks p plays) in
+    record {
+      allowed = subst (λ (j : List Record). IsAllowed rules p room j r) (sym is) (laws.opening_allowed rules p room journal range plays.from_one plays.in_game few valid low);
+      checks = subst (λ (j : List Record). HasTrueChecks rules p (j ++ r ∷ [])) (sym is) (laws.opening_true rules p room journal range plays.from_one plays.in_game few valid low checks);
+    }
+
 -- an opening that finds a journal, from the world in which that journal is the peer's
 opened_sound : (laws : ArePeersLawful) (rules : Rules) (room : ℕ) (w : World) (p : ℕ) (s : State) (journal : List Record) (outcome : Opening) → AreInRange rules → room < 2 ^ 64 → IsSound rules room w → IsPlayer rules p
     → journal_of w p ≡ journal → (peer_of w p).pending ≡ None → (peer_of w p).mode ≡ Away → MayBecome rules room p journal outcome
@@ -420,7 +432,7 @@ opened_sound laws rules room w p s journal Stands range few sound plays is settl
     let to = plays.in_game in
     let n : ℕ = epoch (journal ++ r ∷ []) in
     let t : State = record { journal = journal ++ r ∷ []; pending = None; mode = states.Open; memory = fresh_memory rules room p n } in
-    let allowed : IsAllowed rules p room (journal_of w p) r = subst (λ (j : List Record). IsAllowed rules p room j r) (sym is) (laws.opening_allowed rules p room journal range from to few may.0 may.1) in
+    let allowed = may_open laws rules room w p journal range few sound plays is may.0 may.1 in
     placed_more rules room w p t [] r range sound plays (ap (λ (j : List Record). j ++ r ∷ []) (sym is)) (fits_opening rules room p (journal_of w) journal sound.journals plays allowed) refl
     (λ journals grown mode.
     let here : journal_of (placed w p t []) p ≡ journal ++ r ∷ [] = journal_here rules w p t [] sound.nodes plays in
@@ -429,7 +441,7 @@ opened_sound laws rules room w p s journal Stands range few sound plays is settl
     (λ packet among. absurd (no_item packet among))
 opened_sound laws rules room w p s journal (NotWritten why) range few sound plays is settled gone may memory read =
     let r : Record = opening_record rules room p journal in
-    let allowed : IsAllowed rules p room (journal_of w p) r = subst (λ (j : List Record). IsAllowed rules p room j r) (sym is) (laws.opening_allowed rules p room journal range plays.from_one plays.in_game few may.0 may.1) in
+    let allowed = may_open laws rules room w p journal range few sound plays is may.0 may.1 in
     placed_same rules room w p (away s journal (Some r)) [] range sound plays (sym is)
     (record {
       pending = λ t e. (λ mode. absurd cc, let same : r ≡ t = cc in subst (λ (x : Record). Fits rules room (journal_of w) p x) same (fits_opening rules room p (journal_of w) journal sound.journals plays allowed));
@@ -499,6 +511,7 @@ acted_sound laws rules room w (Say p to what) h range few sound may = call_sound
 acted_sound laws rules room w (Give number p) h range few sound may = given_sound laws rules room w p number h.luck (slice_get w.said number) range sound refl
 acted_sound laws rules room w (Leave leaver) h range few sound may = call_sound laws rules room w 1 (states.Leave leaver) h.luck range sound tt tt
 acted_sound laws rules room w (Decide leaver) h range few sound may = call_sound laws rules room w 1 (states.Decide leaver) h.luck range sound tt tt
+acted_sound laws rules room w (Check p) h range few sound may = call_sound laws rules room w p states.Checkpoint h.luck range sound tt tt
 
 pub after_sound : (laws : ArePeersLawful) (rules : Rules) (room : ℕ) (w : World) (event : Event) (h : Happening) → AreInRange rules → room < 2 ^ 64 → IsSound rules room w → MayAct rules room w (act_inside event) h → Reaches rules room w (after rules room w event h).world
 after_sound laws rules room w (Do act) h range few sound may = acted_sound laws rules room w act h range few sound may
@@ -550,6 +563,7 @@ start_sound rules room range = record {
     cuts = λ p L K plays is. absurd (uncut_at_start L K (subst (λ (journal : List Record). cut_of L journal ≡ Some K) (journal_at_start rules p) is));
     decided = λ L K s is s_plays not_one stays. absurd (uncut_at_start L K (subst (λ (journal : List Record). cut_of L journal ≡ Some K) (journal_at_start rules 1) is));
     frozen = λ s L before rest s_plays e. absurd (no_middle before rest (Freeze L) (sym (journal_at_start rules s) ∙ e));
+    checks = λ p plays. subst (HasTrueChecks rules p) (sym (journal_at_start rules p)) (none_true rules p);
   };
   said = λ packet among. absurd (no_item packet among);
   peers = λ p plays. subst (λ (s : State). IsSoundPeer rules room (journal_of (start rules)) [] p s) (sym (peer_at_start rules p)) (record {

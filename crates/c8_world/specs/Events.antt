@@ -5,7 +5,7 @@ use Rattle.c8_world.specs.declared.event.Act as code
 use Rattle.c8_world.specs.declared.event.Act.TheVariants as acts
 use Rattle.c8_world.specs.declared.event.Event as codes
 use Rattle.c8_world.specs.declared.event.Event.TheVariants as events
-use Rattle.c8_world.specs.World.{Act, Open, Tick, Say, Give, Leave, Decide, Event, Do, Stop}
+use Rattle.c8_world.specs.World.{Act, Open, Tick, Say, Give, Leave, Decide, Check, Event, Do, Stop}
 
 abbrev pub act_of : code.Act → Act
 act_of (acts.Open player) = Open player.number
@@ -14,6 +14,7 @@ act_of (acts.Say player to what) = Say player.number to.number (saying_of what)
 act_of (acts.Give number player) = Give number player.number
 act_of (acts.Leave leaver) = Leave leaver.number
 act_of (acts.Decide leaver) = Decide leaver.number
+act_of (acts.Check player) = Check player.number
 
 abbrev pub event_of : codes.Event → Event
 event_of (events.Do act) = Do (act_of act)

@@ -364,10 +364,10 @@ pub record EndsAfterLastFrame : Type 0 where
 
 -- no peer is open, and player one's disk holds a journal that is no more than its HEAD
 abbrev pub with_head : List ℕ → ℕ → World
-with_head id room = with_peer (start (two 100 8)) 1 (record never_opened { journal = Head 1 id room ∷ [] })
+with_head id room = with_peer (start (two 100 8)) 1 (record never_opened { journal = Head 1 0 id room ∷ [] })
 
 -- a journal of another game or room is refused, and stays as it is
 pub record RefusesOther (id : List ℕ) (room : ℕ) : Type 0 where
   pub end : World
   pub refused : CanHappen (two 100 8) 0 (with_head id room) (Do (Open 1)) (not_opened_for openings.WrongGame) end
-  pub stays : journal_of end 1 ≡ Head 1 id room ∷ []
+  pub stays : journal_of end 1 ≡ Head 1 0 id room ∷ []

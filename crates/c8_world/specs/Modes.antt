@@ -1,6 +1,6 @@
 -- How players' peers stand, by what was answered.
 use Rattle.std.specs.Prelude.{ℕ, ◌==◌, List, [], ◌∷◌, Ok, Err, if◌then◌else◌}
-use Rattle.c8_peer.specs.State.{Mode, Open, Away, Opened, Ticked, Delivered, Left, Decided}
+use Rattle.c8_peer.specs.State.{Mode, Open, Away, Opened, Ticked, Delivered, Left, Decided, Checked}
 use Rattle.c8_peer.specs.Replies.{mode_told}
 use Rattle.c8_world.specs.declared.answer.Answer as codes
 use Rattle.c8_world.specs.declared.answer.Answer.TheVariants as answers
@@ -40,6 +40,7 @@ mode_reported mode (answers.Delivered result) = mode_told (Delivered result)
 mode_reported mode answers.NoSuch = mode
 mode_reported mode (answers.Left result) = mode_told (Left result)
 mode_reported mode (answers.Decided result) = mode_told (Decided result)
+mode_reported mode (answers.Checked result) = mode_told (Checked result)
 mode_reported mode answers.Down = mode
 mode_reported mode answers.Stopped = Away
 

@@ -10,7 +10,7 @@ use Rattle.c8_known.specs.Known.{known_of}
 use Rattle.c8_known.specs.Confirmed.{confirmed}
 use Rattle.c8_peer.specs.declared.error.OpenError.{OpenError}
 use Rattle.c8_peer.specs.declared.error.Unsayable.{Unsayable}
-use Rattle.c8_peer.specs.State.{Open, Away, State, Call, Reply, Opened, Ticked, Delivered, Said, Left, Decided}
+use Rattle.c8_peer.specs.State.{Open, Away, State, Call, Reply, Opened, Ticked, Delivered, Said, Left, Decided, Checked}
 use Rattle.c8_peer.specs.Steps.{Works, step}
 use Rattle.c8_peer.specs.Opening.{Opening, found, opened, MayBecome}
 use Rattle.c8_peer.specs.Peer.{PeerValue, Keeps, luck_of}
@@ -53,6 +53,7 @@ IsAsked rules room p s call (answers.Ticked (Err error)) node = IsCalled rules r
 IsAsked rules room p s call (answers.Delivered result) node = IsCalled rules room p s call (Some (Delivered result)) node
 IsAsked rules room p s call (answers.Left result) node = IsCalled rules room p s call (Some (Left result)) node
 IsAsked rules room p s call (answers.Decided result) node = IsCalled rules room p s call (Some (Decided result)) node
+IsAsked rules room p s call (answers.Checked result) node = IsCalled rules room p s call (Some (Checked result)) node
 IsAsked rules room p s call answers.Down node = IsCalled rules room p s call None node
 IsAsked rules room p s call (answers.Opened result) node = ⊥
 IsAsked rules room p s call answers.Up node = ⊥

@@ -3,13 +3,13 @@ use Rattle.std.specs.Prelude.{◌≡◌, ◌≢◌, ◌⊎◌, ℕ, ◌-◌, ◌
 use Rattle.c8_game.specs.Rules.{Rules}
 use Rattle.c8_wire.specs.Spelling.{spelling}
 use Rattle.c8_peer.specs.declared.error.OpenError.TheVariants as opens
-use Rattle.c8_peer.specs.State.{Down, State, Reply, Opened, Ticked, Delivered, Said, Left, Decided}
+use Rattle.c8_peer.specs.State.{Down, State, Reply, Opened, Ticked, Delivered, Said, Left, Decided, Checked}
 use Rattle.c8_peer.specs.Opening.{NoMemory, away}
 use Rattle.c8_world.specs.declared.answer.Answer as codes
 use Rattle.c8_world.specs.declared.answer.Answer.TheVariants as answers
 use Rattle.c8_world.specs.declared.node.Node.{Node}
 use Rattle.c8_world.specs.declared.node.Node.TheVariants as nodes
-use Rattle.c8_world.specs.World.{World, never_opened, peer_of, with_peer, Act, Open, Tick, Say, Give, Leave, Decide, player_of, Event, Do, Happening, Answer, Told, IsUp, IsDown, NoSuch, Stopped, crashed, CanHappen, IsReached}
+use Rattle.c8_world.specs.World.{World, never_opened, peer_of, with_peer, Act, Open, Tick, Say, Give, Leave, Decide, Check, player_of, Event, Do, Happening, Answer, Told, IsUp, IsDown, NoSuch, Stopped, crashed, CanHappen, IsReached}
 use Rattle.c8_world.specs.World.{act_inside}
 use Rattle.c8_world.specs.Agreement.{IsPlayer}
 use Rattle.c8_world.specs.Nodes.{IsNode, IsOpenedNode, counts_of}
@@ -31,6 +31,7 @@ IsOpenedAs rules room p s (answers.Delivered result) (Some node) = ⊥
 IsOpenedAs rules room p s answers.NoSuch (Some node) = ⊥
 IsOpenedAs rules room p s (answers.Left result) (Some node) = ⊥
 IsOpenedAs rules room p s (answers.Decided result) (Some node) = ⊥
+IsOpenedAs rules room p s (answers.Checked result) (Some node) = ⊥
 IsOpenedAs rules room p s answers.Down (Some node) = ⊥
 IsOpenedAs rules room p s answers.Stopped (Some node) = ⊥
 
@@ -88,6 +89,7 @@ reported_reply rules p s number (Said (Ok packet)) = answers.Said (Ok (record { 
 reported_reply rules p s number (Said (Err error)) = answers.Said (Err error)
 reported_reply rules p s number (Left result) = answers.Left result
 reported_reply rules p s number (Decided result) = answers.Decided result
+reported_reply rules p s number (Checked result) = answers.Checked result
 
 -- the answer of an event at a player's peer, as it is reported; what was said last has the last number
 abbrev pub reported : Rules → ℕ → World → Answer → codes.Answer
@@ -126,6 +128,7 @@ TakesMemory (Say player to what) = Unit {0}
 TakesMemory (Give number player) = ⊥
 TakesMemory (Leave leaver) = ⊥
 TakesMemory (Decide leaver) = ⊥
+TakesMemory (Check player) = ⊥
 
 -- An act that takes memory was refused it, and has not happened. By the definitions such an opening is an event too, which leaves
 -- its peer away.

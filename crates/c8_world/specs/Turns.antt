@@ -10,7 +10,7 @@ use Rattle.c8_disk.specs.contracts.mem_disk.MemDiskDisk.TheImpl.{ghosts}
 use Rattle.c8_disk.specs.Memory.{bytes_of, images_of, synced_of, calls_allowed, value_of, with_arm}
 use Rattle.c8_known.specs.Journal.{epoch}
 use Rattle.c8_peer.specs.declared.error.OpenError.{OpenError}
-use Rattle.c8_peer.specs.State.{Open as Up, Call, Tick, Deliver, Leave, Decide, Reply, Ticked, Delivered, Left, Decided}
+use Rattle.c8_peer.specs.State.{Open as Up, Call, Tick, Deliver, Leave, Decide, Checkpoint, Reply, Ticked, Delivered, Left, Decided, Checked}
 use Rattle.c8_peer.specs.Peer.{IsSound, IsAnswered}
 use Rattle.c8_peer.specs.Opened.{IsOpened, IsRefusedOpening}
 use Rattle.c8_world.specs.declared.answer.Answer as codes
@@ -50,6 +50,7 @@ IsActedBy call (answers.Ticked (Err error)) old new = IsCalledAt call (Ticked (E
 IsActedBy call (answers.Delivered result) old new = IsCalledAt call (Delivered result) old new
 IsActedBy call (answers.Left result) old new = IsCalledAt call (Left result) old new
 IsActedBy call (answers.Decided result) old new = IsCalledAt call (Decided result) old new
+IsActedBy call (answers.Checked result) old new = IsCalledAt call (Checked result) old new
 IsActedBy call answers.Down old new = new ≡ old
 IsActedBy call answers.Up old new = ⊥
 IsActedBy call (answers.Opened result) old new = ⊥
@@ -80,6 +81,7 @@ IsOpenedAt rules room p (answers.Delivered result) old new = ⊥
 IsOpenedAt rules room p answers.NoSuch old new = ⊥
 IsOpenedAt rules room p (answers.Left result) old new = ⊥
 IsOpenedAt rules room p (answers.Decided result) old new = ⊥
+IsOpenedAt rules room p (answers.Checked result) old new = ⊥
 IsOpenedAt rules room p answers.Down old new = ⊥
 IsOpenedAt rules room p answers.Stopped old new = ⊥
 
@@ -125,6 +127,7 @@ IsActed t (acts.Say player to what) answer = IsSameNode
 IsActed t (acts.Give number player) answer = IsGiven (slice_get t.pool number) answer
 IsActed t (acts.Leave leaver) answer = IsActedBy (Leave leaver.number) answer
 IsActed t (acts.Decide leaver) answer = IsActedBy (Decide leaver.number) answer
+IsActed t (acts.Check player) answer = IsActedBy Checkpoint answer
 
 -- An act has happened, with this answer.
 pub record IsCarriedOut (act : code.Act) (answer : codes.Answer) (old new : TableValue) : Type 0 where

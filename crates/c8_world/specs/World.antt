@@ -11,7 +11,7 @@ use Rattle.c8_window.specs.Window.{first_window}
 use Rattle.c8_round.specs.Round.{no_reports, no_haves}
 use Rattle.c8_peer.specs.declared.error.OpenError.TheVariants as opens
 use Rattle.c8_peer.specs.State as calls
-use Rattle.c8_peer.specs.State.{Memory, Mode, Down, Away, State, Saying, Call, Reply, Opened, Ticked, Delivered, Said, Left, Decided}
+use Rattle.c8_peer.specs.State.{Memory, Mode, Down, Away, State, Saying, Call, Reply, Opened, Ticked, Delivered, Said, Left, Decided, Checked}
 use Rattle.c8_peer.specs.Steps.{Luck, Stepped, step}
 use Rattle.c8_peer.specs.Opening.{Opening, found, opened, away, MayBecome}
 
@@ -68,6 +68,8 @@ pub data Act : Type 0 where
   -- both at player one
   Leave : (leaver : ℕ) → Act
   Decide : (leaver : ℕ) → Act
+  -- the next record of a checkpoint
+  Check : (player : ℕ) → Act
 
 -- An act; or an act inside which the player stops: the disk serves so many calls, and what a crash then leaves is picked. By these
 -- definitions any crash may follow; the two numbers steer a real disk alone.
@@ -82,6 +84,7 @@ player_of (Say player to what) = player
 player_of (Give number player) = player
 player_of (Leave leaver) = 1
 player_of (Decide leaver) = 1
+player_of (Check player) = player
 
 -- what the disk did in an event: whether a reading found the pending record, what became of an opening, whether the record
 -- was taken, and whether a crash left the pending record; an event asks only for what it needs
@@ -115,6 +118,7 @@ said_by (Said (Ok packet)) = packet ∷ []
 said_by (Said (Err error)) = []
 said_by (Left result) = []
 said_by (Decided result) = []
+said_by (Checked result) = []
 
 abbrev pub stepped : World → ℕ → Stepped → After
 stepped w p t = record { answer = Told t.reply; world = record { peers = slice_set w.peers (p - 1) t.state; said = w.said ++ said_by t.reply } }
@@ -148,6 +152,7 @@ acted rules room w (Say p to what) h = call_at rules w p (calls.Say to what) h.l
 acted rules room w (Give number p) h = give_to rules w p h.luck (slice_get w.said number)
 acted rules room w (Leave leaver) h = call_at rules w 1 (calls.Leave leaver) h.luck
 acted rules room w (Decide leaver) h = call_at rules w 1 (calls.Decide leaver) h.luck
+acted rules room w (Check p) h = call_at rules w p calls.Checkpoint h.luck
 
 -- a crash makes a peer away, with its journal as a reading of the disk finds it
 abbrev pub crashed : Rules → World → ℕ → Bool → World
@@ -168,6 +173,7 @@ MayAct rules room w (Say p to what) h = Unit {0}
 MayAct rules room w (Give number p) h = Unit {0}
 MayAct rules room w (Leave leaver) h = Unit {0}
 MayAct rules room w (Decide leaver) h = Unit {0}
+MayAct rules room w (Check p) h = Unit {0}
 
 abbrev pub act_inside : Event → Act
 act_inside (Do act) = act

@@ -1,6 +1,8 @@
 //! What is answered to an event.
 
-use c8_peer::{DecideError, Heard, LeaveError, OpenError, Refused, TickError, Unsayable};
+use c8_peer::{
+    Check, CheckError, DecideError, Heard, LeaveError, OpenError, Refused, TickError, Unsayable,
+};
 
 /// How many ticks a player has made, and how many frames are confirmed there.
 #[derive(Clone, Copy, Debug, PartialEq, Eq, Hash)]
@@ -32,6 +34,8 @@ pub enum Answer {
     Left(Result<(), LeaveError>),
     /// The length at which the leaver's list is cut.
     Decided(Result<u32, DecideError>),
+    /// What is recorded of a checkpoint.
+    Checked(Result<Check, CheckError>),
     /// The peer is down or away, or the game has no such player. The opening of such a player is
     /// refused by name in its place.
     Down,

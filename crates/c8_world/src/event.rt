@@ -19,6 +19,8 @@ pub enum Act {
     Leave(Player),
     /// Player one cuts a leaver's list.
     Decide(Player),
+    /// Records what comes next of a checkpoint.
+    Check(Player),
 }
 
 /// An act, one inside which its player stops, or one inside which its disk fails once.
@@ -44,7 +46,7 @@ impl Act {
     {
         match self {
             Act::Open(player) | Act::Tick(player, _) | Act::Say(player, _, _) => player,
-            Act::Give(_, player) => player,
+            Act::Give(_, player) | Act::Check(player) => player,
             Act::Leave(_) | Act::Decide(_) => Player::CHAIR,
         }
     }

@@ -15,6 +15,7 @@ ghost use Rattle.c8_world.specs.Turns.{answer_of, IsActedBy, IsOpenedAt, IsSpare
 
 use crate::answer::{Answer, Counts};
 use crate::ends::Standing;
+use c8_check::Checks;
 use c8_disk::{Arm, Disk, MemDisk};
 use c8_game::{Game, Keys, Player};
 use c8_known::Known;
@@ -143,6 +144,24 @@ impl<'g> Node<'g> {
         }
     }
 
+    /// Records what comes next of a checkpoint.
+    pub(crate) fn check(&mut self) -> Answer
+        ensures asked { (rules : Rules) (room p : ℕ) (s : State) → IsNode rules room p self.old s
+            → IsAsked rules room p s states.Checkpoint result self.new }
+        ensures turn { IsActedBy states.Checkpoint result self.old self.new }
+        ensures setting { setting_of (Some self.new) ≡ setting_of (Some self.old) }
+    {
+        match self {
+            Node::Held(peer) => {
+                if peer.is_down() {
+                    return Answer::Down;
+                }
+                Answer::Checked(peer.checkpoint())
+            }
+            Node::Away(_) => Answer::Down,
+        }
+    }
+
     /// Says something to another player, to the front of `out`.
     pub(crate) fn say(
         &self,
@@ -235,7 +254,7 @@ impl<'g> Node<'g> {
             Node::Away(disk) => {
                 let mut known = Known::new(alloc, game, player)?;
                 // A journal is refused for nothing.
-                let _ = replay_bytes(disk.bytes(), game, room, &mut known);
+                let _ = replay_bytes(disk.bytes(), game, room, &mut known, &mut Checks::new());
                 Ok(Standing::Read(known))
             }
         }

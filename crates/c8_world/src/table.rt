@@ -7,7 +7,7 @@ ghost use Rattle.c8_peer.specs.State.{State};
 ghost use Rattle.c8_peer.specs.Opening.{found};
 ghost use Rattle.c8_peer.specs.Runs.{crashed};
 ghost use Rattle.c8_peer.specs.Asked.{saying_of};
-ghost use Rattle.c8_world.specs.World.{World, act_inside, peer_of, player_of, start, Open, Tick, Say, Give, Leave, Decide, Do, Stop};
+ghost use Rattle.c8_world.specs.World.{World, act_inside, peer_of, player_of, start, Open, Tick, Say, Give, Leave, Decide, Check, Do, Stop};
 ghost use Rattle.c8_world.specs.Events.{act_of, event_of};
 ghost use Rattle.c8_disk.specs.declared.disk.Arm.TheVariants as arms;
 ghost use Rattle.c8_world.specs.Agreement.{IsPlayer};
@@ -249,6 +249,7 @@ impl<'g> Table<'g> {
             Act::Give(number, player) => Ok(self.give(number, player)),
             Act::Leave(leaver) => Ok(self.leave(leaver)),
             Act::Decide(leaver) => Ok(self.decide(leaver)),
+            Act::Check(player) => Ok(self.check(player)),
         }
     }
 
@@ -372,6 +373,23 @@ impl<'g> Table<'g> {
             unreachable!();
         };
         node.decide(leaver)
+    }
+
+    /// Records what comes next of a player's checkpoint.
+    fn check(&mut self, player: Player) -> Answer
+        ensures same { IsSameMatch self.old self.new }
+        ensures happened { (w : World) → Holds self.old w
+            → HasHappened self.old w (Do (Check player.number)) result self.new }
+        ensures turn { IsMove player.number (IsActedBy calls.Checkpoint result) self.old self.new }
+        ensures disks { KeepSettings self.old self.new }
+    {
+        if player.number > self.game.players() {
+            return Answer::Down;
+        }
+        let Some(node) = &mut self.nodes[player.place()] else {
+            unreachable!();
+        };
+        node.check()
     }
 
     /// Says when the calls of a player's disk fail from now on.

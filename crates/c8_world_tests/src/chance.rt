@@ -3,7 +3,9 @@ use crate::rest::go_on;
 use crate::walk::answers;
 use c8_disk::DiskError;
 use c8_game::{Game, Keys, Player};
-use c8_peer::{DecideError, Heard, Kind, LeaveError, OpenError, Refused, TickError};
+use c8_peer::{
+    Check, CheckError, DecideError, Heard, Kind, LeaveError, OpenError, Refused, TickError,
+};
 use c8_world::{Act, Answer, Event, World};
 use rand_pcg::Pcg32;
 use rand_pcg::rand_core::SeedableRng;
@@ -33,13 +35,16 @@ struct Counted {
     stopped: u32,
     /// Events inside which a call of the disk was to fail.
     fails: u32,
-    /// Those of them that were answered that it did: at openings, ticks, deliveries, and leaves and
-    /// decisions.
+    /// Those of them that were answered that it did: at openings, ticks, deliveries, leaves and
+    /// decisions, and checkpoints.
     opening: u32,
     tick: u32,
     delivery: u32,
     round: u32,
+    check: u32,
     cut: u32,
+    /// Checkpoints that became whole.
+    saved: u32,
     /// Matches in which somebody confirmed more than 20 frames.
     far: u32,
 }
@@ -52,7 +57,9 @@ const NOTHING: Counted = Counted {
     tick: 0,
     delivery: 0,
     round: 0,
+    check: 0,
     cut: 0,
+    saved: 0,
     far: 0,
 };
 
@@ -177,6 +184,7 @@ impl Chance {
         let leaver = self.leaver();
         match self.below(20) {
             0 => self.meet(alloc, world, one, other),
+            2 => self.save(alloc, world, one),
             1 => {
                 self.bring(alloc, world, ONE, other, Kind::Freeze(leaver));
                 self.bring(alloc, world, other, ONE, Kind::Frozen(leaver));
@@ -185,6 +193,19 @@ impl Chance {
                 let event = self.event();
                 self.happen(alloc, world, event);
             }
+        }
+    }
+
+    /// A player records of a checkpoint some times in a row, so that one becomes whole now and then.
+    fn save(&mut self, alloc: Global, world: &mut World<'_>, player: Player) {
+        let act = Act::Check(player);
+        for _ in 0..self.below(80) {
+            let event = match self.below(400) {
+                0 => Event::Stop(act, self.calls(), u64::from(self.below(5))),
+                1..4 => Event::Fail(act, self.calls()),
+                _ => Event::Do(act),
+            };
+            self.happen(alloc, world, event);
         }
     }
 
@@ -233,6 +254,7 @@ impl Chance {
             Some(Answer::Delivered(Ok(Heard::Kept))) => count(&mut self.counted.kept),
             Some(Answer::Stopped) => count(&mut self.counted.stopped),
             Some(Answer::Decided(Ok(_))) => count(&mut self.counted.cut),
+            Some(Answer::Checked(Ok(Check::Done(_)))) => count(&mut self.counted.saved),
             _ => {}
         }
     }
@@ -252,6 +274,8 @@ impl Counted {
             || answer == Some(Answer::Decided(Err(DecideError::Disk(failed))))
         {
             count(&mut self.round);
+        } else if answer == Some(Answer::Checked(Err(CheckError::Disk(failed)))) {
+            count(&mut self.check);
         }
     }
 }
@@ -305,8 +329,8 @@ fn play_all(alloc: Global) -> Result<Counted, Fail> {
     Ok(counted)
 }
 
-/// Two, three and four players, four matches each, with stops, failures of disks, restarts and a drop
-/// round in them. That each kind was met is asked of all together.
+/// Two, three and four players, four matches each, with stops, failures of disks, restarts, checkpoints
+/// and a drop round in them. That each kind was met is asked of all together.
 #[test]
 fn who_stays_agrees(rt: HostRuntime) -> Result<(), Fail> {
     let counted = play_all(rt.alloc())?;
@@ -314,6 +338,7 @@ fn who_stays_agrees(rt: HostRuntime) -> Result<(), Fail> {
     assert!(rt; counted.fails > 0);
     assert!(rt; counted.opening > 0 && counted.tick > 0);
     assert!(rt; counted.delivery > 0 && counted.round > 0);
+    assert!(rt; counted.check > 0 && counted.saved > 0);
     assert!(rt; counted.far > 0);
     Ok(())
 }

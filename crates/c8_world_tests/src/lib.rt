@@ -7,6 +7,8 @@ mod agree;
 #[cfg(test)]
 mod chance;
 #[cfg(test)]
+mod checkpoints;
+#[cfg(test)]
 mod disks;
 #[cfg(test)]
 mod memory;

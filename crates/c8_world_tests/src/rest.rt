@@ -59,7 +59,7 @@ fn ticks(world: &World<'_>, number: u8) -> Option<usize> {
 }
 
 /// Each player tells each other what it has.
-fn exchange(alloc: Global, world: &mut World<'_>) {
+pub(crate) fn exchange(alloc: Global, world: &mut World<'_>) {
     for pair in 0..MOST * MOST {
         let (one, other) = (pair / MOST + 1, pair % MOST + 1);
         does(alloc, world, Deed::Tell(one, other, What::Data));

@@ -37,6 +37,8 @@ pub(crate) enum Deed {
     Tell(u8, u8, What),
     Leave(u8),
     Decide(u8),
+    /// Records what comes next of a checkpoint.
+    Check(u8),
 }
 
 /// What is said, some of it of a leaver.
@@ -70,6 +72,7 @@ impl Deed {
             Deed::Open(at) => Player::new(at).map(Act::Open),
             Deed::Leave(leaver) => Player::new(leaver).map(Act::Leave),
             Deed::Decide(leaver) => Player::new(leaver).map(Act::Decide),
+            Deed::Check(at) => Player::new(at).map(Act::Check),
             Deed::Tick(at, keys) => match Player::new(at) {
                 Some(at) => Some(Act::Tick(at, Keys(keys))),
                 None => None,

@@ -6,7 +6,7 @@ use crate::step::{Deed, Outcome, Row, Step};
 use crate::walk::{first_wrong, step_on};
 use c8_disk::{DiskError, MemDisk};
 use c8_game::{Game, Player};
-use c8_peer::{DecideError, LeaveError, OpenError, Peer, Refused, TickError};
+use c8_peer::{CheckError, DecideError, LeaveError, OpenError, Peer, Refused, TickError};
 use c8_world::{Answer, Tally, World};
 use std::alloc::Global;
 use std::test::Fail;
@@ -123,6 +123,7 @@ fn refused(deed: Deed) -> Outcome {
         Deed::Give(_, _) | Deed::Tell(_, _, _) => Is(Answer::Delivered(Err(Refused::Disk(failed)))),
         Deed::Leave(_) => Is(Answer::Left(Err(LeaveError::Disk(failed)))),
         Deed::Decide(_) => Is(Answer::Decided(Err(DecideError::Disk(failed)))),
+        Deed::Check(_) => Is(Answer::Checked(Err(CheckError::Disk(failed)))),
         Deed::Say(_, _, _) => Outcome::Impossible,
     }
 }

@@ -138,7 +138,7 @@ row_stays old new still frame below =
     (set_stays old new still frame 1 below (omega arith)) (set_stays old new still frame 2 below (omega arith))
     (set_stays old new still frame 3 below (omega arith)) (set_stays old new still frame 4 below (omega arith))
 
-range_more : (a n more : ℕ) → range_with_len a (n + more) ≡ range_with_len a n ++ range_with_len (a + n) more
+pub range_more : (a n more : ℕ) → range_with_len a (n + more) ≡ range_with_len a n ++ range_with_len (a + n) more
 range_more a zero more = let from : a + 0 ≡ a = omega arith in let many : zero + more ≡ more = omega arith in rw (from, many) refl
 range_more a (suc n) more =
     let many : suc n + more ≡ suc (n + more) = omega arith in

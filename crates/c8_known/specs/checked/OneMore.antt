@@ -10,7 +10,7 @@ use Rattle.std.proofs.lemmas.List.Sums.{sum_by-append}
 use Rattle.std.proofs.lemmas.List.FromFn.{get_or-map-range_with_len}
 use Rattle.c8_game.specs.Rules.{Rules}
 use Rattle.c8_known.specs.Journal as journals
-use Rattle.c8_known.specs.Journal.{Record, Head, Epoch, Own, Got, Freeze, Leave, Cut, words_of, is_own, freezes, lets_go, cuts_of, player_of}
+use Rattle.c8_known.specs.Journal.{Record, Head, Epoch, Own, Got, Freeze, Leave, Cut, State, Check, words_of, is_own, freezes, lets_go, cuts_of, player_of}
 use Rattle.c8_known.specs.checked.JournalLaws.{held_next, freeze_next, leave_next}
 use Rattle.c8_known.specs.Known.{PlayerValue, KnownValue, nobody, player_in, said_of, known_of, with_words, cut_at, with_cut, with_record, NamesPlayer}
 
@@ -52,8 +52,10 @@ after_none p q r words freeze leave cuts =
     same_player (rw words (append-nil p.held)) (rw freeze (or-false p.frozen)) (rw leave (or-false p.leaving)) (rw cuts refl)
 
 after_other : (p : PlayerValue) (q : ℕ) (r : Record) → player_of r ≢ q → after p q r ≡ p
-after_other p q (Head player id room) other = after_none p q (Head player id room) refl refl refl refl
-after_other p q (Epoch player number) other = after_none p q (Epoch player number) refl refl refl refl
+after_other p q (Head player form id room) other = after_none p q (Head player form id room) refl refl refl refl
+after_other p q (Epoch player number form) other = after_none p q (Epoch player number form) refl refl refl refl
+after_other p q (State player frames piece words) other = after_none p q (State player frames piece words) refl refl refl refl
+after_other p q (Check player frames words) other = after_none p q (Check player frames words) refl refl refl refl
 after_other p q (Own player start word) other = after_none p q (Own player start word) (rw (ne_eqb player q other) refl) refl refl refl
 after_other p q (Got player start words) other = after_none p q (Got player start words) (rw (ne_eqb player q other) refl) refl refl refl
 after_other p q (Freeze player) other = after_none p q (Freeze player) refl (ne_eqb player q other) refl refl
@@ -149,10 +151,14 @@ one_tick journal r own = ticks_more journal r 1 (rw own refl)
 
 pub one_more : (rules : Rules) (me : ℕ) (journal : List Record) (r : Record) → NamesPlayer rules r → known_of rules me (journal ++ r ∷ []) ≡ with_record (known_of rules me journal) r
 unfolding known_of
-one_more rules me journal (Head player id room) named =
-    let r : Record = Head player id room in same_known (known_of rules me journal) (no_tick journal r refl) (table_same rules journal r (λ p q. after_none p q r refl refl refl refl))
-one_more rules me journal (Epoch player number) named =
-    let r : Record = Epoch player number in same_known (known_of rules me journal) (no_tick journal r refl) (table_same rules journal r (λ p q. after_none p q r refl refl refl refl))
+one_more rules me journal (Head player form id room) named =
+    let r : Record = Head player form id room in same_known (known_of rules me journal) (no_tick journal r refl) (table_same rules journal r (λ p q. after_none p q r refl refl refl refl))
+one_more rules me journal (Epoch player number form) named =
+    let r : Record = Epoch player number form in same_known (known_of rules me journal) (no_tick journal r refl) (table_same rules journal r (λ p q. after_none p q r refl refl refl refl))
+one_more rules me journal (State player frames piece words) named =
+    let r : Record = State player frames piece words in same_known (known_of rules me journal) (no_tick journal r refl) (table_same rules journal r (λ p q. after_none p q r refl refl refl refl))
+one_more rules me journal (Check player frames words) named =
+    let r : Record = Check player frames words in same_known (known_of rules me journal) (no_tick journal r refl) (table_same rules journal r (λ p q. after_none p q r refl refl refl refl))
 one_more rules me journal (Own player start word) named =
     let r : Record = Own player start word in
     same_known (known_of rules me journal) (one_tick journal r refl)

@@ -6,13 +6,13 @@ ghost use Rattle.c8_wire.specs.Packet.{IsPacket};
 ghost use Rattle.c8_wire.specs.Lent.{packet_of};
 ghost use Rattle.c8_wire.specs.Spelling.{Spells};
 ghost use Rattle.c8_live.specs.Runs.{IsStopped};
-ghost use Rattle.c8_live.specs.Turns.{LetsGo, Cuts, HasDone, HasTicked, HasHeardOf};
+ghost use Rattle.c8_live.specs.Turns.{Ticks, LetsGo, Cuts, Saves, HasDone, HasDoneOnce, HasHeardOf};
 
 use super::Session;
 use crate::laws::{a_packet_is_heard, doings_join, peers_run_on};
 use c8_disk::Disk;
 use c8_game::{Keys, Player};
-use c8_peer::{DecideError, Heard, LeaveError, Refused, TickError};
+use c8_peer::{Check, CheckError, DecideError, Heard, LeaveError, Refused, TickError};
 use c8_wire::Datagram;
 
 impl<'g, D: Disk> Session<'g, D> {
@@ -34,7 +34,7 @@ impl<'g, D: Disk> Session<'g, D> {
 
     /// The peer enters a key set.
     pub(super) fn peer_ticks(&mut self, keys: Keys) -> Result<(), TickError>
-        ensures ran { HasTicked D.Disk self.old.peer self.new.peer }
+        ensures ran { HasDoneOnce D.Disk Ticks self.old.peer self.new.peer }
         ensures stopped { (why : DiskError) → result ≡ Err (TickError.Disk why)
             → IsStopped D.Disk self.old.peer self.new.peer why }
     {
@@ -71,6 +71,17 @@ impl<'g, D: Disk> Session<'g, D> {
         };
         self.rollbacks.note(frames);
         answer
+    }
+
+    /// The peer records what comes next of a checkpoint.
+    pub(super) fn peer_saves(&mut self) -> Result<Check, CheckError>
+        ensures ran { HasDoneOnce D.Disk Saves self.old.peer self.new.peer }
+        ensures stopped { (why : DiskError) → result ≡ Err (CheckError.Disk why)
+            → IsStopped D.Disk self.old.peer self.new.peer why }
+    {
+        peers_run_on::<D>();
+        doings_join::<D>();
+        self.peer.checkpoint()
     }
 }
 

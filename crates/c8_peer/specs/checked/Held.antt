@@ -1,19 +1,28 @@
 -- Checked, not believed: what holds of the parts of every peer.
-use Rattle.std.specs.Prelude.{◌≡◌, ℕ, ◌+◌, ◌^◌, ◌<◌, ◌≤◌, Some, List, Bool, true, false, if◌then◌else◌}
+use Rattle.std.specs.Prelude.{◌≡◌, ◌≢◌, ◌⊎◌, ℕ, ◌+◌, ◌^◌, ◌<◌, ◌≤◌, ◌==◌, Some, List, Bool, true, false, if◌then◌else◌}
 use Rattle.c8_game.specs.Rules.{Rules, AreInRange}
 use Rattle.c8_log.specs.Journal.{JournalValue}
-use Rattle.c8_known.specs.Journal.{Record, Head, Epoch, Own, Got, Freeze, Leave, Cut, epoch}
+use Rattle.c8_known.specs.Journal.{Record, Head, Epoch, Own, Got, Freeze, Leave, Cut, State, Check, epoch}
 use Rattle.c8_known.specs.Known.{KnownValue, known_of}
+use Rattle.c8_known.specs.Confirmed.{confirmed}
 use Rattle.c8_known.specs.Growth.{IsStillKnown}
-use Rattle.c8_roll.specs.Roll.{RollValue, roll_of}
+use Rattle.c8_digest.specs.Origin.{Origin}
+use Rattle.c8_wire.specs.Reading.{words_of}
+use Rattle.c8_check.specs.declared.checks.Checks.{Checks}
+use Rattle.c8_check.specs.Checks.{ChecksValue, all_pieces, piece_in, digest_of, checks_of, begun_at}
+use Rattle.c8_check.specs.Seen.{plan_of}
+use Rattle.c8_roll.specs.Roll.{RollValue, roll_since, IsRollSince}
 use Rattle.c8_record.specs.Body.{record_of, records_of, Spells}
 use Rattle.c8_record.specs.Allowed.{IsAllowed}
 use Rattle.c8_record.specs.Replay.{AreJournalBodies}
+use Rattle.c8_peer.specs.declared.check.Check as said
+use Rattle.c8_peer.specs.declared.check.Check.TheVariants.{Piece, Done}
+use Rattle.c8_peer.specs.Told.{told_of}
 use Rattle.c8_peer.specs.State.{Memory}
 use Rattle.c8_peer.specs.Lawful.{IsMemory}
 
--- The journal keeps the bodies of a journal of this player, and the rules allow the pending record; what is known is what it says; and the memory is in order, in the
--- last epoch.
+-- The journal keeps the bodies of a journal of this player, and the rules allow the pending record; what is known is what it says;
+-- and the memory is in order, in the last epoch.
 pub record IsPeer {D : Type 0} (rules : Rules) (room : ℕ) (journal : JournalValue D) (k : KnownValue) (m : Memory) : Type 0 where
   pub range : AreInRange rules
   pub low : room < 2 ^ 64
@@ -26,25 +35,48 @@ pub record IsPeer {D : Type 0} (rules : Rules) (room : ℕ) (journal : JournalVa
   pub memory : IsMemory rules room k.me (records_of journal.bodies) m
   pub last : m.links.epoch ≡ epoch (records_of journal.bodies)
 
--- a record that an opening adds, as a test
-abbrev pub is_opening : Record → Bool
-is_opening (Head player id room) = true
-is_opening (Epoch player number) = true
-is_opening (Own player start word) = false
-is_opening (Got player start words) = false
-is_opening (Freeze player) = false
-is_opening (Leave player) = false
-is_opening (Cut player length start words) = false
+-- The roll is that of what is known, run from where the machine began when the peer was opened, and what is kept of checkpoints is
+-- what the journal says of them. This many frames were run last: no more than the window's and one, or all since that beginning.
+pub record IsRolled (rules : Rules) (journal : List Record) (k : KnownValue) (checks : ChecksValue) (v : RollValue) (ran : ℕ) : Type 0 where
+  pub starts : (begun_at rules journal).frames ≤ confirmed k
+  pub roll : v ≡ roll_since rules (begun_at rules journal) k
+  pub checks_are : checks ≡ checks_of journal
+  pub bound : (ran ≤ rules.window + 1) ⊎ (ran + (begun_at rules journal).frames ≡ k.ticks)
+
+-- The bytes that are kept of a checkpoint under way are those of the machine and the marks after its frames.
+abbrev pub IsPlanned : Rules → ℕ → List Record → Checks → Type 0
+IsPlanned rules me journal c = c.count ≢ 0 → plan_of c ≡ (told_of rules me journal).saved c.frames
+
+-- the record of a checkpoint that comes next, as its bytes are cut, and what is said of it
+abbrev pub next_record : ℕ → Checks → Record
+next_record me c = if c.count == all_pieces then Check me c.frames (words_of (digest_of (plan_of c))) else State me c.frames c.count (words_of (piece_in c.count (plan_of c)))
+
+abbrev pub next_said : Checks → said.Check
+next_said c = if c.count == all_pieces then Done c.frames else Piece c.count
 
 -- what the own player entered, as a test
 abbrev pub is_entry : Record → Bool
-is_entry (Head player id room) = false
-is_entry (Epoch player number) = false
+is_entry (Head player form id room) = false
+is_entry (Epoch player number form) = false
 is_entry (Own player start word) = true
 is_entry (Got player start words) = false
 is_entry (Freeze player) = false
 is_entry (Leave player) = false
 is_entry (Cut player length start words) = false
+is_entry (State player frames piece words) = false
+is_entry (Check player frames words) = false
+
+-- what players do, as a test: a record that neither an opening nor a checkpoint adds
+abbrev pub is_play : Record → Bool
+is_play (Head player form id room) = false
+is_play (Epoch player number form) = false
+is_play (Own player start word) = true
+is_play (Got player start words) = true
+is_play (Freeze player) = true
+is_play (Leave player) = true
+is_play (Cut player length start words) = true
+is_play (State player frames piece words) = false
+is_play (Check player frames words) = false
 
 -- the most frames that are run with a record: the window's, and what the own player entered is one frame more
 abbrev pub most_run_with : Rules → Record → ℕ
@@ -52,7 +84,8 @@ most_run_with rules r = if is_entry r then rules.window + 1 else rules.window
 
 -- The roll was that of what was known before, and is still known, with one tick less at most.
 pub record WasRoll (v : RollValue) (k : KnownValue) : Type 0 where
+  pub from : Origin
   pub before : KnownValue
-  pub was : v ≡ roll_of v.rules before
+  pub was : IsRollSince from before v
   pub still : IsStillKnown before k
   pub one_tick : k.ticks ≤ before.ticks + 1

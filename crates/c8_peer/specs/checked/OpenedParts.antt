@@ -7,6 +7,7 @@ use Rattle.c8_log.specs.Log.{LogValue}
 use Rattle.c8_log.specs.Journal.{JournalValue}
 use Rattle.c8_known.specs.Journal.{epoch}
 use Rattle.c8_known.specs.Known.{KnownValue, known_of}
+use Rattle.c8_check.specs.Checks.{ChecksValue, checks_of}
 use Rattle.c8_record.specs.Body.{records_of}
 use Rattle.c8_record.specs.Replay.{AreJournalBodies}
 use Rattle.c8_peer.specs.declared.error.OpenError.{OpenError}
@@ -27,10 +28,11 @@ disk_begun (Ok begun) = begun.0.disk
 disk_begun (Err refusal) = refusal.1
 
 module _ {D : Type 0} (g : Ghosts D) (disk : D) (rules : Rules) (room me : ℕ) where
-  -- What was found is a journal of this match and player, all of it is known, and the disk is settled.
-  pub record IsRead (k : KnownValue) (log : LogValue D) (last : ℕ) : Type 0 where
+  -- What was found is a journal of this match and player, all that it says is known, and the disk is settled.
+  pub record IsRead (k : KnownValue) (checks : ChecksValue) (log : LogValue D) (last : ℕ) : Type 0 where
     pub bodies : AreJournalBodies rules me room (bodies_found g disk)
     pub known : k ≡ known_of rules me (records_of (bodies_found g disk))
+    pub checks_are : checks ≡ checks_of (records_of (bodies_found g disk))
     pub last_is : last ≡ epoch (records_of (bodies_found g disk))
     pub up : log.down ≡ false
     pub same : kept (g.seen log.disk) ≡ bodies_found g disk

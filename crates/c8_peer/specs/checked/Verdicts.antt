@@ -17,7 +17,7 @@ use Rattle.c8_peer.specs.State.{Memory, Delivered, Outcome, answered, recorded}
 use Rattle.c8_peer.specs.Hearing.{refused, taken}
 use Rattle.c8_peer.specs.Steps.{Works}
 use Rattle.c8_peer.specs.Peer.{luck_of_refusal}
-use Rattle.c8_peer.specs.checked.Held.{is_opening, is_entry}
+use Rattle.c8_peer.specs.checked.Held.{is_play, is_entry}
 
 -- the memory after a message that nothing refused
 abbrev pub memory_after_message : Memory → HeadValue → Message → Memory
@@ -47,11 +47,11 @@ by_verdict verdicts.Nothing m noted = taken noted heards.Nothing
 by_verdict verdicts.Alarm m noted = answered (record m { alarm = true }) (Delivered (Err refusals.Desync))
 by_verdict (verdicts.Keep lent what) m noted = recorded noted (Delivered (Ok what)) (value_of lent)
 
--- a verdict records nothing that an opening or the own player's tick records
+-- a verdict records what players do, but what the own one enters
 abbrev pub IsLater : Verdict → Type 0
 IsLater verdicts.Nothing = Unit {0}
 IsLater verdicts.Alarm = Unit {0}
-IsLater (verdicts.Keep lent what) = (is_opening (value_of lent) ≡ false) × (is_entry (value_of lent) ≡ false)
+IsLater (verdicts.Keep lent what) = (is_play (value_of lent) ≡ true) × (is_entry (value_of lent) ≡ false)
 
 -- A judgement: what is to be done, or the refusal, which is not the disk's.
 abbrev pub Judges : Outcome → Memory → Memory → Result Verdict Refused → Type 0

@@ -19,7 +19,7 @@ use c8_disk::Disk;
 use c8_wire::{Datagram, view};
 
 impl<'g, D: Disk> Peer<'g, D> {
-    ghost use Rattle.c8_peer.specs.Peer.{IsAnswered, known_by};
+    ghost use Rattle.c8_peer.specs.Peer.{IsAnswered, known_by, told_by};
 
     /// Takes what came over the network: any bytes, of any length. They are read where they are.
     /// What they say is judged in this order: `Down`, `Dropped`, `Wire`, `OtherWire`, `Hand`, then by
@@ -107,8 +107,8 @@ impl<'g, D: Disk> Peer<'g, D> {
     /// What a datagram that the links admit comes to.
     fn judge<'a>(&self, datagram: &Datagram<'a>) -> Result<Verdict<'a>, Refused>
         requires { IsForMe self.now.state.memory.links (packet_of datagram.now).head }
-        ensures judged { Judges (hear_message self.now.rules (known_by self.now)
-            self.now.state.memory (packet_of datagram.now).head (packet_of datagram.now).message)
+        ensures judged { Judges (hear_message self.now.rules (told_by self.now)
+            (known_by self.now) self.now.state.memory (packet_of datagram.now).head (packet_of datagram.now).message)
             self.now.state.memory
             (memory_after self.now.state.memory (packet_of datagram.now)) result }
         ensures acks { OnOk result (AcksWithin (known_by self.now) (packet_of datagram.now).message) }

@@ -7,6 +7,9 @@ ghost use Rattle.c8_log.specs.Log.{KeepsOneOf};
 ghost use Rattle.c8_log.specs.Slots.{kept};
 ghost use Rattle.c8_known.specs.Journal.{epoch};
 ghost use Rattle.c8_known.specs.Known.{known_of};
+ghost use Rattle.c8_digest.specs.Origin.{origin_of};
+ghost use Rattle.c8_check.specs.Checks.{no_checks, or_first};
+ghost use Rattle.c8_check.specs.Seen.{value_of as checked};
 ghost use Rattle.c8_record.specs.Body.{records_of};
 ghost use Rattle.c8_record.specs.Replay.{AreJournalBodies};
 ghost use Rattle.c8_peer.specs.Opening.{last_epoch};
@@ -16,16 +19,22 @@ ghost use Rattle.c8_peer.specs.checked.OpenedParts.{disk_read, disk_begun, IsRea
 use super::Peer;
 use crate::error::OpenError;
 use crate::memory::Memory;
+use c8_check::Checks;
+use c8_digest::Checkpoint;
 use c8_disk::{Disk, DiskError};
 use c8_game::{Game, Player};
 use c8_known::Known;
 use c8_log::{BODY_LENGTH, Journal, Log, LogError};
+use c8_record::laws::checkpoints_are_in_order;
 use c8_record::{Record, ReplayError, body_of, replay};
 use c8_roll::{Buffers, Roll};
 use std::alloc::{AllocError, Global};
 
 /// The last epoch that a record can have.
 const LAST_EPOCH: u32 = u32::MAX;
+
+/// The form of the records that are written.
+const FORM: u32 = 2;
 
 impl<'g, D: Disk> Peer<'g, D> {
     /// Opens the peer of player `me` in a game and a room, on the disk that holds its journal; on
@@ -92,17 +101,22 @@ fn open_in<'g, D: Disk>(
     ensures same { IsSameDisk D.Disk disk (disk_after result) }
 {
     let mut known = known;
+    let mut checks = Checks::new();
     let me = known.me();
     game.in_range();
-    let (log, last) = read_journal(disk, game, room, &mut known)?;
+    let (log, last) = read_journal(disk, game, room, &mut known, &mut checks)?;
     let (journal, epoch) = begin_epoch(log, game, room, me, last)?;
-    let roll = Roll::over(game, &known, buffers);
+    // For the proof: what was found is confirmed.
+    checkpoints_are_in_order();
+    let roll = Roll::over(game, &known, &beginning(game, &checks), buffers);
+    checks.open(FORM);
     let memory = Memory::new(game, room, me, epoch);
     let peer = Peer {
         game,
         room,
         journal,
         known,
+        checks,
         roll,
         memory,
     };
@@ -111,17 +125,29 @@ fn open_in<'g, D: Disk>(
     Ok(peer)
 }
 
-/// Reads the journal that a disk keeps into `known`, which knows nothing yet, and answers the last
-/// epoch.
+/// Where the machine begins: at the last checkpoint, or at the first frame.
+fn beginning(game: &Game, checks: &Checks) -> Checkpoint
+    ensures { origin_of result ≡ or_first game.now (checked checks.now).last }
+{
+    match checks.last() {
+        Some(last) => last,
+        None => Checkpoint::start(game),
+    }
+}
+
+/// Reads the journal that a disk keeps into `known`, which knows nothing yet, and into `checks`,
+/// which are new, and answers the last epoch.
 fn read_journal<D: Disk>(
     disk: D,
     game: &Game,
     room: u64,
     known: &mut Known,
+    checks: &mut Checks,
 ) -> Result<(Log<D>, u32), (OpenError, D)>
-    requires { known.old ≡ known_of game.now known.old.me [] }
-    ensures read { IfOk result (λ read.
-        IsRead D.Disk disk game.now room known.old.me known.new read.0 read.1) }
+    requires nothing { known.old ≡ known_of game.now known.old.me [] }
+    requires new { checked checks.old ≡ no_checks }
+    ensures read { IfOk result (λ read. IsRead D.Disk disk game.now room known.old.me known.new
+        (checked checks.new) read.0 read.1) }
     ensures refused { IfErr result (λ refusal.
         IsRefusedFor D.Disk disk game.now room known.old.me refusal.0 refusal.1) }
     ensures any_moment { LeavesOnly D.Disk disk (disk_read result)
@@ -137,7 +163,7 @@ fn read_journal<D: Disk>(
     };
     // For the proof: a log that is up is at rest.
     let _count = log.len();
-    match replay(&mut log, game, room, known) {
+    match replay(&mut log, game, room, known, checks) {
         Ok(last) => Ok((log, last)),
         Err(error) => Err((OpenError::from(error), log.close())),
     }
@@ -190,6 +216,7 @@ fn opening_body(game: &Game, room: u64, me: Player, last: u32, is_first: bool) -
     let record = if is_first {
         Record::Head {
             player: me,
+            form: FORM,
             id: &id,
             room,
         }
@@ -197,6 +224,7 @@ fn opening_body(game: &Game, room: u64, me: Player, last: u32, is_first: bool) -
         Record::Epoch {
             player: me,
             number: last + 1,
+            form: FORM,
         }
     };
     body_of(&record)

@@ -4,10 +4,13 @@ ghost use Rattle.c8_game.specs.Rules.{limit_of};
 ghost use Rattle.c8_machine.specs.State.{state};
 ghost use Rattle.c8_machine.specs.Serial.{serial};
 ghost use Rattle.c8_hand.specs.Links.{link_to};
+ghost use Rattle.c8_digest.specs.Origin.{run_since};
+ghost use Rattle.c8_check.specs.Checks.{frames_of, checks_of};
 ghost use Rattle.c8_known.specs.Known.{player_in, count_in, is_frozen_in, is_player};
 ghost use Rattle.c8_known.specs.Confirmed.{confirmed, confirmed_rows, best_rows};
 ghost use Rattle.c8_known.specs.Journal as journals;
 ghost use Rattle.c8_window.specs.Window.{acked_of};
+ghost use Rattle.c8_peer.specs.TrueChecks.{HasTrueChecks};
 
 use super::Peer;
 use c8_disk::Disk;
@@ -16,7 +19,7 @@ use c8_machine::Machine;
 use c8_record::laws::journals_stay_within_the_window;
 
 impl<'g, D: Disk> Peer<'g, D> {
-    ghost use Rattle.c8_peer.specs.Peer.{known_by};
+    ghost use Rattle.c8_peer.specs.Peer.{known_by, begun_by};
 
     /// Whose peer it is.
     pub fn me(&self) -> Player
@@ -129,15 +132,20 @@ impl<'g, D: Disk> Peer<'g, D> {
         self.memory.alarm
     }
 
-    /// The machine that the player sees: the run of the best guess at each frame's inputs.
+    /// The machine that the player sees: the run of the best guess at each frame's inputs. It began
+    /// at the last checkpoint that the opening found; where that is true (`HasTrueChecks`) it is the
+    /// run from the first frame on.
     pub fn shown(&self) -> &Machine
-        ensures { state result.now ≡ serial self.now.rules (best_rows (known_by self.now)) }
+        ensures value { state result.now
+            ≡ run_since self.now.rules (begun_by self.now) (best_rows (known_by self.now)) }
+        ensures serial { HasTrueChecks self.now.rules self.now.me self.now.state.journal
+            → state result.now ≡ serial self.now.rules (best_rows (known_by self.now)) }
     {
         self.roll.shown()
     }
 
     /// How many frames were run when the peer last recorded something: at the opening as many as the
-    /// journal has ticks; in a call those from the oldest on whose best guess the record changed, or
+    /// journal has ticks after the last checkpoint that was found; in a call those from the oldest on whose best guess the record changed, or
     /// the new one alone, at most the window's, since no peer is further ahead than that, and in a
     /// tick one more. A call that records nothing runs none.
     pub fn last_run(&self) -> u32
@@ -145,17 +153,28 @@ impl<'g, D: Disk> Peer<'g, D> {
         ensures ahead { (known_by self.now).ticks
             ≤ confirmed (known_by self.now) + self.now.rules.window }
         ensures bound { (result ≤ self.now.rules.window + 1)
-            ⊎ (result ≡ (known_by self.now).ticks) }
+            ⊎ (result + (begun_by self.now).frames ≡ (known_by self.now).ticks) }
     {
         journals_stay_within_the_window();
         self.roll.last_run()
     }
 
-    /// How many frames are confirmed, and the machine after them.
+    /// At how many frames the last checkpoint is that is whole, at which the next opening begins; 0 where
+    /// there is none.
+    pub fn last_checkpoint(&self) -> u32
+        ensures { result ≡ frames_of (checks_of self.now.state.journal).last }
+    {
+        self.checks.last_frames()
+    }
+
+    /// How many frames are confirmed, and the machine after them, which is said of as that of
+    /// [`Peer::shown`] is.
     pub fn base(&self) -> (u32, &Machine)
         ensures confirmed { result.0 ≡ confirmed (known_by self.now) }
         ensures machine { state result.1.now
-            ≡ serial self.now.rules (confirmed_rows (known_by self.now)) }
+            ≡ run_since self.now.rules (begun_by self.now) (confirmed_rows (known_by self.now)) }
+        ensures serial { HasTrueChecks self.now.rules self.now.me self.now.state.journal
+            → state result.1.now ≡ serial self.now.rules (confirmed_rows (known_by self.now)) }
     {
         self.roll.base()
     }

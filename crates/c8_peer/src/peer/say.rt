@@ -8,13 +8,13 @@ use super::Peer;
 use crate::error::Unsayable;
 use crate::kind::Kind;
 use crate::saying::{judge_saying, message};
-use c8_digest::FrameMark;
+use c8_digest::{FrameMark, MARK_LENGTH};
 use c8_disk::Disk;
 use c8_game::Player;
 use c8_wire::{LONGEST_DATAGRAM, Said, write};
 
 impl<'g, D: Disk> Peer<'g, D> {
-    ghost use Rattle.c8_peer.specs.Peer.{IsStep, IsSaid, known_by};
+    ghost use Rattle.c8_peer.specs.Peer.{IsStep, IsSaid, told_by};
 
     /// Writes a datagram to another player to the front of `out`, and answers its length, 24 to
     /// 174. Refusals are found in the order of `Unsayable`; after one `out` is as it was.
@@ -53,11 +53,11 @@ impl<'g, D: Disk> Peer<'g, D> {
 
     /// The mark of the greatest multiple of 32 confirmed frames.
     fn newest_mark(&self) -> FrameMark
-        ensures { result ≡ newest_mark self.now.rules (known_by self.now) }
+        ensures { result ≡ newest_mark (told_by self.now) }
     {
-        match self.roll.marks().newest() {
-            Some(newest) => newest,
-            None => unreachable!(),
-        }
+        self.roll.marks().newest().unwrap_or(FrameMark {
+            frame: 0,
+            mark: [0; MARK_LENGTH],
+        })
     }
 }

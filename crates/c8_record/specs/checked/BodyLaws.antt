@@ -1,5 +1,5 @@
 -- Checked, not believed: a record that is spelled is read again, and bodies and records tell of each other.
-use Rattle.std.proofs.Common.{◌≡◌, ℕ, zero, suc, ◌*◌, ◌-◌, ◌/◌, ◌^◌, ◌<◌, ◌≤◌, List, [], ◌∷◌, ◌++◌, length, map, take, drop, refl, sym, ap, subst, ◌∙◌, arith}
+use Rattle.std.proofs.Common.{◌≡◌, ℕ, zero, suc, ◌*◌, ◌-◌, ◌/◌, ◌^◌, ◌<◌, ◌≤◌, List, [], ◌∷◌, ◌++◌, length, map, take, drop, ⊎_elim, refl, sym, ap, subst, ◌∙◌, arith}
 use Rattle.std.specs.Prelude.{slice_index, replicate}
 use Rattle.std.specs.List.{All}
 use Rattle.std.proofs.Math.Seq.{take-append_seam, drop-append_seam}
@@ -14,11 +14,11 @@ use Rattle.c8_wire.specs.declared.run.Run.TheVariants as runs
 use Rattle.c8_wire.specs.Lent.{version_of, words, spelled, touched}
 use Rattle.c8_wire.specs.Spelling.{words_bytes, inputs_bytes}
 use Rattle.c8_wire.specs.checked.WordLaws.{length-spelled_words, words_of-spelled, words_of-lt}
-use Rattle.c8_known.specs.Journal.{Record, Head, Epoch, Own, Got, Freeze, Leave, Cut}
+use Rattle.c8_known.specs.Journal.{Record, Head, Epoch, Own, Got, Freeze, Leave, Cut, State, Check}
 use Rattle.c8_record.specs.declared.record.Record.{Record as Lent}
 use Rattle.c8_record.specs.declared.record.Record.TheVariants as lents
-use Rattle.c8_record.specs.Lent.{value_of, HasInputs}
-use Rattle.c8_record.specs.Body.{records_of, run_room, Fields, fields_of, field_bytes, body_of, HasSpelling, Spells, run_at, record_of}
+use Rattle.c8_record.specs.Lent.{value_of, IsComplete}
+use Rattle.c8_record.specs.Body.{IsForm, records_of, run_room, Fields, fields_of, field_bytes, body_of, HasSpelling, Spells, run_at, record_of}
 
 -- ---- fields
 
@@ -53,9 +53,9 @@ run_is f words is short fits =
 
 -- ---- records
 
-room_is : (player : ℕ) (id : List ℕ) (room : ℕ) → length id ≡ 32 → room < 2 ^ 64 → number_at 44 8 (field_bytes (fields_of (Head player id room))) ≡ room
+room_is : (player form : ℕ) (id : List ℕ) (room : ℕ) → length id ≡ 32 → room < 2 ^ 64 → number_at 44 8 (field_bytes (fields_of (Head player form id room))) ≡ room
 unfolding number_at after_start zeros_of
-room_is player id room long low =
+room_is player form id room long low =
     let rest : List ℕ = zeros_of (id ++ big_bytes 8 room) in
     let there : drop 32 ((id ++ big_bytes 8 room) ++ rest) ≡ big_bytes 8 room ++ rest =
     ap (λ (n : ℕ). drop n ((id ++ big_bytes 8 room) ++ rest)) (sym long) ∙ ap (drop (length id)) (append_assoc id (big_bytes 8 room) rest) ∙ drop-append_seam id (big_bytes 8 room ++ rest) in
@@ -70,12 +70,17 @@ word_is player start word low = big_number-reads_back 2 word (zeros_of (words_by
 
 pub read_again : (r : Record) → HasSpelling r → record_of (body_of r) ≡ r
 unfolding record_of body_of
-read_again (Head player id room) has =
-    let f : Fields = fields_of (Head player id room) in
-    let same = id_is id (big_bytes 8 room) (replicate (run_room - length f.run) 0) has.parts.0 in
-    let there = room_is player id room has.parts.0 has.parts.2 in
-    λ i. Head player (same i) (there i)
-read_again (Epoch player number) has = ap (Epoch player) (number_is (fields_of (Epoch player number)) has.number)
+read_again (Head player form id room) has =
+    let f : Fields = fields_of (Head player form id room) in
+    let first = start_is f has.start in
+    let same = id_is id (big_bytes 8 room) (replicate (run_room - length f.run) 0) has.parts.1 in
+    let there = room_is player form id room has.parts.1 has.parts.3 in
+    λ i. Head player (first i) (same i) (there i)
+read_again (Epoch player number form) has =
+    let f : Fields = fields_of (Epoch player number form) in
+    let counted = number_is f has.number in
+    let first = start_is f has.start in
+    λ i. Epoch player (counted i) (first i)
 read_again (Own player start word) has =
     let from = start_is (fields_of (Own player start word)) has.start in
     let input = word_is player start word has.parts in
@@ -93,6 +98,17 @@ read_again (Cut player cut start words) has =
     let from = start_is f has.start in
     let inputs = run_is f words refl has.short has.parts in
     λ i. Cut player (ends i) (from i) (inputs i)
+read_again (State player frames piece words) has =
+    let f : Fields = fields_of (State player frames piece words) in
+    let at = number_is f has.number in
+    let place = start_is f has.start in
+    let bytes = run_is f words refl has.short has.parts in
+    λ i. State player (at i) (place i) (bytes i)
+read_again (Check player frames words) has =
+    let f : Fields = fields_of (Check player frames words) in
+    let at = number_is f has.number in
+    let digest = run_is f words refl has.short has.parts.1 in
+    λ i. Check player (at i) (digest i)
 
 pub reads_back : (bytes : List ℕ) (r : Record) → Spells bytes r → record_of bytes ≡ r
 reads_back bytes r spells = ap record_of spells.is ∙ read_again r spells.has
@@ -102,18 +118,20 @@ one_record bytes r s one other = sym (reads_back bytes r one) ∙ reads_back byt
 
 -- ---- what bytes that spell a record have
 
-kind_of : (r : Record) → (1 ≤ (fields_of r).kind) × ((fields_of r).kind ≤ 7)
-kind_of (Head player id room) = (omega arith, omega arith)
-kind_of (Epoch player number) = (omega arith, omega arith)
+kind_of : (r : Record) → (1 ≤ (fields_of r).kind) × ((fields_of r).kind ≤ 9)
+kind_of (Head player form id room) = (omega arith, omega arith)
+kind_of (Epoch player number form) = (omega arith, omega arith)
 kind_of (Own player start word) = (omega arith, omega arith)
 kind_of (Got player start words) = (omega arith, omega arith)
 kind_of (Freeze player) = (omega arith, omega arith)
 kind_of (Leave player) = (omega arith, omega arith)
 kind_of (Cut player cut start words) = (omega arith, omega arith)
+kind_of (State player frames piece words) = (omega arith, omega arith)
+kind_of (Check player frames words) = (omega arith, omega arith)
 
 pub record IsShaped (bytes : List ℕ) : Type 0 where
   pub kind_from : 1 ≤ slice_index bytes 0
-  pub kind_to : slice_index bytes 0 ≤ 7
+  pub kind_to : slice_index bytes 0 ≤ 9
   pub player_from : 1 ≤ slice_index bytes 1
   pub player_to : slice_index bytes 1 ≤ 4
   pub short : number_at 10 2 bytes ≤ 64
@@ -135,10 +153,19 @@ shaped bytes r spells =
 
 -- ---- what is spelled of lent parts
 
-pub head_spells : (bytes : List ℕ) (player : ℕ) (id : List ℕ) (room : ℕ) → bytes ≡ body_of (Head player id room)
-    → 1 ≤ player → player ≤ 4 → length id ≡ 32 → AreBytes id → room < 2 ^ 64 → Spells bytes (Head player id room)
-head_spells bytes player id room is from to long fits low = record {
-  has = record { from_one = from; to_four = to; number = omega arith; start = omega arith; short = omega (arith, long, length-append id (big_bytes 8 room)); parts = (long, fits, low) };
+small_form : (form : ℕ) → IsForm form → form < 2 ^ 32
+small_form form is = ⊎_elim (λ (first : form ≡ 0). omega (arith, first)) (λ (second : form ≡ 2). omega (arith, second)) is
+
+pub head_spells : (bytes : List ℕ) (player form : ℕ) (id : List ℕ) (room : ℕ) → bytes ≡ body_of (Head player form id room)
+    → 1 ≤ player → player ≤ 4 → IsForm form → length id ≡ 32 → AreBytes id → room < 2 ^ 64 → Spells bytes (Head player form id room)
+head_spells bytes player form id room is from to of long fits low = record {
+  has = record { from_one = from; to_four = to; number = omega arith; start = small_form form of; short = omega (arith, long, length-append id (big_bytes 8 room)); parts = (of, long, fits, low) };
+  is = is;
+}
+
+pub epoch_spells : (bytes : List ℕ) (player number form : ℕ) → bytes ≡ body_of (Epoch player number form) → 1 ≤ player → player ≤ 4 → number < 2 ^ 32 → IsForm form → Spells bytes (Epoch player number form)
+epoch_spells bytes player number form is from to low of = record {
+  has = record { from_one = from; to_four = to; number = low; start = small_form form of; short = omega arith; parts = of };
   is = is;
 }
 
@@ -182,15 +209,31 @@ cut_spells bytes player cut start words is from to low first sets few = record {
   is = is;
 }
 
--- a record that is spelled has inputs, where it tells of some
-pub has_inputs : (lent : Lent) → HasSpelling (value_of lent) → HasInputs lent
-has_inputs (lents.Head player id room) has = tt
-has_inputs (lents.Epoch player number) has = tt
-has_inputs (lents.Own player start keys) has = tt
-has_inputs (lents.Got player start run) has = has.parts.0
-has_inputs (lents.Freeze player) has = tt
-has_inputs (lents.Leave player) has = tt
-has_inputs (lents.Cut player cut start run) has = tt
+pub state_spells : (bytes : List ℕ) (player frames piece : ℕ) (words : List ℕ) → bytes ≡ body_of (State player frames piece words)
+    → 1 ≤ player → player ≤ 4 → frames < 2 ^ 32 → piece < 2 ^ 32 → AreWords words → length words ≤ 64 → Spells bytes (State player frames piece words)
+state_spells bytes player frames piece words is from to low place sets few = record {
+  has = record { from_one = from; to_four = to; number = low; start = place; short = omega (arith, few, length-spelled_words words); parts = sets };
+  is = is;
+}
+
+pub check_spells : (bytes : List ℕ) (player frames : ℕ) (words : List ℕ) → bytes ≡ body_of (Check player frames words)
+    → 1 ≤ player → player ≤ 4 → frames < 2 ^ 32 → AreWords words → length words ≡ 4 → Spells bytes (Check player frames words)
+check_spells bytes player frames words is from to low sets four = record {
+  has = record { from_one = from; to_four = to; number = low; start = omega arith; short = omega (arith, four, length-spelled_words words); parts = (four, sets) };
+  is = is;
+}
+
+-- a record that is spelled has all that a spelling asks of its parts
+pub complete : (lent : Lent) → HasSpelling (value_of lent) → IsComplete lent
+complete (lents.Head player form id room) has = has.parts.0
+complete (lents.Epoch player number form) has = has.parts
+complete (lents.Own player start keys) has = tt
+complete (lents.Got player start run) has = has.parts.0
+complete (lents.Freeze player) has = tt
+complete (lents.Leave player) has = tt
+complete (lents.Cut player cut start run) has = tt
+complete (lents.State player frames piece run) has = tt
+complete (lents.Check player frames run) has = has.parts.0
 
 -- where a body spells a record, that is the one that its parts are
 pub spells_lent : (bytes : List ℕ) (lent : Lent) (r : Record) → value_of lent ≡ record_of bytes → Spells bytes r → Spells bytes (value_of lent)

@@ -6,15 +6,17 @@ use Rattle.std.proofs.Math.Seq.{take-append_seam}
 use Rattle.std.proofs.lemmas.Bool.{cases_eq}
 use Rattle.std.proofs.lemmas.Grind.{flat_map-append}
 use Rattle.std.proofs.lemmas.List.{append-nil, length-append, take-append-le}
+use Rattle.std.proofs.lemmas.List.Sums.{fold-append}
 use Rattle.std.proofs.lemmas.Option.{slice_get_within}
 use Rattle.c8_game.specs.Rules.{Rules, AreInRange}
 use Rattle.c8_known.specs.Journal as journals
-use Rattle.c8_known.specs.Journal.{Record, Head, Epoch, Own, Got, Freeze, Leave, Cut, player_of, epoch, epochs}
+use Rattle.c8_known.specs.Journal.{Record, Head, Epoch, Own, Got, Freeze, Leave, Cut, State, Check, player_of, epoch, epochs}
 use Rattle.c8_known.specs.Known.{KnownValue, player_in, count_in, is_frozen_in, known_of, with_record, IsKnown, IsOfGame, NamesPlayer}
 use Rattle.c8_known.specs.Growth.{IsStillKnown}
 use Rattle.c8_known.specs.checked.OneMore.{one_more}
 use Rattle.c8_known.specs.checked.StartLaws.{players_known, known_at_start}
 use Rattle.c8_known.specs.checked.KnownLaws.{own_known, own_still, got_known, got_still, freeze_known, freeze_still, leave_known, leave_still, cut_known, cut_still, still_same, still_more}
+use Rattle.c8_check.specs.Checks.{no_checks, with_check, checks_of}
 use Rattle.c8_record.specs.Allowed.{Past, past_of, MayOwn, MayCut, IsAllowedAfter, IsAllowed, IsJournal}
 use Rattle.c8_record.specs.checked.Taken.{epoch_after}
 
@@ -86,13 +88,21 @@ unfolding last_of
 next_epoch journal r number one = ap last_of (epochs_more journal r ∙ ap (λ (more : List ℕ). epochs journal ++ more) one) ∙ last_here (epochs journal) number
 
 pub epoch_more : (journal : List Record) (r : Record) → epoch (journal ++ r ∷ []) ≡ epoch_after (epoch journal) r
-epoch_more journal (Head player id room) = next_epoch journal (Head player id room) 1 refl
-epoch_more journal (Epoch player number) = next_epoch journal (Epoch player number) number refl
+epoch_more journal (Head player form id room) = next_epoch journal (Head player form id room) 1 refl
+epoch_more journal (Epoch player number form) = next_epoch journal (Epoch player number form) number refl
 epoch_more journal (Own player start word) = same_epoch journal (Own player start word) refl
 epoch_more journal (Got player start words) = same_epoch journal (Got player start words) refl
 epoch_more journal (Freeze player) = same_epoch journal (Freeze player) refl
 epoch_more journal (Leave player) = same_epoch journal (Leave player) refl
 epoch_more journal (Cut player cut start words) = same_epoch journal (Cut player cut start words) refl
+epoch_more journal (State player frames piece words) = same_epoch journal (State player frames piece words) refl
+epoch_more journal (Check player frames words) = same_epoch journal (Check player frames words) refl
+
+-- ---- checkpoints
+
+pub checks_more : (journal : List Record) (r : Record) → checks_of (journal ++ r ∷ []) ≡ with_check (checks_of journal) r
+unfolding checks_of
+checks_more journal r = fold-append with_check no_checks journal (r ∷ [])
 
 -- ---- what is known
 
@@ -118,8 +128,8 @@ leaves k player cut start words may =
     ]
 
 pub sound_more : (rules : Rules) (room : ℕ) (past : Past) (r : Record) → IsKnown past.known → IsOfGame rules past.known.me past.known → IsAllowedAfter rules room past r → IsKnown (with_record past.known r)
-sound_more rules room past (Head player id named) known of may = known
-sound_more rules room past (Epoch player number) known of may = known
+sound_more rules room past (Head player form id named) known of may = known
+sound_more rules room past (Epoch player number form) known of may = known
 sound_more rules room past (Own player start word) known of may =
     subst (λ (q : ℕ). IsKnown (with_record past.known (Own q start word))) (sym may.may.own) (own_known past.known start word known (own_room rules past.known player start known of may.may))
 sound_more rules room past (Got player start words) known of may =
@@ -128,16 +138,20 @@ sound_more rules room past (Freeze player) known of may = freeze_known past.know
 sound_more rules room past (Leave player) known of may = leave_known past.known player known may.plays
 sound_more rules room past (Cut player cut start words) known of may =
     cut_known past.known player cut start words known may.plays may.may.other (leaves past.known player cut start words may.may) may.may.once (omega (arith, may.may.next, may.may.ends)) may.may.within
+sound_more rules room past (State player frames piece words) known of may = known
+sound_more rules room past (Check player frames words) known of may = known
 
 pub still_with : (rules : Rules) (room : ℕ) (past : Past) (r : Record) → IsKnown past.known → IsAllowedAfter rules room past r → IsStillKnown past.known (with_record past.known r)
-still_with rules room past (Head player id named) known may = still_same past.known
-still_with rules room past (Epoch player number) known may = still_same past.known
+still_with rules room past (Head player form id named) known may = still_same past.known
+still_with rules room past (Epoch player number form) known may = still_same past.known
 still_with rules room past (Own player start word) known may =
     subst (λ (q : ℕ). IsStillKnown past.known (with_record past.known (Own q start word))) (sym may.may.own) (own_still past.known start word known)
 still_with rules room past (Got player start words) known may = got_still past.known player start words may.plays may.may.uncut
 still_with rules room past (Freeze player) known may = freeze_still past.known player may.plays
 still_with rules room past (Leave player) known may = leave_still past.known player may.plays
 still_with rules room past (Cut player cut start words) known may = cut_still past.known player cut start words may.plays may.may.once
+still_with rules room past (State player frames piece words) known may = still_same past.known
+still_with rules room past (Check player frames words) known may = still_same past.known
 
 -- what is known by a journal with one record more
 pub known_more : (rules : Rules) (me room : ℕ) (journal : List Record) (r : Record) → IsAllowed rules me room journal r → known_of rules me (journal ++ r ∷ []) ≡ with_record (known_of rules me journal) r

@@ -38,18 +38,18 @@ body_allowed rules me room bodies n body are here =
     let place : slice_get (records_of bodies) n ≡ Some (record_of body) = slice_get-map record_of bodies n ∙ ap (option_map record_of) here in
     subst (λ (before : List Record). IsAllowed rules me room before (record_of body)) (take-map record_of n bodies) (are.journal n (record_of body) place)
 
-head_allowed : (rules : Rules) (me room : ℕ) (bodies : List (List ℕ)) (body : List ℕ) (player : ℕ) (id : List ℕ) (named : ℕ) → AreJournalBodies rules me room bodies
-    → slice_get bodies 0 ≡ Some body → Spells body (Head player id named) → IsAllowed rules me room (records_of (take 0 bodies)) (Head player id named)
-head_allowed rules me room bodies body player id named are first spells =
-    subst (λ (r : Record). IsAllowed rules me room (records_of (take 0 bodies)) r) (reads_back body (Head player id named) spells) (body_allowed rules me room bodies 0 body are first)
+head_allowed : (rules : Rules) (me room : ℕ) (bodies : List (List ℕ)) (body : List ℕ) (player form : ℕ) (id : List ℕ) (named : ℕ) → AreJournalBodies rules me room bodies
+    → slice_get bodies 0 ≡ Some body → Spells body (Head player form id named) → IsAllowed rules me room (records_of (take 0 bodies)) (Head player form id named)
+head_allowed rules me room bodies body player form id named are first spells =
+    subst (λ (r : Record). IsAllowed rules me room (records_of (take 0 bodies)) r) (reads_back body (Head player form id named) spells) (body_allowed rules me room bodies 0 body are first)
 
 pub not_refused : (rules : Rules) (me room : ℕ) (bodies : List (List ℕ)) (error : ReplayError) → AreJournalBodies rules me room bodies → IsRefusal rules me room bodies error → ⊥
 unfolding known_of
-not_refused rules me room bodies WrongGame are (player, id, named, (body, first, spells), other) =
-    let may = (head_allowed rules me room bodies body player id named are first spells).may in
+not_refused rules me room bodies WrongGame are (player, id, named, (body, form, first, spells), other) =
+    let may = (head_allowed rules me room bodies body player form id named are first spells).may in
     ⊎_elim (λ game. game may.of_game) (λ in_room. in_room may.in_room) other
-not_refused rules me room bodies WrongPlayer are (player, (body, first, spells), other) =
-    other (head_allowed rules me room bodies body player (id_of rules) room are first spells).may.own
+not_refused rules me room bodies WrongPlayer are (player, (body, form, first, spells), other) =
+    other (head_allowed rules me room bodies body player form (id_of rules) room are first spells).may.own
 not_refused rules me room bodies (BadRecord n) are (bad, other) =
     let body = slice_index_or bodies n [] in
     let here : slice_get bodies n ≡ Some body = slice_get-get_or bodies n [] bad.within in
@@ -89,14 +89,20 @@ one_first_bad rules me room bodies n m one other = elim (cases_lt n m) [
 ]
 
 -- one body that begins is one HEAD
-one_head : (bodies : List (List ℕ)) (p q : ℕ) (id other : List ℕ) (room named : ℕ) → BeginsWithHead bodies p id room → BeginsWithHead bodies q other named → Head p id room ≡ Head q other named
-one_head bodies p q id other room named (body, first, spells) (again, second, spelled) =
+record IsOneHead (p q : ℕ) (id other : List ℕ) (room named : ℕ) : Type 0 where
+  player : p ≡ q
+  game : id ≡ other
+  match : room ≡ named
+
+one_head : (bodies : List (List ℕ)) (p q : ℕ) (id other : List ℕ) (room named : ℕ) → BeginsWithHead bodies p id room → BeginsWithHead bodies q other named → IsOneHead p q id other room named
+one_head bodies p q id other room named (body, form, first, spells) (again, another, second, spelled) =
     let same : again ≡ body = cc in
-    one_record body (Head p id room) (Head q other named) spells (subst (λ (b : List ℕ). Spells b (Head q other named)) same spelled)
+    let head : Head p form id room ≡ Head q another other named = one_record body (Head p form id room) (Head q another other named) spells (subst (λ (b : List ℕ). Spells b (Head q another other named)) same spelled) in
+    record { player = cc; game = cc; match = cc }
 
 -- a HEAD that begins all begins the first n, unless n is 0
 begins_front : (bodies : List (List ℕ)) (n player : ℕ) (id : List ℕ) (room : ℕ) → 0 < n → BeginsWithHead bodies player id room → BeginsWithHead (take n bodies) player id room
-begins_front bodies n player id room some (body, first, spells) = (body, in_front bodies n 0 body some first, spells)
+begins_front bodies n player id room some (body, form, first, spells) = (body, form, in_front bodies n 0 body some first, spells)
 
 -- a HEAD that is wrong is no body after which another one is the first bad
 no_bad_after_game : (rules : Rules) (me room : ℕ) (bodies : List (List ℕ)) (n : ℕ) → IsRefusal rules me room bodies WrongGame → IsRefusal rules me room bodies (BadRecord n) → ⊥
@@ -114,9 +120,7 @@ no_bad_after_player rules me room bodies n (player, head, other) (bad, no_head) 
 no_game_and_player : (rules : Rules) (me room : ℕ) (bodies : List (List ℕ)) → IsRefusal rules me room bodies WrongGame → IsRefusal rules me room bodies WrongPlayer → ⊥
 no_game_and_player rules me room bodies (player, id, named, head, other) (again, second, mine) =
     let same = one_head bodies player again id (id_of rules) named room head second in
-    let game : id ≡ id_of rules = cc in
-    let match : named ≡ room = cc in
-    ⊎_elim (λ differs. differs game) (λ differs. differs match) other
+    ⊎_elim (λ differs. differs same.game) (λ differs. differs same.match) other
 
 pub one_refusal : (rules : Rules) (me room : ℕ) (bodies : List (List ℕ)) (one other : ReplayError) → IsRefusal rules me room bodies one → IsRefusal rules me room bodies other → one ≡ other
 one_refusal rules me room bodies WrongGame WrongGame one other = refl

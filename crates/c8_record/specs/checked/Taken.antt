@@ -1,10 +1,12 @@
 -- Checked, not believed: what one body more gives in a replay. Contracts of private functions cite it, and no other.
-use Rattle.std.specs.Prelude.{ℕ, ◌≡◌, ◌≢◌, ◌⊎◌, ◌<◌, ◌≤◌, ◌+◌, ◌/◌, List, length, take, Some}
+use Rattle.std.specs.Prelude.{ℕ, ◌≡◌, ◌≢◌, ◌⊎◌, ◌<◌, ◌≤◌, ◌+◌, ◌/◌, List, length, take, Some, true}
 use Rattle.std.specs.List.{slice_get}
 use Rattle.c8_log.specs.Slots.{slot_length, body_of}
 use Rattle.c8_game.specs.Rules.{Rules, id_of}
-use Rattle.c8_known.specs.Journal.{Record, Head, Epoch, Own, Got, Freeze, Leave, Cut, epoch}
+use Rattle.c8_known.specs.Journal.{Record, Head, Epoch, Own, Got, Freeze, Leave, Cut, State, Check, epoch}
 use Rattle.c8_known.specs.Known.{KnownValue, known_of, with_record, IsKnown}
+use Rattle.c8_check.specs.Checks.{ChecksValue, checks_of, with_check, may_take, MayCheck}
+use Rattle.c8_wire.specs.Spelling.{words_bytes}
 use Rattle.c8_record.specs.Body.{Spells, record_of, records_of}
 use Rattle.c8_record.specs.Replay.{AreJournalBodies}
 use Rattle.c8_record.specs.Allowed.{Past, IsHead, IsAllowedAfter}
@@ -13,23 +15,27 @@ use Rattle.c8_record.specs.declared.error.ReplayError.TheVariants.{WrongGame, Wr
 
 -- the last epoch after the record
 abbrev pub epoch_after : ℕ → Record → ℕ
-epoch_after before (Head player id room) = 1
-epoch_after before (Epoch player number) = number
+epoch_after before (Head player form id room) = 1
+epoch_after before (Epoch player number form) = number
 epoch_after before (Own player start word) = before
 epoch_after before (Got player start words) = before
 epoch_after before (Freeze player) = before
 epoch_after before (Leave player) = before
 epoch_after before (Cut player length start words) = before
+epoch_after before (State player frames piece words) = before
+epoch_after before (Check player frames words) = before
 
 -- the record is a HEAD of which this is so
 abbrev pub IsHeadWith : (ℕ → List ℕ → ℕ → Type 0) → Record → Type 0
-IsHeadWith P (Head player id room) = P player id room
-IsHeadWith P (Epoch player number) = ⊥
+IsHeadWith P (Head player form id room) = P player id room
+IsHeadWith P (Epoch player number form) = ⊥
 IsHeadWith P (Own player start word) = ⊥
 IsHeadWith P (Got player start words) = ⊥
 IsHeadWith P (Freeze player) = ⊥
 IsHeadWith P (Leave player) = ⊥
 IsHeadWith P (Cut player length start words) = ⊥
+IsHeadWith P (State player frames piece words) = ⊥
+IsHeadWith P (Check player frames words) = ⊥
 
 abbrev pub IsOfOtherGame : Rules → ℕ → Record → Type 0
 IsOfOtherGame rules room r = IsHeadWith (λ player id named. (id ≢ id_of rules) ⊎ (named ≢ room)) r
@@ -52,20 +58,34 @@ IsUnfitBody rules room past body (BadRecord n) =
     (n ≡ past.count) × ((r : Record) → Spells body r → past.count ≡ 0 → IsHead r → ⊥) × ((r : Record) → Spells body r → IsAllowedAfter rules room past r → ⊥)
 IsUnfitBody rules room past body (Disk why) = ⊥
 
+-- what a record says of checkpoints, if it says something, may be said after these
+abbrev pub MaySay : ChecksValue → Record → Type 0
+MaySay checks (Head player form id room) = Unit {0}
+MaySay checks (Epoch player number form) = Unit {0}
+MaySay checks (Own player start word) = Unit {0}
+MaySay checks (Got player start words) = Unit {0}
+MaySay checks (Freeze player) = Unit {0}
+MaySay checks (Leave player) = Unit {0}
+MaySay checks (Cut player length start words) = Unit {0}
+MaySay checks (State player frames piece words) = (sure : ℕ) × (may_take checks sure frames piece (words_bytes words) ≡ true)
+MaySay checks (Check player frames words) = MayCheck checks frames (words_bytes words)
+
 -- what a body that is taken gives
-pub record IsTaken (rules : Rules) (room : ℕ) (past : Past) (body : List ℕ) (new : KnownValue) (later : ℕ) : Type 0 where
+pub record IsTaken (rules : Rules) (room : ℕ) (past : Past) (body : List ℕ) (new : KnownValue) (checks : ChecksValue) (later : ℕ) : Type 0 where
   pub sound : IsKnown past.known
   pub spelled : Spells body (record_of body)
   pub allowed : IsAllowedAfter rules room past (record_of body)
   pub known : new ≡ with_record past.known (record_of body)
+  pub saved : checks ≡ with_check past.checks (record_of body)
   pub last : later ≡ epoch_after past.epoch (record_of body)
 
 -- the first n bodies are taken
-pub record IsReadTo (rules : Rules) (me room : ℕ) (bodies : List (List ℕ)) (n : ℕ) (now : KnownValue) (last : ℕ) : Type 0 where
+pub record IsReadTo (rules : Rules) (me room : ℕ) (bodies : List (List ℕ)) (n : ℕ) (now : KnownValue) (checks : ChecksValue) (last : ℕ) : Type 0 where
   pub within : n ≤ length bodies
   pub whose : now.me ≡ me
   pub journal : AreJournalBodies rules me room (take n bodies)
   pub known : now ≡ known_of rules me (records_of (take n bodies))
+  pub saved : checks ≡ checks_of (records_of (take n bodies))
   pub epoch : last ≡ epoch (records_of (take n bodies))
 
 -- the slots of these bytes have the bodies after the first n
@@ -73,8 +93,8 @@ abbrev pub AreNext : List (List ℕ) → ℕ → List ℕ → Type 0
 AreNext bodies n bytes = (i : ℕ) → i < length bytes / slot_length → slice_get bodies (n + i) ≡ Some (body_of bytes i)
 
 -- the first n of some player's bodies are taken, and these slots have the next ones
-pub record HasNext (rules : Rules) (room n last : ℕ) (now : KnownValue) (bytes : List ℕ) : Type 0 where
+pub record HasNext (rules : Rules) (room n last : ℕ) (now : KnownValue) (checks : ChecksValue) (bytes : List ℕ) : Type 0 where
   pub me : ℕ
   pub bodies : List (List ℕ)
-  pub read : IsReadTo rules me room bodies n now last
+  pub read : IsReadTo rules me room bodies n now checks last
   pub next : AreNext bodies n bytes

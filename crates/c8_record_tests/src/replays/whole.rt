@@ -1,6 +1,7 @@
 //! A whole match, read again from the bytes of a disk and from a log.
 use crate::parts::{ROOM, Rec, spelled};
 use crate::replays::{add, game, replayed};
+use c8_check::Checks;
 use c8_disk::{Arm, DiskError, MemDisk};
 use c8_game::{Game, Player};
 use c8_known::Known;
@@ -200,7 +201,7 @@ fn replayed_log(
         return None;
     };
     let mut known = known;
-    let answer = replay(log, game, ROOM, &mut known);
+    let answer = replay(log, game, ROOM, &mut known, &mut Checks::new());
     if known.players() < 2 {
         return None;
     }

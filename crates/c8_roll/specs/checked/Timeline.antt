@@ -3,8 +3,9 @@ use Rattle.std.specs.Prelude.{◌≡◌, ◌≢◌, ◌⊎◌, ℕ, ◌+◌, ◌
 use Rattle.std.specs.List.{slice_get}
 use Rattle.c8_game.specs.Rules.{Rules, joined}
 use Rattle.c8_machine.specs.declared.machine.Machine.{Machine}
-use Rattle.c8_machine.specs.State.{State, state, first_state}
-use Rattle.c8_machine.specs.Serial.{frame_of, serial}
+use Rattle.c8_machine.specs.State.{State, state}
+use Rattle.c8_machine.specs.Serial.{frame_of}
+use Rattle.c8_digest.specs.Origin.{Origin, run_since}
 use Rattle.c8_known.specs.Known.{KnownValue}
 use Rattle.c8_known.specs.Confirmed.{best_row, best_rows_below}
 use Rattle.c8_roll.specs.declared.timeline.Snapshot.{Snapshot}
@@ -49,12 +50,12 @@ pub record IsTimeline (t : TimelineValue) : Type 0 where
   pub followed : (i : ℕ) → (i + 1 < length t.snapshots) ⊎ IsAll t → IsFollowed t i
   pub counted : t.last_run ≤ t.ticks
 
--- no frame has been run
-pub record IsNew (game : Rules) (t : TimelineValue) : Type 0 where
+-- no frame has been run, and the machine is an origin's
+pub record IsNew (game : Rules) (from : Origin) (t : TimelineValue) : Type 0 where
   pub rules : t.rules ≡ game
-  pub first : t.first ≡ 0
-  pub ticks : t.ticks ≡ 0
-  pub shown : state t.shown ≡ first_state game
+  pub first : t.first ≡ from.frames
+  pub ticks : t.ticks ≡ from.frames
+  pub shown : state t.shown ≡ from.machine
   pub snapshots : t.snapshots ≡ []
   pub last_run : t.last_run ≡ 0
 
@@ -72,7 +73,8 @@ abbrev pub IsChange : TimelineValue → KnownValue → ℕ → Type 0
 IsChange t k place = ((s : Snapshot) → slice_get t.snapshots place ≡ Some s → s.row ≢ best_row k (t.first + place))
     ⊎ (AreBest t k (length t.snapshots) × (place + 1 ≡ length t.snapshots) × (t.first + length t.snapshots < t.ticks))
 
--- the frames were run on the best guesses at what is known
-pub record IsRunOf (k : KnownValue) (t : TimelineValue) : Type 0 where
-  pub base : state_at t 0 ≡ serial t.rules (best_rows_below k t.first)
+-- the frames were run on the best guesses at what is known, from an origin on
+pub record IsRunOf (from : Origin) (k : KnownValue) (t : TimelineValue) : Type 0 where
+  pub starts : from.frames ≤ t.first
+  pub base : state_at t 0 ≡ run_since t.rules from (best_rows_below k t.first)
   pub rows : AreBest t k (length t.snapshots)

@@ -13,7 +13,7 @@ use Rattle.c8_game.specs.declared.row.Player.{Player}
 use Rattle.c8_peer.specs.declared.kind.Kind.{Kind}
 use Rattle.c8_peer.specs.declared.kind.Kind.TheVariants.{Hello, Welcome, Data, Freeze, Frozen, Cut}
 use Rattle.c8_world.specs.declared.event.Act.{Act}
-use Rattle.c8_world.specs.declared.event.Act.TheVariants.{Open, Tick, Say, Give, Leave, Decide}
+use Rattle.c8_world.specs.declared.event.Act.TheVariants.{Open, Tick, Say, Give, Leave, Decide, Check}
 use Rattle.c8_world.specs.declared.event.Event.{Event}
 use Rattle.c8_world.specs.declared.event.Event.TheVariants.{Do, Stop, Fail}
 
@@ -57,14 +57,18 @@ act_of make one other = option_and_then (λ a. option_map (make a) other) one
 abbrev pub said_of : Option Player → Option Player → Option Kind → Option Act
 said_of player to what = option_and_then (λ p. act_of (Say p) to what) player
 
-abbrev pub act_in : List (List ℕ) → Option Act
-act_in [] = None
-act_in (verb ∷ []) = None
-act_in (verb ∷ player ∷ []) =
+abbrev pub player_act_in : List ℕ → List ℕ → Option Act
+player_act_in verb player =
     if bytes_eq verb (codes "open") then option_map Open (player_in player)
     else if bytes_eq verb (codes "leave") then option_map Leave (player_in player)
     else if bytes_eq verb (codes "decide") then option_map Decide (player_in player)
+    else if bytes_eq verb (codes "check") then option_map Check (player_in player)
     else None
+
+abbrev pub act_in : List (List ℕ) → Option Act
+act_in [] = None
+act_in (verb ∷ []) = None
+act_in (verb ∷ player ∷ []) = player_act_in verb player
 act_in (verb ∷ one ∷ other ∷ []) =
     if bytes_eq verb (codes "tick") then act_of Tick (player_in one) (keys_in other)
     else if bytes_eq verb (codes "give") then act_of Give (number_in one) (player_in other)

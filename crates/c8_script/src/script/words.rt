@@ -1,7 +1,7 @@
 //! The words of a script's line, each shape in one arm.
 
 ghost use Rattle.std.specs.Prelude.{◌≡◌, map};
-ghost use Rattle.c8_script.specs.checked.ScriptWords.{event_in, stop_in, fail_in, act_in, kind_in, player_in, number_in};
+ghost use Rattle.c8_script.specs.checked.ScriptWords.{event_in, stop_in, fail_in, act_in, player_act_in, kind_in, player_in, number_in};
 
 use c8_game::{Keys, Player};
 use c8_peer::Kind;
@@ -51,9 +51,7 @@ fn act_in(words: &[&[u8]]) -> Option<Act>
     ensures { result ≡ act_in (map (λ word. word.now) words.now) }
 {
     match words {
-        [verb, player] if *verb == b"open".as_slice() => Some(Act::Open(player_in(player)?)),
-        [verb, leaver] if *verb == b"leave".as_slice() => Some(Act::Leave(player_in(leaver)?)),
-        [verb, leaver] if *verb == b"decide".as_slice() => Some(Act::Decide(player_in(leaver)?)),
+        [verb, player] => player_act_in(verb, player),
         [verb, player, keys] if *verb == b"tick".as_slice() => {
             Some(Act::Tick(player_in(player)?, Keys::from_hex(keys)?))
         }
@@ -66,6 +64,23 @@ fn act_in(words: &[&[u8]]) -> Option<Act>
             kind_in(what, leaver)?,
         )),
         _ => None,
+    }
+}
+
+/// The act that a verb and the word of a player spell.
+fn player_act_in(verb: &[u8], player: &[u8]) -> Option<Act>
+    ensures { result ≡ player_act_in verb.now player.now }
+{
+    if verb == b"open".as_slice() {
+        Some(Act::Open(player_in(player)?))
+    } else if verb == b"leave".as_slice() {
+        Some(Act::Leave(player_in(player)?))
+    } else if verb == b"decide".as_slice() {
+        Some(Act::Decide(player_in(player)?))
+    } else if verb == b"check".as_slice() {
+        Some(Act::Check(player_in(player)?))
+    } else {
+        None
     }
 }
 

@@ -12,6 +12,8 @@ use Rattle.c8_peer.specs.Steps.{Luck, outcome, step}
 use Rattle.c8_peer.specs.Opening.{Opening, opened, last_epoch, opening_record}
 use Rattle.c8_peer.specs.Replies.{mode_told}
 use Rattle.c8_peer.specs.Truth.{IsTrue}
+use Rattle.c8_peer.specs.TrueChecks.{HasTrueChecks}
+use Rattle.c8_peer.specs.Told.{told_of}
 use Rattle.c8_peer.specs.Lawful.{IsMemory, IsCall}
 
 pub record ArePeersLawful : Type 0 where
@@ -25,15 +27,24 @@ pub record ArePeersLawful : Type 0 where
       → IsMemory rules room me (found ++ opening_record rules room me found ∷ []) (fresh_memory rules room me (epoch (found ++ opening_record rules room me found ∷ [])))
   pub keeps_allowed : (rules : Rules) (me room : ℕ) (journal : List Record) (m : Memory) (call : Call) (r : Record) → AreInRange rules → 1 ≤ me → me ≤ rules.players
       → IsJournal rules me room journal → IsMemory rules room me journal m → IsCall call
-      → (outcome rules (known_of rules me journal) m call).keeps ≡ Some r → IsAllowed rules me room journal r
+      → (outcome rules (told_of rules me journal) (known_of rules me journal) m call).keeps ≡ Some r → IsAllowed rules me room journal r
+  pub keeps_true : (rules : Rules) (me room : ℕ) (journal : List Record) (m : Memory) (call : Call) (r : Record) → AreInRange rules → 1 ≤ me → me ≤ rules.players
+      → IsJournal rules me room journal → IsMemory rules room me journal m → IsCall call → HasTrueChecks rules me journal
+      → (outcome rules (told_of rules me journal) (known_of rules me journal) m call).keeps ≡ Some r → HasTrueChecks rules me (journal ++ r ∷ [])
+  pub opening_true : (rules : Rules) (me room : ℕ) (found : List Record) → AreInRange rules → 1 ≤ me → me ≤ rules.players → room < 2 ^ 64
+      → IsJournal rules me room found → epoch found < last_epoch → HasTrueChecks rules me found → HasTrueChecks rules me (found ++ opening_record rules room me found ∷ [])
   pub memory_kept : (rules : Rules) (me room : ℕ) (journal : List Record) (m : Memory) (call : Call) → AreInRange rules → 1 ≤ me → me ≤ rules.players
       → IsJournal rules me room journal → IsMemory rules room me journal m → IsCall call
-      → IsMemory rules room me journal (outcome rules (known_of rules me journal) m call).memory
+      → IsMemory rules room me journal (outcome rules (told_of rules me journal) (known_of rules me journal) m call).memory
+  pub memory_grows : (rules : Rules) (me room : ℕ) (journal : List Record) (m : Memory) (call : Call) (r : Record) → AreInRange rules → 1 ≤ me → me ≤ rules.players
+      → IsJournal rules me room journal → IsMemory rules room me journal m → IsCall call
+      → (outcome rules (told_of rules me journal) (known_of rules me journal) m call).keeps ≡ Some r
+      → IsMemory rules room me (journal ++ r ∷ []) (outcome rules (told_of rules me journal) (known_of rules me journal) m call).memory
   pub said_true : (rules : Rules) (me room : ℕ) (journal : List Record) (m : Memory) (call : Call) (p : Packet) → AreInRange rules → 1 ≤ me → me ≤ rules.players
       → IsJournal rules me room journal → IsMemory rules room me journal m → IsCall call
-      → (outcome rules (known_of rules me journal) m call).reply ≡ Said (Ok p) → IsTrue rules me journal p
+      → HasTrueChecks rules me journal → (outcome rules (told_of rules me journal) (known_of rules me journal) m call).reply ≡ Said (Ok p) → IsTrue rules me journal p
   pub said_spelled : (rules : Rules) (me room : ℕ) (journal : List Record) (m : Memory) (call : Call) (p : Packet) → AreInRange rules → 1 ≤ me → me ≤ rules.players
       → IsJournal rules me room journal → IsMemory rules room me journal m → IsCall call
-      → (outcome rules (known_of rules me journal) m call).reply ≡ Said (Ok p) → IsPacket p
+      → (outcome rules (told_of rules me journal) (known_of rules me journal) m call).reply ≡ Said (Ok p) → IsPacket p
   pub calls_tell : (rules : Rules) (me : ℕ) (s : State) (call : Call) (luck : Luck) → s.mode ≡ Up → (step rules me s call luck).state.mode ≡ mode_told (step rules me s call luck).reply
   pub openings_tell : (rules : Rules) (room me : ℕ) (s : State) (found : List Record) (opening : Opening) → (opened rules room me s found opening).state.mode ≡ mode_told (opened rules room me s found opening).reply

@@ -1,9 +1,10 @@
 use Rattle.std.proofs.Common.{◌≡◌, ◌+◌, List, ap, subst, sym, ◌∙◌}
 use Rattle.std.proofs.lemmas.Result.{err_from_is_err_and}
 use Rattle.c8_game.specs.declared.row.Row.{Row}
+use Rattle.c8_board.specs.Starts.{origin_from}
 use Rattle.c8_board.specs.Tokens.{PenValue, Begins}
 use Rattle.c8_known.specs.Confirmed.{confirmed_rows}
-use Rattle.c8_peer.specs.Peer.{PeerValue, known_by, IsSound}
+use Rattle.c8_peer.specs.Peer.{PeerValue, known_by, begun_by, IsSound}
 use Rattle.c8_live.specs.Published.{IsShown}
 use Rattle.c8_live.proofs.RunLemmas.{begins_then}
 use Rattle.c8_live.proofs.game.game_worker.Goals as goal
@@ -41,11 +42,23 @@ publish-requires-in-loop-turn-clause-rows g c =
     (sym (ap (λ (pen : PenValue). pen.rows) (c.stop_asked.ensures ∙ c.loop-turn.invariant.shown)))
     (c.confirmed_rows_grow.ensures c.loop-turn.session.peer c.turn.new.self.peer c.loop-turn.invariant.sound c.in_ok-turn.ensures.ran))
 
+-- where a pen's run begins, of one that shows other rows
+still_from : (first old new : PenValue) (rows : List Row) → old ≡ record first { rows = rows } → new ≡ old → new.from ≡ first.from
+still_from first old new rows shown same = ap (λ (pen : PenValue). pen.from) (same ∙ shown)
+
+pub publish-requires-in-loop-turn-clause-from : goal.publish-requires-in-loop-turn-clause-from
+publish-requires-in-loop-turn-clause-from g c =
+    ap origin_from (still_from c.args.pen.now c.loop-turn.pen c.stop_asked.new.pen (confirmed_rows (known_by c.loop-turn.session.peer)) c.loop-turn.invariant.shown c.stop_asked.ensures)
+    ∙ c.requires.from ∙ sym c.loop-turn.invariant.begun
+    ∙ sym (c.machines_begin_where_they_did.ensures c.loop-turn.session.peer c.turn.new.self.peer c.loop-turn.invariant.sound c.in_ok-turn.ensures.ran)
+    ∙ ap begun_by (sym c.peer-in-loop-turn.ensures)
+
 pub loop-turn-preserved : goal.loop-turn-preserved
 loop-turn-preserved g c = record {
   turns = c.turns_join.ensures.more c.loop-turn.turn c.args.session.now.peer c.loop-turn.session.peer c.turn.new.self.peer c.args.wire.now c.loop-turn.wire c.turn.new.wire c.loop-turn.invariant.turns c.in_ok-turn.ensures.turn;
   ran = c.peers_run_on.ensures.joined c.args.session.now.peer c.loop-turn.session.peer c.turn.new.self.peer c.loop-turn.invariant.ran c.in_ok-turn.ensures.ran;
   sound = subst (IsSound g.D.Disk) c.peer-in-loop-turn.ensures c.publish-in-loop-turn.ensures.sound;
+  begun = c.machines_begin_where_they_did.ensures c.loop-turn.session.peer c.turn.new.self.peer c.loop-turn.invariant.sound c.in_ok-turn.ensures.ran ∙ c.loop-turn.invariant.begun;
   shown = subst (λ (peer : PeerValue g.row.D.Denot). IsShown peer c.args.pen.now c.publish-in-loop-turn.new.pen) c.peer-in-loop-turn.ensures
       (show_again c.args.pen.now c.stop_asked.new.pen c.publish-in-loop-turn.new.pen (confirmed_rows (known_by c.loop-turn.session.peer)) (confirmed_rows (known_by c.peer-in-loop-turn.result.now))
       (c.stop_asked.ensures ∙ c.loop-turn.invariant.shown) c.publish-in-loop-turn.ensures.shown);

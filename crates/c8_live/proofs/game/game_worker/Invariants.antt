@@ -1,6 +1,7 @@
+use Rattle.std.specs.Prelude.{◌≡◌}
 use Rattle.c8_board.specs.Tokens.{Begins}
 use Rattle.c8_known.specs.Confirmed.{confirmed_rows}
-use Rattle.c8_peer.specs.Peer.{known_by, IsSound}
+use Rattle.c8_peer.specs.Peer.{known_by, begun_by, IsSound}
 use Rattle.c8_live.specs.Published.{IsShown}
 use Rattle.c8_live.specs.Runs.{HasRunOn}
 use Rattle.c8_live.specs.Turns.{AreTurns}
@@ -11,6 +12,7 @@ invariant-loop-turn g l = record {
   turns : AreTurns g.D.Disk g.W.Wire l.turn l.initial.session.peer l.session.peer l.initial.wire l.wire;
   ran : HasRunOn g.D.Disk l.initial.session.peer l.session.peer;
   sound : IsSound g.D.Disk l.session.peer;
+  begun : begun_by l.session.peer ≡ begun_by l.initial.session.peer;
   shown : IsShown l.session.peer l.fn.pen l.pen;
   begins : Begins l.fn.pen.rows (confirmed_rows (known_by l.session.peer));
 }

@@ -1,14 +1,16 @@
 use Rattle.std.proofs.Common.{refl, sym, ap, ◌∙◌, arith}
 use Rattle.std.proofs.lemmas.List.FromFn.{length-map-range_with_len}
 use Rattle.c8_game.specs.Rules.{Rules}
+use Rattle.c8_digest.specs.Origin.{Origin, run_since}
 use Rattle.c8_known.specs.Confirmed.{row, confirmed, confirmed_rows}
-use Rattle.c8_machine.specs.Serial.{serial}
-use Rattle.c8_peer.specs.Peer.{known_by}
+use Rattle.c8_peer.specs.Peer.{known_by, begun_by}
 use Rattle.c8_live.proofs.game.publish.Goals as goal
 
 pub show-requires : goal.show-requires
 show-requires g c κs within =
     let peer = c.args.peer.now in
+    let pen = c.args.pen.now in
+    let rows = confirmed_rows (known_by peer) in
     let few = c.confirmed-confirmed.ensures.within in
     let same = c.confirmed-confirmed.ensures.value in
     let counted = c.base-count.ensures.confirmed in
@@ -22,7 +24,12 @@ show-requires g c κs within =
             c.requires.rows,
             (
               counted ∙ sym (length-map-range_with_len (row (known_by peer)) 0 (confirmed (known_by peer))),
-              (omega (arith, few, same, counted, range.frames), c.base-count.ensures.machine ∙ ap (λ (rules : Rules). serial rules (confirmed_rows (known_by peer))) (sym c.requires.game)),
+              (
+                omega (arith, few, same, counted, range.frames),
+                c.base-count.ensures.machine
+                    ∙ ap (λ (rules : Rules). run_since rules (begun_by peer) rows) (sym c.requires.game)
+                    ∙ ap (λ (from : Origin). run_since pen.game from rows) (sym c.requires.from),
+              ),
             ),
           ),
         ),

@@ -1,4 +1,5 @@
-use Rattle.c8_peer.proofs.RunLemmas.{sound_lawful, reached_lawful, run_lawful, said_stands, run_confirms, run_keeps_rows}
+use Rattle.c8_peer.proofs.RunLemmas.{sound_lawful, reached_lawful, run_lawful, said_stands, run_confirms, run_keeps_rows, run_tells}
+use Rattle.c8_peer.specs.checked.TrueCheckLaws.{no_check_true}
 use Rattle.c8_peer.proofs.laws.a_word_stands_from_any_journal.Goals as goal
 
 pub returns-clause-sound : goal.returns-clause-sound
@@ -18,3 +19,9 @@ returns-clause-confirmed g c = run_confirms
 
 pub returns-clause-rows : goal.returns-clause-rows
 returns-clause-rows g c = run_keeps_rows
+
+pub returns-clause-checks : goal.returns-clause-checks
+returns-clause-checks g c = run_tells
+
+pub returns-clause-first_form : goal.returns-clause-first_form
+returns-clause-first_form g c = no_check_true

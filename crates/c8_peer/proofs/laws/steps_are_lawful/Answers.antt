@@ -1,5 +1,6 @@
 use Rattle.c8_peer.proofs.AllowedLemmas.{keeps_allowed}
 use Rattle.c8_peer.proofs.MemoryLemmas.{memory_kept}
+use Rattle.c8_peer.proofs.PlainLemmas.{keeps_true, keeps_memory}
 use Rattle.c8_peer.proofs.SayingLemmas.{said_true}
 use Rattle.c8_peer.proofs.SpellingLemmas.{said_spelled}
 use Rattle.c8_peer.proofs.laws.steps_are_lawful.Goals as goal
@@ -9,6 +10,12 @@ returns-clause-keeps c = keeps_allowed
 
 pub returns-clause-memory : goal.returns-clause-memory
 returns-clause-memory c = memory_kept
+
+pub returns-clause-grows : goal.returns-clause-grows
+returns-clause-grows c = keeps_memory
+
+pub returns-clause-checks : goal.returns-clause-checks
+returns-clause-checks c = keeps_true
 
 pub returns-clause-says : goal.returns-clause-says
 returns-clause-says c = said_true

@@ -1,7 +1,7 @@
 use Rattle.c8_peer.proofs.saying.message.Goals as goal
 
 pub returns-in-Frozen : goal.returns-in-Frozen
-returns-in-Frozen c = λ rules newest wire. rw c.in-Frozen.is (c.frozen.ensures rules c.args.to.number wire)
+returns-in-Frozen c = λ rules t newest wire. rw c.in-Frozen.is (c.frozen.ensures rules t c.args.to.number wire)
 
 pub returns-in-Cut : goal.returns-in-Cut
-returns-in-Cut c = λ rules newest wire. rw c.in-Cut.is (c.cut.ensures rules wire)
+returns-in-Cut c = λ rules t newest wire. rw c.in-Cut.is (c.cut.ensures rules t wire)

@@ -3,6 +3,3 @@ use Rattle.c8_record.proofs.allowed.may_follow.Goals as goal
 
 pub returns-in_default : goal.returns-in_default
 returns-in_default c = search rules
-
-pub returns-then-player-me : goal.returns-then-player-me
-returns-then-player-me c = search rules

@@ -1,16 +1,16 @@
 use Rattle.std.proofs.Common.{rules}
-use Rattle.c8_record.specs.checked.BodyLaws.{has_inputs, spells_lent}
+use Rattle.c8_record.specs.checked.BodyLaws.{complete, spells_lent}
 use Rattle.c8_record.proofs.reading.view.Goals as goal
-use Rattle.c8_record.proofs.reading.view.Goals.{then-lacks_inputs-via-then-lacks_inputs, then-lacks_inputs-via-else-lacks_inputs+then-not-is_body_of}
+use Rattle.c8_record.proofs.reading.view.Goals.{then-not-is_complete-via-then-not-is_complete, then-not-is_complete-via-else-not-is_complete+then-not-is_body_of}
 
-pub returns-then-lacks_inputs-clause-value : goal.returns-then-lacks_inputs-clause-value
-returns-then-lacks_inputs-clause-value c = λ r spells.
+pub returns-then-not-is_complete-clause-value : goal.returns-then-not-is_complete-clause-value
+returns-then-not-is_complete-clause-value c = λ r spells.
     let lent = c.in_ok-lent.lent in
     let found = spells_lent c.args.body.now lent r c.in_ok-lent.ensures.value spells in
-    elim c.then-lacks_inputs.branch [
-      | then-lacks_inputs-via-then-lacks_inputs w ↦
-          let has = c.lacks_inputs.ensures.1 (has_inputs lent found.has) in absurd cc
-      | then-lacks_inputs-via-else-lacks_inputs+then-not-is_body_of w ↦
+    elim c.then-not-is_complete.branch [
+      | then-not-is_complete-via-then-not-is_complete w ↦
+          let has = c.is_complete.ensures.1 (complete lent found.has) in absurd cc
+      | then-not-is_complete-via-else-not-is_complete+then-not-is_body_of w ↦
           let is = w.is_body_of.ensures.is.1 found.is in absurd cc
     ]
 

@@ -2,6 +2,7 @@ use Rattle.std.proofs.Common.{◌≡◌, ◌∙◌, ◌+◌, ◌*◌, ◌/◌, m
 use Rattle.std.proofs.lemmas.Result.{err_from_is_err_and}
 use Rattle.c8_disk.specs.checked.RunLaws.{reads_then}
 use Rattle.c8_disk.specs.Asks.{Reads}
+use Rattle.c8_check.specs.Seen.{value_of as value_in}
 use Rattle.c8_disk.specs.declared.error.DiskError.TheVariants.{Failed}
 use Rattle.c8_disk.specs.checked.AsksLaws.{asks_no_read, asks_reads, asks_as}
 use Rattle.std.proofs.lemmas.Bool.{true≢false}
@@ -14,8 +15,8 @@ pub loop-number-init : goal.loop-number-init
 loop-number-init g c =
     let none : 0 ≡ min (32 * 0) c.len-count.result = omega arith in
     record {
-      taken = subst (λ (n : ℕ). IsReadTo c.args.game.now c.args.known.now.me c.args.room (kept (g.D.Disk.seen c.args.log.now.disk)) n c.args.known.now 0) none
-          (read_none c.args.game.now c.args.known.now.me c.args.room (kept (g.D.Disk.seen c.args.log.now.disk)) c.args.known.now c.requires.nothing);
+      taken = subst (λ (n : ℕ). IsReadTo c.args.game.now c.args.known.now.me c.args.room (kept (g.D.Disk.seen c.args.log.now.disk)) n c.args.known.now (value_in c.args.checks.now) 0) none
+          (read_none c.args.game.now c.args.known.now.me c.args.room (kept (g.D.Disk.seen c.args.log.now.disk)) c.args.known.now (value_in c.args.checks.now) c.requires.nothing c.requires.new);
       all = c.len-count.ensures.count ∙ (c.len-count.ensures.at_rest c.requires.up).count;
       count = refl;
       counted = c.len-count.ensures.count;
@@ -37,7 +38,7 @@ take_slots-requires-clause-next g c =
     record {
       me = c.args.known.now.me;
       bodies = kept (g.D.Disk.seen c.args.log.now.disk);
-      read = read_at_block c.args.game.now c.args.known.now.me c.args.room (kept (g.D.Disk.seen c.args.log.now.disk)) c.loop-number.number c.len-count.result c.loop-number.known c.loop-number.epoch c.loop-number.invariant.taken (omega (arith, c.loop-number-test.true, blocks));
+      read = read_at_block c.args.game.now c.args.known.now.me c.args.room (kept (g.D.Disk.seen c.args.log.now.disk)) c.loop-number.number c.len-count.result c.loop-number.known (value_in c.loop-number.checks) c.loop-number.epoch c.loop-number.invariant.taken (omega (arith, c.loop-number-test.true, blocks));
       next = are_next (g.D.Disk.seen c.args.log.now.disk) (g.D.Disk.seen c.loop-number.log.disk) (32 * c.loop-number.number) (slots_from (32 * c.loop-number.number) c.loop-number.log.count) c.in-Ok.slots.bytes.now c.loop-number.invariant.reads.seen c.in-Ok.ensures.len c.in-Ok.ensures.bodies;
     }
 
@@ -56,9 +57,9 @@ loop-number-preserved g c =
     let counted = c.loop-number.invariant.counted in
     let place : 32 * k + length c.in-Ok.slots.bytes.now / 144 ≡ min (32 * (k + 1)) c.len-count.result = omega (arith, c.loop-number-test.true, blocks, long, count, counted) in
     record {
-      taken = subst (λ (n : ℕ). IsReadTo c.args.game.now c.args.known.now.me c.args.room (kept (g.D.Disk.seen c.args.log.now.disk)) n c.take_slots.new.known c.in_ok-epoch.epoch) place
+      taken = subst (λ (n : ℕ). IsReadTo c.args.game.now c.args.known.now.me c.args.room (kept (g.D.Disk.seen c.args.log.now.disk)) n c.take_slots.new.known (value_in c.take_slots.new.checks) c.in_ok-epoch.epoch) place
           (c.in_ok-epoch.ensures.taken c.args.known.now.me (kept (g.D.Disk.seen c.args.log.now.disk))
-          (read_at_block c.args.game.now c.args.known.now.me c.args.room (kept (g.D.Disk.seen c.args.log.now.disk)) c.loop-number.number c.len-count.result c.loop-number.known c.loop-number.epoch c.loop-number.invariant.taken (omega (arith, c.loop-number-test.true, blocks)))
+          (read_at_block c.args.game.now c.args.known.now.me c.args.room (kept (g.D.Disk.seen c.args.log.now.disk)) c.loop-number.number c.len-count.result c.loop-number.known (value_in c.loop-number.checks) c.loop-number.epoch c.loop-number.invariant.taken (omega (arith, c.loop-number-test.true, blocks)))
           (are_next (g.D.Disk.seen c.args.log.now.disk) (g.D.Disk.seen c.loop-number.log.disk) (32 * c.loop-number.number) (slots_from (32 * c.loop-number.number) c.loop-number.log.count) c.in-Ok.slots.bytes.now c.loop-number.invariant.reads.seen c.in-Ok.ensures.len c.in-Ok.ensures.bodies));
       all = c.loop-number.invariant.all;
       count = ap (λ log. log.count) c.in-Ok.ensures.ok ∙ c.loop-number.invariant.count;
@@ -74,7 +75,7 @@ pub returns-clause-replayed : goal.returns-clause-replayed
 returns-clause-replayed g c =
     let blocks = c.div_ceil-number-end.ensures in
     let all = c.loop-number.invariant.all in
-    read_all c.args.game.now c.args.known.now.me c.args.room (kept (g.D.Disk.seen c.args.log.now.disk)) (min (32 * c.loop-number.number) c.len-count.result) c.loop-number.known c.loop-number.epoch
+    read_all c.args.game.now c.args.known.now.me c.args.room (kept (g.D.Disk.seen c.args.log.now.disk)) (min (32 * c.loop-number.number) c.len-count.result) c.loop-number.known (value_in c.loop-number.checks) c.loop-number.epoch
     c.loop-number.invariant.taken (omega (arith, c.loop-number-test.false, blocks, all))
 
 pub returns-clause-asks : goal.returns-clause-asks
@@ -92,8 +93,8 @@ returns-in-Err-clause-asks g c =
     let bodies : List (List ℕ) = kept (g.D.Disk.seen c.args.log.now.disk) in
     let blocks = c.div_ceil-number-end.ensures in
     let all = c.loop-number.invariant.all in
-    looked_until_failed g.D.Disk c.args.game.now c.args.known.now.me c.args.room bodies c.args.log.now.disk c.read_block.new.self.disk c.loop-number.known c.loop-number.epoch c.loop-number.number
-    (read_at_block c.args.game.now c.args.known.now.me c.args.room bodies c.loop-number.number c.len-count.result c.loop-number.known c.loop-number.epoch c.loop-number.invariant.taken (omega (arith, c.loop-number-test.true, blocks)))
+    looked_until_failed g.D.Disk c.args.game.now c.args.known.now.me c.args.room bodies c.args.log.now.disk c.read_block.new.self.disk c.loop-number.known (value_in c.loop-number.checks) c.loop-number.epoch c.loop-number.number
+    (read_at_block c.args.game.now c.args.known.now.me c.args.room bodies c.loop-number.number c.len-count.result c.loop-number.known (value_in c.loop-number.checks) c.loop-number.epoch c.loop-number.invariant.taken (omega (arith, c.loop-number-test.true, blocks)))
     (omega (arith, c.loop-number-test.true, blocks, all))
     (asks_reads g.D.Disk c.args.log.now.disk c.loop-number.log.disk c.read_block.new.self.disk c.loop-number.number 1 (Err Failed) c.loop-number.invariant.asks
     (asks_as g.D.Disk (Reads 1) c.loop-number.log.disk c.read_block.new.self.disk _ (Err Failed)
@@ -109,8 +110,8 @@ returns-in_err-epoch-clause-replayed g c =
     let error = err_from_is_err_and c.from_residual.result c.from_residual.ensures.1 in
     let blocks = c.div_ceil-number-end.ensures in
     rw (error.1, error.2)
-    (from_disk c.args.game.now c.args.known.now.me c.args.room bodies (Err c.in_err-epoch.field-0.0) c.take_slots.new.known (c.in_err-epoch.ensures.unfit c.args.known.now.me bodies
-    (read_at_block c.args.game.now c.args.known.now.me c.args.room (kept (g.D.Disk.seen c.args.log.now.disk)) c.loop-number.number c.len-count.result c.loop-number.known c.loop-number.epoch c.loop-number.invariant.taken (omega (arith, c.loop-number-test.true, blocks)))
+    (from_disk c.args.game.now c.args.known.now.me c.args.room bodies (Err c.in_err-epoch.field-0.0) c.take_slots.new.known (value_in c.take_slots.new.checks) (c.in_err-epoch.ensures.unfit c.args.known.now.me bodies
+    (read_at_block c.args.game.now c.args.known.now.me c.args.room (kept (g.D.Disk.seen c.args.log.now.disk)) c.loop-number.number c.len-count.result c.loop-number.known (value_in c.loop-number.checks) c.loop-number.epoch c.loop-number.invariant.taken (omega (arith, c.loop-number-test.true, blocks)))
     (are_next (g.D.Disk.seen c.args.log.now.disk) (g.D.Disk.seen c.loop-number.log.disk) (32 * c.loop-number.number) (slots_from (32 * c.loop-number.number) c.loop-number.log.count) c.in-Ok.slots.bytes.now c.loop-number.invariant.reads.seen c.in-Ok.ensures.len c.in-Ok.ensures.bodies)))
 
 pub returns-in_err-epoch-clause-asks : goal.returns-in_err-epoch-clause-asks
@@ -122,9 +123,9 @@ returns-in_err-epoch-clause-asks g c =
     let long = c.in-Ok.ensures.len in
     let among = c.in_err-epoch.ensures.among in
     rw (error.1, error.2)
-    (looked_at_some g.D.Disk c.args.game.now c.args.known.now.me c.args.room bodies c.args.log.now.disk c.read_block.new.self.disk c.in_err-epoch.field-0.0 c.take_slots.new.known k
+    (looked_at_some g.D.Disk c.args.game.now c.args.known.now.me c.args.room bodies c.args.log.now.disk c.read_block.new.self.disk c.in_err-epoch.field-0.0 c.take_slots.new.known (value_in c.take_slots.new.checks) k
     (c.in_err-epoch.ensures.unfit c.args.known.now.me bodies
-    (read_at_block c.args.game.now c.args.known.now.me c.args.room bodies k c.len-count.result c.loop-number.known c.loop-number.epoch c.loop-number.invariant.taken (omega (arith, c.loop-number-test.true, blocks)))
+    (read_at_block c.args.game.now c.args.known.now.me c.args.room bodies k c.len-count.result c.loop-number.known (value_in c.loop-number.checks) c.loop-number.epoch c.loop-number.invariant.taken (omega (arith, c.loop-number-test.true, blocks)))
     (are_next (g.D.Disk.seen c.args.log.now.disk) (g.D.Disk.seen c.loop-number.log.disk) (32 * k) (slots_from (32 * k) c.loop-number.log.count) c.in-Ok.slots.bytes.now c.loop-number.invariant.reads.seen c.in-Ok.ensures.len c.in-Ok.ensures.bodies))
     (omega (arith, among.0)) (omega (arith, among.1, long))
     (asks_reads g.D.Disk c.args.log.now.disk c.loop-number.log.disk c.read_block.new.self.disk k 1 (Ok tt) c.loop-number.invariant.asks

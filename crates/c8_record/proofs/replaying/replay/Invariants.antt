@@ -2,12 +2,13 @@ use Rattle.std.proofs.Common.{◌≡◌, ◌*◌, min, length, Ok, false}
 use Rattle.c8_disk.specs.Runs.{ReadsOnly}
 use Rattle.c8_disk.specs.Asks.{Asks, Reads}
 use Rattle.c8_log.specs.Slots.{kept}
+use Rattle.c8_check.specs.Seen.{value_of as value_in}
 use Rattle.c8_record.specs.checked.Taken.{IsReadTo}
 use Rattle.c8_record.proofs.replaying.replay.Given as goal
 
 abbrev pub invariant-loop-number : goal.invariant-loop-number
 invariant-loop-number g l = record {
-  taken : IsReadTo l.fn.game l.fn.known.me l.fn.room (kept (g.D.Disk.seen l.fn.log.disk)) (min (32 * l.number) l.count) l.known l.epoch;
+  taken : IsReadTo l.fn.game l.fn.known.me l.fn.room (kept (g.D.Disk.seen l.fn.log.disk)) (min (32 * l.number) l.count) l.known (value_in l.checks) l.epoch;
   all : l.count ≡ length (kept (g.D.Disk.seen l.fn.log.disk));
   count : l.log.count ≡ l.fn.log.count;
   counted : l.count ≡ l.fn.log.count;

@@ -1,9 +1,10 @@
 use Rattle.std.proofs.Common.{◌+◌, ℕ, List}
+use Rattle.c8_check.specs.Seen.{value_of as value_in}
 use Rattle.c8_record.specs.checked.Taken.{IsReadTo, AreNext}
 use Rattle.c8_record.proofs.replaying.take_slots.Given as goal
 
 abbrev pub invariant-loop-i : goal.invariant-loop-i
 invariant-loop-i l = record {
-  taken : (me : ℕ) (bodies : List (List ℕ)) → IsReadTo l.fn.game me l.fn.room bodies l.fn.count l.fn.known l.fn.epoch → AreNext bodies l.fn.count l.fn.slots.bytes.now
-      → IsReadTo l.fn.game me l.fn.room bodies (l.fn.count + l.i) l.known l.epoch;
+  taken : (me : ℕ) (bodies : List (List ℕ)) → IsReadTo l.fn.game me l.fn.room bodies l.fn.count l.fn.known (value_in l.fn.checks) l.fn.epoch → AreNext bodies l.fn.count l.fn.slots.bytes.now
+      → IsReadTo l.fn.game me l.fn.room bodies (l.fn.count + l.i) l.known (value_in l.checks) l.epoch;
 }

@@ -1,5 +1,5 @@
 use Rattle.std.proofs.Common.{codes, ap, ◌∙◌}
-use Rattle.c8_world.specs.declared.answer.Answer.TheVariants.{Opened, Ticked, Said, Delivered, Left, Decided}
+use Rattle.c8_world.specs.declared.answer.Answer.TheVariants.{Opened, Ticked, Said, Delivered, Left, Decided, Checked}
 use Rattle.c8_script.specs.Printed.{answer_text, refusal_text}
 use Rattle.c8_script.proofs.PrintLemmas.{told_by}
 use Rattle.c8_script.proofs.answers.write_answer.Goals as goal
@@ -39,3 +39,9 @@ returns-in-Decided-Err g c =
     told_by (g.W.Write.contents c.args.out.now) (g.W.Write.contents c.write_refusal-in-Decided-Err.new.out) c.args.answer c.name-in-Decided-Err.result.now
     (refusal_text (codes "decide") c.number-in-Decided-Err.result c.name-in-Decided-Err.result.now) c.write_refusal-in-Decided-Err.result
     (rw (c.number-in-Decided-Err.ensures) (ap (answer_text c.name-in-Decided-Err.result.now) (c.in-Decided-Err.is ∙ ap Decided (rw c.in-Decided-Err.is at c.in-Decided-Err.field-0-is)))) c.write_refusal-in-Decided-Err.ensures
+
+pub returns-in-Checked-Err : goal.returns-in-Checked-Err
+returns-in-Checked-Err g c =
+    told_by (g.W.Write.contents c.args.out.now) (g.W.Write.contents c.write_refusal-in-Checked-Err.new.out) c.args.answer c.name-in-Checked-Err.result.now
+    (refusal_text (codes "check") c.number-in-Checked-Err.result c.name-in-Checked-Err.result.now) c.write_refusal-in-Checked-Err.result
+    (rw (c.number-in-Checked-Err.ensures) (ap (answer_text c.name-in-Checked-Err.result.now) (c.in-Checked-Err.is ∙ ap Checked (rw c.in-Checked-Err.is at c.in-Checked-Err.field-0-is)))) c.write_refusal-in-Checked-Err.ensures

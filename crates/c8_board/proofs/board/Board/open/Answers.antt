@@ -1,6 +1,6 @@
-use Rattle.std.proofs.Common.{rules, []}
-use Rattle.c8_board.proofs.Moves.{begins_with}
+use Rattle.std.proofs.Common.{[]}
+use Rattle.c8_board.proofs.Moves.{begins_blank}
 use Rattle.c8_board.proofs.board.Board.open.Goals as goal
 
 pub of_words-requires : goal.of_words-requires
-of_words-requires c = begins_with c.args.game.now [] c.word-first.result (search rules)
+of_words-requires g c = begins_blank c.args.game.now []

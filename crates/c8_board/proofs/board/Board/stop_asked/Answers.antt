@@ -1,6 +1,6 @@
 use Rattle.std.proofs.Common.{rules}
-use Rattle.c8_board.proofs.Moves.{wishes}
+use Rattle.c8_board.proofs.TokenMoves.{wishes_as}
 use Rattle.c8_board.proofs.board.Board.stop_asked.Goals as goal
 
 pub load-requires : goal.load-requires
-load-requires c = (search rules, search rules, wishes _ c.pen.inside.seat.id c.pen.inside.seat.me)
+load-requires c = (search rules, search rules, wishes_as _ c.pen.inside.seat.id c.pen.inside.seat.me c.pen.invariant)

@@ -1,7 +1,7 @@
-use Rattle.std.proofs.Common.{sym, ap, ◌∙◌}
+use Rattle.std.proofs.Common.{sym, ◌∙◌}
 use Rattle.std.proofs.lemmas.List.{length-replicate}
-use Rattle.c8_game.specs.Rules.{Rules}
-use Rattle.c8_machine.specs.Serial.{serial}
+use Rattle.c8_digest.specs.Origin.{run_since}
+use Rattle.c8_board.specs.Starts.{origin_from}
 use Rattle.c8_board_tests.specs.Idle.{idle, idle_rows}
 use Rattle.c8_board_tests.proofs.Idle.{idle_begins}
 use Rattle.c8_board_tests.proofs.run.Publisher.publish.Goals as goal
@@ -15,7 +15,11 @@ publish-requires c =
         idle_begins it.pen.rows it.published run.count it.rows it.earlier,
         (
           sym (length-replicate run.count idle),
-          (run.ran.1, run.ran.0 ∙ ap (λ (g : Rules). serial g (idle_rows run.count)) (sym it.game_is)),
+          (
+            run.ran.1,
+            run.ran.0 ∙ sym (c.the_first_start_is_serial.ensures run.game.now (idle_rows run.count) c.in_range.ensures)
+                ∙ (λ i. run_since (sym it.game_is i) (origin_from (sym it.from_is i)) (idle_rows run.count)),
+          ),
         ),
       ),
     )

@@ -1,13 +1,13 @@
 use Rattle.std.proofs.Common.{refl}
 use Rattle.std.proofs.lemmas.Result.{err_from_is_err_and}
-use Rattle.c8_live.specs.Turns.{LetsGo, Cuts}
-use Rattle.c8_live.proofs.TurnLemmas.{done_still, no_tick, spoken_still, turn_of}
+use Rattle.c8_live.specs.Turns.{Ticks, LetsGo, Cuts, Saves}
+use Rattle.c8_live.proofs.TurnLemmas.{done_still, none_done, spoken_still, turn_of}
 use Rattle.c8_live.proofs.session.Session.turn.Goals as goal
 
 pub returns-in_err-greeters-clause-turn : goal.returns-in_err-greeters-clause-turn
 returns-in_err-greeters-clause-turn g c =
-    turn_of g.D.Disk g.W.Wire c.args.self.now.peer c.hear.new.self.peer c.hear.new.self.peer c.hear.new.self.peer c.hear.new.self.peer c.args.wire.now c.hear.new.wire c.hear.new.wire c.in_err-greeters.ensures.heard (no_tick g.D.Disk g.W.Wire c.hear.new.self.peer)
-    (done_still g.D.Disk LetsGo c.hear.new.self.peer) (done_still g.D.Disk Cuts c.hear.new.self.peer)
+    turn_of g.D.Disk g.W.Wire c.args.self.now.peer c.hear.new.self.peer c.hear.new.self.peer c.hear.new.self.peer c.hear.new.self.peer c.hear.new.self.peer c.args.wire.now c.hear.new.wire c.hear.new.wire c.in_err-greeters.ensures.heard (none_done g.D.Disk g.W.Wire Ticks c.hear.new.self.peer)
+    (done_still g.D.Disk LetsGo c.hear.new.self.peer) (done_still g.D.Disk Cuts c.hear.new.self.peer) (none_done g.D.Disk g.W.Wire Saves c.hear.new.self.peer)
     (spoken_still g.D.Disk g.W.Wire c.hear.new.self.peer c.hear.new.wire c.hear.new.wire refl refl)
 
 pub returns-in_err-greeters-clause-ran : goal.returns-in_err-greeters-clause-ran
@@ -15,8 +15,8 @@ returns-in_err-greeters-clause-ran g c = c.turns_run_on.ensures c.args.self.now.
 
 pub returns-in_err-tick-clause-turn : goal.returns-in_err-tick-clause-turn
 returns-in_err-tick-clause-turn g c =
-    turn_of g.D.Disk g.W.Wire c.args.self.now.peer c.hear.new.self.peer c.tick.new.self.peer c.tick.new.self.peer c.tick.new.self.peer c.args.wire.now c.hear.new.wire c.hear.new.wire c.in_ok-greeters.ensures.heard c.in_err-tick.ensures.ran
-    (done_still g.D.Disk LetsGo c.tick.new.self.peer) (done_still g.D.Disk Cuts c.tick.new.self.peer)
+    turn_of g.D.Disk g.W.Wire c.args.self.now.peer c.hear.new.self.peer c.tick.new.self.peer c.tick.new.self.peer c.tick.new.self.peer c.tick.new.self.peer c.args.wire.now c.hear.new.wire c.hear.new.wire c.in_ok-greeters.ensures.heard c.in_err-tick.ensures.ran
+    (done_still g.D.Disk LetsGo c.tick.new.self.peer) (done_still g.D.Disk Cuts c.tick.new.self.peer) (none_done g.D.Disk g.W.Wire Saves c.tick.new.self.peer)
     (spoken_still g.D.Disk g.W.Wire c.tick.new.self.peer c.hear.new.wire c.hear.new.wire refl refl)
 
 pub returns-in_err-tick-clause-ran : goal.returns-in_err-tick-clause-ran
@@ -30,8 +30,8 @@ returns-in_err-tick-clause-end g c =
 
 pub returns-in_err-let_go-clause-turn : goal.returns-in_err-let_go-clause-turn
 returns-in_err-let_go-clause-turn g c =
-    turn_of g.D.Disk g.W.Wire c.args.self.now.peer c.hear.new.self.peer c.tick.new.self.peer c.let_go.new.self.peer c.let_go.new.self.peer c.args.wire.now c.hear.new.wire c.hear.new.wire c.in_ok-greeters.ensures.heard c.in_ok-tick.ensures.ran
-    c.in_err-let_go.ensures.ran (done_still g.D.Disk Cuts c.let_go.new.self.peer)
+    turn_of g.D.Disk g.W.Wire c.args.self.now.peer c.hear.new.self.peer c.tick.new.self.peer c.let_go.new.self.peer c.let_go.new.self.peer c.let_go.new.self.peer c.args.wire.now c.hear.new.wire c.hear.new.wire c.in_ok-greeters.ensures.heard c.in_ok-tick.ensures.ran
+    c.in_err-let_go.ensures.ran (done_still g.D.Disk Cuts c.let_go.new.self.peer) (none_done g.D.Disk g.W.Wire Saves c.let_go.new.self.peer)
     (spoken_still g.D.Disk g.W.Wire c.let_go.new.self.peer c.hear.new.wire c.hear.new.wire refl refl)
 
 pub returns-in_err-let_go-clause-ran : goal.returns-in_err-let_go-clause-ran
@@ -47,8 +47,8 @@ returns-in_err-let_go-clause-end g c =
 
 pub returns-in_err-cut-clause-turn : goal.returns-in_err-cut-clause-turn
 returns-in_err-cut-clause-turn g c =
-    turn_of g.D.Disk g.W.Wire c.args.self.now.peer c.hear.new.self.peer c.tick.new.self.peer c.let_go.new.self.peer c.cut.new.self.peer c.args.wire.now c.hear.new.wire c.hear.new.wire c.in_ok-greeters.ensures.heard c.in_ok-tick.ensures.ran
-    c.in_ok-let_go.ensures.ran c.in_err-cut.ensures.ran
+    turn_of g.D.Disk g.W.Wire c.args.self.now.peer c.hear.new.self.peer c.tick.new.self.peer c.let_go.new.self.peer c.cut.new.self.peer c.cut.new.self.peer c.args.wire.now c.hear.new.wire c.hear.new.wire c.in_ok-greeters.ensures.heard c.in_ok-tick.ensures.ran
+    c.in_ok-let_go.ensures.ran c.in_err-cut.ensures.ran (none_done g.D.Disk g.W.Wire Saves c.cut.new.self.peer)
     (spoken_still g.D.Disk g.W.Wire c.cut.new.self.peer c.hear.new.wire c.hear.new.wire refl refl)
 
 pub returns-in_err-cut-clause-ran : goal.returns-in_err-cut-clause-ran
@@ -63,13 +63,32 @@ returns-in_err-cut-clause-end g c =
     (c.peers_run_on.ensures.joined c.args.self.now.peer c.hear.new.self.peer c.tick.new.self.peer c.in_ok-greeters.ensures.heard.heard.0.ran c.in_ok-tick.ensures.ran.0.ran) c.in_ok-let_go.ensures.ran.ran)
     c.in_err-cut.ensures.end)
 
+pub returns-in_err-save-clause-turn : goal.returns-in_err-save-clause-turn
+returns-in_err-save-clause-turn g c =
+    turn_of g.D.Disk g.W.Wire c.args.self.now.peer c.hear.new.self.peer c.tick.new.self.peer c.let_go.new.self.peer c.cut.new.self.peer c.save.new.self.peer c.args.wire.now c.hear.new.wire c.hear.new.wire c.in_ok-greeters.ensures.heard c.in_ok-tick.ensures.ran
+    c.in_ok-let_go.ensures.ran c.in_ok-cut.ensures.ran c.in_err-save.ensures.ran
+    (spoken_still g.D.Disk g.W.Wire c.save.new.self.peer c.hear.new.wire c.hear.new.wire refl refl)
+
+pub returns-in_err-save-clause-ran : goal.returns-in_err-save-clause-ran
+returns-in_err-save-clause-ran g c = c.turns_run_on.ensures c.args.self.now.peer c.save.new.self.peer c.args.wire.now c.hear.new.wire (returns-in_err-save-clause-turn g c)
+
+pub returns-in_err-save-clause-end : goal.returns-in_err-save-clause-end
+returns-in_err-save-clause-end g c =
+    let error = err_from_is_err_and c.from_residual-in_err-save.result c.from_residual-in_err-save.ensures.1 in
+    rw (error.1, error.2)
+    (c.peers_run_on.ensures.ended c.args.self.now.peer c.cut.new.self.peer c.save.new.self.peer c.in_err-save.field-0.0
+    (c.peers_run_on.ensures.joined c.args.self.now.peer c.let_go.new.self.peer c.cut.new.self.peer
+    (c.peers_run_on.ensures.joined c.args.self.now.peer c.tick.new.self.peer c.let_go.new.self.peer
+    (c.peers_run_on.ensures.joined c.args.self.now.peer c.hear.new.self.peer c.tick.new.self.peer c.in_ok-greeters.ensures.heard.heard.0.ran c.in_ok-tick.ensures.ran.0.ran) c.in_ok-let_go.ensures.ran.ran) c.in_ok-cut.ensures.ran.ran)
+    c.in_err-save.ensures.end)
+
 pub returns-in_err-speak-clause-turn : goal.returns-in_err-speak-clause-turn
 returns-in_err-speak-clause-turn g c =
-    turn_of g.D.Disk g.W.Wire c.args.self.now.peer c.hear.new.self.peer c.tick.new.self.peer c.let_go.new.self.peer c.cut.new.self.peer c.args.wire.now c.hear.new.wire c.speak.new.wire c.in_ok-greeters.ensures.heard c.in_ok-tick.ensures.ran
-    c.in_ok-let_go.ensures.ran c.in_ok-cut.ensures.ran c.in_err-speak.ensures.spoke
+    turn_of g.D.Disk g.W.Wire c.args.self.now.peer c.hear.new.self.peer c.tick.new.self.peer c.let_go.new.self.peer c.cut.new.self.peer c.save.new.self.peer c.args.wire.now c.hear.new.wire c.speak.new.wire c.in_ok-greeters.ensures.heard c.in_ok-tick.ensures.ran
+    c.in_ok-let_go.ensures.ran c.in_ok-cut.ensures.ran c.in_ok-save.ensures.ran c.in_err-speak.ensures.spoke
 
 pub returns-in_err-speak-clause-ran : goal.returns-in_err-speak-clause-ran
-returns-in_err-speak-clause-ran g c = c.turns_run_on.ensures c.args.self.now.peer c.cut.new.self.peer c.args.wire.now c.speak.new.wire (returns-in_err-speak-clause-turn g c)
+returns-in_err-speak-clause-ran g c = c.turns_run_on.ensures c.args.self.now.peer c.save.new.self.peer c.args.wire.now c.speak.new.wire (returns-in_err-speak-clause-turn g c)
 
 pub returns-in_err-speak-clause-end : goal.returns-in_err-speak-clause-end
 returns-in_err-speak-clause-end g c =
@@ -79,16 +98,16 @@ returns-in_err-speak-clause-end g c =
 
 pub returns-then-is_finished-clause-turn : goal.returns-then-is_finished-clause-turn
 returns-then-is_finished-clause-turn g c =
-    turn_of g.D.Disk g.W.Wire c.args.self.now.peer c.hear.new.self.peer c.tick.new.self.peer c.let_go.new.self.peer c.cut.new.self.peer c.args.wire.now c.hear.new.wire c.speak.new.wire c.in_ok-greeters.ensures.heard c.in_ok-tick.ensures.ran
-    c.in_ok-let_go.ensures.ran c.in_ok-cut.ensures.ran c.in_ok-speak.ensures.spoke
+    turn_of g.D.Disk g.W.Wire c.args.self.now.peer c.hear.new.self.peer c.tick.new.self.peer c.let_go.new.self.peer c.cut.new.self.peer c.save.new.self.peer c.args.wire.now c.hear.new.wire c.speak.new.wire c.in_ok-greeters.ensures.heard c.in_ok-tick.ensures.ran
+    c.in_ok-let_go.ensures.ran c.in_ok-cut.ensures.ran c.in_ok-save.ensures.ran c.in_ok-speak.ensures.spoke
 
 pub returns-then-is_finished-clause-ran : goal.returns-then-is_finished-clause-ran
-returns-then-is_finished-clause-ran g c = c.turns_run_on.ensures c.args.self.now.peer c.cut.new.self.peer c.args.wire.now c.speak.new.wire (returns-then-is_finished-clause-turn g c)
+returns-then-is_finished-clause-ran g c = c.turns_run_on.ensures c.args.self.now.peer c.save.new.self.peer c.args.wire.now c.speak.new.wire (returns-then-is_finished-clause-turn g c)
 
 pub returns-else-is_finished-clause-turn : goal.returns-else-is_finished-clause-turn
 returns-else-is_finished-clause-turn g c =
-    turn_of g.D.Disk g.W.Wire c.args.self.now.peer c.hear.new.self.peer c.tick.new.self.peer c.let_go.new.self.peer c.cut.new.self.peer c.args.wire.now c.hear.new.wire c.speak.new.wire c.in_ok-greeters.ensures.heard c.in_ok-tick.ensures.ran
-    c.in_ok-let_go.ensures.ran c.in_ok-cut.ensures.ran c.in_ok-speak.ensures.spoke
+    turn_of g.D.Disk g.W.Wire c.args.self.now.peer c.hear.new.self.peer c.tick.new.self.peer c.let_go.new.self.peer c.cut.new.self.peer c.save.new.self.peer c.args.wire.now c.hear.new.wire c.speak.new.wire c.in_ok-greeters.ensures.heard c.in_ok-tick.ensures.ran
+    c.in_ok-let_go.ensures.ran c.in_ok-cut.ensures.ran c.in_ok-save.ensures.ran c.in_ok-speak.ensures.spoke
 
 pub returns-else-is_finished-clause-ran : goal.returns-else-is_finished-clause-ran
-returns-else-is_finished-clause-ran g c = c.turns_run_on.ensures c.args.self.now.peer c.cut.new.self.peer c.args.wire.now c.speak.new.wire (returns-else-is_finished-clause-turn g c)
+returns-else-is_finished-clause-ran g c = c.turns_run_on.ensures c.args.self.now.peer c.save.new.self.peer c.args.wire.now c.speak.new.wire (returns-else-is_finished-clause-turn g c)

@@ -2,6 +2,8 @@ use Rattle.std.proofs.Common.{◌≡◌, ℕ, Ok, Err, Some, false, refl, sym, a
 use Rattle.c8_wire.specs.Lent.{packet_of}
 use Rattle.c8_hand.specs.Links.{refusal}
 use Rattle.c8_known.specs.Known.{player_in}
+use Rattle.c8_record.specs.Body.{records_of}
+use Rattle.c8_peer.specs.Told.{told_of}
 use Rattle.c8_peer.specs.declared.error.Refused.TheVariants as refusals
 use Rattle.c8_peer.specs.declared.peer.Peer.TheInside.{Inside}
 use Rattle.c8_peer.specs.State.{Memory, Deliver, Delivered, answered}
@@ -18,10 +20,11 @@ returns-in-Err g c =
     let m : Memory = c.self.inside.memory in
     let packet = packet_of c.args.datagram.now in
     let head = packet.head in
+    let t = told_of c.self.inside.game.now k.me (records_of c.self.inside.journal.bodies) in
     -- the links were lent out of the peer: what was said of these parts is said of the peer's own
     let refused : (x : Inside g.row.D.Denot) → x ≡ c.self.inside → c.me.result.number ≡ x.known.me → c.leaving.result ≡ (player_in x.known c.me.result.number).leaving
     → refusal x.memory.links head ≡ Some c.in-Err.error
-    → outcome c.self.inside.game.now k m (Deliver (Ok packet)) ≡ answered m (Delivered (Err (refusals.Hand c.in-Err.error))) = λ x same own leaves judged.
+    → outcome c.self.inside.game.now t k m (Deliver (Ok packet)) ≡ answered m (Delivered (Err (refusals.Hand c.in-Err.error))) = λ x same own leaves judged.
     let mine : c.me.result.number ≡ k.me = own ∙ ap (λ (y : Inside g.row.D.Denot). y.known.me) same in
     let stays : (player_in k k.me).leaving ≡ false =
     ap (λ (q : ℕ). (player_in k q).leaving) (sym mine) ∙ sym (leaves ∙ ap (λ (y : Inside g.row.D.Denot). (player_in y.known c.me.result.number).leaving) same) ∙ c.if-leaving.false in

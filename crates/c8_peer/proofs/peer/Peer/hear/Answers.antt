@@ -11,7 +11,8 @@ use Rattle.c8_known.specs.Known.{known_of}
 use Rattle.c8_peer.specs.Peer.{PeerValue, known_by, RunsFrames, IsAnswered, LeavesJournal}
 use Rattle.c8_peer.specs.declared.verdict.Verdict.TheVariants as verdicts
 use Rattle.c8_peer.specs.checked.Verdicts.{AcksWithin, memory_after}
-use Rattle.c8_peer.proofs.PeerLemmas.{memory_more}
+use Rattle.c8_peer.proofs.CheckpointLemmas.{saving_play}
+use Rattle.c8_peer.proofs.MemoryLemmas.{memory_more}
 use Rattle.c8_peer.proofs.DeliveryLemmas.{heard_is, comes_to, heard_later, memory_noted, record_allowed, acks_kept, cause_of}
 use Rattle.c8_peer.proofs.AnswerLemmas.{answers, records, is_refused, with_record, without_record, Kept}
 use Rattle.c8_peer.proofs.peer.Peer.hear.Goals as goal
@@ -47,8 +48,12 @@ note-requires-in-Ok-clause-memory g c =
     let r = value_of c.in-Ok-Keep.record in
     let comes = comes_to v p (verdicts.Keep c.in-Ok-Keep.record c.in-Ok-Keep.heard) c.in-Ok-Keep.field-0 c.requires.stays c.requires.wire c.requires.admitted c.in-Ok-Keep.ensures.judged.0 c.in-Ok-Keep.field-0-is in
     let stays = memory_noted g.D.Disk v p (recorded (memory_after v.state.memory p) (Delivered (Ok c.in-Ok-Keep.heard)) r) c.is_down-down.ensures.sound c.requires.packet comes in
+    let sound = c.is_down-down.ensures.sound in
+    let may = record_allowed g.D.Disk v p (recorded (memory_after v.state.memory p) (Delivered (Ok c.in-Ok-Keep.heard)) r) r sound c.requires.packet comes refl in
+    let later = heard_later (verdicts.Keep c.in-Ok-Keep.record c.in-Ok-Keep.heard) c.in-Ok-Keep.field-0 c.in-Ok-Keep.ensures.judged.1 c.in-Ok-Keep.field-0-is in
     subst (λ (x : PeerValue g.row.D.Denot). IsMemory x.rules x.room x.me x.state.journal (memory_after x.state.memory p)) (sym c.in-Ok.ensures.ok)
-    (memory_more v.rules v.room v.me v.state.journal (r ∷ []) (memory_after v.state.memory p) stays)
+    (memory_more v.rules v.room v.me v.state.journal r (memory_after v.state.memory p) stays
+    (saving_play v.rules v.me v.room v.state.journal r sound.range sound.plays.0 sound.plays.1 sound.is_journal may later.0 sound.memory.saving))
 
 pub returns-in-Ok-Nothing : goal.returns-in-Ok-Nothing
 returns-in-Ok-Nothing g c =

@@ -1,6 +1,7 @@
-use Rattle.std.proofs.Common.{inl, arith, length, Ok, Err, ◌+◌, ◌≤◌, ◌∙◌, ◌++◌, ◌∷◌, [], ap, List, ℕ, Some, sym, subst, ◌≡◌}
+use Rattle.std.proofs.Common.{arith, length, Ok, Err, ◌+◌, ◌≤◌, ◌∙◌, ◌++◌, ◌∷◌, [], ap, List, ℕ, Some, sym, subst, ◌≡◌}
 use Rattle.c8_game.specs.Rules.{Rules}
-use Rattle.c8_roll.specs.Roll.{roll_of}
+use Rattle.c8_check.specs.Checks.{begun_at}
+use Rattle.c8_check.specs.Seen.{value_of as checked}
 use Rattle.c8_roll.specs.checked.RollLaws.{roll_rules, roll_ticks}
 use Rattle.c8_roll.specs.Rollback.{KeepsRows}
 use Rattle.c8_roll.specs.Seen.{value_of as seen, rows_run, last_run_of}
@@ -12,7 +13,10 @@ use Rattle.c8_record.specs.checked.BodyLaws.{read_again}
 use Rattle.c8_record.specs.Lent.{value_of}
 use Rattle.c8_peer.specs.State.{Open}
 use Rattle.c8_peer.specs.Peer.{PeerValue}
-use Rattle.c8_peer.proofs.PeerLemmas.{is_up, peer_refused, can_follow, peer_more, was_roll, runs_few, runs_anew, runs_frames, allowed_inside, view_refused, view_more, leaves_records, asks_records, one_body_more}
+use Rattle.c8_peer.specs.checked.Held.{IsRolled, IsPlanned}
+use Rattle.c8_peer.specs.checked.TrueCheckLaws.{play_checks, play_begins}
+use Rattle.c8_peer.proofs.CheckpointLemmas.{saving_play, planned_play}
+use Rattle.c8_peer.proofs.PeerLemmas.{is_up, same_epoch, rolled_more, peer_refused, can_follow, peer_more, was_roll, runs_few, runs_anew, runs_frames, allowed_inside, view_refused, view_more, leaves_records, asks_records, one_body_more}
 use Rattle.c8_peer.proofs.WindowLemmas.{is_within, roll_within}
 use Rattle.c8_peer.proofs.peer.Peer.keep.Goals as goal
 
@@ -24,9 +28,11 @@ invariant_of-self-in-Err g c =
       peer_refused c.self.inside.game.now c.self.inside.room c.self.inside.journal c.append.new.self c.self.inside.known c.self.inside.memory r c.self.invariant.0 may
           (ap (λ (j : JournalValue g.row.D.Denot). j.bodies) is)
           (ap (λ (j : JournalValue g.row.D.Denot). j.pending) is ∙ ap (λ (body : List ℕ). Some body) c.body_of.ensures.body),
-      c.self.invariant.1,
+      subst (λ (bodies : List (List ℕ)). IsRolled c.self.inside.game.now (records_of bodies) c.self.inside.known (checked c.self.inside.checks) (seen c.self.inside.roll) (last_run_of c.self.inside.roll))
+          (sym (ap (λ (j : JournalValue g.row.D.Denot). j.bodies) is)) c.self.invariant.1,
       c.self.invariant.2,
-      c.self.invariant.3,
+      subst (λ (bodies : List (List ℕ)). IsPlanned c.self.inside.game.now c.self.inside.known.me (records_of bodies) c.self.inside.checks)
+          (sym (ap (λ (j : JournalValue g.row.D.Denot). j.bodies) is)) c.self.invariant.3,
     )
 
 pub returns-in-Err-clause-err : goal.returns-in-Err-clause-err
@@ -52,23 +58,35 @@ make_known-requires g c =
 
 pub go_on-requires : goal.go_on-requires
 go_on-requires g c =
-    was_roll c.self.inside.game.now (seen c.self.inside.roll) c.self.inside.known c.make_known.new.known (value_of c.args.lent.now) c.self.invariant.1 c.make_known.ensures.value c.make_known.ensures.still
+    was_roll c.self.inside.game.now (records_of c.self.inside.journal.bodies) (seen c.self.inside.roll) (checked c.self.inside.checks) c.self.inside.known c.make_known.new.known (value_of c.args.lent.now) (last_run_of c.self.inside.roll)
+    c.self.invariant.1 c.make_known.ensures.value c.make_known.ensures.still
 
 pub invariant_of-self : goal.invariant_of-self
 invariant_of-self g c =
     let r = value_of c.args.lent.now in
-    let is = c.in-Ok.ensures.ok in (
+    let rules = c.self.inside.game.now in
+    let journal = records_of c.self.inside.journal.bodies in
+    let may = allowed_inside r c.self.view_is c.requires.allowed in
+    let within = roll_within rules (begun_at rules journal) c.self.inside.known (seen c.self.inside.roll) c.self.invariant.1.roll
+    (is_within c.journals_stay_within_the_window.ensures rules c.self.inside.room c.self.inside.journal c.self.inside.known c.self.inside.memory c.self.invariant.0) in
+    let is = c.in-Ok.ensures.ok in
+    let held = c.self.invariant.0 in
+    let me = c.self.inside.known.me in
+    let room = c.self.inside.room in
+    let longer : records_of c.append.new.self.bodies ≡ journal ++ r ∷ [] = ap (λ (j : JournalValue g.row.D.Denot). records_of j.bodies) is
+    ∙ ap (λ (body : List ℕ). records_of (c.self.inside.journal.bodies ++ body ∷ [])) c.body_of.ensures.body ∙ one_body_more c.self.inside.journal.bodies r may.spelled in (
       peer_more c.self.inside.game.now c.self.inside.room c.self.inside.journal c.append.new.self c.self.inside.known c.make_known.new.known c.self.inside.memory r c.self.invariant.0
-          (allowed_inside r c.self.view_is c.requires.allowed) c.requires.later
+          may (same_epoch journal r c.requires.play)
+          (saving_play rules me room journal r held.range held.from_one held.in_game held.bodies.journal may c.requires.play held.memory.saving)
           (ap (λ (j : JournalValue g.row.D.Denot). j.bodies) is ∙ ap (λ (body : List ℕ). c.self.inside.journal.bodies ++ body ∷ []) c.body_of.ensures.body)
           (ap (λ (j : JournalValue g.row.D.Denot). j.pending) is ∙ c.is_down-up.ensures.up (is_up c.self.inside.journal.is_down (subst (λ (x : PeerValue g.row.D.Denot). x.state.mode ≡ Open) (sym c.self.view_is) c.requires.up)))
           c.make_known.ensures.value c.make_known.ensures.still.me,
-      c.go_on.ensures.grown ∙ ap (λ (rules : Rules). roll_of rules c.make_known.new.known) (roll_rules c.self.inside.game.now c.self.inside.known (seen c.self.inside.roll) c.self.invariant.1),
-      inl (subst (λ (rules : Rules). last_run_of c.go_on.new.roll ≤ rules.window + 1) (roll_rules c.self.inside.game.now c.self.inside.known (seen c.self.inside.roll) c.self.invariant.1)
-          (c.go_on.ensures.bound (roll_within c.self.inside.game.now c.self.inside.known (seen c.self.inside.roll) c.self.invariant.1
-          (is_within c.journals_stay_within_the_window.ensures c.self.inside.game.now c.self.inside.room c.self.inside.journal c.self.inside.known c.self.inside.memory c.self.invariant.0)))),
-      subst (λ (rules : Rules). KeepsRows rules.window c.make_known.new.known (rows_run c.go_on.new.roll)) (roll_rules c.self.inside.game.now c.self.inside.known (seen c.self.inside.roll) c.self.invariant.1)
-          c.go_on.ensures.kept,
+      rolled_more rules journal (records_of c.append.new.self.bodies) (checked c.self.inside.checks) (checked c.self.inside.checks) (seen c.self.inside.roll) (seen c.go_on.new.roll) c.self.inside.known c.make_known.new.known r (last_run_of c.self.inside.roll)
+          (last_run_of c.go_on.new.roll) c.self.invariant.1 (play_begins rules journal r c.requires.play) (c.self.invariant.1.checks_are ∙ sym (play_checks journal r c.requires.play)) longer
+          c.make_known.ensures.still c.go_on.ensures.grown (c.go_on.ensures.bound within),
+      subst (λ (x : Rules). KeepsRows x.window c.make_known.new.known (rows_run c.go_on.new.roll)) (roll_rules rules (begun_at rules journal) c.self.inside.known (seen c.self.inside.roll) c.self.invariant.1.roll) c.go_on.ensures.kept,
+      rw (c.make_known.ensures.still.me, longer)
+          (planned_play rules me room journal r c.self.inside.checks held.range held.from_one held.in_game held.bodies.journal may c.requires.play c.self.invariant.1.checks_are c.self.invariant.3),
     )
 
 pub returns-in-Ok-clause-ok : goal.returns-in-Ok-clause-ok
@@ -92,15 +110,16 @@ returns-in-Ok-clause-ran g c =
     let rules = c.self.inside.game.now in
     let v = seen c.self.inside.roll in
     let r = value_of c.args.lent.now in
-    let within = roll_within rules c.self.inside.known v c.self.invariant.1
+    let from = begun_at rules (records_of c.self.inside.journal.bodies) in
+    let within = roll_within rules from c.self.inside.known v c.self.invariant.1.roll
     (is_within c.journals_stay_within_the_window.ensures rules c.self.inside.room c.self.inside.journal c.self.inside.known c.self.inside.memory c.self.invariant.0) in
-    let game : v.rules ≡ rules = roll_rules rules c.self.inside.known v c.self.invariant.1 in
-    let ticks = roll_ticks rules c.self.inside.known v c.self.invariant.1 in
+    let game : v.rules ≡ rules = roll_rules rules from c.self.inside.known v c.self.invariant.1.roll in
+    let ticks = roll_ticks rules from c.self.inside.known v c.self.invariant.1.roll in
     let most : last_run_of c.go_on.new.roll ≤ rules.window + 1 = subst (λ (x : Rules). last_run_of c.go_on.new.roll ≤ x.window + 1) game (c.go_on.ensures.bound within) in
     let settled : c.make_known.new.known.ticks ≤ c.self.inside.known.ticks → last_run_of c.go_on.new.roll ≤ rules.window = λ same.
     subst (λ (x : Rules). last_run_of c.go_on.new.roll ≤ x.window) game (c.go_on.ensures.settled within (omega (arith, same, ticks))) in
     let few = runs_few rules c.self.inside.known c.make_known.new.known r (last_run_of c.go_on.new.roll) c.make_known.ensures.value most settled in
-    let again = runs_anew rules v (rows_run c.self.inside.roll) c.self.inside.known c.make_known.new.known (last_run_of c.go_on.new.roll) c.self.invariant.1 c.self.invariant.3 within c.go_on.ensures.again in
+    let again = runs_anew rules (records_of c.self.inside.journal.bodies) v (checked c.self.inside.checks) (rows_run c.self.inside.roll) c.self.inside.known c.make_known.new.known (last_run_of c.self.inside.roll) (last_run_of c.go_on.new.roll) c.self.invariant.1 c.self.invariant.2 within c.go_on.ensures.again in
     runs_frames c.args.self.now rules c.self.inside.room c.self.inside.journal c.self.inside.known c.make_known.new.known c.self.inside.memory r (last_run_of c.go_on.new.roll) c.self.view_is c.self.invariant.0
     (allowed_inside r c.self.view_is c.requires.allowed) c.make_known.ensures.value few again
 

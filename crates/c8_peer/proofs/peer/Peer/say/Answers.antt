@@ -1,30 +1,31 @@
 use Rattle.std.proofs.Common.{◌≡◌, ◌∙◌, ap, sym, take, subst}
 use Rattle.c8_wire.specs.Saying.{head_value, message_of}
 use Rattle.c8_wire.specs.Spelling.{Spells}
-use Rattle.c8_known.specs.Known.{KnownValue}
+use Rattle.c8_record.specs.Body.{records_of}
+use Rattle.c8_peer.specs.Told.{told_of}
 use Rattle.c8_peer.specs.Asked.{saying_of}
 use Rattle.c8_peer.specs.Saying.{newest_mark, packet}
-use Rattle.c8_peer.specs.Peer.{PeerValue, known_by, mode_of}
+use Rattle.c8_peer.specs.Peer.{PeerValue, told_by, mode_of}
 use Rattle.c8_peer.proofs.WritingLemmas.{may_say, is_said}
 use Rattle.c8_peer.proofs.peer.Peer.say.Goals as goal
 
 pub write-requires : goal.write-requires
 write-requires g c =
     let game = c.self.inside.game.now in
-    let newest = subst (λ (known : KnownValue). c.newest_mark.result ≡ newest_mark game known) (sym c.self.invariant.0.known)
-    (subst (λ (x : PeerValue g.row.D.Denot). c.newest_mark.result ≡ newest_mark x.rules (known_by x)) (sym c.self.view_is) c.newest_mark.ensures) in
+    let t = told_of game c.self.inside.known.me (records_of c.self.inside.journal.bodies) in
+    let newest = subst (λ (x : PeerValue g.row.D.Denot). c.newest_mark.result ≡ newest_mark (told_by x)) (sym c.self.view_is) c.newest_mark.ensures in
     let written = may_say game c.self.inside.room c.self.inside.journal c.self.inside.known c.self.inside.memory c.args.to.number c.args.kind (head_value c.head-head.result) (message_of c.message-body.result)
-    c.self.invariant.0 (c.in-Ok.ensures.judged game) c.head-head.ensures (c.message-body.ensures game newest c.wire.ensures) in
+    c.self.invariant.0 (c.in-Ok.ensures.judged game t) c.head-head.ensures (c.message-body.ensures game t newest c.wire.ensures) in
     record { kind = written.kind; message = written.message_is; room = written.room }
 
 pub returns-clause-said : goal.returns-clause-said
 returns-clause-said g c =
     let game = c.self.inside.game.now in
-    let newest = subst (λ (known : KnownValue). c.newest_mark.result ≡ newest_mark game known) (sym c.self.invariant.0.known)
-    (subst (λ (x : PeerValue g.row.D.Denot). c.newest_mark.result ≡ newest_mark x.rules (known_by x)) (sym c.self.view_is) c.newest_mark.ensures) in
+    let t = told_of game c.self.inside.known.me (records_of c.self.inside.journal.bodies) in
+    let newest = subst (λ (x : PeerValue g.row.D.Denot). c.newest_mark.result ≡ newest_mark (told_by x)) (sym c.self.view_is) c.newest_mark.ensures in
     let written = may_say game c.self.inside.room c.self.inside.journal c.self.inside.known c.self.inside.memory c.args.to.number c.args.kind (head_value c.head-head.result) (message_of c.message-body.result)
-    c.self.invariant.0 (c.in-Ok.ensures.judged game) c.head-head.ensures (c.message-body.ensures game newest c.wire.ensures) in
+    c.self.invariant.0 (c.in-Ok.ensures.judged game t) c.head-head.ensures (c.message-body.ensures game t newest c.wire.ensures) in
     is_said c.args.self.now game c.self.inside.room c.self.inside.journal c.self.inside.known c.self.inside.memory c.args.to.number (saying_of c.args.kind) (take c.write.result c.write.new.out)
-    (packet game c.self.inside.known c.self.inside.memory c.args.to.number (saying_of c.args.kind)) c.self.view_is c.self.invariant.0
-    (c.is_down.ensures.value ∙ ap mode_of c.if-is_down.false) (c.in-Ok.ensures.judged game)
+    (packet game t c.self.inside.known c.self.inside.memory c.args.to.number (saying_of c.args.kind)) c.self.view_is c.self.invariant.0
+    (c.is_down.ensures.value ∙ ap mode_of c.if-is_down.false) (c.in-Ok.ensures.judged game t)
     (subst (Spells (take c.write.result c.write.new.out)) written.is c.write.ensures.spelled)

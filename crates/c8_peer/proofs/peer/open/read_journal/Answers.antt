@@ -6,6 +6,7 @@ use Rattle.c8_log.specs.Asked.{Opening as OpenLog, told_by as told_by_log}
 use Rattle.c8_disk.specs.declared.error.DiskError.TheVariants.{Failed, Full}
 use Rattle.c8_disk.specs.Asks.{Asks}
 use Rattle.c8_known.specs.Journal.{epoch}
+use Rattle.c8_check.specs.Seen.{value_of}
 use Rattle.c8_record.specs.Body.{records_of}
 use Rattle.c8_record.specs.Replay.{told_by}
 use Rattle.c8_peer.specs.Opened.{ReadRun}
@@ -18,7 +19,7 @@ returns-in-Err-clause-refused g c =
     let me = c.args.known.now.me in
     rw (c.from.ensures, c.close.ensures)
     (refused_reading g.D.Disk g.met.D.Disk.reads_now c.args.disk c.in-Ok.log.disk c.replay.new.log.disk rules c.args.room me c.replay.new.known
-    c.in-Ok.ensures.kept c.in-Ok.ensures.repaired (c.in-Ok.ensures.at_rest).durable c.in-Ok.ensures.same c.replay.ensures.reads c.in-Err.error
+    c.in-Ok.ensures.kept c.in-Ok.ensures.repaired (c.in-Ok.ensures.at_rest).durable c.in-Ok.ensures.same c.replay.ensures.reads (value_of c.replay.new.checks) c.in-Err.error
     (read_run g.D.Disk c.args.disk rules c.args.room me c.in-Ok.log.disk c.replay.new.log.disk (Err c.in-Err.error) (told_by (Err c.in-Err.error)) c.in-Ok.ensures.asks c.in-Ok.ensures.kept c.in-Err.ensures.asks)
     c.in-Err.ensures.failed c.in-Err.ensures.replayed)
 
@@ -44,6 +45,7 @@ pub returns-in-Ok-replay-clause-read : goal.returns-in-Ok-replay-clause-read
 returns-in-Ok-replay-clause-read g c = record {
   bodies = search rules;
   known = search rules;
+  checks_are = search rules;
   last_is = search rules;
   up = search rules;
   same = search rules;

@@ -1,12 +1,12 @@
 use Rattle.std.proofs.lemmas.Bool.{cases_lt}
 use Rattle.std.proofs.Common.{◌≡◌, ◌≤◌, ⊎_elim, ◌+◌, length, refl, sym, ap, ◌∙◌, arith}
 use Rattle.c8_game.specs.Rules.{Rules}
-use Rattle.c8_machine.specs.Serial.{serial}
+use Rattle.c8_digest.specs.Origin.{Origin, run_since}
 use Rattle.c8_known.specs.Known.{KnownValue}
 use Rattle.c8_known.specs.Growth.{IsStillKnown}
 use Rattle.c8_known.specs.Confirmed.{confirmed, best_rows}
 use Rattle.c8_known.specs.checked.ConfirmedLaws.{confirmed_is}
-use Rattle.c8_roll.specs.Roll.{roll_of, marks_up_to}
+use Rattle.c8_roll.specs.Roll.{marks_since, IsRollSince}
 use Rattle.c8_roll.specs.Seen.{value_of, rows_run}
 use Rattle.c8_roll.specs.checked.Timeline.{TimelineValue, IsAll, IsRunOf}
 use Rattle.c8_roll.proofs.RollLemmas.{IsStill, still_rolled}
@@ -56,8 +56,8 @@ returns-clause-oldest c = λ ahead.
     c.go_back-oldest.ensures.best c.go_back-oldest.ensures.answer c.go_back-oldest.ensures.wrong
 
 pub returns-clause-again : goal.returns-clause-again
-returns-clause-again c = λ before was keeps all.
-    runs_from (value_of c.args.self.now) (rows_run c.args.self.now) before c.args.known.now c.go_back-oldest.result c.run_on.new.self.last_run was keeps all
+returns-clause-again c = λ from before was keeps all.
+    runs_from (value_of c.args.self.now) (rows_run c.args.self.now) before c.args.known.now c.go_back-oldest.result c.run_on.new.self.last_run from was keeps all
     (returns-clause-oldest c all) (returns-clause-ran c)
 
 pub returns-clause-oldest_or_last : goal.returns-clause-oldest_or_last
@@ -79,38 +79,39 @@ returns-clause-ahead c =
 
 -- ---- of what was known before
 
-still_of : (c : After-run_on) (before : KnownValue) → value_of c.args.self.now ≡ roll_of c.args.self.now.timeline.rules before → IsStillKnown before c.args.known.now
-    → IsStill c.args.self.now.timeline.rules c.args.known.now (value_of c.args.self.now)
-still_of c before was still = still_rolled c.args.self.now.timeline.rules before c.args.known.now (value_of c.args.self.now) was still
+still_of : (c : After-run_on) (from : Origin) (before : KnownValue) → IsRollSince from before (value_of c.args.self.now) → IsStillKnown before c.args.known.now
+    → IsStill c.args.self.now.timeline.rules from c.args.known.now (value_of c.args.self.now)
+still_of c from before was still = still_rolled c.args.self.now.timeline.rules from before c.args.known.now (value_of c.args.self.now) was.starts was.is still
 
-begun : (c : After-run_on) → IsStill c.args.self.now.timeline.rules c.args.known.now (value_of c.args.self.now) → IsRunOf c.args.known.now c.go_back-oldest.new.self
-begun c still =
-    back_of c.args.self.now.timeline.rules c.args.known.now c.args.self.now.timeline c.go_back-oldest.new.self c.args.self.now.marks refl still c.go_back-oldest.ensures.back
+begun : (c : After-run_on) (from : Origin) → IsStill c.args.self.now.timeline.rules from c.args.known.now (value_of c.args.self.now) → IsRunOf from c.args.known.now c.go_back-oldest.new.self
+begun c from still =
+    back_of c.args.self.now.timeline.rules from c.args.known.now c.args.self.now.timeline c.go_back-oldest.new.self c.args.self.now.marks refl still c.go_back-oldest.ensures.back
     c.go_back-oldest.ensures.within c.go_back-oldest.ensures.best
 
-sure : (c : After-run_on) → IsStill c.args.self.now.timeline.rules c.args.known.now (value_of c.args.self.now) → c.go_back-oldest.new.self.first ≤ confirmed c.args.known.now
-sure c still =
+sure : (c : After-run_on) (from : Origin) → IsStill c.args.self.now.timeline.rules from c.args.known.now (value_of c.args.self.now) → c.go_back-oldest.new.self.first ≤ confirmed c.args.known.now
+sure c from still =
     let first = back_first c in
     let order = still.order in
     omega (arith, first, order)
 
 pub returns-clause-kept : goal.returns-clause-kept
 returns-clause-kept c = λ was.
-    let still = still_of c was.before was.was was.still in
-    let run = c.run_on.ensures.run (c.confirm_all.ensures.run (begun c still)) in
-    keeps c.args.self.now.timeline.rules c.args.known.now c.run_on.new.self (c.run_on.ensures.rules ∙ back_rules c) c.run_on.ensures.is run
-    (c.run_on.ensures.first ∙ c.confirm_all.ensures.first (sure c still)) (c.run_on.ensures.ticks (ticks_within c))
+    let from = was.from in
+    let still = still_of c from was.before was.was was.still in
+    let run = c.run_on.ensures.run from (c.confirm_all.ensures.run from (begun c from still)) in
+    keeps c.args.self.now.timeline.rules from c.args.known.now c.run_on.new.self (c.run_on.ensures.rules ∙ back_rules c) c.run_on.ensures.is run
+    (c.run_on.ensures.first ∙ c.confirm_all.ensures.first (sure c from still)) (c.run_on.ensures.ticks (ticks_within c))
 
 pub returns-clause-grows : goal.returns-clause-grows
-returns-clause-grows c = λ before was known.
+returns-clause-grows c = λ from before was known.
     let rules = c.args.self.now.timeline.rules in
     let k = c.args.known.now in
-    let still = still_of c before was known in
-    let run = c.confirm_all.ensures.run (begun c still) in
+    let still = still_of c from before was known in
+    let run = c.confirm_all.ensures.run from (begun c from still) in
     let same : c.go_back-oldest.new.self.rules ≡ rules = ap (λ (t : TimelineValue). t.rules) c.go_back-oldest.ensures.back in
-    let marks : c.args.self.now.marks ≡ marks_up_to c.go_back-oldest.new.self.rules k c.go_back-oldest.new.self.first =
-    still.marks ∙ ap (λ (t : TimelineValue). marks_up_to t.rules k t.first) (sym c.go_back-oldest.ensures.back) in
-    let noted = c.confirm_all.ensures.marks (begun c still) (sure c still) marks ∙ ap (λ (r : Rules). marks_up_to r k (confirmed k)) same in
-    let seen = c.run_on.ensures.shown run (ticks_within c) ∙ ap (λ (r : Rules). serial r (best_rows k)) (back_rules c) in
-    rolled rules k c.run_on.new.self c.confirm_all.new.marks (c.run_on.ensures.rules ∙ back_rules c) (c.run_on.ensures.first ∙ c.confirm_all.ensures.first (sure c still))
-    (c.run_on.ensures.ticks (ticks_within c)) (c.run_on.ensures.run run) seen noted
+    let marks : c.args.self.now.marks ≡ marks_since c.go_back-oldest.new.self.rules from k c.go_back-oldest.new.self.first =
+    still.marks ∙ ap (λ (t : TimelineValue). marks_since t.rules from k t.first) (sym c.go_back-oldest.ensures.back) in
+    let noted = c.confirm_all.ensures.marks from (begun c from still) (sure c from still) marks ∙ ap (λ (r : Rules). marks_since r from k (confirmed k)) same in
+    let seen = c.run_on.ensures.shown from run (ticks_within c) ∙ ap (λ (r : Rules). run_since r from (best_rows k)) (back_rules c) in
+    rolled rules from k c.run_on.new.self c.confirm_all.new.marks (c.run_on.ensures.rules ∙ back_rules c) (c.run_on.ensures.first ∙ c.confirm_all.ensures.first (sure c from still))
+    (c.run_on.ensures.ticks (ticks_within c)) (c.run_on.ensures.run from run) seen noted

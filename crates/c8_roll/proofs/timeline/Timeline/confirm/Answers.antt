@@ -18,16 +18,16 @@ invariant_of-self c =
     ]
 
 pub returns-clause-run : goal.returns-clause-run
-returns-clause-run c = λ k run best.
+returns-clause-run c = λ from k run best.
     let all = subst IsAll (sym c.self.view_is) c.requires.all in
-    let ran = subst (IsRunOf k) (sym c.self.view_is) run in
+    let ran = subst (IsRunOf from k) (sym c.self.view_is) run in
     elim c.if-kept-gt0.branch [
       | else-kept-gt0 w ↦
           rw w.self-inside-is
-          (extended_run k _ w.frame.new.self c.args.row.now c.self.invariant all (omega (arith, w.if-kept-gt0.false, c.len-kept.ensures.len))
+          (extended_run from k _ w.frame.new.self c.args.row.now c.self.invariant all (omega (arith, w.if-kept-gt0.false, c.len-kept.ensures.len))
           (w.frame.ensures.function ∙ ap (λ (keys : ℕ). frame_of c.self.inside.game.now keys (state c.self.inside.shown)) w.joined.ensures)
           (best ∙ ap (λ (t : TimelineValue). best_row k t.first) (sym c.self.view_is)) ran)
       | then-kept-gt0 w ↦
           let some : length c.self.inside.snapshots.items ≢ 0 = omega (arith, w.if-kept-gt0.true, c.len-kept.ensures.len) in
-          rw (w.self-inside-is, w.truncate_front.ensures, last_but_one c.self.inside.snapshots.items c.len-kept.result c.len-kept.ensures.len some) (dropped_run k _ c.self.invariant all some ran)
+          rw (w.self-inside-is, w.truncate_front.ensures, last_but_one c.self.inside.snapshots.items c.len-kept.result c.len-kept.ensures.len some) (dropped_run from k _ c.self.invariant all some ran)
     ]

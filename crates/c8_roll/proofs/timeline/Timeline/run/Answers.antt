@@ -23,14 +23,14 @@ invariant_of-self c =
     ]
 
 pub returns-clause-run : goal.returns-clause-run
-returns-clause-run c = λ k run best.
-    let ran = subst (IsRunOf k) (sym c.self.view_is) run in
+returns-clause-run c = λ from k run best.
+    let ran = subst (IsRunOf from k) (sym c.self.view_is) run in
     elim c.if-len-capacity.branch [
       | then-len-capacity w ↦
           let few : length c.self.inside.snapshots.items < c.self.inside.snapshots.capacity = omega (arith, w.if-len-capacity.true, c.len.ensures.len, c.capacity.ensures) in
           rw (w.self-inside-is, w.push_back-none.ensures.items, all_of_more c.self.inside.snapshots.items _ c.self.inside.snapshots.capacity few)
-          (snapped_run k _ c.args.row c.frame.new.self (c.self.invariant.all few) (best ∙ ap (λ (t : TimelineValue). best_row k t.ticks) (sym c.self.view_is)) ran)
-      | else-len-capacity w ↦ rw w.self-inside-is (passed_run k _ c.frame.new.self c.self.invariant (omega (arith, w.if-len-capacity.false, c.len.ensures.len, c.capacity.ensures)) ran)
+          (snapped_run from k _ c.args.row c.frame.new.self (c.self.invariant.all few) (best ∙ ap (λ (t : TimelineValue). best_row k t.ticks) (sym c.self.view_is)) ran)
+      | else-len-capacity w ↦ rw w.self-inside-is (passed_run from k _ c.frame.new.self c.self.invariant (omega (arith, w.if-len-capacity.false, c.len.ensures.len, c.capacity.ensures)) ran)
     ]
 
 pub returns-clause-is : goal.returns-clause-is

@@ -2,10 +2,11 @@ use Rattle.std.proofs.Common.{◌≡◌, ◌+◌, ℕ, refl, rules, sym, ap, sub
 use Rattle.c8_game.specs.Rules.{Rules, joined}
 use Rattle.c8_game.specs.declared.row.Row.{Row}
 use Rattle.c8_machine.specs.State.{State, state}
-use Rattle.c8_machine.specs.Serial.{frame_of, serial}
+use Rattle.c8_machine.specs.Serial.{frame_of}
+use Rattle.c8_digest.specs.Origin.{run_since}
 use Rattle.c8_known.specs.Confirmed.{best_row, best_rows_below}
 use Rattle.c8_roll.specs.checked.Timeline.{TimelineValue, IsTimeline}
-use Rattle.c8_roll.proofs.TimelineLemmas.{run_shown, serial_next}
+use Rattle.c8_roll.proofs.TimelineLemmas.{run_shown, next_run}
 use Rattle.c8_roll.proofs.timeline.Timeline.run_on.Goals as goal
 
 pub loop-frame-init : goal.loop-frame-init
@@ -17,10 +18,10 @@ loop-frame-init c =
       first = refl;
       ticks = ticks;
       counted = refl;
-      run = λ run. run;
-      shown = λ run.
-          run_shown c.args.known.now c.args.self.now (subst IsTimeline c.self.view_is c.self.invariant) run c.requires
-          ∙ ap (λ (n : ℕ). serial c.args.self.now.rules (best_rows_below c.args.known.now n)) ticks;
+      run = λ from run. run;
+      shown = λ from run.
+          run_shown from c.args.known.now c.args.self.now (subst IsTimeline c.self.view_is c.self.invariant) run c.requires
+          ∙ ap (λ (n : ℕ). run_since c.args.self.now.rules from (best_rows_below c.args.known.now n)) ticks;
     }
 
 pub loop-frame-preserved : goal.loop-frame-preserved
@@ -38,13 +39,17 @@ loop-frame-preserved c =
       first = c.run.ensures.first ∙ inv.first;
       ticks = c.run.ensures.ticks ∙ ap (λ (n : ℕ). n + 1) inv.ticks;
       counted = omega (arith, counted, one_more, ticks_now);
-      run = λ run. c.run.ensures.run k (inv.run run) (c.best.ensures.value ∙ ap (best_row k) (sym inv.ticks));
-      shown = λ run.
+      run = λ from run. c.run.ensures.run from k (inv.run from run) (c.best.ensures.value ∙ ap (best_row k) (sym inv.ticks));
+      shown = λ from run.
+          let starts = run.starts in
+          let within = inv.is.within in
+          let first = inv.first in
+          let ticks = inv.ticks in
           c.run.ensures.shown
           ∙ ap (λ (r : Rules). frame_of r (joined r c.best.result) (state c.loop-frame.self.shown)) inv.rules
           ∙ ap (λ (row : Row). frame_of rules (joined rules row) (state c.loop-frame.self.shown)) c.best.ensures.value
-          ∙ ap (λ (s : State). frame_of rules (joined rules (best_row k frame)) s) (inv.shown run)
-          ∙ sym (serial_next rules k frame);
+          ∙ ap (λ (s : State). frame_of rules (joined rules (best_row k frame)) s) (inv.shown from run)
+          ∙ sym (next_run rules from k frame (omega (arith, starts, within, first, ticks)));
     }
 
 pub returns-clause-ticks : goal.returns-clause-ticks

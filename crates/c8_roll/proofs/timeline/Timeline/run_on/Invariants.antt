@@ -1,6 +1,6 @@
 use Rattle.std.proofs.Common.{◌≡◌, ◌+◌}
 use Rattle.c8_machine.specs.State.{state}
-use Rattle.c8_machine.specs.Serial.{serial}
+use Rattle.c8_digest.specs.Origin.{Origin, run_since}
 use Rattle.c8_known.specs.Confirmed.{best_rows_below}
 use Rattle.c8_roll.specs.checked.Timeline.{IsTimeline, IsRunOf}
 use Rattle.c8_roll.proofs.timeline.Timeline.run_on.Given as goal
@@ -12,6 +12,6 @@ invariant-loop-frame l = record {
   first : l.self.first ≡ l.initial.self.first;
   ticks : l.self.ticks ≡ l.frame;
   counted : l.self.last_run + l.initial.self.ticks ≡ l.initial.self.last_run + l.self.ticks;
-  run : IsRunOf l.known l.initial.self → IsRunOf l.known l.self;
-  shown : IsRunOf l.known l.initial.self → state l.self.shown ≡ serial l.initial.self.rules (best_rows_below l.known l.frame);
+  run : (from : Origin) → IsRunOf from l.known l.initial.self → IsRunOf from l.known l.self;
+  shown : (from : Origin) → IsRunOf from l.known l.initial.self → state l.self.shown ≡ run_since l.initial.self.rules from (best_rows_below l.known l.frame);
 }

@@ -1,11 +1,14 @@
-use Rattle.std.proofs.Common.{ap, sym, ◌∙◌}
-use Rattle.c8_board.specs.Tokens.{PenValue, ViewerValue}
+use Rattle.std.proofs.Common.{ap, ◌∙◌}
+use Rattle.c8_board.specs.Tokens.{PenValue}
+use Rattle.c8_known.specs.Confirmed.{confirmed_rows}
+use Rattle.c8_peer.specs.Peer.{known_by, begun_by}
 use Rattle.c8_worker_tests.proofs.sides.Side.new.Goals as goal
 
 pub invariant_of-result : goal.invariant_of-result
 invariant_of-result g c = record {
   writes = ap (λ (pen : PenValue). pen.board) c.in_ok-board.ensures.pen;
-  watches = ap (λ (viewer : ViewerValue). viewer.board) c.in_ok-board.ensures.viewer;
-  plays = ap (λ (pen : PenValue). pen.game) c.in_ok-board.ensures.pen ∙ sym c.in_ok-session.ensures;
-  fresh = ap (λ (pen : PenValue). pen.rows) c.in_ok-board.ensures.pen;
+  watches = c.in_ok-board.ensures.viewer;
+  plays = c.in_ok-board.ensures.shows.game ∙ ap (λ peer. peer.rules) c.peer.ensures;
+  begins = c.in_ok-board.ensures.shows.from ∙ ap (λ peer. begun_by peer) c.peer.ensures;
+  shows = ap (λ (pen : PenValue). pen.rows) c.in_ok-board.ensures.pen ∙ ap (λ peer. confirmed_rows (known_by peer)) c.peer.ensures;
 }

@@ -1,0 +1,6 @@
+use Rattle.std.proofs.Common.{refl, arith}
+use Rattle.c8_check.proofs.CheckLemmas.{piece_cut}
+use Rattle.c8_check.proofs.checks.Checks.advance.Goals as goal
+
+pub returns-clause-value : goal.returns-clause-value
+returns-clause-value c = rw (piece_cut c.args.self.now c.requires (omega arith)) refl

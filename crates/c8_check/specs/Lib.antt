@@ -1,0 +1,4 @@
+pub mod Checks
+pub mod Read
+pub mod Seen
+pub mod checked

@@ -1,0 +1,8 @@
+use Rattle.c8_digest.proofs.MarkBytesLemmas.{read_again, zeros_again}
+use Rattle.c8_digest.proofs.laws.marks_are_read_again.Goals as goal
+
+pub returns-clause-read : goal.returns-clause-read
+returns-clause-read c = read_again
+
+pub returns-clause-zeros : goal.returns-clause-zeros
+returns-clause-zeros c = zeros_again

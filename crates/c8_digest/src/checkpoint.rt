@@ -1,0 +1,40 @@
+//! Where a run of the machine may begin, but at the first frame.
+ghost use Rattle.std.specs.Prelude.{◌≡◌, take};
+ghost use Rattle.c8_digest.specs.Origin.{origin_of, first_origin};
+
+use crate::digest::{MARK_LENGTH, mark};
+use crate::marks::MARKS_LENGTH;
+use c8_game::Game;
+use c8_machine::Machine;
+
+/// The machine after so many frames, and the bytes of the marks that are kept then
+/// ([`Marks::bytes`](crate::Marks::bytes)).
+#[derive(Clone, Copy, Debug, PartialEq, Eq)]
+pub struct Checkpoint {
+    pub frames: u32,
+    pub machine: Machine,
+    pub marks: [u8; MARKS_LENGTH],
+}
+
+impl Checkpoint {
+    /// Before the first frame.
+    pub fn start(game: &Game) -> Self
+        ensures { origin_of result ≡ first_origin game.now }
+    {
+        let machine = Machine::start(game);
+        Checkpoint {
+            frames: 0,
+            machine,
+            marks: alone(&mark(&machine)),
+        }
+    }
+}
+
+/// The bytes of a single mark.
+fn alone(mark: &[u8; MARK_LENGTH]) -> [u8; MARKS_LENGTH]
+    ensures { take 8 result ≡ mark.now }
+{
+    let mut marks = [0; MARKS_LENGTH];
+    marks[..MARK_LENGTH].copy_from_slice(mark);
+    marks
+}

@@ -1,0 +1,4 @@
+use Rattle.c8_live.proofs.game.open_at.Given as goal
+
+abbrev pub ghost-open : goal.ghost-open
+ghost-open g a = g.run
