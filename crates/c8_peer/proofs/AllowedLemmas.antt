@@ -5,7 +5,7 @@ use Rattle.std.proofs.lemmas.Bool.{cases_lt, cases_eq, both_ways, not-false, ltb
 use Rattle.std.proofs.lemmas.List.{get_or_past, length-drop, get_or-drop}
 use Rattle.c8_game.specs.Rules.{Rules, AreInRange}
 use Rattle.c8_wire.specs.declared.error.WireError.{WireError}
-use Rattle.c8_wire.specs.Packet.{HeadValue, DataMessage, FreezeMessage, LeaverMessage, Message, Packet, AreWords, IsDataMessage, IsFreezeMessage, IsLeaverMessage, IsMessage, Fits, IsPacket}
+use Rattle.c8_wire.specs.Packet.{HeadValue, DataMessage, FreezeMessage, LeaverMessage, Message, Packet, AreWords, IsDataMessage, IsFreezeMessage, IsLeaverMessage, IsMessage, Fits}
 use Rattle.c8_wire.specs.Packet as packets
 use Rattle.c8_wire.specs.Sizes.{longest_run}
 use Rattle.c8_wire.specs.checked.WordLaws.{length-spelled_words}
@@ -25,7 +25,7 @@ use Rattle.c8_record.specs.Allowed.{Past, past_of, MayFollow, IsAllowedAfter, Is
 use Rattle.c8_record.specs.checked.JournalLaws.{journal_known, of_game}
 use Rattle.c8_record.specs.checked.LeaverLaws.{journal_orderly}
 use Rattle.c8_peer.specs.Told.{Told, told_of}
-use Rattle.c8_peer.specs.State.{Memory, Reply, Outcome, answered, recorded, Saying, Call, Tick, Deliver, Say, Decide, Checkpoint}
+use Rattle.c8_peer.specs.State.{Memory, Outcome, recorded, Saying, Call, Tick, Deliver, Say, Decide, Checkpoint}
 use Rattle.c8_peer.specs.State as calls
 use Rattle.c8_peer.specs.Calls.{tick, leave, decide, checkpoint}
 use Rattle.c8_peer.specs.Saying.{say, is_not_mine, lacks_record, lacks_link}

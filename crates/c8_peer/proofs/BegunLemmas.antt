@@ -6,7 +6,7 @@ use Rattle.c8_known.specs.Known.{known_of}
 use Rattle.c8_check.specs.Checks.{begun_at}
 use Rattle.c8_peer.specs.Told.{told_of}
 use Rattle.c8_peer.specs.State.{Mode, Open, Down, Away, State, Call, Reply}
-use Rattle.c8_peer.specs.Steps.{outcome, Luck, Works, Refuses, done, at_mode, step}
+use Rattle.c8_peer.specs.Steps.{outcome, Luck, Works, Refuses, done, at_mode}
 use Rattle.c8_peer.specs.Runs.{Does, After, IsRun, IsLawful}
 use Rattle.c8_peer.proofs.PlainLemmas.{keeps_begun}
 use Rattle.c8_peer.proofs.RunLemmas.{run_lawful}

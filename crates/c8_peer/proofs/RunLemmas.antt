@@ -18,7 +18,7 @@ use Rattle.c8_record.specs.Allowed.{IsAllowed, IsJournal}
 use Rattle.c8_record.specs.checked.JournalLaws.{journal_none, journal_more}
 use Rattle.c8_record.specs.checked.RefusalLaws.{journal_back}
 use Rattle.c8_peer.specs.Told.{told_of}
-use Rattle.c8_peer.specs.State.{Memory, Mode, Open, Down, Away, State, Call, Reply, Said, Outcome}
+use Rattle.c8_peer.specs.State.{Mode, Open, Down, Away, State, Call, Reply, Said, Outcome}
 use Rattle.c8_peer.specs.State as states
 use Rattle.c8_peer.specs.Steps.{outcome, Luck, Works, Refuses, refused_by_disk, when_down, done, at_mode, step}
 use Rattle.c8_peer.specs.Opening.{last_epoch, found, opening_record, Opening, NoPlayer, Stands, NotWritten, NoMemory, NotRead, Unfit, Spent, away, opened, MayBecome}

@@ -8,7 +8,7 @@ use Rattle.c8_wire.specs.Sizes.{longest_run}
 use Rattle.c8_wire.specs.Carried.{fits_in}
 use Rattle.c8_wire.specs.Packet.{Packet}
 use Rattle.c8_known.specs.Journal as journals
-use Rattle.c8_known.specs.Journal.{Record, Head, Epoch, Own, Got, held, count, has_freeze, has_leave, cut_of}
+use Rattle.c8_known.specs.Journal.{Record, Head, Epoch, Own, Got, held, count, has_freeze}
 use Rattle.c8_known.specs.Known.{PlayerValue, KnownValue, nobody, player_in, count_in, is_frozen_of, is_frozen_in, is_player, known_of, said_of, Plays, IsKnown}
 use Rattle.c8_known.specs.Growth.{Begins}
 use Rattle.c8_known.specs.checked.BeginsLaws.{begins_length, begins_more, begins_take}

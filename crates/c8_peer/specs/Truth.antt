@@ -3,7 +3,7 @@ use Rattle.std.specs.Prelude.{◌≡◌, ℕ, ◌*◌, ◌≤◌, List, ◌∷�
 use Rattle.c8_game.specs.Rules.{Rules}
 use Rattle.c8_machine.specs.Serial.{serial}
 use Rattle.c8_digest.specs.StateBytes.{mark_of}
-use Rattle.c8_wire.specs.Packet.{HeadValue, Message, Packet}
+use Rattle.c8_wire.specs.Packet.{Message, Packet}
 use Rattle.c8_wire.specs.Packet as packets
 use Rattle.c8_known.specs.Journal.{Record, Freeze, held, count, had_epoch, has_leave, cut_of}
 use Rattle.c8_known.specs.Known.{known_of}

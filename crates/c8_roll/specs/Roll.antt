@@ -2,7 +2,6 @@
 use Rattle.std.specs.Prelude.{◌≡◌, ◌≤◌, ℕ, ◌+◌, ◌-◌, ◌*◌, ◌/◌, List, ◌++◌, map}
 use Rattle.std.specs.List.{range_with_len}
 use Rattle.c8_game.specs.Rules.{Rules}
-use Rattle.c8_game.specs.declared.row.Row.{Row}
 use Rattle.c8_machine.specs.State.{State}
 use Rattle.c8_machine.specs.Serial.{serial}
 use Rattle.c8_digest.specs.declared.marks.FrameMark.{FrameMark}

@@ -11,7 +11,7 @@ use Rattle.c8_peer.specs.Told.{told_of}
 use Rattle.c8_peer.specs.declared.error.Refused.{Refused}
 use Rattle.c8_peer.specs.declared.error.Refused.TheVariants.{BadAck, Desync, Known}
 use Rattle.c8_peer.specs.State as states
-use Rattle.c8_peer.specs.State.{Mode, Down, Away, State, Call, Outcome, Delivered}
+use Rattle.c8_peer.specs.State.{Mode, Down, Away, State, Call, Outcome}
 use Rattle.c8_peer.specs.Steps.{outcome, Luck, Works, Refuses, refused_by_disk, Stepped, done, at_mode, step}
 use Rattle.c8_peer.specs.Opening.{Opening, NoPlayer, Stands, NotWritten, NoMemory, NotRead, Unfit, Spent, found, opened}
 use Rattle.c8_world.specs.checked.Below.{ArePeersLawful}

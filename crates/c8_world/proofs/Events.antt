@@ -7,7 +7,7 @@ use Rattle.c8_game.specs.Rules.{Rules}
 use Rattle.c8_wire.specs.Packet.{HeadValue, DataMessage, FreezeMessage, LeaverMessage, Message, Packet, IsPacket, IsMessage}
 use Rattle.c8_wire.specs.Packet as packets
 use Rattle.c8_hand.specs.declared.error.HandError.{HandError}
-use Rattle.c8_hand.specs.Links.{LinksValue, link_to, heard, IsForMe}
+use Rattle.c8_hand.specs.Links.{LinksValue, link_to, heard}
 use Rattle.c8_hand.specs.Links as links
 use Rattle.c8_hand.specs.checked.LinkLaws.{is_for_me, opens_by_welcome}
 use Rattle.c8_known.specs.declared.error.KnownError.{KnownError}

@@ -6,7 +6,6 @@ use Rattle.c8_game.specs.Rules.{Rules, AreInRange}
 use Rattle.c8_wire.specs.Packet.{HeadValue, DataMessage, FreezeMessage, LeaverMessage, Message, Packet}
 use Rattle.c8_wire.specs.Packet as packets
 use Rattle.c8_hand.specs.declared.error.HandError.{HandError}
-use Rattle.c8_hand.specs.Links.{heard}
 use Rattle.c8_hand.specs.Links as links
 use Rattle.c8_hand.specs.checked.LinkLaws.{is_for_me}
 use Rattle.c8_known.specs.declared.error.KnownError.{KnownError}

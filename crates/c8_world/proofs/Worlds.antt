@@ -8,11 +8,10 @@ use Rattle.c8_game.specs.Rules.{Rules, AreInRange}
 use Rattle.c8_disk.specs.declared.error.DiskError.{DiskError}
 use Rattle.c8_wire.specs.Packet.{Packet}
 use Rattle.c8_hand.specs.Links.{LinkValue, link_to, no_links}
-use Rattle.c8_known.specs.Journal.{Record, Freeze, held, had_epoch, cut_of, epoch}
+use Rattle.c8_known.specs.Journal.{Record, Freeze, held, cut_of, epoch}
 use Rattle.c8_known.specs.Known.{known_of}
 use Rattle.c8_known.specs.Growth.{Begins}
-use Rattle.c8_known.specs.checked.BeginsLaws.{begins_same, begins_more, begins_length, begins_get, begins_append}
-use Rattle.c8_known.specs.checked.JournalLaws.{epoch_stays}
+use Rattle.c8_known.specs.checked.BeginsLaws.{begins_same, begins_more, begins_get, begins_append}
 use Rattle.c8_round.specs.Round.{report_of, no_reports}
 use Rattle.c8_record.specs.Allowed.{IsAllowed, IsJournal}
 use Rattle.c8_record.specs.checked.JournalLaws.{journal_none}
@@ -29,7 +28,7 @@ use Rattle.c8_peer.specs.checked.TruthLaws.{truth_stays}
 use Rattle.c8_world.specs.checked.Below.{ArePeersLawful}
 use Rattle.c8_world.specs.World.{World, never_opened, start, is_player, peer_of, journal_of, with_peer, Act, Open, Tick, Say, Give, Leave, Decide, Event, Do, Stop, player_of, Happening, Answer, After, said_by, stepped, call_at_mode, call_at, open_at_mode, give_to, acted, crashed, after, MayAct, act_inside, CanHappen, Chain, Check}
 use Rattle.c8_world.specs.Agreement.{IsPlayer, IsAmong}
-use Rattle.c8_world.proofs.Journals.{AreSound, MayAdd, Fits, Grown, HasMore, player_one, more_grown, held_grown, frozen_grown, sound_more, fits_later}
+use Rattle.c8_world.proofs.Journals.{AreSound, MayAdd, Fits, Grown, HasMore, player_one, more_grown, frozen_grown, sound_more, fits_later}
 use Rattle.c8_world.proofs.Records.{fits_head, fits_epoch}
 use Rattle.c8_world.proofs.Events.{AreNamed, IsAwake, IsSaid, IsWorldly, good_call}
 

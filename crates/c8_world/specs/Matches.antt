@@ -4,7 +4,7 @@ use Rattle.c8_game.specs.Rules.{Rules, session_of}
 use Rattle.c8_game.specs.declared.wire.WireVersion.TheVariants as versions
 use Rattle.c8_machine.specs.Serial.{serial}
 use Rattle.c8_digest.specs.StateBytes.{mark_of}
-use Rattle.c8_wire.specs.Packet.{HeadValue, Message, Packet, kind_of}
+use Rattle.c8_wire.specs.Packet.{Message, Packet, kind_of}
 use Rattle.c8_wire.specs.Packet as packets
 use Rattle.c8_wire.specs.Spelling.{spelling}
 use Rattle.c8_disk.specs.declared.error.DiskError.TheVariants.{Failed}

@@ -10,7 +10,7 @@ use Rattle.std.proofs.lemmas.List.Sums.{fold-append}
 use Rattle.std.proofs.lemmas.Option.{slice_get_within}
 use Rattle.c8_game.specs.Rules.{Rules, AreInRange}
 use Rattle.c8_known.specs.Journal as journals
-use Rattle.c8_known.specs.Journal.{Record, Head, Epoch, Own, Got, Freeze, Leave, Cut, State, Check, player_of, epoch, epochs}
+use Rattle.c8_known.specs.Journal.{Record, Head, Epoch, Own, Got, Freeze, Leave, Cut, State, Check, epoch, epochs}
 use Rattle.c8_known.specs.Known.{KnownValue, player_in, count_in, is_frozen_in, known_of, with_record, IsKnown, IsOfGame, NamesPlayer}
 use Rattle.c8_known.specs.Growth.{IsStillKnown}
 use Rattle.c8_known.specs.checked.OneMore.{one_more}

@@ -1,4 +1,4 @@
-use Rattle.std.proofs.Common.{◌≡◌, ◌≤◌, inl, inr, ℕ, List, [], ◌∷◌, ◌++◌, length, Some, Ok, Err, refl, sym, ap, subst, ◌∙◌, arith}
+use Rattle.std.proofs.Common.{◌≡◌, inl, inr, ℕ, List, [], ◌∷◌, ◌++◌, length, Some, Ok, Err, refl, sym, ap, subst, ◌∙◌, arith}
 use Rattle.std.proofs.lemmas.Bool.{cases_eq}
 use Rattle.c8_game.specs.Rules.{Rules}
 use Rattle.c8_disk.specs.checked.AsksLaws.{asks_as}
@@ -22,11 +22,11 @@ use Rattle.c8_peer.specs.Told.{told_of}
 use Rattle.c8_peer.specs.State.{Open, Checkpoint, Checked, recorded, answered}
 use Rattle.c8_peer.specs.Peer.{PeerValue, mode_of, luck_of, LeavesJournal, IsAnswered}
 use Rattle.c8_peer.specs.checked.Held.{IsRolled, IsPlanned, next_record, next_said}
-use Rattle.c8_peer.proofs.AnswerLemmas.{outcome_seen, answers, Kept, with_record, without_record, records, is_refused}
-use Rattle.c8_peer.proofs.PeerLemmas.{is_up, peer_refused, peer_more, rolled_more, was_roll, runs_anew, may_record, view_refused, view_more, leaves_records, asks_records, one_body_more}
+use Rattle.c8_peer.proofs.AnswerLemmas.{outcome_seen, answers, Kept, with_record, records, is_refused}
+use Rattle.c8_peer.proofs.PeerLemmas.{is_up, peer_refused, peer_more, rolled_more, was_roll, runs_anew, view_refused, view_more, one_body_more}
 use Rattle.c8_peer.proofs.WindowLemmas.{is_within, roll_within}
 use Rattle.c8_peer.proofs.CheckpointLemmas.{next_leaves, saving_next}
-use Rattle.c8_peer.proofs.CheckpointCall.{IsReady, ready, dropped_comes, nothing_comes, kept_of, runs_of, next_quiet, next_epoch, whole_may, noted_next, planned_next, append_cause}
+use Rattle.c8_peer.proofs.CheckpointCall.{ready, dropped_comes, nothing_comes, kept_of, runs_of, next_quiet, next_epoch, whole_may, noted_next, planned_next, append_cause}
 use Rattle.c8_peer.proofs.peer.Peer.checkpoint.Goals as goal
 
 still_same : (k : KnownValue) → IsStillKnown k k
