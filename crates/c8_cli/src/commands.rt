@@ -7,7 +7,7 @@ use c8_front::{
     words_in,
 };
 use c8_keys::run_files;
-use c8_net::{peer_command, peer_given};
+use c8_net::{peer_command, peer_given, watch_command, watch_given};
 use c8_script::sim_files;
 use c8_show::show;
 use c8_threads::{rig_command, rig_given};
@@ -24,19 +24,20 @@ use std::thread::Threads;
 use std::time::Clock;
 
 /// Does what the program's arguments ask for, and answers how it ended. `input` is its standard
-/// input; what is printed goes to `out`, why something is refused to `refused`.
+/// input; what is printed goes to `out`, which may be a terminal, why something is refused to `refused`.
 pub fn answer<R, I, W: Write, E: Write + Send>(
     rt: &R,
     args: io::Result<Args>,
     input: I,
     out: &mut W,
+    is_terminal: bool,
     refused: &mut E,
 ) -> Status
 where
     R: Files<File = File> + Net + Clock + Threads + Wait + Sync + AllocGlobal,
     I: Read + Drop,
 {
-    let ended = obey(rt, args, input, out, refused);
+    let ended = obey(rt, args, input, out, is_terminal, refused);
     status_at(ended, refused)
 }
 
@@ -46,6 +47,7 @@ fn obey<R, I, W: Write, E: Write + Send>(
     args: io::Result<Args>,
     input: I,
     out: &mut W,
+    is_terminal: bool,
     refused: &mut E,
 ) -> io::Result<Status>
 where
@@ -57,7 +59,7 @@ where
     };
     let command = command(rt.alloc())?;
     match command.try_get_matches_from(words.as_slice()) {
-        Ok(matches) => carry_out(rt, &matches, input, out, refused),
+        Ok(matches) => carry_out(rt, &matches, input, out, is_terminal, refused),
         Err(error) => tell(&error, out, refused),
     }
 }
@@ -72,6 +74,7 @@ fn command<'a>(alloc: Global) -> Result<Command<'a>, AllocError> {
         .arg_required_else_help(true);
     let command = command.subcommand(run_command(alloc)?)?;
     let command = command.subcommand(peer_command(alloc)?)?;
+    let command = command.subcommand(watch_command(alloc)?)?;
     let command = command.subcommand(sim_command(alloc)?)?;
     let command = command.subcommand(rig_command(alloc)?)?;
     command.subcommand(show_command(alloc)?)
@@ -94,6 +97,7 @@ fn carry_out<R, I, W: Write, E: Write + Send>(
     matches: &ArgMatches,
     input: I,
     out: &mut W,
+    is_terminal: bool,
     refused: &mut E,
 ) -> io::Result<Status>
 where
@@ -106,6 +110,7 @@ where
             run_files(rt, game, keys, is_explained(given), out, refused)
         }
         Some(("peer", given)) => peer_given(rt, given, input, out, refused),
+        Some(("watch", given)) => watch_given(rt, given, is_terminal, out, refused),
         Some(("sim", given)) => {
             let (game, script) = (word_of(given, "GAME"), word_of(given, "SCRIPT"));
             sim_files(rt, game, script, is_explained(given), out, refused)

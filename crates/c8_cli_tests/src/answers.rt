@@ -5,7 +5,7 @@ use c8_known::KnownError;
 use c8_peer::{
     Check, CheckError, DecideError, Heard, LeaveError, OpenError, Refused, TickError, Unsayable,
 };
-use c8_script::{write_answers, write_ends};
+use c8_script::{Watched, write_answers, write_ends};
 use c8_wire::WireError;
 use c8_world::{Answer, Counts, Ends, Posted, Tally};
 use std::alloc::Global;
@@ -223,7 +223,11 @@ fn told_of(alloc: Global, count: usize, agree: bool) -> Result<Vec<u8>, Fail> {
     let all = players();
     let players = all[..count.min(all.len())].to_vec(alloc)?;
     let mut out = Vec::new(alloc);
-    write_ends(&mut out, &Ends { players, agree })?;
+    let watched = Watched {
+        five: None,
+        six: None,
+    };
+    write_ends(&mut out, &Ends { players, agree }, watched)?;
     Ok(out)
 }
 

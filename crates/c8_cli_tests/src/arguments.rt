@@ -53,7 +53,7 @@ where
 {
     let mut printed = Vec::new(rt.alloc());
     let (args, input) = (Err(kind_of(number).into()), b"".as_slice());
-    let status = answer(rt, args, input, &mut printed, refused);
+    let status = answer(rt, args, input, &mut printed, false, refused);
     (status.code(), printed.is_empty())
 }
 
@@ -89,7 +89,7 @@ where
     R: Files<File = File> + Net + Clock + Threads + Wait + Sync + AllocGlobal,
 {
     let input = b"".as_slice();
-    answer(rt, Ok(args), input, &mut Short { room: 5 }, refused).code()
+    answer(rt, Ok(args), input, &mut Short { room: 5 }, false, refused).code()
 }
 
 /// The status where standard error takes five bytes.
@@ -99,7 +99,15 @@ where
 {
     let mut printed = Vec::new(rt.alloc());
     let input = b"".as_slice();
-    answer(rt, Ok(args), input, &mut printed, &mut Short { room: 5 }).code()
+    answer(
+        rt,
+        Ok(args),
+        input,
+        &mut printed,
+        false,
+        &mut Short { room: 5 },
+    )
+    .code()
 }
 
 #[test]

@@ -29,4 +29,6 @@ mod udp;
 #[cfg(test)]
 mod udp_loss;
 #[cfg(test)]
+mod watchers;
+#[cfg(test)]
 mod writers;

@@ -23,12 +23,12 @@ fn free(rt: &HostRuntime) -> Result<String, Fail> {
 }
 
 /// What a peer prints that plays at one address with one at another; nothing where it is refused.
-fn printed<R>(
+fn printed<'x, R>(
     rt: &R,
     number: u8,
-    journal: &str,
-    local: &str,
-    remote: &str,
+    journal: &'x str,
+    local: &'x str,
+    remote: &'x str,
     stop: Option<u64>,
 ) -> Vec<u8>
 where
@@ -40,6 +40,7 @@ where
         journal,
         local,
         remotes: Some(&[remote]),
+        watchers: [None, None],
         room: 3,
         turns: 10_000,
         patience: None,

@@ -2,6 +2,7 @@
 use c8_game::Player;
 use c8_live::{LONGEST_PACKET, Wire, WireFailed};
 use c8_net::{Addresses, Asked, SocketError, Udp, peer};
+use c8_wire::Seat;
 use std::fs;
 use std::fs::File;
 use std::net::{Ipv4Addr, Net, SocketAddr, UdpSocket};
@@ -23,6 +24,7 @@ fn wire_to(rt: &HostRuntime, other: SocketAddr) -> Result<Udp, SocketError> {
     let addresses = Addresses {
         local: any(),
         others: [None, Some(other), None, None],
+        watchers: [None, None],
     };
     Udp::open(rt, &addresses)
 }
@@ -56,7 +58,7 @@ fn carries_packets_and_never_waits(rt: HostRuntime) -> Result<(), Fail> {
     let mut wire = wire_to(&rt, other.local_addr()?)?;
     let mut packet = [0; LONGEST_PACKET];
     assert!(rt; received(&mut wire, &mut packet).is_none());
-    wire.send(TWO, b"datagram")?;
+    wire.send(Seat::from(TWO), b"datagram")?;
     assert!(rt; answer_twice(&other)?);
     assert!(rt; received(&mut wire, &mut packet) == Some(LONGEST_PACKET));
     assert!(rt; packet == [7; LONGEST_PACKET]);
@@ -77,17 +79,23 @@ fn a_player_who_is_not_there_is_a_loss(rt: HostRuntime) -> Result<(), Fail> {
     let mut wire = wire_to(&rt, gone(&rt)?)?;
     let mut packet = [0; LONGEST_PACKET];
     for _ in 0..3 {
-        wire.send(TWO, b"datagram")?;
+        wire.send(Seat::from(TWO), b"datagram")?;
         assert!(rt; received(&mut wire, &mut packet).is_none());
     }
-    wire.send(Player { number: 3 }, b"datagram")?;
+    wire.send(Seat::from(Player { number: 3 }), b"datagram")?;
     Ok(())
 }
 
 /// Whether a wire opens at an address.
 fn opens_at(rt: &HostRuntime, local: SocketAddr) -> bool {
     let others = [None; 4];
-    Udp::open(rt, &Addresses { local, others }).is_ok()
+    let watchers = [None; 2];
+    let addresses = Addresses {
+        local,
+        others,
+        watchers,
+    };
+    Udp::open(rt, &addresses).is_ok()
 }
 
 #[test]
@@ -95,7 +103,7 @@ fn an_address_that_is_taken_or_of_no_use_is_a_fault(rt: HostRuntime) -> Result<(
     let other = other_socket(&rt)?;
     assert!(rt; !opens_at(&rt, other.local_addr()?) && opens_at(&rt, any()));
     let mut wire = wire_to(&rt, any())?;
-    let sent = wire.send(TWO, b"datagram");
+    let sent = wire.send(Seat::from(TWO), b"datagram");
     assert!(rt; sent == Err(WireFailed), "{sent:?}");
     Ok(())
 }
@@ -105,7 +113,7 @@ const GAME: &str =
 
 /// Whether the command `peer` tells of a socket that failed, where all else that it is given is
 /// right.
-fn is_socket_fault<R>(rt: &R, local: &str, remote: &str) -> Result<bool, Fail>
+fn is_socket_fault<'x, R>(rt: &R, local: &'x str, remote: &'x str) -> Result<bool, Fail>
 where
     R: Files<File = File> + Net + Clock + Threads + Wait + Sync + AllocGlobal,
 {
@@ -115,6 +123,7 @@ where
         journal: "cli_socket.journal",
         local,
         remotes: Some(&[remote]),
+        watchers: [None, None],
         room: 3,
         turns: 3,
         patience: None,

@@ -1,7 +1,8 @@
 //! A datagram that is lost, where the system tells of it.
 use c8_game::Player;
 use c8_live::{LONGEST_PACKET, Wire};
-use c8_net::Udp;
+use c8_net::{Addresses, Udp};
+use c8_wire::Seat;
 use mio::net::UdpSocket as OwnSocket;
 use std::net::{Ipv4Addr, SocketAddr, UdpSocket};
 use std::test::Fail;
@@ -20,7 +21,12 @@ fn connected(rt: &HostRuntime) -> Result<Udp, Fail> {
     socket.connect(address)?;
     gone.send_to(b"packet", socket.local_addr()?)?;
     drop(gone);
-    Ok(Udp::over(socket, [None, Some(address), None, None]))
+    let addresses = Addresses {
+        local: any(),
+        others: [None, Some(address), None, None],
+        watchers: [None, None],
+    };
+    Ok(Udp::over(socket, &addresses))
 }
 
 /// Where a socket is connected, the system tells by its next call that nobody heard a datagram: a
@@ -29,10 +35,10 @@ fn connected(rt: &HostRuntime) -> Result<Udp, Fail> {
 fn a_packet_comes_behind_a_loss(rt: HostRuntime) -> Result<(), Fail> {
     let mut wire = connected(&rt)?;
     let mut packet = [0; LONGEST_PACKET];
-    wire.send(TWO, b"datagram")?;
+    wire.send(Seat::from(TWO), b"datagram")?;
     assert!(rt; wire.receive(&mut packet) == Ok(Some(6)));
-    wire.send(TWO, b"datagram")?;
-    wire.send(TWO, b"datagram")?;
+    wire.send(Seat::from(TWO), b"datagram")?;
+    wire.send(Seat::from(TWO), b"datagram")?;
     assert!(rt; wire.receive(&mut packet) == Ok(None));
     Ok(())
 }

@@ -1,5 +1,5 @@
 //! A disk as a journal sees it: what a read gives, and what a crash may leave.
-ghost use Rattle.std.specs.Prelude.{◌≡◌, ◌+◌, ◌<◌, ◌≤◌, List, [], ◌∷◌, ◌++◌, ℕ, length, take, drop, OnOk, IsErrOf};
+ghost use Rattle.std.specs.Prelude.{◌≡◌, ◌+◌, ◌<◌, ◌≤◌, List, [], ◌∷◌, ◌++◌, ℕ, length, take, drop, IfSome, OnOk, IsErrOf};
 ghost use Rattle.c8_disk.specs.declared.disk.Arm.{Arm};
 ghost use Rattle.c8_disk.specs.Disk.{DiskCall, Reading, Writing, Syncing, AddsNone, Only, Writes, WritesImages, Elapses, HasCause, longest_write};
 
@@ -65,6 +65,13 @@ pub trait Disk {
     /// How many bytes there is room for. It stays the same over every call.
     fn capacity(&self) -> u32
         ensures { result ≡ capacity self.now };
+
+    /// The bytes that a read gives, lent in place: by a disk that holds them all in memory, and
+    /// `None` of one that doesn't. It asks nothing of the disk: it is no read, never fails, and
+    /// counts for no `arm`. So it doesn't tell whether a read would fail, and where one has to be
+    /// made it is made beside it.
+    fn held(&self) -> Option<&[u8]>
+        ensures { IfSome result (λ bytes. bytes.now ≡ seen self.now) };
 
     /// Reads as many bytes as `buffer` has, from the place `at` on. At an error `buffer` may hold
     /// anything.

@@ -1,5 +1,5 @@
 //! A disk in a file of the operating system.
-ghost use Rattle.std.specs.Prelude.{◌≡◌, ◌≤◌, ◌<◌, ◌+◌, ◌↔◌, [], ◌∷◌, ◌++◌, true, false, length, take, drop, vec_len, vec_capacity, IfOk, IfErr, OnOk, OnErr, IsErrOf};
+ghost use Rattle.std.specs.Prelude.{◌≡◌, ◌≤◌, ◌<◌, ◌+◌, ◌↔◌, [], ◌∷◌, ◌++◌, true, false, length, take, drop, vec_len, vec_capacity, IsSome, IfSome, IfOk, IfErr, OnOk, OnErr, IsErrOf};
 ghost use Rattle.c8_disk.specs.Disk.{Reading, Writing, Syncing, Only, AddsNone, Writes, WritesImages, Elapses, HasCause, longest_write};
 ghost use Rattle.c8_disk.specs.Past.{IsImage, LeftSince, AddsWrite};
 ghost use Rattle.c8_disk.specs.checked.PastLaws.{reads_image, counts, only};
@@ -184,6 +184,14 @@ impl<S: SystemFile> Disk for FileDisk<S> {
 
     fn capacity(&self) -> u32 {
         self.held.room
+    }
+
+    /// All of them, also of a disk that is down.
+    fn held(&self) -> Option<&[u8]>
+        ensures bytes { IfSome result (λ bytes. bytes.now ≡ file_bytes self.now) }
+        ensures there { IsSome result }
+    {
+        Some(&self.held.bytes)
     }
 
     fn read_at(&mut self, at: u32, buffer: &mut [u8]) -> Result<(), DiskError>

@@ -1,5 +1,5 @@
 //! A disk in memory that can fail, stop and crash.
-ghost use Rattle.std.specs.Prelude.{◌≡◌, ◌≤◌, ◌<◌, ◌+◌, ◌^◌, ◌↔◌, true, [], ◌∷◌, ◌++◌, length, vec_len, vec_capacity, take, drop, IfOk, OnOk, OnErr, IsErrOf, refl, false};
+ghost use Rattle.std.specs.Prelude.{◌≡◌, ◌≤◌, ◌<◌, ◌+◌, ◌^◌, ◌↔◌, true, [], ◌∷◌, ◌++◌, length, vec_len, vec_capacity, take, drop, IsSome, IfSome, IfOk, OnOk, OnErr, IsErrOf, refl, false};
 ghost use Rattle.c8_disk.specs.AtOnce.{IsBetweenSyncs};
 ghost use Rattle.c8_disk.specs.Disk.{Reading, Writing, Syncing, Only, AddsNone, Writes, WritesImages, Elapses, HasCause, longest_write};
 ghost use Rattle.c8_disk.specs.Past.{content, synced, are_lawful, fit, IsImage, LeftSince};
@@ -210,6 +210,14 @@ impl Disk for MemDisk {
 
     fn capacity(&self) -> u32 {
         self.room
+    }
+
+    /// All of them, also where the next read is to fail.
+    fn held(&self) -> Option<&[u8]>
+        ensures bytes { IfSome result (λ bytes. bytes.now ≡ bytes_of self.now) }
+        ensures there { IsSome result }
+    {
+        Some(&self.bytes)
     }
 
     fn read_at(&mut self, at: u32, buffer: &mut [u8]) -> Result<(), DiskError>

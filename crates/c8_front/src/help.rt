@@ -27,10 +27,10 @@ pub const SHOW_ENDING: &str =
   wire 3 Version   another version of the format
   wire 4 Kind      no kind that is known
   wire 5 Length    a body longer or shorter than it should be
-  wire 6 Player    players 1 to 4 who differ are not named
+  wire 6 Player    seats that cannot say this to each other
   wire 7 Reserved  a byte that must be 0 is not
-  wire 8 Count     more than 64 inputs, or not as many bytes as a run may have
-  wire 9 Beyond    a number of inputs that is too great
+  wire 8 Count     more than 64 inputs or 16 rows, or not as many bytes as they may have
+  wire 9 Beyond    a number of inputs or of frames that is too great
   wire 10 Pairs    pairs that are not those of a run
   open 5 Memory    out of memory at the start
   disk 1 Failed    output that cannot be written

@@ -78,6 +78,10 @@ refusal_of_others link own theirs mine =
     if nat_lt theirs link.known || nat_lt mine own then Some errors.Stale
     else (if nat_lt link.known theirs || nat_lt own mine then Some errors.Ahead else (if link.is_open then None else Some errors.NotOpen))
 
+-- SHOW and SEEN are no player's to a player.
+abbrev pub refusal_of_watching : LinkValue → ℕ → ℕ → ℕ → Option HandError
+refusal_of_watching link own theirs mine = Some errors.NotMine
+
 abbrev pub refusal_by_kind : DatagramKind → LinkValue → ℕ → ℕ → ℕ → Option HandError
 refusal_by_kind kinds.Hello = refusal_of_hello
 refusal_by_kind kinds.Welcome = refusal_of_welcome
@@ -85,6 +89,8 @@ refusal_by_kind kinds.Data = refusal_of_others
 refusal_by_kind kinds.Freeze = refusal_of_others
 refusal_by_kind kinds.Frozen = refusal_of_others
 refusal_by_kind kinds.Cut = refusal_of_others
+refusal_by_kind kinds.Show = refusal_of_watching
+refusal_by_kind kinds.Seen = refusal_of_watching
 
 -- Whether a datagram is from another player of the game, to this one.
 abbrev pub is_mine : LinksValue → HeadValue → Bool
@@ -96,6 +102,10 @@ refusal l head =
     if not (head.session == l.session) then Some errors.Session
     else (if is_mine l head then refusal_by_kind head.kind (link_to l head.from) l.epoch head.sender_epoch head.addressee_epoch else Some errors.NotMine)
 
+-- the refusal of a SEEN with this header, None where player one takes it: a watcher has no epoch and no link
+unfoldable pub refusal_of_seen : LinksValue → HeadValue → Option HandError
+refusal_of_seen l head = if not (head.session == l.session) then Some errors.Session else (if head.to == l.me then None else Some errors.NotMine)
+
 -- the link to the sender of an admitted datagram: a HELLO of a later epoch closes it, a WELCOME opens it
 abbrev pub link_after : DatagramKind → LinkValue → ℕ → LinkValue
 link_after kinds.Hello link theirs = if nat_lt link.known theirs then record { known = theirs; is_open = false } else link
@@ -104,6 +114,8 @@ link_after kinds.Data link theirs = link
 link_after kinds.Freeze link theirs = link
 link_after kinds.Frozen link theirs = link
 link_after kinds.Cut link theirs = link
+link_after kinds.Show link theirs = link
+link_after kinds.Seen link theirs = link
 
 abbrev pub heard : LinksValue → HeadValue → LinksValue
 heard l head = with_link l head.from (link_after head.kind (link_to l head.from) head.sender_epoch)
@@ -137,7 +149,7 @@ abbrev pub OpensByWelcome : LinksValue → HeadValue → LinksValue → Type 0
 OpensByWelcome old head new = (player : ℕ) → (link_to new player).is_open ≡ true
     → (link_to new player ≡ link_to old player) ⊎ IsWelcomeOf new player head
 
--- the header of a datagram to a player
+-- the header of a datagram to a player, or to a watcher, of whom no epoch is known
 abbrev pub head_to : LinksValue → ℕ → DatagramKind → HeadValue
 head_to l player kind = record {
   kind = kind;

@@ -1,8 +1,9 @@
 //! The links of one player to the others.
-ghost use Rattle.std.specs.Prelude.{◌≡◌, ◌≢◌, ℕ, ◌≤◌, Some, None, MatchResult, OnOk};
+ghost use Rattle.std.specs.Prelude.{◌≡◌, ◌≢◌, ℕ, ◌≤◌, true, false, Some, None, MatchOption, MatchResult, OnOk};
 ghost use Rattle.c8_wire.specs.Lent.{packet_of};
+ghost use Rattle.c8_wire.specs.Seats.{are_seats};
 ghost use Rattle.c8_wire.specs.Saying.{head_value};
-ghost use Rattle.c8_hand.specs.Links.{no_links, link_to, open_epoch, refusal, link_after, heard, IsForMe, OpensByWelcome, head_to};
+ghost use Rattle.c8_hand.specs.Links.{no_links, link_to, open_epoch, with_link, is_mine, refusal, refusal_by_kind, refusal_of_seen, link_after, heard, IsForMe, OpensByWelcome, head_to};
 
 use crate::error::HandError;
 use crate::link::Link;
@@ -14,7 +15,8 @@ use std::marker::Model;
 #[derive(Debug, Drop)]
 pub struct Links {
     me: Player,
-    players: u8,
+    /// The player of the game with the greatest number.
+    last: Player,
     version: WireVersion,
     session: u64,
     epoch: u32,
@@ -27,7 +29,7 @@ impl Model for Links {
 
     ghost Value = { LinksValue };
 
-    ghost view = { λ l. seen l.me.number l.players l.version l.session l.epoch l.links };
+    ghost view = { λ l. seen l.me.number l.last.number l.version l.session l.epoch l.links };
 }
 
 impl Links {
@@ -37,7 +39,9 @@ impl Links {
     {
         Links {
             me,
-            players: game.players(),
+            last: Player {
+                number: game.players(),
+            },
             version: game.wire(),
             session: game.session(room),
             epoch,
@@ -102,17 +106,56 @@ impl Links {
         if head.session != self.session {
             return Some(HandError::Session);
         }
-        let (from, to) = (head.from.number, head.to.number);
-        if to != self.me.number || from == self.me.number || from > self.players {
-            return Some(HandError::NotMine);
+        match self.sender_of(head) {
+            Some(sender) => self.refusal_by_kind(sender, head),
+            None => Some(HandError::NotMine),
         }
-        let link = &self.links[head.from.place()];
+    }
+
+    /// The sender of a datagram from another player of the game to this one.
+    fn sender_of(&self, head: &Head) -> Option<Player>
+        ensures { MatchOption result
+            (is_mine self.now (head_value head.now) ≡ false)
+            (λ sender. (is_mine self.now (head_value head.now) ≡ true)
+            × (sender.number ≡ head.now.from.number)) }
+    {
+        let (from, to) = (head.from.number, head.to.number);
+        if to != self.me.number || from == self.me.number || from > self.last.number {
+            return None;
+        }
+        head.from.player()
+    }
+
+    fn refusal_by_kind(&self, sender: Player, head: &Head) -> Option<HandError>
+        ensures { result
+            ≡ refusal_by_kind head.now.kind (link_to self.now sender.number) self.now.epoch head.now.sender_epoch head.now.addressee_epoch }
+    {
+        let link = &self.links[sender.place()];
         match head.kind {
             DatagramKind::Hello => link.refusal_of_hello(self.epoch, head),
             DatagramKind::Welcome => link.refusal_of_welcome(self.epoch, head),
             DatagramKind::Data | DatagramKind::Freeze | DatagramKind::Frozen | DatagramKind::Cut =>
                 { link.refusal_of_others(self.epoch, head) }
+            DatagramKind::Show | DatagramKind::Seen => Some(HandError::NotMine),
         }
+    }
+
+    /// Judges a SEEN, by its header, and changes nothing: first `Session`, then `NotMine`, where it is not for
+    /// this player. A watcher has no epoch and no link.
+    #[tactic(auto, unfolding(crate::specs::Links::refusal_of_seen))]
+    pub fn admit_seen(&self, head: &Head) -> Result<(), HandError>
+        ensures { MatchResult result
+            (λ _. refusal_of_seen self.now (head_value head.now) ≡ None)
+            (λ error. refusal_of_seen self.now (head_value head.now) ≡ Some error) }
+    {
+        let (session, to) = (head.session, head.to.number);
+        if session != self.session {
+            return Err(HandError::Session);
+        }
+        if to != self.me.number {
+            return Err(HandError::NotMine);
+        }
+        Ok(())
     }
 
     /// Takes what an admitted datagram tells: a HELLO of a later epoch closes the link to its
@@ -130,39 +173,56 @@ impl Links {
         ensures rises { (player : ℕ)
             → (link_to self.old player).known ≤ (link_to self.new player).known }
     {
-        self.take(&datagram.header().head());
-    }
-
-    fn take(&mut self, head: &Head)
-        ensures { self.new ≡ heard self.old (head_value head.now) }
-    {
-        let link = &mut self.links[head.from.place()];
-        match head.kind {
-            DatagramKind::Hello => {
-                if head.sender_epoch > link.known {
-                    *link = Link::closed(head.sender_epoch);
-                }
-            }
-            DatagramKind::Welcome => *link = Link::opened(head.sender_epoch),
-            DatagramKind::Data | DatagramKind::Freeze | DatagramKind::Frozen | DatagramKind::Cut =>
-                {}
+        let head = datagram.header().head();
+        if let Some(sender) = head.from.player() {
+            self.take(sender, head.kind, head.sender_epoch);
         }
     }
 
-    /// The header of a datagram of this kind to another player, in the version of the match: it names the
-    /// own epoch, and the one that is known of the player.
-    pub fn head(&self, player: Player, kind: DatagramKind) -> Head
-        requires { player.number ≢ self.now.me }
-        ensures { head_value result ≡ head_to self.now player.number kind }
+    fn take(&mut self, sender: Player, kind: DatagramKind, epoch: u32)
+        ensures { self.new
+            ≡ with_link self.old sender.number (link_after kind (link_to self.old sender.number) epoch) }
+    {
+        let link = &mut self.links[sender.place()];
+        match kind {
+            DatagramKind::Hello => {
+                if epoch > link.known {
+                    *link = Link::closed(epoch);
+                }
+            }
+            DatagramKind::Welcome => *link = Link::opened(epoch),
+            DatagramKind::Data
+            | DatagramKind::Freeze
+            | DatagramKind::Frozen
+            | DatagramKind::Cut
+            | DatagramKind::Show
+            | DatagramKind::Seen => {}
+        }
+    }
+
+    /// The header of a datagram of this kind to a player or a watcher, in the version of the match: it names
+    /// the own epoch, and the one that is known of a player, 0 for a watcher.
+    pub fn head(&self, to: Seat, kind: DatagramKind) -> Head
+        requires { are_seats kind self.now.me to.number ≡ true }
+        ensures { head_value result ≡ head_to self.now to.number kind }
     {
         Head {
             kind,
             version: self.version,
             session: self.session,
             from: Seat::from(self.me),
-            to: Seat::from(player),
+            to,
             sender_epoch: self.epoch,
-            addressee_epoch: self.known(player),
+            addressee_epoch: self.known_in(to),
+        }
+    }
+
+    fn known_in(&self, seat: Seat) -> u32
+        ensures { result ≡ (link_to self.now seat.number).known }
+    {
+        match seat.player() {
+            Some(player) => self.known(player),
+            None => 0,
         }
     }
 }

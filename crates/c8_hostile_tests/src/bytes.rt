@@ -84,7 +84,20 @@ impl Letter {
         }
     }
 
-    /// Puts a start, a count and a run.
+    /// Puts the key sets of four players, of those who are in the game, for each frame from one on.
+    fn put_rows(&mut self, players: u64, start: u64, count: u64) {
+        for n in 0..count {
+            for player in 1..5 {
+                if player <= players {
+                    self.put_keys(player, start.wrapping_add(n), 1);
+                } else {
+                    self.put(0, 2);
+                }
+            }
+        }
+    }
+
+    /// Puts a start, a count, and a run or rows.
     fn put_run(&mut self, start: u64, count: u64, run: &Letter) {
         self.put(start, 4);
         self.put(count, 2);
@@ -94,8 +107,8 @@ impl Letter {
     }
 }
 
-/// The kind of a datagram, how many bytes of its body are before the run, and the run: of whom, from
-/// which frame on, and of how many.
+/// The kind of a datagram, how many bytes of its body are before the run or the rows, and the run: of
+/// whom, from which frame on, and of how many.
 fn shape(from: u64, body: Body) -> (u64, u64, u64, u64, u64) {
     match body {
         Body::Hello => (1, 0, 0, 0, 0),
@@ -104,6 +117,17 @@ fn shape(from: u64, body: Body) -> (u64, u64, u64, u64, u64) {
         Body::Freeze(_, _) => (4, 6, 0, 0, 0),
         Body::Frozen(leaver, _, start, count) => (5, 12, leaver, start, count),
         Body::Cut(leaver, _, start, count) => (6, 12, leaver, start, count),
+        Body::Show(_, _, _) => (7, 6, 0, 0, 0),
+        Body::Seen(_) => (8, 4, 0, 0, 0),
+    }
+}
+
+/// Whom a datagram names as its addressee, and in which epoch: watchers have none, and know none.
+fn addressee(me: u64, body: Body) -> (u64, u64) {
+    match body {
+        Body::Show(watcher, _, _) => (watcher, 0),
+        Body::Seen(_) => (1, 0),
+        _ => (me, EPOCH),
     }
 }
 
@@ -127,7 +151,11 @@ pub(crate) fn spelled(scene: &Scene, said: Said) -> Letter {
 pub(crate) fn spelled_in(wire: u64, scene: &Scene, said: Said) -> Letter {
     let (from, epoch, body) = said;
     let (kind, fixed, player, start, count) = shape(from, body);
-    let run = run_in(wire, player, start, count);
+    let (to, known) = addressee(scene.me, body);
+    let mut run = run_in(wire, player, start, count);
+    if let Body::Show(_, start, count) = body {
+        run.put_rows(scene.table.players, start, count);
+    }
     let length = fixed.wrapping_add(run.len() as u64);
     let mut letter = Letter::new();
     letter.put(0x4338, 2);
@@ -135,13 +163,13 @@ pub(crate) fn spelled_in(wire: u64, scene: &Scene, said: Said) -> Letter {
     letter.put(kind, 1);
     letter.put(scene.table.session, 8);
     letter.put(from, 1);
-    letter.put(scene.me, 1);
+    letter.put(to, 1);
     letter.put(length, 2);
     letter.put(epoch, 4);
-    letter.put(EPOCH, 4);
+    letter.put(known, 4);
     match body {
         Body::Hello => {}
-        Body::Welcome(ack) => letter.put(ack, 4),
+        Body::Welcome(ack) | Body::Seen(ack) => letter.put(ack, 4),
         Body::Data(ack, frame, mark, start, count) => {
             letter.put(ack, 4);
             letter.put(frame, 4);
@@ -159,6 +187,7 @@ pub(crate) fn spelled_in(wire: u64, scene: &Scene, said: Said) -> Letter {
             letter.put(held, 4);
             letter.put_run(start, count, &run);
         }
+        Body::Show(_, start, count) => letter.put_run(start, count, &run),
     }
     letter
 }

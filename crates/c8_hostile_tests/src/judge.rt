@@ -28,6 +28,10 @@ pub(crate) fn from(bytes: &[u8]) -> u64 {
     number(bytes, 12, 1)
 }
 
+fn to(bytes: &[u8]) -> u64 {
+    number(bytes, 13, 1)
+}
+
 /// The first refusal, or none: then the datagram is taken, and leaves what `left_by` has.
 pub(crate) fn judge(scene: &Scene, bytes: &[u8]) -> Option<Refused> {
     if let Some(error) = wire(bytes) {
@@ -40,11 +44,12 @@ pub(crate) fn judge(scene: &Scene, bytes: &[u8]) -> Option<Refused> {
         return Some(Refused::Hand(error));
     }
     match kind(bytes) {
-        2 => bad_ack(scene, bytes),
+        2 => bad_ack(bytes, scene.count(scene.me)),
         3 => of_data(scene, bytes),
         4 => of_freeze(scene, bytes),
         5 => of_frozen(scene, bytes),
         6 => of_cut(scene, bytes),
+        8 => bad_ack(bytes, scene.confirmed),
         _ => None,
     }
 }
@@ -61,31 +66,32 @@ fn wire(bytes: &[u8]) -> Option<WireError> {
     if version(bytes) != 1 && version(bytes) != 2 {
         return Some(WireError::Version);
     }
-    let (fixed, has_run) = match kind(bytes) {
+    let (fixed, has_more) = match kind(bytes) {
         1 => (0, false),
-        2 => (4, false),
+        2 | 8 => (4, false),
         3 => (22, true),
         4 => (6, false),
         5 | 6 => (12, true),
+        7 => (6, true),
         _ => return Some(WireError::Kind),
     };
     let length = number(bytes, 14, 2);
     if size as u64 != length.wrapping_add(24) {
         return Some(WireError::Length);
     }
-    if length < fixed || (length != fixed && !has_run) {
+    if length < fixed || (length != fixed && !has_more) {
         return Some(WireError::Length);
     }
-    if !are_players(bytes) {
+    if !are_seats(bytes) {
         return Some(WireError::Player);
     }
-    let is_leaving = kind(bytes) >= 4;
-    if is_leaving && number(bytes, 25, 1) != 0 {
+    if has_leaver(bytes) && number(bytes, 25, 1) != 0 {
         return Some(WireError::Reserved);
     }
-    if has_run && !is_counted(bytes, length.wrapping_sub(fixed)) {
+    if has_more && !is_counted(bytes, length.wrapping_sub(fixed)) {
         return Some(WireError::Count);
     }
+    let has_run = has_more && kind(bytes) != 7;
     if has_run && version(bytes) == 2 && !are_pairs(bytes) {
         return Some(WireError::Pairs);
     }
@@ -95,22 +101,38 @@ fn wire(bytes: &[u8]) -> Option<WireError> {
     None
 }
 
-/// From and to are players, and not one; the leaver is one who can leave.
-fn are_players(bytes: &[u8]) -> bool {
-    let (one, other, leaver) = (from(bytes), number(bytes, 13, 1), number(bytes, 24, 1));
+/// Whether the body begins with a player who leaves.
+fn has_leaver(bytes: &[u8]) -> bool {
+    kind(bytes) >= 4 && kind(bytes) <= 6
+}
+
+fn is_watcher(seat: u64) -> bool {
+    seat == 5 || seat == 6
+}
+
+/// From and to are player one and a watcher where one watches; else players, and not one, and the leaver
+/// is one who can leave.
+fn are_seats(bytes: &[u8]) -> bool {
+    let (one, other, leaver) = (from(bytes), to(bytes), leaver(bytes));
+    match kind(bytes) {
+        7 => return one == 1 && is_watcher(other),
+        8 => return is_watcher(one) && other == 1,
+        _ => {}
+    }
     if one < 1 || one > 4 || other < 1 || other > 4 || one == other {
         return false;
     }
-    kind(bytes) < 4 || (leaver >= 2 && leaver <= 4)
+    !has_leaver(bytes) || (leaver >= 2 && leaver <= 4)
 }
 
-/// The start and the count of a run.
+/// The start and the count of a run, or of rows.
 pub(crate) fn run(bytes: &[u8]) -> (u64, u64) {
-    if kind(bytes) == 3 {
-        (number(bytes, 40, 4), number(bytes, 44, 2))
-    } else {
-        (number(bytes, 30, 4), number(bytes, 34, 2))
-    }
+    let (start, count) = match kind(bytes) {
+        3 => (40, 44),
+        7 => (24, 28),
+        _ => (30, 34),
+    };
+    (number(bytes, start, 4), number(bytes, count, 2))
 }
 
 /// The bytes of a run.
@@ -153,9 +175,12 @@ impl<'a> Inputs<'a> {
     }
 }
 
-/// Whether a run has not too many inputs, and so many bytes as it may have.
+/// Whether a run or rows are not too many, and have so many bytes as they may have.
 fn is_counted(bytes: &[u8], size: u64) -> bool {
     let (_, count) = run(bytes);
+    if kind(bytes) == 7 {
+        return count <= 16 && size == count.wrapping_mul(8);
+    }
     if count > 64 {
         return false;
     }
@@ -181,7 +206,7 @@ fn are_pairs(bytes: &[u8]) -> bool {
 }
 
 fn is_beyond(bytes: &[u8]) -> bool {
-    let most = 262148;
+    let (most, most_rows) = (262148, 262144);
     let (start, count) = run(bytes);
     let end = start.wrapping_add(count);
     let held = number(bytes, 26, 4);
@@ -190,17 +215,25 @@ fn is_beyond(bytes: &[u8]) -> bool {
         3 => number(bytes, 24, 4) > most || number(bytes, 28, 4) > most || end > most,
         4 => held > most,
         5 | 6 => held > most || end > held,
+        7 => end > most_rows,
+        8 => number(bytes, 24, 4) > most_rows,
         _ => false,
     }
 }
 
-/// The tables of what the links do not admit.
+/// The tables of what the links do not admit. Of a SEEN neither who says it nor the epochs are judged.
 fn hand(scene: &Scene, bytes: &[u8]) -> Option<HandError> {
     if number(bytes, 4, 8) != scene.table.session {
         return Some(HandError::Session);
     }
+    if to(bytes) != scene.me {
+        return Some(HandError::NotMine);
+    }
+    if kind(bytes) == 8 {
+        return None;
+    }
     let q = from(bytes);
-    if number(bytes, 13, 1) != scene.me || q == scene.me || q > scene.table.players {
+    if q == scene.me || q > scene.table.players {
         return Some(HandError::NotMine);
     }
     let (b, a) = (number(bytes, 16, 4), number(bytes, 20, 4));
@@ -221,8 +254,9 @@ fn hand(scene: &Scene, bytes: &[u8]) -> Option<HandError> {
     }
 }
 
-fn bad_ack(scene: &Scene, bytes: &[u8]) -> Option<Refused> {
-    if number(bytes, 24, 4) > scene.count(scene.me) {
+/// It acknowledges more than there is.
+fn bad_ack(bytes: &[u8], most: u64) -> Option<Refused> {
+    if number(bytes, 24, 4) > most {
         return Some(Refused::BadAck);
     }
     None
@@ -233,7 +267,7 @@ fn of_data(scene: &Scene, bytes: &[u8]) -> Option<Refused> {
     if scene.has(Made::Freeze(q)) || scene.has(Made::Leave(q)) {
         return Some(Refused::Known(KnownError::FromLeaver));
     }
-    if let Some(error) = bad_ack(scene, bytes) {
+    if let Some(error) = bad_ack(bytes, scene.count(scene.me)) {
         return Some(error);
     }
     if let Some(error) = misfit(scene, bytes, q) {

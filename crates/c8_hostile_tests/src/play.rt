@@ -2,9 +2,9 @@
 use crate::bytes::{Letter, holding, image_of, slot_with, spelled, spelled_in};
 use crate::judge::judge;
 use crate::scene::{Body, EPOCH, ROOM, Said, Scene};
-use crate::scenes::SCENES;
-use crate::taken::left_by;
-use crate::told::{Known, Machines, Tells, Told, known_by, machines_of, telling, told_by};
+use crate::scenes::scenes;
+use crate::taken::{left_by, shows_after};
+use crate::told::{Known, Machines, Tells, Told, known_by, machines_of, shows, telling, told_by};
 use c8_disk::MemDisk;
 use c8_game::{Game, Player};
 use c8_peer::{Heard, Peer, Refused};
@@ -45,7 +45,7 @@ impl<'a> Stage<'a> {
         Peer::open(self.alloc, disk, self.game, me, ROOM).ok()
     }
 
-    /// The same with the links of the scene.
+    /// The same with the links of the scene, and what the watchers told.
     fn ready(self) -> Option<Peer<'a, MemDisk>> {
         let mut peer = self.opened(self.image)?;
         for player in 1..5 {
@@ -55,6 +55,9 @@ impl<'a> Stage<'a> {
                 let welcome = (player, epoch, Body::Welcome(2));
                 let _welcome = hears(&mut peer, self.scene, welcome);
             }
+        }
+        for (watcher, rows) in (5..7).zip(&self.scene.seen) {
+            let _seen = hears(&mut peer, self.scene, (watcher, 0, Body::Seen(*rows)));
         }
         Some(peer)
     }
@@ -91,7 +94,14 @@ impl<'a> Stage<'a> {
                 return false;
             }
         }
-        u64::from(tells.known.confirmed) == self.scene.confirmed && u64::from(tells.epoch) == EPOCH
+        for (player, link) in (1..5).zip(&tells.links) {
+            if link.1 != self.scene.link(player).1 {
+                return false;
+            }
+        }
+        u64::from(tells.known.confirmed) == self.scene.confirmed
+            && u64::from(tells.epoch) == EPOCH
+            && tells.shows == shows_after(self.scene, EPOCH, self.scene.seen)
     }
 
     /// Whether a datagram that is well formed and taken leaves what the documents say: what the peer
@@ -128,10 +138,14 @@ impl<'a> Stage<'a> {
             && bytes.last() == Some(&0)
     }
 
-    /// Whether an opening of these bytes finds this.
+    /// Whether an opening of these bytes finds this, and shows the watchers all from the first row on.
     fn is_found(self, image: &[u8], known: &Known, machines: &Machines) -> bool {
         match self.opened(image) {
-            Some(peer) => known_by(&peer) == *known && machines_of(&peer) == *machines,
+            Some(peer) => {
+                known_by(&peer) == *known
+                    && machines_of(&peer) == *machines
+                    && shows(&peer) == shows_after(self.scene, EPOCH + 1, [0, 0])
+            }
             None => false,
         }
     }
@@ -261,7 +275,7 @@ fn played(alloc: Global, scene: &Scene) -> Result<(bool, Option<usize>), Fail> {
 
 #[test]
 fn a_changed_datagram_is_survived(rt: HostRuntime) -> Result<(), Fail> {
-    for (n, scene) in SCENES.iter().enumerate() {
+    for (n, scene) in scenes().iter().enumerate() {
         for wire in 1..3 {
             let (goes, fault) = played(rt.alloc(), &scene.in_version(wire))?;
             assert!(rt; goes, "scene {n} in version {wire}");

@@ -92,6 +92,10 @@ pub(crate) enum Body {
     Frozen(u64, u64, u64, u64),
     /// The leaver, and the length.
     Cut(u64, u64, u64, u64),
+    /// The watcher; rows by their start and count.
+    Show(u64, u64, u64),
+    /// How many rows a watcher has.
+    Seen(u64),
 }
 
 /// A datagram to the peer of a scene: from whom, in which epoch, and what it says.
@@ -108,6 +112,8 @@ pub(crate) struct Scene {
     /// How many frames are confirmed by it.
     pub(crate) confirmed: u64,
     pub(crate) links: [Link; 4],
+    /// How many rows watchers 5 and 6 have told player one of.
+    pub(crate) seen: [u64; 2],
     /// The datagram, and what it is answered as it is.
     pub(crate) said: Said,
     pub(crate) answer: Result<Heard, Refused>,

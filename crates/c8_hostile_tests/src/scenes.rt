@@ -1,8 +1,9 @@
 //! The scenes: each kind of datagram, to a peer that is to take it, and some that it refuses.
-use crate::scene::{Body, FOUR, Link, MARKS, Made, Said, Scene, THREE};
+use crate::scene::{Body, EPOCH, FOUR, Link, MARKS, Made, Said, Scene, THREE};
 use c8_hand::HandError;
 use c8_known::KnownError;
 use c8_peer::{DecideError, Heard, Refused};
+use c8_wire::WireError;
 
 /// Players 1 and 3 have a link to player 2, who has heard player 4 and has none to it. Player 3 is in
 /// the same epoch as player 1.
@@ -95,6 +96,7 @@ const TWO: Scene = Scene {
     journal: &HELD,
     confirmed: 3,
     links: TO_TWO,
+    seen: [0, 0],
     said: HELLO,
     answer: NOTHING,
     then: HELLO,
@@ -102,13 +104,14 @@ const TWO: Scene = Scene {
     decided: Err(DecideError::NotLeaving),
 };
 
-/// At player 1, likewise.
+/// At player 1, likewise; watcher 5 has told of two of the three rows that are confirmed, watcher 6 of one.
 const ONE: Scene = Scene {
     table: &FOUR,
     me: 1,
     journal: &LET_GO,
     confirmed: 3,
     links: TO_ONE,
+    seen: [2, 1],
     said: (2, 5, Body::Hello),
     answer: NOTHING,
     then: (2, 5, Body::Hello),
@@ -129,7 +132,7 @@ const TWO_OF_THREE: Scene = Scene {
     ..TWO
 };
 
-pub(crate) const SCENES: [Scene; 23] = [
+static SCENES: [Scene; 28] = [
     TWO,
     Scene {
         said: (1, 6, Body::Hello),
@@ -282,4 +285,40 @@ pub(crate) const SCENES: [Scene; 23] = [
         decided: Ok(65),
         ..ONE
     },
+    Scene {
+        said: (5, 0, Body::Seen(3)),
+        then: (6, 0, Body::Seen(0)),
+        ..ONE
+    },
+    // The most rows that a SEEN may tell of, and then one more than are confirmed.
+    Scene {
+        said: (6, 0, Body::Seen(262144)),
+        answer: Err(Refused::BadAck),
+        then: (5, 0, Body::Seen(4)),
+        then_answer: Err(Refused::BadAck),
+        ..ONE
+    },
+    Scene {
+        said: (5, 0, Body::Seen(3)),
+        answer: Err(Refused::Hand(HandError::NotMine)),
+        ..TWO
+    },
+    // The last rows that a SHOW may have, and then a row too many.
+    Scene {
+        said: (1, 5, Body::Show(5, 262142, 2)),
+        answer: Err(Refused::Hand(HandError::NotMine)),
+        then: (1, 5, Body::Show(5, 0, 17)),
+        then_answer: Err(Refused::Wire(WireError::Count)),
+        ..TWO
+    },
+    Scene {
+        said: (1, EPOCH, Body::Show(6, 0, 2)),
+        answer: Err(Refused::Hand(HandError::NotMine)),
+        ..ONE
+    },
 ];
+
+/// All of them, lent: what walks them is proved of any scenes.
+pub(crate) fn scenes() -> &'static [Scene] {
+    &SCENES
+}

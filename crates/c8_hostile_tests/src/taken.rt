@@ -1,10 +1,10 @@
 //! What a datagram that is taken leaves at the peer of a scene, by the tables of docs/FORMATS.md and
 //! docs/PROTOCOL.md alone, over the bytes as they are.
-use crate::bytes::{Letter, slot_with};
+use crate::bytes::{Letter, slot_with, spelled};
 use crate::judge::{from, inputs_of_run, kind, leaver, number, run};
-use crate::scene::Scene;
-use crate::told::Tells;
-use c8_peer::Heard;
+use crate::scene::{Body, EPOCH, Scene};
+use crate::told::{Saying, Tells};
+use c8_peer::{Heard, Unsayable};
 
 /// The answer, the slot that is recorded, and what the peer tells then; but for `last_run`, which is
 /// as it was.
@@ -27,7 +27,8 @@ pub(crate) fn left_by(scene: &Scene, before: &Tells, bytes: &[u8]) -> Taken {
         3 => left.data(scene, bytes),
         4 => left.freeze(bytes),
         5 => left.frozen(scene, bytes),
-        _ => left.cut(scene, bytes),
+        6 => left.cut(scene, bytes),
+        _ => left.seen(scene, bytes),
     }
     left.tells.known.confirmed = confirmed(scene, &left.tells);
     left
@@ -42,6 +43,28 @@ fn confirmed(scene: &Scene, tells: &Tells) -> u32 {
         }
     }
     least
+}
+
+/// What is said in an epoch to watchers who have told of so many rows: by player one, the confirmed ones
+/// after them.
+pub(crate) fn shows_after(scene: &Scene, epoch: u64, seen: [u64; 2]) -> [Saying; 2] {
+    [
+        show_after(scene, epoch, 5, seen[0]),
+        show_after(scene, epoch, 6, seen[1]),
+    ]
+}
+
+fn show_after(scene: &Scene, epoch: u64, watcher: u64, rows: u64) -> Saying {
+    let mut show = (Err(Unsayable::NotMine), [0; 174]);
+    if scene.me == 1 {
+        let count = scene.confirmed.saturating_sub(rows).min(16);
+        let letter = spelled(scene, (1, epoch, Body::Show(watcher, rows, count)));
+        for (byte, wanted) in show.1.iter_mut().zip(letter.bytes()) {
+            *byte = *wanted;
+        }
+        show.0 = Ok(letter.len());
+    }
+    show
 }
 
 /// A player's place in a row.
@@ -146,6 +169,14 @@ impl Taken {
             } else {
                 self.got(scene, bytes, leaver);
             }
+        }
+    }
+
+    /// What is shown to a watcher begins where it told last, be that less than before.
+    fn seen(&mut self, scene: &Scene, bytes: &[u8]) {
+        let (watcher, rows) = (from(bytes), number(bytes, 24, 4));
+        if let Some(show) = self.tells.shows.get_mut(place(watcher).saturating_sub(4)) {
+            *show = show_after(scene, EPOCH, watcher, rows);
         }
     }
 

@@ -3,6 +3,7 @@ use c8_disk::MemDisk;
 use c8_game::Player;
 use c8_machine::Machine;
 use c8_peer::{DecideError, Kind, Peer, Unsayable};
+use c8_wire::Watcher;
 
 const THREE: Player = Player { number: 3 };
 
@@ -28,6 +29,9 @@ pub(crate) struct Machines {
 /// What is kept of a player: how many inputs it acknowledged, whether the link to it is open.
 type OfLink = (u32, bool);
 
+/// What is said to a player or a watcher, or why it is not.
+pub(crate) type Saying = (Result<usize, Unsayable>, [u8; 174]);
+
 /// What a peer tells of itself.
 #[derive(Clone, Copy, PartialEq, Eq)]
 pub(crate) struct Tells {
@@ -37,10 +41,9 @@ pub(crate) struct Tells {
     pub(crate) is_down: bool,
     pub(crate) alarm: bool,
     pub(crate) links: [OfLink; 4],
+    /// What is said to each watcher: how many rows it has told of shows in that alone.
+    pub(crate) shows: [Saying; 2],
 }
-
-/// What is said to a player, or why it is not.
-type Saying = (Result<usize, Unsayable>, [u8; 174]);
 
 #[derive(Clone, Copy, PartialEq, Eq)]
 pub(crate) struct Told {
@@ -82,6 +85,19 @@ fn sayings(peer: &Peer<'_, MemDisk>) -> [Saying; 48] {
         saying.0 = peer.say(player(number / 12), kind(number % 12), &mut saying.1);
     }
     sayings
+}
+
+fn show(peer: &Peer<'_, MemDisk>, watcher: Watcher) -> Saying {
+    let mut show = (Ok(0), [0; 174]);
+    show.0 = peer.say_show(watcher, &mut show.1);
+    show
+}
+
+pub(crate) fn shows(peer: &Peer<'_, MemDisk>) -> [Saying; 2] {
+    [
+        show(peer, Watcher { number: 5 }),
+        show(peer, Watcher { number: 6 }),
+    ]
 }
 
 fn of_player(peer: &Peer<'_, MemDisk>, number: usize) -> OfPlayer {
@@ -134,6 +150,7 @@ pub(crate) fn telling(peer: &Peer<'_, MemDisk>) -> Tells {
             of_link(peer, 2),
             of_link(peer, 3),
         ],
+        shows: shows(peer),
     }
 }
 

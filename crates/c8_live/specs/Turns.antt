@@ -4,7 +4,7 @@ use Rattle.std.specs.List.{All}
 use Rattle.c8_disk.specs.declared.disk.Disk.{Ghosts as DiskGhosts}
 use Rattle.c8_wire.specs.Packet.{Packet}
 use Rattle.c8_wire.specs.Spelling.{Spells}
-use Rattle.c8_peer.specs.State.{Call, Reply, Tick, Deliver, Say, Leave, Decide, Checkpoint, Said}
+use Rattle.c8_peer.specs.State.{Call, Reply, Tick, Deliver, Say, Show, Leave, Decide, Checkpoint, Said}
 use Rattle.c8_peer.specs.Steps.{Luck}
 use Rattle.c8_peer.specs.Peer.{PeerValue}
 use Rattle.c8_live.specs.declared.wire.Wire.{Ghosts as WireGhosts}
@@ -27,6 +27,7 @@ doing (Leave leaver) = LetsGo
 doing (Decide leaver) = Cuts
 doing Checkpoint = Saves
 doing (Say to what) = Speaks
+doing (Show watcher) = Speaks
 
 -- a run of calls that all do the same
 pub record HasDone {D : Type 0} (disk : DiskGhosts D) (what : Doing) (old new : PeerValue D) : Type 0 where

@@ -8,9 +8,8 @@ use crate::error::WireFailed;
 use crate::gate::{Gate, Worker};
 use crate::laws::handings_on_join;
 use crate::wire::{LONGEST_PACKET, Wire};
-use c8_game::Player;
 use c8_inlet::{Packet, Putter, Taker};
-use c8_wire::{LONGEST_DATAGRAM, view};
+use c8_wire::{LONGEST_DATAGRAM, Seat, view};
 use std::sync::Wait;
 
 /// How many packets an inlet between the two workers has places for.
@@ -100,7 +99,7 @@ fn send_out<W: Wire>(wire: &mut W, outbox: &mut Taker) -> Result<(), WireFailed>
     Ok(())
 }
 
-/// Sends a datagram to the player whom it names. What is none is lost.
+/// Sends a datagram to the player or watcher whom it names. What is none is lost.
 fn send<W: Wire>(wire: &mut W, bytes: &[u8]) -> Result<(), WireFailed>
     ensures sent { MayTake (W.sent wire.old) bytes.now (W.sent wire.new) }
     ensures received { W.received wire.new ≡ W.received wire.old }
@@ -112,9 +111,9 @@ fn send<W: Wire>(wire: &mut W, bytes: &[u8]) -> Result<(), WireFailed>
 }
 
 /// Whom a datagram is for.
-fn addressee(bytes: &[u8]) -> Option<Player> {
+fn addressee(bytes: &[u8]) -> Option<Seat> {
     match view(bytes) {
-        Ok(datagram) => datagram.header().to().player(),
+        Ok(datagram) => Some(datagram.header().to()),
         Err(_) => None,
     }
 }

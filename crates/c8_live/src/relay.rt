@@ -3,9 +3,8 @@ ghost use Rattle.std.specs.Prelude.{◌≡◌};
 
 use crate::error::WireFailed;
 use crate::wire::{LONGEST_PACKET, Wire};
-use c8_game::Player;
 use c8_inlet::{Packet, Putter, Taker};
-use c8_wire::LONGEST_DATAGRAM;
+use c8_wire::{LONGEST_DATAGRAM, Seat};
 
 /// A wire of two inlets: what is sent is put into the one, and what has come is taken out of the
 /// other. Where no place is free a datagram is lost, and counted. It never fails.
@@ -42,7 +41,7 @@ impl Wire for Relay {
 
     ghost received = { λ relay. relay.inbox.taken };
 
-    fn send(&mut self, _to: Player, datagram: &[u8]) -> Result<(), WireFailed> {
+    fn send(&mut self, _to: Seat, datagram: &[u8]) -> Result<(), WireFailed> {
         if let Ok(packet) = Packet::try_from(datagram)
             && self.outbox.put(packet).is_err()
         {

@@ -5,6 +5,7 @@ ghost use Rattle.c8_live.specs.Runs.{HasRunOn, IsEnd};
 ghost use Rattle.c8_live.specs.Turns.{Ticks, LetsGo, Cuts, Saves, HasDone, HasDoneOnce, HasHeardOf, HasHeard, HasSpoken, most_packets, IsTurn};
 
 mod calls;
+mod showing;
 
 use crate::error::{SessionError, WireFailed};
 use crate::laws::{
@@ -16,7 +17,8 @@ use crate::wire::{LONGEST_PACKET, Wire};
 use c8_disk::Disk;
 use c8_game::{Game, Keys, MOST_PLAYERS, Player};
 use c8_peer::{Check, CheckError, DecideError, Heard, Kind, LeaveError, Peer, Refused, TickError};
-use c8_wire::{Header, LONGEST_DATAGRAM, view};
+use c8_wire::{Header, LONGEST_DATAGRAM, Seat, view};
+use showing::Watchers;
 use std::fmt;
 
 /// The most packets that are taken from the wire in one turn.
@@ -42,6 +44,8 @@ pub struct Session<'g, D: Disk> {
     interval: u32,
     is_saving: bool,
     silence: Silence,
+    /// To whom player one shows what is confirmed.
+    watchers: Watchers,
     /// The rollbacks of the turn made last.
     rollbacks: Rollbacks,
     /// The turns since all was confirmed and acknowledged, that one included.
@@ -79,6 +83,7 @@ impl<'g, D: Disk> Session<'g, D> {
             interval,
             is_saving: false,
             silence: Silence::new(),
+            watchers: Watchers::default(),
             rollbacks: Rollbacks::default(),
             rested: 0,
         }
@@ -277,7 +282,7 @@ impl<'g, D: Disk> Session<'g, D> {
         self.interval > 0 && since >= self.interval
     }
 
-    /// Says to each other player what there is to say.
+    /// Says to each other player what there is to say, and shows the watchers what they lack.
     fn speak<W: Wire>(&self, wire: &mut W, greeters: [bool; MOST_PLAYERS]) -> Result<(), WireFailed>
         ensures spoke { HasSpoken D.Disk W.Wire self.now.peer wire.old wire.new }
     {
@@ -289,7 +294,7 @@ impl<'g, D: Disk> Session<'g, D> {
                 self.speak_of_leavers(wire, to)?;
             }
         }
-        Ok(())
+        self.show(wire)
     }
 
     /// HELLO where the link is not open, WELCOME where the player has greeted, and DATA where neither
@@ -372,7 +377,7 @@ impl<'g, D: Disk> Session<'g, D> {
         sayings_join::<D, W>();
         let mut datagram = [0; LONGEST_DATAGRAM];
         match self.peer.say(to, kind, &mut datagram) {
-            Ok(size) => wire.send(to, &datagram[..size]),
+            Ok(size) => wire.send(Seat::from(to), &datagram[..size]),
             Err(_) => Ok(()),
         }
     }

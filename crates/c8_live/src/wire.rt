@@ -4,14 +4,13 @@ ghost use Rattle.std.specs.Prelude.{◌≡◌, ◌≤◌, ℕ, List, length, IfO
 ghost use Rattle.c8_live.specs.Wire.{MayTake, Gives};
 
 use crate::error::WireFailed;
-use c8_game::Player;
-use c8_wire::LONGEST_DATAGRAM;
+use c8_wire::{LONGEST_DATAGRAM, Seat};
 
 /// The most bytes of a packet that are read: one more than the longest datagram has, so that a
 /// longer packet is refused as such.
 pub const LONGEST_PACKET: usize = LONGEST_DATAGRAM + 1;
 
-/// The way to the other players. A datagram may be lost on it, come twice or late, and no call
+/// The way to the other players and to the watchers. A datagram may be lost on it, come twice or late, and no call
 /// waits for anything.
 pub trait Wire {
     /// The datagrams that it took to send, and did not lose at once, the oldest first.
@@ -20,8 +19,8 @@ pub trait Wire {
     /// The packets that it gave, the oldest first.
     ghost received: { Self → List (List ℕ) };
 
-    /// Sends a datagram to a player. `Ok` says nothing of whether it comes.
-    fn send(&mut self, to: Player, datagram: &[u8]) -> Result<(), WireFailed>
+    /// Sends a datagram to a player or a watcher. `Ok` says nothing of whether it comes.
+    fn send(&mut self, to: Seat, datagram: &[u8]) -> Result<(), WireFailed>
         requires { length datagram.now ≤ LONGEST_DATAGRAM }
         ensures sent { MayTake (sent self.old) datagram.now (sent self.new) }
         ensures received { received self.new ≡ received self.old };

@@ -4,6 +4,7 @@ ghost use Rattle.std.specs.Prelude.{[]};
 use crate::letter::{Letter, letter_of};
 use c8_game::Player;
 use c8_live::{LONGEST_PACKET, Traffic, Wire, WireFailed};
+use c8_wire::Seat;
 use std::alloc::Global;
 
 /// What has been said to each player and has not come yet, player 1's first. Of the packets from
@@ -74,9 +75,12 @@ impl Wire for Door<'_> {
 
     ghost received = { λ door. door.traffic.received.items };
 
-    fn send(&mut self, to: Player, datagram: &[u8]) -> Result<(), WireFailed> {
+    fn send(&mut self, to: Seat, datagram: &[u8]) -> Result<(), WireFailed> {
         self.traffic.took(datagram);
-        self.mail.post(self.me, to, datagram)
+        match to.player() {
+            Some(to) => self.mail.post(self.me, to, datagram),
+            None => Ok(()),
+        }
     }
 
     fn receive(&mut self, packet: &mut [u8; LONGEST_PACKET]) -> Result<Option<usize>, WireFailed> {
@@ -102,7 +106,7 @@ impl Wire for Lossy {
 
     ghost received = { λ _. [] };
 
-    fn send(&mut self, _: Player, _: &[u8]) -> Result<(), WireFailed> {
+    fn send(&mut self, _: Seat, _: &[u8]) -> Result<(), WireFailed> {
         if self.fails_to_send {
             Err(WireFailed)
         } else {

@@ -47,6 +47,26 @@ pub(crate) fn greetings() -> &'static [Turn] {
     &GREETINGS
 }
 
+/// Whose session shows the match to which seats, 0 for none, and all that each turn says.
+pub(crate) struct Watched {
+    pub(crate) player: u8,
+    pub(crate) seats: [u8; 2],
+    pub(crate) told: &'static str,
+}
+
+#[rattlefmt::skip]
+static SHOWN: [Watched; 5] = [
+    Watched { player: 1, seats: [0, 0], told: "2 HELLO, 3 HELLO" },
+    Watched { player: 1, seats: [5, 0], told: "2 HELLO, 3 HELLO, 5 SHOW" },
+    Watched { player: 1, seats: [6, 6], told: "2 HELLO, 3 HELLO, 6 SHOW" },
+    Watched { player: 1, seats: [6, 5], told: "2 HELLO, 3 HELLO, 5 SHOW, 6 SHOW" },
+    Watched { player: 2, seats: [5, 6], told: "1 HELLO, 3 HELLO" },
+];
+
+pub(crate) fn shown() -> &'static [Watched] {
+    &SHOWN
+}
+
 const ONE_LEAVES: &str = "2 DATA, 2 FREEZE 4, 3 DATA, 3 FREEZE 4, 4 DATA";
 
 const BOTH_ARE_CUT: &str =

@@ -9,7 +9,7 @@ use c8_game::{Game, Keys, Player};
 use c8_keys::key_sets;
 use c8_live::{LONGEST_PACKET, Session, Traffic, Wire, WireFailed};
 use c8_peer::{Kind, Peer, Refused};
-use c8_wire::{Datagram, LONGEST_DATAGRAM, view};
+use c8_wire::{Datagram, LONGEST_DATAGRAM, Seat, view};
 use std::alloc::{AllocError, Global};
 use std::test::Fail;
 
@@ -19,7 +19,7 @@ struct Recorder {
     waiting: Vec<Letter>,
     /// How many of them have been taken.
     taken: usize,
-    sent: Vec<(Player, Letter)>,
+    sent: Vec<(Seat, Letter)>,
     traffic: Traffic,
 }
 
@@ -28,7 +28,7 @@ impl Wire for Recorder {
 
     ghost received = { λ wire. wire.traffic.received.items };
 
-    fn send(&mut self, to: Player, datagram: &[u8]) -> Result<(), WireFailed> {
+    fn send(&mut self, to: Seat, datagram: &[u8]) -> Result<(), WireFailed> {
         match self.sent.push((to, letter_of(datagram))) {
             Ok(()) => {
                 self.traffic.took(datagram);
@@ -54,6 +54,7 @@ impl Wire for Recorder {
 fn leaver_of(datagram: &Datagram<'_>) -> Option<u8> {
     match datagram {
         Datagram::Hello(_) | Datagram::Welcome(_) | Datagram::Data(_) => None,
+        Datagram::Show(_) | Datagram::Seen(_) => None,
         Datagram::Freeze(freeze) => Some(freeze.leaver().number),
         Datagram::Frozen(frozen) => Some(frozen.leaver().number),
         Datagram::Cut(cut) => Some(cut.leaver().number),
@@ -61,7 +62,7 @@ fn leaver_of(datagram: &Datagram<'_>) -> Option<u8> {
 }
 
 /// A datagram that was sent: its addressee, its kind and its leaver, as `2 FREEZE 3`.
-fn name_of(alloc: Global, to: Player, letter: &Letter) -> Result<String, AllocError> {
+fn name_of(alloc: Global, to: Seat, letter: &Letter) -> Result<String, AllocError> {
     let to = to.number;
     let datagram = match view(letter.packet()) {
         Ok(datagram) if datagram.header().to().number == to => datagram,
@@ -310,8 +311,8 @@ fn said_by(peer: &mut Peer<'_, MemDisk>, to: Player, kind: Kind) -> Result<Lette
     Ok(letter_of(&bytes[..size]))
 }
 
-/// A player's peer hears a datagram.
-fn deliver_to(peers: &mut Vec<Peer<'_, MemDisk>>, to: Player, letter: &Letter) {
+/// The peer of a player hears a datagram that is for it.
+fn deliver_to(peers: &mut Vec<Peer<'_, MemDisk>>, to: Seat, letter: &Letter) {
     for peer in peers.iter_mut() {
         if peer.me().number == to.number {
             let _heard = peer.deliver(letter.packet());

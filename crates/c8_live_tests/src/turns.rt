@@ -3,11 +3,12 @@ use crate::letter::{Letter, letter_of};
 use crate::play::game_of;
 use crate::rows::{
     Comes, DATA, HELLO, Hello, NOTHING, OLD, Silence, Turn, WELCOME, counts, crowd, greetings,
-    hellos, leavers, silences, stayers,
+    hellos, leavers, shown, silences, stayers,
 };
 use crate::table::Table;
 use c8_game::{Game, Keys, Player};
 use c8_peer::Kind;
+use c8_wire::Watcher;
 use std::process::Abort;
 use std::test::Fail;
 
@@ -48,6 +49,25 @@ fn greets_answers_and_says_data(rt: HostRuntime) -> Result<(), Fail> {
     let game = game_of(rt.alloc(), 3)?;
     let mut table = Table::new(rt.alloc(), &game, 1, "", None)?;
     play(&rt, &mut table, greetings())
+}
+
+/// Player one shows the match to those who watch it, each once a turn; another player shows nothing.
+#[test]
+fn player_one_shows_the_match(rt: HostRuntime) -> Result<(), Fail> {
+    let game = game_of(rt.alloc(), 3)?;
+    for watched in shown() {
+        let mut table = Table::new(rt.alloc(), &game, watched.player, "", None)?;
+        for seat in watched.seats {
+            if let Some(watcher) = Watcher::new(seat) {
+                table.session.show_to(watcher);
+            }
+        }
+        for _ in 0..2 {
+            let told = table.turn()?;
+            assert!(rt; told.as_str() == watched.told, "{told}");
+        }
+    }
+    Ok(())
 }
 
 #[test]

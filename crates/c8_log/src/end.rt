@@ -1,5 +1,5 @@
 //! Where the kept slots of a disk end.
-ghost use Rattle.std.specs.Prelude.{◌≡◌, ◌<◌, ◌≤◌, ◌+◌, ◌*◌, ◌/◌, ◌^◌, length, take, drop, IfOk, IsErrOf};
+ghost use Rattle.std.specs.Prelude.{◌≡◌, ◌<◌, ◌≤◌, ◌+◌, ◌*◌, ◌/◌, ◌^◌, ◌-◌, min, length, take, drop, IfSome, IfOk, IsErrOf};
 ghost use Rattle.c8_disk.specs.Disk.{HasCause};
 ghost use Rattle.c8_disk.specs.Runs.{ReadsOnly};
 ghost use Rattle.c8_disk.specs.Asks.{Asks, Reads, answer_of};
@@ -60,9 +60,30 @@ fn end_in<D: Disk>(disk: &mut D, at: u32, block: &mut Block) -> Result<End, Disk
     ensures never_full { IsErrOf result DiskError.Full → ⊥ }
 {
     let size = (disk.len() - at).min(BLOCK) as usize;
+    if let Some(end) = end_held(disk, at as usize, size) {
+        // The read is made all the same, of no byte: the disk may refuse it.
+        disk.read_at(at, &mut [])?;
+        return Ok(end);
+    }
     let part = &mut block.bytes[..size];
     disk.read_at(at, part)?;
     Ok(end_of(part))
+}
+
+/// The same of a disk that lends its bytes, judged in place: `None` of one that doesn't. It makes no
+/// call that reads.
+fn end_held<D: Disk>(disk: &D, at: usize, size: usize) -> Option<End>
+    requires place { at ≤ length (D.seen disk.now) }
+    requires size { size ≡ min (length (D.seen disk.now) - at) (slot_length * block_slots) }
+    ensures count { IfSome result (λ end.
+        end.count ≡ kept_count (take (slot_length * block_slots) (drop at (D.seen disk.now)))) }
+    ensures closed { IfSome result (λ end.
+        end.closed ≡ has_closed_gate (take (slot_length * block_slots) (drop at (D.seen disk.now)))) }
+{
+    match disk.held() {
+        Some(bytes) => Some(end_of(&bytes[at..at + size])),
+        None => None,
+    }
 }
 
 /// The same of bytes that a block has room for.

@@ -11,6 +11,8 @@ pub enum Call {
     Write(u32, &'static str, Option<DiskError>),
     /// From this place on these bytes are read.
     Read(u32, &'static str, Option<DiskError>),
+    /// These bytes are lent in place, all that a read gives.
+    Held(&'static str),
     Sync(Option<DiskError>),
     Len(u32),
     Capacity(u32),
@@ -46,6 +48,14 @@ pub fn reads<D: Disk>(disk: &mut D, at: u32, bytes: &[u8], wanted: Option<DiskEr
     }
 }
 
+/// Whether the disk lends these bytes, and no other.
+fn lends<D: Disk>(disk: &D, bytes: &[u8]) -> bool {
+    match disk.held() {
+        Some(held) => held == bytes,
+        None => false,
+    }
+}
+
 pub fn syncs<D: Disk>(disk: &mut D, wanted: Option<DiskError>) -> bool {
     disk.sync().err() == wanted
 }
@@ -60,6 +70,7 @@ pub fn holds<D: Disk>(disk: &mut D, call: Call) -> bool {
     match call {
         Call::Write(at, text, wanted) => writes(disk, at, text.as_bytes(), wanted),
         Call::Read(at, text, wanted) => reads(disk, at, text.as_bytes(), wanted),
+        Call::Held(text) => lends(disk, text.as_bytes()),
         Call::Sync(wanted) => syncs(disk, wanted),
         Call::Len(length) => disk.len() == length,
         Call::Capacity(capacity) => disk.capacity() == capacity,

@@ -7,13 +7,15 @@ use std::alloc::Global;
 use std::test::Fail;
 
 /// A disk that has `abcde` on it for good, and `XY` written over `bc` and `Z` behind the end.
-const WRITTEN: [Call; 6] = [
+const WRITTEN: [Call; 8] = [
     Call::Write(0, "abcde", None),
     Call::Sync(None),
     Call::Len(5),
+    Call::Held("abcde"),
     Call::Write(1, "XY", None),
     Call::Len(5),
     Call::Write(5, "Z", None),
+    Call::Held("aXYdeZ"),
 ];
 
 /// What comes after that.
@@ -24,9 +26,10 @@ const FULL: [Call; 3] = [
 ];
 
 /// What comes after that, where the disk stops after one call more.
-const STOPS: [Call; 9] = [
+const STOPS: [Call; 10] = [
     Call::Sync(None),
     Call::Read(1, "XYd", Some(DiskError::Failed)),
+    Call::Held("aXYdeZ"),
     Call::Off,
     // Of the ten calls five are served so far.
     Call::Read(1, "XYd", None),

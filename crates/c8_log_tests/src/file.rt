@@ -35,7 +35,7 @@ enum Step {
 
 const FAILED: Option<DiskError> = Some(DiskError::Failed);
 
-const STEPS: [Step; 128] = [
+const STEPS: [Step; 131] = [
     Step::Case("an opening makes six calls", "abcde"),
     Step::Open(16, None),
     Step::Calls(6),
@@ -107,7 +107,9 @@ const STEPS: [Step; 128] = [
     Step::Case("a read asks nothing of the system", "abcde"),
     Step::Open(16, None),
     Step::Do(Call::Read(1, "bcd", None)),
+    Step::Do(Call::Held("abcde")),
     Step::Do(Call::Write(1, "XY", None)),
+    Step::Do(Call::Held("aXYde")),
     Step::Do(Call::Sync(None)),
     Step::Fail(0),
     Step::Do(Call::Read(1, "XYd", None)),
@@ -124,6 +126,7 @@ const STEPS: [Step; 128] = [
     Step::Calls(9),
     Step::Do(Call::Off),
     Step::IsDown(true),
+    Step::Do(Call::Held("aXYde")),
     Step::Do(Call::Read(1, "XYd", FAILED)),
     Step::IsDown(true),
     Step::Do(Call::Write(1, "XY", FAILED)),

@@ -1,5 +1,6 @@
 //! A log of bodies on a disk.
 mod journal;
+mod unheld;
 
 use crate::calls::prints;
 use c8_disk::{Arm, Disk, FileDisk, MemDisk};
@@ -43,7 +44,12 @@ fn crashed(disk: MemDisk, pick: u64) -> MemDisk {
 
 /// A disk that holds these bytes, all of them synced.
 fn holding(alloc: Global, bytes: &[u8]) -> Result<MemDisk, Fail> {
-    let mut disk = new_disk(alloc, CAPACITY)?;
+    holding_in(alloc, CAPACITY, bytes)
+}
+
+/// The same, with so much room.
+fn holding_in(alloc: Global, capacity: u32, bytes: &[u8]) -> Result<MemDisk, Fail> {
+    let mut disk = new_disk(alloc, capacity)?;
     if !is_filled(&mut disk, bytes) {
         return Err(Fail::from("a write is refused"));
     }

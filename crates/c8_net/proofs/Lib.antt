@@ -1,1 +1,3 @@
 pub mod PlayLemmas
+pub mod WatchingLemmas
+pub mod OutcomeLemmas

@@ -7,8 +7,8 @@ use Rattle.c8_digest.specs.Origin.{Origin, run_since}
 use Rattle.c8_record.specs.Body.{records_of}
 use Rattle.c8_disk.specs.declared.disk.Disk.{Ghosts}
 use Rattle.c8_known.specs.Confirmed.{confirmed, confirmed_rows}
-use Rattle.c8_peer.specs.declared.error.OpenError.{OpenError}
-use Rattle.c8_peer.specs.declared.error.OpenError.TheVariants as opens
+use Rattle.c8_refusals.specs.declared.error.OpenError.{OpenError}
+use Rattle.c8_refusals.specs.declared.error.OpenError.TheVariants as opens
 use Rattle.c8_peer.specs.Opened.{bodies_found, IsOpened, IsRefusedOpening}
 use Rattle.c8_peer.specs.Peer.{PeerValue, known_by, begun_by, IsSound}
 use Rattle.c8_peer.specs.Runs.{TellsTruly}

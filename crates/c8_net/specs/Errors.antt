@@ -5,8 +5,8 @@ use Rattle.c8_command.specs.declared.refusal.Part.TheVariants as parts
 use Rattle.c8_disk.specs.Errors as disks
 use Rattle.c8_game.specs.Errors as games
 use Rattle.c8_keys.specs.Errors.{keys_error_number}
-use Rattle.c8_peer.specs.declared.error.OpenError.{OpenError}
-use Rattle.c8_peer.specs.declared.error.OpenError.TheVariants as openings
+use Rattle.c8_refusals.specs.declared.error.OpenError.{OpenError}
+use Rattle.c8_refusals.specs.declared.error.OpenError.TheVariants as openings
 use Rattle.c8_live.specs.declared.error.SessionError.{SessionError}
 use Rattle.c8_live.specs.declared.error.SessionError.TheVariants as sessions
 use Rattle.c8_net.specs.declared.error.PeerError.{PeerError}

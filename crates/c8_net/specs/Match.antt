@@ -1,5 +1,5 @@
 -- What `peer` comes to: by the text of a game and what standard input has, and then on a journal.
-use Rattle.std.specs.Prelude.{◌≡◌, ◌≢◌, ◌⊎◌, ℕ, ◌+◌, List, Option, IfSome, Result, IfErr}
+use Rattle.std.specs.Prelude.{◌≡◌, ◌≢◌, ◌⊎◌, ℕ, ◌+◌, List, length, Option, IfSome, Result, IfErr}
 use Rattle.c8_game.specs.GameFaults.{IsRefused}
 use Rattle.c8_game.specs.GameText.{Spells}
 use Rattle.c8_game.specs.Rules.{Rules}
@@ -14,12 +14,15 @@ use Rattle.c8_record.specs.Body.{records_of}
 use Rattle.c8_digest.specs.Origin.{run_since}
 use Rattle.c8_peer.specs.Peer.{PeerValue, known_by, begun_by}
 use Rattle.c8_peer.specs.TrueChecks.{HasTrueChecks}
-use Rattle.c8_peer.specs.declared.error.OpenError.{OpenError}
-use Rattle.c8_peer.specs.declared.error.OpenError.TheVariants as opens
+use Rattle.c8_refusals.specs.declared.error.OpenError.{OpenError}
+use Rattle.c8_refusals.specs.declared.error.OpenError.TheVariants as opens
 use Rattle.c8_keys.specs.KeySets.{IsFaultOfSets}
 use Rattle.c8_keys.specs.declared.lines.Played.{Played}
 use Rattle.c8_live.specs.declared.error.SessionError.{SessionError}
 use Rattle.c8_live.specs.Runs.{HasRunOn, IsStopped, IsEnd}
+use Rattle.c8_spectator.specs.Watching.{WatchValue, first_watch}
+use Rattle.c8_live.specs.declared.wire.Wire.{Ghosts as WireGhosts}
+use Rattle.c8_watch.specs.Turns.{AreTurns}
 use Rattle.c8_net.specs.declared.error.PeerError.{PeerError}
 use Rattle.c8_net.specs.declared.error.PeerError.TheVariants.{Game, Keys, Open, Disk, Socket}
 use Rattle.c8_net.specs.declared.error.SocketError.TheVariants as sockets
@@ -86,3 +89,15 @@ module _ {D : Type 0} (g : Ghosts D) (disk : D) (rules : Rules) (room me : ℕ) 
   HasFailed (Socket sockets.Failed) = Unit {0}
   HasFailed (Socket sockets.Remotes) = ⊥
   HasFailed (Socket sockets.Address) = ⊥
+
+-- ---- of one who watches
+
+-- A match was watched from a seat: so many turns over this wire, from no rows on. These are the frames that were taken, and the machine
+-- is the serial run on their rows.
+pub record HasWatched {W : Type 0} (wire : WireGhosts W) (rules : Rules) (room seat : ℕ) (first : W) (played : Played) : Type 0 where
+  pub last : W
+  pub turns : ℕ
+  pub watch : WatchValue
+  pub watched : AreTurns wire turns (first_watch rules room seat) watch first last
+  pub frames : played.frames ≡ length watch.rows
+  pub machine : state played.machine ≡ serial rules watch.rows

@@ -1,17 +1,23 @@
-//! Where the players of a game are.
+//! Where the players of a game are, and those who watch it.
 
-ghost use Rattle.std.specs.Prelude.{◌≡◌, ◌≢◌, ◌+◌, ◌<◌, ◌≤◌, length, IfOk, IsErrOf, MatchResult};
+ghost use Rattle.std.specs.Prelude.{◌≡◌, ◌≢◌, ◌+◌, ◌<◌, ◌≤◌, length, IfOk, IfErr, IsErrOf, MatchResult};
 ghost use Rattle.std.specs.Net.Grammar.{IsSocketText};
 
 use crate::error::SocketError;
 use c8_game::{MOST_PLAYERS, Player};
+use c8_wire::Seat;
 use std::net::SocketAddr;
+
+/// How many may watch a match.
+pub const MOST_WATCHERS: usize = 2;
 
 /// The own address, and for each other player its address, player 1's first.
 #[derive(Clone, Copy)]
 pub struct Addresses {
     pub local: SocketAddr,
     pub others: [Option<SocketAddr>; MOST_PLAYERS],
+    /// Those of the watchers in seats 5 and 6, if anybody watches.
+    pub watchers: [Option<SocketAddr>; MOST_WATCHERS],
 }
 
 impl Addresses {
@@ -37,12 +43,59 @@ impl Addresses {
         for place in 0..remotes.len() {
             others[place_of(place, me)] = Some(address(remotes[place])?);
         }
-        Ok(Addresses { local, others })
+        let watchers = [None; MOST_WATCHERS];
+        Ok(Addresses {
+            local,
+            others,
+            watchers,
+        })
+    }
+
+    /// Reads the own address of one who watches, and player one's. `Address` if one cannot be read.
+    pub fn of_player_one(local: &str, remote: &str) -> Result<Addresses, SocketError>
+        ensures { IfErr result (λ error. error ≡ SocketError.Address) }
+    {
+        let local = address(local)?;
+        let one = address(remote)?;
+        Ok(Addresses {
+            local,
+            others: [Some(one), None, None, None],
+            watchers: [None; MOST_WATCHERS],
+        })
+    }
+
+    /// The same with those who watch, in seats 5 and 6. `Address` if one of theirs cannot be read.
+    pub fn watched_by(
+        self,
+        watchers: [Option<&str>; MOST_WATCHERS],
+    ) -> Result<Addresses, SocketError>
+        ensures { IfErr result (λ error. error ≡ SocketError.Address) }
+    {
+        let mut addresses = self;
+        for place in 0..MOST_WATCHERS {
+            if let Some(word) = watchers[place] {
+                addresses.watchers[place] = Some(address(word)?);
+            }
+        }
+        Ok(addresses)
+    }
+
+    /// Where one is whom a datagram may be for.
+    pub(crate) fn of(&self, seat: Seat) -> Option<SocketAddr> {
+        match (seat.player(), seat.watcher()) {
+            (Some(player), _) => self.others[player.place()],
+            (None, Some(watcher)) => self.watchers[usize::from(watcher.number - 5)],
+            (None, None) => None,
+        }
     }
 }
 
 /// The first of these words that is no address, if one is not.
-pub(crate) fn no_address<'a>(local: &'a str, remotes: &[&'a str]) -> Option<&'a str> {
+pub(crate) fn no_address<'a>(
+    local: &'a str,
+    remotes: &[&'a str],
+    watchers: [Option<&'a str>; MOST_WATCHERS],
+) -> Option<&'a str> {
     if address(local).is_err() {
         return Some(local);
     }
@@ -51,7 +104,9 @@ pub(crate) fn no_address<'a>(local: &'a str, remotes: &[&'a str]) -> Option<&'a 
             return Some(*word);
         }
     }
-    None
+    let [five, six] = watchers;
+    five.filter(|word| address(word).is_err())
+        .or(six.filter(|word| address(word).is_err()))
 }
 
 /// The place among all players, from 0, of the one at a place among the others.

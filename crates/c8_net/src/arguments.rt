@@ -1,5 +1,6 @@
 //! What the command `peer` takes, and what it is asked to play by that.
 
+use crate::addresses::MOST_WATCHERS;
 use crate::help::PEER_ENDING;
 use c8_front::{is_explained, with_explain, with_place, word_of};
 use c8_game::Player;
@@ -17,6 +18,8 @@ pub struct Asked<'m, 'a> {
     pub local: &'a str,
     /// The other players' addresses, in order of number, if there are any.
     pub remotes: Option<&'m [&'a str]>,
+    /// The addresses of those whom player one shows the match, in seats 5 and 6, if there are any.
+    pub watchers: [Option<&'a str>; MOST_WATCHERS],
     pub room: u64,
     /// The most turns that are made.
     pub turns: u64,
@@ -81,6 +84,8 @@ fn with_options<'a>(alloc: Global, command: Command<'a>) -> Result<Command<'a>, 
         "Makes a checkpoint after every N confirmed frames, 0 for never",
     );
     let command = command.arg(checkpoint.default_value("0"))?;
+    let command = with_watcher(alloc, command, "watch5")?;
+    let command = with_watcher(alloc, command, "watch6")?;
     let progress = Arg::new(alloc, "progress")
         .long("progress")
         .help("Says each second, on standard error, how far the game is, and then how it ended")
@@ -88,8 +93,20 @@ fn with_options<'a>(alloc: Global, command: Command<'a>) -> Result<Command<'a>, 
     with_explain(alloc, command.arg(progress)?)
 }
 
+/// The option that names a watcher's address.
+fn with_watcher<'a>(
+    alloc: Global,
+    command: Command<'a>,
+    name: &'a str,
+) -> Result<Command<'a>, AllocError> {
+    let watcher = Arg::new(alloc, name).long(name).value_name("ADDR").help(
+        "Shows the match to who watches it at this address (player 1 alone)",
+    );
+    command.arg(watcher)
+}
+
 /// An option with a number.
-fn number<'a>(alloc: Global, name: &'a str, help: &'a str) -> Arg<'a> {
+pub(crate) fn number<'a>(alloc: Global, name: &'a str, help: &'a str) -> Arg<'a> {
     Arg::new(alloc, name)
         .long(name)
         .value_name("N")
@@ -107,6 +124,7 @@ pub(crate) fn asked_of<'m, 'a>(given: &'m ArgMatches<'a>) -> Option<Asked<'m, 'a
         journal: word_of(given, "JOURNAL"),
         local: word_of(given, "LOCAL"),
         remotes: given.get_strs("REMOTE"),
+        watchers: [given.get_str("watch5"), given.get_str("watch6")],
         room: number_of(given, "room").unwrap_or(0),
         turns: number_of(given, "turns").unwrap_or(0),
         patience: number_of(given, "patience"),
@@ -122,6 +140,6 @@ fn interval_of(frames: u64) -> u32 {
     u32::try_from(frames).unwrap_or(u32::MAX)
 }
 
-fn number_of(given: &ArgMatches<'_>, name: &str) -> Option<u64> {
+pub(crate) fn number_of(given: &ArgMatches<'_>, name: &str) -> Option<u64> {
     given.get_one::<u64>(name)
 }

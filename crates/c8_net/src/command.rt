@@ -9,6 +9,7 @@ ghost use Rattle.c8_keys.specs.declared.lines.Played.{Played};
 ghost use Rattle.c8_net.specs.Errors.{peer_part};
 ghost use Rattle.c8_net.specs.declared.error.PeerError.{PeerError};
 
+use crate::addresses::no_address;
 use crate::arguments::{Asked, asked_of};
 use crate::error::PeerError;
 use crate::fault::{Fault, INPUT};
@@ -46,9 +47,22 @@ where
     E: Write + Send,
 {
     match asked_of(given) {
+        Some(asked) if !may_be_watched(&asked) => {
+            writeln!(
+                refused,
+                "error: --watch5 and --watch6 are for player 1 alone"
+            )?;
+            Ok(Status::CommandLine)
+        }
         Some(asked) => peer(rt, &asked, input, out, refused),
         None => Ok(Status::CommandLine),
     }
+}
+
+/// Whether those who watch are player one's, if there are any.
+fn may_be_watched(asked: &Asked<'_, '_>) -> bool {
+    let [five, six] = asked.watchers;
+    asked.player.is_chair() || five.is_none() && six.is_none()
 }
 
 /// Plays a game with others: the keys are those of the text in `input`, the confirmed machine's
@@ -74,24 +88,30 @@ where
             write_report(out, frames, &machine)?;
             Ok(Status::Done)
         }
-        Err(fault) => refuse(rt.alloc(), asked, &fault, refused),
+        Err(fault) => {
+            let remotes = asked.remotes.unwrap_or(&[]);
+            let word = no_address(asked.local, remotes, asked.watchers);
+            refuse(rt.alloc(), asked.explain, word, &fault, refused)
+        }
     }
 }
 
-/// Writes the line of a refusal, and where that is asked for the one that explains it.
-fn refuse<E: Write>(
+/// Writes the line of a refusal, and where that is asked for the one that explains it; `no_address` is the
+/// first word that is no address, if one is not.
+pub(crate) fn refuse<E: Write>(
     alloc: Global,
-    asked: &Asked<'_, '_>,
+    explain: bool,
+    no_address: Option<&str>,
     fault: &Fault<'_>,
     refused: &mut E,
 ) -> io::Result<Status>
     ensures { IfOk result (λ status. status ≡ status_of (peer_part fault.now.error)) }
 {
     let refusal = Refusal::from(fault.error);
-    if !asked.explain {
+    if !explain {
         return refusal.tell(refused);
     }
-    let site = Some(fault.site(alloc, asked));
+    let site = Some(fault.site(alloc, no_address));
     match fault.unread {
         Some(error) => refusal.tell_at(site, &error, refused),
         None => refusal.tell_at(site, &fault.error, refused),
@@ -116,7 +136,15 @@ where
         Err(error) => return Err(Fault::unread(rt.alloc(), error, asked.game)),
     };
     let remotes = asked.remotes.unwrap_or(&[]);
-    match prepare(rt.alloc(), &text, input, asked.player, asked.local, remotes) {
+    match prepare(
+        rt.alloc(),
+        &text,
+        input,
+        asked.player,
+        asked.local,
+        remotes,
+        asked.watchers,
+    ) {
         Ok(it) => played_at(rt, asked, it, progress).map_err(|error| Fault::new(
             rt.alloc(),
             error,

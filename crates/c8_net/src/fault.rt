@@ -1,7 +1,5 @@
 //! Why nothing was played, and where the fault is.
 
-use crate::addresses::no_address;
-use crate::arguments::Asked;
 use crate::error::{PeerError, SocketError};
 use c8_command::{Site, Text, TextError};
 use c8_disk::DiskError;
@@ -35,6 +33,16 @@ impl<'a> Fault<'a> {
         }
     }
 
+    /// A fault in what a file has.
+    pub(crate) fn of_text(error: PeerError, file: &'a str, text: Vec<u8>) -> Self {
+        Fault {
+            error,
+            file,
+            text,
+            unread: None,
+        }
+    }
+
     /// A game's file was not read.
     pub(crate) fn unread(alloc: Global, error: TextError, file: &'a str) -> Self {
         let why = match error {
@@ -49,14 +57,14 @@ impl<'a> Fault<'a> {
         }
     }
 
-    /// Where the fault is: its line, where it is in one.
-    pub(crate) fn site<'s>(&'s self, alloc: Global, asked: &Asked<'_, 's>) -> Site<'s> {
+    /// Where the fault is: its line, where it is in one; the word that is no address, where that is it.
+    pub(crate) fn site<'s>(&'s self, alloc: Global, no_address: Option<&'s str>) -> Site<'s> {
         let (file, bytes) = (self.file, self.text.as_slice());
         let text = Text { file, bytes };
         match self.error {
             PeerError::Game(error) => game_site(alloc, text, error),
             PeerError::Keys(KeysError::Line) => key_sets_site(text),
-            PeerError::Socket(SocketError::Address) => address_site(asked),
+            PeerError::Socket(SocketError::Address) => address_site(no_address),
             PeerError::Socket(_) | PeerError::Open(OpenError::Memory) => Site::Nowhere,
             PeerError::Keys(_) | PeerError::Open(_) | PeerError::Disk(_) => Site::File(file),
         }
@@ -64,8 +72,8 @@ impl<'a> Fault<'a> {
 }
 
 /// The address that cannot be read, in place of a file; one of no characters names nothing.
-fn address_site<'a>(asked: &Asked<'_, 'a>) -> Site<'a> {
-    match no_address(asked.local, asked.remotes.unwrap_or(&[])) {
+fn address_site<'a>(no_address: Option<&'a str>) -> Site<'a> {
+    match no_address {
         Some(word) if !word.is_empty() => Site::File(word),
         _ => Site::Nowhere,
     }

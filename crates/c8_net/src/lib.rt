@@ -1,8 +1,8 @@
-//! The command `peer`: a game that is played with others over UDP.
+//! The commands `peer` and `watch`: a game that is played with others over UDP, and one that is watched.
 //!
 //! `arguments` says what the command takes; `command` reads that and opens the files; `play` begins the
 //! match ([`prepare`], [`play_on`]), and `stage` has the threads that play it: the workers of c8_live, which
-//! go on as `pace` says, and a viewer. `udp` is the way to the others, who are where `addresses` says.
+//! go on as `pace` says, and a viewer. `udp` is the way to the others, who are where `addresses` says, as are those who watch.
 #![tactic(auto)]
 
 mod addresses;
@@ -15,10 +15,12 @@ mod pace;
 mod play;
 mod stage;
 mod udp;
+mod watching;
 
-pub use addresses::Addresses;
+pub use addresses::{Addresses, MOST_WATCHERS};
 pub use arguments::{Asked, peer_command};
 pub use command::{peer, peer_given};
 pub use error::{PeerError, SocketError};
 pub use play::{Prepared, Unprepared, play_on, prepare};
 pub use udp::Udp;
+pub use watching::{WatchAsked, watch, watch_command, watch_given, watch_on};

@@ -5,7 +5,7 @@ ghost use Rattle.c8_game.specs.GameText.{Spells};
 ghost use Rattle.c8_keys.specs.KeySets.{AreSetsOf};
 ghost use Rattle.c8_net.specs.Match.{IsNoKeys, IsNoMatch, HasPlayed, HasFailed};
 
-use crate::addresses::Addresses;
+use crate::addresses::{Addresses, MOST_WATCHERS};
 use crate::arguments::Asked;
 use crate::error::{PeerError, SocketError};
 use crate::stage::{Ended, Stage};
@@ -17,6 +17,7 @@ use c8_keys::{KeysError, Played, key_sets};
 use c8_live::laws::{machines_begin_where_they_did, true_checks_show_the_serial_run};
 use c8_live::{Session, tell_end};
 use c8_peer::{OpenError, Peer};
+use c8_wire::Watcher;
 use std::alloc::Global;
 use std::io::{Read, Write};
 use std::net::Net;
@@ -52,9 +53,9 @@ impl Unprepared {
     }
 }
 
-/// What a match takes: the game that a text spells, where the players are, and the key sets of all
-/// that a reader has. Faults are found in this order: the game, how many remotes there are, the
-/// addresses, the reader, its key sets.
+/// What a match takes: the game that a text spells, where the players and the watchers are, and the key
+/// sets of all that a reader has. Faults are found in this order: the game, how many remotes there are,
+/// the addresses, the reader, its key sets.
 pub fn prepare<I: Read + Drop>(
     alloc: Global,
     text: &[u8],
@@ -62,6 +63,7 @@ pub fn prepare<I: Read + Drop>(
     me: Player,
     local: &str,
     remotes: &[&str],
+    watchers: [Option<&str>; MOST_WATCHERS],
 ) -> Result<Prepared, Unprepared>
     ensures game { IfOk result (λ it. Spells text.now it.game) }
     ensures remotes { IfOk result (λ it. length remotes.now + 1 ≡ it.game.players) }
@@ -75,6 +77,10 @@ pub fn prepare<I: Read + Drop>(
         Err(error) => return Err(Unprepared::new(alloc, PeerError::Game(error))),
     };
     let addresses = match Addresses::read(game.players(), me, local, remotes) {
+        Ok(addresses) => addresses,
+        Err(error) => return Err(Unprepared::new(alloc, PeerError::Socket(error))),
+    };
+    let addresses = match addresses.watched_by(watchers) {
         Ok(addresses) => addresses,
         Err(error) => return Err(Unprepared::new(alloc, PeerError::Socket(error))),
     };
@@ -144,7 +150,7 @@ where
         Ok(wire) => wire,
         Err(error) => return Err(PeerError::Socket(error)),
     };
-    let session = Session::new(peer, &game, keys, asked.patience, asked.checkpoint);
+    let session = session_of(peer, &game, keys, asked);
     let (ended, moved) = stage.play(rt, asked, session, wire, progress);
     let Ended { session, turns } = ended;
     let made = match turns {
@@ -164,4 +170,24 @@ where
         frames,
         machine: *machine,
     })
+}
+
+/// The session of a peer, which shows the match to those who have addresses, in seats 5 and 6.
+fn session_of<'g, D: Disk>(
+    peer: Peer<'g, D>,
+    game: &Game,
+    keys: Vec<Keys>,
+    asked: &Asked<'_, '_>,
+) -> Session<'g, D>
+    ensures { result.peer ≡ peer.entry }
+{
+    let mut session = Session::new(peer, game, keys, asked.patience, asked.checkpoint);
+    let [five, six] = asked.watchers;
+    if five.is_some() {
+        session.show_to(Watcher { number: 5 });
+    }
+    if six.is_some() {
+        session.show_to(Watcher { number: 6 });
+    }
+    session
 }

@@ -55,10 +55,10 @@ struct Post<W> {
 
 /// A viewer, and the board that it is of.
 #[derive(Drop)]
-struct Watcher<'b> {
-    board: &'b Board,
-    viewer: Viewer,
-    ghost watches: { viewer.board ≡ board.now },
+pub(crate) struct Onlooker<'b> {
+    pub(crate) board: &'b Board,
+    pub(crate) viewer: Viewer,
+    pub(crate) ghost watches: { viewer.board ≡ board.now },
 }
 
 /// A session whose turns are over, and how many were made, or why there are no more.
@@ -134,13 +134,13 @@ impl Stage {
             inbox,
         };
         let told = Progress::new(now(rt), asked.player, session.peer().players());
-        let watcher = Watcher {
+        let onlooker = Onlooker {
             board: &shared.board,
             viewer,
         };
         let (moved, ended) = thread::join(
             rt,
-            || move_and_watch(rt, asked, post, watcher, told, progress, &shared),
+            || move_and_watch(rt, asked, post, onlooker, told, progress, &shared),
             || make_turns(session, relay, pen, asked.turns, &shared),
         );
         (ended, moved)
@@ -183,7 +183,7 @@ fn move_and_watch<R, W, E>(
     rt: &R,
     asked: &Asked<'_, '_>,
     post: Post<W>,
-    watcher: Watcher<'_>,
+    onlooker: Onlooker<'_>,
     told: Progress,
     progress: &mut E,
     shared: &Shared<'_, R>,
@@ -196,7 +196,7 @@ where
     let (moved, ()) = thread::join(
         rt,
         || move_packets(rt, post, shared),
-        || watch(rt, asked, watcher, told, progress, shared),
+        || watch(rt, asked, onlooker, told, progress, shared),
     );
     moved
 }
@@ -229,17 +229,17 @@ fn move_packets<R: Clock + Wait, W: Wire + Drop>(
 fn watch<R: Clock + Wait, E: Write>(
     rt: &R,
     asked: &Asked<'_, '_>,
-    watcher: Watcher<'_>,
+    onlooker: Onlooker<'_>,
     told: Progress,
     progress: &mut E,
     shared: &Shared<'_, R>,
 ) {
-    let (mut watcher, mut told) = (watcher, told);
+    let (mut onlooker, mut told) = (onlooker, told);
     for _ in rt.forever() {
         if shared.pace.is_game_over() {
             break;
         }
-        let confirmed = watcher.look(asked.stop);
+        let confirmed = onlooker.look(asked.stop);
         if asked.progress {
             let _ = told.tell(progress, now(rt), confirmed, &shared.counters.take());
         }
@@ -247,9 +247,9 @@ fn watch<R: Clock + Wait, E: Write>(
     }
 }
 
-impl<'b> Watcher<'b> {
+impl<'b> Onlooker<'b> {
     /// How many frames are confirmed, by one look. Asks for the end where these are enough.
-    fn look(&mut self, enough: Option<u64>) -> u32 {
+    pub(crate) fn look(&mut self, enough: Option<u64>) -> u32 {
         let confirmed = self.board.look(&mut self.viewer).count();
         if let Some(enough) = enough
             && u64::from(confirmed) >= enough

@@ -1,15 +1,15 @@
-//! The way to the other players over one UDP socket.
+//! The way to the other players and the watchers over one UDP socket.
 
 ghost use Rattle.std.specs.Prelude.{◌≡◌, IfErr};
 
 use crate::addresses::Addresses;
 use crate::error::SocketError;
-use c8_game::{MOST_PLAYERS, Player};
 use c8_live::{LONGEST_PACKET, Traffic, Wire, WireFailed};
+use c8_wire::Seat;
 use mio::net::UdpSocket;
 use std::io;
 use std::io::ErrorKind;
-use std::net::{Net, SocketAddr};
+use std::net::Net;
 
 /// What the system answers where it has no room for a datagram (ENOBUFS).
 const NO_ROOM: i32 = 105;
@@ -18,11 +18,11 @@ const NO_ROOM: i32 = 105;
 /// sends fewer datagrams, so that these answers never pile up before the packets.
 const MOST_UNHEARD: u8 = 16;
 
-/// A UDP socket, and where the other players are.
+/// A UDP socket, and where the other players and the watchers are.
 #[derive(Drop)]
 pub struct Udp {
     socket: UdpSocket,
-    others: [Option<SocketAddr>; MOST_PLAYERS],
+    addresses: Addresses,
     traffic: Traffic,
 }
 
@@ -32,17 +32,16 @@ impl Udp {
         ensures { IfErr result (λ error. error ≡ SocketError.Failed) }
     {
         match UdpSocket::bind(rt, addresses.local) {
-            Ok(socket) => Ok(Udp::over(socket, addresses.others)),
+            Ok(socket) => Ok(Udp::over(socket, addresses)),
             Err(_) => Err(SocketError::Failed),
         }
     }
 
-    /// The way over a socket that is open already, to where the other players are, player 1's place
-    /// first.
-    pub fn over(socket: UdpSocket, others: [Option<SocketAddr>; MOST_PLAYERS]) -> Udp {
+    /// The way over a socket that is open already, wherever that is.
+    pub fn over(socket: UdpSocket, addresses: &Addresses) -> Udp {
         Udp {
             socket,
-            others,
+            addresses: *addresses,
             traffic: Traffic::new(),
         }
     }
@@ -53,8 +52,8 @@ impl Wire for Udp {
 
     ghost received = { λ udp. udp.traffic.received.items };
 
-    fn send(&mut self, to: Player, datagram: &[u8]) -> Result<(), WireFailed> {
-        let Some(address) = self.others[to.place()] else {
+    fn send(&mut self, to: Seat, datagram: &[u8]) -> Result<(), WireFailed> {
+        let Some(address) = self.addresses.of(to) else {
             return Ok(());
         };
         match self.socket.send_to(datagram, address) {

@@ -5,7 +5,7 @@ use Rattle.std.proofs.lemmas.Bool.{cases_lt, cases_eq, both_ways, not-false, ltb
 use Rattle.std.proofs.lemmas.List.{get_or_past, length-drop, get_or-drop}
 use Rattle.c8_game.specs.Rules.{Rules, AreInRange}
 use Rattle.c8_wire.specs.declared.error.WireError.{WireError}
-use Rattle.c8_wire.specs.Packet.{HeadValue, DataMessage, FreezeMessage, LeaverMessage, Message, Packet, AreWords, IsDataMessage, IsFreezeMessage, IsLeaverMessage, IsMessage, Fits}
+use Rattle.c8_wire.specs.Packet.{HeadValue, DataMessage, FreezeMessage, LeaverMessage, Message, Packet, AreWords, IsDataMessage, IsFreezeMessage, IsLeaverMessage, IsMessage, Fits, IsPacket}
 use Rattle.c8_wire.specs.Packet as packets
 use Rattle.c8_wire.specs.Sizes.{longest_run}
 use Rattle.c8_wire.specs.checked.WordLaws.{length-spelled_words}
@@ -25,11 +25,11 @@ use Rattle.c8_record.specs.Allowed.{Past, past_of, MayFollow, IsAllowedAfter, Is
 use Rattle.c8_record.specs.checked.JournalLaws.{journal_known, of_game}
 use Rattle.c8_record.specs.checked.LeaverLaws.{journal_orderly}
 use Rattle.c8_peer.specs.Told.{Told, told_of}
-use Rattle.c8_peer.specs.State.{Memory, Outcome, recorded, Saying, Call, Tick, Deliver, Say, Decide, Checkpoint}
+use Rattle.c8_peer.specs.State.{Memory, Outcome, recorded, Saying, Call, Tick, Deliver, Say, Show, Decide, Checkpoint}
 use Rattle.c8_peer.specs.State as calls
 use Rattle.c8_peer.specs.Calls.{tick, leave, decide, checkpoint}
-use Rattle.c8_peer.specs.Saying.{say, is_not_mine, lacks_record, lacks_link}
-use Rattle.c8_peer.specs.Hearing.{got, is_desync, unless_misfit, is_of_other_wire, unless_hand, hear_data, hear_welcome, hear_freeze, hear_frozen, cut_or_got, hear_end, hear_cut, hear_message, hear_told, deliver}
+use Rattle.c8_peer.specs.Saying.{say, is_not_mine, lacks_record, lacks_link, show}
+use Rattle.c8_peer.specs.Hearing.{got, is_desync, unless_misfit, is_of_other_wire, unless_hand, hear_seen, hear_from_watcher, hear_from, seen_in, hear_data, hear_welcome, hear_freeze, hear_frozen, cut_or_got, hear_end, hear_cut, hear_message, hear_told, deliver}
 use Rattle.c8_peer.specs.Steps.{outcome}
 use Rattle.c8_peer.specs.Lawful.{IsMemory, IsCall}
 use Rattle.c8_peer.proofs.Tests.{failed, either_way}
@@ -432,10 +432,29 @@ message_allowed rules t room past m head (packets.Data d) r is stays from means 
 message_allowed rules t room past m head (packets.Freeze f) r is stays from means fits kept = freeze_allowed rules room past m head.from f r is (λ at. stays) from.other means kept
 message_allowed rules t room past m head (packets.Frozen f) r is stays from means fits kept = frozen_allowed rules room past m head.from f r is (λ at. stays) means fits kept
 message_allowed rules t room past m head (packets.Cut c) r is stays from means fits kept = cut_allowed rules room past m head.from c r is stays from.other means fits kept
+message_allowed rules t room past m head (packets.Show shown) r is stays from means fits kept = absurd cc
+message_allowed rules t room past m head (packets.Seen ack) r is stays from means fits kept = absurd cc
+
+-- a SEEN records nothing
+seen_allowed : (rules : Rules) (room : ℕ) (past : Past) (m : Memory) (head : HeadValue) (ack : ℕ) (r : Record) → (hear_from_watcher past.known m head ack).keeps ≡ Some r → IsAllowedAfter rules room past r
+unfolding hear_seen
+seen_allowed rules room past m head ack r kept =
+    let admitted = past_hand m (links.refusal_of_seen m.links head) (hear_seen past.known m head ack) r kept in
+    let few = failed (nat_lt (confirmed past.known) ack) m _ _ r admitted.1 in
+    let none = few.1 in
+    absurd cc
 
 -- who is heard is another player of the game
 FromOthers : KnownValue → Memory → Type 0
 FromOthers k m = (head : HeadValue) → links.refusal m.links head ≡ None → IsFromOther k head.from
+
+from_allowed : (rules : Rules) (t : Told) (room : ℕ) (past : Past) (m : Memory) (p : Packet) (heard : Option ℕ) (r : Record) → IsPast past → (player_in past.known past.known.me).leaving ≡ false
+    → FromOthers past.known m → IsPacket p → (hear_from rules t past.known m p heard).keeps ≡ Some r → IsAllowedAfter rules room past r
+unfolding FromOthers
+from_allowed rules t room past m p (Some ack) r is stays others call_is kept = seen_allowed rules room past m p.head ack r kept
+from_allowed rules t room past m p None r is stays others call_is kept =
+    let admitted = past_hand m (links.refusal m.links p.head) (hear_message rules t past.known m p.head p.message) r kept in
+    message_allowed rules t room past m p.head p.message r is stays (others p.head admitted.0) call_is.message call_is.fits admitted.1
 
 told_allowed : (rules : Rules) (t : Told) (room : ℕ) (past : Past) (m : Memory) (told : Result Packet WireError) (r : Record) → IsPast past → (player_in past.known past.known.me).leaving ≡ false
     → FromOthers past.known m → IsCall (Deliver told) → (hear_told rules t past.known m told).keeps ≡ Some r → IsAllowedAfter rules room past r
@@ -443,8 +462,7 @@ unfolding FromOthers
 told_allowed rules t room past m (Err error) r is stays others call_is kept = absurd cc
 told_allowed rules t room past m (Ok p) r is stays others call_is kept =
     let own = failed (is_of_other_wire rules p.head) m _ _ r kept in
-    let admitted = past_hand m (links.refusal m.links p.head) (hear_message rules t past.known m p.head p.message) r own.1 in
-    message_allowed rules t room past m p.head p.message r is stays (others p.head admitted.0) call_is.message call_is.fits admitted.1
+    from_allowed rules t room past m p (seen_in p.message) r is stays others call_is own.1
 
 deliver_allowed : (rules : Rules) (t : Told) (room : ℕ) (past : Past) (m : Memory) (told : Result Packet WireError) (r : Record) → IsPast past
     → FromOthers past.known m → IsCall (Deliver told) → (deliver rules t past.known m told).keeps ≡ Some r → IsAllowedAfter rules room past r
@@ -467,12 +485,20 @@ say_allowed rules t room past m to what r kept =
     let none = linked.1 in
     absurd cc
 
+show_allowed : (rules : Rules) (room : ℕ) (past : Past) (m : Memory) (watcher : ℕ) (r : Record) → (show past.known m watcher).keeps ≡ Some r → IsAllowedAfter rules room past r
+unfolding show
+show_allowed rules room past m watcher r kept =
+    let other = failed (past.known.me == 1) m _ _ r kept in
+    let none = other.1 in
+    absurd cc
+
 call_allowed : (rules : Rules) (t : Told) (room : ℕ) (past : Past) (m : Memory) (call : Call) (r : Record) → IsPast past → FromOthers past.known m
     → ((checkpoint t past.known m).keeps ≡ Some r → IsAllowedAfter rules room past r) → IsCall call
     → (outcome rules t past.known m call).keeps ≡ Some r → IsAllowedAfter rules room past r
 call_allowed rules t room past m (Tick keys) r is others checkpoints call_is kept = tick_allowed rules room past m keys r is call_is kept
 call_allowed rules t room past m (Deliver told) r is others checkpoints call_is kept = deliver_allowed rules t room past m told r is others call_is kept
 call_allowed rules t room past m (Say to what) r is others checkpoints call_is kept = say_allowed rules t room past m to what r kept
+call_allowed rules t room past m (Show watcher) r is others checkpoints call_is kept = show_allowed rules room past m watcher r kept
 call_allowed rules t room past m (calls.Leave leaver) r is others checkpoints call_is kept = leave_allowed rules room past m leaver r is kept
 call_allowed rules t room past m (Decide leaver) r is others checkpoints call_is kept = decide_allowed rules room past m leaver r is kept
 call_allowed rules t room past m Checkpoint r is others checkpoints call_is kept = checkpoints kept

@@ -33,8 +33,8 @@ use Rattle.c8_record.specs.checked.JournalLaws.{journal_more, journal_grows, kno
 use Rattle.c8_record.specs.checked.CheckLaws.{begun_confirmed}
 use Rattle.c8_peer.specs.Told.{Told, told_of}
 use Rattle.c8_peer.specs.declared.check.Check.TheVariants.{Piece, Done}
-use Rattle.c8_peer.specs.declared.error.CheckError.{CheckError}
-use Rattle.c8_peer.specs.declared.error.CheckError.TheVariants as refusals
+use Rattle.c8_refusals.specs.declared.error.CheckError.{CheckError}
+use Rattle.c8_refusals.specs.declared.error.CheckError.TheVariants as refusals
 use Rattle.c8_peer.specs.State.{Memory, Checkpoint, Checked, Outcome, answered, recorded}
 use Rattle.c8_peer.specs.Calls.{next_piece, checkpoint}
 use Rattle.c8_peer.specs.Steps.{outcome}

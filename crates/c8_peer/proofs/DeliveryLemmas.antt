@@ -1,12 +1,13 @@
 -- A delivery that the links admit.
-use Rattle.std.proofs.Common.{◌≡◌, ◌≤◌, ◌<◌, ◌+◌, ◌*◌, ◌++◌, [], ◌∷◌, length, Some, None, false, Ok, Err, refl, ap, subst, ◌∙◌, arith}
+use Rattle.std.proofs.Common.{◌≡◌, ℕ, ◌≤◌, ◌<◌, ◌+◌, ◌*◌, ◌++◌, [], ◌∷◌, length, Some, None, false, Ok, Err, refl, ap, subst, ◌∙◌, arith}
 use Rattle.std.specs.Prelude.{IsErrOf}
 use Rattle.c8_disk.specs.declared.disk.Disk.{Ghosts}
 use Rattle.c8_disk.specs.declared.error.DiskError.{DiskError}
 use Rattle.c8_disk.specs.declared.error.DiskError.TheVariants as errors
 use Rattle.c8_log.specs.Slots.{slot_length}
-use Rattle.c8_wire.specs.Packet.{Message, Hello, Welcome, Data, Freeze, Frozen, Cut, Packet, IsPacket}
-use Rattle.c8_hand.specs.Links.{refusal}
+use Rattle.c8_wire.specs.Packet.{Message, HeadValue, Hello, Welcome, Data, Freeze, Frozen, Cut, Show, Seen, Packet, IsPacket, kind_of}
+use Rattle.c8_hand.specs.Links.{LinksValue, refusal}
+use Rattle.c8_hand.specs.checked.LinkLaws.{admitted_players}
 use Rattle.c8_known.specs.Journal.{Record}
 use Rattle.c8_known.specs.Known.{KnownValue, player_in, count_in, known_of}
 use Rattle.c8_known.specs.Growth.{IsStillKnown}
@@ -14,7 +15,7 @@ use Rattle.c8_known.specs.checked.BeginsLaws.{begins_length}
 use Rattle.c8_record.specs.Allowed.{IsAllowed}
 use Rattle.c8_record.specs.checked.JournalLaws.{journal_more, journal_grows}
 use Rattle.c8_peer.specs.State.{Deliver, Outcome}
-use Rattle.c8_peer.specs.Hearing.{is_of_other_wire, hear_message}
+use Rattle.c8_peer.specs.Hearing.{is_of_other_wire, hear_message, seen_in, hear_from_watcher}
 use Rattle.c8_peer.specs.Steps.{outcome}
 use Rattle.c8_peer.specs.Lawful.{IsMemory}
 use Rattle.c8_peer.specs.Peer.{PeerValue, known_by, told_by, IsSound, HasAppendCause}
@@ -38,20 +39,38 @@ acks_more early late still (Data d) within =
 acks_more early late still (Freeze f) within = within
 acks_more early late still (Frozen f) within = within
 acks_more early late still (Cut c) within = within
+acks_more early late still (Show m) within = within
+acks_more early late still (Seen ack) within = within
+
+-- what the links admit is no SEEN
+no_seen : (l : LinksValue) (head : HeadValue) (message : Message) → head.kind ≡ kind_of message → refusal l head ≡ None → seen_in message ≡ None
+no_seen l head Hello kind none = refl
+no_seen l head (Welcome ack) kind none = refl
+no_seen l head (Data d) kind none = refl
+no_seen l head (Freeze f) kind none = refl
+no_seen l head (Frozen f) kind none = refl
+no_seen l head (Cut c) kind none = refl
+no_seen l head (Show m) kind none = refl
+no_seen l head (Seen ack) kind none = absurd ((admitted_players l head none).1 kind)
 
 pub heard_later : (verdict found : Verdict) → IsLater found → found ≡ verdict → IsLater verdict
 heard_later verdict found later same = subst IsLater same later
 
 module _ {D : Type 0} where
   -- what it comes to is what its message does
-  pub heard_is : (v : PeerValue D) (p : Packet) → (player_in (known_by v) v.me).leaving ≡ false → is_of_other_wire v.rules p.head ≡ false → refusal v.state.memory.links p.head ≡ None
+  pub heard_is : (v : PeerValue D) (p : Packet) → IsPacket p → (player_in (known_by v) v.me).leaving ≡ false → is_of_other_wire v.rules p.head ≡ false → refusal v.state.memory.links p.head ≡ None
       → outcome v.rules (told_by v) (known_by v) v.state.memory (Deliver (Ok p)) ≡ hear_message v.rules (told_by v) (known_by v) v.state.memory p.head p.message
-  heard_is v p stays wire admitted = rw (own_player v.rules v.me v.state.journal, stays, wire, admitted) refl
+  heard_is v p is stays wire admitted = rw (own_player v.rules v.me v.state.journal, stays, wire, no_seen v.state.memory.links p.head p.message is.kind admitted, admitted) refl
 
-  pub comes_to : (v : PeerValue D) (p : Packet) (verdict found : Verdict) → (player_in (known_by v) v.me).leaving ≡ false → is_of_other_wire v.rules p.head ≡ false → refusal v.state.memory.links p.head ≡ None
+  -- what a SEEN comes to
+  pub seen_is : (v : PeerValue D) (p : Packet) (ack : ℕ) → seen_in p.message ≡ Some ack → (player_in (known_by v) v.me).leaving ≡ false → is_of_other_wire v.rules p.head ≡ false
+      → outcome v.rules (told_by v) (known_by v) v.state.memory (Deliver (Ok p)) ≡ hear_from_watcher (known_by v) v.state.memory p.head ack
+  seen_is v p ack seen stays wire = rw (own_player v.rules v.me v.state.journal, stays, wire, seen) refl
+
+  pub comes_to : (v : PeerValue D) (p : Packet) (verdict found : Verdict) → IsPacket p → (player_in (known_by v) v.me).leaving ≡ false → is_of_other_wire v.rules p.head ≡ false → refusal v.state.memory.links p.head ≡ None
       → hear_message v.rules (told_by v) (known_by v) v.state.memory p.head p.message ≡ by_verdict found v.state.memory (memory_after v.state.memory p) → found ≡ verdict
       → outcome v.rules (told_by v) (known_by v) v.state.memory (Deliver (Ok p)) ≡ by_verdict verdict v.state.memory (memory_after v.state.memory p)
-  comes_to v p verdict found stays wire admitted comes same = heard_is v p stays wire admitted ∙ comes ∙ ap (λ (x : Verdict). by_verdict x v.state.memory (memory_after v.state.memory p)) same
+  comes_to v p verdict found is stays wire admitted comes same = heard_is v p is stays wire admitted ∙ comes ∙ ap (λ (x : Verdict). by_verdict x v.state.memory (memory_after v.state.memory p)) same
 
   pub memory_noted : (g : Ghosts D) (v : PeerValue D) (p : Packet) (o : Outcome) → IsSound g v → IsPacket p
       → outcome v.rules (told_by v) (known_by v) v.state.memory (Deliver (Ok p)) ≡ o → IsMemory v.rules v.room v.me v.state.journal o.memory

@@ -13,6 +13,7 @@ pub mod AnswerLemmas
 pub mod ReaderLemmas
 mod RoomLemmas
 mod WindowLemmas
+mod RowsLemmas
 pub mod DeliveryLemmas
 pub mod RefusalLemmas
 pub mod RunLemmas

@@ -23,21 +23,21 @@ use Rattle.c8_round.specs.Round.{ChairValue, StayerValue, with_report, with_have
 use Rattle.c8_check.specs.Checks.{Pieces, frames_of}
 use Rattle.c8_record.specs.Allowed.{IsJournal}
 use Rattle.c8_peer.specs.Told.{Told, told_of}
-use Rattle.c8_peer.specs.declared.error.TickError.{TickError}
-use Rattle.c8_peer.specs.declared.error.Refused.{Refused}
-use Rattle.c8_peer.specs.declared.error.Unsayable.{Unsayable}
-use Rattle.c8_peer.specs.declared.error.LeaveError.{LeaveError}
-use Rattle.c8_peer.specs.declared.error.DecideError.{DecideError}
-use Rattle.c8_peer.specs.declared.error.CheckError.{CheckError}
+use Rattle.c8_refusals.specs.declared.error.TickError.{TickError}
+use Rattle.c8_refusals.specs.declared.error.Refused.{Refused}
+use Rattle.c8_refusals.specs.declared.error.Unsayable.{Unsayable}
+use Rattle.c8_refusals.specs.declared.error.LeaveError.{LeaveError}
+use Rattle.c8_refusals.specs.declared.error.DecideError.{DecideError}
+use Rattle.c8_refusals.specs.declared.error.CheckError.{CheckError}
 use Rattle.c8_peer.specs.declared.check.Check.{Check}
 use Rattle.c8_peer.specs.declared.heard.Heard.{Heard}
-use Rattle.c8_peer.specs.State.{Memory, Call, Tick, Deliver, Say, Leave, Decide, Checkpoint, Saying, Ticked, Delivered, Said, Left, Decided, Checked, Outcome}
+use Rattle.c8_peer.specs.State.{Memory, SeenValue, seen_by, with_seen, Call, Tick, Deliver, Say, Show, Leave, Decide, Checkpoint, Saying, Ticked, Delivered, Said, Left, Decided, Checked, Outcome}
 use Rattle.c8_peer.specs.Calls.{tick, leave, decide, next_piece, checkpoint}
-use Rattle.c8_peer.specs.Hearing.{is_desync, hear_data, hear_welcome, hear_freeze, hear_frozen, hear_cut, hear_end, got, unless_misfit, is_of_other_wire, unless_hand, hear_message, deliver}
-use Rattle.c8_peer.specs.Saying.{is_not_mine, lacks_record, lacks_link, say}
+use Rattle.c8_peer.specs.Hearing.{is_desync, hear_data, hear_welcome, hear_freeze, hear_frozen, hear_cut, hear_end, got, unless_misfit, is_of_other_wire, unless_hand, hear_message, hear_seen, hear_from, seen_in, deliver}
+use Rattle.c8_peer.specs.Saying.{is_not_mine, lacks_record, lacks_link, say, show}
 use Rattle.c8_peer.specs.Steps.{outcome}
 use Rattle.c8_peer.specs.Lawful.{IsSaving, IsMemory, IsCall}
-use Rattle.c8_peer.specs.checked.TruthLaws.{count_rises}
+use Rattle.c8_peer.specs.checked.TruthLaws.{count_rises, confirmed_counts}
 
 -- ---- links and acknowledgements
 
@@ -66,6 +66,8 @@ low_after kinds.Data link theirs bound was is = was
 low_after kinds.Freeze link theirs bound was is = was
 low_after kinds.Frozen link theirs bound was is = was
 low_after kinds.Cut link theirs bound was is = was
+low_after kinds.Show link theirs bound was is = was
+low_after kinds.Seen link theirs bound was is = was
 
 low_heard : (l : LinksValue) (head : HeadValue) (other bound : ℕ) → ((q : ℕ) → (link_to l q).known < bound) → head.sender_epoch < bound → (link_to (heard l head) other).known < bound
 low_heard l head other bound low is =
@@ -106,6 +108,7 @@ with_rest rules room me journal m chair stayer alarm is = record {
   epoch_fits = is.epoch_fits;
   known_fits = is.known_fits;
   acked = is.acked;
+  shown = is.shown;
   saving = is.saving;
 }
 
@@ -120,6 +123,7 @@ with_acks rules room me journal m q n is few = record {
   epoch_fits = is.epoch_fits;
   known_fits = is.known_fits;
   acked = λ other. few_more m.acks q other n (count rules me journal) is.acked few;
+  shown = is.shown;
   saving = is.saving;
 }
 
@@ -134,6 +138,26 @@ with_heard rules room me journal m head is low = record {
   epoch_fits = is.epoch_fits;
   known_fits = λ other. low_heard m.links head other (2 ^ 32) is.known_fits low;
   acked = is.acked;
+  shown = is.shown;
+  saving = is.saving;
+}
+
+few_seen : (s : SeenValue) (watcher other n bound : ℕ) → ((w : ℕ) → seen_by s w ≤ bound) → n ≤ bound → seen_by (with_seen s watcher n) other ≤ bound
+few_seen s watcher other n bound few is =
+    few_of (other == 5) _ _ bound (few_of (watcher == 5) n s.five bound is (few 5)) (few_of (other == 6) _ _ bound (few_of (watcher == 6) n s.six bound is (few 6)) (omega arith))
+
+with_shown : (rules : Rules) (room me : ℕ) (journal : List Record) (m : Memory) (watcher n : ℕ) → IsMemory rules room me journal m → n ≤ confirmed (known_of rules me journal)
+    → IsMemory rules room me journal (record m { seen = with_seen m.seen watcher n })
+with_shown rules room me journal m watcher n is few = record {
+  player = is.player;
+  players = is.players;
+  version = is.version;
+  session = is.session;
+  epoch = is.epoch;
+  epoch_fits = is.epoch_fits;
+  known_fits = is.known_fits;
+  acked = is.acked;
+  shown = λ other. few_seen m.seen watcher other n (confirmed (known_of rules me journal)) is.shown few;
   saving = is.saving;
 }
 
@@ -239,30 +263,44 @@ cut_is M k m q c is =
     (either M (not (player_in k c.leaver).frozen) _ _ (is _ _) (end_is M k m c (player_in k c.leaver).cut is))))
 
 -- the memories with which something holds after a delivery, whatever it is
-pub record Changes (M : Outcome → Type 0) (m : Memory) (head : HeadValue) (own : ℕ) : Type 0 where
+pub record Changes (M : Outcome → Type 0) (m : Memory) (head : HeadValue) (own sure : ℕ) : Type 0 where
   pub rest : (chair : ChairValue) (stayer : StayerValue) (alarm : Bool) → Delivers M (record m { chair = chair; stayer = stayer; alarm = alarm })
   pub acks : (n : ℕ) → n ≤ own → Delivers M (record m { acks = acked_more m.acks head.from n })
   pub links : Delivers M (record m { links = heard m.links head })
   pub both : (n : ℕ) → n ≤ own → Delivers M (record m { links = heard m.links head; acks = acked_more m.acks head.from n })
+  pub seen : (n : ℕ) → n ≤ sure → Delivers M (record m { seen = with_seen m.seen head.from n })
 
-message_is : (M : Outcome → Type 0) (rules : Rules) (t : Told) (k : KnownValue) (m : Memory) (head : HeadValue) (message : Message) → Changes M m head (count_in k k.me) → M (hear_message rules t k m head message)
+message_is : (M : Outcome → Type 0) (rules : Rules) (t : Told) (k : KnownValue) (m : Memory) (head : HeadValue) (message : Message) → Changes M m head (count_in k k.me) (confirmed k) → M (hear_message rules t k m head message)
 message_is M rules t k m head packets.Hello may = may.links _ _
 message_is M rules t k m head (packets.Welcome ack) may = welcome_is M k m head ack (may.rest m.chair m.stayer m.alarm) (may.both ack)
 message_is M rules t k m head (packets.Data d) may = data_is M t k m head.from d (may.rest m.chair m.stayer m.alarm) (may.rest m.chair m.stayer true) (may.acks d.ack)
 message_is M rules t k m head (packets.Freeze f) may = freeze_is M k m head.from f (may.rest m.chair m.stayer m.alarm) (may.rest m.chair (with_have m.stayer f.leaver f.have) m.alarm)
 message_is M rules t k m head (packets.Frozen f) may = frozen_is M k m head.from f (may.rest m.chair m.stayer m.alarm) (may.rest (with_report m.chair f.leaver head.from f.length) m.stayer m.alarm)
 message_is M rules t k m head (packets.Cut c) may = cut_is M k m head.from c (may.rest m.chair m.stayer m.alarm)
+message_is M rules t k m head (packets.Show shown) may = may.rest m.chair m.stayer m.alarm _ _
+message_is M rules t k m head (packets.Seen ack) may = may.rest m.chair m.stayer m.alarm _ _
+
+seen_is : (M : Outcome → Type 0) (k : KnownValue) (m : Memory) (head : HeadValue) (ack : ℕ) → Delivers M m → (ack ≤ confirmed k → Delivers M (record m { seen = with_seen m.seen head.from ack })) → M (hear_seen k m head ack)
+unfolding hear_seen
+seen_is M k m head ack is seen = unless M (nat_lt (confirmed k) ack) _ _ (is _ _) (λ few. seen (ltb-false (confirmed k) ack few) _ _)
 
 hand_is : (M : Outcome → Type 0) (m : Memory) (error : Option HandError) (o : Outcome) → Delivers M m → M o → M (unless_hand m error o)
 hand_is M m None o was is = is
 hand_is M m (Some error) o was is = was _ _
 
-pub deliver_is : (M : Outcome → Type 0) (rules : Rules) (t : Told) (k : KnownValue) (m : Memory) (p : Packet) → Changes M m p.head (count_in k k.me) → M (deliver rules t k m (Ok p))
+from_is : (M : Outcome → Type 0) (rules : Rules) (t : Told) (k : KnownValue) (m : Memory) (p : Packet) (heard : Option ℕ) → Changes M m p.head (count_in k k.me) (confirmed k) → M (hear_from rules t k m p heard)
+from_is M rules t k m p (Some ack) may =
+    let same : Delivers M m = may.rest m.chair m.stayer m.alarm in
+    hand_is M m (links.refusal_of_seen m.links p.head) (hear_seen k m p.head ack) same (seen_is M k m p.head ack same (may.seen ack))
+from_is M rules t k m p None may =
+    let same : Delivers M m = may.rest m.chair m.stayer m.alarm in
+    hand_is M m (links.refusal m.links p.head) (hear_message rules t k m p.head p.message) same (message_is M rules t k m p.head p.message may)
+
+pub deliver_is : (M : Outcome → Type 0) (rules : Rules) (t : Told) (k : KnownValue) (m : Memory) (p : Packet) → Changes M m p.head (count_in k k.me) (confirmed k) → M (deliver rules t k m (Ok p))
 deliver_is M rules t k m p may =
     let same : Delivers M m = may.rest m.chair m.stayer m.alarm in
     either M (player_in k k.me).leaving _ _ (same _ _)
-    (either M (is_of_other_wire rules p.head) _ _ (same _ _)
-    (hand_is M m (links.refusal m.links p.head) (hear_message rules t k m p.head p.message) same (message_is M rules t k m p.head p.message may)))
+    (either M (is_of_other_wire rules p.head) _ _ (same _ _) (from_is M rules t k m p (seen_in p.message) may))
 
 pub no_packet_is : (M : Outcome → Type 0) (rules : Rules) (t : Told) (k : KnownValue) (m : Memory) (error : WireError) → Delivers M m → M (deliver rules t k m (Err error))
 no_packet_is M rules t k m error is = either M (player_in k k.me).leaving _ _ (is _ _) (is _ _)
@@ -274,13 +312,17 @@ say_is M rules t k m to what is =
     either M (player_in k k.me).leaving _ _ (is _) (either M (to == k.me || not (is_player k to)) _ _ (is _)
     (either M (is_not_mine k to what) _ _ (is _) (either M (lacks_record k what) _ _ (is _) (either M (lacks_link m to what) _ _ (is _) (is _)))))
 
+pub show_is : (M : Outcome → Type 0) (k : KnownValue) (m : Memory) (watcher : ℕ) → ((answer : Result Packet Unsayable) → M (record { reply = Said answer; keeps = None; memory = m })) → M (show k m watcher)
+unfolding show
+show_is M k m watcher is = either M (k.me == 1) _ _ (is _) (is _)
+
 -- ---- all of it
 
 abbrev Keeps : Rules → ℕ → ℕ → List Record → Outcome → Type 0
 Keeps rules room me journal o = IsMemory rules room me journal o.memory
 
 changes : (rules : Rules) (room me : ℕ) (journal : List Record) (m : Memory) (head : HeadValue) (own : ℕ) → IsMemory rules room me journal m → head.sender_epoch < 2 ^ 32
-    → own ≡ count rules me journal → Changes (Keeps rules room me journal) m head own
+    → own ≡ count rules me journal → Changes (Keeps rules room me journal) m head own (confirmed (known_of rules me journal))
 changes rules room me journal m head own is low all =
     let heard_is = with_heard rules room me journal m head is low in
     record {
@@ -288,6 +330,7 @@ changes rules room me journal m head own is low all =
       acks = λ n few answer keeps. with_acks rules room me journal m head.from n is (omega (arith, few, all));
       links = λ answer keeps. heard_is;
       both = λ n few answer keeps. with_acks rules room me journal (record m { links = heard m.links head }) head.from n heard_is (omega (arith, few, all));
+      seen = λ n few answer keeps. with_shown rules room me journal m head.from n is few;
     }
 
 -- what is known of the own player has as many inputs as its journal says
@@ -306,13 +349,15 @@ memory_kept rules me room journal m (Deliver (Ok p)) range from to journal_is is
     deliver_is (Keeps rules room me journal) rules (told_of rules me journal) k m p
     (changes rules room me journal m p.head (count_in k k.me) is fits.head.sender_epoch (own_count rules me journal from to))
 memory_kept rules me room journal m (Say q what) range from to journal_is is fits = say_is (Keeps rules room me journal) rules (told_of rules me journal) (known_of rules me journal) m q what (λ answer. is)
+memory_kept rules me room journal m (Show watcher) range from to journal_is is fits = show_is (Keeps rules room me journal) (known_of rules me journal) m watcher (λ answer. is)
 memory_kept rules me room journal m (Leave leaver) range from to journal_is is fits = leave_is (Keeps rules room me journal) (known_of rules me journal) m leaver (λ answer keeps. is)
 memory_kept rules me room journal m (Decide leaver) range from to journal_is is fits = decide_is (Keeps rules room me journal) (known_of rules me journal) m leaver (λ answer keeps. is)
 memory_kept rules me room journal m Checkpoint range from to journal_is is fits = checkpoint_is (Keeps rules room me journal) (told_of rules me journal) (known_of rules me journal) m (λ answer keeps. is)
 
 -- it stays so with a record more, if that leaves checkpoints in order
-pub memory_more : (rules : Rules) (room me : ℕ) (journal : List Record) (r : Record) (m : Memory) → IsMemory rules room me journal m → IsSaving rules me (journal ++ r ∷ []) → IsMemory rules room me (journal ++ r ∷ []) m
-memory_more rules room me journal r m is saving = record {
+pub memory_more : (rules : Rules) (room me : ℕ) (journal : List Record) (r : Record) (m : Memory) → AreInRange rules → 1 ≤ me → me ≤ rules.players → IsJournal rules me room (journal ++ r ∷ []) → IsMemory rules room me journal m → IsSaving rules me (journal ++ r ∷ [])
+    → IsMemory rules room me (journal ++ r ∷ []) m
+memory_more rules room me journal r m range from to journal_is is saving = record {
   player = is.player;
   players = is.players;
   version = is.version;
@@ -321,5 +366,6 @@ memory_more rules room me journal r m is saving = record {
   epoch_fits = is.epoch_fits;
   known_fits = is.known_fits;
   acked = λ q. let few = is.acked q in omega (arith, few, count_rises rules me journal (r ∷ []));
+  shown = λ watcher. let few = is.shown watcher in omega (arith, few, confirmed_counts rules me room journal (r ∷ []) range from to journal_is);
   saving = saving;
 }

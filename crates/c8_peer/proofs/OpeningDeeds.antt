@@ -11,8 +11,8 @@ use Rattle.c8_record.specs.Allowed.{IsJournal}
 use Rattle.c8_record.specs.Replay.{IsRefusal}
 use Rattle.c8_record.specs.declared.error.ReplayError.{ReplayError}
 use Rattle.c8_record.specs.declared.error.ReplayError.TheVariants as replays
-use Rattle.c8_peer.specs.declared.error.OpenError.{OpenError}
-use Rattle.c8_peer.specs.declared.error.OpenError.TheVariants as opens
+use Rattle.c8_refusals.specs.declared.error.OpenError.{OpenError}
+use Rattle.c8_refusals.specs.declared.error.OpenError.TheVariants as opens
 use Rattle.c8_peer.specs.State.{Open, State, Opened}
 use Rattle.c8_peer.specs.Opening.{NoPlayer, Stands, NotWritten, NoMemory, NotRead, Unfit, Spent, last_epoch, opening_record, found, opened, MayBecome}
 use Rattle.c8_peer.specs.Peer.{PeerValue, Keeps}

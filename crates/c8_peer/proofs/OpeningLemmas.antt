@@ -18,7 +18,7 @@ use Rattle.c8_record.specs.Body.{HasSpelling}
 use Rattle.c8_record.specs.Allowed.{IsAllowed, IsJournal}
 use Rattle.c8_record.specs.checked.JournalLaws.{epoch_more, checks_more, of_game}
 use Rattle.c8_window.specs.Window.{first_window, acked_of}
-use Rattle.c8_peer.specs.State.{fresh_memory}
+use Rattle.c8_peer.specs.State.{none_seen, seen_by, fresh_memory}
 use Rattle.c8_peer.specs.Opening.{last_epoch, second_form, opening_record}
 use Rattle.c8_peer.specs.TrueChecks.{HasTrueChecks}
 use Rattle.c8_peer.specs.Lawful.{IsSaving, IsMemory}
@@ -133,6 +133,14 @@ opening_saving rules room me (r ∷ rest) =
     let checks = checks_more (r ∷ rest) (Epoch me (epoch (r ∷ rest) + 1) second_form) in
     record { form = ap (λ (c : ChecksValue). c.form) checks; starts = λ p e. absurd (let none = ap (λ (c : ChecksValue). c.under_way) (sym checks) ∙ e in cc); bytes = λ p e. absurd (let none = ap (λ (c : ChecksValue). c.under_way) (sym checks) ∙ e in cc) }
 
+-- no watcher has told anything
+none_of : (test : Bool) (a b n : ℕ) → a ≤ n → b ≤ n → cond test a b ≤ n
+none_of true a b n one other = one
+none_of false a b n one other = other
+
+none_shown : (watcher n : ℕ) → seen_by none_seen watcher ≤ n
+none_shown watcher n = none_of (watcher == 5) _ _ n (omega arith) (none_of (watcher == 6) _ _ n (omega arith) (omega arith))
+
 pub opening_memory : (rules : Rules) (me room : ℕ) (found : List Record) → AreInRange rules → 1 ≤ me → me ≤ rules.players
     → IsJournal rules me room found → epoch found < last_epoch
     → IsMemory rules room me (found ++ opening_record rules room me found ∷ []) (fresh_memory rules room me (epoch (found ++ opening_record rules room me found ∷ [])))
@@ -150,5 +158,6 @@ opening_memory rules me room found range from to is few =
       epoch_fits = omega (arith, last, new_epoch.fits);
       known_fits = λ q. omega (arith, none_known rules me room (epoch later) q);
       acked = λ q. omega (arith, delay_acked rules.delay q, delay_held rules me later);
+      shown = λ watcher. none_shown watcher _;
       saving = opening_saving rules room me found;
     }

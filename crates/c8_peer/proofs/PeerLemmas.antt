@@ -120,7 +120,7 @@ module _ {D : Type 0} where
         pending = λ body e. let never : None ≡ Some body = sym pending ∙ e in absurd cc;
         pending_may = λ body e. let never : None ≡ Some body = sym pending ∙ e in absurd cc;
         known = known ∙ rw (same, longer) (ap (λ (before : KnownValue). with_record before r) is.known ∙ sym (known_more rules k.me room journal r may));
-        memory = rw (same, longer) (memory_more rules room k.me journal r m is.memory saving);
+        memory = rw (same, longer) (memory_more rules room k.me journal r m is.range is.from_one is.in_game (journal_more rules k.me room journal r is.bodies.journal may) is.memory saving);
         last = is.last ∙ sym other ∙ ap epoch (sym longer);
       } in
       all

@@ -16,12 +16,12 @@ use Rattle.c8_known.specs.Fresh.{is_from_leaver, misfit, fresh_words}
 use Rattle.c8_window.specs.Window.{acked_more}
 use Rattle.c8_round.specs.Round.{is_ready, with_report}
 use Rattle.c8_peer.specs.Told.{Told, told_of}
-use Rattle.c8_peer.specs.declared.error.Unsayable.{Unsayable}
-use Rattle.c8_peer.specs.State.{Memory, Mode, Open, Down, Away, State, Saying, Call, Tick, Deliver, Say, Leave, Decide, Checkpoint, Said, Outcome, answered}
+use Rattle.c8_refusals.specs.declared.error.Unsayable.{Unsayable}
+use Rattle.c8_peer.specs.State.{Memory, Mode, Open, Down, Away, State, Saying, Call, Tick, Deliver, Say, Show, Leave, Decide, Checkpoint, Said, Outcome, answered}
 use Rattle.c8_peer.specs.Steps.{Luck, Works, Refuses, refused_by_disk, outcome, done, at_mode, step}
 use Rattle.c8_peer.specs.Calls.{tick, leave, decide, next_piece, checkpoint}
-use Rattle.c8_peer.specs.Hearing.{is_desync, unless_misfit, got, cut_or_got, hear_data, hear_welcome, hear_freeze, hear_frozen, hear_end, hear_cut, hear_message, is_of_other_wire, unless_hand, hear_told}
-use Rattle.c8_peer.specs.Saying.{say}
+use Rattle.c8_peer.specs.Hearing.{is_desync, unless_misfit, got, cut_or_got, hear_data, hear_welcome, hear_freeze, hear_frozen, hear_end, hear_cut, hear_message, is_of_other_wire, unless_hand, hear_seen, hear_from, seen_in, hear_told}
+use Rattle.c8_peer.specs.Saying.{say, show}
 use Rattle.c8_peer.specs.Opening.{Opening, NoPlayer, Stands, NotWritten, NoMemory, NotRead, Unfit, Spent, opened}
 use Rattle.c8_peer.specs.Replies.{mode_told}
 use Rattle.c8_check.specs.Checks.{Pieces, begun_at, frames_of}
@@ -32,7 +32,8 @@ use Rattle.c8_peer.specs.checked.Held.{is_play}
 use Rattle.c8_peer.specs.checked.TrueCheckLaws.{play_begins, play_true}
 use Rattle.c8_peer.proofs.CheckpointLemmas.{IsNext, adds_next, next_leaves, saving_play, saving_next, next_true}
 use Rattle.c8_peer.proofs.AllowedLemmas.{keeps_allowed}
-use Rattle.c8_peer.proofs.MemoryLemmas.{either, say_is, memory_kept, memory_more}
+use Rattle.c8_peer.proofs.MemoryLemmas.{either, say_is, show_is, memory_kept, memory_more}
+use Rattle.c8_record.specs.checked.JournalLaws.{journal_more}
 
 -- what is recorded is what players do
 abbrev pub are_plays : Option Record → Bool
@@ -126,14 +127,23 @@ message_plain rules t k m head (packets.Data d) = data_plain rules t k m head.fr
 message_plain rules t k m head (packets.Freeze f) = freeze_plain k m head.from f
 message_plain rules t k m head (packets.Frozen f) = frozen_plain k m head.from f
 message_plain rules t k m head (packets.Cut c) = cut_plain k m head.from c
+message_plain rules t k m head (packets.Show shown) = plain _ refl refl
+message_plain rules t k m head (packets.Seen ack) = plain _ refl refl
+
+seen_plain : (k : KnownValue) (m : Memory) (head : HeadValue) (ack : ℕ) → IsPlain (hear_seen k m head ack)
+unfolding hear_seen
+seen_plain k m head ack = either IsPlain (nat_lt (confirmed k) ack) _ _ (plain _ refl refl) (plain _ refl refl)
 
 hand_plain : (m : Memory) (o : Option HandError) (x : Outcome) → IsPlain x → IsPlain (unless_hand m o x)
 hand_plain m None x is = is
 hand_plain m (Some error) x is = plain _ refl refl
 
+from_plain : (rules : Rules) (t : Told) (k : KnownValue) (m : Memory) (p : Packet) (heard : Option ℕ) → IsPlain (hear_from rules t k m p heard)
+from_plain rules t k m p (Some ack) = hand_plain m (links.refusal_of_seen m.links p.head) _ (seen_plain k m p.head ack)
+from_plain rules t k m p None = hand_plain m (links.refusal m.links p.head) _ (message_plain rules t k m p.head p.message)
+
 told_plain : (rules : Rules) (t : Told) (k : KnownValue) (m : Memory) (told : Result Packet WireError) → IsPlain (hear_told rules t k m told)
-told_plain rules t k m (Ok p) =
-    either IsPlain (is_of_other_wire rules p.head) _ _ (plain _ refl refl) (hand_plain m (links.refusal m.links p.head) _ (message_plain rules t k m p.head p.message))
+told_plain rules t k m (Ok p) = either IsPlain (is_of_other_wire rules p.head) _ _ (plain _ refl refl) (from_plain rules t k m p (seen_in p.message))
 told_plain rules t k m (Err error) = plain _ refl refl
 
 -- ---- sayings, which record nothing
@@ -147,6 +157,9 @@ quiet m result = record { keeps = refl; told = refl }
 
 say_quiet : (rules : Rules) (t : Told) (k : KnownValue) (m : Memory) (to : ℕ) (what : Saying) → IsQuiet (say rules t k m to what)
 say_quiet rules t k m to what = say_is IsQuiet rules t k m to what (λ result. quiet m result)
+
+show_quiet : (k : KnownValue) (m : Memory) (watcher : ℕ) → IsQuiet (show k m watcher)
+show_quiet k m watcher = show_is IsQuiet k m watcher (λ result. quiet m result)
 
 -- ---- checkpoints
 
@@ -164,6 +177,7 @@ call_plain : (rules : Rules) (t : Told) (k : KnownValue) (m : Memory) (call : Ca
 call_plain rules t k m (Tick keys) = (tick_plain rules k m keys).told
 call_plain rules t k m (Deliver told) = (either IsPlain (player_in k k.me).leaving _ _ (plain _ refl refl) (told_plain rules t k m told)).told
 call_plain rules t k m (Say to what) = (say_quiet rules t k m to what).told
+call_plain rules t k m (Show watcher) = (show_quiet k m watcher).told
 call_plain rules t k m (Leave leaver) = (leave_plain k m leaver).told
 call_plain rules t k m (Decide leaver) = (decide_plain k m leaver).told
 call_plain rules t k m Checkpoint = checkpoint_told t k m
@@ -182,6 +196,7 @@ call_adds rules me room journal m (Deliver told) r range from to is memory keeps
     let k : KnownValue = known_of rules me journal in
     inl (a_play _ r keeps (either IsPlain (player_in k k.me).leaving _ _ (plain _ refl refl) (told_plain rules (told_of rules me journal) k m told)))
 call_adds rules me room journal m (Say to_player what) r range from to is memory keeps = let none = sym (say_quiet rules (told_of rules me journal) (known_of rules me journal) m to_player what).keeps ∙ keeps in absurd cc
+call_adds rules me room journal m (Show watcher) r range from to is memory keeps = let none = sym (show_quiet (known_of rules me journal) m watcher).keeps ∙ keeps in absurd cc
 call_adds rules me room journal m (Leave leaver) r range from to is memory keeps = inl (a_play _ r keeps (leave_plain (known_of rules me journal) m leaver))
 call_adds rules me room journal m (Decide leaver) r range from to is memory keeps = inl (a_play _ r keeps (decide_plain (known_of rules me journal) m leaver))
 call_adds rules me room journal m Checkpoint r range from to is memory keeps = inr (adds_next rules me room journal m r range from to is memory.saving keeps).1
@@ -210,7 +225,7 @@ pub keeps_memory : (rules : Rules) (me room : ℕ) (journal : List Record) (m : 
     → (outcome rules (told_of rules me journal) (known_of rules me journal) m call).keeps ≡ Some r → IsMemory rules room me (journal ++ r ∷ []) (outcome rules (told_of rules me journal) (known_of rules me journal) m call).memory
 keeps_memory rules me room journal m call r range from to is memory fits keeps =
     let may = keeps_allowed rules me room journal m call r range from to is memory fits keeps in
-    memory_more rules room me journal r _ (memory_kept rules me room journal m call range from to is memory fits)
+    memory_more rules room me journal r _ range from to (journal_more rules me room journal r is may) (memory_kept rules me room journal m call range from to is memory fits)
     (⊎_elim
     (λ play. saving_play rules me room journal r range from to is may play memory.saving)
     (λ next. saving_next rules me room journal r range from to is may memory.saving next)
@@ -221,6 +236,7 @@ refused_tells : (rules : Rules) (t : Told) (k : KnownValue) (m : Memory) (call :
 refused_tells rules t k m (Tick keys) r why keeps = refl
 refused_tells rules t k m (Deliver told) r why keeps = refl
 refused_tells rules t k m (Say to what) r why keeps = absurd (let none = sym (say_quiet rules t k m to what).keeps ∙ keeps in cc)
+refused_tells rules t k m (Show watcher) r why keeps = absurd (let none = sym (show_quiet k m watcher).keeps ∙ keeps in cc)
 refused_tells rules t k m (Leave leaver) r why keeps = refl
 refused_tells rules t k m (Decide leaver) r why keeps = refl
 refused_tells rules t k m Checkpoint r why keeps = refl

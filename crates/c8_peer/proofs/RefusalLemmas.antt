@@ -17,14 +17,14 @@ use Rattle.c8_round.specs.Round.{is_ready, with_report}
 use Rattle.c8_window.specs.Window.{acked_more}
 use Rattle.c8_check.specs.Checks.{Pieces, frames_of}
 use Rattle.c8_peer.specs.Told.{Told, told_of}
-use Rattle.c8_peer.specs.declared.error.Refused.{Refused}
-use Rattle.c8_peer.specs.declared.error.Refused.TheVariants as refusals
-use Rattle.c8_peer.specs.State.{Memory, Mode, Open, Down, Away, State, Saying, Call, Tick, Deliver, Say, Leave, Decide, Checkpoint, Reply, Delivered, Outcome, answered}
+use Rattle.c8_refusals.specs.declared.error.Refused.{Refused}
+use Rattle.c8_refusals.specs.declared.error.Refused.TheVariants as refusals
+use Rattle.c8_peer.specs.State.{Memory, Mode, Open, Down, Away, State, Saying, Call, Tick, Deliver, Say, Show, Leave, Decide, Checkpoint, Reply, Delivered, Outcome, answered}
 use Rattle.c8_peer.specs.Calls.{tick, leave, decide, next_piece, checkpoint}
-use Rattle.c8_peer.specs.Saying.{say}
-use Rattle.c8_peer.specs.Hearing.{refused, unless_misfit, got, is_desync, hear_data, hear_welcome, hear_freeze, hear_frozen, hear_end, hear_cut, hear_message, is_of_other_wire, unless_hand, deliver}
+use Rattle.c8_peer.specs.Saying.{say, show}
+use Rattle.c8_peer.specs.Hearing.{refused, unless_misfit, got, is_desync, hear_data, hear_welcome, hear_freeze, hear_frozen, hear_end, hear_cut, hear_message, is_of_other_wire, unless_hand, hear_seen, hear_from, seen_in, deliver}
 use Rattle.c8_peer.specs.Steps.{outcome, Luck, Works, Refuses, refused_by_disk, when_down, Stepped, done, at_mode, step, IsPlainRefusal}
-use Rattle.c8_peer.proofs.MemoryLemmas.{either, say_is}
+use Rattle.c8_peer.proofs.MemoryLemmas.{either, say_is, show_is}
 
 -- ---- what calls come to
 
@@ -144,22 +144,32 @@ message_fits rules t k m head (packets.Data d) = data_fits rules t k m head.from
 message_fits rules t k m head (packets.Freeze f) = freeze_fits k m head.from f
 message_fits rules t k m head (packets.Frozen f) = frozen_fits k m head.from f
 message_fits rules t k m head (packets.Cut c) = cut_fits k m head.from c
+message_fits rules t k m head (packets.Show shown) = refused_fits m _ (λ e. cc e)
+message_fits rules t k m head (packets.Seen ack) = refused_fits m _ (λ e. cc e)
+
+seen_fits : (k : KnownValue) (m : Memory) (head : HeadValue) (ack : ℕ) → OutcomeFits m (hear_seen k m head ack)
+unfolding hear_seen
+seen_fits k m head ack = either (OutcomeFits m) (nat_lt (confirmed k) ack) _ _ (refused_fits m _ (λ e. cc e)) (taken_fits m _ (λ none. none) (λ e. cc e))
 
 hand_fits : (m : Memory) (error : Option HandError) (o : Outcome) → OutcomeFits m o → OutcomeFits m (unless_hand m error o)
 hand_fits m None o fits = fits
 hand_fits m (Some error) o fits = refused_fits m (refusals.Hand error) (λ e. cc e)
 
+from_fits : (rules : Rules) (t : Told) (k : KnownValue) (m : Memory) (p : Packet) (heard : Option ℕ) → OutcomeFits m (hear_from rules t k m p heard)
+from_fits rules t k m p (Some ack) = hand_fits m (links.refusal_of_seen m.links p.head) (hear_seen k m p.head ack) (seen_fits k m p.head ack)
+from_fits rules t k m p None = hand_fits m (links.refusal m.links p.head) (hear_message rules t k m p.head p.message) (message_fits rules t k m p.head p.message)
+
 deliver_fits : (rules : Rules) (t : Told) (k : KnownValue) (m : Memory) (told : Result Packet WireError) → OutcomeFits m (deliver rules t k m told)
 deliver_fits rules t k m (Ok p) =
     either (OutcomeFits m) (player_in k k.me).leaving _ _ (refused_fits m _ (λ e. cc e))
-    (either (OutcomeFits m) (is_of_other_wire rules p.head) _ _ (refused_fits m _ (λ e. cc e))
-    (hand_fits m (links.refusal m.links p.head) (hear_message rules t k m p.head p.message) (message_fits rules t k m p.head p.message)))
+    (either (OutcomeFits m) (is_of_other_wire rules p.head) _ _ (refused_fits m _ (λ e. cc e)) (from_fits rules t k m p (seen_in p.message)))
 deliver_fits rules t k m (Err error) = either (OutcomeFits m) (player_in k k.me).leaving _ _ (refused_fits m _ (λ e. cc e)) (refused_fits m _ (λ e. cc e))
 
 call_fits : (rules : Rules) (t : Told) (k : KnownValue) (m : Memory) (call : Call) → OutcomeFits m (outcome rules t k m call)
 call_fits rules t k m (Tick keys) = tick_fits rules k m keys
 call_fits rules t k m (Deliver told) = deliver_fits rules t k m told
 call_fits rules t k m (Say to what) = say_is (OutcomeFits m) rules t k m to what (λ answer. answered_fits m _ (λ e. cc e))
+call_fits rules t k m (Show watcher) = show_is (OutcomeFits m) k m watcher (λ answer. answered_fits m _ (λ e. cc e))
 call_fits rules t k m (Leave leaver) = leave_fits k m leaver
 call_fits rules t k m (Decide leaver) = decide_fits k m leaver
 call_fits rules t k m Checkpoint = checkpoint_fits t k m
@@ -169,11 +179,15 @@ call_fits rules t k m Checkpoint = checkpoint_fits t k m
 say_keeps_none : (rules : Rules) (t : Told) (k : KnownValue) (m : Memory) (to : ℕ) (what : Saying) → (say rules t k m to what).keeps ≡ None
 say_keeps_none rules t k m to what = say_is (λ o. o.keeps ≡ None) rules t k m to what (λ answer. refl)
 
+show_keeps_none : (k : KnownValue) (m : Memory) (watcher : ℕ) → (show k m watcher).keeps ≡ None
+show_keeps_none k m watcher = show_is (λ o. o.keeps ≡ None) k m watcher (λ answer. refl)
+
 disk_is_not_plain : (rules : Rules) (t : Told) (k : KnownValue) (m : Memory) (call : Call) (r : Record) (why : DiskError) → (outcome rules t k m call).keeps ≡ Some r
     → IsPlainRefusal (refused_by_disk call why) → ⊥
 disk_is_not_plain rules t k m (Tick keys) r why keeps plain = plain why refl
 disk_is_not_plain rules t k m (Deliver told) r why keeps plain = plain.1 why refl
 disk_is_not_plain rules t k m (Say to what) r why keeps plain = let none = say_keeps_none rules t k m to what in cc
+disk_is_not_plain rules t k m (Show watcher) r why keeps plain = let none = show_keeps_none k m watcher in cc
 disk_is_not_plain rules t k m (Leave leaver) r why keeps plain = plain why refl
 disk_is_not_plain rules t k m (Decide leaver) r why keeps plain = plain why refl
 disk_is_not_plain rules t k m Checkpoint r why keeps plain = plain why refl
@@ -182,6 +196,7 @@ disk_is_not_desync : (call : Call) (why : DiskError) → refused_by_disk call wh
 disk_is_not_desync (Tick keys) why = λ e. cc e
 disk_is_not_desync (Deliver told) why = λ e. cc e
 disk_is_not_desync (Say to what) why = λ e. cc e
+disk_is_not_desync (Show watcher) why = λ e. cc e
 disk_is_not_desync (Leave leaver) why = λ e. cc e
 disk_is_not_desync (Decide leaver) why = λ e. cc e
 disk_is_not_desync Checkpoint why = λ e. cc e
@@ -190,6 +205,7 @@ down_is_not_desync : (call : Call) → when_down call ≢ Delivered (Err refusal
 down_is_not_desync (Tick keys) = λ e. cc e
 down_is_not_desync (Deliver told) = λ e. cc e
 down_is_not_desync (Say to what) = λ e. cc e
+down_is_not_desync (Show watcher) = λ e. cc e
 down_is_not_desync (Leave leaver) = λ e. cc e
 down_is_not_desync (Decide leaver) = λ e. cc e
 down_is_not_desync Checkpoint = λ e. cc e

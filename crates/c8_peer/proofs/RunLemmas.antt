@@ -374,6 +374,7 @@ disk_says_nothing : (call : Call) (why : DiskError) (packet : Packet) → refuse
 disk_says_nothing (states.Tick keys) why packet = λ e. cc e
 disk_says_nothing (states.Deliver told) why packet = λ e. cc e
 disk_says_nothing (states.Say to what) why packet = λ e. cc e
+disk_says_nothing (states.Show watcher) why packet = λ e. cc e
 disk_says_nothing (states.Leave leaver) why packet = λ e. cc e
 disk_says_nothing (states.Decide leaver) why packet = λ e. cc e
 disk_says_nothing states.Checkpoint why packet = λ e. cc e
@@ -382,6 +383,7 @@ down_says_nothing : (call : Call) (packet : Packet) → when_down call ≢ Said 
 down_says_nothing (states.Tick keys) packet = λ e. cc e
 down_says_nothing (states.Deliver told) packet = λ e. cc e
 down_says_nothing (states.Say to what) packet = λ e. cc e
+down_says_nothing (states.Show watcher) packet = λ e. cc e
 down_says_nothing (states.Leave leaver) packet = λ e. cc e
 down_says_nothing (states.Decide leaver) packet = λ e. cc e
 down_says_nothing states.Checkpoint packet = λ e. cc e

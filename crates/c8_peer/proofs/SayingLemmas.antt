@@ -1,20 +1,20 @@
 -- What an open peer says is true of its journal.
-use Rattle.std.proofs.Common.{◌≡◌, ◌≢◌, ℕ, zero, suc, ◌-◌, ◌/◌, ◌≤◌, List, [], ◌∷◌, ◌++◌, length, take, drop, Bool, true, false, Option, Some, None, Ok, Err, refl, sym, ap, subst, ◌∙◌, inl, inr, arith}
+use Rattle.std.proofs.Common.{◌≡◌, ◌≢◌, ℕ, zero, suc, ◌-◌, ◌/◌, ◌≤◌, List, [], ◌∷◌, ◌++◌, length, take, drop, Bool, true, false, Option, Some, None, Ok, Err, refl, sym, ap, subst, ◌∙◌, inl, inr, arith, ◌⊎◌}
 use Rattle.std.specs.Prelude.{◌*◌, ◌==◌, ◌||◌, not, nat_le, is_none, replicate, unwrap_or}
-use Rattle.std.proofs.lemmas.Bool.{cases_lt, cases_eq, ne_eqb, eqb-true, eqb-false, leb-true, not-false, or_parts, and_parts, both_ways}
+use Rattle.std.proofs.lemmas.Bool.{cases_lt, cases_eq, ne_eqb, eqb-true, eqb-false, leb-true, not-false, or_parts, and_parts, both_ways, eq-eqb}
 use Rattle.std.proofs.lemmas.List.{length-drop, get_or_past}
 use Rattle.c8_game.specs.Rules.{Rules, AreInRange}
-use Rattle.c8_wire.specs.Sizes.{longest_run}
+use Rattle.c8_wire.specs.Sizes.{longest_run, most_rows}
 use Rattle.c8_wire.specs.Carried.{fits_in}
 use Rattle.c8_wire.specs.Packet.{Packet}
 use Rattle.c8_known.specs.Journal as journals
 use Rattle.c8_known.specs.Journal.{Record, Head, Epoch, Own, Got, held, count, has_freeze}
 use Rattle.c8_known.specs.Known.{PlayerValue, KnownValue, nobody, player_in, count_in, is_frozen_of, is_frozen_in, is_player, known_of, said_of, Plays, IsKnown}
-use Rattle.c8_known.specs.Growth.{Begins}
+use Rattle.c8_known.specs.Growth.{Begins, Stands}
 use Rattle.c8_known.specs.checked.BeginsLaws.{begins_length, begins_more, begins_take}
 use Rattle.c8_known.specs.checked.OneMore.{player_known}
 use Rattle.c8_known.specs.checked.StartLaws.{players_known}
-use Rattle.c8_known.specs.Confirmed.{confirmed}
+use Rattle.c8_known.specs.Confirmed.{confirmed, row, confirmed_rows}
 use Rattle.c8_digest.specs.declared.marks.FrameMark.{FrameMark}
 use Rattle.c8_digest.specs.Marks.{mark_step, newest_of}
 use Rattle.c8_check.specs.Checks.{begun_at}
@@ -25,15 +25,16 @@ use Rattle.c8_round.specs.Round.{owed, answer_from}
 use Rattle.c8_record.specs.Allowed.{IsJournal, IsOrderly}
 use Rattle.c8_record.specs.checked.JournalLaws.{of_game, journal_known}
 use Rattle.c8_record.specs.checked.LeaverLaws.{journal_orderly}
-use Rattle.c8_peer.specs.State.{Memory, Call, Tick, Deliver, Say, Leave, Decide, Checkpoint, Saying, Hello, Welcome, Data, Freeze, Frozen, Cut, Said, Outcome}
+use Rattle.c8_peer.specs.State.{Memory, Call, Tick, Deliver, Say, Show, Leave, Decide, Checkpoint, Saying, Hello, Welcome, Data, Freeze, Frozen, Cut, Said, Outcome, seen_by}
 use Rattle.c8_peer.specs.Told.{Told, told_of}
-use Rattle.c8_peer.specs.Saying.{is_not_mine, lacks_record, lacks_link, run_from, newest_mark, cut_length, message, packet, say}
+use Rattle.c8_peer.specs.Saying.{is_not_mine, lacks_record, lacks_link, run_from, newest_mark, cut_length, message, packet, say, rows_for, show_packet, show}
 use Rattle.c8_peer.specs.Steps.{outcome}
-use Rattle.c8_peer.specs.Truth.{Stands, IsTrueMark, IsFrozenAt, IsTrueMessage, IsTrue}
+use Rattle.c8_peer.specs.Truth.{IsTrueMark, IsFrozenAt, IsTrueMessage, IsTrue}
 use Rattle.c8_peer.specs.TrueChecks.{HasTrueChecks}
 use Rattle.c8_peer.specs.checked.TruthLaws.{count_rises}
 use Rattle.c8_peer.specs.Lawful.{IsMemory, IsCall}
 use Rattle.c8_peer.proofs.MemoryLemmas.{unless, tick_is, leave_is, decide_is, checkpoint_is, deliver_is, no_packet_is}
+use Rattle.std.proofs.lemmas.List.FromFn.{length-map-range_with_len}
 
 -- ---- what was judged of what is said
 
@@ -46,6 +47,13 @@ pub record IsSaid (rules : Rules) (t : Told) (k : KnownValue) (m : Memory) (p : 
   pub mine : is_not_mine k to what ≡ false
   pub has : lacks_record k what ≡ false
   pub is : p ≡ packet rules t k m to what
+
+-- Player one was asked for rows for a watcher.
+pub record IsShown (k : KnownValue) (m : Memory) (call : Call) (p : Packet) : Type 0 where
+  pub watcher : ℕ
+  pub call_is : call ≡ Show watcher
+  pub one : k.me ≡ 1
+  pub is : p ≡ show_packet k m watcher
 
 plays_of : (k : KnownValue) (q : ℕ) → not (is_player k q) ≡ false → Plays k q
 plays_of k q is =
@@ -66,21 +74,31 @@ say_said rules t k m to what p =
     let other = or_parts (to == k.me) (not (is_player k to)) player in
     record { to = to; what = what; apart = eqb-false to k.me other.0; plays = plays_of k to other.1; mine = mine; has = has; is = cc })))))
 
+show_said : (k : KnownValue) (m : Memory) (watcher : ℕ) (p : Packet) → (show k m watcher).reply ≡ Said (Ok p) → IsShown k m (Show watcher) p
+unfolding show
+show_said k m watcher p said =
+    elim (cases_eq k.me 1) [
+      | inl one ↦ let told = rw (eq-eqb k.me 1 one) at said in record { watcher = watcher; call_is = refl; one = one; is = cc }
+      | inr other ↦ let told = rw (ne_eqb k.me 1 other) at said in absurd cc
+    ]
+
 -- nothing but a saying is answered by a packet
-pub what_is_said : (rules : Rules) (t : Told) (k : KnownValue) (m : Memory) (call : Call) (p : Packet) → (outcome rules t k m call).reply ≡ Said (Ok p) → IsSaid rules t k m p
-what_is_said rules t k m (Tick keys) p = tick_is (Tells rules t k m p) rules k m keys (λ answer keeps e. absurd cc)
-what_is_said rules t k m (Deliver (Err error)) p = no_packet_is (Tells rules t k m p) rules t k m error (λ answer keeps e. absurd cc)
-what_is_said rules t k m (Deliver (Ok came)) p =
-    deliver_is (Tells rules t k m p) rules t k m came (record {
+pub what_is_said : (rules : Rules) (t : Told) (k : KnownValue) (m : Memory) (call : Call) (p : Packet) → (outcome rules t k m call).reply ≡ Said (Ok p) → IsSaid rules t k m p ⊎ IsShown k m call p
+what_is_said rules t k m (Tick keys) p said = inl (tick_is (Tells rules t k m p) rules k m keys (λ answer keeps e. absurd cc) said)
+what_is_said rules t k m (Deliver (Err error)) p said = inl (no_packet_is (Tells rules t k m p) rules t k m error (λ answer keeps e. absurd cc) said)
+what_is_said rules t k m (Deliver (Ok came)) p said =
+    inl (deliver_is (Tells rules t k m p) rules t k m came (record {
       rest = λ chair stayer alarm answer keeps e. absurd cc;
       acks = λ n few answer keeps e. absurd cc;
       links = λ answer keeps e. absurd cc;
       both = λ n few answer keeps e. absurd cc;
-    })
-what_is_said rules t k m (Say to what) p = say_said rules t k m to what p
-what_is_said rules t k m (Leave leaver) p = leave_is (Tells rules t k m p) k m leaver (λ answer keeps e. absurd cc)
-what_is_said rules t k m (Decide leaver) p = decide_is (Tells rules t k m p) k m leaver (λ answer keeps e. absurd cc)
-what_is_said rules t k m Checkpoint p = checkpoint_is (Tells rules t k m p) t k m (λ answer keeps e. absurd cc)
+      seen = λ n few answer keeps e. absurd cc;
+    }) said)
+what_is_said rules t k m (Say to what) p said = inl (say_said rules t k m to what p said)
+what_is_said rules t k m (Show watcher) p said = inr (show_said k m watcher p said)
+what_is_said rules t k m (Leave leaver) p said = inl (leave_is (Tells rules t k m p) k m leaver (λ answer keeps e. absurd cc) said)
+what_is_said rules t k m (Decide leaver) p said = inl (decide_is (Tells rules t k m p) k m leaver (λ answer keeps e. absurd cc) said)
+what_is_said rules t k m Checkpoint p said = inl (checkpoint_is (Tells rules t k m p) t k m (λ answer keeps e. absurd cc) said)
 
 -- ---- leavers
 
@@ -163,12 +181,12 @@ said_is rules me q journal plays =
 count_is : (rules : Rules) (me q : ℕ) (journal : List Record) → Plays (known_of rules me journal) q → count_in (known_of rules me journal) q ≡ count rules q journal
 count_is rules me q journal plays = ap (λ (p : PlayerValue). length p.held) (said_is rules me q journal plays)
 
-stands_in : (xs ys : List ℕ) (n start : ℕ) → xs ≡ ys → start ≤ length xs → Stands start (take n (drop start xs)) ys
+stands_in : {X : Type 0} (xs ys : List X) (n start : ℕ) → xs ≡ ys → start ≤ length xs → Stands start (take n (drop start xs)) ys
 stands_in xs ys n start same from =
     let most = begins_length (take n (drop start xs)) (drop start xs) (begins_take n (drop start xs)) in
     record {
-      within = omega (arith, from, most, length-drop start xs, ap (λ (zs : List ℕ). length zs) same);
-      is = subst (λ (zs : List ℕ). Begins (take n (drop start xs)) (drop start zs)) same (begins_take n (drop start xs));
+      within = omega (arith, from, most, length-drop start xs, ap (λ zs. length zs) same);
+      is = subst (λ zs. Begins (take n (drop start xs)) (drop start zs)) same (begins_take n (drop start xs));
     }
 
 -- a beginning of inputs that stand stands too
@@ -268,6 +286,15 @@ message_true rules me journal m to (Freeze leaver) true_checks orderly known ack
 message_true rules me journal m to (Frozen leaver) true_checks orderly known acked plays mine has = frozen_true rules me journal m to leaver orderly has
 message_true rules me journal m to (Cut leaver) true_checks orderly known acked plays mine has = cut_true rules me journal m to leaver orderly known mine has
 
+-- the rows that are shown are confirmed ones
+show_true : (rules : Rules) (me room : ℕ) (journal : List Record) (m : Memory) (watcher : ℕ) → (known_of rules me journal).me ≡ 1 → IsMemory rules room me journal m
+    → IsTrueMessage rules me watcher journal (rows_for (known_of rules me journal) m watcher)
+show_true rules me room journal m watcher one is =
+    let k : KnownValue = known_of rules me journal in
+    let all : length (confirmed_rows k) ≡ confirmed k = length-map-range_with_len (row k) 0 (confirmed k) in
+    let few = is.shown watcher in
+    (sym (own_player rules me journal) ∙ one, stands_in (confirmed_rows k) (confirmed_rows k) most_rows (seen_by m.seen watcher) refl (omega (arith, few, all)))
+
 -- ---- all of it
 
 pub said_true : (rules : Rules) (me room : ℕ) (journal : List Record) (m : Memory)
@@ -278,10 +305,16 @@ pub said_true : (rules : Rules) (me room : ℕ) (journal : List Record) (m : Mem
     → IsTrue rules me journal p
 said_true rules me room journal m call p range from to journal_is is fits true_checks said =
     let k : KnownValue = known_of rules me journal in
-    let s = what_is_said rules (told_of rules me journal) k m call p said in
     let known : IsKnown k = journal_known rules me room journal range from to journal_is in
-    subst (λ (one : Packet). IsTrue rules me journal one) (sym s.is) (record {
-      from = is.player;
-      epoch = is.epoch;
-      message = message_true rules me journal m s.to s.what true_checks (journal_orderly rules me room journal journal_is) known (is.acked s.to) s.plays s.mine s.has;
-    })
+    elim (what_is_said rules (told_of rules me journal) k m call p said) [
+      | inl s ↦ subst (λ (one : Packet). IsTrue rules me journal one) (sym s.is) (record {
+        from = is.player;
+        epoch = is.epoch;
+        message = message_true rules me journal m s.to s.what true_checks (journal_orderly rules me room journal journal_is) known (is.acked s.to) s.plays s.mine s.has;
+      })
+      | inr s ↦ subst (λ (one : Packet). IsTrue rules me journal one) (sym s.is) (record {
+        from = is.player;
+        epoch = is.epoch;
+        message = show_true rules me room journal m s.watcher s.one is;
+      })
+    ]

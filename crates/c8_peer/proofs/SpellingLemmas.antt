@@ -1,25 +1,26 @@
 -- What an open peer says can be spelled.
-use Rattle.std.proofs.Common.{◌+◌, ◌≡◌, ◌≢◌, ℕ, zero, suc, ◌^◌, ◌<◌, ◌≤◌, List, [], ◌∷◌, ◌++◌, length, take, drop, replicate, get_or, Bool, true, false, Option, Some, Ok, refl, sym, ap, subst, ◌∙◌, arith}
-use Rattle.std.specs.Prelude.{◌-◌, ◌==◌, slice_index, unwrap_or, if◌then◌else◌}
+use Rattle.std.proofs.Common.{◌+◌, ◌≡◌, ◌≢◌, ℕ, zero, suc, ◌^◌, ◌<◌, ◌≤◌, List, [], ◌∷◌, ◌++◌, length, take, drop, replicate, get_or, Bool, true, false, Option, Some, Ok, refl, sym, ap, subst, ◌∙◌, arith, None, inl, inr}
+use Rattle.std.specs.Prelude.{◌-◌, ◌==◌, slice_index, unwrap_or, if◌then◌else◌, IfSome, nat_le, map}
 use Rattle.std.specs.Int.{from_be_bytes, to_be_bytes, w64}
-use Rattle.std.specs.List.{slice_get, flat_map}
-use Rattle.std.proofs.lemmas.Bool.{not-false}
+use Rattle.std.specs.List.{slice_get, flat_map, range_with_len}
+use Rattle.std.proofs.lemmas.Bool.{not-false, le-leb, ne_eqb, cases_lt, eq-eqb}
 use Rattle.std.proofs.lemmas.Option.{slice_get-get_or}
-use Rattle.std.proofs.lemmas.List.{length-take, length-drop}
+use Rattle.std.proofs.lemmas.List.{length-take, length-drop, get_or_past}
 use Rattle.sha2.specs.Sha256.{sha256}
-use Rattle.c8_game.specs.Rules.{Rules, AreInRange, id_of, session_of, most_inputs}
+use Rattle.c8_game.specs.Rules.{Rules, AreInRange, id_of, session_of, most_inputs, set_at}
 use Rattle.c8_wire.specs.declared.kinds.DatagramKind.{DatagramKind}
+use Rattle.c8_wire.specs.declared.kinds.DatagramKind.TheVariants as kinds
 use Rattle.c8_game.specs.declared.wire.WireVersion.{WireVersion}
-use Rattle.c8_wire.specs.Sizes.{longest_run}
+use Rattle.c8_wire.specs.Sizes.{longest_run, most_rows}
 use Rattle.c8_wire.specs.Carried.{fits_in, carried}
 use Rattle.c8_wire.specs.checked.CarriedLaws.{carried_few, carried_room}
-use Rattle.c8_wire.specs.Packet.{Message, Packet, IsLeaverMessage, AreBytes, AreWords, IsMark, IsRun, Fits, IsMessage, IsHead, IsPacket, has_room, kind_of}
+use Rattle.c8_wire.specs.Packet.{Message, Packet, IsLeaverMessage, AreBytes, AreWords, IsMark, IsRun, Fits, IsMessage, IsHead, IsPacket, has_room, kind_of, IsRow, AreRows}
 use Rattle.c8_hand.specs.Links.{head_to}
 use Rattle.c8_known.specs.Journal as journals
 use Rattle.c8_known.specs.Journal.{Record, Head, Epoch, Own, Got, words_of, held, count}
-use Rattle.c8_known.specs.Known.{PlayerValue, KnownValue, player_in, count_in, known_of, Plays, IsKnown}
+use Rattle.c8_known.specs.Known.{PlayerValue, KnownValue, player_in, count_in, known_of, Plays, IsKnown, nobody}
 use Rattle.c8_known.specs.checked.StartLaws.{players_known}
-use Rattle.c8_known.specs.Confirmed.{confirmed}
+use Rattle.c8_known.specs.Confirmed.{confirmed, row, or_empty, unless_held, past_cut, input_of, confirmed_rows}
 use Rattle.c8_known.specs.checked.ConfirmedLaws.{confirmed_is}
 use Rattle.c8_digest.specs.declared.marks.FrameMark.{FrameMark}
 use Rattle.c8_digest.specs.Marks.{newest_of, AreMarksAfter}
@@ -32,15 +33,19 @@ use Rattle.c8_window.specs.Window.{acked_of}
 use Rattle.c8_round.specs.Round.{owed, answer_from}
 use Rattle.c8_record.specs.Body.{HasSpelling}
 use Rattle.c8_record.specs.Allowed.{IsJournal, IsOrderly}
-use Rattle.c8_record.specs.checked.JournalLaws.{journal_known}
+use Rattle.c8_record.specs.checked.JournalLaws.{journal_known, of_game}
 use Rattle.c8_record.specs.checked.LeaverLaws.{journal_orderly}
 use Rattle.c8_digest.specs.checked.DigestLaws.{digest_length, digest_bytes_fit}
-use Rattle.c8_peer.specs.State.{Memory, Call, Saying, Hello, Welcome, Data, Freeze, Frozen, Cut, Said}
+use Rattle.c8_peer.specs.State.{Memory, Call, Saying, Hello, Welcome, Data, Freeze, Frozen, Cut, Said, seen_by}
 use Rattle.c8_peer.specs.Told.{Told, told_of}
-use Rattle.c8_peer.specs.Saying.{lacks_record, run_from, newest_mark, cut_length, message}
+use Rattle.c8_peer.specs.Saying.{lacks_record, run_from, newest_mark, cut_length, message, show_packet}
 use Rattle.c8_peer.specs.Steps.{outcome}
 use Rattle.c8_peer.specs.Lawful.{IsMemory, IsCall}
 use Rattle.c8_peer.proofs.SayingLemmas.{IsLeaver, is_leaver, leaver_plays, frozen_or, leaving_or, some_cut, own_player, said_is, what_is_said}
+use Rattle.c8_wire.specs.Seats.{is_watcher, are_two_players, are_seats}
+use Rattle.c8_game.specs.declared.row.Row.{Row}
+use Rattle.std.proofs.lemmas.List.FromFn.{length-map-range_with_len}
+use Rattle.c8_peer.specs.checked.BoundLaws.{session_low, confirmed_frames}
 
 -- ---- parts of lists
 
@@ -55,23 +60,6 @@ append_low (x ∷ xs) ys bound one two (suc i) = append_low xs ys bound (λ j. o
 front_is_mark : (bytes : List ℕ) → IsMark (take 8 (sha256 bytes))
 front_is_mark bytes =
     (omega (arith, length-take 8 (sha256 bytes), digest_length bytes), take_low (sha256 bytes) 8 (2 ^ 8) (digest_bytes_fit bytes))
-
-number_low : (bytes : List ℕ) → AreBytes bytes → from_be_bytes w64 bytes < 2 ^ 64
-number_low bytes fits =
-    let b0 = fits 0 in
-    let b1 = fits 1 in
-    let b2 = fits 2 in
-    let b3 = fits 3 in
-    let b4 = fits 4 in
-    let b5 = fits 5 in
-    let b6 = fits 6 in
-    let b7 = fits 7 in
-    omega (arith, b0, b1, b2, b3, b4, b5, b6, b7)
-
-session_low : (rules : Rules) (room : ℕ) → session_of rules room < 2 ^ 64
-session_low rules room =
-    let bytes : List ℕ = id_of rules ++ to_be_bytes w64 room in
-    number_low (take 8 (sha256 bytes)) (front_is_mark bytes).1
 
 -- ---- inputs
 
@@ -245,22 +233,114 @@ message_spelled rules me room journal m to (Cut leaver) range from within is mem
 
 -- ---- the head, and all of it
 
-head_spelled : (rules : Rules) (me room : ℕ) (journal : List Record) (m : Memory) (to : ℕ) (kind : DatagramKind) → AreInRange rules → 1 ≤ me → me ≤ rules.players → IsMemory rules room me journal m
-    → to ≢ (known_of rules me journal).me → Plays (known_of rules me journal) to → IsHead (head_to m.links to kind)
-head_spelled rules me room journal m to kind range from within memory apart plays =
+-- one player's kinds to another
+are_players : (from to : ℕ) → 1 ≤ from → from ≤ 4 → 1 ≤ to → to ≤ 4 → from ≢ to → are_two_players from to ≡ true
+are_players from to from_one from_four to_one to_four apart = rw (le-leb 1 from from_one, le-leb from 4 from_four, le-leb 1 to to_one, le-leb to 4 to_four, ne_eqb from to apart) refl
+
+seats_of : (rules : Rules) (t : Told) (k : KnownValue) (m : Memory) (from to : ℕ) (what : Saying) → are_two_players from to ≡ true → are_seats (kind_of (message rules t k m to what)) from to ≡ true
+seats_of rules t k m from to Hello are = are
+seats_of rules t k m from to Welcome are = are
+seats_of rules t k m from to Data are = are
+seats_of rules t k m from to (Freeze leaver) are = are
+seats_of rules t k m from to (Frozen leaver) are = are
+seats_of rules t k m from to (Cut leaver) are = are
+
+head_of : (rules : Rules) (me room : ℕ) (journal : List Record) (m : Memory) (to : ℕ) (kind : DatagramKind) → IsMemory rules room me journal m → are_seats kind m.links.me to ≡ true → IsHead (head_to m.links to kind)
+head_of rules me room journal m to kind memory seats = record {
+  session = subst (λ (n : ℕ). n < 2 ^ 64) (sym memory.session) (session_low rules room);
+  seats = seats;
+  sender_epoch = memory.epoch_fits;
+  addressee_epoch = memory.known_fits to;
+}
+
+head_spelled : (rules : Rules) (me room : ℕ) (journal : List Record) (m : Memory) (to : ℕ) (what : Saying) → AreInRange rules → 1 ≤ me → me ≤ rules.players → IsMemory rules room me journal m
+    → to ≢ (known_of rules me journal).me → Plays (known_of rules me journal) to → IsHead (head_to m.links to (kind_of (message rules (told_of rules me journal) (known_of rules me journal) m to what)))
+head_spelled rules me room journal m to what range from within memory apart plays =
     let player = memory.player in
     let four = range.at_most_four in
     let first = plays.from_one in
     let last = plays.in_game in
+    let are : are_two_players m.links.me to ≡ true =
+    are_players m.links.me to (omega (arith, player, from)) (omega (arith, player, within, four)) first (omega (arith, last, four, players_known rules me journal)) (λ same. apart (sym same ∙ player ∙ sym (own_player rules me journal))) in
+    head_of rules me room journal m to _ memory (seats_of rules (told_of rules me journal) (known_of rules me journal) m m.links.me to what are)
+
+-- ---- rows for a watcher
+
+-- a settled input is one that is held, or the empty set
+input_low : (input : Option ℕ) (past : Option ℕ) → IfSome input (λ n. n < 2 ^ 16) → IfSome past (λ n. n < 2 ^ 16) → or_empty (unless_held input past) < 2 ^ 16
+input_low (Some n) past held cut = held
+input_low None (Some n) held cut = cut
+input_low None None held cut = omega arith
+
+empty_low : (test : Bool) → IfSome (if test then Some 0 else None) (λ n. n < 2 ^ 16)
+empty_low true = omega arith
+empty_low false = tt
+
+past_low : (cut : Option ℕ) (frame : ℕ) → IfSome (past_cut cut frame) (λ n. n < 2 ^ 16)
+past_low None frame = tt
+past_low (Some K) frame = empty_low (nat_le K frame)
+
+item_low : (xs : List ℕ) (i : ℕ) → AreWords xs → IfSome (slice_get xs i) (λ n. n < 2 ^ 16)
+item_low [] i words = tt
+item_low (x ∷ xs) zero words = words 0
+item_low (x ∷ xs) (suc i) words = item_low xs i (λ j. words (suc j))
+
+set_low : (p : PlayerValue) (frame : ℕ) → AreWords p.held → or_empty (input_of p frame) < 2 ^ 16
+unfolding input_of
+set_low p frame words = input_low (slice_get p.held frame) (past_cut p.cut frame) (item_low p.held frame words) (past_low p.cut frame)
+
+-- the inputs of one who is not in the game are empty sets
+seat_words : (rules : Rules) (me room q : ℕ) (journal : List Record) → IsJournal rules me room journal → 1 ≤ q → AreWords (player_in (known_of rules me journal) q).held
+seat_words rules me room q journal is from =
+    let k : KnownValue = known_of rules me journal in
+    elim (cases_lt (length k.players) q) [
+      | inl past ↦
+          let none : player_in k q ≡ nobody = get_or_past k.players (q - 1) nobody (omega (arith, past)) in
+          subst (λ (p : PlayerValue). AreWords p.held) (sym none) (λ i. omega arith)
+      | inr within ↦ known_words rules me room q journal is (record { from_one = from; in_game = within })
+    ]
+
+row_low : (rules : Rules) (me room : ℕ) (journal : List Record) → IsJournal rules me room journal → (frame place : ℕ) → set_at (row (known_of rules me journal) frame) place < 2 ^ 16
+row_low rules me room journal is frame zero = set_low _ frame (seat_words rules me room 1 journal is (omega arith))
+row_low rules me room journal is frame (suc zero) = set_low _ frame (seat_words rules me room 2 journal is (omega arith))
+row_low rules me room journal is frame (suc (suc zero)) = set_low _ frame (seat_words rules me room 3 journal is (omega arith))
+row_low rules me room journal is frame (suc (suc (suc zero))) = set_low _ frame (seat_words rules me room 4 journal is (omega arith))
+row_low rules me room journal is frame (suc (suc (suc (suc place)))) = omega arith
+
+rows_between : (rules : Rules) (me room : ℕ) (journal : List Record) → IsJournal rules me room journal → (from count : ℕ) → AreRows (map (row (known_of rules me journal)) (range_with_len from count))
+rows_between rules me room journal is from zero i = tt
+rows_between rules me room journal is from (suc count) zero = record { four = refl; sets = row_low rules me room journal is from }
+rows_between rules me room journal is from (suc count) (suc i) = rows_between rules me room journal is (from + 1) count i
+
+rows_taken : (n : ℕ) (rows : List Row) → AreRows rows → AreRows (take n rows)
+rows_taken zero rows are i = tt
+rows_taken (suc n) [] are i = tt
+rows_taken (suc n) (first ∷ rows) are zero = are 0
+rows_taken (suc n) (first ∷ rows) are (suc i) = rows_taken n rows (λ j. are (suc j)) i
+
+rows_dropped : (n : ℕ) (rows : List Row) → AreRows rows → AreRows (drop n rows)
+rows_dropped zero rows are i = are i
+rows_dropped (suc n) [] are i = tt
+rows_dropped (suc n) (first ∷ rows) are i = rows_dropped n rows (λ j. are (suc j)) i
+
+show_spelled : (rules : Rules) (me room : ℕ) (journal : List Record) (m : Memory) (watcher : ℕ) → AreInRange rules → 1 ≤ me → me ≤ rules.players → IsJournal rules me room journal → IsMemory rules room me journal m → (known_of rules me journal).me ≡ 1 → is_watcher watcher ≡ true
+    → IsPacket (show_packet (known_of rules me journal) m watcher)
+show_spelled rules me room journal m watcher range from in_game is memory one watches =
+    let k : KnownValue = known_of rules me journal in
+    let start : ℕ = seen_by m.seen watcher in
+    let few = memory.shown watcher in
+    let all : length (confirmed_rows k) ≡ confirmed k = length-map-range_with_len (row k) 0 (confirmed k) in
+    let left : List Row = drop start (confirmed_rows k) in
+    let chair : m.links.me ≡ 1 = memory.player ∙ sym (own_player rules me journal) ∙ one in
     record {
-      session = subst (λ (n : ℕ). n < 2 ^ 64) (sym memory.session) (session_low rules room);
-      from_one = omega (arith, player, from);
-      from_four = omega (arith, player, within, four);
-      to_one = first;
-      to_four = omega (arith, last, four, players_known rules me journal);
-      apart = λ same. apart (sym same ∙ player ∙ sym (own_player rules me journal));
-      sender_epoch = memory.epoch_fits;
-      addressee_epoch = memory.known_fits to;
+      head = head_of rules me room journal m watcher kinds.Show memory (rw (eq-eqb m.links.me 1 chair, watches) refl);
+      kind = refl;
+      fits = rows_taken most_rows left (rows_dropped start (confirmed_rows k) (rows_between rules me room journal is 0 (confirmed k)));
+      message = record {
+        short = omega (arith, length-take most_rows left);
+        within = omega (arith, length-take most_rows left, length-drop start (confirmed_rows k), all, few, confirmed_frames rules me room journal range from in_game is, range.frames);
+      };
+      room = refl;
     }
 
 pub said_spelled : (rules : Rules) (me room : ℕ) (journal : List Record) (m : Memory)
@@ -271,13 +351,16 @@ pub said_spelled : (rules : Rules) (me room : ℕ) (journal : List Record) (m : 
     → IsPacket p
 said_spelled rules me room journal m call p range from within journal_is memory fits said =
     let k : KnownValue = known_of rules me journal in
-    let s = what_is_said rules (told_of rules me journal) k m call p said in
     let known : IsKnown k = journal_known rules me room journal range from within journal_is in
-    let spelled = message_spelled rules me room journal m s.to s.what range from within journal_is memory (journal_orderly rules me room journal journal_is) known s.has in
-    subst IsPacket (sym s.is) (record {
-      head = head_spelled rules me room journal m s.to (kind_of (message rules (told_of rules me journal) k m s.to s.what)) range from within memory s.apart s.plays;
-      kind = refl;
-      fits = spelled.fits;
-      message = spelled.may;
-      room = ap (λ (v : WireVersion). has_room v (message rules (told_of rules me journal) k m s.to s.what)) memory.version ∙ spelled.room;
-    })
+    elim (what_is_said rules (told_of rules me journal) k m call p said) [
+      | inl s ↦
+          let spelled = message_spelled rules me room journal m s.to s.what range from within journal_is memory (journal_orderly rules me room journal journal_is) known s.has in
+          subst IsPacket (sym s.is) (record {
+            head = head_spelled rules me room journal m s.to s.what range from within memory s.apart s.plays;
+            kind = refl;
+            fits = spelled.fits;
+            message = spelled.may;
+            room = ap (λ (v : WireVersion). has_room v (message rules (told_of rules me journal) k m s.to s.what)) memory.version ∙ spelled.room;
+          })
+      | inr s ↦ subst IsPacket (sym s.is) (show_spelled rules me room journal m s.watcher range from within journal_is memory s.one (subst IsCall s.call_is fits))
+    ]

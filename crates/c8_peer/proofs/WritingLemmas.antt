@@ -1,9 +1,10 @@
 -- What is said: the part of a list that is lent, and that what is written is true and has a spelling.
-use Rattle.std.proofs.Common.{◌≡◌, true, ℕ, ◌-◌, List, length, take, drop, Ok, refl, sym, ap, subst, ◌∙◌, arith}
+use Rattle.std.proofs.Common.{◌≡◌, ◌≢◌, true, ℕ, ◌-◌, List, length, take, drop, Ok, Err, refl, sym, ap, subst, ◌∙◌, arith}
 use Rattle.std.proofs.lemmas.List.{take_all, length-drop}
 use Rattle.c8_game.specs.Rules.{Rules}
 use Rattle.c8_wire.specs.Packet.{HeadValue, Message, Packet, IsMessage, IsPacket, has_room, kind_of}
 use Rattle.c8_wire.specs.Spelling.{Spells}
+use Rattle.c8_wire.specs.declared.kinds.DatagramKind.TheVariants as wires
 use Rattle.c8_hand.specs.Links.{head_to}
 use Rattle.c8_log.specs.Journal.{JournalValue}
 use Rattle.c8_known.specs.Known.{KnownValue, known_of}
@@ -11,18 +12,21 @@ use Rattle.c8_record.specs.Body.{records_of}
 use Rattle.c8_peer.specs.declared.kind.Kind.{Kind}
 use Rattle.c8_peer.specs.declared.kind.Kind.TheVariants as kinds
 use Rattle.c8_peer.specs.Asked.{saying_of, wire_of}
-use Rattle.c8_peer.specs.State.{Memory, Open, Saying, Say, Said, Outcome, answered}
-use Rattle.c8_peer.specs.Saying.{message, packet, say}
+use Rattle.c8_peer.specs.State.{Memory, Open, Saying, Say, Said, Outcome, answered, Show}
+use Rattle.c8_peer.specs.Saying.{message, packet, say, rows_for, show_packet, show}
 use Rattle.c8_peer.specs.Told.{Told, told_of}
 use Rattle.c8_peer.specs.Steps.{outcome}
 use Rattle.c8_peer.specs.Truth.{IsTrue}
 use Rattle.c8_peer.specs.TrueChecks.{HasTrueChecks}
-use Rattle.c8_peer.specs.Peer.{PeerValue, known_by, told_by, IsSaid}
+use Rattle.c8_refusals.specs.declared.error.Unsayable.TheVariants as unsayables
+use Rattle.c8_peer.specs.Peer.{PeerValue, known_by, told_by, IsStep, IsSaid}
 use Rattle.c8_peer.specs.checked.Held.{IsPeer}
 use Rattle.c8_peer.proofs.SayingLemmas.{said_true}
 use Rattle.c8_peer.proofs.SpellingLemmas.{said_spelled}
 use Rattle.c8_peer.proofs.PeerLemmas.{view}
 use Rattle.c8_peer.proofs.AnswerLemmas.{outcome_seen}
+use Rattle.std.proofs.lemmas.Bool.{eq-eqb, ne_eqb}
+use Rattle.c8_wire.specs.Seats.{is_watcher}
 
 -- from a start on, to the end
 pub rest_from : (xs : List ℕ) (start to : ℕ) → to ≡ length xs → take (to - start) (drop start xs) ≡ drop start xs
@@ -44,6 +48,21 @@ pub record IsWritten (rules : Rules) (t : Told) (k : KnownValue) (m : Memory) (t
   pub kind : head.kind ≡ kind_of body
   pub message_is : IsMessage body
   pub room : has_room head.version body ≡ true
+
+-- a SHOW that is to be written
+pub record IsShowWritten (k : KnownValue) (m : Memory) (watcher : ℕ) (head : HeadValue) (body : Message) : Type 0 where
+  pub is : ◌≡◌ {A = Packet} (record { head = head; message = body }) (show_packet k m watcher)
+  pub kind : head.kind ≡ kind_of body
+  pub message_is : IsMessage body
+  pub room : has_room head.version body ≡ true
+
+shows : (k : KnownValue) (m : Memory) (watcher : ℕ) → k.me ≡ 1 → show k m watcher ≡ answered m (Said (Ok (show_packet k m watcher)))
+unfolding show
+shows k m watcher one = rw (eq-eqb k.me 1 one) refl
+
+shows_nothing : (k : KnownValue) (m : Memory) (watcher : ℕ) → k.me ≢ 1 → show k m watcher ≡ answered m (Said (Err unsayables.NotMine))
+unfolding show
+shows_nothing k m watcher other = rw (ne_eqb k.me 1 other) refl
 
 module _ {D : Type 0} where
   -- what the journal inside tells
@@ -83,3 +102,42 @@ module _ {D : Type 0} where
         step = rw (mode, here) refl;
         is_true = subst (λ (x : PeerValue D). HasTrueChecks x.rules x.me x.state.journal → IsTrue x.rules x.me x.state.journal p) seen sound;
       }
+
+  pub may_show : (rules : Rules) (room : ℕ) (j : JournalValue D) (k : KnownValue) (m : Memory) (watcher : ℕ) (head : HeadValue) (body : Message) → IsPeer rules room j k m → is_watcher watcher ≡ true → k.me ≡ 1
+      → head ≡ head_to m.links watcher wires.Show → body ≡ rows_for k m watcher → IsShowWritten k m watcher head body
+  may_show rules room j k m watcher head body is watches one heads rows =
+      let t : Told = told_in rules j k in
+      let replies : (outcome rules t (known_of rules k.me (records_of j.bodies)) m (Show watcher)).reply ≡ Said (Ok (show_packet k m watcher)) =
+      subst (λ (known : KnownValue). (show known m watcher).reply ≡ Said (Ok (show_packet k m watcher))) is.known (ap (λ (o : Outcome). o.reply) (shows k m watcher one)) in
+      let spelled : IsPacket (show_packet k m watcher) =
+      said_spelled rules k.me room (records_of j.bodies) m (Show watcher) (show_packet k m watcher) is.range is.from_one is.in_game is.bodies.journal is.memory watches replies in
+      record {
+        is = λ i. record { head = heads i; message = rows i };
+        kind = rw (heads, rows) refl;
+        message_is = rw rows spelled.message;
+        room = rw (heads, rows) spelled.room;
+      }
+
+  pub is_shown : {ran : ℕ} (v : PeerValue D) (rules : Rules) (room : ℕ) (j : JournalValue D) (k : KnownValue) (m : Memory) (watcher : ℕ) (bytes : List ℕ) → view rules room k.me j m ran ≡ v → IsPeer rules room j k m → v.state.mode ≡ Open
+      → is_watcher watcher ≡ true → k.me ≡ 1 → Spells bytes (show_packet k m watcher) → IsSaid v (Show watcher) bytes
+  is_shown v rules room j k m watcher bytes seen is mode watches one spells =
+      let t : Told = told_in rules j k in
+      let p : Packet = show_packet k m watcher in
+      let comes = shows k m watcher one in
+      let here : outcome v.rules (told_by v) (known_by v) v.state.memory (Show watcher) ≡ answered v.state.memory (Said (Ok p)) = outcome_seen v rules room j k m is seen (Show watcher) (λ noted. answered noted (Said (Ok p))) comes in
+      let sound : HasTrueChecks rules k.me (records_of j.bodies) → IsTrue rules k.me (records_of j.bodies) p = λ true_checks.
+      said_true rules k.me room (records_of j.bodies) m (Show watcher) p is.range is.from_one is.in_game is.bodies.journal is.memory watches true_checks
+      (subst (λ (known : KnownValue). (show known m watcher).reply ≡ Said (Ok p)) is.known (ap (λ (o : Outcome). o.reply) comes)) in
+      record {
+        packet = p;
+        spelled = spells;
+        step = rw (mode, here) refl;
+        is_true = subst (λ (x : PeerValue D). HasTrueChecks x.rules x.me x.state.journal → IsTrue x.rules x.me x.state.journal p) seen sound;
+      }
+
+  pub show_refused : {ran : ℕ} (v : PeerValue D) (rules : Rules) (room : ℕ) (j : JournalValue D) (k : KnownValue) (m : Memory) (watcher : ℕ) → view rules room k.me j m ran ≡ v → IsPeer rules room j k m → v.state.mode ≡ Open
+      → k.me ≢ 1 → IsStep v (Show watcher) (Said (Err unsayables.NotMine)) v
+  show_refused v rules room j k m watcher seen is mode other =
+      let here : outcome v.rules (told_by v) (known_by v) v.state.memory (Show watcher) ≡ answered v.state.memory (Said (Err unsayables.NotMine)) =
+      outcome_seen v rules room j k m is seen (Show watcher) (λ noted. answered noted (Said (Err unsayables.NotMine))) (shows_nothing k m watcher other) in
+      rw (mode, here) refl

@@ -7,10 +7,10 @@ use Rattle.c8_known.specs.Known.{KnownValue, player_in, count_in, is_player}
 use Rattle.c8_known.specs.Confirmed.{confirmed}
 use Rattle.c8_round.specs.Round.{is_ready}
 use Rattle.c8_check.specs.Checks.{Pieces, all_pieces, piece_in, digest_of, frames_of}
-use Rattle.c8_peer.specs.declared.error.TickError.TheVariants as ticks
-use Rattle.c8_peer.specs.declared.error.LeaveError.TheVariants as leaves
-use Rattle.c8_peer.specs.declared.error.DecideError.TheVariants as decides
-use Rattle.c8_peer.specs.declared.error.CheckError.TheVariants as checks
+use Rattle.c8_refusals.specs.declared.error.TickError.TheVariants as ticks
+use Rattle.c8_refusals.specs.declared.error.LeaveError.TheVariants as leaves
+use Rattle.c8_refusals.specs.declared.error.DecideError.TheVariants as decides
+use Rattle.c8_refusals.specs.declared.error.CheckError.TheVariants as checks
 use Rattle.c8_peer.specs.declared.check.Check.TheVariants.{Piece, Done}
 use Rattle.c8_peer.specs.Told.{Told}
 use Rattle.c8_peer.specs.State.{Memory, Ticked, Left, Decided, Checked, Outcome, answered, recorded}

@@ -6,22 +6,24 @@ use Rattle.c8_wire.specs.declared.error.WireError.{WireError}
 use Rattle.c8_wire.specs.Packet.{HeadValue, DataMessage, FreezeMessage, LeaverMessage, Message, Packet}
 use Rattle.c8_wire.specs.Packet as packets
 use Rattle.c8_hand.specs.declared.error.HandError.{HandError}
+use Rattle.c8_hand.specs.declared.error.HandError.TheVariants as hands
 use Rattle.c8_hand.specs.Links.{heard}
 use Rattle.c8_hand.specs.Links as links
 use Rattle.c8_known.specs.declared.error.KnownError.{KnownError}
 use Rattle.c8_known.specs.declared.error.KnownError.TheVariants as knowns
 use Rattle.c8_known.specs.Journal as records
 use Rattle.c8_known.specs.Known.{KnownValue, player_in, count_in, is_player}
+use Rattle.c8_known.specs.Confirmed.{confirmed}
 use Rattle.c8_known.specs.Fresh.{differ, is_from_leaver, misfit, fresh_words}
 use Rattle.c8_digest.specs.Marks.{mark_at}
 use Rattle.c8_window.specs.Window.{acked_more}
 use Rattle.c8_round.specs.Round.{with_report, with_have}
-use Rattle.c8_peer.specs.declared.error.Refused.{Refused}
-use Rattle.c8_peer.specs.declared.error.Refused.TheVariants as refusals
+use Rattle.c8_refusals.specs.declared.error.Refused.{Refused}
+use Rattle.c8_refusals.specs.declared.error.Refused.TheVariants as refusals
 use Rattle.c8_peer.specs.declared.heard.Heard.{Heard}
 use Rattle.c8_peer.specs.declared.heard.Heard.TheVariants as heards
 use Rattle.c8_peer.specs.Told.{Told}
-use Rattle.c8_peer.specs.State.{Memory, Delivered, Outcome, answered, recorded}
+use Rattle.c8_peer.specs.State.{Memory, with_seen, Delivered, Outcome, answered, recorded}
 
 abbrev pub refused : Memory → Refused → Outcome
 refused m why = answered m (Delivered (Err why))
@@ -110,8 +112,17 @@ hear_cut k m q c =
     else (if not (player_in k c.leaver).frozen then refused m refusals.NotFrozen
     else hear_end k m c (player_in k c.leaver).cut)))
 
+-- ---- SEEN
+
+-- A watcher tells player one how many rows it has; the last one counts.
+unfoldable pub hear_seen : KnownValue → Memory → HeadValue → ℕ → Outcome
+hear_seen k m head ack =
+    if nat_lt (confirmed k) ack then refused m refusals.BadAck
+    else taken (record m { seen = with_seen m.seen head.from ack }) heards.Nothing
+
 -- ---- any delivery
 
+-- SHOW and SEEN are no player's to a player, so that the links admit none of them.
 abbrev pub hear_message : Rules → Told → KnownValue → Memory → HeadValue → Message → Outcome
 hear_message rules t k m head packets.Hello = taken (record m { links = heard m.links head }) heards.Nothing
 hear_message rules t k m head (packets.Welcome ack) = hear_welcome k m head ack
@@ -119,6 +130,8 @@ hear_message rules t k m head (packets.Data d) = hear_data t k m head.from d
 hear_message rules t k m head (packets.Freeze f) = hear_freeze k m head.from f
 hear_message rules t k m head (packets.Frozen f) = hear_frozen k m head.from f
 hear_message rules t k m head (packets.Cut c) = hear_cut k m head.from c
+hear_message rules t k m head (packets.Show shown) = refused m (refusals.Hand hands.NotMine)
+hear_message rules t k m head (packets.Seen ack) = refused m (refusals.Hand hands.NotMine)
 
 -- a datagram in another version of the format than the game's
 abbrev pub is_of_other_wire : Rules → HeadValue → Bool
@@ -128,10 +141,27 @@ abbrev pub unless_hand : Memory → Option HandError → Outcome → Outcome
 unless_hand m None outcome = outcome
 unless_hand m (Some error) outcome = refused m (refusals.Hand error)
 
+-- how many rows a SEEN tells of
+abbrev pub seen_in : Message → Option ℕ
+seen_in packets.Hello = None
+seen_in (packets.Welcome ack) = None
+seen_in (packets.Data d) = None
+seen_in (packets.Freeze f) = None
+seen_in (packets.Frozen f) = None
+seen_in (packets.Cut c) = None
+seen_in (packets.Show shown) = None
+seen_in (packets.Seen ack) = Some ack
+
+-- what comes from a watcher needs no link
+abbrev pub hear_from_watcher : KnownValue → Memory → HeadValue → ℕ → Outcome
+hear_from_watcher k m head ack = unless_hand m (links.refusal_of_seen m.links head) (hear_seen k m head ack)
+
+abbrev pub hear_from : Rules → Told → KnownValue → Memory → Packet → Option ℕ → Outcome
+hear_from rules t k m p (Some ack) = hear_from_watcher k m p.head ack
+hear_from rules t k m p None = unless_hand m (links.refusal m.links p.head) (hear_message rules t k m p.head p.message)
+
 abbrev pub hear : Rules → Told → KnownValue → Memory → Packet → Outcome
-hear rules t k m p =
-    if is_of_other_wire rules p.head then refused m refusals.OtherWire
-    else unless_hand m (links.refusal m.links p.head) (hear_message rules t k m p.head p.message)
+hear rules t k m p = if is_of_other_wire rules p.head then refused m refusals.OtherWire else hear_from rules t k m p (seen_in p.message)
 
 abbrev pub hear_told : Rules → Told → KnownValue → Memory → Result Packet WireError → Outcome
 hear_told rules t k m (Ok p) = hear rules t k m p

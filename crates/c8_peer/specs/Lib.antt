@@ -1,4 +1,3 @@
-pub mod Errors
 pub mod State
 pub mod Told
 pub mod Calls

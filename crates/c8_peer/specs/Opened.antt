@@ -16,8 +16,8 @@ use Rattle.c8_record.specs.Body.{body_of, records_of}
 use Rattle.c8_record.specs.Replay.{AreJournalBodies, IsRefusal, ReplayRun}
 use Rattle.c8_record.specs.declared.error.ReplayError.{ReplayError}
 use Rattle.c8_record.specs.declared.error.ReplayError.TheVariants as replays
-use Rattle.c8_peer.specs.declared.error.OpenError.{OpenError}
-use Rattle.c8_peer.specs.declared.error.OpenError.TheVariants as opens
+use Rattle.c8_refusals.specs.declared.error.OpenError.{OpenError}
+use Rattle.c8_refusals.specs.declared.error.OpenError.TheVariants as opens
 use Rattle.c8_peer.specs.State.{State, Opened}
 use Rattle.c8_peer.specs.Opening.{last_epoch, opening_record, Stands, opened, MayBecome}
 use Rattle.c8_peer.specs.Peer.{PeerValue, stepped, IsSound}

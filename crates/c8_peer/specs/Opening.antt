@@ -8,8 +8,8 @@ use Rattle.c8_record.specs.Allowed.{IsJournal}
 use Rattle.c8_record.specs.Replay.{IsRefusal}
 use Rattle.c8_record.specs.declared.error.ReplayError.{ReplayError}
 use Rattle.c8_record.specs.declared.error.ReplayError.TheVariants as replays
-use Rattle.c8_peer.specs.declared.error.OpenError.{OpenError}
-use Rattle.c8_peer.specs.declared.error.OpenError.TheVariants as opens
+use Rattle.c8_refusals.specs.declared.error.OpenError.{OpenError}
+use Rattle.c8_refusals.specs.declared.error.OpenError.TheVariants as opens
 use Rattle.c8_peer.specs.State.{Open, Away, State, fresh_memory, Opened}
 use Rattle.c8_peer.specs.Steps.{Stepped}
 

@@ -15,18 +15,18 @@ use Rattle.c8_check.specs.Checks.{begun_at}
 use Rattle.c8_roll.specs.Rollback.{RunsFromOldest}
 use Rattle.c8_record.specs.Body.{body_of, record_of, records_of}
 use Rattle.c8_record.specs.Allowed.{IsJournal}
-use Rattle.c8_peer.specs.declared.error.TickError.{TickError}
-use Rattle.c8_peer.specs.declared.error.TickError.TheVariants as ticks
-use Rattle.c8_peer.specs.declared.error.Refused.{Refused}
-use Rattle.c8_peer.specs.declared.error.Refused.TheVariants as refusals
-use Rattle.c8_peer.specs.declared.error.LeaveError.{LeaveError}
-use Rattle.c8_peer.specs.declared.error.LeaveError.TheVariants as leaves
-use Rattle.c8_peer.specs.declared.error.DecideError.{DecideError}
-use Rattle.c8_peer.specs.declared.error.DecideError.TheVariants as decides
-use Rattle.c8_peer.specs.declared.error.CheckError.{CheckError}
-use Rattle.c8_peer.specs.declared.error.CheckError.TheVariants as checks
+use Rattle.c8_refusals.specs.declared.error.TickError.{TickError}
+use Rattle.c8_refusals.specs.declared.error.TickError.TheVariants as ticks
+use Rattle.c8_refusals.specs.declared.error.Refused.{Refused}
+use Rattle.c8_refusals.specs.declared.error.Refused.TheVariants as refusals
+use Rattle.c8_refusals.specs.declared.error.LeaveError.{LeaveError}
+use Rattle.c8_refusals.specs.declared.error.LeaveError.TheVariants as leaves
+use Rattle.c8_refusals.specs.declared.error.DecideError.{DecideError}
+use Rattle.c8_refusals.specs.declared.error.DecideError.TheVariants as decides
+use Rattle.c8_refusals.specs.declared.error.CheckError.{CheckError}
+use Rattle.c8_refusals.specs.declared.error.CheckError.TheVariants as checks
 use Rattle.c8_peer.specs.declared.check.Check.{Check}
-use Rattle.c8_peer.specs.State.{Memory, Mode, Open, Down, Away, State, Call, Tick, Deliver, Say, Leave, Decide, Checkpoint, Reply, Opened, Ticked, Delivered, Said, Left, Decided, Checked}
+use Rattle.c8_peer.specs.State.{Memory, Mode, Open, Down, Away, State, Call, Tick, Deliver, Say, Show, Leave, Decide, Checkpoint, Reply, Opened, Ticked, Delivered, Said, Left, Decided, Checked}
 use Rattle.c8_wire.specs.Packet.{Packet}
 use Rattle.c8_wire.specs.Spelling.{Spells}
 use Rattle.c8_peer.specs.Truth.{IsTrue}
@@ -162,6 +162,7 @@ abbrev pub most_run : Rules → Call → ℕ
 most_run rules (Tick keys) = rules.window + 1
 most_run rules (Deliver told) = rules.window
 most_run rules (Say to what) = rules.window
+most_run rules (Show watcher) = rules.window
 most_run rules (Leave leaver) = rules.window
 most_run rules (Decide leaver) = rules.window
 most_run rules Checkpoint = 0

@@ -8,12 +8,12 @@ use Rattle.c8_hand.specs.Links.{no_link}
 use Rattle.c8_known.specs.Known.{KnownValue, known_of}
 use Rattle.c8_window.specs.Window.{first_window}
 use Rattle.c8_round.specs.Round.{no_reports, no_haves}
-use Rattle.c8_peer.specs.State.{Away, State, Call, Reply, Opened, Said}
+use Rattle.c8_peer.specs.State.{Away, State, none_seen, Call, Reply, Opened, Said}
 use Rattle.c8_peer.specs.State as states
 use Rattle.c8_peer.specs.Steps.{Luck, Stepped, step}
 use Rattle.c8_peer.specs.Opening.{Opening, found, opened, away, MayBecome}
 use Rattle.c8_disk.specs.declared.disk.Disk.{Ghosts}
-use Rattle.c8_peer.specs.declared.error.OpenError.{OpenError}
+use Rattle.c8_refusals.specs.declared.error.OpenError.{OpenError}
 use Rattle.c8_peer.specs.Peer.{Keeps}
 use Rattle.c8_record.specs.Allowed.{IsJournal}
 use Rattle.c8_peer.specs.TrueChecks.{HasTrueChecks}
@@ -31,6 +31,7 @@ never_opened = record {
     chair = no_reports;
     stayer = no_haves;
     alarm = false;
+    seen = none_seen;
   };
 }
 

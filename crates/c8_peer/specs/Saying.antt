@@ -1,18 +1,21 @@
 -- What a peer says when it is asked to, or why it does not. Each line is a refusal, in the order in which they are judged.
-use Rattle.std.specs.Prelude.{ℕ, ◌==◌, ◌||◌, List, drop, replicate, unwrap_or, Bool, false, not, is_none, Option, Some, None, Ok, Err, if◌then◌else◌}
+use Rattle.std.specs.Prelude.{ℕ, ◌==◌, ◌||◌, List, take, drop, replicate, unwrap_or, Bool, false, not, is_none, Option, Some, None, Ok, Err, if◌then◌else◌}
 use Rattle.c8_game.specs.Rules.{Rules}
+use Rattle.c8_wire.specs.Sizes.{most_rows}
 use Rattle.c8_wire.specs.Carried.{carried}
+use Rattle.c8_wire.specs.declared.kinds.DatagramKind.TheVariants as kinds
 use Rattle.c8_wire.specs.Packet.{Message, Packet, kind_of}
 use Rattle.c8_wire.specs.Packet as packets
 use Rattle.c8_hand.specs.Links.{link_to, head_to}
 use Rattle.c8_known.specs.Known.{KnownValue, player_in, count_in, is_player}
+use Rattle.c8_known.specs.Confirmed.{confirmed_rows}
 use Rattle.c8_digest.specs.declared.marks.FrameMark.{FrameMark}
 use Rattle.c8_digest.specs.Marks.{mark_length, newest_of}
 use Rattle.c8_window.specs.Window.{acked_of, pending_of}
 use Rattle.c8_round.specs.Round.{owed, answer_from}
-use Rattle.c8_peer.specs.declared.error.Unsayable.TheVariants as unsayables
+use Rattle.c8_refusals.specs.declared.error.Unsayable.TheVariants as unsayables
 use Rattle.c8_peer.specs.Told.{Told}
-use Rattle.c8_peer.specs.State.{Memory, Saying, Hello, Welcome, Data, Freeze, Frozen, Cut, Said, Outcome, answered}
+use Rattle.c8_peer.specs.State.{Memory, seen_by, Saying, Hello, Welcome, Data, Freeze, Frozen, Cut, Said, Outcome, answered}
 
 -- ---- what may not be said
 
@@ -93,3 +96,19 @@ say rules t k m to what =
     else (if lacks_record k what then answered m (Said (Err unsayables.NoRecord))
     else (if lacks_link m to what then answered m (Said (Err unsayables.NoLink))
     else answered m (Said (Ok (packet rules t k m to what)))))))
+
+-- ---- what is said to a watcher
+
+-- the confirmed rows from the first one on that the watcher has not, as many as one datagram has
+abbrev pub rows_for : KnownValue → Memory → ℕ → Message
+rows_for k m watcher = packets.Show (record {
+  start = seen_by m.seen watcher;
+  rows = take most_rows (drop (seen_by m.seen watcher) (confirmed_rows k));
+})
+
+abbrev pub show_packet : KnownValue → Memory → ℕ → Packet
+show_packet k m watcher = record { head = head_to m.links watcher kinds.Show; message = rows_for k m watcher }
+
+-- player one alone shows the match
+unfoldable pub show : KnownValue → Memory → ℕ → Outcome
+show k m watcher = if k.me == 1 then answered m (Said (Ok (show_packet k m watcher))) else answered m (Said (Err unsayables.NotMine))

@@ -1,5 +1,5 @@
 -- What a peer is: its journal, whether it is open, and what it keeps in memory.
-use Rattle.std.specs.Prelude.{ℕ, List, Option, Some, None, Bool, false, Result}
+use Rattle.std.specs.Prelude.{ℕ, ◌==◌, List, Option, Some, None, Bool, false, Result, if◌then◌else◌}
 use Rattle.c8_game.specs.Rules.{Rules}
 use Rattle.c8_wire.specs.declared.error.WireError.{WireError}
 use Rattle.c8_wire.specs.Packet.{Packet}
@@ -7,26 +7,41 @@ use Rattle.c8_hand.specs.Links.{LinksValue, no_links}
 use Rattle.c8_known.specs.Journal.{Record}
 use Rattle.c8_window.specs.Window.{WindowValue, first_window}
 use Rattle.c8_round.specs.Round.{ChairValue, no_reports, StayerValue, no_haves}
-use Rattle.c8_peer.specs.declared.error.OpenError.{OpenError}
-use Rattle.c8_peer.specs.declared.error.TickError.{TickError}
-use Rattle.c8_peer.specs.declared.error.Refused.{Refused}
-use Rattle.c8_peer.specs.declared.error.Unsayable.{Unsayable}
-use Rattle.c8_peer.specs.declared.error.LeaveError.{LeaveError}
-use Rattle.c8_peer.specs.declared.error.DecideError.{DecideError}
-use Rattle.c8_peer.specs.declared.error.CheckError.{CheckError}
+use Rattle.c8_refusals.specs.declared.error.OpenError.{OpenError}
+use Rattle.c8_refusals.specs.declared.error.TickError.{TickError}
+use Rattle.c8_refusals.specs.declared.error.Refused.{Refused}
+use Rattle.c8_refusals.specs.declared.error.Unsayable.{Unsayable}
+use Rattle.c8_refusals.specs.declared.error.LeaveError.{LeaveError}
+use Rattle.c8_refusals.specs.declared.error.DecideError.{DecideError}
+use Rattle.c8_refusals.specs.declared.error.CheckError.{CheckError}
 use Rattle.c8_peer.specs.declared.check.Check.{Check}
 use Rattle.c8_peer.specs.declared.heard.Heard.{Heard}
 
 -- ---- the state
 
+-- how many rows the watchers in seats 5 and 6 have told that they have
+pub record SeenValue : Type 0 where
+  pub five : ℕ
+  pub six : ℕ
+
+abbrev pub none_seen : SeenValue
+none_seen = record { five = 0; six = 0 }
+
+abbrev pub seen_by : SeenValue → ℕ → ℕ
+seen_by s watcher = if watcher == 5 then s.five else (if watcher == 6 then s.six else 0)
+
+abbrev pub with_seen : SeenValue → ℕ → ℕ → SeenValue
+with_seen s watcher rows = record { five = if watcher == 5 then rows else s.five; six = if watcher == 6 then rows else s.six }
+
 -- What begins anew with each opening: the links, how many of the own inputs each player has acknowledged, what is kept of
--- a drop round, and whether another peer's machine was seen to differ.
+-- a drop round, whether another peer's machine was seen to differ, and how many rows each watcher has.
 pub record Memory : Type 0 where
   pub links : LinksValue
   pub acks : WindowValue
   pub chair : ChairValue
   pub stayer : StayerValue
   pub alarm : Bool
+  pub seen : SeenValue
 
 -- open; down, since the disk refused a record; or away
 pub data Mode : Type 0 where
@@ -50,6 +65,7 @@ fresh_memory rules room me epoch = record {
   chair = no_reports;
   stayer = no_haves;
   alarm = false;
+  seen = none_seen;
 }
 
 -- ---- what happens to an open peer, and what it answers
@@ -68,6 +84,8 @@ pub data Call : Type 0 where
   Tick : (keys : ℕ) → Call
   Deliver : (told : Result Packet WireError) → Call
   Say : (to : ℕ) → (what : Saying) → Call
+  -- rows for a watcher
+  Show : (watcher : ℕ) → Call
   Leave : (leaver : ℕ) → Call
   Decide : (leaver : ℕ) → Call
   Checkpoint : Call

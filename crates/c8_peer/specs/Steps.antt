@@ -4,23 +4,24 @@ use Rattle.c8_game.specs.Rules.{Rules}
 use Rattle.c8_disk.specs.declared.error.DiskError.{DiskError}
 use Rattle.c8_known.specs.Journal.{Record}
 use Rattle.c8_known.specs.Known.{KnownValue, known_of}
-use Rattle.c8_peer.specs.declared.error.TickError.TheVariants as ticks
-use Rattle.c8_peer.specs.declared.error.Refused.TheVariants as refusals
-use Rattle.c8_peer.specs.declared.error.Unsayable.TheVariants as unsayables
-use Rattle.c8_peer.specs.declared.error.LeaveError.TheVariants as leaves
-use Rattle.c8_peer.specs.declared.error.DecideError.TheVariants as decides
-use Rattle.c8_peer.specs.declared.error.CheckError.TheVariants as checks
+use Rattle.c8_refusals.specs.declared.error.TickError.TheVariants as ticks
+use Rattle.c8_refusals.specs.declared.error.Refused.TheVariants as refusals
+use Rattle.c8_refusals.specs.declared.error.Unsayable.TheVariants as unsayables
+use Rattle.c8_refusals.specs.declared.error.LeaveError.TheVariants as leaves
+use Rattle.c8_refusals.specs.declared.error.DecideError.TheVariants as decides
+use Rattle.c8_refusals.specs.declared.error.CheckError.TheVariants as checks
 use Rattle.c8_peer.specs.Told.{Told, told_of}
-use Rattle.c8_peer.specs.State.{Memory, Mode, Open, Down, Away, State, Call, Tick, Deliver, Say, Leave, Decide, Checkpoint, Reply, Opened, Ticked, Delivered, Said, Left, Decided, Checked, Outcome}
+use Rattle.c8_peer.specs.State.{Memory, Mode, Open, Down, Away, State, Call, Tick, Deliver, Say, Show, Leave, Decide, Checkpoint, Reply, Opened, Ticked, Delivered, Said, Left, Decided, Checked, Outcome}
 use Rattle.c8_peer.specs.Calls.{tick, leave, decide, checkpoint}
 use Rattle.c8_peer.specs.Hearing.{deliver}
-use Rattle.c8_peer.specs.Saying.{say}
+use Rattle.c8_peer.specs.Saying.{say, show}
 
 -- what a call of an open peer comes to, by what its journal tells
 abbrev pub outcome : Rules → Told → KnownValue → Memory → Call → Outcome
 outcome rules t k m (Tick keys) = tick rules k m keys
 outcome rules t k m (Deliver told) = deliver rules t k m told
 outcome rules t k m (Say to what) = say rules t k m to what
+outcome rules t k m (Show watcher) = show k m watcher
 outcome rules t k m (Leave leaver) = leave k m leaver
 outcome rules t k m (Decide leaver) = decide k m leaver
 outcome rules t k m Checkpoint = checkpoint t k m
@@ -35,6 +36,7 @@ abbrev pub refused_by_disk : Call → DiskError → Reply
 refused_by_disk (Tick keys) why = Ticked (Err (ticks.Disk why))
 refused_by_disk (Deliver told) why = Delivered (Err (refusals.Disk why))
 refused_by_disk (Say to what) why = Said (Err unsayables.Down)
+refused_by_disk (Show watcher) why = Said (Err unsayables.Down)
 refused_by_disk (Leave leaver) why = Left (Err (leaves.Disk why))
 refused_by_disk (Decide leaver) why = Decided (Err (decides.Disk why))
 refused_by_disk Checkpoint why = Checked (Err (checks.Disk why))
@@ -44,6 +46,7 @@ abbrev pub when_down : Call → Reply
 when_down (Tick keys) = Ticked (Err ticks.Down)
 when_down (Deliver told) = Delivered (Err refusals.Down)
 when_down (Say to what) = Said (Err unsayables.Down)
+when_down (Show watcher) = Said (Err unsayables.Down)
 when_down (Leave leaver) = Left (Err leaves.Down)
 when_down (Decide leaver) = Decided (Err decides.Down)
 when_down Checkpoint = Checked (Err checks.Down)

@@ -1,5 +1,5 @@
 -- When a datagram is true of a journal of its sender.
-use Rattle.std.specs.Prelude.{◌≡◌, ℕ, ◌*◌, ◌≤◌, List, ◌∷◌, ◌++◌, drop, true, Some, ◌+◌, length}
+use Rattle.std.specs.Prelude.{◌≡◌, ℕ, ◌*◌, ◌≤◌, List, ◌∷◌, ◌++◌, true, Some}
 use Rattle.c8_game.specs.Rules.{Rules}
 use Rattle.c8_machine.specs.Serial.{serial}
 use Rattle.c8_digest.specs.StateBytes.{mark_of}
@@ -7,14 +7,9 @@ use Rattle.c8_wire.specs.Packet.{Message, Packet}
 use Rattle.c8_wire.specs.Packet as packets
 use Rattle.c8_known.specs.Journal.{Record, Freeze, held, count, had_epoch, has_leave, cut_of}
 use Rattle.c8_known.specs.Known.{known_of}
-use Rattle.c8_known.specs.Confirmed.{confirmed, rows_below}
-use Rattle.c8_known.specs.Growth.{Begins}
+use Rattle.c8_known.specs.Confirmed.{confirmed, rows_below, confirmed_rows}
+use Rattle.c8_known.specs.Growth.{Stands}
 use Rattle.c8_digest.specs.Marks.{mark_step}
-
--- A run stands in a list at a start: the list reaches to its end, and has these inputs there.
-pub record Stands (start : ℕ) (words list : List ℕ) : Type 0 where
-  pub within : start + length words ≤ length list
-  pub is : Begins words (drop start list)
 
 -- the mark is that of the machine after so many first confirmed rows, a multiple of 32
 pub record IsTrueMark (rules : Rules) (me : ℕ) (journal : List Record) (frame : ℕ) (mark : List ℕ) : Type 0 where
@@ -30,7 +25,7 @@ pub record IsFrozenAt (rules : Rules) (leaver n : ℕ) (journal : List Record) :
   pub is : journal ≡ before ++ Freeze leaver ∷ rest
   pub few : count rules leaver before ≤ n
 
--- what a message says to a player is true of a journal of `me`
+-- what a message says to a player or a watcher is true of a journal of `me`; no player says SEEN
 abbrev pub IsTrueMessage : Rules → ℕ → ℕ → List Record → Message → Type 0
 IsTrueMessage rules me to journal packets.Hello = Unit {0}
 IsTrueMessage rules me to journal (packets.Welcome ack) = ack ≤ count rules to journal
@@ -40,6 +35,8 @@ IsTrueMessage rules me to journal (packets.Freeze f) = (me ≡ 1) × (has_leave 
 IsTrueMessage rules me to journal (packets.Frozen f) =
     IsFrozenAt rules f.leaver f.length journal × (f.length ≤ count rules f.leaver journal) × Stands f.start f.words (held rules f.leaver journal)
 IsTrueMessage rules me to journal (packets.Cut c) = (me ≡ 1) × (cut_of c.leaver journal ≡ Some c.length) × Stands c.start c.words (held rules c.leaver journal)
+IsTrueMessage rules me to journal (packets.Show m) = (me ≡ 1) × Stands m.start m.rows (confirmed_rows (known_of rules me journal))
+IsTrueMessage rules me to journal (packets.Seen ack) = ⊥
 
 -- The datagram is from this player, in an epoch that the journal has had, and what it says is true.
 pub record IsTrue (rules : Rules) (me : ℕ) (journal : List Record) (p : Packet) : Type 0 where

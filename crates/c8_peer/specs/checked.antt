@@ -3,3 +3,4 @@ pub mod OpenedParts
 pub mod TruthLaws
 pub mod TrueCheckLaws
 pub mod Verdicts
+pub mod BoundLaws

@@ -3,27 +3,31 @@ ghost use Rattle.std.specs.Prelude.{◌≡◌, ℕ, ◌+◌, ◌≤◌, ◌<◌,
 ghost use Rattle.c8_game.specs.Rules.{Rules};
 ghost use Rattle.c8_wire.specs.Packet.{HeadValue};
 ghost use Rattle.c8_wire.specs.Packet as packets;
+ghost use Rattle.c8_wire.specs.Saying.{head_value};
 ghost use Rattle.c8_wire.specs.Lent.{words, ack_of, data_of, freeze_of, frozen_of, cut_of, packet_of};
 ghost use Rattle.c8_known.specs.Known.{Plays, player_in, count_in};
+ghost use Rattle.c8_known.specs.Confirmed.{confirmed};
 ghost use Rattle.c8_known.specs.Fresh.{differ, is_from_leaver, misfit, fresh_words};
 ghost use Rattle.c8_digest.specs.Marks.{mark_at};
 ghost use Rattle.c8_window.specs.Window.{acked_more};
 ghost use Rattle.c8_round.specs.Round.{with_report, with_have};
 ghost use Rattle.c8_peer.specs.Told.{Told};
-ghost use Rattle.c8_peer.specs.State.{Memory, Outcome};
-ghost use Rattle.c8_peer.specs.Hearing.{refused, unless_misfit, got, differs_from, hear_data, hear_welcome, hear_freeze, hear_frozen, hear_end, hear_cut, cut_or_got, hear_message};
+ghost use Rattle.c8_peer.specs.State.{Memory, Outcome, with_seen};
+ghost use Rattle.c8_peer.specs.Hearing.{refused, taken, hear_from_watcher, unless_misfit, got, differs_from, hear_data, hear_welcome, hear_freeze, hear_frozen, hear_end, hear_cut, cut_or_got, hear_message, seen_in};
 ghost use Rattle.c8_peer.specs.Steps.{Works};
 ghost use Rattle.c8_peer.specs.Peer.{luck_of_refusal};
 ghost use Rattle.c8_peer.specs.checked.Verdicts.{AcksWithin, IsLater, by_verdict, Judges, memory_after};
 
-use crate::error::Refused;
 use crate::heard::Heard;
+use crate::memory::Memory;
 use crate::verdict::Verdict;
 use c8_digest::{MARK_LENGTH, Marks};
 use c8_game::Player;
+use c8_hand::HandError;
 use c8_known::{Known, KnownError};
 use c8_record::Record;
-use c8_wire::{Cut, Data, Datagram, Freeze, Frozen, Run, Welcome};
+use c8_refusals::Refused;
+use c8_wire::{Cut, Data, Datagram, Freeze, Frozen, Head, Run, Welcome};
 
 /// What a datagram of player q comes to.
 pub(crate) fn judge<'a>(
@@ -47,7 +51,51 @@ pub(crate) fn judge<'a>(
         Datagram::Freeze(freeze) => judge_freeze(known, q, freeze),
         Datagram::Frozen(frozen) => judge_frozen(known, q, frozen),
         Datagram::Cut(cut) => judge_cut(known, q, cut),
+        Datagram::Show(_) | Datagram::Seen(_) => Err(Refused::Hand(HandError::NotMine)),
     }
+}
+
+/// How many rows a SEEN tells of.
+pub(crate) fn rows_seen(datagram: &Datagram<'_>) -> Option<u32>
+    ensures { result ≡ seen_in (packet_of datagram.now).message }
+{
+    match datagram {
+        Datagram::Seen(seen) => Some(seen.ack()),
+        Datagram::Hello(_)
+        | Datagram::Welcome(_)
+        | Datagram::Data(_)
+        | Datagram::Freeze(_)
+        | Datagram::Frozen(_)
+        | Datagram::Cut(_)
+        | Datagram::Show(_) => None,
+    }
+}
+
+/// A watcher tells player one how many rows it has.
+#[tactic(auto, unfolding(crate::specs::Hearing::hear_seen))]
+pub(crate) fn judge_seen(
+    known: &Known,
+    memory: &Memory,
+    head: &Head,
+    rows: u32,
+) -> Result<(), Refused>
+    ensures judged { MatchResult result
+        (λ _. hear_from_watcher known.now memory.now (head_value head.now) rows
+        ≡ taken (record memory.now {
+          seen = with_seen memory.now.seen head.now.from.number rows;
+        }) Heard.Nothing)
+        (λ error. hear_from_watcher known.now memory.now (head_value head.now) rows
+        ≡ refused memory.now error) }
+    ensures plain { IfErr result (λ error. luck_of_refusal error ≡ Works) }
+    ensures within { OnOk result (rows ≤ confirmed known.now) }
+{
+    if let Err(error) = memory.links.admit_seen(head) {
+        return Err(Refused::Hand(error));
+    }
+    if rows > known.confirmed() {
+        return Err(Refused::BadAck);
+    }
+    Ok(())
 }
 
 #[tactic(auto, unfolding(crate::specs::Hearing::hear_welcome))]

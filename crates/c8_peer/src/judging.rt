@@ -8,10 +8,10 @@ ghost use Rattle.c8_peer.specs.Calls.{tick, leave, decide};
 ghost use Rattle.c8_peer.specs.Steps.{Works};
 ghost use Rattle.c8_peer.specs.Peer.{luck_of_tick, luck_of_leave, luck_of_decision};
 
-use crate::error::{DecideError, LeaveError, TickError};
 use crate::memory::Memory;
 use c8_game::{Game, Player};
 use c8_known::Known;
+use c8_refusals::{DecideError, LeaveError, TickError};
 
 /// Whether the own player may tick.
 #[tactic(auto, unfolding(crate::specs::Calls::tick))]

@@ -25,8 +25,8 @@ ghost use Rattle.c8_peer.specs.Peer.{PeerValue, IsSound, IsAnswered, IsSaid, IsS
 ghost use Rattle.c8_peer.specs.Runs.{Deed, Does, Opens, IsDone, IsRun, IsLawful, TellsTruly, IsReached, IsAmong, Tells, IsRefusedDeed, IsStoppedOpening, never_opened, known_at};
 ghost use Rattle.c8_peer.specs.Opened.{IsOpened, IsRefusedOpening, OpeningLeaves};
 
-use crate::error::{OpenError, Refused, Unsayable};
 use c8_disk::Disk;
+use c8_refusals::{OpenError, Refused, Unsayable};
 use c8_wire::laws::what_is_read_is_spelled;
 
 /// What is true of a journal stays true of every journal that the rules allow and that it begins.

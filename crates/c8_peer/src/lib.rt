@@ -10,7 +10,6 @@
 #![tactic(auto)]
 
 mod check;
-mod error;
 mod heard;
 mod hearing;
 mod judging;
@@ -20,9 +19,12 @@ mod memory;
 mod peer;
 mod saying;
 mod verdict;
+mod watchers;
 
+pub use c8_refusals::{
+    CheckError, DecideError, LeaveError, OpenError, Refused, TickError, Unsayable,
+};
 pub use check::Check;
-pub use error::{CheckError, DecideError, LeaveError, OpenError, Refused, TickError, Unsayable};
 pub use heard::Heard;
 pub use kind::Kind;
 pub use peer::{Peer, Rows};

@@ -1,19 +1,22 @@
 //! What a peer keeps in memory alone.
-ghost use Rattle.std.specs.Prelude.{◌≡◌, ◌≢◌, true, None};
+ghost use Rattle.std.specs.Prelude.{◌≡◌, true, None};
 ghost use Rattle.c8_wire.specs.Lent.{packet_of};
 ghost use Rattle.c8_wire.specs.Saying.{head_value};
+ghost use Rattle.c8_wire.specs.Seats.{are_seats};
+ghost use Rattle.c8_wire.specs.declared.kinds.DatagramKind.TheVariants as wires;
 ghost use Rattle.c8_hand.specs.Links.{refusal, head_to};
 ghost use Rattle.c8_peer.specs.Asked.{wire_of};
-ghost use Rattle.c8_peer.specs.State.{fresh_memory};
+ghost use Rattle.c8_peer.specs.State.{fresh_memory, with_seen};
 ghost use Rattle.c8_peer.specs.checked.Verdicts.{memory_after, AcksWithin};
 
 use crate::kind::Kind;
+use crate::watchers::Watchers;
 use c8_game::{Game, Player};
 use c8_hand::Links;
 use c8_known::Known;
 use c8_round::{Chair, Stayer};
 use c8_window::Window;
-use c8_wire::{Datagram, Head};
+use c8_wire::{Datagram, DatagramKind, Head, Seat, Watcher};
 use std::marker::Model;
 
 /// What begins anew with each opening.
@@ -25,6 +28,7 @@ pub(crate) struct Memory {
     pub(crate) stayer: Stayer,
     /// Another peer's machine was seen to differ.
     pub(crate) alarm: bool,
+    pub(crate) watchers: Watchers,
 }
 
 impl Model for Memory {
@@ -38,6 +42,7 @@ impl Model for Memory {
       chair = m.chair;
       stayer = m.stayer;
       alarm = m.alarm;
+      seen = m.watchers;
     } };
 }
 
@@ -51,26 +56,33 @@ impl Memory {
             chair: Chair::new(),
             stayer: Stayer::new(),
             alarm: false,
+            watchers: Watchers::new(),
         }
     }
 
     /// The header of a datagram to another player.
     pub(crate) fn head(&self, to: Player, kind: Kind) -> Head
-        requires { to.number ≢ self.now.links.me }
+        requires { are_seats (wire_of kind) self.now.links.me to.number ≡ true }
         ensures { head_value result ≡ head_to self.now.links to.number (wire_of kind) }
     {
-        self.links.head(to, kind.wire())
+        self.links.head(Seat::from(to), kind.wire())
     }
 
-    /// Keeps what a datagram says beside inputs, once nothing refuses it.
-    pub(crate) fn note(&mut self, known: &Known, datagram: &Datagram<'_>)
+    /// The header of a SHOW to a watcher.
+    pub(crate) fn show_head(&self, watcher: Watcher) -> Head
+        requires { self.now.links.me ≡ 1 }
+        ensures { head_value result ≡ head_to self.now.links watcher.number wires.Show }
+    {
+        self.links.head(Seat::from(watcher), DatagramKind::Show)
+    }
+
+    /// Keeps what a datagram of player q says beside inputs, once nothing refuses it.
+    pub(crate) fn note(&mut self, known: &Known, q: Player, datagram: &Datagram<'_>)
         requires admitted { refusal self.old.links (packet_of datagram.now).head ≡ None }
+        requires from { q.number ≡ (packet_of datagram.now).head.from }
         requires acks { AcksWithin known.now (packet_of datagram.now).message }
         ensures { self.new ≡ memory_after self.old (packet_of datagram.now) }
     {
-        let Some(q) = datagram.header().from().player() else {
-            unreachable!();
-        };
         match datagram {
             Datagram::Hello(_) => self.links.hear(datagram),
             Datagram::Welcome(welcome) => {
@@ -82,8 +94,17 @@ impl Memory {
             }
             Datagram::Freeze(freeze) => self.stayer.told(freeze.leaver(), freeze.have()),
             Datagram::Frozen(frozen) => self.chair.report(q, frozen.leaver(), frozen.held()),
-            Datagram::Cut(_) => {}
+            Datagram::Cut(_) | Datagram::Show(_) | Datagram::Seen(_) => {}
         }
+    }
+
+    /// A watcher has so many rows now.
+    pub(crate) fn seen(&mut self, watcher: Watcher, rows: u32)
+        ensures { self.new ≡ record self.old {
+          seen = with_seen self.old.seen watcher.number rows;
+        } }
+    {
+        self.watchers.tell(watcher, rows);
     }
 
     /// Another peer's machine differs.

@@ -1,21 +1,24 @@
 //! What a peer says, or why it does not. Nothing here changes anything.
-ghost use Rattle.std.specs.Prelude.{◌≡◌, ◌≢◌, ℕ, ◌≤◌, false, MatchResult, OnOk, Ok, Err};
+ghost use Rattle.std.specs.Prelude.{◌≡◌, ◌≢◌, ℕ, ◌≤◌, false, take, drop, MatchResult, OnOk, Ok, Err};
 ghost use Rattle.c8_game.specs.Rules.{Rules};
 ghost use Rattle.c8_wire.specs.Saying.{message_of};
 ghost use Rattle.c8_wire.specs.Carried.{carried};
 ghost use Rattle.c8_known.specs.Known.{KnownValue, Plays, count_in};
+ghost use Rattle.c8_known.specs.Confirmed.{confirmed, confirmed_rows};
+ghost use Rattle.c8_wire.specs.Sizes.{most_rows};
 ghost use Rattle.c8_peer.specs.Asked.{saying_of};
 ghost use Rattle.c8_peer.specs.Told.{Told};
 ghost use Rattle.c8_peer.specs.State.{Said, Frozen, Cut, answered};
 ghost use Rattle.c8_peer.specs.Saying.{is_not_mine, lacks_record, lacks_link, run_from, newest_mark, message, packet, say};
 
-use crate::error::Unsayable;
 use crate::kind::Kind;
 use crate::memory::Memory;
+use arrayvec::ArrayVec;
 use c8_digest::FrameMark;
-use c8_game::{Player, WireVersion};
+use c8_game::{Player, Row, WireVersion};
 use c8_known::Known;
-use c8_wire::{Body, fits};
+use c8_refusals::Unsayable;
+use c8_wire::{Body, MOST_ROWS, fits};
 
 /// Whether this may be said.
 #[tactic(auto, unfolding(crate::specs::Saying::say))]
@@ -179,4 +182,17 @@ fn carried(wire: WireVersion, inputs: &[u16]) -> &[u16]
 {
     let (front, _) = inputs.split_at(fits(wire, inputs));
     front
+}
+
+/// The confirmed rows from a frame on, as many as one datagram has.
+pub(crate) fn rows_from(known: &Known, start: u32) -> ArrayVec<Row, MOST_ROWS>
+    requires { start ≤ confirmed known.now }
+    ensures { result.items ≡ take most_rows (drop start (confirmed_rows known.now)) }
+{
+    let left = known.confirmed() - start;
+    let mut rows = ArrayVec::new();
+    for place in 0..left.min(MOST_ROWS as u32) {
+        rows.push(known.row(start + place));
+    }
+    rows
 }

@@ -98,7 +98,7 @@ const TEXTS: [Text; 45] = [
         Refusal::Delivery(Refused::Wire(WireError::Count)),
         8,
         "Count",
-        "more inputs than allowed, or not as many bytes as a run may have",
+        "more inputs or rows than allowed, or not as many bytes as they may have",
     ),
     (
         Refusal::Delivery(Refused::Wire(WireError::Pairs)),

@@ -6,7 +6,7 @@ use Rattle.std.proofs.Math.Seq.{take-append_seam}
 use Rattle.std.proofs.lemmas.Option.{slice_get-get_or}
 use Rattle.std.proofs.lemmas.Bool.{cases_eq, eq-eqb, ne_eqb}
 use Rattle.std.proofs.lemmas.List.Elements.{All-append}
-use Rattle.c8_world.specs.World.{Act, Open, Tick, Say, Give, Leave, Decide, player_of, Check}
+use Rattle.c8_world.specs.World.{Act, Open, Tick, Say, Give, Leave, Decide, player_of, Check, Show, Hear, Seen, Fresh}
 use Rattle.c8_rig.specs.Log.{NoteValue, said_in, said_by, WasSaid, MayFollow, IsLawful, part_of}
 use Rattle.c8_rig.proofs.Logs.{said_with}
 
@@ -49,6 +49,10 @@ short_said most (Give number p) bytes few = λ k d none. absurd (omega (arith, n
 short_said most (Leave leaver) bytes few = λ k d none. absurd (omega (arith, none))
 short_said most (Decide leaver) bytes few = λ k d none. absurd (omega (arith, none))
 short_said most (Check p) bytes few = λ k d none. absurd (omega (arith, none))
+short_said most (Show watcher) bytes few = λ k d none. absurd (omega (arith, none))
+short_said most (Hear number watcher) bytes few = λ k d none. absurd (omega (arith, none))
+short_said most (Seen watcher) bytes few = λ k d none. absurd (omega (arith, none))
+short_said most (Fresh watcher) bytes few = λ k d none. absurd (omega (arith, none))
 
 -- what a book has with a note more
 pub book_with : (players most : ℕ) (log log' : List NoteValue) (said said' : List (List ℕ)) (n : NoteValue) → log' ≡ log ++ n ∷ [] → said' ≡ said ++ said_in n.act n.bytes
@@ -75,6 +79,10 @@ no_saying (Give number p) bytes more e = (refl, e)
 no_saying (Leave leaver) bytes more e = (refl, e)
 no_saying (Decide leaver) bytes more e = (refl, e)
 no_saying (Check p) bytes more e = (refl, e)
+no_saying (Show watcher) bytes more e = (refl, e)
+no_saying (Hear number watcher) bytes more e = (refl, e)
+no_saying (Seen watcher) bytes more e = (refl, e)
+no_saying (Fresh watcher) bytes more e = (refl, e)
 
 -- where nothing was said nobody has said anything
 silent_part : (p : ℕ) (log : List NoteValue) → said_by log ≡ [] → said_by (part_of p log) ≡ []

@@ -14,7 +14,7 @@ use Rattle.c8_peer.specs.State as calls
 use Rattle.c8_peer.specs.State.{Mode, Down, Away, State, Call, Reply, Said}
 use Rattle.c8_peer.specs.Steps.{Luck, Works, Stepped, outcome, when_down, at_mode, step}
 use Rattle.c8_peer.specs.Opening.{NoMemory, found, opened}
-use Rattle.c8_world.specs.World.{World, is_player, start, never_opened, peer_of, Act, Open, Tick, Say, Give, Leave, Decide, player_of, Event, Answer, Happening, said_by as said_in_reply, stepped, call_at_mode, call_at, open_at_mode, open_at, give_to, acted, CanHappen, Chain, IsReached, Check}
+use Rattle.c8_world.specs.World.{World, is_player, start, never_opened, peer_of, Act, Open, Tick, Say, Give, Leave, Decide, player_of, Event, Answer, Happening, said_by as said_in_reply, stepped, call_at_mode, call_at, open_at_mode, open_at, give_to, acted, CanHappen, Chain, IsReached, Check, Show, Hear, Seen, Fresh}
 use Rattle.c8_world.specs.Agreement.{IsPlayer}
 use Rattle.c8_world.specs.Headline.{IsHeadline}
 use Rattle.c8_live.specs.Turns.{SpellsAnswer}
@@ -24,7 +24,7 @@ use Rattle.c8_rig.proofs.Silent.{IsNoSaying, step_silent, down_silent, opened_si
 -- ---- worlds
 
 abbrev placed : World → ℕ → State → List Packet → World
-placed w p s new = record { peers = slice_set w.peers (p - 1) s; said = w.said ++ new }
+placed w p s new = record w { peers = slice_set w.peers (p - 1) s; said = w.said ++ new }
 
 peer_here : (rules : Rules) (w : World) (p : ℕ) (s : State) (new : List Packet) → length w.peers ≡ rules.players → IsPlayer rules p → peer_of (placed w p s new) p ≡ s
 peer_here rules w p s new nodes plays =
@@ -224,6 +224,10 @@ turn reads rules room w (Decide leaver) bytes said t size plays are was follows 
 turn reads rules room w (Check p) bytes said t size plays are was follows =
     silent_turns rules room w (record { act = Check p; bytes = bytes }) t calls.Checkpoint size plays tt refl
     (λ luck. ((call_at rules w p calls.Checkpoint luck).answer, record { happening = with_luck luck; may = tt; is = refl })) follows
+turn reads rules room w (Show watcher) bytes said t size plays are was follows = absurd was
+turn reads rules room w (Hear number watcher) bytes said t size plays are was follows = absurd was
+turn reads rules room w (Seen watcher) bytes said t size plays are was follows = absurd was
+turn reads rules room w (Fresh watcher) bytes said t size plays are was follows = absurd was
 
 -- ---- a log, note by note
 

@@ -16,11 +16,11 @@ use Rattle.c8_known.specs.Fresh.{is_from_leaver, misfit, fresh_words}
 use Rattle.c8_window.specs.Window.{acked_more}
 use Rattle.c8_round.specs.Round.{is_ready, with_report}
 use Rattle.c8_peer.specs.Told.{Told, told_of}
-use Rattle.c8_peer.specs.State.{Memory, Mode, Open, Down, Away, State, Call, Tick, Deliver, Say, Leave, Decide, Outcome, Checkpoint}
+use Rattle.c8_peer.specs.State.{Memory, Mode, Open, Down, Away, State, Call, Tick, Deliver, Say, Show, Leave, Decide, Outcome, Checkpoint}
 use Rattle.c8_peer.specs.Steps.{Luck, Works, Refuses, refused_by_disk, when_down, outcome, done, at_mode, step}
 use Rattle.c8_check.specs.Checks.{Pieces, frames_of}
 use Rattle.c8_peer.specs.Calls.{tick, leave, decide, next_piece, checkpoint}
-use Rattle.c8_peer.specs.Hearing.{is_of_other_wire, is_desync, unless_misfit, got, cut_or_got, hear_data, hear_welcome, hear_freeze, hear_frozen, hear_end, hear_cut, hear_message, unless_hand, hear_told}
+use Rattle.c8_peer.specs.Hearing.{is_of_other_wire, is_desync, unless_misfit, got, cut_or_got, hear_data, hear_welcome, hear_freeze, hear_frozen, hear_end, hear_cut, hear_message, unless_hand, hear_seen, hear_from, seen_in, hear_told}
 use Rattle.c8_peer.specs.Opening.{Opening, NoPlayer, Stands, NotWritten, NoMemory, NotRead, Unfit, Spent, opened}
 use Rattle.c8_world.specs.World.{said_by}
 
@@ -113,14 +113,23 @@ message_silent rules t k m head (packets.Data d) = data_silent t k m head.from d
 message_silent rules t k m head (packets.Freeze f) = freeze_silent k m head.from f
 message_silent rules t k m head (packets.Frozen f) = frozen_silent k m head.from f
 message_silent rules t k m head (packets.Cut c) = cut_silent k m head.from c
+message_silent rules t k m head (packets.Show shown) = silent _ refl
+message_silent rules t k m head (packets.Seen ack) = silent _ refl
+
+seen_silent : (k : KnownValue) (m : Memory) (head : HeadValue) (ack : ℕ) → IsSilent (hear_seen k m head ack)
+unfolding hear_seen
+seen_silent k m head ack = either IsSilent (nat_lt (confirmed k) ack) _ _ (silent _ refl) (silent _ refl)
 
 hand_silent : (m : Memory) (o : Option HandError) (x : Outcome) → IsSilent x → IsSilent (unless_hand m o x)
 hand_silent m None x is = is
 hand_silent m (Some error) x is = silent _ refl
 
+from_silent : (rules : Rules) (t : Told) (k : KnownValue) (m : Memory) (p : Packet) (heard : Option ℕ) → IsSilent (hear_from rules t k m p heard)
+from_silent rules t k m p (Some ack) = hand_silent m (links.refusal_of_seen m.links p.head) _ (seen_silent k m p.head ack)
+from_silent rules t k m p None = hand_silent m (links.refusal m.links p.head) _ (message_silent rules t k m p.head p.message)
+
 told_silent : (rules : Rules) (t : Told) (k : KnownValue) (m : Memory) (told : Result Packet WireError) → IsSilent (hear_told rules t k m told)
-told_silent rules t k m (Ok p) =
-    either IsSilent (is_of_other_wire rules p.head) _ _ (silent _ refl) (hand_silent m (links.refusal m.links p.head) _ (message_silent rules t k m p.head p.message))
+told_silent rules t k m (Ok p) = either IsSilent (is_of_other_wire rules p.head) _ _ (silent _ refl) (from_silent rules t k m p (seen_in p.message))
 told_silent rules t k m (Err error) = silent _ refl
 
 piece_silent : (t : Told) (k : KnownValue) (m : Memory) (o : Option Pieces) → IsSilent (next_piece t k m o)
@@ -138,6 +147,7 @@ abbrev pub IsNoSaying : Call → Type 0
 IsNoSaying (Tick keys) = Unit {0}
 IsNoSaying (Deliver told) = Unit {0}
 IsNoSaying (Say to what) = ⊥
+IsNoSaying (Show watcher) = ⊥
 IsNoSaying (Leave leaver) = Unit {0}
 IsNoSaying (Decide leaver) = Unit {0}
 IsNoSaying Checkpoint = Unit {0}
@@ -146,6 +156,7 @@ outcome_silent : (rules : Rules) (t : Told) (k : KnownValue) (m : Memory) (call 
 outcome_silent rules t k m (Tick keys) other = (tick_silent rules k m keys).told
 outcome_silent rules t k m (Deliver told) other = (either IsSilent (player_in k k.me).leaving _ _ (silent _ refl) (told_silent rules t k m told)).told
 outcome_silent rules t k m (Say to what) other = absurd other
+outcome_silent rules t k m (Show watcher) other = absurd other
 outcome_silent rules t k m (Leave leaver) other = (leave_silent k m leaver).told
 outcome_silent rules t k m (Decide leaver) other = (decide_silent k m leaver).told
 outcome_silent rules t k m Checkpoint other = (checkpoint_silent t k m).told
@@ -154,6 +165,7 @@ refused_silent : (call : Call) (why : DiskError) → said_by (refused_by_disk ca
 refused_silent (Tick keys) why = refl
 refused_silent (Deliver told) why = refl
 refused_silent (Say to what) why = refl
+refused_silent (Show watcher) why = refl
 refused_silent (Leave leaver) why = refl
 refused_silent (Decide leaver) why = refl
 refused_silent Checkpoint why = refl
@@ -162,6 +174,7 @@ pub down_silent : (call : Call) → said_by (when_down call) ≡ []
 down_silent (Tick keys) = refl
 down_silent (Deliver told) = refl
 down_silent (Say to what) = refl
+down_silent (Show watcher) = refl
 down_silent (Leave leaver) = refl
 down_silent (Decide leaver) = refl
 down_silent Checkpoint = refl

@@ -11,7 +11,7 @@ use Rattle.c8_peer.specs.Steps.{Luck}
 use Rattle.c8_peer.specs.Opening.{Opening}
 use Rattle.c8_peer.specs.Runs.{Does, Opens, IsDone}
 use Rattle.c8_live.specs.Turns.{SpellsAnswer}
-use Rattle.c8_world.specs.World.{World, start, never_opened, peer_of, Act, Open, Tick, Say, Give, Leave, Decide, player_of, Event, Do, Answer, Chain, Check}
+use Rattle.c8_world.specs.World.{World, start, never_opened, peer_of, Act, Open, Tick, Say, Give, Leave, Decide, player_of, Event, Do, Answer, Chain, Check, Show, Hear, Seen, Fresh}
 use Rattle.c8_world.specs.Agreement.{IsPlayer}
 use Rattle.c8_world.specs.Headline.{IsHeadline}
 
@@ -29,6 +29,10 @@ IsSaying (Give number p) = ⊥
 IsSaying (Leave leaver) = ⊥
 IsSaying (Decide leaver) = ⊥
 IsSaying (Check p) = ⊥
+IsSaying (Show watcher) = ⊥
+IsSaying (Hear number watcher) = ⊥
+IsSaying (Seen watcher) = ⊥
+IsSaying (Fresh watcher) = ⊥
 
 -- a peer does what neither says nor delivers anything
 abbrev pub IsDoing : Act → Type 0
@@ -39,6 +43,10 @@ IsDoing (Give number p) = ⊥
 IsDoing (Leave leaver) = Unit {0}
 IsDoing (Decide leaver) = Unit {0}
 IsDoing (Check p) = Unit {0}
+IsDoing (Show watcher) = ⊥
+IsDoing (Hear number watcher) = ⊥
+IsDoing (Seen watcher) = ⊥
+IsDoing (Fresh watcher) = ⊥
 
 -- ---- a log
 
@@ -50,13 +58,17 @@ said_in (Give number p) bytes = []
 said_in (Leave leaver) bytes = []
 said_in (Decide leaver) bytes = []
 said_in (Check p) bytes = []
+said_in (Show watcher) bytes = []
+said_in (Hear number watcher) bytes = []
+said_in (Seen watcher) bytes = []
+said_in (Fresh watcher) bytes = []
 
 -- all that was said, the first with the number 0
 abbrev pub said_by : List NoteValue → List (List ℕ)
 said_by [] = []
 said_by (n ∷ log) = said_in n.act n.bytes ++ said_by log
 
--- what is delivered is what was said under this number
+-- what is delivered is what was said under this number; and nobody watches
 abbrev pub WasSaid : List (List ℕ) → Act → List ℕ → Type 0
 WasSaid said (Open p) bytes = Unit {0}
 WasSaid said (Tick p keys) bytes = Unit {0}
@@ -65,6 +77,10 @@ WasSaid said (Give number p) bytes = slice_get said number ≡ Some bytes
 WasSaid said (Leave leaver) bytes = Unit {0}
 WasSaid said (Decide leaver) bytes = Unit {0}
 WasSaid said (Check p) bytes = Unit {0}
+WasSaid said (Show watcher) bytes = ⊥
+WasSaid said (Hear number watcher) bytes = ⊥
+WasSaid said (Seen watcher) bytes = ⊥
+WasSaid said (Fresh watcher) bytes = ⊥
 
 -- A note may follow those of a log of so many players: its peer is one of theirs, and what it delivers was said before.
 pub record MayFollow (players : ℕ) (log : List NoteValue) (n : NoteValue) : Type 0 where
@@ -107,6 +123,10 @@ Follows rules room p s (Give number q) bytes t = IsCalled rules room p s (calls.
 Follows rules room p s (Leave leaver) bytes t = IsCalled rules room p s (calls.Leave leaver) IsAnything t
 Follows rules room p s (Decide leaver) bytes t = IsCalled rules room p s (calls.Decide leaver) IsAnything t
 Follows rules room p s (Check q) bytes t = IsCalled rules room p s calls.Checkpoint IsAnything t
+Follows rules room p s (Show watcher) bytes t = ⊥
+Follows rules room p s (Hear number watcher) bytes t = ⊥
+Follows rules room p s (Seen watcher) bytes t = ⊥
+Follows rules room p s (Fresh watcher) bytes t = ⊥
 
 -- a list of notes of one peer leads from a state to another
 abbrev pub Leads : Rules → ℕ → ℕ → State → List NoteValue → State → Type 0

@@ -51,6 +51,10 @@ fn is_same_act(one: Act, other: Act) -> bool
         (Act::Leave(a), Act::Leave(b)) => a.number == b.number,
         (Act::Decide(a), Act::Decide(b)) => a.number == b.number,
         (Act::Check(a), Act::Check(b)) => a.number == b.number,
+        (Act::Show(a), Act::Show(b)) => a.number == b.number,
+        (Act::Hear(n, a), Act::Hear(m, b)) => n == m && a.number == b.number,
+        (Act::Seen(a), Act::Seen(b)) => a.number == b.number,
+        (Act::Fresh(a), Act::Fresh(b)) => a.number == b.number,
         _ => false,
     }
 }
@@ -75,7 +79,7 @@ pub(crate) fn is_part(log: &[Note], player: Player, notes: &[Note]) -> bool
 {
     let mut next = 0;
     for note in log {
-        if note.act.player().number == player.number {
+        if note.act.seat().number == player.number {
             if !stands_at(notes, next, note) {
                 return false;
             }

@@ -118,7 +118,7 @@ fn a_gate_ends_its_workers(rt: HostRuntime) -> Result<(), Fail> {
 fn notes_of(log: &[Note], place: usize) -> u64 {
     let mut notes: u64 = 0;
     for note in log {
-        if note.act.player().place() == place {
+        if usize::from(note.act.seat().number) == place.saturating_add(1) {
             notes = notes.wrapping_add(1);
         }
     }

@@ -121,7 +121,7 @@ impl<'a> List<'a> {
         let mut said = Vec::new(alloc);
         let mut own = Vec::new(alloc);
         for (place, note) in log.iter().enumerate() {
-            if note.act.player() == me {
+            if note.act.seat().number == me.number {
                 own.push((place, said.len() as u64))?;
             }
             if let Act::Say(_, _, _) = note.act {

@@ -1,4 +1,5 @@
 -- What is printed, one text after another.
+use Rattle.c8_spectator.specs.declared.error.NotTaken.{NotTaken}
 use Rattle.std.proofs.Common.{◌≡◌, codes, OnOk, Result, Ok, Err, ℕ, ◌+◌, ◌<◌, ◌≤◌, min, List, [], ◌∷◌, ◌++◌, length, take, drop, get_or, Option, Some, None, refl, sym, ap, subst, ◌∙◌}
 use Rattle.std.proofs.lemmas.List.{append-nil, append_assoc, drop_all, flat_map_more, take_more}
 use Rattle.std.specs.Fmt.{decimal}
@@ -6,7 +7,7 @@ use Rattle.std.specs.List.{flat_map}
 use Rattle.std.specs.Io.KnownBytes.{Appends}
 use Rattle.c8_world.specs.declared.answer.Answer.{Answer}
 use Rattle.c8_world.specs.declared.ends.Tally.{Tally}
-use Rattle.c8_script.specs.Printed.{AreLines, IsLine, line, count_text, answer_text, tallies_text, tally_text}
+use Rattle.c8_script.specs.Printed.{AreLines, IsLine, line, count_text, answer_text, not_taken_text, tallies_text, tally_text}
 
 -- ---- known bytes
 
@@ -89,6 +90,12 @@ pub told_by : {T E : Type 0} → (u v : Option (List ℕ)) (answer : Answer) (na
     → OnOk result ((name : List ℕ) × Appends u v (answer_text name answer))
 told_by u v answer name text (Ok done) is appended = (name, subst (λ (t : List ℕ). Appends u v t) (sym is) appended)
 told_by u v answer name text (Err error) is appended = appended
+
+-- and of what a watcher did not take
+pub not_taken_by : {T E : Type 0} → (u v : Option (List ℕ)) (error : NotTaken) (name text : List ℕ) (result : Result T E) → not_taken_text name error ≡ text → OnOk result (Appends u v text)
+    → OnOk result ((name : List ℕ) × Appends u v (not_taken_text name error))
+not_taken_by u v error name text (Ok done) is appended = (name, subst (λ (t : List ℕ). Appends u v t) (sym is) appended)
+not_taken_by u v error name text (Err failed) is appended = appended
 
 -- the number of its event in front
 pub numbered : {T E : Type 0} → (u v w : Option (List ℕ)) (number : ℕ) (answer : Answer) (result : Result T E) → Appends u v (decimal number ++ codes " ")

@@ -10,14 +10,15 @@ use Rattle.c8_game.specs.Fields.{is_decimal, decimal_number}
 use Rattle.c8_game.specs.KeysText.{is_keys_text, keys_number}
 use Rattle.c8_game.specs.declared.row.Keys.{Keys}
 use Rattle.c8_game.specs.declared.row.Player.{Player}
+use Rattle.c8_wire.specs.declared.watcher.Watcher.{Watcher}
 use Rattle.c8_peer.specs.declared.kind.Kind.{Kind}
 use Rattle.c8_peer.specs.declared.kind.Kind.TheVariants.{Hello, Welcome, Data, Freeze, Frozen, Cut}
 use Rattle.c8_world.specs.declared.event.Act.{Act}
-use Rattle.c8_world.specs.declared.event.Act.TheVariants.{Open, Tick, Say, Give, Leave, Decide, Check}
+use Rattle.c8_world.specs.declared.event.Act.TheVariants.{Open, Tick, Say, Give, Leave, Decide, Check, Show, Hear, Seen, Fresh}
 use Rattle.c8_world.specs.declared.event.Event.{Event}
 use Rattle.c8_world.specs.declared.event.Event.TheVariants.{Do, Stop, Fail}
-use Rattle.c8_script.specs.Script.{player_word, SpellsKeys, SpellsNumber, kind_words, SpellsAct, WordsSpell}
-use Rattle.c8_script.specs.checked.ScriptWords.{player_in, player_of, keys_in, number_in, kind_in, act_of, said_of, act_in, stop_of, stop_in, fail_of, fail_in, stop_or_fail, act_or_other, event_in}
+use Rattle.c8_script.specs.Script.{player_word, watcher_word, may_be_held, SpellsKeys, SpellsNumber, kind_words, SpellsAct, WordsSpell}
+use Rattle.c8_script.specs.checked.ScriptWords.{player_in, player_of, watcher_in, watcher_of, keys_in, number_in, kind_in, act_of, said_of, act_or, shown_in, held_in, act_in, stop_of, stop_in, fail_of, fail_in, stop_or_fail, act_or_other, event_in}
 
 -- ---- choices
 
@@ -70,6 +71,56 @@ player_spelt : (word : List ℕ) (player : Player) → player_in word ≡ Some p
 player_spelt [] player is = absurd (cc)
 player_spelt (digit ∷ []) player is = let number = its_number (digit - 48) player is in let from = player.from_one in let same : digit ≡ 48 + player.number = omega arith in ap (λ d. d ∷ []) same
 player_spelt (digit ∷ next ∷ more) player is = absurd (cc)
+
+-- ---- watchers
+
+watcher_of_own : (n : ℕ) (from : 5 ≤ n) (to : n ≤ 6) → watcher_of n ≡ Some (record { number = n; from_five = from; to_six = to })
+watcher_of_own zero from to = absurd (omega arith)
+watcher_of_own (suc zero) from to = absurd (omega arith)
+watcher_of_own (suc (suc zero)) from to = absurd (omega arith)
+watcher_of_own (suc (suc (suc zero))) from to = absurd (omega arith)
+watcher_of_own (suc (suc (suc (suc zero)))) from to = absurd (omega arith)
+watcher_of_own (suc (suc (suc (suc (suc zero))))) from to = λ i. Some (record { number = 5; from_five = le_prop (lit≤ tt) from i; to_six = le_prop (lit≤ tt) to i })
+watcher_of_own (suc (suc (suc (suc (suc (suc zero)))))) from to = λ i. Some (record { number = 6; from_five = le_prop (lit≤ tt) from i; to_six = le_prop (lit≤ tt) to i })
+watcher_of_own (suc (suc (suc (suc (suc (suc (suc n))))))) from to = absurd (omega arith)
+
+watcher_numbered : (n : ℕ) (watcher : Watcher) → n ≡ watcher.number → watcher_of n ≡ Some watcher
+watcher_numbered n watcher same = ap watcher_of same ∙ watcher_of_own watcher.number watcher.from_five watcher.to_six
+
+pub watcher_of_digit : (word : List ℕ) (watcher : Watcher) → 1 ≤ length word → length word < 2 → get_or word 0 0 - 48 ≡ watcher.number → watcher_in word ≡ Some watcher
+watcher_of_digit [] watcher some one same = absurd (omega arith)
+watcher_of_digit (digit ∷ []) watcher some one same = watcher_numbered (digit - 48) watcher same
+watcher_of_digit (digit ∷ next ∷ more) watcher some one same = absurd (omega arith)
+
+watcher_read : (watcher : Watcher) → watcher_in (watcher_word watcher) ≡ Some watcher
+watcher_read watcher = watcher_numbered (48 + watcher.number - 48) watcher (omega arith)
+
+no_player_of : (n : ℕ) → 5 ≤ n → player_of n ≡ None
+no_player_of zero past = absurd (omega arith)
+no_player_of (suc zero) past = absurd (omega arith)
+no_player_of (suc (suc zero)) past = absurd (omega arith)
+no_player_of (suc (suc (suc zero))) past = absurd (omega arith)
+no_player_of (suc (suc (suc (suc zero)))) past = absurd (omega arith)
+no_player_of (suc (suc (suc (suc (suc n))))) past = refl
+
+-- a watcher is no player
+no_player : (watcher : Watcher) → player_in (watcher_word watcher) ≡ None
+no_player watcher = let from = watcher.from_five in no_player_of (48 + watcher.number - 48) (omega (arith, from))
+
+its_seat : (n : ℕ) (watcher : Watcher) → watcher_of n ≡ Some watcher → watcher.number ≡ n
+its_seat zero watcher is = absurd (cc)
+its_seat (suc zero) watcher is = absurd (cc)
+its_seat (suc (suc zero)) watcher is = absurd (cc)
+its_seat (suc (suc (suc zero))) watcher is = absurd (cc)
+its_seat (suc (suc (suc (suc zero)))) watcher is = absurd (cc)
+its_seat (suc (suc (suc (suc (suc zero))))) watcher is = ap (λ (w : Watcher). w.number) (sym (same_Some _ watcher is))
+its_seat (suc (suc (suc (suc (suc (suc zero)))))) watcher is = ap (λ (w : Watcher). w.number) (sym (same_Some _ watcher is))
+its_seat (suc (suc (suc (suc (suc (suc (suc n))))))) watcher is = absurd (cc)
+
+watcher_spelt : (word : List ℕ) (watcher : Watcher) → watcher_in word ≡ Some watcher → word ≡ watcher_word watcher
+watcher_spelt [] watcher is = absurd (cc)
+watcher_spelt (digit ∷ []) watcher is = let number = its_seat (digit - 48) watcher is in let from = watcher.from_five in let same : digit ≡ 48 + watcher.number = omega arith in ap (λ d. d ∷ []) same
+watcher_spelt (digit ∷ next ∷ more) watcher is = absurd (cc)
 
 keys_read : (word : List ℕ) (keys : Keys) → SpellsKeys word keys → keys_in word ≡ Some keys
 keys_read word keys spelt = rw (spelt.0, spelt.1) refl
@@ -145,6 +196,13 @@ player_act make text verb word act says same is =
     let word_is : word ≡ player_word player.0 = player_spelt word player.0 player.1 in
     subst (SpellsAct (verb ∷ word ∷ [])) player.2 (says player.0 (cc))
 
+fresh_spelt : (verb word : List ℕ) (act : Act) → bytes_eq verb (codes "fresh") ≡ true → option_map Fresh (watcher_in word) ≡ Some act → SpellsAct (verb ∷ word ∷ []) act
+fresh_spelt verb word act same is =
+    let watcher = mapped Fresh (watcher_in word) act is in
+    let verb_is : verb ≡ codes "fresh" = keyword verb (codes "fresh") same in
+    let word_is : word ≡ watcher_word watcher.0 = watcher_spelt word watcher.0 watcher.1 in
+    subst (SpellsAct (verb ∷ word ∷ [])) watcher.2 (cc)
+
 tick_spelt : (verb one other : List ℕ) (act : Act) → bytes_eq verb (codes "tick") ≡ true → act_of Tick (player_in one) (keys_in other) ≡ Some act → SpellsAct (verb ∷ one ∷ other ∷ []) act
 tick_spelt verb one other act same is =
     let player = chained (λ p. option_map (Tick p) (keys_in other)) (player_in one) act is in
@@ -160,6 +218,60 @@ give_spelt verb one other act same is =
     let verb_is : verb ≡ codes "give" = keyword verb (codes "give") same in
     let other_is : other ≡ player_word player.0 = player_spelt other player.0 player.1 in
     subst (SpellsAct (verb ∷ one ∷ other ∷ [])) player.2 (one, cc, number_spelt one number.0 number.1)
+
+hear_spelt : (verb one other : List ℕ) (act : Act) → bytes_eq verb (codes "give") ≡ true → act_of Hear (number_in one) (watcher_in other) ≡ Some act → SpellsAct (verb ∷ one ∷ other ∷ []) act
+hear_spelt verb one other act same is =
+    let number = chained (λ n. option_map (Hear n) (watcher_in other)) (number_in one) act is in
+    let watcher = mapped (Hear number.0) (watcher_in other) act number.2 in
+    let verb_is : verb ≡ codes "give" = keyword verb (codes "give") same in
+    let other_is : other ≡ watcher_word watcher.0 = watcher_spelt other watcher.0 watcher.1 in
+    subst (SpellsAct (verb ∷ one ∷ other ∷ [])) watcher.2 (one, cc, number_spelt one number.0 number.1)
+
+-- either of two acts
+either_act : (one other : Option Act) (act : Act) → act_or one other ≡ Some act → (one ≡ Some act) ⊎ (other ≡ Some act)
+either_act None other act is = inr is
+either_act (Some first) other act is = inl is
+
+given_spelt : (verb one other : List ℕ) (act : Act) → bytes_eq verb (codes "give") ≡ true
+    → act_or (act_of Give (number_in one) (player_in other)) (act_of Hear (number_in one) (watcher_in other)) ≡ Some act → SpellsAct (verb ∷ one ∷ other ∷ []) act
+given_spelt verb one other act same is =
+    elim (either_act (act_of Give (number_in one) (player_in other)) (act_of Hear (number_in one) (watcher_in other)) act is) [
+      | inl given ↦ give_spelt verb one other act same given
+      | inr heard ↦ hear_spelt verb one other act same heard
+    ]
+
+show_spelt : (verb one other what : List ℕ) (act : Act) → bytes_eq verb (codes "say") ≡ true → (bytes_eq what (codes "show") && bytes_eq one (codes "1")) ≡ true → option_map Show (watcher_in other) ≡ Some act
+    → SpellsAct (verb ∷ one ∷ other ∷ what ∷ []) act
+show_spelt verb one other what act same both is =
+    let watcher = mapped Show (watcher_in other) act is in
+    let parts = and_parts (bytes_eq what (codes "show")) (bytes_eq one (codes "1")) both in
+    let verb_is : verb ≡ codes "say" = keyword verb (codes "say") same in
+    let what_is : what ≡ codes "show" = keyword what (codes "show") parts.0 in
+    let one_is : one ≡ codes "1" = keyword one (codes "1") parts.1 in
+    let other_is : other ≡ watcher_word watcher.0 = watcher_spelt other watcher.0 watcher.1 in
+    subst (SpellsAct (verb ∷ one ∷ other ∷ what ∷ [])) watcher.2 (cc)
+
+seen_spelt : (verb one other what : List ℕ) (act : Act) → bytes_eq verb (codes "say") ≡ true → (bytes_eq what (codes "seen") && bytes_eq other (codes "1")) ≡ true → option_map Seen (watcher_in one) ≡ Some act
+    → SpellsAct (verb ∷ one ∷ other ∷ what ∷ []) act
+seen_spelt verb one other what act same both is =
+    let watcher = mapped Seen (watcher_in one) act is in
+    let parts = and_parts (bytes_eq what (codes "seen")) (bytes_eq other (codes "1")) both in
+    let verb_is : verb ≡ codes "say" = keyword verb (codes "say") same in
+    let what_is : what ≡ codes "seen" = keyword what (codes "seen") parts.0 in
+    let other_is : other ≡ codes "1" = keyword other (codes "1") parts.1 in
+    let one_is : one ≡ watcher_word watcher.0 = watcher_spelt one watcher.0 watcher.1 in
+    subst (SpellsAct (verb ∷ one ∷ other ∷ what ∷ [])) watcher.2 (cc)
+
+shown_spelt : (verb one other what : List ℕ) (more : List (List ℕ)) (act : Act) → bytes_eq verb (codes "say") ≡ true → shown_in one other what more ≡ Some act → SpellsAct (verb ∷ one ∷ other ∷ what ∷ more) act
+shown_spelt verb one other what [] act same is =
+    elim (chosen (bytes_eq what (codes "show") && bytes_eq one (codes "1")) _ _ act is) [
+      | inl here ↦ show_spelt verb one other what act same here.0 here.1
+      | inr last ↦ elim (chosen (bytes_eq what (codes "seen") && bytes_eq other (codes "1")) _ _ act last) [
+        | inl here ↦ seen_spelt verb one other what act same here.0 here.1
+        | inr none ↦ absurd (cc)
+      ]
+    ]
+shown_spelt verb one other what (next ∷ more) act same is = absurd (cc)
 
 say_spelt : (verb one other what : List ℕ) (leaver : List (List ℕ)) (act : Act) → bytes_eq verb (codes "say") ≡ true → said_of (player_in one) (player_in other) (kind_in what leaver) ≡ Some act
     → SpellsAct (verb ∷ one ∷ other ∷ what ∷ leaver) act
@@ -185,7 +297,10 @@ act_spelt (verb ∷ word ∷ []) act is =
           | inl here ↦ player_act Decide (codes "decide") verb word act (λ p same. same) here.0 here.1
           | inr check ↦ elim (chosen (bytes_eq verb (codes "check")) _ _ act check) [
             | inl here ↦ player_act Check (codes "check") verb word act (λ p same. same) here.0 here.1
-            | inr none ↦ absurd (cc)
+            | inr fresh ↦ elim (chosen (bytes_eq verb (codes "fresh")) _ _ act fresh) [
+              | inl here ↦ fresh_spelt verb word act here.0 here.1
+              | inr none ↦ absurd (cc)
+            ]
           ]
         ]
       ]
@@ -194,27 +309,31 @@ act_spelt (verb ∷ one ∷ other ∷ []) act is =
     elim (chosen (bytes_eq verb (codes "tick")) _ _ act is) [
       | inl here ↦ tick_spelt verb one other act here.0 here.1
       | inr last ↦ elim (chosen (bytes_eq verb (codes "give")) _ _ act last) [
-        | inl here ↦ give_spelt verb one other act here.0 here.1
+        | inl here ↦ given_spelt verb one other act here.0 here.1
         | inr none ↦ absurd (cc)
       ]
     ]
 act_spelt (verb ∷ one ∷ other ∷ what ∷ leaver) act is =
     elim (chosen (bytes_eq verb (codes "say")) _ _ act is) [
-      | inl here ↦ say_spelt verb one other what leaver act here.0 here.1
+      | inl here ↦ elim (either_act (said_of (player_in one) (player_in other) (kind_in what leaver)) (shown_in one other what leaver) act here.1) [
+        | inl said ↦ say_spelt verb one other what leaver act here.0 said
+        | inr shown ↦ shown_spelt verb one other what leaver act here.0 shown
+      ]
       | inr none ↦ absurd (cc)
     ]
 
-said_read : (player to : Player) (what : Option Kind) (kind : Kind) → what ≡ Some kind → said_of (player_in (player_word player)) (player_in (player_word to)) what ≡ Some (Say player to kind)
-said_read player to what kind is =
-    ap (λ o. said_of o (player_in (player_word to)) what) (player_read player) ∙ ap (λ o. act_of (Say player) o what) (player_read to) ∙ ap (option_map (Say player to)) is
+said_read : (player to : Player) (what : Option Kind) (kind : Kind) (other : Option Act) → what ≡ Some kind → act_or (said_of (player_in (player_word player)) (player_in (player_word to)) what) other ≡ Some (Say player to kind)
+said_read player to what kind other is =
+    ap (λ o. act_or (said_of o (player_in (player_word to)) what) other) (player_read player) ∙ ap (λ o. act_or (act_of (Say player) o what) other) (player_read to)
+    ∙ ap (λ o. act_or (option_map (Say player to) o) other) is
 
 say_read : (player to : Player) (kind : Kind) → act_in (codes "say" ∷ player_word player ∷ player_word to ∷ kind_words kind) ≡ Some (Say player to kind)
-say_read player to Hello = said_read player to (Some Hello) Hello refl
-say_read player to Welcome = said_read player to (Some Welcome) Welcome refl
-say_read player to Data = said_read player to (Some Data) Data refl
-say_read player to (Freeze leaver) = said_read player to (option_map Freeze (player_in (player_word leaver))) (Freeze leaver) (ap (option_map Freeze) (player_read leaver))
-say_read player to (Frozen leaver) = said_read player to (option_map Frozen (player_in (player_word leaver))) (Frozen leaver) (ap (option_map Frozen) (player_read leaver))
-say_read player to (Cut leaver) = said_read player to (option_map Cut (player_in (player_word leaver))) (Cut leaver) (ap (option_map Cut) (player_read leaver))
+say_read player to Hello = said_read player to (Some Hello) Hello _ refl
+say_read player to Welcome = said_read player to (Some Welcome) Welcome _ refl
+say_read player to Data = said_read player to (Some Data) Data _ refl
+say_read player to (Freeze leaver) = said_read player to (option_map Freeze (player_in (player_word leaver))) (Freeze leaver) _ (ap (option_map Freeze) (player_read leaver))
+say_read player to (Frozen leaver) = said_read player to (option_map Frozen (player_in (player_word leaver))) (Frozen leaver) _ (ap (option_map Frozen) (player_read leaver))
+say_read player to (Cut leaver) = said_read player to (option_map Cut (player_in (player_word leaver))) (Cut leaver) _ (ap (option_map Cut) (player_read leaver))
 
 act_read : (words : List (List ℕ)) (act : Act) → SpellsAct words act → act_in words ≡ Some act
 act_read words (Open player) spelt = ap act_in spelt ∙ ap (option_map Open) (player_read player)
@@ -224,8 +343,32 @@ act_read words (Check player) spelt = ap act_in spelt ∙ ap (option_map Check) 
 act_read words (Tick player keys) spelt =
     ap act_in spelt.1 ∙ ap (λ o. act_of Tick o (keys_in spelt.0)) (player_read player) ∙ ap (option_map (Tick player)) (keys_read spelt.0 keys spelt.2)
 act_read words (Give number player) spelt =
-    ap act_in spelt.1 ∙ ap (λ o. act_of Give o (player_in (player_word player))) (number_read spelt.0 number spelt.2) ∙ ap (option_map (Give number)) (player_read player)
+    let others = act_of Hear (number_in spelt.0) (watcher_in (player_word player)) in
+    ap act_in spelt.1 ∙ ap (λ o. act_or (act_of Give o (player_in (player_word player))) others) (number_read spelt.0 number spelt.2)
+    ∙ ap (λ o. act_or (option_map (Give number) o) others) (player_read player)
 act_read words (Say player to kind) spelt = ap act_in spelt ∙ say_read player to kind
+act_read words (Show watcher) spelt =
+    ap act_in spelt ∙ ap (λ to. act_or (said_of (player_in (codes "1")) to (kind_in (codes "show") [])) (shown_in (codes "1") (watcher_word watcher) (codes "show") [])) (no_player watcher)
+    ∙ ap (option_map Show) (watcher_read watcher)
+act_read words (Hear number watcher) spelt =
+    ap act_in spelt.1 ∙ ap (λ o. act_or (act_of Give o (player_in (watcher_word watcher))) (act_of Hear o (watcher_in (watcher_word watcher)))) (number_read spelt.0 number spelt.2)
+    ∙ ap (λ o. act_or (option_map (Give number) o) (option_map (Hear number) (watcher_in (watcher_word watcher)))) (no_player watcher) ∙ ap (option_map (Hear number)) (watcher_read watcher)
+act_read words (Seen watcher) spelt =
+    ap act_in spelt ∙ ap (λ from. act_or (said_of from (player_in (codes "1")) (kind_in (codes "seen") [])) (shown_in (watcher_word watcher) (codes "1") (codes "seen") [])) (no_player watcher)
+    ∙ ap (option_map Seen) (watcher_read watcher)
+act_read words (Fresh watcher) spelt = ap act_in spelt ∙ ap (option_map Fresh) (watcher_read watcher)
+
+-- what may be held is held
+held_read : (act : Act) (found : Option Act) → found ≡ Some act → may_be_held act ≡ true → held_in found ≡ Some act
+held_read act found is may = ap held_in is ∙ ap (λ b. cond b (Some act) None) may
+
+held_spelt : (words : List (List ℕ)) (found : Option Act) (act : Act) → act_in words ≡ found → held_in found ≡ Some act → SpellsAct words act × (may_be_held act ≡ true)
+held_spelt words None act is held = absurd (cc)
+held_spelt words (Some first) act is held =
+    elim (chosen (may_be_held first) (Some first) None act held) [
+      | inl here ↦ let same = same_Some first act here.1 in (act_spelt words act (is ∙ here.1), sym (ap may_be_held same) ∙ here.0)
+      | inr none ↦ absurd (cc)
+    ]
 
 -- ---- events
 
@@ -240,12 +383,13 @@ stop_spelt (verb ∷ []) event is = absurd (cc)
 stop_spelt (verb ∷ calls ∷ []) event is = absurd (cc)
 stop_spelt (verb ∷ calls ∷ pick ∷ act) event is =
     elim (chosen (bytes_eq verb (codes "stop")) _ _ event is) [
-      | inl here ↦ let inside = chained (λ a. option_and_then (λ k. option_map (Stop a k) (number_in pick)) (number_in calls)) (act_in act) event here.1 in
+      | inl here ↦ let inside = chained (λ a. option_and_then (λ k. option_map (Stop a k) (number_in pick)) (number_in calls)) (held_in (act_in act)) event here.1 in
+          let may = held_spelt act (act_in act) inside.0 refl inside.1 in
           let k = chained (λ k. option_map (Stop inside.0 k) (number_in pick)) (number_in calls) event inside.2 in
           let n = mapped (Stop inside.0 k.0) (number_in pick) event k.2 in
           let verb_is : verb ≡ codes "stop" = keyword verb (codes "stop") here.0 in
           subst (WordsSpell (verb ∷ calls ∷ pick ∷ act)) n.2
-          (calls, pick, act, ap (λ v. v ∷ calls ∷ pick ∷ act) verb_is, number_spelt calls k.0 k.1, number_spelt pick n.0 n.1, act_spelt act inside.0 inside.1)
+          (calls, pick, act, ap (λ v. v ∷ calls ∷ pick ∷ act) verb_is, number_spelt calls k.0 k.1, number_spelt pick n.0 n.1, may.0, may.1)
       | inr none ↦ absurd (cc)
     ]
 
@@ -264,11 +408,12 @@ fail_spelt [] event is = absurd (cc)
 fail_spelt (verb ∷ []) event is = absurd (cc)
 fail_spelt (verb ∷ calls ∷ act) event is =
     elim (chosen (bytes_eq verb (codes "fail")) _ _ event is) [
-      | inl here ↦ let inside = chained (λ a. option_map (Fail a) (number_in calls)) (act_in act) event here.1 in
+      | inl here ↦ let inside = chained (λ a. option_map (Fail a) (number_in calls)) (held_in (act_in act)) event here.1 in
+          let may = held_spelt act (act_in act) inside.0 refl inside.1 in
           let k = mapped (Fail inside.0) (number_in calls) event inside.2 in
           let verb_is : verb ≡ codes "fail" = keyword verb (codes "fail") here.0 in
           subst (WordsSpell (verb ∷ calls ∷ act)) k.2
-          (calls, act, ap (λ v. v ∷ calls ∷ act) verb_is, number_spelt calls k.0 k.1, act_spelt act inside.0 inside.1)
+          (calls, act, ap (λ v. v ∷ calls ∷ act) verb_is, number_spelt calls k.0 k.1, may.0, may.1)
       | inr none ↦ absurd (cc)
     ]
 
@@ -283,26 +428,26 @@ either_spelt words (Some act) event act_is is = subst (WordsSpell words) (same_S
 pub words_spelt : (words : List (List ℕ)) (event : Event) → event_in words ≡ Some event → WordsSpell words event
 words_spelt words event is = either_spelt words (act_in words) event refl is
 
-stop_read : (act : Act) (calls pick : ℕ) (of_calls of_pick : List ℕ) (of_act : List (List ℕ)) → SpellsNumber of_calls calls → SpellsNumber of_pick pick → SpellsAct of_act act
+stop_read : (act : Act) (calls pick : ℕ) (of_calls of_pick : List ℕ) (of_act : List (List ℕ)) → SpellsNumber of_calls calls → SpellsNumber of_pick pick → SpellsAct of_act act → may_be_held act ≡ true
     → stop_in (codes "stop" ∷ of_calls ∷ of_pick ∷ of_act) ≡ Some (Stop act calls pick)
-stop_read act calls pick of_calls of_pick of_act calls_are pick_is act_is =
-    ap (λ a. stop_of a (number_in of_calls) (number_in of_pick)) (act_read of_act act act_is)
+stop_read act calls pick of_calls of_pick of_act calls_are pick_is act_is may =
+    ap (λ a. stop_of a (number_in of_calls) (number_in of_pick)) (held_read act (act_in of_act) (act_read of_act act act_is) may)
     ∙ ap (λ k. option_and_then (λ k. option_map (Stop act k) (number_in of_pick)) k) (number_read of_calls calls calls_are)
     ∙ ap (option_map (Stop act calls)) (number_read of_pick pick pick_is)
 
-fail_read : (act : Act) (calls : ℕ) (of_calls : List ℕ) (of_act : List (List ℕ)) → SpellsNumber of_calls calls → SpellsAct of_act act
+fail_read : (act : Act) (calls : ℕ) (of_calls : List ℕ) (of_act : List (List ℕ)) → SpellsNumber of_calls calls → SpellsAct of_act act → may_be_held act ≡ true
     → fail_in (codes "fail" ∷ of_calls ∷ of_act) ≡ Some (Fail act calls)
-fail_read act calls of_calls of_act calls_are act_is =
-    ap (λ a. fail_of a (number_in of_calls)) (act_read of_act act act_is) ∙ ap (option_map (Fail act)) (number_read of_calls calls calls_are)
+fail_read act calls of_calls of_act calls_are act_is may =
+    ap (λ a. fail_of a (number_in of_calls)) (held_read act (act_in of_act) (act_read of_act act act_is) may) ∙ ap (option_map (Fail act)) (number_read of_calls calls calls_are)
 
 pub words_read : (words : List (List ℕ)) (event : Event) → WordsSpell words event → event_in words ≡ Some event
 words_read words (Do act) spelt = ap (λ a. act_or_other a (stop_or_fail (stop_in words) (fail_in words))) (act_read words act spelt)
-words_read words (Stop act calls pick) (of_calls, of_pick, of_act, words_are, calls_are, pick_is, act_is) =
+words_read words (Stop act calls pick) (of_calls, of_pick, of_act, words_are, calls_are, pick_is, act_is, may) =
     ap event_in words_are
     ∙ ap (λ a. act_or_other a (stop_or_fail (stop_in (codes "stop" ∷ of_calls ∷ of_pick ∷ of_act)) (fail_in (codes "stop" ∷ of_calls ∷ of_pick ∷ of_act)))) (no_act of_calls of_pick of_act)
-    ∙ ap (λ e. stop_or_fail e (fail_in (codes "stop" ∷ of_calls ∷ of_pick ∷ of_act))) (stop_read act calls pick of_calls of_pick of_act calls_are pick_is act_is)
-words_read words (Fail act calls) (of_calls, of_act, words_are, calls_are, act_is) =
+    ∙ ap (λ e. stop_or_fail e (fail_in (codes "stop" ∷ of_calls ∷ of_pick ∷ of_act))) (stop_read act calls pick of_calls of_pick of_act calls_are pick_is act_is may)
+words_read words (Fail act calls) (of_calls, of_act, words_are, calls_are, act_is, may) =
     ap event_in words_are
     ∙ ap (λ a. act_or_other a (stop_or_fail (stop_in (codes "fail" ∷ of_calls ∷ of_act)) (fail_in (codes "fail" ∷ of_calls ∷ of_act)))) (no_act_fails of_calls of_act)
     ∙ ap (λ e. stop_or_fail e (fail_in (codes "fail" ∷ of_calls ∷ of_act))) (no_stop of_calls of_act)
-    ∙ fail_read act calls of_calls of_act calls_are act_is
+    ∙ fail_read act calls of_calls of_act calls_are act_is may

@@ -17,10 +17,11 @@ use Rattle.c8_game.specs.declared.row.Player.{Player}
 use Rattle.c8_peer.specs.declared.kind.Kind.{Kind}
 use Rattle.c8_peer.specs.declared.kind.Kind.TheVariants.{Hello, Welcome, Data, Freeze, Frozen, Cut}
 use Rattle.c8_world.specs.declared.event.Act.{Act}
-use Rattle.c8_world.specs.declared.event.Act.TheVariants.{Open, Tick, Say, Give, Leave, Decide, Check}
+use Rattle.c8_world.specs.declared.event.Act.TheVariants.{Open, Tick, Say, Give, Leave, Decide, Check, Show, Hear, Seen, Fresh}
 use Rattle.c8_world.specs.declared.event.Event.{Event}
 use Rattle.c8_world.specs.declared.event.Event.TheVariants.{Do, Stop, Fail}
-use Rattle.c8_script.specs.Script.{player_word, SpellsNumber, kind_words, SpellsAct, WordsSpell, SpellsEvent, not_skipped, event_lines, IsFaultOfScript}
+use Rattle.c8_wire.specs.declared.watcher.Watcher.{Watcher}
+use Rattle.c8_script.specs.Script.{player_word, watcher_word, SpellsNumber, kind_words, SpellsAct, WordsSpell, SpellsEvent, not_skipped, event_lines, IsFaultOfScript}
 use Rattle.c8_script.specs.checked.ScriptWords.{event_in, event_of}
 use Rattle.c8_script.specs.declared.error.ScriptError.{ScriptError}
 use Rattle.c8_script.specs.declared.error.ScriptError.TheVariants.{Line, Memory}
@@ -43,6 +44,9 @@ no_space p word fails pass =
 
 player_no_space : (player : Player) → HasNoSpace (player_word player)
 player_no_space player = ap (λ b. not b && true) (ne_eqb (48 + player.number) 32 (λ same. omega arith))
+
+watcher_no_space : (watcher : Watcher) → HasNoSpace (watcher_word watcher)
+watcher_no_space watcher = ap (λ b. not b && true) (ne_eqb (48 + watcher.number) 32 (λ same. omega arith))
 
 number_no_space : (word : List ℕ) (number : ℕ) → SpellsNumber word number → HasNoSpace word
 number_no_space word number spelt =
@@ -92,13 +96,17 @@ act_no_space words (Decide player) spelt = rw spelt (refl, (player_no_space play
 act_no_space words (Check player) spelt = rw spelt (refl, (player_no_space player, tt))
 act_no_space words (Tick player keys) spelt = rw spelt.1 (refl, (player_no_space player, (keys_no_space spelt.0 spelt.2.0, tt)))
 act_no_space words (Give number player) spelt = rw spelt.1 (refl, (number_no_space spelt.0 number spelt.2, (player_no_space player, tt)))
+act_no_space words (Show watcher) spelt = rw spelt (refl, (refl, (watcher_no_space watcher, (refl, tt))))
+act_no_space words (Hear number watcher) spelt = rw spelt.1 (refl, (number_no_space spelt.0 number spelt.2, (watcher_no_space watcher, tt)))
+act_no_space words (Seen watcher) spelt = rw spelt (refl, (watcher_no_space watcher, (refl, (refl, tt))))
+act_no_space words (Fresh watcher) spelt = rw spelt (refl, (watcher_no_space watcher, tt))
 act_no_space words (Say player to kind) spelt = rw spelt (refl, (player_no_space player, (player_no_space to, kind_no_space kind)))
 
 words_no_space : (words : List (List ℕ)) (event : Event) → WordsSpell words event → HaveNoSpace words
 words_no_space words (Do act) spelt = act_no_space words act spelt
-words_no_space words (Stop act calls pick) (of_calls, of_pick, of_act, words_are, calls_are, pick_is, act_is) =
+words_no_space words (Stop act calls pick) (of_calls, of_pick, of_act, words_are, calls_are, pick_is, act_is, may) =
     rw words_are (refl, (number_no_space of_calls calls calls_are, (number_no_space of_pick pick pick_is, act_no_space of_act act act_is)))
-words_no_space words (Fail act calls) (of_calls, of_act, words_are, calls_are, act_is) =
+words_no_space words (Fail act calls) (of_calls, of_act, words_are, calls_are, act_is, may) =
     rw words_are (refl, (number_no_space of_calls calls calls_are, act_no_space of_act act act_is))
 
 -- no event is spelt by no word
@@ -110,8 +118,12 @@ spelt_by_some (Do (Check player)) spelt = cc
 spelt_by_some (Do (Tick player keys)) spelt = let none = spelt.1 in cc
 spelt_by_some (Do (Give number player)) spelt = let none = spelt.1 in cc
 spelt_by_some (Do (Say player to kind)) spelt = cc
-spelt_by_some (Stop act calls pick) (of_calls, of_pick, of_act, words_are, calls_are, pick_is, act_is) = cc
-spelt_by_some (Fail act calls) (of_calls, of_act, words_are, calls_are, act_is) = cc
+spelt_by_some (Do (Show watcher)) spelt = cc
+spelt_by_some (Do (Hear number watcher)) spelt = let none = spelt.1 in cc
+spelt_by_some (Do (Seen watcher)) spelt = cc
+spelt_by_some (Do (Fresh watcher)) spelt = cc
+spelt_by_some (Stop act calls pick) (of_calls, of_pick, of_act, words_are, calls_are, pick_is, act_is, may) = cc
+spelt_by_some (Fail act calls) (of_calls, of_act, words_are, calls_are, act_is, may) = cc
 
 cut_again : (words : List (List ℕ)) (event : Event) → WordsSpell words event → slice_split (λ byte. byte == 32) (join_with_byte 32 words) ≡ words
 cut_again [] event spelt = absurd (spelt_by_some event spelt)

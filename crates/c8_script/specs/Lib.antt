@@ -1,5 +1,6 @@
 pub mod Errors
 pub mod Printed
 pub mod Script
+pub mod Watched
 pub mod Sim
 pub mod checked

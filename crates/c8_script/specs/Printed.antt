@@ -1,18 +1,25 @@
 -- What `sim` prints: a line for each answer, and then how the players stand.
-use Rattle.std.specs.Prelude.{◌≡◌, ℕ, ◌+◌, List, [], ◌∷◌, ◌++◌, length, min, take, codes, Bool, true, false, Ok, Err}
+use Rattle.std.specs.Prelude.{◌≡◌, ℕ, ◌+◌, List, [], ◌∷◌, ◌++◌, length, min, take, codes, Bool, true, false, Option, Some, None, Ok, Err}
 use Rattle.std.specs.List.{flat_map}
 use Rattle.std.specs.Fmt.{decimal}
-use Rattle.c8_peer.specs.Errors.{open_number_of, tick_number_of, refused_number_of, unsayable_number_of, leave_number_of, decide_number_of, check_number_of}
-use Rattle.c8_peer.specs.declared.error.Refused.{Refused}
-use Rattle.c8_peer.specs.declared.error.Refused.TheVariants as refusals
+use Rattle.c8_refusals.specs.Errors.{open_number_of, tick_number_of, refused_number_of, unsayable_number_of, leave_number_of, decide_number_of, check_number_of}
+use Rattle.c8_refusals.specs.declared.error.Refused.{Refused}
+use Rattle.c8_refusals.specs.declared.error.Refused.TheVariants as refusals
 use Rattle.c8_peer.specs.declared.check.Check.{Check}
 use Rattle.c8_peer.specs.declared.check.Check.TheVariants.{Piece, Done}
 use Rattle.c8_peer.specs.declared.heard.Heard.{Heard}
 use Rattle.c8_peer.specs.declared.heard.Heard.TheVariants.{Nothing, Kept, Out}
+use Rattle.c8_spectator.specs.declared.error.NotTaken.{NotTaken}
+use Rattle.c8_spectator.specs.declared.error.NotTaken.TheVariants as watchings
+use Rattle.c8_spectator.specs.declared.taken.Taken.{Taken}
+use Rattle.c8_spectator.specs.declared.taken.Taken.TheVariants as takens
+use Rattle.c8_spectator.specs.Errors.{number_of as watch_number_of}
+use Rattle.c8_wire.specs.Errors.{number_of as wire_number_of}
 use Rattle.c8_world.specs.declared.answer.Answer.{Answer}
-use Rattle.c8_world.specs.declared.answer.Answer.TheVariants.{Opened, Up, Ticked, Said, Delivered, NoSuch, Left, Decided, Checked, Down, Stopped}
+use Rattle.c8_world.specs.declared.answer.Answer.TheVariants.{Opened, Up, Ticked, Said, Delivered, NoSuch, Left, Decided, Checked, Watched, Spoken, Anew, Down, Stopped}
 use Rattle.c8_world.specs.declared.answer.Counts.{Counts}
 use Rattle.c8_world.specs.declared.ends.Tally.{Tally}
+use Rattle.c8_script.specs.declared.watched.Watched.{Watched as RowsTold}
 
 -- these parts, one after the other, and a line feed
 abbrev pub line : List (List ℕ) → List ℕ
@@ -41,6 +48,10 @@ part_word refusals.Down = codes "deliver"
 part_word refusals.Dropped = codes "deliver"
 part_word refusals.OtherWire = codes "deliver"
 
+abbrev pub taken_word : Taken → List ℕ
+taken_word takens.Nothing = codes "nothing"
+taken_word takens.Kept = codes "kept"
+
 -- what is counted after a tick
 abbrev pub ticked_text : Counts → List ℕ
 ticked_text counts = line (codes "now " ∷ decimal counts.now ∷ codes " confirmed " ∷ decimal counts.confirmed ∷ [])
@@ -53,6 +64,11 @@ check_text (Done frames) = line (codes "checked " ∷ decimal frames ∷ [])
 -- why an event was refused: by which part, and the number and the name of it there
 abbrev pub refusal_text : List ℕ → ℕ → List ℕ → List ℕ
 refusal_text part number name = line (codes "no " ∷ part ∷ codes " " ∷ decimal number ∷ codes " " ∷ name ∷ [])
+
+-- why a watcher did not take a datagram
+abbrev pub not_taken_text : List ℕ → NotTaken → List ℕ
+not_taken_text name (watchings.Wire error) = refusal_text (codes "wire") (wire_number_of error) name
+not_taken_text name (watchings.Watch error) = refusal_text (codes "watch") (watch_number_of error) name
 
 -- what is told of an answer, where this is the name of its refusal
 abbrev pub answer_text : List ℕ → Answer → List ℕ
@@ -72,6 +88,10 @@ answer_text name (Decided (Ok count)) = line (codes "cut " ∷ decimal count ∷
 answer_text name (Decided (Err error)) = refusal_text (codes "decide") (decide_number_of error) name
 answer_text name (Checked (Ok check)) = check_text check
 answer_text name (Checked (Err error)) = refusal_text (codes "check") (check_number_of error) name
+answer_text name (Watched (Ok taken)) = line (taken_word taken ∷ [])
+answer_text name (Watched (Err error)) = not_taken_text name error
+answer_text name (Spoken posted) = line (codes "datagram " ∷ decimal posted.number ∷ codes " length " ∷ decimal posted.length ∷ [])
+answer_text name Anew = line (codes "fresh" ∷ [])
 answer_text name Down = line (codes "down" ∷ [])
 answer_text name Stopped = line (codes "stopped" ∷ [])
 
@@ -105,5 +125,16 @@ abbrev pub yes_or_no : Bool → List ℕ
 yes_or_no true = codes "yes"
 yes_or_no false = codes "no"
 
-abbrev pub ends_text : List Tally → Bool → List ℕ
-ends_text tallies agree = tallies_text (length tallies) 1 tallies ++ line (codes "agree " ∷ yes_or_no agree ∷ [])
+-- of a watcher that the script names: how many rows it has
+abbrev pub watcher_text : ℕ → Option ℕ → List ℕ
+watcher_text seat None = []
+watcher_text seat (Some rows) = line (codes "watcher " ∷ decimal seat ∷ codes " rows " ∷ decimal rows ∷ [])
+
+abbrev pub watched_text : RowsTold → List ℕ
+watched_text w = watcher_text 5 w.five ++ watcher_text 6 w.six
+
+abbrev pub agree_text : Bool → List ℕ
+agree_text agree = line (codes "agree " ∷ yes_or_no agree ∷ [])
+
+abbrev pub ends_text : List Tally → RowsTold → Bool → List ℕ
+ends_text tallies watched agree = tallies_text (length tallies) 1 tallies ++ watched_text watched ++ agree_text agree

@@ -1,5 +1,5 @@
 -- Scripts: the events that a text of them spells, one a line, or the fault that refuses it.
-use Rattle.std.specs.Prelude.{◌≡◌, ℕ, ◌+◌, ◌<◌, ◌^◌, not, true, false, List, [], ◌∷◌, Some, IfSome, codes, filter}
+use Rattle.std.specs.Prelude.{◌≡◌, ℕ, ◌+◌, ◌<◌, ◌^◌, not, Bool, true, false, List, [], ◌∷◌, Some, IfSome, codes, filter}
 use Rattle.std.specs.List.{AllZip, Any, join_with_byte, slice_get}
 use Rattle.std.specs.Str.Lines.{lines}
 use Rattle.c8_game.specs.Fields.{is_decimal, decimal_number}
@@ -7,10 +7,11 @@ use Rattle.c8_game.specs.GameText.{is_skipped}
 use Rattle.c8_game.specs.KeysText.{is_keys_text, keys_number}
 use Rattle.c8_game.specs.declared.row.Keys.{Keys}
 use Rattle.c8_game.specs.declared.row.Player.{Player}
+use Rattle.c8_wire.specs.declared.watcher.Watcher.{Watcher}
 use Rattle.c8_peer.specs.declared.kind.Kind.{Kind}
 use Rattle.c8_peer.specs.declared.kind.Kind.TheVariants.{Hello, Welcome, Data, Freeze, Frozen, Cut}
 use Rattle.c8_world.specs.declared.event.Act.{Act}
-use Rattle.c8_world.specs.declared.event.Act.TheVariants.{Open, Tick, Say, Give, Leave, Decide, Check}
+use Rattle.c8_world.specs.declared.event.Act.TheVariants.{Open, Tick, Say, Give, Leave, Decide, Check, Show, Hear, Seen, Fresh}
 use Rattle.c8_world.specs.declared.event.Event.{Event}
 use Rattle.c8_world.specs.declared.event.Event.TheVariants.{Do, Stop, Fail}
 use Rattle.c8_script.specs.declared.error.ScriptError.{ScriptError}
@@ -19,6 +20,10 @@ use Rattle.c8_script.specs.declared.error.ScriptError.TheVariants.{Line, Memory}
 -- a player's word is one digit, 48 being that of 0
 abbrev pub player_word : Player → List ℕ
 player_word player = (48 + player.number) ∷ []
+
+-- and so is a watcher's
+abbrev pub watcher_word : Watcher → List ℕ
+watcher_word watcher = (48 + watcher.number) ∷ []
 
 -- four hexadecimal digits spell a key set
 abbrev pub SpellsKeys : List ℕ → Keys → Type 0
@@ -48,6 +53,25 @@ SpellsAct words (Give number player) =
 SpellsAct words (Leave leaver) = words ≡ codes "leave" ∷ player_word leaver ∷ []
 SpellsAct words (Decide leaver) = words ≡ codes "decide" ∷ player_word leaver ∷ []
 SpellsAct words (Check player) = words ≡ codes "check" ∷ player_word player ∷ []
+SpellsAct words (Show watcher) = words ≡ codes "say" ∷ codes "1" ∷ watcher_word watcher ∷ codes "show" ∷ []
+SpellsAct words (Hear number watcher) =
+    (digits : List ℕ) × (words ≡ codes "give" ∷ digits ∷ watcher_word watcher ∷ []) × SpellsNumber digits number
+SpellsAct words (Seen watcher) = words ≡ codes "say" ∷ watcher_word watcher ∷ codes "1" ∷ codes "seen" ∷ []
+SpellsAct words (Fresh watcher) = words ≡ codes "fresh" ∷ watcher_word watcher ∷ []
+
+-- what a watcher does is held by no stop and no failure: it has no disk
+abbrev pub may_be_held : Act → Bool
+may_be_held (Open player) = true
+may_be_held (Tick player keys) = true
+may_be_held (Say player to what) = true
+may_be_held (Give number player) = true
+may_be_held (Leave leaver) = true
+may_be_held (Decide leaver) = true
+may_be_held (Check player) = true
+may_be_held (Show watcher) = true
+may_be_held (Hear number watcher) = false
+may_be_held (Seen watcher) = false
+may_be_held (Fresh watcher) = false
 
 -- the words spell the event: an act, a stop with its two numbers and the words of the act inside it, or a failure with its one
 -- number and those words
@@ -55,9 +79,10 @@ abbrev pub WordsSpell : List (List ℕ) → Event → Type 0
 WordsSpell words (Do act) = SpellsAct words act
 WordsSpell words (Stop act calls pick) =
     (of_calls of_pick : List ℕ) × (of_act : List (List ℕ)) × (words ≡ codes "stop" ∷ of_calls ∷ of_pick ∷ of_act)
-    × SpellsNumber of_calls calls × SpellsNumber of_pick pick × SpellsAct of_act act
+    × SpellsNumber of_calls calls × SpellsNumber of_pick pick × SpellsAct of_act act × (may_be_held act ≡ true)
 WordsSpell words (Fail act calls) =
-    (of_calls : List ℕ) × (of_act : List (List ℕ)) × (words ≡ codes "fail" ∷ of_calls ∷ of_act) × SpellsNumber of_calls calls × SpellsAct of_act act
+    (of_calls : List ℕ) × (of_act : List (List ℕ)) × (words ≡ codes "fail" ∷ of_calls ∷ of_act) × SpellsNumber of_calls calls
+    × SpellsAct of_act act × (may_be_held act ≡ true)
 
 -- a line is the words of an event, with one space between two and nothing else
 abbrev pub SpellsEvent : List ℕ → Event → Type 0

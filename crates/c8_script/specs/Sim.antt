@@ -1,5 +1,5 @@
 -- What `sim` answers to two texts.
-use Rattle.std.specs.Prelude.{◌≡◌, ◌⊎◌, ◌++◌, ℕ, List, [], Result, Ok, Err, Option, true}
+use Rattle.std.specs.Prelude.{◌≡◌, ◌⊎◌, ◌++◌, ℕ, List, [], length, Result, Ok, Err, Option, true}
 use Rattle.std.specs.Io.KnownBytes.{Appends}
 use Rattle.c8_game.specs.GameFaults.{IsRefused}
 use Rattle.c8_game.specs.GameText.{Spells}
@@ -15,11 +15,12 @@ use Rattle.c8_world.specs.Agreement.{IsPlayer, Reads}
 use Rattle.c8_world.specs.Disks.{IsNewDisk}
 use Rattle.c8_world.specs.Ends.{AreEnds}
 use Rattle.c8_world.specs.Run.{RunsWithMemory, HasRun}
-use Rattle.c8_world.specs.Table.{TableValue, Holds, node_of}
+use Rattle.c8_world.specs.Table.{TableValue, Holds, node_of, rows_in}
 use Rattle.c8_world.specs.Turns.{AreTurns}
 use Rattle.c8_script.specs.Errors.{sim_part}
 use Rattle.c8_script.specs.Printed.{AreLines, ends_text}
 use Rattle.c8_script.specs.Script.{SpellsScript, IsFaultOfScript}
+use Rattle.c8_script.specs.Watched.{told_of}
 use Rattle.c8_script.specs.declared.error.ScriptError.TheVariants as scripts
 use Rattle.c8_script.specs.declared.error.SimError.{SimError}
 use Rattle.c8_script.specs.declared.error.SimError.TheVariants.{Game, Script}
@@ -47,6 +48,8 @@ pub record IsPlayed (rules : Rules) (events : List Event) (transcript : Transcri
   pub reads : Reads
   pub ends : AreEnds left run.world reads transcript.ends.players.items transcript.ends.agree
   pub agree : transcript.ends.agree ≡ true
+  pub five : transcript.watched.five ≡ told_of events 5 (length (rows_in left 5))
+  pub six : transcript.watched.six ≡ told_of events 6 (length (rows_in left 6))
 
 -- The first of the events, with these answers, each made of a new world what it makes.
 pub record HasBegun (rules : Rules) (events : List Event) (answers : List Answer) : Type 0 where
@@ -98,7 +101,7 @@ IsOutcomeOfSim game script (Err unfinished) = IsUnfinished game script unfinishe
 -- a line for each answer; and then, of a match that was played to its end, how the players stand
 abbrev pub IsPrinted : Result Transcript Unfinished → List ℕ → Type 0
 IsPrinted (Ok transcript) text =
-    (answers : List ℕ) × AreLines 1 transcript.answers.items answers × (text ≡ answers ++ ends_text transcript.ends.players.items transcript.ends.agree)
+    (answers : List ℕ) × AreLines 1 transcript.answers.items answers × (text ≡ answers ++ ends_text transcript.ends.players.items transcript.watched transcript.ends.agree)
 IsPrinted (Err unfinished) text = AreLines 1 unfinished.answers.items text
 
 abbrev pub part_of_unfinished : Unfinished → Part

@@ -2,6 +2,7 @@
 
 use c8_game::Player;
 use c8_peer::Kind;
+use c8_wire::Watcher;
 use c8_world::Act;
 use std::io;
 use std::io::Write;
@@ -19,6 +20,10 @@ pub fn write_act<W: Write>(out: &mut W, act: Act) -> io::Result<()> {
         Act::Leave(Player { number }) => writeln!(out, "leave {number}"),
         Act::Decide(Player { number }) => writeln!(out, "decide {number}"),
         Act::Check(Player { number }) => writeln!(out, "check {number}"),
+        Act::Show(Watcher { number }) => writeln!(out, "say 1 {number} show"),
+        Act::Hear(datagram, Watcher { number }) => writeln!(out, "give {datagram} {number}"),
+        Act::Seen(Watcher { number }) => writeln!(out, "say {number} 1 seen"),
+        Act::Fresh(Watcher { number }) => writeln!(out, "fresh {number}"),
     }
 }
 

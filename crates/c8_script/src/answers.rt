@@ -3,9 +3,11 @@
 ghost use Rattle.std.specs.Prelude.{◌≡◌, ℕ, List, [], ◌∷◌, OnOk, length};
 ghost use Rattle.std.specs.List.{flat_map};
 ghost use Rattle.std.specs.Io.KnownBytes.{Appends};
-ghost use Rattle.c8_script.specs.Printed.{AreLines, IsLine, answer_text, refusal_text, part_word, heard_word, ticked_text, check_text, line, count_text, tallies_text, tally_text, ends_text};
+ghost use Rattle.c8_script.specs.Printed.{AreLines, IsLine, answer_text, refusal_text, part_word, heard_word, taken_word, not_taken_text, ticked_text, check_text, line, count_text, tallies_text, tally_text, watcher_text, watched_text, agree_text, ends_text};
 
+use crate::watched::Watched;
 use c8_peer::{Check, Heard, Refused};
+use c8_spectator::{NotTaken, Taken};
 use c8_world::{Answer, Counts, Ends, Posted, Tally};
 use std::io;
 use std::io::Write;
@@ -55,6 +57,12 @@ fn write_answer<W: Write>(out: &mut W, answer: Answer) -> io::Result<()>
         Answer::Decided(Err(error)) => write_refusal(out, "decide", error.number(), error.name()),
         Answer::Checked(Ok(check)) => write_check(out, check),
         Answer::Checked(Err(error)) => write_refusal(out, "check", error.number(), error.name()),
+        Answer::Watched(Ok(taken)) => write_taken(out, taken),
+        Answer::Watched(Err(error)) => write_not_taken(out, error),
+        Answer::Spoken(Posted { number, length }) => {
+            writeln!(out, "datagram {number} length {length}")
+        }
+        Answer::Anew => writeln!(out, "fresh"),
         Answer::Down => writeln!(out, "down"),
         Answer::Stopped => writeln!(out, "stopped"),
     }
@@ -88,6 +96,27 @@ fn write_check<W: Write>(out: &mut W, check: Check) -> io::Result<()>
     }
 }
 
+fn write_taken<W: Write>(out: &mut W, taken: Taken) -> io::Result<()>
+    ensures { OnOk result (Appends (W.contents out.old) (W.contents out.new)
+        (line (taken_word taken ∷ []))) }
+{
+    match taken {
+        Taken::Nothing => writeln!(out, "nothing"),
+        Taken::Kept => writeln!(out, "kept"),
+    }
+}
+
+/// Writes why a watcher did not take a datagram.
+fn write_not_taken<W: Write>(out: &mut W, error: NotTaken) -> io::Result<()>
+    ensures { OnOk result ((name : List ℕ)
+        × Appends (W.contents out.old) (W.contents out.new) (not_taken_text name error)) }
+{
+    match error {
+        NotTaken::Wire(error) => write_refusal(out, "wire", error.number(), error.name()),
+        NotTaken::Watch(error) => write_refusal(out, "watch", error.number(), error.name()),
+    }
+}
+
 /// Writes why an event was refused: by which part, and its number and name there.
 fn write_refusal<W: Write>(out: &mut W, part: &str, number: u8, name: &str) -> io::Result<()>
     ensures { OnOk result (Appends (W.contents out.old) (W.contents out.new)
@@ -116,13 +145,39 @@ fn part_of(error: Refused) -> &'static str
     }
 }
 
-/// Writes how the players stand, one line each, and whether they agree.
-pub fn write_ends<W: Write>(out: &mut W, ends: &Ends) -> io::Result<()>
+/// Writes how the players stand, one line each, how many rows the watchers have that are named, and whether
+/// the players agree.
+pub fn write_ends<W: Write>(out: &mut W, ends: &Ends, watched: Watched) -> io::Result<()>
     ensures { OnOk result (Appends (W.contents out.old) (W.contents out.new)
-        (ends_text ends.now.players.items ends.now.agree)) }
+        (ends_text ends.now.players.items watched ends.now.agree)) }
 {
     write_tallies(out, &ends.players)?;
-    let agree = if ends.agree { "yes" } else { "no" };
+    write_watched(out, watched)?;
+    write_agree(out, ends.agree)
+}
+
+fn write_watched<W: Write>(out: &mut W, watched: Watched) -> io::Result<()>
+    ensures { OnOk result (Appends (W.contents out.old) (W.contents out.new) (watched_text watched)) }
+{
+    write_watcher(out, 5, watched.five)?;
+    write_watcher(out, 6, watched.six)
+}
+
+/// Writes how many rows the watcher of a seat has, if it is told.
+fn write_watcher<W: Write>(out: &mut W, seat: u8, rows: Option<u32>) -> io::Result<()>
+    ensures { OnOk result (Appends (W.contents out.old) (W.contents out.new)
+        (watcher_text seat rows)) }
+{
+    match rows {
+        Some(rows) => writeln!(out, "watcher {seat} rows {rows}"),
+        None => Ok(()),
+    }
+}
+
+fn write_agree<W: Write>(out: &mut W, agree: bool) -> io::Result<()>
+    ensures { OnOk result (Appends (W.contents out.old) (W.contents out.new) (agree_text agree)) }
+{
+    let agree = if agree { "yes" } else { "no" };
     writeln!(out, "agree {agree}")
 }
 

@@ -72,7 +72,7 @@ pub fn sim<W: Write, E: Write>(
     match play_script(alloc, game.bytes, script.bytes) {
         Ok(transcript) => {
             write_answers(out, &transcript.answers)?;
-            write_ends(out, &transcript.ends)?;
+            write_ends(out, &transcript.ends, transcript.watched)?;
             Ok(Status::Done)
         }
         Err(unfinished) => {

@@ -10,6 +10,7 @@ mod error;
 mod explain;
 mod script;
 mod transcript;
+mod watched;
 
 pub use acts::write_act;
 pub use answers::{write_answers, write_ends};
@@ -17,3 +18,4 @@ pub use command::{sim, sim_files};
 pub use error::{ScriptError, SimError};
 pub use script::{faulty_event, read_script};
 pub use transcript::{CALLS, CAPACITY, ROOM, Transcript, Unfinished, play_script};
+pub use watched::Watched;

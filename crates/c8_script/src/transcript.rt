@@ -8,6 +8,7 @@ ghost use Rattle.c8_script.specs.Sim.{IsCutShort, IsOutcomeOfSim, IsPlayed, IsRe
 
 use crate::error::{ScriptError, SimError};
 use crate::script::read_script;
+use crate::watched::{Watched, rows_told};
 use c8_game::Game;
 use c8_world::{Answer, Ends, Event, Report, RunError, World};
 use std::alloc::Global;
@@ -21,12 +22,13 @@ pub const CAPACITY: u32 = 589_825;
 /// How many calls each player's disk serves between two stops.
 pub const CALLS: u32 = 65_536;
 
-/// All that a match came to: one answer for each event, in order, and where the players stand in the
-/// end.
+/// All that a match came to: one answer for each event, in order, where the players stand in the end, and
+/// how many rows the watchers have.
 #[derive(Debug, Drop)]
 pub struct Transcript {
     pub answers: Vec<Answer>,
     pub ends: Ends,
+    pub watched: Watched,
 }
 
 /// Why a script was not played to its end, and the answers to the events before. Where a text is
@@ -75,7 +77,11 @@ fn play(alloc: Global, game: &Game, events: &[Event]) -> Result<Transcript, Unfi
         Err(error) => return Err(out_of_memory(answers_before(error))),
     };
     match world.ends(alloc) {
-        Ok(ends) => Ok(Transcript { answers, ends }),
+        Ok(ends) => Ok(Transcript {
+            answers,
+            ends,
+            watched: rows_told(&world, events),
+        }),
         Err(_) => Err(out_of_memory(answers)),
     }
 }

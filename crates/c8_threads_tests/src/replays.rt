@@ -70,7 +70,7 @@ impl<'g> Replay<'g> {
 
     /// Does what an act says, if it can be done.
     fn act(&mut self, act: Act) -> Option<()> {
-        let player = act.player();
+        let player = act.seat().player()?;
         let peer = self.peers.get_mut(player.place())?;
         match act {
             Act::Open(player) => {
@@ -99,6 +99,8 @@ impl<'g> Replay<'g> {
             Act::Check(_) => {
                 let _checked = peer.as_mut()?.checkpoint();
             }
+            // nobody watches
+            Act::Show(_) | Act::Hear(_, _) | Act::Seen(_) | Act::Fresh(_) => return None,
         }
         Some(())
     }

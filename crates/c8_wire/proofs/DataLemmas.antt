@@ -7,12 +7,13 @@ use Rattle.byteorder.specs.Numbers.{big_number-reads_back}
 use Rattle.c8_game.specs.Rules.{most_inputs}
 use Rattle.c8_game.specs.declared.wire.WireVersion.{WireVersion}
 use Rattle.c8_wire.specs.declared.kinds.DatagramKind.TheVariants as kinds
-use Rattle.c8_wire.specs.Packet.{AreBytes, HeadValue, IsHead, DataMessage, IsDataMessage, Data, Fits, has_room}
+use Rattle.c8_wire.specs.Seats.{are_seats}
+use Rattle.c8_wire.specs.Packet.{AreBytes, HeadValue, DataMessage, IsDataMessage, Data, Fits, has_room}
 use Rattle.c8_wire.specs.Spelling.{header_bytes, inputs_bytes, run_bytes, body_bytes}
 use Rattle.c8_wire.specs.Reading.{number_at, version_at, size_at, data_at}
 use Rattle.c8_wire.specs.Refusal.{applies}
 use Rattle.c8_wire.specs.checked.NumberLaws.{AreBytes-drop, AreBytes-take, spelled_at}
-use Rattle.c8_wire.proofs.HeadLemmas.{then, version_again, HasHead, front_accepted}
+use Rattle.c8_wire.proofs.HeadLemmas.{then, version_again, HasHead, seated, front_accepted}
 use Rattle.c8_wire.proofs.RunLemmas.{IsRunAt, run_shaped, run_here, spelled_run, HasRun, run_again, counted, paired}
 use Rattle.c8_wire.proofs.TableLemmas.{IsAccepted}
 
@@ -80,18 +81,18 @@ pub data_values : (bytes : List ℕ) (version : WireVersion) (m : DataMessage) �
 data_values bytes version m has = λ i. record { ack = has.ack i; mark_frame = has.mark_frame i; mark = has.mark i; start = has.run.from i; words = has.run.inputs i }
 
 -- no refusal applies to the spelling
-pub data_accepted : (bytes : List ℕ) (head : HeadValue) (size : ℕ) (m : DataMessage) → IsHead head → IsDataMessage m → Fits (Data m) → has_room head.version (Data m) ≡ true → HasHead bytes head size → length bytes ≡ 24 + size → size ≡ 22 + length (inputs_bytes head.version m.words) → HasData bytes head.version m → IsAccepted kinds.Data bytes
+pub data_accepted : (bytes : List ℕ) (head : HeadValue) (size : ℕ) (m : DataMessage) → are_seats kinds.Data head.from head.to ≡ true → IsDataMessage m → Fits (Data m) → has_room head.version (Data m) ≡ true → HasHead bytes head size → length bytes ≡ 24 + size → size ≡ 22 + length (inputs_bytes head.version m.words) → HasData bytes head.version m → IsAccepted kinds.Data bytes
 unfolding applies
-data_accepted bytes head size m is message fits room has long sized body =
+data_accepted bytes head size m seats message fits room has long sized body =
     let front = front_accepted kinds.Data bytes head size has long in
     record {
       short = front.short;
       magic = front.magic;
       version = front.version;
       length = grind (arith, nat_tests, has.sized);
-      player = grind (arith, nat_tests, is.from_one, is.from_four, is.to_one, is.to_four, is.apart, has.from, has.to);
+      player = seated kinds.Data bytes head size has seats;
       reserved = refl;
-      count = counted kinds.Data bytes head.version m.words has.version body.run.count (has.sized ∙ sized) message.run.short room;
+      count = counted kinds.Data bytes head.version m.words has.version body.run.count (has.sized ∙ sized) message.run.short room refl;
       pairs = paired kinds.Data bytes head.version m.words has.version body.run.count body.run.spelled fits.1;
       beyond = grind (arith, nat_tests, body.ack, body.mark_frame, body.run.from, body.run.count, message.ack, message.mark_frame, message.run.within);
     }

@@ -1,5 +1,5 @@
 -- The header: its bytes are those of what it says, and what it says is read again.
-use Rattle.std.proofs.Common.{◌≡◌, ℕ, ◌+◌, ◌^◌, ◌<◌, ◌≤◌, ◌&&◌, false, List, [], ◌∷◌, ◌++◌, length, drop, get_or, slice_index, Some, refl, ap, ◌∙◌, inl, inr, arith}
+use Rattle.std.proofs.Common.{◌≡◌, ℕ, ◌+◌, ◌^◌, ◌<◌, ◌≤◌, ◌&&◌, true, false, List, [], ◌∷◌, ◌++◌, length, drop, get_or, slice_index, Some, refl, ap, ◌∙◌, inl, inr, arith}
 use Rattle.std.specs.Prelude.{◌==◌, not}
 use Rattle.std.proofs.lemmas.Bool.{cases_eq, eq-eqb, ne_eqb}
 use Rattle.c8_game.specs.declared.wire.WireVersion.{WireVersion}
@@ -12,6 +12,7 @@ use Rattle.c8_wire.specs.declared.error.WireError.TheVariants as errors
 use Rattle.c8_wire.specs.Refusal.{applies}
 use Rattle.c8_wire.specs.declared.kinds.DatagramKind.{DatagramKind}
 use Rattle.c8_wire.specs.Kinds.{code_of}
+use Rattle.c8_wire.specs.Seats.{are_seats}
 use Rattle.c8_wire.specs.Packet.{AreBytes, HeadValue, IsHead}
 use Rattle.c8_game.specs.Wire.{version_number}
 use Rattle.c8_wire.specs.Spelling.{header_bytes}
@@ -88,6 +89,10 @@ headed head length body is short =
       sized = big_number-reads_back 2 length rest short;
       values = λ i. record { kind = head.kind; version = version_again head.version i; session = session i; from = head.from; to = head.to; sender_epoch = sender i; addressee_epoch = addressee i };
     }
+
+-- seats that a kind's datagrams may name are named by the spelling
+pub seated : (kind : DatagramKind) (bytes : List ℕ) (head : HeadValue) (size : ℕ) → HasHead bytes head size → are_seats kind head.from head.to ≡ true → not (are_seats kind (slice_index bytes 12) (slice_index bytes 13)) ≡ false
+seated kind bytes head size has seats = (λ i. not (are_seats kind (has.from i) (has.to i))) ∙ ap not seats
 
 -- no refusal of the header applies to the spelling
 pub record HasFront (kind : DatagramKind) (bytes : List ℕ) : Type 0 where

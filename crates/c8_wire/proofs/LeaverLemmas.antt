@@ -1,5 +1,6 @@
 -- FREEZE, FROZEN and CUT: their bytes are those of what they say, and what they say is read again.
-use Rattle.std.proofs.Common.{◌≡◌, true, ℕ, ◌+◌, ◌-◌, ◌≤◌, List, [], ◌∷◌, ◌++◌, length, drop, slice_index, refl, ap, ◌∙◌, arith}
+use Rattle.std.proofs.Common.{◌≡◌, true, false, ℕ, ◌+◌, ◌-◌, ◌≤◌, List, [], ◌∷◌, ◌++◌, length, drop, slice_index, refl, ap, ◌∙◌, arith}
+use Rattle.std.specs.Prelude.{not}
 use Rattle.std.proofs.lemmas.List.{drop_all}
 use Rattle.std.proofs.lemmas.Bool.Decides.{nat_tests}
 use Rattle.byteorder.specs.Endian.{big_bytes}
@@ -7,13 +8,14 @@ use Rattle.byteorder.specs.Numbers.{big_number-reads_back}
 use Rattle.c8_game.specs.Rules.{most_inputs}
 use Rattle.c8_game.specs.declared.wire.WireVersion.{WireVersion}
 use Rattle.c8_wire.specs.declared.kinds.DatagramKind.TheVariants as kinds
-use Rattle.c8_wire.specs.Packet.{AreBytes, HeadValue, IsHead, FreezeMessage, IsFreezeMessage, LeaverMessage, IsLeaverMessage, Freeze, AreWords, has_few_stretches}
+use Rattle.c8_wire.specs.Seats.{is_within, are_seats}
+use Rattle.c8_wire.specs.Packet.{AreBytes, HeadValue, FreezeMessage, IsFreezeMessage, LeaverMessage, IsLeaverMessage, Freeze, AreWords, has_few_stretches}
 use Rattle.c8_wire.specs.Spelling.{header_bytes, leaver_bytes, inputs_bytes, run_bytes, body_bytes}
 use Rattle.c8_wire.specs.Reading.{number_at, version_at, size_at, run_at, freeze_at, leaver_at}
 use Rattle.c8_wire.specs.Refusal.{applies}
 use Rattle.c8_wire.specs.checked.NumberLaws.{spelled_at}
-use Rattle.c8_wire.proofs.HeadLemmas.{then, byte_here, version_again, HasHead, front_accepted}
-use Rattle.c8_wire.proofs.RunLemmas.{IsRunAt, run_shaped, run_here, spelled_run, HasRun, run_again, counted, paired}
+use Rattle.c8_wire.proofs.HeadLemmas.{then, byte_here, version_again, HasHead, seated, front_accepted}
+use Rattle.c8_wire.proofs.RunLemmas.{IsRunAt, run_shaped, run_here, spelled_run, HasRun, run_again, or_false, counted, paired}
 use Rattle.c8_wire.proofs.TableLemmas.{IsAccepted}
 
 -- ---- what is not refused is spelled
@@ -140,51 +142,54 @@ leaver_values bytes version m has = λ i. record { leaver = has.leaver i; length
 pub length-leaver_bytes : (version : WireVersion) (m : LeaverMessage) → length (leaver_bytes version m) ≡ 12 + length (inputs_bytes version m.words)
 length-leaver_bytes version m = omega arith
 
+may_leave : (seat leaver : ℕ) → seat ≡ leaver → 2 ≤ leaver → leaver ≤ 4 → not (is_within 2 4 seat) ≡ false
+may_leave seat leaver same from to = grind (arith, nat_tests)
+
 -- no refusal applies to the spelling
-pub freeze_accepted : (bytes : List ℕ) (head : HeadValue) (m : FreezeMessage) → IsHead head → IsFreezeMessage m → HasHead bytes head 6 → length bytes ≡ 30 → HasFreeze bytes m → IsAccepted kinds.Freeze bytes
+pub freeze_accepted : (bytes : List ℕ) (head : HeadValue) (m : FreezeMessage) → are_seats kinds.Freeze head.from head.to ≡ true → IsFreezeMessage m → HasHead bytes head 6 → length bytes ≡ 30 → HasFreeze bytes m → IsAccepted kinds.Freeze bytes
 unfolding applies
-freeze_accepted bytes head m is message has long body =
+freeze_accepted bytes head m seats message has long body =
     let front = front_accepted kinds.Freeze bytes head 6 has long in
     record {
       short = front.short;
       magic = front.magic;
       version = front.version;
       length = grind (arith, nat_tests, has.sized);
-      player = grind (arith, nat_tests, is.from_one, is.from_four, is.to_one, is.to_four, is.apart, has.from, has.to, body.leaver, message.leaver_from_two, message.leaver_to_four);
+      player = or_false _ _ (may_leave (slice_index bytes 24) m.leaver body.leaver message.leaver_from_two message.leaver_to_four) (seated kinds.Freeze bytes head 6 has seats);
       reserved = grind (arith, nat_tests, body.reserved);
       count = refl;
       pairs = refl;
       beyond = grind (arith, nat_tests, body.have, message.have);
     }
 
-pub frozen_accepted : (bytes : List ℕ) (head : HeadValue) (size : ℕ) (m : LeaverMessage) → IsHead head → IsLeaverMessage m → AreWords m.words → has_few_stretches head.version m.words ≡ true → HasHead bytes head size → length bytes ≡ 24 + size → size ≡ 12 + length (inputs_bytes head.version m.words) → HasLeaver bytes head.version m → IsAccepted kinds.Frozen bytes
+pub frozen_accepted : (bytes : List ℕ) (head : HeadValue) (size : ℕ) (m : LeaverMessage) → are_seats kinds.Frozen head.from head.to ≡ true → IsLeaverMessage m → AreWords m.words → has_few_stretches head.version m.words ≡ true → HasHead bytes head size → length bytes ≡ 24 + size → size ≡ 12 + length (inputs_bytes head.version m.words) → HasLeaver bytes head.version m → IsAccepted kinds.Frozen bytes
 unfolding applies
-frozen_accepted bytes head size m is message fits room has long sized body =
+frozen_accepted bytes head size m seats message fits room has long sized body =
     let front = front_accepted kinds.Frozen bytes head size has long in
     record {
       short = front.short;
       magic = front.magic;
       version = front.version;
       length = grind (arith, nat_tests, has.sized);
-      player = grind (arith, nat_tests, is.from_one, is.from_four, is.to_one, is.to_four, is.apart, has.from, has.to, body.leaver, message.leaver_from_two, message.leaver_to_four);
+      player = or_false _ _ (may_leave (slice_index bytes 24) m.leaver body.leaver message.leaver_from_two message.leaver_to_four) (seated kinds.Frozen bytes head size has seats);
       reserved = grind (arith, nat_tests, body.reserved);
-      count = counted kinds.Frozen bytes head.version m.words has.version body.run.count (has.sized ∙ sized) message.run.short room;
+      count = counted kinds.Frozen bytes head.version m.words has.version body.run.count (has.sized ∙ sized) message.run.short room refl;
       pairs = paired kinds.Frozen bytes head.version m.words has.version body.run.count body.run.spelled fits;
       beyond = grind (arith, nat_tests, body.inputs, body.run.from, body.run.count, message.length, message.run.within);
     }
 
-pub cut_accepted : (bytes : List ℕ) (head : HeadValue) (size : ℕ) (m : LeaverMessage) → IsHead head → IsLeaverMessage m → AreWords m.words → has_few_stretches head.version m.words ≡ true → HasHead bytes head size → length bytes ≡ 24 + size → size ≡ 12 + length (inputs_bytes head.version m.words) → HasLeaver bytes head.version m → IsAccepted kinds.Cut bytes
+pub cut_accepted : (bytes : List ℕ) (head : HeadValue) (size : ℕ) (m : LeaverMessage) → are_seats kinds.Cut head.from head.to ≡ true → IsLeaverMessage m → AreWords m.words → has_few_stretches head.version m.words ≡ true → HasHead bytes head size → length bytes ≡ 24 + size → size ≡ 12 + length (inputs_bytes head.version m.words) → HasLeaver bytes head.version m → IsAccepted kinds.Cut bytes
 unfolding applies
-cut_accepted bytes head size m is message fits room has long sized body =
+cut_accepted bytes head size m seats message fits room has long sized body =
     let front = front_accepted kinds.Cut bytes head size has long in
     record {
       short = front.short;
       magic = front.magic;
       version = front.version;
       length = grind (arith, nat_tests, has.sized);
-      player = grind (arith, nat_tests, is.from_one, is.from_four, is.to_one, is.to_four, is.apart, has.from, has.to, body.leaver, message.leaver_from_two, message.leaver_to_four);
+      player = or_false _ _ (may_leave (slice_index bytes 24) m.leaver body.leaver message.leaver_from_two message.leaver_to_four) (seated kinds.Cut bytes head size has seats);
       reserved = grind (arith, nat_tests, body.reserved);
-      count = counted kinds.Cut bytes head.version m.words has.version body.run.count (has.sized ∙ sized) message.run.short room;
+      count = counted kinds.Cut bytes head.version m.words has.version body.run.count (has.sized ∙ sized) message.run.short room refl;
       pairs = paired kinds.Cut bytes head.version m.words has.version body.run.count body.run.spelled fits;
       beyond = grind (arith, nat_tests, body.inputs, body.run.from, body.run.count, message.length, message.run.within);
     }

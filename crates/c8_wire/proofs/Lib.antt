@@ -4,5 +4,6 @@ pub mod RunLemmas
 pub mod LinkLemmas
 pub mod DataLemmas
 pub mod LeaverLemmas
+pub mod ShowLemmas
 pub mod PacketLemmas
 pub mod ReadLemmas

@@ -1,15 +1,16 @@
 -- The two halves of the grammar: what is not refused is spelled, and what is spelled is not refused and read again.
 use Rattle.std.proofs.Common.{◌≡◌, true, ℕ, ◌+◌, ◌≤◌, List, ◌++◌, length, drop, slice_index, Some, None, refl, sym, ap, subst, ◌∙◌, arith}
 use Rattle.std.proofs.lemmas.List.{length-drop, length-append}
-use Rattle.std.proofs.lemmas.Bool.{leb-true}
+use Rattle.std.proofs.lemmas.Bool.{leb-true, or_parts, not-false}
 use Rattle.std.proofs.lemmas.Bool.Decides.{nat_tests}
 use Rattle.c8_game.specs.declared.wire.WireVersion.{WireVersion}
 use Rattle.c8_game.specs.declared.wire.WireVersion.TheVariants as versions
 use Rattle.c8_wire.specs.declared.kinds.DatagramKind.{DatagramKind}
 use Rattle.c8_wire.specs.declared.kinds.DatagramKind.TheVariants as kinds
-use Rattle.c8_wire.specs.Packet.{AreBytes, HeadValue, IsHead, Message, Hello, Welcome, Data, Freeze, Frozen, Cut, Fits, IsMessage, has_room, kind_of, Packet}
+use Rattle.c8_wire.specs.Seats.{are_seats}
+use Rattle.c8_wire.specs.Packet.{AreBytes, HeadValue, IsHead, Message, Hello, Welcome, Data, Freeze, Frozen, Cut, Show, Seen, Fits, IsMessage, has_room, kind_of, Packet}
 use Rattle.c8_game.specs.Wire.{version_number}
-use Rattle.c8_wire.specs.Spelling.{inputs_bytes, header_bytes, leaver_bytes, body_bytes, spelling, Spells}
+use Rattle.c8_wire.specs.Spelling.{inputs_bytes, header_bytes, leaver_bytes, show_bytes, body_bytes, spelling, Spells}
 use Rattle.c8_wire.specs.Reading.{number_at, version_at, kind_at, size_at, head_at, message_at, packet_at}
 use Rattle.c8_wire.specs.Refusal.{applies, refusal}
 use Rattle.c8_pairs.specs.Pairs.{pairs_of}
@@ -18,6 +19,7 @@ use Rattle.c8_wire.specs.checked.NumberLaws.{number_at-lt}
 use Rattle.c8_wire.specs.checked.RunLaws.{few_bytes}
 use Rattle.c8_wire.proofs.LinkLemmas.{length-hello, spelled_hello, welcome_shaped, spelled_welcome, ack_again, hello_accepted, welcome_accepted}
 use Rattle.c8_wire.proofs.LeaverLemmas.{freeze_shaped, frozen_shaped, cut_shaped, spelled_freeze, spelled_run_of_leaver, is_freeze, is_leaver, freeze_again, leaver_again, freeze_values, leaver_values, length-leaver_bytes, freeze_accepted, frozen_accepted, cut_accepted}
+use Rattle.c8_wire.proofs.ShowLemmas.{IsShowShaped, show_shaped, spelled_show, is_show, seen_shaped, spelled_seen, show_again, show_values, length-show_bytes, seen_again, show_accepted, seen_accepted}
 use Rattle.c8_wire.proofs.RunLemmas.{IsRunAt, run_here}
 use Rattle.c8_wire.proofs.TableLemmas.{code_of_found, IsAccepted, accepted, not_refused}
 use Rattle.c8_wire.proofs.HeadLemmas.{then, version_here, spelled_header, headed}
@@ -39,7 +41,6 @@ shaped kind bytes fits a =
     let short = a.short in
     let magic = a.magic in
     let sized = a.length in
-    let player = a.player in
     record {
       long = grind (arith, nat_tests);
       magic = grind (arith, nat_tests);
@@ -47,11 +48,7 @@ shaped kind bytes fits a =
       sized = grind (arith, nat_tests);
       head = record {
         session = number_at-lt 4 8 bytes fits;
-        from_one = grind (arith, nat_tests);
-        from_four = grind (arith, nat_tests);
-        to_one = grind (arith, nat_tests);
-        to_four = grind (arith, nat_tests);
-        apart = λ same. grind (arith, nat_tests);
+        seats = not-false _ (or_parts _ _ a.player).1;
         sender_epoch = number_at-lt 16 4 bytes fits;
         addressee_epoch = number_at-lt 20 4 bytes fits;
       };
@@ -86,6 +83,13 @@ body_found kinds.Cut bytes fits sized a =
     let is = cut_shaped bytes sized a in
     let run = run_here 30 bytes fits is.run in
     record { named = refl; fits = run.sets; message = is_leaver bytes fits is; room = run.room; spelled = spelled_run_of_leaver bytes fits is }
+body_found kinds.Show bytes fits sized a =
+    let is = show_shaped bytes sized a in
+    let both = is_show bytes fits is in
+    record { named = refl; fits = both.1; message = both.0; room = refl; spelled = spelled_show (version_at bytes) bytes fits is }
+body_found kinds.Seen bytes fits sized a =
+    let is = seen_shaped bytes sized a in
+    record { named = refl; fits = tt; message = is.ack; room = refl; spelled = spelled_seen (version_at bytes) bytes fits is }
 
 pub found : (kind : DatagramKind) (bytes : List ℕ) → AreBytes bytes → kind_at bytes ≡ Some kind → refusal bytes ≡ None → Spells bytes (packet_at kind bytes)
 unfolding spelling
@@ -120,43 +124,66 @@ read_again bytes head message named kind values accepted same =
       same = λ i. record { head = values i; message = (ap (λ (k : DatagramKind). message_at k bytes) kind ∙ same) i };
     }
 
+seats_of : (head : HeadValue) (message : Message) → head.kind ≡ kind_of message → are_seats head.kind head.from head.to ≡ true → are_seats (kind_of message) head.from head.to ≡ true
+seats_of head message kind seats = ap (λ (k : DatagramKind). are_seats k head.from head.to) (sym kind) ∙ seats
+
 message_again : (head : HeadValue) (message : Message) → IsHead head → head.kind ≡ kind_of message → Fits message → IsMessage message → has_room head.version message ≡ true
     → IsReadAgain (header_bytes head (length (body_bytes head.version message)) ++ body_bytes head.version message) (record { head = head; message = message })
 message_again head Hello is kind fits message room =
     let bytes : List ℕ = header_bytes head 0 ++ body_bytes head.version Hello in
     let has = headed head 0 (body_bytes head.version Hello) is (omega arith) in
-    read_again bytes head Hello has.kind kind has.values (hello_accepted bytes head is has refl) refl
+    let seats = seats_of head Hello kind is.seats in
+    read_again bytes head Hello has.kind kind has.values (hello_accepted bytes head seats has refl) refl
 message_again head (Welcome ack) is kind fits message room =
     let bytes : List ℕ = header_bytes head 4 ++ body_bytes head.version (Welcome ack) in
     let has = headed head 4 (body_bytes head.version (Welcome ack)) is (omega arith) in
     let body = ack_again head 4 ack message in
-    read_again bytes head (Welcome ack) has.kind kind has.values (welcome_accepted bytes head ack is message has refl body) (ap Welcome body)
+    let seats = seats_of head (Welcome ack) kind is.seats in
+    read_again bytes head (Welcome ack) has.kind kind has.values (welcome_accepted bytes head ack seats message has refl body) (ap Welcome body)
 message_again head (Data m) is kind fits message room =
     let size : ℕ = length (body_bytes head.version (Data m)) in
     let bytes : List ℕ = header_bytes head size ++ body_bytes head.version (Data m) in
     let length_is : size ≡ 22 + length (inputs_bytes head.version m.words) = length-data_bytes head.version m fits.0.0 in
     let has = headed head size (body_bytes head.version (Data m)) is (omega (arith, length_is, few_bytes head.version m.words message.run.short room)) in
     let body = data_again head size m message fits in
-    read_again bytes head (Data m) has.kind kind has.values (data_accepted bytes head size m is message fits room has (length-datagram head size (body_bytes head.version (Data m))) length_is body) (ap Data (data_values bytes head.version m body))
+    let seats = seats_of head (Data m) kind is.seats in
+    read_again bytes head (Data m) has.kind kind has.values (data_accepted bytes head size m seats message fits room has (length-datagram head size (body_bytes head.version (Data m))) length_is body) (ap Data (data_values bytes head.version m body))
 message_again head (Freeze m) is kind fits message room =
     let bytes : List ℕ = header_bytes head 6 ++ body_bytes head.version (Freeze m) in
     let has = headed head 6 (body_bytes head.version (Freeze m)) is (omega arith) in
     let body = freeze_again head 6 m message in
-    read_again bytes head (Freeze m) has.kind kind has.values (freeze_accepted bytes head m is message has refl body) (ap Freeze (freeze_values bytes m body))
+    let seats = seats_of head (Freeze m) kind is.seats in
+    read_again bytes head (Freeze m) has.kind kind has.values (freeze_accepted bytes head m seats message has refl body) (ap Freeze (freeze_values bytes m body))
 message_again head (Frozen m) is kind fits message room =
     let size : ℕ = length (leaver_bytes head.version m) in
     let bytes : List ℕ = header_bytes head size ++ leaver_bytes head.version m in
     let length_is = length-leaver_bytes head.version m in
     let has = headed head size (leaver_bytes head.version m) is (omega (arith, length_is, few_bytes head.version m.words message.run.short room)) in
     let body = leaver_again head size m message fits in
-    read_again bytes head (Frozen m) has.kind kind has.values (frozen_accepted bytes head size m is message fits room has (length-datagram head size (leaver_bytes head.version m)) length_is body) (ap Frozen (leaver_values bytes head.version m body))
+    let seats = seats_of head (Frozen m) kind is.seats in
+    read_again bytes head (Frozen m) has.kind kind has.values (frozen_accepted bytes head size m seats message fits room has (length-datagram head size (leaver_bytes head.version m)) length_is body) (ap Frozen (leaver_values bytes head.version m body))
 message_again head (Cut m) is kind fits message room =
     let size : ℕ = length (leaver_bytes head.version m) in
     let bytes : List ℕ = header_bytes head size ++ leaver_bytes head.version m in
     let length_is = length-leaver_bytes head.version m in
     let has = headed head size (leaver_bytes head.version m) is (omega (arith, length_is, few_bytes head.version m.words message.run.short room)) in
     let body = leaver_again head size m message fits in
-    read_again bytes head (Cut m) has.kind kind has.values (cut_accepted bytes head size m is message fits room has (length-datagram head size (leaver_bytes head.version m)) length_is body) (ap Cut (leaver_values bytes head.version m body))
+    let seats = seats_of head (Cut m) kind is.seats in
+    read_again bytes head (Cut m) has.kind kind has.values (cut_accepted bytes head size m seats message fits room has (length-datagram head size (leaver_bytes head.version m)) length_is body) (ap Cut (leaver_values bytes head.version m body))
+message_again head (Show m) is kind fits message room =
+    let size : ℕ = length (show_bytes m) in
+    let bytes : List ℕ = header_bytes head size ++ show_bytes m in
+    let length_is = length-show_bytes m fits in
+    let has = headed head size (show_bytes m) is (omega (arith, length_is, message.short)) in
+    let body = show_again head size m message fits in
+    let seats = seats_of head (Show m) kind is.seats in
+    read_again bytes head (Show m) has.kind kind has.values (show_accepted bytes head size m seats message has (length-datagram head size (show_bytes m)) length_is body) (ap Show (show_values bytes m body))
+message_again head (Seen ack) is kind fits message room =
+    let bytes : List ℕ = header_bytes head 4 ++ body_bytes head.version (Seen ack) in
+    let has = headed head 4 (body_bytes head.version (Seen ack)) is (omega arith) in
+    let body = seen_again head 4 ack message in
+    let seats = seats_of head (Seen ack) kind is.seats in
+    read_again bytes head (Seen ack) has.kind kind has.values (seen_accepted bytes head ack seats message has refl body) (ap Seen body)
 
 pub again : (bytes : List ℕ) (p : Packet) → Spells bytes p → IsReadAgain bytes p
 unfolding spelling
@@ -204,6 +231,16 @@ cut_run bytes fits named none =
     let a = accepted kinds.Cut bytes named none in
     (cut_shaped bytes (shaped kinds.Cut bytes fits a).sized a).run
 
+pub show_shape : (bytes : List ℕ) → AreBytes bytes → kind_at bytes ≡ Some kinds.Show → refusal bytes ≡ None → IsShowShaped bytes
+show_shape bytes fits named none =
+    let a = accepted kinds.Show bytes named none in
+    show_shaped bytes (shaped kinds.Show bytes fits a).sized a
+
+pub seen_size : (bytes : List ℕ) → AreBytes bytes → kind_at bytes ≡ Some kinds.Seen → refusal bytes ≡ None → length bytes ≡ 28
+seen_size bytes fits named none =
+    let a = accepted kinds.Seen bytes named none in
+    (seen_shaped bytes (shaped kinds.Seen bytes fits a).sized a).size
+
 -- ---- what is written
 
 pub spells_both : (bytes : List ℕ) (head : HeadValue) (message : Message) → IsHead head → head.kind ≡ kind_of message → Fits message → IsMessage message → has_room head.version message ≡ true
@@ -218,15 +255,19 @@ body_fits version (Data m) fits is room = omega (arith, length-data_bytes versio
 body_fits version (Freeze m) fits is room = omega arith
 body_fits version (Frozen m) fits is room = omega (arith, length-leaver_bytes version m, few_bytes version m.words is.run.short room)
 body_fits version (Cut m) fits is room = omega (arith, length-leaver_bytes version m, few_bytes version m.words is.run.short room)
+body_fits version (Show m) fits is room = omega (arith, length-show_bytes m fits, is.short)
+body_fits version (Seen ack) fits is room = omega arith
 
 -- in version 2 a body has fewer bytes
-pub pairs_fit : (message : Message) → Fits message → has_room versions.Two message ≡ true → length (body_bytes versions.Two message) ≤ 148
-pairs_fit Hello fits room = omega arith
-pairs_fit (Welcome ack) fits room = omega arith
-pairs_fit (Data m) fits room = omega (arith, length-data_bytes versions.Two m fits.0.0, length_spelled (pairs_of m.words), leb-true (length (pairs_of m.words)) 42 room)
-pairs_fit (Freeze m) fits room = omega arith
-pairs_fit (Frozen m) fits room = omega (arith, length-leaver_bytes versions.Two m, length_spelled (pairs_of m.words), leb-true (length (pairs_of m.words)) 42 room)
-pairs_fit (Cut m) fits room = omega (arith, length-leaver_bytes versions.Two m, length_spelled (pairs_of m.words), leb-true (length (pairs_of m.words)) 42 room)
+pub pairs_fit : (message : Message) → Fits message → IsMessage message → has_room versions.Two message ≡ true → length (body_bytes versions.Two message) ≤ 148
+pairs_fit Hello fits is room = omega arith
+pairs_fit (Welcome ack) fits is room = omega arith
+pairs_fit (Data m) fits is room = omega (arith, length-data_bytes versions.Two m fits.0.0, length_spelled (pairs_of m.words), leb-true (length (pairs_of m.words)) 42 room)
+pairs_fit (Freeze m) fits is room = omega arith
+pairs_fit (Frozen m) fits is room = omega (arith, length-leaver_bytes versions.Two m, length_spelled (pairs_of m.words), leb-true (length (pairs_of m.words)) 42 room)
+pairs_fit (Cut m) fits is room = omega (arith, length-leaver_bytes versions.Two m, length_spelled (pairs_of m.words), leb-true (length (pairs_of m.words)) 42 room)
+pairs_fit (Show m) fits is room = omega (arith, length-show_bytes m fits, is.short)
+pairs_fit (Seen ack) fits is room = omega arith
 
 -- how long what spells a packet is
 pub short_spelling : (bytes : List ℕ) (p : Packet) → Spells bytes p → length bytes ≤ 174
@@ -237,5 +278,5 @@ short_spelling bytes p spells =
 pub short_in_pairs : (bytes : List ℕ) (p : Packet) → Spells bytes p → p.head.version ≡ versions.Two → length bytes ≤ 172
 unfolding spelling
 short_in_pairs bytes p spells two =
-    let fits = pairs_fit p.message spells.packet.fits (subst (λ (v : WireVersion). has_room v p.message ≡ true) two spells.packet.room) in
+    let fits = pairs_fit p.message spells.packet.fits spells.packet.message (subst (λ (v : WireVersion). has_room v p.message ≡ true) two spells.packet.room) in
     omega (arith, ap length spells.spelled, length-datagram p.head (length (body_bytes p.head.version p.message)) (body_bytes p.head.version p.message), ap (λ (v : WireVersion). length (body_bytes v p.message)) two, fits)

@@ -1,5 +1,5 @@
 -- A run's start, count and inputs, wherever they stand.
-use Rattle.std.proofs.Common.{◌≡◌, ℕ, ◌+◌, ◌-◌, ◌^◌, ◌<◌, ◌≤◌, ◌&&◌, ◌||◌, Bool, true, false, List, ◌++◌, length, drop, slice_index, refl, sym, ap, ◌∙◌, arith}
+use Rattle.std.proofs.Common.{◌≡◌, ℕ, ◌+◌, ◌-◌, ◌^◌, ◌<◌, ◌≤◌, ◌&&◌, ◌||◌, Bool, true, false, cond, List, ◌++◌, length, drop, slice_index, refl, sym, ap, ◌∙◌, arith}
 use Rattle.std.specs.Prelude.{nat_lt}
 use Rattle.std.proofs.lemmas.Bool.{or_parts}
 use Rattle.std.proofs.lemmas.Bool.Decides.{nat_tests}
@@ -8,11 +8,11 @@ use Rattle.byteorder.specs.Endian.{big_bytes, big_number}
 use Rattle.byteorder.specs.Numbers.{big_number-reads_back}
 use Rattle.c8_game.specs.declared.wire.WireVersion.{WireVersion}
 use Rattle.c8_wire.specs.declared.kinds.DatagramKind.{DatagramKind}
-use Rattle.c8_wire.specs.Kinds.{fixed_size, has_run, run_place}
+use Rattle.c8_wire.specs.Kinds.{fixed_size, has_run, has_rows, run_place}
 use Rattle.c8_wire.specs.Packet.{AreBytes, has_few_stretches}
 use Rattle.c8_wire.specs.Spelling.{inputs_bytes, run_bytes}
 use Rattle.c8_wire.specs.Reading.{number_at, version_at, size_at, inputs_of, run_at}
-use Rattle.c8_wire.specs.Refusal.{has_wrong_size, are_no_run, count_at, miscounts, mispairs}
+use Rattle.c8_wire.specs.Refusal.{has_wrong_size, are_no_run, count_at, miscounts_run, miscounts_rows, miscounts, mispairs}
 use Rattle.c8_wire.specs.checked.NumberLaws.{AreBytes-drop, spelled_at}
 use Rattle.c8_wire.specs.checked.RunLaws.{AreRun, are_run_of, inputs_again, right_size, are_paired}
 use Rattle.c8_wire.proofs.HeadLemmas.{then}
@@ -61,7 +61,7 @@ and_false : (a b : Bool) → b ≡ false → a && b ≡ false
 and_false true b e = e
 and_false false b e = refl
 
-or_false : (a b : Bool) → a ≡ false → b ≡ false → a || b ≡ false
+pub or_false : (a b : Bool) → a ≡ false → b ≡ false → a || b ≡ false
 or_false true b e f = absurd cc
 or_false false b e f = f
 
@@ -70,12 +70,13 @@ not_above least number low = grind (arith, nat_tests)
 
 -- none applies to a run that has room
 pub counted : (kind : DatagramKind) (bytes : List ℕ) (version : WireVersion) (words : List ℕ) → version_at bytes ≡ version → count_at kind bytes ≡ length words → size_at bytes ≡ fixed_size kind + length (inputs_bytes version words)
-    → length words ≤ 64 → has_few_stretches version words ≡ true → miscounts kind bytes ≡ false
-counted kind bytes version words is count size short room =
+    → length words ≤ 64 → has_few_stretches version words ≡ true → has_rows kind ≡ false → miscounts kind bytes ≡ false
+counted kind bytes version words is count size short room rowless =
     let left : size_at bytes - fixed_size kind ≡ length (inputs_bytes version words) = omega (arith, size) in
     let right : has_wrong_size (version_at bytes) (count_at kind bytes) (size_at bytes - fixed_size kind) ≡ false =
     (λ i. has_wrong_size (is i) (count i) (left i)) ∙ right_size version words room in
-    and_false (has_run kind) _ (or_false _ _ (not_above 64 (count_at kind bytes) (omega (arith, count, short))) right)
+    ap (λ (rows : Bool). cond rows (miscounts_rows kind bytes) (has_run kind && miscounts_run kind bytes)) rowless
+    ∙ and_false (has_run kind) _ (or_false _ _ (not_above 64 (count_at kind bytes) (omega (arith, count, short))) right)
 
 pub paired : (kind : DatagramKind) (bytes : List ℕ) (version : WireVersion) (words : List ℕ) → version_at bytes ≡ version → count_at kind bytes ≡ length words → drop (run_place kind) bytes ≡ inputs_bytes version words
     → ((i : ℕ) → slice_index words i < 2 ^ 16) → mispairs kind bytes ≡ false

@@ -47,6 +47,8 @@ kind_of_its_code kinds.Data = refl
 kind_of_its_code kinds.Freeze = refl
 kind_of_its_code kinds.Frozen = refl
 kind_of_its_code kinds.Cut = refl
+kind_of_its_code kinds.Show = refl
+kind_of_its_code kinds.Seen = refl
 
 -- no refusal applies to a datagram of this kind
 pub record IsAccepted (kind : DatagramKind) (bytes : List ℕ) : Type 0 where

@@ -14,9 +14,11 @@ code_of kinds.Data = 3
 code_of kinds.Freeze = 4
 code_of kinds.Frozen = 5
 code_of kinds.Cut = 6
+code_of kinds.Show = 7
+code_of kinds.Seen = 8
 
 abbrev pub all_kinds : List DatagramKind
-all_kinds = kinds.Hello ∷ kinds.Welcome ∷ kinds.Data ∷ kinds.Freeze ∷ kinds.Frozen ∷ kinds.Cut ∷ []
+all_kinds = kinds.Hello ∷ kinds.Welcome ∷ kinds.Data ∷ kinds.Freeze ∷ kinds.Frozen ∷ kinds.Cut ∷ kinds.Show ∷ kinds.Seen ∷ []
 
 -- the kind of a number, where there is one
 unfoldable pub kind_of_code : ℕ → Option DatagramKind
@@ -26,7 +28,7 @@ kind_of_code code = find (λ kind. code_of kind == code) all_kinds
 abbrev pub IsKindOf : ℕ → Result DatagramKind WireError → Type 0
 IsKindOf code answer = MatchResult answer (λ kind. kind_of_code code ≡ Some kind) (λ error. (kind_of_code code ≡ None) × (error ≡ errors.Kind))
 
--- how many bytes of the body stand before its run, or in all where it has none
+-- how many bytes of the body stand before its run or its rows, or in all where it has none
 abbrev pub fixed_size : DatagramKind → ℕ
 fixed_size kinds.Hello = 0
 fixed_size kinds.Welcome = 4
@@ -34,6 +36,8 @@ fixed_size kinds.Data = 22
 fixed_size kinds.Freeze = 6
 fixed_size kinds.Frozen = 12
 fixed_size kinds.Cut = 12
+fixed_size kinds.Show = 6
+fixed_size kinds.Seen = 4
 
 -- whether the body ends with a run: where it starts, how many inputs it has, and these
 abbrev pub has_run : DatagramKind → Bool
@@ -43,6 +47,19 @@ has_run kinds.Data = true
 has_run kinds.Freeze = false
 has_run kinds.Frozen = true
 has_run kinds.Cut = true
+has_run kinds.Show = false
+has_run kinds.Seen = false
+
+-- whether it ends with rows: where they start, how many there are, and these
+abbrev pub has_rows : DatagramKind → Bool
+has_rows kinds.Hello = false
+has_rows kinds.Welcome = false
+has_rows kinds.Data = false
+has_rows kinds.Freeze = false
+has_rows kinds.Frozen = false
+has_rows kinds.Cut = false
+has_rows kinds.Show = true
+has_rows kinds.Seen = false
 
 -- whether the body begins with a player who leaves, and a byte 0
 abbrev pub names_leaver : DatagramKind → Bool
@@ -52,7 +69,9 @@ names_leaver kinds.Data = false
 names_leaver kinds.Freeze = true
 names_leaver kinds.Frozen = true
 names_leaver kinds.Cut = true
+names_leaver kinds.Show = false
+names_leaver kinds.Seen = false
 
--- the place of the inputs of a kind's run
+-- the place of the inputs of a kind's run, or of its rows
 abbrev pub run_place : DatagramKind → ℕ
 run_place kind = header_length + fixed_size kind

@@ -1,5 +1,6 @@
 -- What a caller sees of a datagram that is lent from its bytes.
-use Rattle.std.specs.Prelude.{ℕ, ◌≡◌, ◌*◌, ◌==◌, Bool, List, drop}
+use Rattle.std.specs.Prelude.{ℕ, ◌≡◌, ◌*◌, ◌/◌, ◌==◌, Bool, List, length, drop}
+use Rattle.c8_game.specs.declared.row.Row.{Row}
 use Rattle.c8_game.specs.declared.wire.WireVersion.{WireVersion}
 use Rattle.c8_game.specs.declared.wire.WireVersion.TheVariants as versions
 use Rattle.c8_pairs.specs.Pairs.{pairs_of}
@@ -19,11 +20,14 @@ use Rattle.c8_wire.specs.declared.data.Data.{Data}
 use Rattle.c8_wire.specs.declared.leaving.Freeze.{Freeze}
 use Rattle.c8_wire.specs.declared.leaving.Frozen.{Frozen}
 use Rattle.c8_wire.specs.declared.leaving.Cut.{Cut}
+use Rattle.c8_wire.specs.declared.showing.Show.{Show}
+use Rattle.c8_wire.specs.declared.showing.Seen.{Seen}
+use Rattle.c8_wire.specs.declared.showing.ShownRows.{ShownRows}
 use Rattle.c8_wire.specs.declared.datagram.Datagram.{Datagram}
 use Rattle.c8_wire.specs.declared.datagram.Datagram.TheVariants as datagrams
 use Rattle.c8_wire.specs.Kinds.{run_place}
-use Rattle.c8_wire.specs.Packet.{HeadValue, DataMessage, FreezeMessage, LeaverMessage, Packet}
-use Rattle.c8_wire.specs.Reading.{number_at, head_at, data_at, freeze_at, leaver_at, packet_at, words_of}
+use Rattle.c8_wire.specs.Packet.{HeadValue, DataMessage, FreezeMessage, LeaverMessage, ShowMessage, Packet}
+use Rattle.c8_wire.specs.Reading.{number_at, head_at, data_at, freeze_at, leaver_at, show_at, packet_at, rows_at, words_of}
 
 -- the bytes that the datagram is lent from, all of them
 abbrev pub bytes_of : Datagram → List ℕ
@@ -33,6 +37,8 @@ bytes_of (datagrams.Data lent) = lent.bytes.now
 bytes_of (datagrams.Freeze lent) = lent.view.bytes.now
 bytes_of (datagrams.Frozen lent) = lent.view.bytes.now
 bytes_of (datagrams.Cut lent) = lent.view.bytes.now
+bytes_of (datagrams.Show lent) = lent.bytes.now
+bytes_of (datagrams.Seen lent) = lent.bytes.now
 
 abbrev pub packet_of : Datagram → Packet
 packet_of (datagrams.Hello lent) = packet_at kinds.Hello lent.bytes.now
@@ -41,6 +47,8 @@ packet_of (datagrams.Data lent) = packet_at kinds.Data lent.bytes.now
 packet_of (datagrams.Freeze lent) = packet_at kinds.Freeze lent.view.bytes.now
 packet_of (datagrams.Frozen lent) = packet_at kinds.Frozen lent.view.bytes.now
 packet_of (datagrams.Cut lent) = packet_at kinds.Cut lent.view.bytes.now
+packet_of (datagrams.Show lent) = packet_at kinds.Show lent.bytes.now
+packet_of (datagrams.Seen lent) = packet_at kinds.Seen lent.bytes.now
 
 abbrev pub head_of : Header → HeadValue
 head_of header = head_at header.kind header.bytes.now
@@ -60,6 +68,16 @@ frozen_of lent = leaver_at lent.view.bytes.now
 
 abbrev pub cut_of : Cut → LeaverMessage
 cut_of lent = leaver_at lent.view.bytes.now
+
+abbrev pub show_of : Show → ShowMessage
+show_of lent = show_at lent.bytes.now
+
+abbrev pub seen_of : Seen → ℕ
+seen_of lent = number_at 24 4 lent.bytes.now
+
+-- the rows of a SHOW: those that its bytes from the thirtieth on spell
+abbrev pub shown : ShownRows → List Row
+shown rows = rows_at rows.count 30 rows.bytes.now
 
 -- the inputs of a run in version 1, and those that its iterator has left
 abbrev pub key_sets : Words → List ℕ

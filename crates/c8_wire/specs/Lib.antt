@@ -1,5 +1,6 @@
 pub mod Sizes
 pub mod Kinds
+pub mod Seats
 pub mod Errors
 pub mod Packet
 pub mod Spelling

@@ -1,15 +1,18 @@
 -- What a datagram says, apart from the bytes that spell it.
-use Rattle.std.specs.Prelude.{◌≡◌, ◌≢◌, ℕ, ◌+◌, ◌^◌, ◌<◌, ◌≤◌, nat_le, Bool, true, List, length, slice_index}
-use Rattle.c8_game.specs.Rules.{most_inputs}
+use Rattle.std.specs.Prelude.{◌≡◌, ℕ, ◌+◌, ◌^◌, ◌<◌, ◌≤◌, nat_le, Bool, true, List, length, slice_index, IfSome}
+use Rattle.std.specs.List.{slice_get}
+use Rattle.c8_game.specs.Rules.{most_frames, most_inputs, set_at}
+use Rattle.c8_game.specs.declared.row.Row.{Row}
 use Rattle.c8_game.specs.declared.wire.WireVersion.{WireVersion}
 use Rattle.c8_game.specs.declared.wire.WireVersion.TheVariants as versions
 use Rattle.c8_pairs.specs.Pairs.{pairs_of}
 use Rattle.c8_wire.specs.declared.kinds.DatagramKind.{DatagramKind}
 use Rattle.c8_wire.specs.declared.kinds.DatagramKind.TheVariants as kinds
-use Rattle.c8_wire.specs.Sizes.{longest_run, most_pairs}
+use Rattle.c8_wire.specs.Sizes.{longest_run, most_rows, most_pairs}
+use Rattle.c8_wire.specs.Seats.{are_seats}
 
 -- Which kind of datagram in which version who says to whom, in which match, and the epochs of both. Who says it and
--- who is addressed are seats, the numbers of players 1 to 4.
+-- who is addressed are seats, the numbers of players 1 to 4 and of watchers 5 and 6.
 pub record HeadValue : Type 0 where
   pub kind : DatagramKind
   pub version : WireVersion
@@ -40,7 +43,12 @@ pub record LeaverMessage : Type 0 where
   pub start : ℕ
   pub words : List ℕ
 
--- WELCOME says how many of the addressee's inputs the sender holds
+-- rows of a match from a frame on, the key sets of four players in each
+pub record ShowMessage : Type 0 where
+  pub start : ℕ
+  pub rows : List Row
+
+-- WELCOME says how many of the addressee's inputs the sender holds, SEEN how many rows
 pub data Message : Type 0 where
   Hello : Message
   Welcome : (ack : ℕ) → Message
@@ -48,6 +56,8 @@ pub data Message : Type 0 where
   Freeze : FreezeMessage → Message
   Frozen : LeaverMessage → Message
   Cut : LeaverMessage → Message
+  Show : ShowMessage → Message
+  Seen : (ack : ℕ) → Message
 
 pub record Packet : Type 0 where
   pub head : HeadValue
@@ -60,6 +70,8 @@ kind_of (Data m) = kinds.Data
 kind_of (Freeze m) = kinds.Freeze
 kind_of (Frozen m) = kinds.Frozen
 kind_of (Cut m) = kinds.Cut
+kind_of (Show m) = kinds.Show
+kind_of (Seen ack) = kinds.Seen
 
 -- a run of not too many inputs that ends at a place, or before
 pub record IsRun (start : ℕ) (words : List ℕ) (end : ℕ) : Type 0 where
@@ -83,6 +95,11 @@ pub record IsLeaverMessage (m : LeaverMessage) : Type 0 where
   pub length : m.length ≤ most_inputs
   pub run : IsRun m.start m.words m.length
 
+-- not too many rows, all of frames that a game may have
+pub record IsShowMessage (m : ShowMessage) : Type 0 where
+  pub short : length m.rows ≤ most_rows
+  pub within : m.start + length m.rows ≤ most_frames
+
 -- what a message may say
 abbrev pub IsMessage : Message → Type 0
 IsMessage Hello = Unit {0}
@@ -91,6 +108,8 @@ IsMessage (Data m) = IsDataMessage m
 IsMessage (Freeze m) = IsFreezeMessage m
 IsMessage (Frozen m) = IsLeaverMessage m
 IsMessage (Cut m) = IsLeaverMessage m
+IsMessage (Show m) = IsShowMessage m
+IsMessage (Seen ack) = ack ≤ most_frames
 
 -- bytes, and key sets of 16 bits
 abbrev pub AreBytes : List ℕ → Type 0
@@ -98,6 +117,14 @@ AreBytes bytes = (i : ℕ) → slice_index bytes i < 2 ^ 8
 
 abbrev pub AreWords : List ℕ → Type 0
 AreWords words = (i : ℕ) → slice_index words i < 2 ^ 16
+
+-- rows of four key sets each
+pub record IsRow (row : Row) : Type 0 where
+  pub four : length row.sets ≡ 4
+  pub sets : (place : ℕ) → set_at row place < 2 ^ 16
+
+abbrev pub AreRows : List Row → Type 0
+AreRows rows = (place : ℕ) → IfSome (slice_get rows place) IsRow
 
 -- a mark has 8 bytes
 abbrev pub IsMark : List ℕ → Type 0
@@ -111,6 +138,8 @@ Fits (Data m) = IsMark m.mark × AreWords m.words
 Fits (Freeze m) = Unit {0}
 Fits (Frozen m) = AreWords m.words
 Fits (Cut m) = AreWords m.words
+Fits (Show m) = AreRows m.rows
+Fits (Seen ack) = Unit {0}
 
 -- there is room for the bytes of a run: in version 2 it has at most 42 stretches of equal key sets
 abbrev pub has_few_stretches : WireVersion → List ℕ → Bool
@@ -125,15 +154,13 @@ has_room version (Data m) = has_few_stretches version m.words
 has_room version (Freeze m) = true
 has_room version (Frozen m) = has_few_stretches version m.words
 has_room version (Cut m) = has_few_stretches version m.words
+has_room version (Show m) = true
+has_room version (Seen ack) = true
 
--- A header between two players, its numbers fitting their places.
+-- A header between two who may say such a datagram to each other, its numbers fitting their places.
 pub record IsHead (head : HeadValue) : Type 0 where
   pub session : head.session < 2 ^ 64
-  pub from_one : 1 ≤ head.from
-  pub from_four : head.from ≤ 4
-  pub to_one : 1 ≤ head.to
-  pub to_four : head.to ≤ 4
-  pub apart : head.from ≢ head.to
+  pub seats : are_seats head.kind head.from head.to ≡ true
   pub sender_epoch : head.sender_epoch < 2 ^ 32
   pub addressee_epoch : head.addressee_epoch < 2 ^ 32
 

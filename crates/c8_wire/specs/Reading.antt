@@ -1,14 +1,16 @@
 -- What stands where in a datagram's bytes.
-use Rattle.std.specs.Prelude.{ℕ, ◌+◌, ◌*◌, ◌==◌, List, [], ◌∷◌, take, drop, slice_index, Option, if◌then◌else◌}
+use Rattle.std.specs.Prelude.{ℕ, zero, suc, ◌+◌, ◌*◌, ◌==◌, List, [], ◌∷◌, take, drop, slice_index, Option, if◌then◌else◌}
 use Rattle.byteorder.specs.Endian.{big_number}
 use Rattle.c8_wire.specs.declared.kinds.DatagramKind.{DatagramKind}
 use Rattle.c8_wire.specs.declared.kinds.DatagramKind.TheVariants as kinds
+use Rattle.c8_game.specs.declared.row.Row.{Row}
 use Rattle.c8_game.specs.declared.wire.WireVersion.{WireVersion}
 use Rattle.c8_game.specs.declared.wire.WireVersion.TheVariants as versions
 use Rattle.c8_pairs.specs.Pairs.{words_in}
 use Rattle.c8_pairs.specs.Reading.{pairs_at}
+use Rattle.c8_wire.specs.Sizes.{row_length}
 use Rattle.c8_wire.specs.Kinds.{kind_of_code}
-use Rattle.c8_wire.specs.Packet.{HeadValue, DataMessage, FreezeMessage, LeaverMessage, Message, Hello, Welcome, Data, Freeze, Frozen, Cut, Packet}
+use Rattle.c8_wire.specs.Packet.{HeadValue, DataMessage, FreezeMessage, LeaverMessage, ShowMessage, Message, Hello, Welcome, Data, Freeze, Frozen, Cut, Show, Seen, Packet}
 
 -- the number in so many bytes from a place on
 unfoldable pub number_at : ℕ → ℕ → List ℕ → ℕ
@@ -76,6 +78,21 @@ leaver_at bytes = record {
   words = run_at 36 bytes;
 }
 
+-- the row that stands at a place: the key sets of four players, two bytes each
+abbrev pub row_at : ℕ → List ℕ → Row
+row_at place bytes = record {
+  sets = record { 0 = number_at place 2 bytes } ∷ record { 0 = number_at (2 + place) 2 bytes }
+      ∷ record { 0 = number_at (4 + place) 2 bytes } ∷ record { 0 = number_at (6 + place) 2 bytes } ∷ [];
+}
+
+-- so many rows from a place on
+unfoldable pub rows_at : ℕ → ℕ → List ℕ → List Row
+rows_at zero place bytes = []
+rows_at (suc count) place bytes = row_at place bytes ∷ rows_at count (row_length + place) bytes
+
+abbrev pub show_at : List ℕ → ShowMessage
+show_at bytes = record { start = number_at 24 4 bytes; rows = rows_at (number_at 28 2 bytes) 30 bytes }
+
 abbrev pub message_at : DatagramKind → List ℕ → Message
 message_at kinds.Hello bytes = Hello
 message_at kinds.Welcome bytes = Welcome (number_at 24 4 bytes)
@@ -83,6 +100,8 @@ message_at kinds.Data bytes = Data (data_at bytes)
 message_at kinds.Freeze bytes = Freeze (freeze_at bytes)
 message_at kinds.Frozen bytes = Frozen (leaver_at bytes)
 message_at kinds.Cut bytes = Cut (leaver_at bytes)
+message_at kinds.Show bytes = Show (show_at bytes)
+message_at kinds.Seen bytes = Seen (number_at 24 4 bytes)
 
 abbrev pub packet_at : DatagramKind → List ℕ → Packet
 packet_at kind bytes = record { head = head_at kind bytes; message = message_at kind bytes }

@@ -1,6 +1,6 @@
 -- The table of refusals: where each applies, and which is answered.
 use Rattle.std.specs.Prelude.{ℕ, ◌+◌, ◌*◌, ◌==◌, ◌||◌, ◌&&◌, Bool, false, not, ◌-◌, ◌%◌, drop, nat_lt, nat_le, List, [], ◌∷◌, ◌++◌, length, slice_index, Option, Some, None, is_none, find, if◌then◌else◌}
-use Rattle.c8_game.specs.Rules.{most_inputs}
+use Rattle.c8_game.specs.Rules.{most_frames, most_inputs}
 use Rattle.c8_game.specs.declared.wire.WireVersion.{WireVersion}
 use Rattle.c8_game.specs.declared.wire.WireVersion.TheVariants as versions
 use Rattle.c8_pairs.specs.Reading.{pairs_at, are_run}
@@ -8,32 +8,26 @@ use Rattle.c8_wire.specs.declared.error.WireError.{WireError}
 use Rattle.c8_wire.specs.declared.error.WireError.TheVariants as errors
 use Rattle.c8_wire.specs.declared.kinds.DatagramKind.{DatagramKind}
 use Rattle.c8_wire.specs.declared.kinds.DatagramKind.TheVariants as kinds
-use Rattle.c8_wire.specs.Sizes.{header_length, longest_run, most_pairs}
-use Rattle.c8_wire.specs.Kinds.{fixed_size, has_run, names_leaver, run_place}
+use Rattle.c8_wire.specs.Sizes.{header_length, longest_run, most_pairs, most_rows, row_length}
+use Rattle.c8_wire.specs.Kinds.{fixed_size, has_run, has_rows, names_leaver, run_place}
+use Rattle.c8_wire.specs.Seats.{is_within, are_seats}
 use Rattle.c8_wire.specs.Reading.{number_at, version_at, kind_at, size_at}
-
-abbrev pub is_within : ℕ → ℕ → ℕ → Bool
-is_within least greatest number = nat_le least number && nat_le number greatest
-
--- a seat of a player
-abbrev pub is_player : ℕ → Bool
-is_player seat = is_within 1 4 seat
 
 -- the body is not as long as the header says, or not as its kind wants
 abbrev pub is_misfit : DatagramKind → List ℕ → Bool
 is_misfit kind bytes = not (length bytes == header_length + size_at bytes)
-    || (if has_run kind then nat_lt (size_at bytes) (fixed_size kind) else not (size_at bytes == fixed_size kind))
+    || (if has_run kind || has_rows kind then nat_lt (size_at bytes) (fixed_size kind) else not (size_at bytes == fixed_size kind))
 
--- The header does not name two players, or the leaver is none who may leave.
+-- The header does not name two who may say such a datagram to each other, or the leaver is none who may leave.
 abbrev pub misnames_players : DatagramKind → List ℕ → Bool
-misnames_players kind bytes = not (is_player (slice_index bytes 12)) || not (is_player (slice_index bytes 13))
-    || slice_index bytes 12 == slice_index bytes 13 || (names_leaver kind && not (is_within 2 4 (slice_index bytes 24)))
+misnames_players kind bytes = (names_leaver kind && not (is_within 2 4 (slice_index bytes 24)))
+    || not (are_seats kind (slice_index bytes 12) (slice_index bytes 13))
 
 -- the byte after the leaver is not 0
 abbrev pub fills_reserved : DatagramKind → List ℕ → Bool
 fills_reserved kind bytes = names_leaver kind && not (slice_index bytes 25 == 0)
 
--- a run's start and length stand in the last six bytes of the fixed part
+-- the start and the length of a run, or of rows, stand in the last six bytes of the fixed part
 abbrev pub start_at : DatagramKind → List ℕ → ℕ
 start_at kind bytes = number_at (18 + fixed_size kind) 4 bytes
 
@@ -49,9 +43,17 @@ has_wrong_size versions.One count size = not (size == 2 * count)
 has_wrong_size versions.Two count size = not (size % 3 == 0) || nat_lt (3 * most_pairs) size
 
 -- the run is too long, or its bytes, which end the body, are not as many as it may have
+abbrev pub miscounts_run : DatagramKind → List ℕ → Bool
+miscounts_run kind bytes =
+    nat_lt longest_run (count_at kind bytes) || has_wrong_size (version_at bytes) (count_at kind bytes) (size_at bytes - fixed_size kind)
+
+-- there are too many rows, or not eight bytes for each
+abbrev pub miscounts_rows : DatagramKind → List ℕ → Bool
+miscounts_rows kind bytes =
+    nat_lt most_rows (count_at kind bytes) || not (size_at bytes == fixed_size kind + row_length * count_at kind bytes)
+
 abbrev pub miscounts : DatagramKind → List ℕ → Bool
-miscounts kind bytes = has_run kind
-    && (nat_lt longest_run (count_at kind bytes) || has_wrong_size (version_at bytes) (count_at kind bytes) (size_at bytes - fixed_size kind))
+miscounts kind bytes = if has_rows kind then miscounts_rows kind bytes else (has_run kind && miscounts_run kind bytes)
 
 -- in version 2, a pair is of no inputs, two neighbours have the same key set, or they are not of so many inputs in all
 abbrev pub are_no_run : WireVersion → ℕ → List ℕ → Bool
@@ -61,7 +63,8 @@ are_no_run versions.Two count bytes = not (are_run (pairs_at bytes) count)
 abbrev pub mispairs : DatagramKind → List ℕ → Bool
 mispairs kind bytes = has_run kind && are_no_run (version_at bytes) (count_at kind bytes) (drop (run_place kind) bytes)
 
--- a number of inputs is above what a list of inputs may have, or a run goes past its end
+-- a number of inputs is above what a list of inputs may have, or one of rows above what a game may have; or a run or rows go
+-- past the end
 abbrev pub goes_beyond : DatagramKind → List ℕ → Bool
 goes_beyond kinds.Hello bytes = false
 goes_beyond kinds.Welcome bytes = nat_lt most_inputs (number_at 24 4 bytes)
@@ -70,6 +73,8 @@ goes_beyond kinds.Data bytes = nat_lt most_inputs (number_at 24 4 bytes) || nat_
 goes_beyond kinds.Freeze bytes = nat_lt most_inputs (number_at 26 4 bytes)
 goes_beyond kinds.Frozen bytes = nat_lt most_inputs (number_at 26 4 bytes) || nat_lt (number_at 26 4 bytes) (run_end kinds.Frozen bytes)
 goes_beyond kinds.Cut bytes = nat_lt most_inputs (number_at 26 4 bytes) || nat_lt (number_at 26 4 bytes) (run_end kinds.Cut bytes)
+goes_beyond kinds.Show bytes = nat_lt most_frames (run_end kinds.Show bytes)
+goes_beyond kinds.Seen bytes = nat_lt most_frames (number_at 24 4 bytes)
 
 -- whether there is a kind, and the test holds of it
 abbrev pub is_kind_and : Option DatagramKind → (DatagramKind → Bool) → Bool

@@ -4,7 +4,7 @@ use Rattle.c8_wire.specs.declared.header.Head.{Head}
 use Rattle.c8_wire.specs.declared.said.Body.{Body}
 use Rattle.c8_wire.specs.declared.said.Body.TheVariants as bodies
 use Rattle.c8_wire.specs.declared.said.Said.{Said}
-use Rattle.c8_wire.specs.Packet.{HeadValue, Message, Hello, Welcome, Data, Freeze, Frozen, Cut, Packet, IsMessage, has_room, kind_of}
+use Rattle.c8_wire.specs.Packet.{HeadValue, Message, Hello, Welcome, Data, Freeze, Frozen, Cut, Show, Seen, Packet, IsMessage, has_room, kind_of}
 
 -- the values of a head
 abbrev pub head_value : Head → HeadValue
@@ -25,6 +25,8 @@ message_of (bodies.Data ack mark_frame mark start run) = Data (record { ack = ac
 message_of (bodies.Freeze leaver have) = Freeze (record { leaver = leaver.number; have = have })
 message_of (bodies.Frozen leaver held start run) = Frozen (record { leaver = leaver.number; length = held; start = start; words = run.now })
 message_of (bodies.Cut leaver length start run) = Cut (record { leaver = leaver.number; length = length; start = start; words = run.now })
+message_of (bodies.Show start rows) = Show (record { start = start; rows = rows.now })
+message_of (bodies.Seen ack) = Seen ack
 
 abbrev pub packet_said : Said → Packet
 packet_said said = record { head = head_value said.head; message = message_of said.body }

@@ -17,6 +17,14 @@ longest_datagram_in_pairs = 172
 abbrev pub longest_run : ℕ
 longest_run = 64
 
+-- the most rows that a SHOW has
+abbrev pub most_rows : ℕ
+most_rows = 16
+
+-- the bytes of a row: two for each of four key sets
+abbrev pub row_length : ℕ
+row_length = 8
+
 -- the most pairs that a run has in version 2
 abbrev pub most_pairs : ℕ
 most_pairs = 42

@@ -2,12 +2,14 @@
 use Rattle.std.specs.Prelude.{◌≡◌, ℕ, List, [], ◌∷◌, ◌++◌, length}
 use Rattle.std.specs.List.{flat_map}
 use Rattle.byteorder.specs.Endian.{big_bytes}
+use Rattle.c8_game.specs.declared.row.Keys.{Keys}
+use Rattle.c8_game.specs.declared.row.Row.{Row}
 use Rattle.c8_game.specs.declared.wire.WireVersion.{WireVersion}
 use Rattle.c8_game.specs.declared.wire.WireVersion.TheVariants as versions
 use Rattle.c8_game.specs.Wire.{version_number}
 use Rattle.c8_pairs.specs.Pairs as pairs
 use Rattle.c8_wire.specs.Kinds.{code_of}
-use Rattle.c8_wire.specs.Packet.{HeadValue, LeaverMessage, Message, Hello, Welcome, Data, Freeze, Frozen, Cut, Packet, IsPacket}
+use Rattle.c8_wire.specs.Packet.{HeadValue, LeaverMessage, ShowMessage, Message, Hello, Welcome, Data, Freeze, Frozen, Cut, Show, Seen, Packet, IsPacket}
 
 -- The header of a datagram whose body has so many bytes. Byte 2 is the number of the version.
 abbrev pub header_bytes : HeadValue → ℕ → List ℕ
@@ -36,6 +38,17 @@ run_bytes version start words = big_bytes 4 start ++ big_bytes 2 (length words) 
 abbrev pub leaver_bytes : WireVersion → LeaverMessage → List ℕ
 leaver_bytes version m = m.leaver ∷ 0 ∷ [] ++ big_bytes 4 m.length ++ run_bytes version m.start m.words
 
+-- a row: its key sets, player one's first
+abbrev pub row_bytes : Row → List ℕ
+row_bytes row = flat_map (λ (keys : Keys). big_bytes 2 keys.0) row.sets
+
+abbrev pub rows_bytes : List Row → List ℕ
+rows_bytes rows = flat_map row_bytes rows
+
+-- rows: where they start, how many there are, and these
+abbrev pub show_bytes : ShowMessage → List ℕ
+show_bytes m = big_bytes 4 m.start ++ big_bytes 2 (length m.rows) ++ rows_bytes m.rows
+
 abbrev pub body_bytes : WireVersion → Message → List ℕ
 body_bytes version Hello = []
 body_bytes version (Welcome ack) = big_bytes 4 ack
@@ -43,6 +56,8 @@ body_bytes version (Data m) = big_bytes 4 m.ack ++ big_bytes 4 m.mark_frame ++ m
 body_bytes version (Freeze m) = m.leaver ∷ 0 ∷ [] ++ big_bytes 4 m.have
 body_bytes version (Frozen m) = leaver_bytes version m
 body_bytes version (Cut m) = leaver_bytes version m
+body_bytes version (Show m) = show_bytes m
+body_bytes version (Seen ack) = big_bytes 4 ack
 
 unfoldable pub spelling : Packet → List ℕ
 spelling p = header_bytes p.head (length (body_bytes p.head.version p.message)) ++ body_bytes p.head.version p.message

@@ -6,6 +6,7 @@ use crate::handshake::{Hello, Welcome};
 use crate::header::Header;
 use crate::kinds::DatagramKind;
 use crate::leaving::{Cut, Freeze, Frozen};
+use crate::showing::{Seen, Show};
 
 /// A datagram that lies in the bytes that came.
 #[derive(Clone, Copy, Debug, PartialEq, Eq)]
@@ -16,6 +17,8 @@ pub enum Datagram<'a> {
     Freeze(Freeze<'a>),
     Frozen(Frozen<'a>),
     Cut(Cut<'a>),
+    Show(Show<'a>),
+    Seen(Seen<'a>),
 }
 
 impl<'a> Datagram<'a> {
@@ -48,6 +51,14 @@ impl<'a> Datagram<'a> {
             Datagram::Cut(lent) => Header {
                 kind: DatagramKind::Cut,
                 bytes: lent.view.bytes,
+            },
+            Datagram::Show(lent) => Header {
+                kind: DatagramKind::Show,
+                bytes: lent.bytes,
+            },
+            Datagram::Seen(lent) => Header {
+                kind: DatagramKind::Seen,
+                bytes: lent.bytes,
             },
         }
     }

@@ -22,24 +22,25 @@ pub enum WireError {
     /// The body is not as long as the header says, or not as its kind wants.
     #[error("the body has another length than it should have")]
     Length,
-    /// The sender or the addressee is not 1 to 4, or both are the same; or the leaver is not 2 to
-    /// 4.
+    /// The sender or the addressee is not 1 to 4, or both are the same; in SHOW, they are not 1 and a
+    /// watcher, 5 or 6, in SEEN not a watcher and 1. Or the leaver is not 2 to 4.
     #[error("a player who cannot stand there")]
     Player,
     /// The byte after the leaver, which must be 0, is not.
     #[error("a byte that must be 0 is not")]
     Reserved,
     /// More than 64 inputs; or the bytes of the run are in version 1 not two for each, in version 2 not
-    /// three for each pair, or those of more than 42 pairs.
-    #[error("more inputs than allowed, or not as many bytes as a run may have")]
+    /// three for each pair, or those of more than 42 pairs. In SHOW, more than 16 rows, or bytes that are not
+    /// eight for each.
+    #[error("more inputs or rows than allowed, or not as many bytes as they may have")]
     Count,
     /// In version 2: a pair is of no inputs, two neighbours have the same key set, or they are not of as
     /// many inputs in all as there should be.
     #[error("pairs that are not those of a run")]
     Pairs,
-    /// A number above 262148, which no game reaches; or a run past that number in DATA, past the
-    /// inputs that are held in FROZEN, past the length in CUT.
-    #[error("a number of inputs, or the end of a run, is too great")]
+    /// A number of inputs above 262148, which no game reaches; or a run past that number in DATA, past the
+    /// inputs that are held in FROZEN, past the length in CUT. In SHOW and SEEN, more frames than 262144.
+    #[error("a number of inputs or frames, or the end of a run, is too great")]
     Beyond,
 }
 

@@ -1,27 +1,29 @@
 //! The header of a datagram: who says it to whom, in which match and epochs, and in which version of
 //! the format.
-ghost use Rattle.std.specs.Prelude.{◌≡◌, ◌≢◌, ◌≤◌, ◌<◌, ◌+◌, ◌-◌, false, length, Some, MatchOption};
+ghost use Rattle.std.specs.Prelude.{◌≡◌, ◌≤◌, true, false, length, MatchOption};
 ghost use Rattle.c8_wire.specs.Reading.{kind_at, head_at};
 ghost use Rattle.c8_wire.specs.Packet.{IsHead};
+ghost use Rattle.c8_wire.specs.Seats.{are_seats};
 
 use crate::kinds::DatagramKind;
 use crate::layout::{ADDRESSEE_EPOCH_AT, FROM_AT, SENDER_EPOCH_AT, SESSION_AT, TO_AT};
 use crate::numbers::{u32_at, u64_at};
 use crate::version::version_in;
-use c8_game::{MOST_PLAYERS, Player, WireVersion};
+use crate::watcher::Watcher;
+use c8_game::{Player, WireVersion};
 
-/// Who says a datagram, or is addressed: a player's place in the header, 1 to 4.
+/// Who says a datagram, or is addressed: a player, 1 to 4, or a watcher, 5 or 6.
 #[derive(Clone, Copy, Debug, PartialEq, Eq, Hash)]
 pub struct Seat {
     pub number: u8,
     pub ghost from_one: { 1 ≤ number },
-    pub ghost to_four: { number ≤ 4 },
+    pub ghost to_six: { number ≤ 6 },
 }
 
 impl Seat {
-    ghost use Rattle.c8_wire.specs.Refusal.{is_player};
+    ghost use Rattle.c8_wire.specs.Seats.{is_player, is_watcher};
 
-    /// The player whose seat it is. The seats are those of players 1 to 4, so it is never `None`.
+    /// The player whose seat it is; `None` for that of a watcher.
     pub fn player(self) -> Option<Player>
         ensures { MatchOption result (is_player self.number ≡ false)
             (λ player. player.number ≡ self.number) }
@@ -35,13 +37,12 @@ impl Seat {
         }
     }
 
-    /// The place of its player among all, player 1 at place 0.
-    pub fn place(self) -> usize
-        ensures value { result ≡ self.number - 1 }
-        ensures next { result + 1 ≡ self.number }
-        ensures below { result < MOST_PLAYERS }
+    /// The watcher whose seat it is; `None` for that of a player.
+    pub fn watcher(self) -> Option<Watcher>
+        ensures { MatchOption result (is_watcher self.number ≡ false)
+            (λ watcher. watcher.number ≡ self.number) }
     {
-        usize::from(self.number - 1)
+        Watcher::new(self.number)
     }
 }
 
@@ -51,6 +52,16 @@ impl From<Player> for Seat {
     fn from(player: Player) -> Seat {
         Seat {
             number: player.number,
+        }
+    }
+}
+
+impl From<Watcher> for Seat {
+    ghost from_gives = { λ watcher seat. seat.number ≡ watcher.number };
+
+    fn from(watcher: Watcher) -> Seat {
+        Seat {
+            number: watcher.number,
         }
     }
 }
@@ -67,7 +78,7 @@ pub struct Head {
     pub sender_epoch: u32,
     /// 0 if the sender doesn't know it.
     pub addressee_epoch: u32,
-    pub ghost apart: { from.number ≢ to.number },
+    pub ghost seats: { are_seats kind from.number to.number ≡ true },
 }
 
 /// The header of a datagram. A field is read from the bytes when it is asked for.

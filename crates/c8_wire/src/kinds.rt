@@ -20,10 +20,14 @@ pub enum DatagramKind {
     Frozen = 5,
     /// How many inputs of a player who has left count, and some of them.
     Cut = 6,
+    /// Rows of the match, for one who watches it.
+    Show = 7,
+    /// How many rows one who watches has.
+    Seen = 8,
 }
 
 impl DatagramKind {
-    ghost use Rattle.c8_wire.specs.Kinds.{code_of, kind_of_code, fixed_size, has_run, names_leaver};
+    ghost use Rattle.c8_wire.specs.Kinds.{code_of, kind_of_code, fixed_size, has_run, has_rows, names_leaver};
 
     /// The kind that has this number, if one has.
     #[tactic(auto, unfolding(crate::specs::Kinds::kind_of_code))]
@@ -37,6 +41,8 @@ impl DatagramKind {
             4 => Some(DatagramKind::Freeze),
             5 => Some(DatagramKind::Frozen),
             6 => Some(DatagramKind::Cut),
+            7 => Some(DatagramKind::Show),
+            8 => Some(DatagramKind::Seen),
             _ => None,
         }
     }
@@ -57,19 +63,21 @@ impl DatagramKind {
             DatagramKind::Freeze => "FREEZE",
             DatagramKind::Frozen => "FROZEN",
             DatagramKind::Cut => "CUT",
+            DatagramKind::Show => "SHOW",
+            DatagramKind::Seen => "SEEN",
         }
     }
 
-    /// How many bytes of the body stand before its run, or in all where it has none.
+    /// How many bytes of the body stand before its run or its rows, or in all where it has none.
     pub(crate) fn fixed_size(self) -> usize
         ensures value { result ≡ fixed_size self }
         ensures greatest { result ≤ 22 }
     {
         match self {
             DatagramKind::Hello => 0,
-            DatagramKind::Welcome => 4,
+            DatagramKind::Welcome | DatagramKind::Seen => 4,
             DatagramKind::Data => 22,
-            DatagramKind::Freeze => 6,
+            DatagramKind::Freeze | DatagramKind::Show => 6,
             DatagramKind::Frozen | DatagramKind::Cut => 12,
         }
     }
@@ -81,8 +89,19 @@ impl DatagramKind {
     {
         match self {
             DatagramKind::Data | DatagramKind::Frozen | DatagramKind::Cut => true,
-            DatagramKind::Hello | DatagramKind::Welcome | DatagramKind::Freeze => false,
+            DatagramKind::Hello
+            | DatagramKind::Welcome
+            | DatagramKind::Freeze
+            | DatagramKind::Show
+            | DatagramKind::Seen => false,
         }
+    }
+
+    /// Whether the body ends with rows.
+    pub(crate) fn has_rows(self) -> bool
+        ensures { result ≡ has_rows self }
+    {
+        self == DatagramKind::Show
     }
 
     /// Whether the body begins with a player who leaves, and a byte 0.
@@ -92,7 +111,11 @@ impl DatagramKind {
     {
         match self {
             DatagramKind::Freeze | DatagramKind::Frozen | DatagramKind::Cut => true,
-            DatagramKind::Hello | DatagramKind::Welcome | DatagramKind::Data => false,
+            DatagramKind::Hello
+            | DatagramKind::Welcome
+            | DatagramKind::Data
+            | DatagramKind::Show
+            | DatagramKind::Seen => false,
         }
     }
 }

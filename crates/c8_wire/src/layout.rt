@@ -52,7 +52,19 @@ pub(crate) const LEAVER_COUNT_AT: usize = 34;
 
 pub(crate) const LEAVER_RUN_AT: usize = 36;
 
-// A run's start and its count end the fixed part of a body: they stand so far past its length.
+// The body of SHOW, and that of SEEN.
+pub(crate) const SHOW_START_AT: usize = 24;
+
+pub(crate) const SHOW_COUNT_AT: usize = 28;
+
+pub(crate) const ROWS_AT: usize = 30;
+
+pub(crate) const ROW_LENGTH: usize = 8;
+
+pub(crate) const SEEN_ACK_AT: usize = 24;
+
+// The start and the count of a run, or of rows, end the fixed part of a body: they stand so far past
+// its length.
 pub(crate) const START_PAST_FIXED: usize = 18;
 
 pub(crate) const COUNT_PAST_FIXED: usize = 22;

@@ -1,4 +1,4 @@
-//! Datagrams: what peers say to each other, read where it lies and written.
+//! Datagrams: what peers say to each other and to those who watch, read where it lies and written.
 //!
 //! `view` lends the parts of a datagram from the bytes that came; `write` spells one; `fits` is how many
 //! inputs one carries. There are two versions of the format, which differ in byte 2 and in how a run of
@@ -26,9 +26,11 @@ mod numbers;
 mod reading;
 mod run;
 mod said;
+mod showing;
 mod shown;
 mod sizes;
 mod version;
+mod watcher;
 mod words;
 mod writing;
 
@@ -44,6 +46,8 @@ pub use numbers::{u16_at, u32_at, u64_at};
 pub use reading::view;
 pub use run::{Inputs, Run};
 pub use said::{Body, Said};
-pub use sizes::{HEADER_LENGTH, LONGEST_DATAGRAM, LONGEST_RUN};
+pub use showing::{Seen, Show, ShownRows};
+pub use sizes::{HEADER_LENGTH, LONGEST_DATAGRAM, LONGEST_RUN, MOST_ROWS};
+pub use watcher::Watcher;
 pub use words::{Words, WordsIter};
 pub use writing::write;

@@ -5,7 +5,8 @@ ghost use Rattle.std.specs.Bool.{OnFalse};
 ghost use Rattle.c8_wire.specs.Packet.{Packet};
 ghost use Rattle.c8_wire.specs.Spelling.{Spells};
 ghost use Rattle.c8_wire.specs.Reading.{kind_at, size_at, packet_at};
-ghost use Rattle.c8_wire.specs.Refusal.{first_of, body_refusals, refusal, is_misfit, misnames_players, fills_reserved, miscounts, has_wrong_size, mispairs, goes_beyond, run_end};
+ghost use Rattle.c8_wire.specs.Refusal.{first_of, body_refusals, refusal, is_misfit, misnames_players, fills_reserved, miscounts, miscounts_run, miscounts_rows, has_wrong_size, mispairs, goes_beyond, run_end};
+ghost use Rattle.c8_wire.specs.Seats.{is_player, is_watcher, are_seats};
 ghost use Rattle.c8_wire.specs.checked.Read.{read};
 ghost use Rattle.c8_wire.specs.Lent.{bytes_of, packet_of};
 
@@ -16,13 +17,15 @@ use crate::handshake::{Hello, Welcome};
 use crate::kinds::DatagramKind;
 use crate::layout::{
     ACK_AT, COUNT_PAST_FIXED, FROM_AT, INPUTS_AT, KIND_AT, LEAVER_AT, MAGIC, MAGIC_AT,
-    MARK_FRAME_AT, RESERVED, RESERVED_AT, SIZE_AT, START_PAST_FIXED, TO_AT, VERSION_AT,
+    MARK_FRAME_AT, RESERVED, RESERVED_AT, ROW_LENGTH, SEEN_ACK_AT, SIZE_AT, START_PAST_FIXED,
+    TO_AT, VERSION_AT,
 };
 use crate::leaving::{Cut, Freeze, Frozen, Leaving};
 use crate::numbers::{u16_at, u32_at};
-use crate::sizes::{HEADER_LENGTH, LONGEST_RUN};
+use crate::showing::{Seen, Show};
+use crate::sizes::{HEADER_LENGTH, LONGEST_RUN, MOST_ROWS};
 use crate::version::version_in;
-use c8_game::{MOST_INPUTS, WireVersion};
+use c8_game::{MOST_FRAMES, MOST_INPUTS, WireVersion};
 use c8_pairs::{MOST_PAIRS, is_run};
 
 /// The datagram that the bytes spell, lent from them; else the first refusal of `WireError`.
@@ -67,6 +70,8 @@ fn datagram_of(kind: DatagramKind, bytes: &[u8]) -> Datagram<'_>
         DatagramKind::Cut => Datagram::Cut(Cut {
             view: Leaving { bytes },
         }),
+        DatagramKind::Show => Datagram::Show(Show { bytes }),
+        DatagramKind::Seen => Datagram::Seen(Seen { bytes }),
     }
 }
 
@@ -145,20 +150,48 @@ fn is_misfit(kind: DatagramKind, bytes: &[u8]) -> bool
     let size = usize::from(u16_at(bytes, SIZE_AT));
     let fixed = kind.fixed_size();
     let mut is_misfit = bytes.len() - HEADER_LENGTH != size;
-    is_misfit |= size < fixed || (!kind.has_run() && size > fixed);
+    is_misfit |= size < fixed || (!kind.has_run() && !kind.has_rows() && size > fixed);
     is_misfit
 }
 
-/// Whether the header does not name two players, or the leaver is none who may leave.
+/// Whether the header does not name two who may say such a datagram to each other, or the leaver is none
+/// who may leave.
 fn misnames_players(kind: DatagramKind, bytes: &[u8]) -> bool
     requires { HEADER_LENGTH + fixed_size kind ≤ length bytes.now }
     ensures { result ≡ misnames_players kind bytes.now }
 {
     let from = bytes[FROM_AT];
     let to = bytes[TO_AT];
-    let mut misnames = from < 1 || 4 < from || to < 1 || 4 < to || from == to;
-    misnames |= kind.names_leaver() && (bytes[LEAVER_AT] < 2 || 4 < bytes[LEAVER_AT]);
-    misnames
+    let names_none = kind.names_leaver() && (bytes[LEAVER_AT] < 2 || 4 < bytes[LEAVER_AT]);
+    names_none || !are_seats(kind, from, to)
+}
+
+/// Whether one in the first seat may say a datagram of this kind to one in the second.
+fn are_seats(kind: DatagramKind, from: u8, to: u8) -> bool
+    ensures { result ≡ are_seats kind from to }
+{
+    match kind {
+        DatagramKind::Show => from == 1 && is_watcher(to),
+        DatagramKind::Seen => is_watcher(from) && to == 1,
+        DatagramKind::Hello
+        | DatagramKind::Welcome
+        | DatagramKind::Data
+        | DatagramKind::Freeze
+        | DatagramKind::Frozen
+        | DatagramKind::Cut => is_player(from) && is_player(to) && from != to,
+    }
+}
+
+fn is_player(seat: u8) -> bool
+    ensures { result ≡ is_player seat }
+{
+    1 <= seat && seat <= 4
+}
+
+fn is_watcher(seat: u8) -> bool
+    ensures { result ≡ is_watcher seat }
+{
+    5 <= seat && seat <= 6
 }
 
 /// Whether the byte after the leaver is not 0.
@@ -169,17 +202,38 @@ fn fills_reserved(kind: DatagramKind, bytes: &[u8]) -> bool
     kind.names_leaver() && bytes[RESERVED_AT] != RESERVED
 }
 
-/// Whether the run is longer than 64, or its bytes are not as many as it may have.
+/// Whether a run or rows are too many, or their bytes not as many as they may have.
 fn miscounts(kind: DatagramKind, bytes: &[u8]) -> bool
     requires long { HEADER_LENGTH + fixed_size kind ≤ length bytes.now }
     requires size { fixed_size kind ≤ size_at bytes.now }
     ensures { result ≡ miscounts kind bytes.now }
 {
+    if kind.has_rows() {
+        miscounts_rows(kind, bytes)
+    } else {
+        kind.has_run() && miscounts_run(kind, bytes)
+    }
+}
+
+/// Whether the run is longer than 64, or its bytes are not as many as it may have.
+fn miscounts_run(kind: DatagramKind, bytes: &[u8]) -> bool
+    requires long { HEADER_LENGTH + fixed_size kind ≤ length bytes.now }
+    requires size { fixed_size kind ≤ size_at bytes.now }
+    ensures { result ≡ miscounts_run kind bytes.now }
+{
     let size = usize::from(u16_at(bytes, SIZE_AT)) - kind.fixed_size();
     let count = usize::from(u16_at(bytes, COUNT_PAST_FIXED + kind.fixed_size()));
-    let mut miscounts = count > LONGEST_RUN;
-    miscounts |= has_wrong_size(version_in(bytes), count, size);
-    kind.has_run() && miscounts
+    count > LONGEST_RUN || has_wrong_size(version_in(bytes), count, size)
+}
+
+/// Whether the rows are more than 16, or have not eight bytes each.
+fn miscounts_rows(kind: DatagramKind, bytes: &[u8]) -> bool
+    requires { HEADER_LENGTH + fixed_size kind ≤ length bytes.now }
+    ensures { result ≡ miscounts_rows kind bytes.now }
+{
+    let size = usize::from(u16_at(bytes, SIZE_AT));
+    let count = usize::from(u16_at(bytes, COUNT_PAST_FIXED + kind.fixed_size()));
+    count > MOST_ROWS || size != kind.fixed_size() + ROW_LENGTH * count
 }
 
 /// Whether so many bytes are not those of so many inputs.
@@ -203,7 +257,7 @@ fn mispairs(kind: DatagramKind, bytes: &[u8]) -> bool
     kind.has_run() && version_in(bytes) == WireVersion::Two && !is_run(run, count)
 }
 
-/// Whether a number of inputs is above what a game may have, or a run goes past its end.
+/// Whether a number of inputs or of rows is above what a game may have, or a run or rows go past the end.
 fn goes_beyond(kind: DatagramKind, bytes: &[u8]) -> bool
     requires { HEADER_LENGTH + fixed_size kind ≤ length bytes.now }
     ensures { result ≡ goes_beyond kind bytes.now }
@@ -224,10 +278,12 @@ fn goes_beyond(kind: DatagramKind, bytes: &[u8]) -> bool
             beyond |= run_end(kind, bytes) > u64::from(length);
             beyond
         }
+        DatagramKind::Show => run_end(kind, bytes) > u64::from(MOST_FRAMES),
+        DatagramKind::Seen => u32_at(bytes, SEEN_ACK_AT) > MOST_FRAMES,
     }
 }
 
-/// The place after a run's last input.
+/// The place after a run's last input, or after the last row.
 fn run_end(kind: DatagramKind, bytes: &[u8]) -> u64
     requires { HEADER_LENGTH + fixed_size kind ≤ length bytes.now }
     ensures { result ≡ run_end kind bytes.now }

@@ -1,6 +1,6 @@
 //! What is to be said.
 use crate::header::Head;
-use c8_game::Player;
+use c8_game::{Player, Row};
 
 /// What is to be said, by kind. A run is lent from the inputs that it is taken from.
 #[derive(Clone, Copy, Debug, PartialEq, Eq)]
@@ -38,6 +38,15 @@ pub enum Body<'a> {
         length: u32,
         start: u32,
         run: &'a [u16],
+    },
+    /// Rows of the match from frame `start` on.
+    Show {
+        start: u32,
+        rows: &'a [Row],
+    },
+    /// The sender has `ack` rows.
+    Seen {
+        ack: u32,
     },
 }
 

@@ -2,6 +2,7 @@
 use crate::datagram::Datagram;
 use crate::header::Header;
 use crate::run::Run;
+use crate::showing::Show;
 use c8_game::WireVersion;
 use std::fmt;
 
@@ -36,6 +37,11 @@ impl<'a> fmt::Display for Datagram<'a> {
                 write!(f, "\nleaver {leaver} length {length}")?;
                 show_run(f, cut.start(), cut.run())
             }
+            Datagram::Show(show) => show_rows(f, show),
+            Datagram::Seen(seen) => {
+                let ack = seen.ack();
+                write!(f, "\nack {ack}")
+            }
         }
     }
 }
@@ -57,6 +63,17 @@ fn show_run<W: fmt::Write>(f: &mut fmt::Formatter<W>, start: u32, run: Run<'_>) 
     write!(f, "\nstart {start} count {count}\nrun")?;
     for word in run.iter() {
         write!(f, " {word:04x}")?;
+    }
+    Ok(())
+}
+
+fn show_rows<W: fmt::Write>(f: &mut fmt::Formatter<W>, show: &Show<'_>) -> fmt::Result {
+    let (start, rows) = (show.start(), show.rows());
+    let count = rows.len();
+    write!(f, "\nstart {start} count {count}")?;
+    for place in 0..count {
+        let [one, two, three, four] = rows.get(place).sets;
+        write!(f, "\nrow {one} {two} {three} {four}")?;
     }
     Ok(())
 }

@@ -9,5 +9,8 @@ pub(crate) const LONGEST_BODY: usize = 150;
 /// The most bytes that a datagram has.
 pub const LONGEST_DATAGRAM: usize = 174;
 
+/// The most rows that a SHOW has.
+pub const MOST_ROWS: usize = 16;
+
 /// The most inputs that a run has.
 pub const LONGEST_RUN: usize = 64;

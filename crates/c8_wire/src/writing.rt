@@ -2,8 +2,8 @@
 ghost use Rattle.std.specs.Prelude.{◌≡◌, true, ℕ, [], ◌∷◌, ◌+◌, ◌*◌, ◌^◌, ◌<◌, ◌≤◌, slice_index, ◌++◌, length, take, drop};
 ghost use Rattle.byteorder.specs.Endian.{big_bytes};
 ghost use Rattle.arrayvec.specs.ArrayVec.{array_vec_len};
-ghost use Rattle.c8_wire.specs.Packet.{IsHead, Fits, IsMessage, has_room, has_few_stretches};
-ghost use Rattle.c8_wire.specs.Spelling.{header_bytes, words_bytes, inputs_bytes, run_bytes, body_bytes, spelling, Spells};
+ghost use Rattle.c8_wire.specs.Packet.{IsHead, Fits, IsRow, AreRows, IsMessage, has_room, has_few_stretches};
+ghost use Rattle.c8_wire.specs.Spelling.{header_bytes, words_bytes, inputs_bytes, run_bytes, row_bytes, rows_bytes, body_bytes, spelling, Spells};
 ghost use Rattle.c8_pairs.specs.Pairs.{pairs_of};
 ghost use Rattle.c8_pairs.specs.Pairs as pairs;
 ghost use Rattle.c8_wire.specs.Saying.{head_value, message_of, packet_said, MaySay};
@@ -11,9 +11,9 @@ ghost use Rattle.c8_wire.specs.Saying.{head_value, message_of, packet_said, MayS
 use crate::header::Head;
 use crate::layout::{MAGIC, RESERVED};
 use crate::said::{Body, Said};
-use crate::sizes::{HEADER_LENGTH, LONGEST_BODY, LONGEST_DATAGRAM, LONGEST_RUN};
+use crate::sizes::{HEADER_LENGTH, LONGEST_BODY, LONGEST_DATAGRAM, LONGEST_RUN, MOST_ROWS};
 use arrayvec::ArrayVec;
-use c8_game::{Player, WireVersion};
+use c8_game::{Keys, Player, Row, WireVersion};
 use c8_pairs::Stretches;
 
 /// Writes a datagram to the front of `out`, and answers its length: 24 to 174, in version 2 to 172. The
@@ -64,7 +64,7 @@ fn put_body(version: WireVersion, body: &Body<'_>, out: &mut ArrayVec<u8, LONGES
 {
     match body {
         Body::Hello => {}
-        Body::Welcome { ack } => put(&ack.to_be_bytes(), out),
+        Body::Welcome { ack } | Body::Seen { ack } => put(&ack.to_be_bytes(), out),
         Body::Data {
             ack,
             mark_frame,
@@ -95,6 +95,11 @@ fn put_body(version: WireVersion, body: &Body<'_>, out: &mut ArrayVec<u8, LONGES
         } => {
             put_leaver(leaver, *length, out);
             put_run(version, *start, run, out);
+        }
+        Body::Show { start, rows } => {
+            put(&start.to_be_bytes(), out);
+            put(&(rows.len() as u16).to_be_bytes(), out);
+            put_rows(rows, out);
         }
     }
 }
@@ -144,6 +149,39 @@ fn put_pairs(run: &[u16], out: &mut ArrayVec<u8, LONGEST_DATAGRAM>)
         put(&[pair.times], out);
         put(&pair.keys.to_be_bytes(), out);
     }
+}
+
+/// Appends rows, eight bytes each.
+fn put_rows(rows: &[Row], out: &mut ArrayVec<u8, LONGEST_DATAGRAM>)
+    requires { array_vec_len out.old + 8 * length rows.now ≤ LONGEST_DATAGRAM }
+    ensures bytes { out.new.items ≡ out.old.items ++ rows_bytes rows.now }
+    ensures fits { AreRows rows.now }
+{
+    for row in rows {
+        put_row(row, out);
+    }
+}
+
+/// Appends a row: its key sets, player one's first.
+fn put_row(row: &Row, out: &mut ArrayVec<u8, LONGEST_DATAGRAM>)
+    requires { array_vec_len out.old + 8 ≤ LONGEST_DATAGRAM }
+    ensures bytes { out.new.items ≡ out.old.items ++ row_bytes row.now }
+    ensures fits { IsRow row.now }
+{
+    let [one, two, three, four] = row.sets;
+    put_keys(one, out);
+    put_keys(two, out);
+    put_keys(three, out);
+    put_keys(four, out);
+}
+
+/// Appends a key set, two bytes.
+fn put_keys(keys: Keys, out: &mut ArrayVec<u8, LONGEST_DATAGRAM>)
+    requires { array_vec_len out.old + 2 ≤ LONGEST_DATAGRAM }
+    ensures bytes { out.new.items ≡ out.old.items ++ big_bytes 2 keys.0 }
+    ensures fits { keys.0 < 2 ^ 16 }
+{
+    put(&keys.0.to_be_bytes(), out);
 }
 
 /// Appends bytes.

@@ -120,6 +120,8 @@ fn body_numbers(datagram: &Datagram<'_>) -> [u64; 5] {
             0,
             u64::from(lent.start()),
         ],
+        Datagram::Show(lent) => [0, 0, 0, 0, u64::from(lent.start())],
+        Datagram::Seen(lent) => [0, u64::from(lent.ack()), 0, 0, 0],
     }
 }
 
@@ -128,7 +130,11 @@ fn run_of<'a>(datagram: &Datagram<'a>) -> Option<Run<'a>> {
         Datagram::Data(lent) => Some(lent.run()),
         Datagram::Frozen(lent) => Some(lent.run()),
         Datagram::Cut(lent) => Some(lent.run()),
-        Datagram::Hello(_) | Datagram::Welcome(_) | Datagram::Freeze(_) => None,
+        Datagram::Hello(_)
+        | Datagram::Welcome(_)
+        | Datagram::Freeze(_)
+        | Datagram::Show(_)
+        | Datagram::Seen(_) => None,
     }
 }
 
@@ -172,10 +178,19 @@ fn reads_each_kind(rt: HostRuntime) -> Result<(), Fail> {
 
 fn is_the_seat_of_four(seat: Seat) -> bool {
     let four = Player { number: 4 };
-    seat.player() == Some(four) && Seat::from(four) == seat && seat.place() == four.place()
+    seat.player() == Some(four) && Seat::from(four) == seat && seat.watcher().is_none()
+}
+
+fn is_the_seat_of_a_watcher(seat: Seat) -> bool {
+    match seat.watcher() {
+        Some(watcher) => Seat::from(watcher) == seat && seat.player().is_none(),
+        None => false,
+    }
 }
 
 #[test]
-fn seats_are_players(rt: HostRuntime) {
+fn seats_are_players_and_watchers(rt: HostRuntime) {
     assert!(rt; is_the_seat_of_four(Seat { number: 4 }));
+    assert!(rt; is_the_seat_of_a_watcher(Seat { number: 5 }));
+    assert!(rt; is_the_seat_of_a_watcher(Seat { number: 6 }));
 }

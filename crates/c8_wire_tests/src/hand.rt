@@ -1,10 +1,11 @@
 //! Which datagrams the links of player 1 admit, and what they then know of player 2.
-ghost use Rattle.std.specs.Prelude.{◌≤◌};
+ghost use Rattle.std.specs.Prelude.{◌≡◌, ◌≤◌, true};
+ghost use Rattle.c8_wire.specs.Seats.{is_watcher};
 
 use crate::datagrams::head_numbers;
 use c8_game::{Game, Player};
 use c8_hand::{HandError, Links};
-use c8_wire::{DatagramKind, view};
+use c8_wire::{DatagramKind, Head, Seat, view};
 use std::test::Fail;
 
 const GAME: &[u8] =
@@ -171,7 +172,7 @@ fn head_after_welcome(game: &Game) -> Result<[u64; 7], Fail> {
     if refusal.is_some() || !is_two || links.version() != game.wire() {
         return Err(Fail::new("no link of player 2 in epoch 7"));
     }
-    Ok(head_numbers(&links.head(Player { number: 1 }, DatagramKind::Data)))
+    Ok(head_numbers(&links.head(Seat { number: 1 }, DatagramKind::Data)))
 }
 
 #[test]
@@ -184,5 +185,34 @@ fn heads_name_both_epochs(rt: HostRuntime) -> Result<(), Fail> {
             "{head:?}"
         );
     }
+    Ok(())
+}
+
+/// How a player in room 0 judges a SEEN from a watcher, said in a room.
+fn refusal_of_seen(game: &Game, me: Player, from: Seat, room: u64) -> Option<HandError>
+    requires { is_watcher from.number ≡ true }
+{
+    let head = Head {
+        kind: DatagramKind::Seen,
+        version: game.wire(),
+        session: game.session(room),
+        from,
+        to: Seat { number: 1 },
+        sender_epoch: 3,
+        addressee_epoch: 4,
+    };
+    Links::new(me, game, 0, 2).admit_seen(&head).err()
+}
+
+#[test]
+fn a_seen_needs_no_link(rt: HostRuntime) -> Result<(), Fail> {
+    let game = Game::read(rt.alloc(), GAME)?;
+    let (one, two) = (Player { number: 1 }, Player { number: 2 });
+    let (five, six) = (Seat { number: 5 }, Seat { number: 6 });
+    assert!(rt; refusal_of_seen(&game, one, five, 0).is_none());
+    assert!(rt; refusal_of_seen(&game, one, six, 0).is_none());
+    assert!(rt; refusal_of_seen(&game, one, five, 1) == Some(HandError::Session));
+    assert!(rt; refusal_of_seen(&game, two, five, 0) == Some(HandError::NotMine));
+    assert!(rt; refusal_of_seen(&game, two, six, 1) == Some(HandError::Session));
     Ok(())
 }

@@ -9,7 +9,7 @@ fn number(bytes: &[u8], at: usize, size: usize) -> u64 {
     number
 }
 
-/// The fixed part of a kind's body, and whether a run follows it.
+/// The fixed part of a kind's body, and whether a run or rows follow it.
 fn shape(kind: u64) -> Option<(usize, bool)> {
     match kind {
         1 => Some((0, false)),
@@ -17,6 +17,8 @@ fn shape(kind: u64) -> Option<(usize, bool)> {
         3 => Some((22, true)),
         4 => Some((6, false)),
         5 | 6 => Some((12, true)),
+        7 => Some((6, true)),
+        8 => Some((4, false)),
         _ => None,
     }
 }
@@ -45,10 +47,10 @@ fn judge_body(bytes: &[u8], kind: u64, fixed: usize, has_run: bool) -> &'static 
     if number(bytes, 14, 2) != rest as u64 || rest < fixed || (rest != fixed && !has_run) {
         return "Length";
     }
-    if !are_players(bytes, kind) {
+    if !are_seats(bytes, kind) {
         return "Player";
     }
-    if kind >= 4 && number(bytes, 25, 1) != 0 {
+    if names_leaver(kind) && number(bytes, 25, 1) != 0 {
         return "Reserved";
     }
     let (start, count) = (
@@ -57,7 +59,11 @@ fn judge_body(bytes: &[u8], kind: u64, fixed: usize, has_run: bool) -> &'static 
     );
     if has_run {
         let run = bytes.get(fixed.saturating_add(24)..).unwrap_or(&[]);
-        let refusal = judge_run(number(bytes, 2, 1), count, run);
+        let refusal = if kind == 7 {
+            judge_rows(count, run)
+        } else {
+            judge_run(number(bytes, 2, 1), count, run)
+        };
         if refusal != "taken" {
             return refusal;
         }
@@ -68,17 +74,36 @@ fn judge_body(bytes: &[u8], kind: u64, fixed: usize, has_run: bool) -> &'static 
     "taken"
 }
 
-/// From and to are players, and not one; the leaver is one who can leave.
-fn are_players(bytes: &[u8], kind: u64) -> bool {
+fn names_leaver(kind: u64) -> bool {
+    kind >= 4 && kind <= 6
+}
+
+/// From and to are players, and not one; the leaver is one who can leave. But a SHOW goes from player one to
+/// a watcher, and a SEEN back.
+fn are_seats(bytes: &[u8], kind: u64) -> bool {
     let (from, to, leaver) = (
         number(bytes, 12, 1),
         number(bytes, 13, 1),
         number(bytes, 24, 1),
     );
+    if kind == 7 {
+        return from == 1 && (to == 5 || to == 6);
+    }
+    if kind == 8 {
+        return (from == 5 || from == 6) && to == 1;
+    }
     if from < 1 || from > 4 || to < 1 || to > 4 || from == to {
         return false;
     }
-    kind < 4 || (leaver >= 2 && leaver <= 4)
+    !names_leaver(kind) || (leaver >= 2 && leaver <= 4)
+}
+
+/// At most 16 rows of eight bytes each.
+fn judge_rows(count: u64, rows: &[u8]) -> &'static str {
+    if count > 16 || rows.len() as u64 != count.wrapping_mul(8) {
+        return "Count";
+    }
+    "taken"
 }
 
 fn judge_run(version: u64, count: u64, run: &[u8]) -> &'static str {
@@ -117,9 +142,10 @@ fn are_pairs(count: u64, run: &[u8]) -> bool {
     sum == count
 }
 
-/// A number above 262148, or a run that ends past what it is to end at.
+/// A number of inputs above 262148, or of rows above 262144, or a run that ends past what it is to end at.
 fn is_beyond(bytes: &[u8], kind: u64, end: u64) -> bool {
     let most = 262148;
+    let most_rows = 262144;
     let (ack, frame, held) = (
         number(bytes, 24, 4),
         number(bytes, 28, 4),
@@ -130,6 +156,8 @@ fn is_beyond(bytes: &[u8], kind: u64, end: u64) -> bool {
         3 => ack > most || frame > most || end > most,
         4 => held > most,
         5 | 6 => held > most || end > held,
+        7 => end > most_rows,
+        8 => ack > most_rows,
         _ => false,
     }
 }

@@ -21,4 +21,6 @@ mod shown;
 #[cfg(test)]
 mod texts;
 #[cfg(test)]
+mod watching;
+#[cfg(test)]
 mod writing;

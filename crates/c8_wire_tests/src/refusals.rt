@@ -8,9 +8,10 @@ use std::test::Fail;
 /// input, 0020, a FREEZE of player 3, of whom player one holds 8 inputs, a FROZEN and a CUT of player 3
 /// at 10 inputs, of which 8 and 9 are 0004 and 8000. Then the same in version 2, but for FROZEN, which
 /// has 7 to 9, 0004 twice and 0005, and CUT, which is at 11 inputs and has 6 to 9, 8000 and 8001 three
-/// times.
+/// times. Then a SHOW of rows 3 and 4 to watcher 5, and a SEEN by it of 7 rows, and in version 2 the same of
+/// watcher 6.
 #[rattlefmt::skip]
-const TEXTS: [&'static str; 12] = [
+const TEXTS: [&'static str; 16] = [
     "433801010102030405060708010200000000000100000001",
     "4338010201020304050607080102000400000001000000010000000a",
     "4338010301020304050607080102001800000001000000010000000000000000a1a2a3a4a5a6a7a80000000000010020",
@@ -23,6 +24,10 @@ const TEXTS: [&'static str; 12] = [
     "433802040102030405060708010200060000000100000001030000000008",
     "43380205010203040506070801020012000000010000000103000000000a000000070003020004010005",
     "43380206010203040506070801020012000000010000000103000000000b000000060004018000038001",
+    "43380107010203040506070801050016000000010000000000000003000200200000000000000f0080000001ffff",
+    "43380108010203040506070805010004000000000000000000000007",
+    "43380207010203040506070801060016000000010000000000000003000200200000000000000f0080000001ffff",
+    "43380208010203040506070806010004000000000000000000000007",
 ];
 
 const HELLO: usize = 0;
@@ -49,6 +54,14 @@ const FREEZE_2: usize = 9;
 const FROZEN_2: usize = 10;
 
 const CUT_2: usize = 11;
+
+const SHOW: usize = 12;
+
+const SEEN: usize = 13;
+
+const SHOW_2: usize = 14;
+
+const SEEN_2: usize = 15;
 
 fn texts() -> &'static [&'static str] {
     &TEXTS
@@ -89,14 +102,14 @@ struct Case {
 }
 
 #[rattlefmt::skip]
-const CASES: [Case; 115] = [
+const CASES: [Case; 146] = [
     // what the header says
     Case { of: HELLO, place: 1, with: "39", answer: "Magic" },
     Case { of: HELLO, place: 2, with: "00", answer: "Version" },
     Case { of: HELLO, place: 2, with: "02", answer: "taken" },
     Case { of: HELLO, place: 2, with: "03", answer: "Version" },
     Case { of: HELLO, place: 3, with: "00", answer: "Kind" },
-    Case { of: HELLO, place: 3, with: "07", answer: "Kind" },
+    Case { of: HELLO, place: 3, with: "09", answer: "Kind" },
     Case { of: HELLO, place: 3, with: "ff", answer: "Kind" },
     Case { of: HELLO, place: 15, with: "01", answer: "Length" },
     Case { of: HELLO, place: 12, with: "0002", answer: "Player" },
@@ -216,6 +229,41 @@ const CASES: [Case; 115] = [
     Case { of: HELLO_2, place: 15, with: "01", answer: "Length" },
     Case { of: WELCOME_2, place: 24, with: "00040005", answer: "Beyond" },
     Case { of: FREEZE_2, place: 26, with: "00040005", answer: "Beyond" },
+    // player one alone shows, and to watchers alone
+    Case { of: SHOW, place: 12, with: "0106", answer: "taken" },
+    Case { of: SHOW, place: 12, with: "0205", answer: "Player" },
+    Case { of: SHOW, place: 12, with: "0104", answer: "Player" },
+    Case { of: SHOW, place: 12, with: "0107", answer: "Player" },
+    Case { of: SHOW, place: 12, with: "0501", answer: "Player" },
+    Case { of: SEEN, place: 12, with: "0601", answer: "taken" },
+    Case { of: SEEN, place: 12, with: "0502", answer: "Player" },
+    Case { of: SEEN, place: 12, with: "0401", answer: "Player" },
+    Case { of: SEEN, place: 12, with: "0701", answer: "Player" },
+    Case { of: SEEN, place: 12, with: "0105", answer: "Player" },
+    Case { of: HELLO, place: 12, with: "0501", answer: "Player" },
+    // the epochs of a SHOW and of a SEEN may be any
+    Case { of: SHOW, place: 16, with: "ffffffffffffffff", answer: "taken" },
+    Case { of: SEEN, place: 16, with: "ffffffffffffffff", answer: "taken" },
+    // eight bytes for each row
+    Case { of: SHOW, place: 28, with: "0000", answer: "Count" },
+    Case { of: SHOW, place: 28, with: "0001", answer: "Count" },
+    Case { of: SHOW, place: 28, with: "0003", answer: "Count" },
+    Case { of: SHOW, place: 28, with: "0011", answer: "Count" },
+    Case { of: SHOW, place: 15, with: "15", answer: "Length" },
+    Case { of: SEEN, place: 15, with: "05", answer: "Length" },
+    Case { of: SHOW, place: 3, with: "08", answer: "Length" },
+    Case { of: SEEN, place: 3, with: "07", answer: "Length" },
+    // a game has at most 262144 frames, 00040000
+    Case { of: SHOW, place: 24, with: "0003fffe", answer: "taken" },
+    Case { of: SHOW, place: 24, with: "0003ffff", answer: "Beyond" },
+    Case { of: SHOW, place: 24, with: "ffffffff", answer: "Beyond" },
+    Case { of: SEEN, place: 24, with: "00040000", answer: "taken" },
+    Case { of: SEEN, place: 24, with: "00040001", answer: "Beyond" },
+    Case { of: SHOW_2, place: 12, with: "0105", answer: "taken" },
+    Case { of: SHOW_2, place: 28, with: "0003", answer: "Count" },
+    Case { of: SHOW_2, place: 24, with: "0003ffff", answer: "Beyond" },
+    Case { of: SEEN_2, place: 12, with: "0502", answer: "Player" },
+    Case { of: SEEN_2, place: 24, with: "00040001", answer: "Beyond" },
 ];
 
 fn cases() -> &'static [Case] {

@@ -5,7 +5,7 @@ use std::test::Fail;
 
 /// The bytes of a datagram, and what is printed for it.
 #[rattlefmt::skip]
-const SHOWN: [(&'static str, &'static str); 14] = [
+const SHOWN: [(&'static str, &'static str); 17] = [
     ("4338010100abcdef12345678030400000000000c0012abcd",
         "kind HELLO\nsession 00abcdef12345678\nfrom 3 to 4\nepochs 12 1223629"),
     ("433801020fedcba9876543210402000400010000000000ff0003fffe",
@@ -34,6 +34,12 @@ const SHOWN: [(&'static str, &'static str); 14] = [
         "kind CUT\nversion 2\nsession 0000000000000c0d\nfrom 1 to 3\nepochs 15 16\nleaver 4 length 5000\nstart 2000 count 3\nrun 0e0f 0e0f 0e0f"),
     ("433802060000000000000c0d0203000c0000000f00000010040000001388000007d00000",
         "kind CUT\nversion 2\nsession 0000000000000c0d\nfrom 2 to 3\nepochs 15 16\nleaver 4 length 5000\nstart 2000 count 0\nrun"),
+    ("43380107010203040506070801050016000000010000000000000003000200200000000000000f0080000001ffff",
+        "kind SHOW\nsession 0102030405060708\nfrom 1 to 5\nepochs 1 0\nstart 3 count 2\nrow 0020 0000 0000 0000\nrow 0f00 8000 0001 ffff"),
+    ("433802070102030405060708010600060000000100000000000000030000",
+        "kind SHOW\nversion 2\nsession 0102030405060708\nfrom 1 to 6\nepochs 1 0\nstart 3 count 0"),
+    ("43380108010203040506070805010004000000000000000000000007",
+        "kind SEEN\nsession 0102030405060708\nfrom 5 to 1\nepochs 0 0\nack 7"),
 ];
 
 fn shown() -> &'static [(&'static str, &'static str)] {

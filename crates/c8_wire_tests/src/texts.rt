@@ -6,7 +6,7 @@ use std::test::Fail;
 
 /// What is said of the kind of each number.
 #[rattlefmt::skip]
-const KINDS: [(u8, &'static str); 8] = [
+const KINDS: [(u8, &'static str); 10] = [
     (0, "Kind"),
     (1, "1 HELLO HELLO"),
     (2, "2 WELCOME WELCOME"),
@@ -14,7 +14,9 @@ const KINDS: [(u8, &'static str); 8] = [
     (4, "4 FREEZE FREEZE"),
     (5, "5 FROZEN FROZEN"),
     (6, "6 CUT CUT"),
-    (7, "Kind"),
+    (7, "7 SHOW SHOW"),
+    (8, "8 SEEN SEEN"),
+    (9, "Kind"),
 ];
 
 fn kinds() -> &'static [(u8, &'static str)] {
@@ -47,9 +49,9 @@ const WIRE_ERRORS: [(WireError, &'static str); 10] = [
     (WireError::Length, "5 Length: the body has another length than it should have"),
     (WireError::Player, "6 Player: a player who cannot stand there"),
     (WireError::Reserved, "7 Reserved: a byte that must be 0 is not"),
-    (WireError::Count, "8 Count: more inputs than allowed, or not as many bytes as a run may have"),
+    (WireError::Count, "8 Count: more inputs or rows than allowed, or not as many bytes as they may have"),
     (WireError::Pairs, "10 Pairs: pairs that are not those of a run"),
-    (WireError::Beyond, "9 Beyond: a number of inputs, or the end of a run, is too great"),
+    (WireError::Beyond, "9 Beyond: a number of inputs or frames, or the end of a run, is too great"),
 ];
 
 fn wire_errors() -> &'static [(WireError, &'static str)] {

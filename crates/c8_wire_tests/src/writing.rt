@@ -2,6 +2,7 @@
 ghost use Rattle.std.specs.Prelude.{◌≡◌, ◌+◌, ◌≤◌, true, length, IfSome};
 ghost use Rattle.c8_wire.specs.Packet.{IsMessage, has_few_stretches, has_room, kind_of};
 ghost use Rattle.c8_wire.specs.Saying.{message_of};
+ghost use Rattle.c8_wire.specs.Seats.{are_seats};
 
 use crate::datagrams::{Row, rows};
 use c8_game::{MOST_INPUTS, Player, WireVersion};
@@ -33,10 +34,26 @@ fn leaver(number: u64) -> Option<Player>
 
 fn seat(number: u64) -> Option<Seat> {
     let number = u8::try_from(number).ok()?;
-    if number < 1 || number > 4 {
+    if number < 1 || number > 6 {
         return None;
     }
     Some(Seat { number })
+}
+
+/// Whether a datagram of a kind may go from one seat to the other.
+fn may_go(kind: DatagramKind, from: Seat, to: Seat) -> bool
+    ensures { result ≡ are_seats kind from.number to.number }
+{
+    match kind {
+        DatagramKind::Show => from.number == 1 && to.number >= 5,
+        DatagramKind::Seen => from.number >= 5 && to.number == 1,
+        DatagramKind::Hello
+        | DatagramKind::Welcome
+        | DatagramKind::Data
+        | DatagramKind::Freeze
+        | DatagramKind::Frozen
+        | DatagramKind::Cut => from.number <= 4 && to.number <= 4 && from.number != to.number,
+    }
 }
 
 fn version(number: u64) -> WireVersion {
@@ -60,7 +77,7 @@ fn head(row: &Row) -> Option<Head> {
     ] = row.header;
     let kind = DatagramKind::try_from(u8::try_from(kind).ok()?).ok()?;
     let (from, to) = (seat(from)?, seat(to)?);
-    if from.number == to.number {
+    if !may_go(kind, from, to) {
         return None;
     }
     Some(Head {
@@ -127,6 +144,7 @@ fn body<'a>(
             start: start_of(start, run, first)?,
             run,
         }),
+        DatagramKind::Show | DatagramKind::Seen => None,
     }
 }
 

@@ -4,9 +4,9 @@ ghost use Rattle.std.specs.Prelude.{◌≡◌};
 use crate::gates::Turns;
 use crate::packets::{ONE, TWO, hello};
 use crate::sides::{Side, game_of};
-use c8_game::Player;
 use c8_inlet::Packet;
 use c8_live::{LONGEST_PACKET, Traffic, Wire, WireFailed};
+use c8_wire::Seat;
 use std::test::Fail;
 
 /// How many packets wait.
@@ -26,7 +26,7 @@ impl Wire for Flood {
 
     ghost received = { λ wire. wire.traffic.received.items };
 
-    fn send(&mut self, _: Player, _: &[u8]) -> Result<(), WireFailed> {
+    fn send(&mut self, _: Seat, _: &[u8]) -> Result<(), WireFailed> {
         Ok(())
     }
 

@@ -8,7 +8,7 @@ use c8_game::{Game, Player};
 use c8_inlet::{Packet, Putter, inlet};
 use c8_live::{Counters, LONGEST_PACKET, Relay, Traffic, Wire, WireFailed, net_worker};
 use c8_peer::{Kind, Peer};
-use c8_wire::LONGEST_DATAGRAM;
+use c8_wire::{LONGEST_DATAGRAM, Seat};
 use std::alloc::Global;
 use std::test::Fail;
 
@@ -30,9 +30,9 @@ impl Wire for Counter {
 
     ghost received = { λ wire. wire.traffic.received.items };
 
-    fn send(&mut self, to: Player, datagram: &[u8]) -> Result<(), WireFailed> {
+    fn send(&mut self, to: Seat, datagram: &[u8]) -> Result<(), WireFailed> {
         self.sent = self.sent.saturating_add(1);
-        if to == TWO {
+        if to.number == 2 {
             self.sent_to_two = self.sent_to_two.saturating_add(1);
         }
         self.traffic.took(datagram);
@@ -121,8 +121,8 @@ fn a_relay_loses_what_finds_no_place(rt: HostRuntime) -> Result<(), Fail> {
     let mut relay = Relay::new(to_two, from_two);
     let mut buffer = [0; LONGEST_PACKET];
     assert!(rt; relay.receive(&mut buffer) == Ok(None));
-    relay.send(TWO, &[1, 2, 3])?;
-    relay.send(TWO, &[4])?;
+    relay.send(Seat::from(TWO), &[1, 2, 3])?;
+    relay.send(Seat::from(TWO), &[4])?;
     assert!(rt; relay.lost() == 1);
     assert!(rt; is_packet(from_one.take(), &[1, 2, 3]));
     assert!(rt; from_one.take().is_none());

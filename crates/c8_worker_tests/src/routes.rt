@@ -4,6 +4,7 @@ ghost use Rattle.std.specs.Prelude.{◌≡◌, ◌<◌, ◌≤◌, IfSome};
 use crate::sides::relays;
 use c8_game::{MOST_PLAYERS, Player};
 use c8_live::{LONGEST_PACKET, Relay, Traffic, Wire, WireFailed};
+use c8_wire::Seat;
 use std::alloc::{AllocError, Global};
 
 /// How many packets wait at most between two players: more than one of them says while the other is held
@@ -53,12 +54,15 @@ impl Wire for Routes {
 
     ghost received = { λ routes. routes.traffic.received.items };
 
-    fn send(&mut self, to: Player, datagram: &[u8]) -> Result<(), WireFailed> {
+    fn send(&mut self, to: Seat, datagram: &[u8]) -> Result<(), WireFailed> {
         self.traffic.took(datagram);
-        if is_lost(&mut self.sent, to, self.lost) {
+        let Some(player) = to.player() else {
+            return Ok(());
+        };
+        if is_lost(&mut self.sent, player, self.lost) {
             return Ok(());
         }
-        match &mut self.relays[to.place()] {
+        match &mut self.relays[player.place()] {
             Some(relay) => relay.send(to, datagram),
             None => Ok(()),
         }

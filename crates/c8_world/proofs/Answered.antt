@@ -1,5 +1,6 @@
 -- What no event is ever answered.
-use Rattle.std.proofs.Common.{◌≡◌, ◌≢◌, ◌⊎◌, inl, inr, ⊎_elim, ℕ, ◌<◌, ◌^◌, List, Option, Some, None, Ok, refl, sym, ap, subst, ◌∙◌}
+use Rattle.c8_spectator.specs.Growth.{ShowsRowsOf}
+use Rattle.std.proofs.Common.{◌≡◌, ◌≢◌, ◌⊎◌, inl, inr, ⊎_elim, ℕ, ◌<◌, ◌^◌, List, Option, Some, None, Ok, refl, sym, ap, subst, ◌∙◌, Err}
 use Rattle.std.specs.List.{slice_get}
 use Rattle.c8_game.specs.Rules.{Rules, AreInRange}
 use Rattle.c8_disk.specs.declared.error.DiskError.{DiskError}
@@ -7,22 +8,26 @@ use Rattle.c8_wire.specs.Packet.{Packet}
 use Rattle.c8_known.specs.declared.error.KnownError.TheVariants.{Differs}
 use Rattle.c8_known.specs.Journal.{Record}
 use Rattle.c8_known.specs.Known.{known_of}
+use Rattle.c8_spectator.specs.declared.error.NotTaken.TheVariants as refusals
+use Rattle.c8_spectator.specs.declared.error.WatchError.TheVariants as watches
+use Rattle.c8_spectator.specs.checked.WatchLaws.{truth_agrees}
 use Rattle.c8_peer.specs.Told.{told_of}
-use Rattle.c8_peer.specs.declared.error.Refused.{Refused}
-use Rattle.c8_peer.specs.declared.error.Refused.TheVariants.{BadAck, Desync, Known}
+use Rattle.c8_refusals.specs.declared.error.Refused.{Refused}
+use Rattle.c8_refusals.specs.declared.error.Refused.TheVariants.{BadAck, Desync, Known}
 use Rattle.c8_peer.specs.State as states
 use Rattle.c8_peer.specs.State.{Mode, Down, Away, State, Call, Outcome}
 use Rattle.c8_peer.specs.Steps.{outcome, Luck, Works, Refuses, refused_by_disk, Stepped, done, at_mode, step}
 use Rattle.c8_peer.specs.Opening.{Opening, NoPlayer, Stands, NotWritten, NoMemory, NotRead, Unfit, Spent, found, opened}
 use Rattle.c8_world.specs.checked.Below.{ArePeersLawful}
-use Rattle.c8_world.specs.World.{World, is_player, peer_of, journal_of, Act, Open, Tick, Say, Give, Leave, Decide, Event, Do, Stop, Happening, Answer, Told, NoSuch, After, call_at_mode, call_at, open_at_mode, give_to, acted, after, CanHappen, Chain, IsReached, Check}
+use Rattle.c8_world.specs.World.{World, is_player, peer_of, journal_of, Act, Open, Tick, Say, Give, Leave, Decide, Event, Do, Stop, Happening, Answer, Told, NoSuch, After, call_at_mode, call_at, open_at_mode, give_to, acted, after, CanHappen, Chain, IsReached, Check, Show, Hear, Seen, Fresh, hear_at, Watched, known_by, watch_of}
 use Rattle.c8_world.specs.Agreement.{IsPlayer, IsUndropped, NobodyLeaves, refused_for}
 use Rattle.c8_world.proofs.Events.{IsWorldly}
-use Rattle.c8_world.proofs.Worlds.{IsSound, plays_if}
-use Rattle.c8_world.proofs.Reached.{reached_sound, reached_later, peers_agree, inputs_entered, begins_own, said_holds, said_spells, links_name, cut_bounds, reports_bound, stayers_froze}
+use Rattle.c8_world.proofs.Worlds.{IsSound, plays_if, shown_stands}
+use Rattle.c8_world.proofs.Reached.{reached_sound, reached_later, peers_agree, inputs_entered, begins_own, said_holds, said_spells, links_name, cut_bounds, reports_bound, stayers_froze, rows_true}
 use Rattle.c8_world.specs.Headline.{IsHeadline}
 use Rattle.c8_world.proofs.Openings.{after_if, openings_fit}
 use Rattle.c8_world.proofs.Replies.{IsCalm, AnswersCalmly, EndsCalmly, calm_other, unrefused, teller_of, calm_call}
+use Rattle.c8_known.specs.Confirmed.{confirmed_rows}
 
 -- ---- a call
 
@@ -31,6 +36,7 @@ calm_by_disk : (J : ℕ → List Record) (p q : ℕ) (call : Call) (why : DiskEr
 calm_by_disk J p q (states.Tick keys) why = unrefused J p q _ (λ x e. cc e)
 calm_by_disk J p q (states.Deliver told) why = calm_other J p q _ (λ e. cc e) (λ e. cc e) (λ e. cc e)
 calm_by_disk J p q (states.Say to what) why = unrefused J p q _ (λ x e. cc e)
+calm_by_disk J p q (states.Show watcher) why = unrefused J p q _ (λ x e. cc e)
 calm_by_disk J p q (states.Leave leaver) why = unrefused J p q _ (λ x e. cc e)
 calm_by_disk J p q (states.Decide leaver) why = unrefused J p q _ (λ x e. cc e)
 calm_by_disk J p q states.Checkpoint why = unrefused J p q _ (λ x e. cc e)
@@ -115,6 +121,11 @@ opens_otherwise rules room w p h states.Open why = λ e. cc e
 opens_otherwise rules room w p h Down why = opened_otherwise rules room p (peer_of w p) (found (peer_of w p) h.finds) h.opening why
 opens_otherwise rules room w p h Away why = opened_otherwise rules room p (peer_of w p) (found (peer_of w p) h.finds) h.opening why
 
+-- a watcher's answer is no peer's
+watched_otherwise : (rules : Rules) (room : ℕ) (w : World) (watcher : ℕ) (o : Option Packet) (why : Refused) → (hear_at rules room w watcher o).answer ≢ refused_for why
+watched_otherwise rules room w watcher None why = λ e. cc e
+watched_otherwise rules room w watcher (Some packet) why = λ e. cc e
+
 acted_well : (rules : Rules) (room : ℕ) (w : World) (act : Act) (h : Happening) → AreInRange rules → IsSound rules room w → (acted rules room w act h).answer ≢ refused_for BadAck
 unfolding acted
 acted_well rules room w (Open p) h range sound =
@@ -125,6 +136,10 @@ acted_well rules room w (Give number p) h range sound = λ e. (calm_given rules 
 acted_well rules room w (Leave leaver) h range sound = λ e. (calm_call_at rules room w 1 (states.Leave leaver) h.luck range sound tt BadAck e).ack refl
 acted_well rules room w (Decide leaver) h range sound = λ e. (calm_call_at rules room w 1 (states.Decide leaver) h.luck range sound tt BadAck e).ack refl
 acted_well rules room w (Check p) h range sound = λ e. (calm_call_at rules room w p states.Checkpoint h.luck range sound tt BadAck e).ack refl
+acted_well rules room w (Show watcher) h range sound = λ e. (calm_call_at rules room w 1 (states.Show watcher) h.luck range sound tt BadAck e).ack refl
+acted_well rules room w (Hear number watcher) h range sound = watched_otherwise rules room w watcher (slice_get w.said number) BadAck
+acted_well rules room w (Seen watcher) h range sound = λ e. cc e
+acted_well rules room w (Fresh watcher) h range sound = λ e. cc e
 
 after_well : (rules : Rules) (room : ℕ) (w : World) (event : Event) (h : Happening) → AreInRange rules → IsSound rules room w → (after rules room w event h).answer ≢ refused_for BadAck
 after_well rules room w (Do act) h range sound = acted_well rules room w act h range sound
@@ -134,6 +149,21 @@ pub never_bad_ack : (laws : ArePeersLawful) (rules : Rules) (room : ℕ) (w v : 
     → CanHappen rules room w event answer v → answer ≢ refused_for BadAck
 never_bad_ack laws rules room w v event answer range few reached can e =
     after_well rules room w event can.happening range (reached_sound laws rules room w range few reached) (ap (λ (a : After). a.answer) can.is ∙ e)
+
+-- ---- watchers
+
+-- a watcher is never shown a row that differs
+hear_agrees : (rules : Rules) (room : ℕ) (w : World) (watcher number : ℕ) (o : Option Packet) → IsSound rules room w → slice_get w.said number ≡ o → (hear_at rules room w watcher o).answer ≢ Watched (Err (refusals.Watch watches.Differs))
+hear_agrees rules room w watcher number None sound e = λ is. cc is
+hear_agrees rules room w watcher number (Some packet) sound e = λ is.
+    let shown : ShowsRowsOf (confirmed_rows (known_by rules w 1)) packet = record { stand = λ m shows. shown_stands rules (journal_of w) packet m shows (sound.said packet (number, e)).told } in
+    truth_agrees (confirmed_rows (known_by rules w 1)) (watch_of rules room w watcher) packet (sound.watched watcher) shown cc
+
+pub never_differs_watched : (laws : ArePeersLawful) (rules : Rules) (room : ℕ) (w v : World) (watcher number : ℕ) (answer : Answer) → AreInRange rules → room < 2 ^ 64 → IsReached rules room w
+    → CanHappen rules room w (Do (Hear number watcher)) answer v → answer ≢ Watched (Err (refusals.Watch watches.Differs))
+unfolding acted
+never_differs_watched laws rules room w v watcher number answer range few reached can e =
+    hear_agrees rules room w watcher number (slice_get w.said number) (reached_sound laws rules room w range few reached) refl (ap (λ (a : After). a.answer) can.is ∙ e)
 
 -- ---- while nobody leaves
 
@@ -178,5 +208,7 @@ headline laws rules room w v events answers range few reached chain =
       known = λ p number answer u. never_differs laws rules room v u p number answer range few later;
       marks = λ p number packet answer u. never_desync laws rules room v u p number packet answer range few later;
       acks = λ p number answer u. never_bad_ack laws rules room v u (Do (Give number p)) answer range few later;
+      watched = λ watcher. rows_true laws rules room v watcher range few later;
+      differs = λ watcher number answer u. never_differs_watched laws rules room v u watcher number answer range few later;
       fit = λ p answer u plays. openings_fit laws rules room v u p answer range few later plays;
     }

@@ -1,4 +1,5 @@
 -- Why no open peer answers BadAck to what was said, and why an undropped one answers neither Differs nor Desync.
+use Rattle.c8_known.specs.Growth.{Stands}
 use Rattle.std.proofs.Common.{◌≡◌, ◌≢◌, ℕ, zero, suc, ◌+◌, ◌-◌, ◌*◌, ◌/◌, ◌<◌, ◌≤◌, List, [], ◌∷◌, length, drop, map, Bool, true, false, cond, Option, Some, None, refl, sym, ap, subst, ◌∙◌, arith}
 use Rattle.std.specs.Prelude.{◌==◌, nat_lt, fold, if◌then◌else◌}
 use Rattle.std.specs.List.{range_with_len}
@@ -23,7 +24,7 @@ use Rattle.c8_wire.specs.Packet.{DataMessage}
 use Rattle.c8_peer.specs.TrueChecks.{HasTrueChecks}
 use Rattle.c8_peer.specs.Told.{told_of}
 use Rattle.c8_peer.specs.Hearing.{differs_from, is_desync}
-use Rattle.c8_peer.specs.Truth.{Stands, IsTrueMark}
+use Rattle.c8_peer.specs.Truth.{IsTrueMark}
 use Rattle.c8_world.specs.Agreement.{IsPlayer}
 use Rattle.c8_world.proofs.Journals.{AreSound}
 use Rattle.c8_world.proofs.Moments.{rows_agree}

@@ -1,4 +1,5 @@
 -- What a call of an open peer records fits, and its memory stays sound.
+use Rattle.c8_known.specs.Growth.{Stands}
 use Rattle.std.proofs.Common.{◌≡◌, ◌≢◌, ℕ, ◌+◌, ◌-◌, ◌≤◌, ⊎_elim, List, [], ◌∷◌, length, drop, Bool, true, false, not, cond, Option, Some, None, Ok, Err, refl, sym, ap, subst, ◌∙◌, arith}
 use Rattle.std.specs.Prelude.{◌==◌, ◌&&◌, ◌||◌, nat_lt, nat_le, is_some}
 use Rattle.std.proofs.lemmas.Bool.{eq-eqb, eqb-true, both_ways, ltb-false, leb-true, and_parts, or_parts, not-false}
@@ -22,13 +23,13 @@ use Rattle.c8_window.specs.Window.{acked_more}
 use Rattle.c8_round.specs.Round.{ChairValue, report_of, with_report, with_have, is_ready}
 use Rattle.c8_check.specs.Checks.{Pieces, frames_of}
 use Rattle.c8_peer.specs.Told.{Told, told_of}
-use Rattle.c8_peer.specs.declared.error.Refused.TheVariants as refusals
-use Rattle.c8_peer.specs.State.{Memory, Saying, Call, Tick, Deliver, Say, Leave, Decide, Reply, Outcome, answered, recorded, Checkpoint}
+use Rattle.c8_refusals.specs.declared.error.Refused.TheVariants as refusals
+use Rattle.c8_peer.specs.State.{Memory, Saying, Call, Tick, Deliver, Say, Show, Leave, Decide, Reply, Outcome, answered, recorded, Checkpoint}
 use Rattle.c8_peer.specs.Calls.{tick, leave, decide, next_piece, checkpoint}
-use Rattle.c8_peer.specs.Hearing.{is_of_other_wire, refused, unless_misfit, got, is_desync, hear_data, hear_welcome, hear_freeze, hear_frozen, hear_end, hear_cut, hear_message, unless_hand, deliver}
-use Rattle.c8_peer.specs.Saying.{is_not_mine, lacks_record, lacks_link, say}
+use Rattle.c8_peer.specs.Hearing.{is_of_other_wire, refused, unless_misfit, got, is_desync, hear_data, hear_welcome, hear_freeze, hear_frozen, hear_end, hear_cut, hear_message, hear_seen, hear_from, seen_in, unless_hand, deliver}
+use Rattle.c8_peer.specs.Saying.{is_not_mine, lacks_record, lacks_link, say, show}
 use Rattle.c8_peer.specs.Steps.{outcome}
-use Rattle.c8_peer.specs.Truth.{Stands, IsFrozenAt, IsTrue, IsTrueMessage}
+use Rattle.c8_peer.specs.Truth.{IsFrozenAt, IsTrue, IsTrueMessage}
 use Rattle.c8_peer.specs.Lawful.{IsMemory}
 use Rattle.c8_world.specs.checked.Below.{ArePeersLawful}
 use Rattle.c8_world.specs.Agreement.{IsPlayer, IsAmong, Names}
@@ -50,10 +51,14 @@ pub record IsAwake (rules : Rules) (room : ℕ) (J : ℕ → List Record) (said 
   pub chair : AreReported rules J p m.chair
   pub links : AreNamed said p m.links
 
--- each datagram that was said is from a player, true of its journal, and can be spelled
+-- a datagram of a player is true of its journal; of a watcher's SEEN player one counts as many frames as confirmed
+abbrev pub IsTold : Rules → (ℕ → List Record) → Packet → Option ℕ → Type 0
+IsTold rules J packet None = IsPlayer rules packet.head.from × IsTrue rules packet.head.from (J packet.head.from) packet
+IsTold rules J packet (Some rows) = rows ≤ confirmed (known_of rules 1 (J 1))
+
+-- each datagram that was said is true, and can be spelled
 pub record IsSaid (rules : Rules) (J : ℕ → List Record) (packet : Packet) : Type 0 where
-  pub from : IsPlayer rules packet.head.from
-  pub true_now : IsTrue rules packet.head.from (J packet.head.from) packet
+  pub told : IsTold rules J packet (seen_in packet.message)
   pub spelled : IsPacket packet
 
 -- ---- what a call owes
@@ -365,10 +370,29 @@ good_message laws rules room J said p m packet (packets.Frozen f) sound plays aw
     good_frozen laws rules room J said p packet.head.from m f sound plays from awake fits.leaver_from_two is_true.0 is_true.2
 good_message laws rules room J said p m packet (packets.Cut c) sound plays awake among admitted from apart is_true fits =
     good_cut rules room J said p packet.head.from m c sound plays from awake apart is_true.0 is_true.1 is_true.2 fits.run.within
+good_message laws rules room J said p m packet (packets.Show shown) sound plays awake among admitted from apart is_true fits = good_answered rules room J said p m _ awake.chair awake.links
+good_message laws rules room J said p m packet (packets.Seen ack) sound plays awake among admitted from apart is_true fits = good_answered rules room J said p m _ awake.chair awake.links
+
+good_seen : (rules : Rules) (room : ℕ) (J : ℕ → List Record) (said : List Packet) (p : ℕ) (m : Memory) (head : HeadValue) (ack : ℕ) → IsAwake rules room J said p m → IsGood rules room J said p (hear_seen (known_of rules p (J p)) m head ack)
+unfolding hear_seen
+good_seen rules room J said p m head ack awake =
+    branch (IsGood rules room J said p) (nat_lt (confirmed (known_of rules p (J p))) ack) _ _ (λ is. good_answered rules room J said p m _ awake.chair awake.links)
+    (λ few. good_answered rules room J said p _ _ awake.chair awake.links)
 
 -- the sender of an admitted datagram is another player
 pub sender_apart : (rules : Rules) (room p : ℕ) (journal : List Record) (m : Memory) (head : HeadValue) → IsMemory rules room p journal m → links.refusal m.links head ≡ None → head.from ≢ p
 sender_apart rules room p journal m head lawful admitted e = (is_for_me m.links head admitted).apart (e ∙ sym lawful.player)
+
+-- what is not refused before its sender is looked at
+good_from : (laws : ArePeersLawful) (rules : Rules) (room : ℕ) (J : ℕ → List Record) (said : List Packet) (p : ℕ) (m : Memory) (packet : Packet) (heard_rows : Option ℕ) → AreSound rules room J → IsPlayer rules p → IsAwake rules room J said p m → IsAmong said packet
+    → IsTold rules J packet heard_rows → IsPacket packet → IsGood rules room J said p (hear_from rules (told_of rules p (J p)) (known_of rules p (J p)) m packet heard_rows)
+good_from laws rules room J said p m packet (Some ack) sound plays awake among told spelled =
+    unless_hand_by (IsGood rules room J said p) m (links.refusal_of_seen m.links packet.head) _ (λ error. good_answered rules room J said p m _ awake.chair awake.links)
+    (λ admitted. good_seen rules room J said p m packet.head ack awake)
+good_from laws rules room J said p m packet None sound plays awake among told spelled =
+    unless_hand_by (IsGood rules room J said p) m (links.refusal m.links packet.head) _ (λ error. good_answered rules room J said p m _ awake.chair awake.links) (λ admitted.
+    good_message laws rules room J said p m packet packet.message sound plays awake among admitted told.0
+    (sender_apart rules room p (J p) m packet.head awake.lawful admitted) told.1.message spelled.message)
 
 good_delivery : (laws : ArePeersLawful) (rules : Rules) (room : ℕ) (J : ℕ → List Record) (said : List Packet) (p : ℕ) (m : Memory) (packet : Packet) → AreSound rules room J → IsPlayer rules p → IsAwake rules room J said p m → IsAmong said packet → IsSaid rules J packet
     → IsGood rules room J said p (deliver rules (told_of rules p (J p)) (known_of rules p (J p)) m (Ok packet))
@@ -378,9 +402,7 @@ good_delivery laws rules room J said p m packet sound plays awake among is_said 
     let k : KnownValue = known_of rules p (J p) in
     branch P (player_in k k.me).leaving _ _ (λ is. refuses _) (λ stays.
     branch P (is_of_other_wire rules packet.head) _ _ (λ is. refuses _) (λ own.
-    unless_hand_by P m (links.refusal m.links packet.head) _ (λ error. refuses _) (λ admitted.
-    good_message laws rules room J said p m packet packet.message sound plays awake among admitted is_said.from
-    (sender_apart rules room p (J p) m packet.head awake.lawful admitted) is_said.true_now.message is_said.spelled.message)))
+    good_from laws rules room J said p m packet (seen_in packet.message) sound plays awake among is_said.told is_said.spelled))
 
 good_say : (rules : Rules) (room : ℕ) (J : ℕ → List Record) (said : List Packet) (p : ℕ) (m : Memory) (to : ℕ) (what : Saying) → IsAwake rules room J said p m → IsGood rules room J said p (say rules (told_of rules p (J p)) (known_of rules p (J p)) m to what)
 unfolding say
@@ -393,6 +415,11 @@ good_say rules room J said p m to what awake =
     branch P (is_not_mine k to what) _ _ (λ is. refuses _) (λ mine.
     branch P (lacks_record k what) _ _ (λ is. refuses _) (λ kept.
     branch P (lacks_link m to what) _ _ (λ is. refuses _) (λ linked. refuses _)))))
+
+good_show : (rules : Rules) (room : ℕ) (J : ℕ → List Record) (said : List Packet) (p : ℕ) (m : Memory) (watcher : ℕ) → IsAwake rules room J said p m → IsGood rules room J said p (show (known_of rules p (J p)) m watcher)
+unfolding show
+good_show rules room J said p m watcher awake =
+    branch (IsGood rules room J said p) ((known_of rules p (J p)).me == 1) _ _ (λ is. good_answered rules room J said p m _ awake.chair awake.links) (λ other. good_answered rules room J said p m _ awake.chair awake.links)
 
 good_piece : (rules : Rules) (room : ℕ) (J : ℕ → List Record) (said : List Packet) (p : ℕ) (m : Memory) (o : Option Pieces) → AreSound rules room J → IsPlayer rules p → IsAwake rules room J said p m
     → IsGood rules room J said p (next_piece (told_of rules p (J p)) (known_of rules p (J p)) m o)
@@ -420,6 +447,7 @@ IsWorldly rules J said (Tick keys) = Unit {0}
 IsWorldly rules J said (Deliver (Ok packet)) = IsAmong said packet × IsSaid rules J packet
 IsWorldly rules J said (Deliver (Err error)) = ⊥
 IsWorldly rules J said (Say to what) = Unit {0}
+IsWorldly rules J said (Show watcher) = Unit {0}
 IsWorldly rules J said (Leave leaver) = Unit {0}
 IsWorldly rules J said (Decide leaver) = Unit {0}
 IsWorldly rules J said Checkpoint = Unit {0}
@@ -430,6 +458,7 @@ good_call laws rules room J said p m (Tick keys) sound plays awake worldly = goo
 good_call laws rules room J said p m (Deliver (Ok packet)) sound plays awake worldly = good_delivery laws rules room J said p m packet sound plays awake worldly.0 worldly.1
 good_call laws rules room J said p m (Deliver (Err error)) sound plays awake worldly = absurd worldly
 good_call laws rules room J said p m (Say to what) sound plays awake worldly = good_say rules room J said p m to what awake
+good_call laws rules room J said p m (Show watcher) sound plays awake worldly = good_show rules room J said p m watcher awake
 good_call laws rules room J said p m (Leave leaver) sound plays awake worldly = good_leave rules room J said p m leaver sound plays awake
 good_call laws rules room J said p m (Decide leaver) sound plays awake worldly = good_decide laws rules room J said p m leaver sound plays awake
 good_call laws rules room J said p m Checkpoint sound plays awake worldly = good_checkpoint rules room J said p m sound plays awake

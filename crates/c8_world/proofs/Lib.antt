@@ -13,6 +13,7 @@ pub mod Matches
 mod NodeLemmas
 mod TableLemmas
 mod SpokenLemmas
+mod WatcherLemmas
 mod OpenedLemmas
 mod StopLemmas
 mod LifeLemmas

@@ -10,7 +10,7 @@ use Rattle.c8_world.proofs.Worlds.{peer_at_start}
 use Rattle.c8_world.proofs.TableLemmas.{CanDo}
 use Rattle.c8_peer.specs.State.{State}
 use Rattle.c8_game.specs.Rules.{Rules, AreInRange}
-use Rattle.c8_peer.specs.declared.error.OpenError.TheVariants as opens
+use Rattle.c8_refusals.specs.declared.error.OpenError.TheVariants as opens
 use Rattle.c8_peer.specs.State.{Opened}
 use Rattle.c8_world.specs.declared.answer.Answer as codes
 use Rattle.c8_world.specs.declared.answer.Answer.TheVariants as answers
@@ -150,6 +150,10 @@ other_act (act_ofs.Give number player) p other e = cc e
 other_act (act_ofs.Leave leaver) p other e = cc e
 other_act (act_ofs.Decide leaver) p other e = cc e
 other_act (act_ofs.Check player) p other e = cc e
+other_act (act_ofs.Show watcher) p other e = cc e
+other_act (act_ofs.Hear number watcher) p other e = cc e
+other_act (act_ofs.Seen watcher) p other e = cc e
+other_act (act_ofs.Fresh watcher) p other e = cc e
 
 -- what a run that ran out has lived: the events so far, and then what the event adds
 pub lived_on : (old mid new : WorldValue) (events : List asked.Event) (i : ℕ) (event : asked.Event) (told : List codes.Answer) → i < length events → event ≡ slice_index_or events i event
@@ -208,8 +212,8 @@ of_view P inside self view is = subst P view is
 
 -- ---- a new world
 
-pub start_holds : (t : TableValue) → IsFull t.rules t.room t.nodes → All IsUntouched t.nodes → t.pool ≡ [] → Holds t (start t.rules)
-start_holds t full untouched quiet = record {
+pub start_holds : (t : TableValue) → IsFull t.rules t.room t.nodes → All IsUntouched t.nodes → t.pool ≡ [] → t.five ≡ [] → t.six ≡ [] → Holds t (start t.rules)
+start_holds t full untouched quiet five six = record {
   reached = record { events = []; answers = []; chain = refl };
   count = length-replicate t.rules.players never_opened;
   peers = λ p plays.
@@ -218,6 +222,8 @@ start_holds t full untouched quiet = record {
       let size = full.1 in
       subst (λ (s : State). IsTaken t.rules t.room p (node_of t p) s) (sym (peer_at_start t.rules p)) (untouched (p - 1) None (omega (arith, from, to, size)) t.rules t.room p);
   said = quiet;
+  five = five;
+  six = six;
 }
 
 pub node_more : (P : Option Node → Type 0) (nodes now : List (Option Node)) (node : Option Node) → now ≡ nodes ++ node ∷ [] → All P nodes → P node → All P now

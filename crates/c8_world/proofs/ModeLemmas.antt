@@ -1,5 +1,5 @@
 -- What was answered tells how each peer stands.
-use Rattle.std.proofs.Common.{◌≡◌, ◌≢◌, ℕ, ◌<◌, ◌^◌, inl, inr, List, [], ◌∷◌, length, Bool, true, false, Option, Some, None, Ok, Err, refl, sym, ap, subst, ◌∙◌}
+use Rattle.std.proofs.Common.{◌≡◌, ◌≢◌, ℕ, ◌<◌, ◌^◌, inl, inr, List, [], ◌∷◌, length, Bool, true, false, Option, Some, None, Ok, Err, refl, sym, ap, subst, ◌∙◌, slice_index_or, ◌-◌}
 use Rattle.std.specs.Prelude.{◌==◌, if◌then◌else◌}
 use Rattle.std.specs.List.{slice_get}
 use Rattle.std.proofs.lemmas.Bool.{cases_eq, cases_Bool, eq-eqb, ne_eqb}
@@ -11,7 +11,7 @@ use Rattle.c8_peer.specs.Steps.{Luck, Stepped, step}
 use Rattle.c8_peer.specs.Opening.{found, away, opened}
 use Rattle.c8_peer.specs.Replies.{mode_told}
 use Rattle.c8_world.specs.checked.Below.{ArePeersLawful}
-use Rattle.c8_world.specs.World.{World, start, is_player, peer_of, with_peer, Act, Open, Tick, Say, Give, Leave, Decide, player_of, Event, Do, Stop, Happening, Answer, Told, IsUp, IsDown, NoSuch, Stopped, After, said_by, stepped, call_at_mode, call_at, open_at_mode, open_at, give_to, acted, crashed, after, MayAct, act_inside, CanHappen, Chain, Check}
+use Rattle.c8_world.specs.World.{World, start, is_player, peer_of, with_peer, Act, Open, Tick, Say, Give, Leave, Decide, player_of, Event, Do, Stop, Happening, Answer, Told, IsUp, IsDown, NoSuch, Stopped, After, said_by, stepped, call_at_mode, call_at, open_at_mode, open_at, give_to, acted, crashed, after, MayAct, act_inside, CanHappen, Chain, Check, Show, Hear, Seen, Fresh, Anew, Spoken, Watched, hear_at, seen_by_watcher, with_rows, never_opened}
 use Rattle.c8_world.specs.Agreement.{IsPlayer}
 use Rattle.c8_world.specs.declared.answer.Answer as codes
 use Rattle.c8_world.specs.declared.answer.Answer.TheVariants as answers
@@ -84,6 +84,15 @@ module _ (laws : ArePeersLawful) (rules : Rules) (room p : ℕ) (plays : IsPlaye
   give_tells w q luck None nodes = stays w q NoSuch (λ mode. refl)
   give_tells w q luck (Some packet) nodes = call_tells w q (states.Deliver (Ok packet)) luck nodes
 
+  -- what a watcher does changes no peer
+  watcher_tells : (w u : World) (q : ℕ) (answer : Answer) → u.peers ≡ w.peers → ((mode : Mode) → mode_answered mode answer ≡ mode) → Tells w q (record { answer = answer; world = u })
+  unfolding Tells
+  watcher_tells w u q answer peers same = ap (λ (xs : List State). (slice_index_or xs (p - 1) never_opened).mode) peers ∙ stays w q answer same
+
+  hear_tells : (w : World) (q : ℕ) (o : Option Packet) → Tells w q (hear_at rules room w q o)
+  hear_tells w q None = stays w q NoSuch (λ mode. refl)
+  hear_tells w q (Some packet) = watcher_tells w _ q _ refl (λ mode. refl)
+
   acted_tells : (w : World) (act : Act) (h : Happening) → length w.peers ≡ rules.players → Tells w (player_of act) (acted rules room w act h)
   unfolding acted
   acted_tells w (Open q) h nodes = open_tells w q h nodes
@@ -93,6 +102,10 @@ module _ (laws : ArePeersLawful) (rules : Rules) (room p : ℕ) (plays : IsPlaye
   acted_tells w (Leave leaver) h nodes = call_tells w 1 (states.Leave leaver) h.luck nodes
   acted_tells w (Decide leaver) h nodes = call_tells w 1 (states.Decide leaver) h.luck nodes
   acted_tells w (Check q) h nodes = call_tells w q states.Checkpoint h.luck nodes
+  acted_tells w (Show watcher) h nodes = call_tells w 1 (states.Show watcher) h.luck nodes
+  acted_tells w (Hear number watcher) h nodes = hear_tells w watcher (slice_get w.said number)
+  acted_tells w (Seen watcher) h nodes = watcher_tells w _ watcher (Spoken (seen_by_watcher rules room w watcher)) refl (λ mode. refl)
+  acted_tells w (Fresh watcher) h nodes = watcher_tells w (with_rows w watcher []) watcher Anew refl (λ mode. refl)
 
   -- a stop takes its player away, and no other
   crash_tells : (w u : World) (q : ℕ) (leaves : Bool) (answer : Answer) → length u.peers ≡ rules.players → Tells w q (record { answer = answer; world = u })
@@ -151,6 +164,9 @@ reported_mode rules q u mode IsUp = refl
 reported_mode rules q u mode IsDown = refl
 reported_mode rules q u mode NoSuch = refl
 reported_mode rules q u mode Stopped = refl
+reported_mode rules q u mode (Watched result) = refl
+reported_mode rules q u mode (Spoken packet) = refl
+reported_mode rules q u mode Anew = refl
 
 reported_down : (rules : Rules) (q : ℕ) (u : World) (told : Answer) → reported rules q u told ≡ answers.Down → told ≡ IsDown
 reported_down rules q u (Told (Opened result)) down = absurd (cc down)
@@ -166,6 +182,9 @@ reported_down rules q u IsUp down = absurd (cc down)
 reported_down rules q u IsDown down = refl
 reported_down rules q u NoSuch down = absurd (cc down)
 reported_down rules q u Stopped down = absurd (cc down)
+reported_down rules q u (Watched result) down = absurd (cc down)
+reported_down rules q u (Spoken packet) down = absurd (cc down)
+reported_down rules q u Anew down = absurd (cc down)
 
 module _ (laws : ArePeersLawful) (rules : Rules) (room p : ℕ) (plays : IsPlayer rules p) (range : AreInRange rules) (few : room < 2 ^ 64) where
   runs_tell : (w v : World) (events : List asked.Event) (told : List codes.Answer) → IsSound rules room w → Runs rules room w events told v → (peer_of v p).mode ≡ reported_by p (peer_of w p).mode events told
@@ -209,6 +228,10 @@ give_not_down rules w q luck (Some packet) in_game up down = call_not_down rules
 open_not_down : (rules : Rules) (room : ℕ) (w : World) (q : ℕ) (h : Happening) → is_player rules q ≡ true → (peer_of w q).mode ≡ states.Open → (open_at rules room w q h).answer ≡ IsDown → ⊥
 open_not_down rules room w q h in_game up down = let is : (open_at rules room w q h).answer ≡ IsUp = rw (in_game, up) refl in let never : IsUp ≡ IsDown = sym is ∙ down in absurd cc
 
+hear_not_down : (rules : Rules) (room : ℕ) (w : World) (watcher : ℕ) (o : Option Packet) → (hear_at rules room w watcher o).answer ≡ IsDown → ⊥
+hear_not_down rules room w watcher None down = absurd cc
+hear_not_down rules room w watcher (Some packet) down = absurd cc
+
 acted_not_down : (rules : Rules) (room : ℕ) (w : World) (act : Act) (h : Happening) → is_player rules (player_of act) ≡ true → (peer_of w (player_of act)).mode ≡ states.Open → (acted rules room w act h).answer ≡ IsDown → ⊥
 unfolding acted
 acted_not_down rules room w (Open q) h in_game up down = open_not_down rules room w q h in_game up down
@@ -218,6 +241,10 @@ acted_not_down rules room w (Give number q) h in_game up down = give_not_down ru
 acted_not_down rules room w (Leave leaver) h in_game up down = call_not_down rules w 1 (states.Leave leaver) h.luck in_game up down
 acted_not_down rules room w (Decide leaver) h in_game up down = call_not_down rules w 1 (states.Decide leaver) h.luck in_game up down
 acted_not_down rules room w (Check q) h in_game up down = call_not_down rules w q states.Checkpoint h.luck in_game up down
+acted_not_down rules room w (Show watcher) h in_game up down = call_not_down rules w 1 (states.Show watcher) h.luck in_game up down
+acted_not_down rules room w (Hear number watcher) h in_game up down = hear_not_down rules room w watcher (slice_get w.said number) down
+acted_not_down rules room w (Seen watcher) h in_game up down = absurd cc
+acted_not_down rules room w (Fresh watcher) h in_game up down = absurd cc
 
 pub down_told : (laws : ArePeersLawful) (rules : Rules) (room : ℕ) (v u : World) (events : List Event) (answers : List Answer) (act : Act) → AreInRange rules → room < 2 ^ 64 → Chain rules room (start rules) events answers v
     → IsPlayer rules (player_of act) → CanHappen rules room v (Do act) IsDown u → mode_by (player_of act) Away events answers ≢ states.Open

@@ -8,8 +8,8 @@ use Rattle.c8_disk.specs.checked.PastLaws.{reads_image}
 use Rattle.c8_log.specs.Slots.{kept, kept_count}
 use Rattle.c8_world.specs.World.{never_opened}
 use Rattle.c8_known.specs.Journal.{Record}
-use Rattle.c8_peer.specs.declared.error.OpenError.{OpenError}
-use Rattle.c8_peer.specs.declared.error.OpenError.TheVariants as opens
+use Rattle.c8_refusals.specs.declared.error.OpenError.{OpenError}
+use Rattle.c8_refusals.specs.declared.error.OpenError.TheVariants as opens
 use Rattle.c8_peer.specs.State.{Away, State, Reply, Opened, Ticked, Delivered, Said, Left, Decided, Checked}
 use Rattle.c8_peer.specs.Opening.{Opening, NoPlayer, Stands, NotWritten, NoMemory, NotRead, Unfit, Spent, found, opened}
 use Rattle.c8_peer.specs.Peer.{Keeps}

@@ -9,8 +9,8 @@ use Rattle.c8_known.specs.Journal.{Record}
 use Rattle.c8_record.specs.Allowed.{IsJournal}
 use Rattle.c8_disk.specs.declared.error.DiskError.TheVariants.{Failed}
 use Rattle.c8_record.specs.declared.error.ReplayError.TheVariants as replays
-use Rattle.c8_peer.specs.declared.error.OpenError.{OpenError}
-use Rattle.c8_peer.specs.declared.error.OpenError.TheVariants as opens
+use Rattle.c8_refusals.specs.declared.error.OpenError.{OpenError}
+use Rattle.c8_refusals.specs.declared.error.OpenError.TheVariants as opens
 use Rattle.c8_peer.specs.State as states
 use Rattle.c8_peer.specs.State.{Mode, Down, Away, State, Reply, Opened}
 use Rattle.c8_peer.specs.Steps.{Works, Stepped}
@@ -112,6 +112,8 @@ module _ (t : TableValue) (place p : ℕ) (node : Node) (at : place + 1 ≡ p) (
       count = holds.count;
       peers = nodeed t.rules t.room p t.nodes (slice_set t.nodes place (Some node)) node w w (set_renodeed t.nodes place p node at within) holds.peers up.1 (λ q q_plays apart. refl);
       said = holds.said;
+      five = holds.five;
+      six = holds.six;
     };
   }
 
@@ -125,7 +127,7 @@ module _ (t : TableValue) (place p : ℕ) (node : Node) (at : place + 1 ≡ p) (
       placed_happens t (with_node t place node) w p (opened t.rules t.room p (peer_of w p) (found (peer_of w p) is.finds) is.opening).state [] node (Open p) (Told (Opened result)) (answers.Opened result)
       refl refl plays refl holds (can.0, λ e. had_memory (peer_of w p) (found (peer_of w p) is.finds) is.opening result is.replies other (sym can.1 ∙ e))
       (set_renodeed t.nodes place p node at within) is.node_is
-      (holds.said ∙ ap (λ (xs : List Packet). map spelling xs) (sym (append-nil w.said)))
+      (holds.said ∙ ap (λ (xs : List Packet). map spelling xs) (sym (append-nil w.said))) (refl, refl)
       (λ v here said. refl)
 
   -- want of memory is told by one opening alone, which leaves what there was
@@ -153,7 +155,7 @@ module _ (t : TableValue) (place p : ℕ) (node : Node) (at : place + 1 ≡ p) (
       let t_is : Stepped = opened t.rules t.room p s (found s is.finds) is.opening in
       let same : t_is.state ≡ s = unread_state s (found s is.finds) is.opening is.replies ∙ away_still s gone in
       let still : placed w p t_is.state [] ≡ w =
-      ap (λ (xs : List Packet). record { peers = slice_set w.peers (p - 1) t_is.state; said = xs }) (append-nil w.said)
+      ap (λ (xs : List Packet). record w { peers = slice_set w.peers (p - 1) t_is.state; said = xs }) (append-nil w.said)
       ∙ ap (λ (x : State). with_peer w p x) same ∙ ap (λ (xs : List State). record w { peers = xs }) (set-get_or w.peers (p - 1) never_opened) in
       record {
         world = w;
@@ -167,6 +169,8 @@ module _ (t : TableValue) (place p : ℕ) (node : Node) (at : place + 1 ≡ p) (
           peers = nodeed t.rules t.room p t.nodes (slice_set t.nodes place (Some node)) node w w (set_renodeed t.nodes place p node at within) holds.peers
               (subst (λ (x : State). IsNode t.rules t.room p node x) same is.node_is) (λ q q_plays apart. refl);
           said = holds.said;
+          five = holds.five;
+          six = holds.six;
         };
       }
   unopened_at Down down is =
@@ -176,9 +180,9 @@ module _ (t : TableValue) (place p : ℕ) (node : Node) (at : place + 1 ≡ p) (
       let can = (opened_can t.rules t.room w p is.finds is.opening (Err opens.Memory) plays is.not_open is.may is.replies).0 in
       let reached = reached_more t.rules t.room w (placed w p t_is.state []) (Do (Open p)) (Told (Opened (Err opens.Memory))) holds.reached can in
       let now = placed_holds t (with_node t place node) w p t_is.state [] node refl refl plays holds reached (set_renodeed t.nodes place p node at within) is.node_is
-      (holds.said ∙ ap (λ (xs : List Packet). map spelling xs) (sym (append-nil w.said))) in
+      (holds.said ∙ ap (λ (xs : List Packet). map spelling xs) (sym (append-nil w.said))) (refl, refl) in
       let quiet : placed w p t_is.state [] ≡ with_peer w p (away s s.journal s.pending) =
-      ap (λ (xs : List Packet). record { peers = slice_set w.peers (p - 1) t_is.state; said = xs }) (append-nil w.said) ∙ ap (λ (x : State). with_peer w p x) same in
+      ap (λ (xs : List Packet). record w { peers = slice_set w.peers (p - 1) t_is.state; said = xs }) (append-nil w.said) ∙ ap (λ (x : State). with_peer w p x) same in
       record {
         world = with_peer w p (away s s.journal s.pending);
         takes = tt;
@@ -212,6 +216,9 @@ opened_by t place p at within plays w holds answers.NoSuch (Some node) is = absu
 opened_by t place p at within plays w holds (answers.Left result) (Some node) is = absurd is
 opened_by t place p at within plays w holds (answers.Decided result) (Some node) is = absurd is
 opened_by t place p at within plays w holds (answers.Checked result) (Some node) is = absurd is
+opened_by t place p at within plays w holds (answers.Watched result) (Some node) is = absurd is
+opened_by t place p at within plays w holds (answers.Spoken posted) (Some node) is = absurd is
+opened_by t place p at within plays w holds answers.Anew (Some node) is = absurd is
 opened_by t place p at within plays w holds answers.Down (Some node) is = absurd is
 opened_by t place p at within plays w holds answers.Stopped (Some node) is = absurd is
 

@@ -1,10 +1,10 @@
 -- What holds of every world that some list of events leads to.
-use Rattle.std.proofs.Common.{◌≡◌, ◌≢◌, ℕ, zero, suc, ◌<◌, ◌≤◌, ◌^◌, inl, inr, ⊎_elim, List, [], ◌∷◌, ◌++◌, length, true, false, None, refl, sym, ap, subst, ◌∙◌, arith}
-use Rattle.std.proofs.lemmas.Bool.{cases_eq}
+use Rattle.std.proofs.Common.{◌≡◌, ◌≢◌, ℕ, zero, suc, ◌<◌, ◌≤◌, ◌^◌, inl, inr, ⊎_elim, List, [], ◌∷◌, ◌++◌, length, true, false, None, refl, sym, ap, subst, ◌∙◌, arith, Option, Some}
+use Rattle.std.proofs.lemmas.Bool.{cases_eq, leb-true, and_parts, both_ways}
 use Rattle.c8_game.specs.Rules.{Rules, AreInRange}
-use Rattle.c8_wire.specs.Packet.{Packet}
+use Rattle.c8_wire.specs.Packet.{Packet, IsPacket}
 use Rattle.c8_wire.specs.Spelling.{spelling, Spells}
-use Rattle.c8_hand.specs.Links.{link_to}
+use Rattle.c8_hand.specs.Links.{link_to, LinkValue, LinksValue}
 use Rattle.c8_known.specs.Journal.{Record, held, had_epoch, has_freeze, has_leave}
 use Rattle.c8_known.specs.Known.{known_of}
 use Rattle.c8_known.specs.Confirmed.{confirmed, rows_below}
@@ -14,10 +14,15 @@ use Rattle.c8_peer.specs.Opening.{found, away}
 use Rattle.c8_peer.specs.Truth.{IsTrue}
 use Rattle.c8_world.specs.checked.Below.{ArePeersLawful}
 use Rattle.c8_world.specs.World.{World, start, peer_of, journal_of, with_peer, Event, Answer, Chain, IsReached}
-use Rattle.c8_world.specs.Agreement.{IsPlayer, NobodyLeaves, AreSameUpTo, AgreeUpTo, Agree, AreEntered, IsBounded, AreReports, HasFrozen, Reads, read_by, AgreeByReads, IsAmong, AreLinked}
+use Rattle.c8_world.specs.Agreement.{IsPlayer, NobodyLeaves, AreSameUpTo, AgreeUpTo, Agree, AreEntered, IsBounded, AreReports, HasFrozen, Reads, read_by, AgreeByReads, IsAmong, AreLinked, IsTrueSaid, IsTrueBy, HasTrueRows}
 use Rattle.c8_world.proofs.Journals.{AreSound, has_freeze_at, player_one}
 use Rattle.c8_world.proofs.Moments.{bounded_at, rows_agree, same_up_to, moments_agree, confirmed_entered}
 use Rattle.c8_world.proofs.Worlds.{IsSound, peer_here, peer_there, crash_sound, chain_sound, start_sound}
+use Rattle.c8_world.proofs.Events.{IsTold}
+use Rattle.c8_peer.specs.Hearing.{seen_in}
+use Rattle.c8_world.proofs.Replies.{seen_seats}
+use Rattle.c8_hand.specs.checked.LinkLaws.{link_past}
+use Rattle.std.specs.Prelude.{nat_le}
 
 pub reached_sound : (laws : ArePeersLawful) (rules : Rules) (room : ℕ) (w : World) → AreInRange rules → room < 2 ^ 64 → IsReached rules room w → IsSound rules room w
 reached_sound laws rules room w range few is = (chain_sound laws rules room (start rules) w is.events is.answers range few (start_sound rules room range) is.chain).sound
@@ -27,20 +32,38 @@ reached_sound laws rules room w range few is = (chain_sound laws rules room (sta
 pub begins_own : (laws : ArePeersLawful) (rules : Rules) (room : ℕ) (w : World) (p q : ℕ) → AreInRange rules → room < 2 ^ 64 → IsReached rules room w → IsPlayer rules p → IsPlayer rules q → Begins (held rules q (journal_of w p)) (held rules q (journal_of w q))
 begins_own laws rules room w p q range few is plays q_plays = (reached_sound laws rules room w range few is).journals.begins p q plays q_plays
 
-pub said_holds : (laws : ArePeersLawful) (rules : Rules) (room : ℕ) (w : World) (packet : Packet) → AreInRange rules → room < 2 ^ 64 → IsReached rules room w → IsAmong w.said packet → IsTrue rules packet.head.from (journal_of w packet.head.from) packet
-said_holds laws rules room w packet range few is among = ((reached_sound laws rules room w range few is).said packet among).true_now
+holds_by : (rules : Rules) (w : World) (packet : Packet) (heard : Option ℕ) → IsTold rules (journal_of w) packet heard → IsTrueBy rules w packet heard
+holds_by rules w packet None told = told.1
+holds_by rules w packet (Some rows) told = told
+
+-- a watcher has true rows
+pub rows_true : (laws : ArePeersLawful) (rules : Rules) (room : ℕ) (w : World) (watcher : ℕ) → AreInRange rules → room < 2 ^ 64 → IsReached rules room w → HasTrueRows rules w watcher
+rows_true laws rules room w watcher range few is = (reached_sound laws rules room w range few is).watched watcher
+
+pub said_holds : (laws : ArePeersLawful) (rules : Rules) (room : ℕ) (w : World) (packet : Packet) → AreInRange rules → room < 2 ^ 64 → IsReached rules room w → IsAmong w.said packet → IsTrueSaid rules w packet
+said_holds laws rules room w packet range few is among = holds_by rules w packet (seen_in packet.message) ((reached_sound laws rules room w range few is).said packet among).told
 
 pub said_spells : (laws : ArePeersLawful) (rules : Rules) (room : ℕ) (w : World) (packet : Packet) → AreInRange rules → room < 2 ^ 64 → IsReached rules room w → IsAmong w.said packet → Spells (spelling packet) packet
 said_spells laws rules room w packet range few is among = record { packet = ((reached_sound laws rules room w range few is).said packet among).spelled; spelled = refl }
+
+-- who has an open link is no watcher, so that its journal has had the epoch of what it said
+had_by : (rules : Rules) (w : World) (packet : Packet) (heard : Option ℕ) (l : LinksValue) → seen_in packet.message ≡ heard → IsTold rules (journal_of w) packet heard → IsPacket packet → (link_to l packet.head.from).is_open ≡ true
+    → had_epoch packet.head.sender_epoch (journal_of w packet.head.from) ≡ true
+had_by rules w packet None l seen told spelled opens = told.1.epoch
+had_by rules w packet (Some rows) l seen told spelled opens =
+    let from = leb-true 5 packet.head.from (and_parts (nat_le 5 packet.head.from) (nat_le packet.head.from 6) (seen_seats packet rows spelled seen).0).0 in
+    let none : (link_to l packet.head.from).is_open ≡ false = ap (λ (link : LinkValue). link.is_open) (link_past l packet.head.from (omega (arith, from))) in
+    absurd (both_ways (link_to l packet.head.from).is_open none opens)
 
 pub links_name : (laws : ArePeersLawful) (rules : Rules) (room : ℕ) (w : World) (p q : ℕ) → AreInRange rules → room < 2 ^ 64 → IsReached rules room w → IsPlayer rules p → AreLinked w p q
 links_name laws rules room w p q range few is plays here opens =
     let sound = reached_sound laws rules room w range few is in
     let n = ((sound.peers p plays).awake here).links q opens in
-    let told = (sound.said n.packet n.among).true_now in
+    let told = sound.said n.packet n.among in
     let number : ℕ = (link_to (peer_of w p).memory.links q).known in
     record {
-      had = subst (λ (x : ℕ). had_epoch number (journal_of w x) ≡ true) n.from (subst (λ (x : ℕ). had_epoch x (journal_of w n.packet.head.from) ≡ true) n.sender_epoch told.epoch);
+      had = subst (λ (x : ℕ). had_epoch number (journal_of w x) ≡ true) n.from (subst (λ (x : ℕ). had_epoch x (journal_of w n.packet.head.from) ≡ true) n.sender_epoch
+          (had_by rules w n.packet (seen_in n.packet.message) (peer_of w p).memory.links refl told.told told.spelled (subst (λ (x : ℕ). (link_to (peer_of w p).memory.links x).is_open ≡ true) (sym n.from) opens)));
       named = n;
     }
 

@@ -7,14 +7,14 @@ use Rattle.std.proofs.lemmas.List.{append-nil}
 use Rattle.c8_game.specs.Rules.{Rules}
 use Rattle.c8_known.specs.Journal.{Record, Head, Epoch, Own, Got, Freeze, Leave, Cut, State, Check, player_of, words_of, cuts_of, held, count, has_freeze, has_leave, cut_of}
 use Rattle.c8_known.specs.Known.{PlayerValue, KnownValue, player_in, count_in, said_of, known_of}
-use Rattle.c8_known.specs.Growth.{Begins}
+use Rattle.c8_known.specs.Growth.{Begins, Stands}
 use Rattle.c8_known.specs.checked.BeginsLaws.{begins_fresh}
 use Rattle.c8_known.specs.checked.OneMore.{player_known}
 use Rattle.c8_known.specs.checked.StartLaws.{players_known}
 use Rattle.c8_record.specs.Allowed.{IsAllowed, IsOrderly}
 use Rattle.c8_record.specs.checked.LeaverLaws.{journal_orderly}
 use Rattle.c8_peer.specs.checked.TruthLaws.{stands_longer}
-use Rattle.c8_peer.specs.Truth.{Stands, IsFrozenAt}
+use Rattle.c8_peer.specs.Truth.{IsFrozenAt}
 use Rattle.c8_world.specs.Agreement.{IsPlayer}
 use Rattle.c8_world.proofs.Journals.{AreSound, MayAdd, Fits}
 

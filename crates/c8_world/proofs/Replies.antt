@@ -1,13 +1,16 @@
 -- What a call of an open peer never answers.
-use Rattle.std.proofs.Common.{◌≡◌, ◌≢◌, ℕ, ◌+◌, ◌≤◌, List, [], ◌∷◌, length, false, not, Option, Some, None, Result, Ok, Err, refl, sym, ap, subst, ◌∙◌, arith}
+use Rattle.c8_known.specs.Growth.{Stands}
+use Rattle.std.proofs.Common.{◌≡◌, ◌≢◌, ℕ, ◌+◌, ◌≤◌, List, [], ◌∷◌, length, false, not, Option, Some, None, Result, Ok, Err, refl, sym, ap, subst, ◌∙◌, arith, true}
 use Rattle.std.specs.Prelude.{◌==◌, ◌||◌, nat_lt, nat_le, is_some}
-use Rattle.std.proofs.lemmas.Bool.{both_ways, ltb-true, eq-eqb, or_parts, not-false}
+use Rattle.std.proofs.lemmas.Bool.{both_ways, ltb-true, eq-eqb, or_parts, not-false, eqb-true, and_parts}
 use Rattle.c8_game.specs.Rules.{Rules, AreInRange}
-use Rattle.c8_wire.specs.Packet.{HeadValue, DataMessage, FreezeMessage, LeaverMessage, Message, Packet}
+use Rattle.c8_wire.specs.declared.kinds.DatagramKind.{DatagramKind}
+use Rattle.c8_wire.specs.declared.kinds.DatagramKind.TheVariants as kinds
+use Rattle.c8_wire.specs.Packet.{HeadValue, DataMessage, FreezeMessage, LeaverMessage, Message, Packet, IsPacket, kind_of}
 use Rattle.c8_wire.specs.Packet as packets
 use Rattle.c8_hand.specs.declared.error.HandError.{HandError}
 use Rattle.c8_hand.specs.Links as links
-use Rattle.c8_hand.specs.checked.LinkLaws.{is_for_me}
+use Rattle.c8_hand.specs.checked.LinkLaws.{is_for_me, admitted_seen}
 use Rattle.c8_known.specs.declared.error.KnownError.{KnownError}
 use Rattle.c8_known.specs.declared.error.KnownError.TheVariants as knowns
 use Rattle.c8_known.specs.Journal.{Record, held, count, has_leave, cut_of}
@@ -17,27 +20,29 @@ use Rattle.c8_known.specs.Fresh.{is_from_leaver, misfit, fresh_words}
 use Rattle.c8_round.specs.Round.{is_ready}
 use Rattle.c8_check.specs.Checks.{Pieces, frames_of}
 use Rattle.c8_peer.specs.Told.{Told, told_of}
-use Rattle.c8_peer.specs.declared.error.Refused.{Refused}
-use Rattle.c8_peer.specs.declared.error.Refused.TheVariants as refusals
-use Rattle.c8_peer.specs.declared.error.TickError.{TickError}
-use Rattle.c8_peer.specs.declared.error.Unsayable.{Unsayable}
-use Rattle.c8_peer.specs.declared.error.LeaveError.{LeaveError}
-use Rattle.c8_peer.specs.declared.error.DecideError.{DecideError}
-use Rattle.c8_peer.specs.declared.error.CheckError.{CheckError}
+use Rattle.c8_refusals.specs.declared.error.Refused.{Refused}
+use Rattle.c8_refusals.specs.declared.error.Refused.TheVariants as refusals
+use Rattle.c8_refusals.specs.declared.error.TickError.{TickError}
+use Rattle.c8_refusals.specs.declared.error.Unsayable.{Unsayable}
+use Rattle.c8_refusals.specs.declared.error.LeaveError.{LeaveError}
+use Rattle.c8_refusals.specs.declared.error.DecideError.{DecideError}
+use Rattle.c8_refusals.specs.declared.error.CheckError.{CheckError}
 use Rattle.c8_peer.specs.declared.check.Check.{Check}
 use Rattle.c8_peer.specs.declared.heard.Heard.{Heard}
-use Rattle.c8_peer.specs.State.{Memory, Saying, Call, Tick, Deliver, Say, Leave, Decide, Checkpoint, Reply, Ticked, Delivered, Said, Left, Decided, Checked, Outcome}
+use Rattle.c8_peer.specs.State.{Memory, Saying, Call, Tick, Deliver, Say, Show, Leave, Decide, Checkpoint, Reply, Ticked, Delivered, Said, Left, Decided, Checked, Outcome}
 use Rattle.c8_peer.specs.Calls.{tick, leave, decide, next_piece, checkpoint}
-use Rattle.c8_peer.specs.Hearing.{is_of_other_wire, refused, unless_misfit, got, is_desync, hear_data, hear_welcome, hear_freeze, hear_frozen, hear_end, hear_cut, hear_message, unless_hand, deliver}
-use Rattle.c8_peer.specs.Saying.{is_not_mine, lacks_record, lacks_link, say}
+use Rattle.c8_peer.specs.Hearing.{is_of_other_wire, refused, unless_misfit, got, is_desync, hear_data, hear_welcome, hear_freeze, hear_frozen, hear_end, hear_cut, hear_message, hear_seen, hear_from, seen_in, unless_hand, deliver}
+use Rattle.c8_peer.specs.Saying.{is_not_mine, lacks_record, lacks_link, say, show}
 use Rattle.c8_peer.specs.Steps.{outcome}
-use Rattle.c8_peer.specs.Truth.{Stands, IsTrueMark, IsTrueMessage}
+use Rattle.c8_peer.specs.Truth.{IsTrueMark, IsTrueMessage}
 use Rattle.c8_world.specs.Agreement.{IsPlayer}
 use Rattle.c8_world.proofs.Journals.{AreSound}
 use Rattle.c8_world.proofs.Moments.{bounded_at}
 use Rattle.c8_world.proofs.Records.{said_known, count_known, stands_entered}
-use Rattle.c8_world.proofs.Events.{IsAwake, IsSaid, IsWorldly, branch, in_game}
+use Rattle.c8_world.proofs.Events.{IsAwake, IsSaid, IsWorldly, branch, in_game, IsTold}
 use Rattle.c8_world.proofs.Calm.{no_bad_ack, no_difference, not_differs, no_desync}
+use Rattle.c8_hand.specs.Links.{LinksValue}
+use Rattle.c8_wire.specs.Seats.{are_seats, is_watcher}
 
 -- ---- what holds of each refusal
 
@@ -188,6 +193,51 @@ calm_message rules room J p m head (packets.Data d) range sound plays q_plays is
 calm_message rules room J p m head (packets.Freeze f) range sound plays q_plays is_true = calm_freeze J p head.from (known_of rules p (J p)) m f
 calm_message rules room J p m head (packets.Frozen f) range sound plays q_plays is_true = calm_frozen rules room J p head.from m f sound plays q_plays is_true.2
 calm_message rules room J p m head (packets.Cut c) range sound plays q_plays is_true = calm_cut rules room J p head.from m c range sound plays q_plays is_true.0 is_true.1 is_true.2
+calm_message rules room J p m head (packets.Show shown) range sound plays q_plays is_true = calm_other J p head.from _ (λ e. cc e) (λ e. cc e) (λ e. cc e)
+calm_message rules room J p m head (packets.Seen ack) range sound plays q_plays is_true = calm_other J p head.from _ (λ e. cc e) (λ e. cc e) (λ e. cc e)
+
+-- what a watcher says it has, player one counts as confirmed
+calm_seen : (J : ℕ → List Record) (p q : ℕ) (rules : Rules) (m : Memory) (head : HeadValue) (ack : ℕ) → ack ≤ confirmed (known_of rules p (J p)) → EndsCalmly J p q (hear_seen (known_of rules p (J p)) m head ack)
+unfolding hear_seen
+calm_seen J p q rules m head ack few =
+    branch (EndsCalmly J p q) (nat_lt (confirmed (known_of rules p (J p))) ack) _ _ (λ is. absurd (let past = ltb-true (confirmed (known_of rules p (J p))) ack is in omega (arith, past, few)))
+    (λ within. unrefused J p q _ (λ why e. cc e))
+
+seen_kind : (message : Message) (ack : ℕ) → seen_in message ≡ Some ack → kind_of message ≡ kinds.Seen
+seen_kind packets.Hello ack seen = absurd cc
+seen_kind (packets.Welcome n) ack seen = absurd cc
+seen_kind (packets.Data d) ack seen = absurd cc
+seen_kind (packets.Freeze f) ack seen = absurd cc
+seen_kind (packets.Frozen f) ack seen = absurd cc
+seen_kind (packets.Cut c) ack seen = absurd cc
+seen_kind (packets.Show m) ack seen = absurd cc
+seen_kind (packets.Seen n) ack seen = refl
+
+-- a SEEN is a watcher's to player one
+pub seen_seats : (packet : Packet) (ack : ℕ) → IsPacket packet → seen_in packet.message ≡ Some ack → (is_watcher packet.head.from ≡ true) × ((packet.head.to == 1) ≡ true)
+seen_seats packet ack spelled seen =
+    let kind : packet.head.kind ≡ kinds.Seen = spelled.kind ∙ seen_kind packet.message ack seen in
+    let seats : are_seats kinds.Seen packet.head.from packet.head.to ≡ true = ap (λ (k : DatagramKind). are_seats k packet.head.from packet.head.to) (sym kind) ∙ spelled.head.seats in
+    and_parts (is_watcher packet.head.from) (packet.head.to == 1) seats
+
+to_one : (l : LinksValue) (packet : Packet) (ack : ℕ) → IsPacket packet → seen_in packet.message ≡ Some ack → links.refusal_of_seen l packet.head ≡ None → l.me ≡ 1
+to_one l packet ack spelled seen admitted =
+    let to = eqb-true packet.head.to 1 (seen_seats packet ack spelled seen).1 in
+    sym (admitted_seen l packet.head admitted) ∙ to
+
+calm_from : (rules : Rules) (room : ℕ) (J : ℕ → List Record) (said : List Packet) (p : ℕ) (m : Memory) (packet : Packet) (heard_rows : Option ℕ) → AreInRange rules → AreSound rules room J → IsPlayer rules p → IsAwake rules room J said p m
+    → IsTold rules J packet heard_rows → IsPacket packet → seen_in packet.message ≡ heard_rows → EndsCalmly J p packet.head.from (hear_from rules (told_of rules p (J p)) (known_of rules p (J p)) m packet heard_rows)
+calm_from rules room J said p m packet (Some ack) range sound plays awake told spelled seen =
+    let q : ℕ = packet.head.from in
+    unless_hand_calm (EndsCalmly J p q) m (links.refusal_of_seen m.links packet.head) _ (λ error. calm_other J p q _ (λ e. cc e) (λ e. cc e) (λ e. cc e)) (λ admitted.
+    let one : p ≡ 1 = sym awake.lawful.player ∙ to_one m.links packet ack spelled seen admitted in
+    calm_seen J p q rules m packet.head ack (subst (λ (x : ℕ). ack ≤ confirmed (known_of rules x (J x))) (sym one) told))
+calm_from rules room J said p m packet None range sound plays awake told spelled seen =
+    let q : ℕ = packet.head.from in
+    unless_hand_calm (EndsCalmly J p q) m (links.refusal m.links packet.head) _ (λ error. calm_other J p q _ (λ e. cc e) (λ e. cc e) (λ e. cc e)) (λ admitted.
+    let mine : packet.head.to ≡ p = (is_for_me m.links packet.head admitted).to ∙ awake.lawful.player in
+    calm_message rules room J p m packet.head packet.message range sound plays told.0
+    (subst (λ (to : ℕ). IsTrueMessage rules q to (J q) packet.message) mine told.1.message))
 
 calm_delivery : (rules : Rules) (room : ℕ) (J : ℕ → List Record) (said : List Packet) (p : ℕ) (m : Memory) (packet : Packet) → AreInRange rules → AreSound rules room J → IsPlayer rules p → IsAwake rules room J said p m → IsSaid rules J packet
     → EndsCalmly J p packet.head.from (deliver rules (told_of rules p (J p)) (known_of rules p (J p)) m (Ok packet))
@@ -197,10 +247,7 @@ calm_delivery rules room J said p m packet range sound plays awake is_said =
     let k : KnownValue = known_of rules p (J p) in
     branch P (player_in k k.me).leaving _ _ (λ is. calm_other J p q _ (λ e. cc e) (λ e. cc e) (λ e. cc e)) (λ stays.
     branch P (is_of_other_wire rules packet.head) _ _ (λ is. calm_other J p q _ (λ e. cc e) (λ e. cc e) (λ e. cc e)) (λ own.
-    unless_hand_calm P m (links.refusal m.links packet.head) _ (λ error. calm_other J p q _ (λ e. cc e) (λ e. cc e) (λ e. cc e)) (λ admitted.
-    let mine : packet.head.to ≡ p = (is_for_me m.links packet.head admitted).to ∙ awake.lawful.player in
-    calm_message rules room J p m packet.head packet.message range sound plays is_said.from
-    (subst (λ (to : ℕ). IsTrueMessage rules q to (J q) packet.message) mine is_said.true_now.message))))
+    calm_from rules room J said p m packet (seen_in packet.message) range sound plays awake is_said.told is_said.spelled refl))
 
 -- ---- the other calls
 
@@ -243,6 +290,12 @@ calm_say J p q rules t k m to what =
     branch P (lacks_record k what) _ _ (λ is. told _) (λ kept.
     branch P (lacks_link m to what) _ _ (λ is. told _) (λ linked. told _)))))
 
+calm_show : (J : ℕ → List Record) (p q : ℕ) (k : KnownValue) (m : Memory) (watcher : ℕ) → EndsCalmly J p q (show k m watcher)
+unfolding show
+calm_show J p q k m watcher =
+    let told = λ (result : Result Packet Unsayable). unrefused J p q (Said result) (λ why e. cc e) in
+    branch (EndsCalmly J p q) (k.me == 1) _ _ (λ is. told _) (λ other. told _)
+
 calm_piece : (J : ℕ → List Record) (p q : ℕ) (t : Told) (k : KnownValue) (m : Memory) (o : Option Pieces) → EndsCalmly J p q (next_piece t k m o)
 calm_piece J p q t k m None =
     let told = λ (result : Result Check CheckError). unrefused J p q (Checked result) (λ why e. cc e) in
@@ -265,6 +318,7 @@ teller_of (Tick keys) = 0
 teller_of (Deliver (Ok packet)) = packet.head.from
 teller_of (Deliver (Err error)) = 0
 teller_of (Say to what) = 0
+teller_of (Show watcher) = 0
 teller_of (Leave leaver) = 0
 teller_of (Decide leaver) = 0
 teller_of Checkpoint = 0
@@ -275,6 +329,7 @@ calm_call rules room J said p m (Tick keys) range sound plays awake worldly = ca
 calm_call rules room J said p m (Deliver (Ok packet)) range sound plays awake worldly = calm_delivery rules room J said p m packet range sound plays awake worldly.1
 calm_call rules room J said p m (Deliver (Err error)) range sound plays awake worldly = absurd worldly
 calm_call rules room J said p m (Say to what) range sound plays awake worldly = calm_say J p 0 rules (told_of rules p (J p)) (known_of rules p (J p)) m to what
+calm_call rules room J said p m (Show watcher) range sound plays awake worldly = calm_show J p 0 (known_of rules p (J p)) m watcher
 calm_call rules room J said p m (Leave leaver) range sound plays awake worldly = calm_leave J p 0 (known_of rules p (J p)) m leaver
 calm_call rules room J said p m (Decide leaver) range sound plays awake worldly = calm_decide J p 0 (known_of rules p (J p)) m leaver
 calm_call rules room J said p m Checkpoint range sound plays awake worldly = calm_checkpoint J p 0 (told_of rules p (J p)) (known_of rules p (J p)) m

@@ -18,18 +18,19 @@ use Rattle.c8_known.specs.Fresh.{is_from_leaver, misfit, fresh_words}
 use Rattle.c8_known.specs.checked.BeginsLaws.{begins_same, begin_one}
 use Rattle.c8_digest.specs.Marks.{mark_at}
 use Rattle.c8_window.specs.Window.{acked_more}
-use Rattle.c8_peer.specs.declared.error.Refused.TheVariants as refusals
+use Rattle.c8_refusals.specs.declared.error.Refused.TheVariants as refusals
 use Rattle.c8_peer.specs.Told.{Told, told_of}
 use Rattle.c8_peer.specs.State as states
 use Rattle.c8_peer.specs.State.{Memory, Mode, Down, Away, State, Call, Outcome}
 use Rattle.c8_peer.specs.Steps.{outcome, Luck, done, at_mode}
-use Rattle.c8_peer.specs.Hearing.{is_of_other_wire, refused, unless_misfit, got, differs_from, is_desync, hear_data, hear_message, unless_hand, deliver}
+use Rattle.c8_peer.specs.Hearing.{is_of_other_wire, refused, unless_misfit, got, differs_from, is_desync, hear_data, hear_message, unless_hand, deliver, hear_from, seen_in}
 use Rattle.c8_peer.specs.Opening.{Opening, NoPlayer, Stands, NotWritten, NoMemory, NotRead, Unfit, Spent, found, MayBecome, last_epoch}
 use Rattle.c8_world.specs.checked.Below.{ArePeersLawful}
-use Rattle.c8_world.specs.World.{World, is_player, peer_of, journal_of, Act, Open, Tick, Say, Give, Leave, Decide, Event, Do, Stop, player_of, Happening, Answer, IsDown, NoSuch, Stopped, After, stepped, call_at_mode, give_to, acted, crashed, after, MayAct, act_inside, Chain, Check}
+use Rattle.c8_world.specs.World.{World, is_player, peer_of, journal_of, Act, Open, Tick, Say, Give, Leave, Decide, Event, Do, Stop, player_of, Happening, Answer, IsDown, NoSuch, Stopped, After, stepped, call_at_mode, give_to, acted, crashed, after, MayAct, act_inside, Chain, Check, Show, Hear, Seen, Fresh}
 use Rattle.c8_world.specs.Agreement.{IsPlayer}
 use Rattle.c8_world.specs.Matches.{Line, events_of, answers_of, Leads}
 use Rattle.c8_world.proofs.Worlds.{IsSound, plays_if, after_sound}
+use Rattle.c8_wire.specs.Seats.{is_watcher}
 
 -- ---- a delivery where the session is the own one and no machine differs
 
@@ -58,12 +59,18 @@ message_here rules t k m head (packets.Data d) = data_here k m head.from d
 message_here rules t k m head (packets.Freeze f) = hear_message rules t k m head (packets.Freeze f)
 message_here rules t k m head (packets.Frozen f) = hear_message rules t k m head (packets.Frozen f)
 message_here rules t k m head (packets.Cut c) = hear_message rules t k m head (packets.Cut c)
+message_here rules t k m head (packets.Show shown) = hear_message rules t k m head (packets.Show shown)
+message_here rules t k m head (packets.Seen ack) = hear_message rules t k m head (packets.Seen ack)
+
+abbrev pub from_here : Rules → Told → KnownValue → Memory → Packet → Option ℕ → Outcome
+from_here rules t k m packet (Some ack) = hear_from rules t k m packet (Some ack)
+from_here rules t k m packet None = unless_hand m (refusal_here m.links packet.head) (message_here rules t k m packet.head packet.message)
 
 abbrev pub deliver_here : Rules → Told → KnownValue → Memory → Packet → Outcome
 deliver_here rules t k m packet =
     if (player_in k k.me).leaving then refused m refusals.Dropped
     else (if is_of_other_wire rules packet.head then refused m refusals.OtherWire
-    else unless_hand m (refusal_here m.links packet.head) (message_here rules t k m packet.head packet.message))
+    else from_here rules t k m packet (seen_in packet.message))
 
 -- ---- what has to be the same
 
@@ -79,6 +86,8 @@ mark_in (packets.Data d) = Some d.mark
 mark_in (packets.Freeze f) = None
 mark_in (packets.Frozen f) = None
 mark_in (packets.Cut c) = None
+mark_in (packets.Show shown) = None
+mark_in (packets.Seen ack) = None
 
 abbrev pub mark_for : Told → Message → Option (List ℕ)
 mark_for t packets.Hello = None
@@ -87,6 +96,8 @@ mark_for t (packets.Data d) = mark_at d.mark_frame t.marks
 mark_for t (packets.Freeze f) = None
 mark_for t (packets.Frozen f) = None
 mark_for t (packets.Cut c) = None
+mark_for t (packets.Show shown) = None
+mark_for t (packets.Seen ack) = None
 
 -- those of a datagram, and the peer's own ones
 abbrev pub named_in : Packet → Marks
@@ -110,20 +121,26 @@ message_is rules t k m head (packets.Data d) same = data_is t k m head.from d (a
 message_is rules t k m head (packets.Freeze f) same = refl
 message_is rules t k m head (packets.Frozen f) same = refl
 message_is rules t k m head (packets.Cut c) same = refl
+message_is rules t k m head (packets.Show shown) same = refl
+message_is rules t k m head (packets.Seen ack) same = refl
 
 choose : (b : Bool) (x y z : Outcome) → y ≡ z → (if b then x else y) ≡ (if b then x else z)
 choose true x y z same = refl
 choose false x y z same = same
+
+from_is : (rules : Rules) (t : Told) (k : KnownValue) (m : Memory) (packet : Packet) (heard : Option ℕ) → packet.head.session ≡ m.links.session → mark_in packet.message ≡ mark_for t packet.message
+    → hear_from rules t k m packet heard ≡ from_here rules t k m packet heard
+from_is rules t k m packet (Some ack) session mark = refl
+from_is rules t k m packet None session mark =
+    ap (λ (o : Option HandError). unless_hand m o (hear_message rules t k m packet.head packet.message)) (refusal_is m.links packet.head session)
+    ∙ ap (λ (o : Outcome). unless_hand m (refusal_here m.links packet.head) o) (message_is rules t k m packet.head packet.message mark)
 
 deliver_is : (rules : Rules) (t : Told) (k : KnownValue) (m : Memory) (packet : Packet) → named_in packet ≡ own_for t m packet
     → deliver rules t k m (Ok packet) ≡ deliver_here rules t k m packet
 deliver_is rules t k m packet same =
     let session = ap (λ (t : Marks). t.session) same in
     let mark = ap (λ (t : Marks). t.mark) same in
-    choose (player_in k k.me).leaving _ _ _
-    (choose (is_of_other_wire rules packet.head) _ _ _
-    (ap (λ (o : Option HandError). unless_hand m o (hear_message rules t k m packet.head packet.message)) (refusal_is m.links packet.head session)
-    ∙ ap (λ (o : Outcome). unless_hand m (refusal_here m.links packet.head) o) (message_is rules t k m packet.head packet.message mark)))
+    choose (player_in k k.me).leaving _ _ _ (choose (is_of_other_wire rules packet.head) _ _ _ (from_is rules t k m packet (seen_in packet.message) session mark))
 
 -- ---- an event
 
@@ -146,6 +163,10 @@ acted_here rules room w (Give number p) h = give_here rules w p h.luck (slice_ge
 acted_here rules room w (Leave leaver) h = acted rules room w (Leave leaver) h
 acted_here rules room w (Decide leaver) h = acted rules room w (Decide leaver) h
 acted_here rules room w (Check p) h = acted rules room w (Check p) h
+acted_here rules room w (Show watcher) h = acted rules room w (Show watcher) h
+acted_here rules room w (Hear number watcher) h = acted rules room w (Hear number watcher) h
+acted_here rules room w (Seen watcher) h = acted rules room w (Seen watcher) h
+acted_here rules room w (Fresh watcher) h = acted rules room w (Fresh watcher) h
 
 abbrev pub after_here : Rules → ℕ → World → Event → Happening → After
 after_here rules room w (Do act) h = acted_here rules room w act h
@@ -169,6 +190,10 @@ named_by w (Give number p) = named_of (slice_get w.said number)
 named_by w (Leave leaver) = None
 named_by w (Decide leaver) = None
 named_by w (Check p) = None
+named_by w (Show watcher) = None
+named_by w (Hear number watcher) = None
+named_by w (Seen watcher) = None
+named_by w (Fresh watcher) = None
 
 abbrev pub own_by : Rules → World → Act → Option Marks
 own_by rules w (Open p) = None
@@ -178,6 +203,10 @@ own_by rules w (Give number p) = own_of rules w p (slice_get w.said number)
 own_by rules w (Leave leaver) = None
 own_by rules w (Decide leaver) = None
 own_by rules w (Check p) = None
+own_by rules w (Show watcher) = None
+own_by rules w (Hear number watcher) = None
+own_by rules w (Seen watcher) = None
+own_by rules w (Fresh watcher) = None
 
 given_is : (rules : Rules) (w : World) (p : ℕ) (luck : Luck) (packet : Packet) (mode : Mode) → (peer_of w p).mode ≡ mode
     → named_in packet ≡ own_for (told_of rules p (journal_of w p)) (peer_of w p).memory packet
@@ -209,6 +238,10 @@ acted_is rules room w (Give number p) h same = give_is rules w p h.luck (slice_g
 acted_is rules room w (Leave leaver) h same = refl
 acted_is rules room w (Decide leaver) h same = refl
 acted_is rules room w (Check p) h same = refl
+acted_is rules room w (Show watcher) h same = refl
+acted_is rules room w (Hear number watcher) h same = refl
+acted_is rules room w (Seen watcher) h same = refl
+acted_is rules room w (Fresh watcher) h same = refl
 
 after_is : (rules : Rules) (room : ℕ) (w : World) (event : Event) (h : Happening) → named_by w (act_inside event) ≡ own_by rules w (act_inside event)
     → after rules room w event h ≡ after_here rules room w event h
@@ -236,6 +269,10 @@ may_here w (Give number p) h = true
 may_here w (Leave leaver) h = true
 may_here w (Decide leaver) h = true
 may_here w (Check p) h = true
+may_here w (Show watcher) h = is_watcher watcher
+may_here w (Hear number watcher) h = is_watcher watcher
+may_here w (Seen watcher) h = is_watcher watcher
+may_here w (Fresh watcher) h = is_watcher watcher
 
 both_hold : (a b : Bool) → (not a && b) ≡ true → (a ≡ false) × (b ≡ true)
 both_hold false b is = (refl, is)
@@ -262,6 +299,10 @@ may_is rules room w (Give number p) h sound is = tt
 may_is rules room w (Leave leaver) h sound is = tt
 may_is rules room w (Decide leaver) h sound is = tt
 may_is rules room w (Check p) h sound is = tt
+may_is rules room w (Show watcher) h sound is = is
+may_is rules room w (Hear number watcher) h sound is = is
+may_is rules room w (Seen watcher) h sound is = is
+may_is rules room w (Fresh watcher) h sound is = is
 
 -- ---- a list of events
 

@@ -7,7 +7,7 @@ use Rattle.c8_game.specs.Rules.{Rules}
 use Rattle.c8_wire.specs.Packet.{Packet}
 use Rattle.c8_wire.specs.Spelling.{spelling, Spells}
 use Rattle.c8_wire.specs.checked.Read.{read}
-use Rattle.c8_peer.specs.declared.error.Unsayable.{Unsayable}
+use Rattle.c8_refusals.specs.declared.error.Unsayable.{Unsayable}
 use Rattle.c8_peer.specs.State as states
 use Rattle.c8_peer.specs.State.{State, Call, Reply, Said, Saying}
 use Rattle.c8_peer.specs.Steps.{Works, Stepped, step}
@@ -15,7 +15,7 @@ use Rattle.c8_world.specs.declared.answer.Answer as codes
 use Rattle.c8_world.specs.declared.answer.Answer.TheVariants as answers
 use Rattle.c8_world.specs.declared.answer.Posted.{Posted}
 use Rattle.c8_world.specs.declared.node.Node.{Node}
-use Rattle.c8_world.specs.World.{World, peer_of, Say, Give, Do, Told, NoSuch, give_to, acted}
+use Rattle.c8_world.specs.World.{World, peer_of, Say, Give, Do, Told, NoSuch, give_to, acted, Act}
 use Rattle.c8_world.specs.Agreement.{IsPlayer}
 use Rattle.c8_world.specs.Nodes.{IsNode, IsSaying, IsAsked}
 use Rattle.c8_world.specs.Table.{TableValue, Holds, HasHappened}
@@ -24,12 +24,12 @@ use Rattle.c8_world.proofs.TableLemmas.{CanDo, stands_is_memory, IsCallOf, same_
 -- ---- the pool
 
 -- bytes of the pool are those of the datagram of that number
-said_at : (said : List Packet) (n : ℕ) (bytes : List ℕ) → slice_get (map spelling said) n ≡ Some bytes → (packet : Packet) × (slice_get said n ≡ Some packet) × (bytes ≡ spelling packet)
+pub said_at : (said : List Packet) (n : ℕ) (bytes : List ℕ) → slice_get (map spelling said) n ≡ Some bytes → (packet : Packet) × (slice_get said n ≡ Some packet) × (bytes ≡ spelling packet)
 said_at [] n bytes is = absurd cc
 said_at (packet ∷ said) zero bytes is = (packet, refl, cc)
 said_at (packet ∷ said) (suc n) bytes is = said_at said n bytes is
 
-not_said : (said : List Packet) (n : ℕ) → length (map spelling said) ≤ n → slice_get said n ≡ None
+pub not_said : (said : List Packet) (n : ℕ) → length (map spelling said) ≤ n → slice_get said n ≡ None
 not_said [] n past = refl
 not_said (packet ∷ said) zero past = absurd (omega (arith, past))
 not_said (packet ∷ said) (suc n) past = not_said said n (omega (arith, past))
@@ -43,35 +43,39 @@ say_call p to what rules room w = record { by = refl; is = λ h. refl; may = λ 
 abbrev pub with_said : TableValue → List ℕ → TableValue
 with_said t bytes = record t { pool = t.pool ++ bytes ∷ [] }
 
-module _ (t : TableValue) (p to : ℕ) (what : Saying) (node : Node) (plays : IsPlayer t.rules p) (w : World) (holds : Holds t w)
+-- an act is a call by which a player says something
+abbrev pub IsSayingOf : Act → ℕ → Call → Type 0
+IsSayingOf act p call = (rules : Rules) (room : ℕ) (w : World) → IsCallOf rules room w act p call
+
+module _ (t : TableValue) (p : ℕ) (act : Act) (call : Call) (is_call : IsSayingOf act p call) (node : Node) (plays : IsPlayer t.rules p) (w : World) (holds : Holds t w)
     (at : slice_index_or t.nodes (p - 1) None ≡ Some node) (is_node : IsNode t.rules t.room p node (peer_of w p)) where
   -- the step of a saying leaves the state
-  said_state : (reply : Reply) → step t.rules p (peer_of w p) (states.Say to what) Works ≡ record { reply = reply; state = peer_of w p }
-      → IsNode t.rules t.room p node (step t.rules p (peer_of w p) (states.Say to what) Works).state
+  said_state : (reply : Reply) → step t.rules p (peer_of w p) call Works ≡ record { reply = reply; state = peer_of w p }
+      → IsNode t.rules t.room p node (step t.rules p (peer_of w p) call Works).state
   said_state reply is = subst (λ (x : State). IsNode t.rules t.room p node x) (sym (ap (λ (x : Stepped). x.state) is)) is_node
 
-  unsaid_happens : (error : Unsayable) → (peer_of w p).mode ≡ states.Open → step t.rules p (peer_of w p) (states.Say to what) Works ≡ record { reply = Said (Err error); state = peer_of w p }
-      → HasHappened t w (Do (Say p to what)) (answers.Said (Err error)) t
+  unsaid_happens : (error : Unsayable) → (peer_of w p).mode ≡ states.Open → step t.rules p (peer_of w p) call Works ≡ record { reply = Said (Err error); state = peer_of w p }
+      → HasHappened t w (Do act) (answers.Said (Err error)) t
   unsaid_happens error up is =
-      let call = say_call p to what t.rules t.room w in
-      placed_happens t t w p (step t.rules p (peer_of w p) (states.Say to what) Works).state [] node (Say p to what) (Told (Said (Err error))) (answers.Said (Err error)) refl refl plays refl holds
-      (replied_can t.rules t.room w p (Say p to what) (states.Say to what) (Said (Err error)) plays call up (ap (λ (x : Stepped). x.reply) is))
+      let does = is_call t.rules t.room w in
+      placed_happens t t w p (step t.rules p (peer_of w p) call Works).state [] node act (Told (Said (Err error))) (answers.Said (Err error)) refl refl plays does.by holds
+      (replied_can t.rules t.room w p act call (Said (Err error)) plays does up (ap (λ (x : Stepped). x.reply) is))
       (same_renodeed t.nodes p node at) (said_state (Said (Err error)) is)
-      (holds.said ∙ ap (λ (xs : List Packet). map spelling xs) (sym (append-nil w.said)))
+      (holds.said ∙ ap (λ (xs : List Packet). map spelling xs) (sym (append-nil w.said))) (refl, refl)
       (λ v here said. refl)
 
   said_happens : (packet : Packet) (size : ℕ) (bytes : List ℕ) → (peer_of w p).mode ≡ states.Open → Spells (take size bytes) packet → size ≤ length bytes
-      → step t.rules p (peer_of w p) (states.Say to what) Works ≡ record { reply = Said (Ok packet); state = peer_of w p }
-      → HasHappened t w (Do (Say p to what)) (answers.Said (Ok (record { number = length t.pool; length = size }))) (with_said t (take size bytes))
+      → step t.rules p (peer_of w p) call Works ≡ record { reply = Said (Ok packet); state = peer_of w p }
+      → HasHappened t w (Do act) (answers.Said (Ok (record { number = length t.pool; length = size }))) (with_said t (take size bytes))
   said_happens packet size bytes up spells fits is =
-      let call = say_call p to what t.rules t.room w in
+      let does = is_call t.rules t.room w in
       let same : length t.pool ≡ length w.said = ap (λ (xs : List (List ℕ)). length xs) holds.said ∙ length-map w.said spelling in
       let long : size ≡ length (spelling packet) = sym (length-take-le size bytes fits) ∙ ap (λ (xs : List ℕ). length xs) spells.spelled in
-      placed_happens t (with_said t (take size bytes)) w p (step t.rules p (peer_of w p) (states.Say to what) Works).state (packet ∷ []) node (Say p to what) (Told (Said (Ok packet)))
-      (answers.Said (Ok (record { number = length t.pool; length = size }))) refl refl plays refl holds
-      (replied_can t.rules t.room w p (Say p to what) (states.Say to what) (Said (Ok packet)) plays call up (ap (λ (x : Stepped). x.reply) is))
+      placed_happens t (with_said t (take size bytes)) w p (step t.rules p (peer_of w p) call Works).state (packet ∷ []) node act (Told (Said (Ok packet)))
+      (answers.Said (Ok (record { number = length t.pool; length = size }))) refl refl plays does.by holds
+      (replied_can t.rules t.room w p act call (Said (Ok packet)) plays does up (ap (λ (x : Stepped). x.reply) is))
       (same_renodeed t.nodes p node at) (said_state (Said (Ok packet)) is)
-      (ap (λ (xs : List (List ℕ)). xs ++ take size bytes ∷ []) holds.said ∙ ap (λ (x : List ℕ). map spelling w.said ++ x ∷ []) spells.spelled ∙ sym (map-append spelling w.said (packet ∷ [])))
+      (ap (λ (xs : List (List ℕ)). xs ++ take size bytes ∷ []) holds.said ∙ ap (λ (x : List ℕ). map spelling w.said ++ x ∷ []) spells.spelled ∙ sym (map-append spelling w.said (packet ∷ []))) (refl, refl)
       (λ v here said.
       let count : length t.pool ≡ length v.said - 1 = omega (arith, same, ap (λ (xs : List Packet). length xs) said, length-append w.said (packet ∷ [])) in
       ap (λ (x : Posted). answers.Said (Ok x)) (rw (count, long) refl))
@@ -130,40 +134,40 @@ given_happens t self number place p bytes old new x answer view at reads places 
 
 -- ---- what a player says
 
-pub say_absent : (t self : TableValue) (p to : ℕ) (what : Saying) → t ≡ self → t.rules.players < p → (w : World) → Holds self w → HasHappened self w (Do (Say p to what)) answers.Down self
-say_absent t self p to what view absent =
-    subst (λ (u : TableValue). (w : World) → Holds u w → HasHappened u w (Do (Say p to what)) answers.Down u) view
-    (λ w holds. same_happens t w (Say p to what) _ answers.Down holds (absent_can t.rules t.room w p (Say p to what) (states.Say to what) (no_player t.rules p absent) (say_call p to what t.rules t.room w)) refl)
+pub say_absent : (t self : TableValue) (p : ℕ) (act : Act) (call : Call) → IsSayingOf act p call → t ≡ self → t.rules.players < p → (w : World) → Holds self w → HasHappened self w (Do act) answers.Down self
+say_absent t self p act call is_call view absent =
+    subst (λ (u : TableValue). (w : World) → Holds u w → HasHappened u w (Do act) answers.Down u) view
+    (λ w holds. same_happens t w act _ answers.Down holds (absent_can t.rules t.room w p act call (no_player t.rules p absent) (is_call t.rules t.room w)) refl)
 
 -- what is asked of a node that is looked at
-module _ (t self : TableValue) (place p to : ℕ) (what : Saying) (node : Node) (x : Option Node) (view : t ≡ self) (places : place + 1 ≡ p) (within : place < length t.nodes)
+module _ (t self : TableValue) (place p : ℕ) (act : Act) (call : Call) (is_call : IsSayingOf act p call) (node : Node) (x : Option Node) (view : t ≡ self) (places : place + 1 ≡ p) (within : place < length t.nodes)
     (plays : IsPlayer t.rules p) (here : x ≡ slice_index_or t.nodes place x) (is : x ≡ Some node) where
-  pub silent_happens : ((rules : Rules) (room q : ℕ) (s : State) → IsNode rules room q node s → s.mode ≢ states.Open) → (w : World) → Holds self w → HasHappened self w (Do (Say p to what)) answers.Down self
+  pub silent_happens : ((rules : Rules) (room q : ℕ) (s : State) → IsNode rules room q node s → s.mode ≢ states.Open) → (w : World) → Holds self w → HasHappened self w (Do act) answers.Down self
   silent_happens down =
-      subst (λ (u : TableValue). (w : World) → Holds u w → HasHappened u w (Do (Say p to what)) answers.Down u) view
-      (λ w holds. same_happens t w (Say p to what) _ answers.Down holds
-      (down_can t.rules t.room w p (Say p to what) (states.Say to what) plays (say_call p to what t.rules t.room w) (down t.rules t.room p (peer_of w p) (node_held t place p node w places within plays x here is holds))) refl)
+      subst (λ (u : TableValue). (w : World) → Holds u w → HasHappened u w (Do act) answers.Down u) view
+      (λ w holds. same_happens t w act _ answers.Down holds
+      (down_can t.rules t.room w p act call plays (is_call t.rules t.room w) (down t.rules t.room p (peer_of w p) (node_held t place p node w places within plays x here is holds))) refl)
 
   pub refused_happens : (result : Result ℕ Unsayable) (error : Unsayable) (bytes : List ℕ) → result ≡ Err error
-      → ((rules : Rules) (room q : ℕ) (s : State) → IsNode rules room q node s → (s.mode ≡ states.Open) × IsSaying rules q s (states.Say to what) result bytes)
-      → (w : World) → Holds self w → HasHappened self w (Do (Say p to what)) (answers.Said (Err error)) self
+      → ((rules : Rules) (room q : ℕ) (s : State) → IsNode rules room q node s → (s.mode ≡ states.Open) × IsSaying rules q s call result bytes)
+      → (w : World) → Holds self w → HasHappened self w (Do act) (answers.Said (Err error)) self
   refused_happens result error bytes errs asked =
-      subst (λ (u : TableValue). (w : World) → Holds u w → HasHappened u w (Do (Say p to what)) (answers.Said (Err error)) u) view
+      subst (λ (u : TableValue). (w : World) → Holds u w → HasHappened u w (Do act) (answers.Said (Err error)) u) view
       (λ w holds.
       let nodeed = node_held t place p node w places within plays x here is holds in
       let told = asked t.rules t.room p (peer_of w p) nodeed in
-      unsaid_happens t p to what node plays w holds (held_at t place p node places within x here is) nodeed error told.0
-      (subst (λ (r : Result ℕ Unsayable). IsSaying t.rules p (peer_of w p) (states.Say to what) r bytes) errs told.1))
+      unsaid_happens t p act call is_call node plays w holds (held_at t place p node places within x here is) nodeed error told.0
+      (subst (λ (r : Result ℕ Unsayable). IsSaying t.rules p (peer_of w p) call r bytes) errs told.1))
 
   pub spoken_happens : (result : Result ℕ Unsayable) (number size most : ℕ) (bytes : List ℕ) (pool : List (List ℕ)) → result ≡ Ok size → number ≡ length t.pool → pool ≡ t.pool ++ take size bytes ∷ []
       → IfOk result (λ n. n ≤ most) → most ≤ length bytes
-      → ((rules : Rules) (room q : ℕ) (s : State) → IsNode rules room q node s → (s.mode ≡ states.Open) × IsSaying rules q s (states.Say to what) result bytes)
-      → (w : World) → Holds self w → HasHappened self w (Do (Say p to what)) (answers.Said (Ok (record { number = number; length = size }))) (record t { pool = pool })
+      → ((rules : Rules) (room q : ℕ) (s : State) → IsNode rules room q node s → (s.mode ≡ states.Open) × IsSaying rules q s call result bytes)
+      → (w : World) → Holds self w → HasHappened self w (Do act) (answers.Said (Ok (record { number = number; length = size }))) (record t { pool = pool })
   spoken_happens result number size most bytes pool oks numbered grown few long asked =
-      subst (λ (u : TableValue). (w : World) → Holds u w → HasHappened u w (Do (Say p to what)) (answers.Said (Ok (record { number = number; length = size }))) (record t { pool = pool })) view
+      subst (λ (u : TableValue). (w : World) → Holds u w → HasHappened u w (Do act) (answers.Said (Ok (record { number = number; length = size }))) (record t { pool = pool })) view
       (λ w holds.
       let nodeed = node_held t place p node w places within plays x here is holds in
       let told = asked t.rules t.room p (peer_of w p) nodeed in
-      let saying : IsSaying t.rules p (peer_of w p) (states.Say to what) (Ok size) bytes = subst (λ (r : Result ℕ Unsayable). IsSaying t.rules p (peer_of w p) (states.Say to what) r bytes) oks told.1 in
+      let saying : IsSaying t.rules p (peer_of w p) call (Ok size) bytes = subst (λ (r : Result ℕ Unsayable). IsSaying t.rules p (peer_of w p) call r bytes) oks told.1 in
       let at_most : size ≤ most = subst (λ (r : Result ℕ Unsayable). IfOk r (λ n. n ≤ most)) oks few in
-      rw (numbered, grown) (said_happens t p to what node plays w holds (held_at t place p node places within x here is) nodeed saying.0 size bytes told.0 saying.1 (omega (arith, at_most, long)) saying.2))
+      rw (numbered, grown) (said_happens t p act call is_call node plays w holds (held_at t place p node places within x here is) nodeed saying.0 size bytes told.0 saying.1 (omega (arith, at_most, long)) saying.2))

@@ -10,7 +10,7 @@ use Rattle.c8_peer.specs.Runs as runs
 use Rattle.c8_world.specs.declared.answer.Answer as codes
 use Rattle.c8_world.specs.declared.answer.Answer.TheVariants as answers
 use Rattle.c8_world.specs.declared.node.Node.{Node}
-use Rattle.c8_world.specs.World.{World, never_opened, is_player, peer_of, with_peer, Act, Open, Tick, Say, Give, Leave, Decide, player_of, Event, Do, Stop, Stopped, Happening, After, acted, crashed, MayAct, CanHappen, Check}
+use Rattle.c8_world.specs.World.{World, never_opened, is_player, peer_of, with_peer, Act, Open, Tick, Say, Give, Leave, Decide, player_of, Event, Do, Stop, Stopped, Happening, After, acted, crashed, MayAct, CanHappen, Check, Show, Hear, Seen, Fresh}
 use Rattle.c8_world.specs.Agreement.{IsPlayer}
 use Rattle.c8_world.specs.Table.{TableValue, IsTaken, node_of, IsSameMatch, Holds, HasHappened, HasNotHappened, HasCrashed}
 use Rattle.c8_world.proofs.Openings.{plays_so}
@@ -58,6 +58,8 @@ crash_happens t self place p x y view at within plays here crashes =
           (subst (λ (z : State). IsTaken t.rules t.room p y z) (sym (with_peer_here t.rules w p s holds.count plays)) left.1)
           (λ q q_plays apart. with_peer_there t.rules w p s q plays q_plays apart));
       pool = refl;
+      five = refl;
+      six = refl;
     })
 
 pub stranger_crashes : (t self : TableValue) (p : ℕ) → t ≡ self → t.rules.players < p → (w : World) → Holds self w → HasCrashed self w p self
@@ -67,6 +69,8 @@ stranger_crashes t self p view absent =
       leaves = false;
       peers = subst (λ (v : World). (q : ℕ) → IsPlayer t.rules q → IsTaken t.rules t.room q (node_of t q) (peer_of v q)) (sym (crashed_is t.rules w p false false (no_player t.rules p absent))) holds.peers;
       pool = refl;
+      five = refl;
+      six = refl;
     })
 
 -- ---- an act and then a crash
@@ -81,6 +85,10 @@ acted_same rules room w (Give number p) h leaves = refl
 acted_same rules room w (Leave leaver) h leaves = refl
 acted_same rules room w (Decide leaver) h leaves = refl
 acted_same rules room w (Check p) h leaves = refl
+acted_same rules room w (Show watcher) h leaves = refl
+acted_same rules room w (Hear number watcher) h leaves = refl
+acted_same rules room w (Seen watcher) h leaves = refl
+acted_same rules room w (Fresh watcher) h leaves = refl
 
 may_same : (rules : Rules) (room : ℕ) (w : World) (act : Act) (h : Happening) (leaves : Bool) → MayAct rules room w act h → MayAct rules room w act (record h { leaves = leaves })
 may_same rules room w (Open p) h leaves may = may
@@ -90,6 +98,10 @@ may_same rules room w (Give number p) h leaves may = may
 may_same rules room w (Leave leaver) h leaves may = may
 may_same rules room w (Decide leaver) h leaves may = may
 may_same rules room w (Check p) h leaves may = may
+may_same rules room w (Show watcher) h leaves may = may
+may_same rules room w (Hear number watcher) h leaves may = may
+may_same rules room w (Seen watcher) h leaves may = may
+may_same rules room w (Fresh watcher) h leaves may = may
 
 crashed_if : (P : World → Type 0) (b : Bool) (x w : World) → P x → P w → P (cond b x w)
 crashed_if P true x w is was = is
@@ -123,6 +135,8 @@ stop_happens old mid new w act calls pick answer holds first last one crashes =
             (one.holds.count ∙ ap (λ (r : Rules). r.players) (sym last.rules));
         peers = rw (last.rules, last.room) (rw (sym first.rules) crash.peers);
         said = crash.pool ∙ one.holds.said ∙ crashed_if (λ (x : World). map spelling one.world.said ≡ map spelling x.said) (is_player old.rules p) _ one.world refl refl;
+        five = crash.five ∙ one.holds.five ∙ crashed_if (λ (x : World). one.world.five ≡ x.five) (is_player old.rules p) _ one.world refl refl;
+        six = crash.six ∙ one.holds.six ∙ crashed_if (λ (x : World). one.world.six ≡ x.six) (is_player old.rules p) _ one.world refl refl;
       };
     }
 

@@ -66,8 +66,12 @@ nodeed rules room p old new node w v is each here there q plays =
 
 -- ---- one peer goes on
 
+-- the watchers' rows are as they were
+abbrev pub AreSameRows : TableValue → TableValue → Type 0
+AreSameRows old new = (new.five ≡ old.five) × (new.six ≡ old.six)
+
 abbrev pub placed : World → ℕ → State → List Packet → World
-placed w p s new = record { peers = slice_set w.peers (p - 1) s; said = w.said ++ new }
+placed w p s new = record w { peers = slice_set w.peers (p - 1) s; said = w.said ++ new }
 
 placed_here : (rules : Rules) (w : World) (p : ℕ) (s : State) (new : List Packet) → length w.peers ≡ rules.players → IsPlayer rules p → peer_of (placed w p s new) p ≡ s
 placed_here rules w p s new count plays =
@@ -84,8 +88,8 @@ placed_there rules w p s new q plays q_plays apart =
 -- where the node and the pool tell it, the table holds the world in which one peer has become another and something more is said
 pub placed_holds : (old new : TableValue) (w : World) (p : ℕ) (s : State) (said : List Packet) (node : Node)
     → new.rules ≡ old.rules → new.room ≡ old.room → IsPlayer old.rules p → Holds old w → IsReached old.rules old.room (placed w p s said)
-    → IsRenodeed old.nodes new.nodes p node → IsNode old.rules old.room p node s → new.pool ≡ map spelling (w.said ++ said) → Holds new (placed w p s said)
-placed_holds old new w p s said node rules_same room_same plays holds reached is node_is pool_is =
+    → IsRenodeed old.nodes new.nodes p node → IsNode old.rules old.room p node s → new.pool ≡ map spelling (w.said ++ said) → AreSameRows old new → Holds new (placed w p s said)
+placed_holds old new w p s said node rules_same room_same plays holds reached is node_is pool_is rows =
     let v : World = placed w p s said in
     let here = placed_here old.rules w p s said holds.count plays in
     record {
@@ -96,6 +100,8 @@ placed_holds old new w p s said node rules_same room_same plays holds reached is
           (nodeed old.rules old.room p old.nodes new.nodes node w v is holds.peers (subst (λ (x : State). IsNode old.rules old.room p node x) (sym here) node_is)
           (λ q q_plays apart. placed_there old.rules w p s said q plays q_plays apart)));
       said = pool_is;
+      five = rows.0 ∙ holds.five;
+      six = rows.1 ∙ holds.six;
     }
 
 -- it can happen, and memory is there
@@ -107,10 +113,10 @@ pub placed_happens : (old new : TableValue) (w : World) (p : ℕ) (s : State) (s
     → new.rules ≡ old.rules → new.room ≡ old.room → IsPlayer old.rules p → player_of act ≡ p → Holds old w
     → CanDo old.rules old.room w (Do act) told (placed w p s said)
     → IsRenodeed old.nodes new.nodes p node → IsNode old.rules old.room p node s
-    → new.pool ≡ map spelling (w.said ++ said)
+    → new.pool ≡ map spelling (w.said ++ said) → AreSameRows old new
     → ((v : World) → peer_of v p ≡ s → v.said ≡ w.said ++ said → answer ≡ reported old.rules p v told)
     → HasHappened old w (Do act) answer new
-placed_happens old new w p s said node act told answer rules_same room_same plays by holds can is node_is pool_is reports =
+placed_happens old new w p s said node act told answer rules_same room_same plays by holds can is node_is pool_is rows reports =
     let v : World = placed w p s said in
     record {
       told = told;
@@ -118,7 +124,7 @@ placed_happens old new w p s said node act told answer rules_same room_same play
       can = can.0;
       had_memory = can.1;
       reports = subst (λ (q : ℕ). answer ≡ reported old.rules q v told) (sym by) (reports v (placed_here old.rules w p s said holds.count plays) refl);
-      holds = placed_holds old new w p s said node rules_same room_same plays holds (reached_more old.rules old.room w v (Do act) told holds.reached can.0) is node_is pool_is;
+      holds = placed_holds old new w p s said node rules_same room_same plays holds (reached_more old.rules old.room w v (Do act) told holds.reached can.0) is node_is pool_is rows;
     }
 
 -- ---- one call
@@ -209,7 +215,7 @@ module _ (t : TableValue) (place p : ℕ) (node : Node) (act : Act) (call : Call
       placed_happens t (with_node t place node) w p (step t.rules p (peer_of w p) call (luck_of reply)).state (said_by reply) node act (Told reply) answer
       refl refl plays is.by holds (replied_can t.rules t.room w p act call reply plays is called.0 called.1)
       (set_renodeed t.nodes place p node at within) called.2
-      (holds.said ∙ ap (λ (xs : List Packet). map spelling xs) (sym (append-nil w.said) ∙ ap (λ (new : List Packet). w.said ++ new) (sym quiet)))
+      (holds.said ∙ ap (λ (xs : List Packet). map spelling xs) (sym (append-nil w.said) ∙ ap (λ (new : List Packet). w.said ++ new) (sym quiet))) (refl, refl)
       (λ v here said. subst (λ (x : State). answer ≡ reported_reply t.rules p x (length v.said - 1) reply) (sym here) (reports (length v.said - 1)))
 
   unasked : IsCalled t.rules t.room p (peer_of w p) call None node → HasHappened t w (Do act) answers.Down (with_node t place node)
@@ -224,6 +230,8 @@ module _ (t : TableValue) (place p : ℕ) (node : Node) (act : Act) (call : Call
       count = holds.count;
       peers = nodeed t.rules t.room p t.nodes (slice_set t.nodes place (Some node)) node w w (set_renodeed t.nodes place p node at within) holds.peers called.1 (λ q q_plays apart. refl);
       said = holds.said;
+      five = holds.five;
+      six = holds.six;
     };
   }
 
@@ -240,6 +248,9 @@ module _ (t : TableValue) (place p : ℕ) (node : Node) (act : Act) (call : Call
   asked_as (answers.Said result) asked = absurd asked
   asked_as answers.NoSuch asked = absurd asked
   asked_as answers.Stopped asked = absurd asked
+  asked_as (answers.Watched result) asked = absurd asked
+  asked_as (answers.Spoken posted) asked = absurd asked
+  asked_as answers.Anew asked = absurd asked
 
 pub taken_at : (t : TableValue) (place p : ℕ) (w : World) → place + 1 ≡ p → place < length t.nodes → IsPlayer t.rules p
     → (x : Option Node) → x ≡ slice_index_or t.nodes place x → Holds t w → IsTaken t.rules t.room p x (peer_of w p)

@@ -1,4 +1,5 @@
 -- A world is sound at its start, and every event keeps it so.
+use Rattle.c8_spectator.specs.Growth.{ShowsRowsOf}
 use Rattle.std.proofs.Common.{◌≡◌, ◌≢◌, ℕ, zero, suc, ◌-◌, ◌<◌, ◌^◌, ◌⊎◌, inl, inr, ⊎_elim, List, [], ◌∷◌, ◌++◌, length, Bool, true, false, cond, Option, Some, None, Ok, Err, refl, sym, ap, subst, ◌∙◌, arith, slice_set, slice_index_or, replicate}
 use Rattle.std.specs.Prelude.{◌==◌, nat_le, if◌then◌else◌, option_to_list}
 use Rattle.std.specs.List.{slice_get}
@@ -6,31 +7,40 @@ use Rattle.std.proofs.lemmas.Bool.{cases_eq, cases_lt, leb-true, both_ways, and_
 use Rattle.std.proofs.lemmas.List.{append-nil, length-set, length-replicate, get_or-set_same, get_or-set_other, get_or-replicate, get_or_past, set-set}
 use Rattle.c8_game.specs.Rules.{Rules, AreInRange}
 use Rattle.c8_disk.specs.declared.error.DiskError.{DiskError}
-use Rattle.c8_wire.specs.Packet.{Packet}
+use Rattle.c8_wire.specs.Packet.{Packet, Message, ShowMessage}
+use Rattle.c8_wire.specs.Packet as packets
 use Rattle.c8_hand.specs.Links.{LinkValue, link_to, no_links}
 use Rattle.c8_known.specs.Journal.{Record, Freeze, held, cut_of, epoch}
-use Rattle.c8_known.specs.Known.{known_of}
-use Rattle.c8_known.specs.Growth.{Begins}
-use Rattle.c8_known.specs.checked.BeginsLaws.{begins_same, begins_more, begins_get, begins_append}
+use Rattle.c8_known.specs.Known.{known_of, KnownValue}
+use Rattle.c8_known.specs.Growth.{Begins, Stands as StandsIn, IsStillKnown}
+use Rattle.c8_known.specs.checked.BeginsLaws.{begins_same, begins_more, begins_get, begins_append, begins_length}
 use Rattle.c8_round.specs.Round.{report_of, no_reports}
 use Rattle.c8_record.specs.Allowed.{IsAllowed, IsJournal}
-use Rattle.c8_record.specs.checked.JournalLaws.{journal_none}
+use Rattle.c8_record.specs.checked.JournalLaws.{journal_none, journal_grows}
 use Rattle.c8_peer.specs.State as states
 use Rattle.c8_peer.specs.State.{Memory, Mode, Down, Away, State, Call, Reply, Opened, Ticked, Delivered, Said, Left, Decided, Outcome, fresh_memory, Checked}
 use Rattle.c8_peer.specs.Steps.{outcome, Luck, Works, Refuses, refused_by_disk, Stepped, done, at_mode, step}
 use Rattle.c8_peer.specs.Opening.{last_epoch, Opening, NoPlayer, Stands, NotWritten, NoMemory, NotRead, Unfit, Spent, found, opening_record, away, opened, MayBecome}
 use Rattle.c8_peer.specs.Lawful.{IsMemory, IsCall}
-use Rattle.c8_peer.specs.Truth.{IsTrue}
+use Rattle.c8_peer.specs.Truth.{IsTrue, IsTrueMessage}
 use Rattle.c8_peer.specs.TrueChecks.{HasTrueChecks}
 use Rattle.c8_peer.specs.checked.TrueCheckLaws.{none_true}
 use Rattle.c8_peer.specs.Told.{told_of}
 use Rattle.c8_peer.specs.checked.TruthLaws.{truth_stays}
 use Rattle.c8_world.specs.checked.Below.{ArePeersLawful}
-use Rattle.c8_world.specs.World.{World, never_opened, start, is_player, peer_of, journal_of, with_peer, Act, Open, Tick, Say, Give, Leave, Decide, Event, Do, Stop, player_of, Happening, Answer, After, said_by, stepped, call_at_mode, call_at, open_at_mode, give_to, acted, crashed, after, MayAct, act_inside, CanHappen, Chain, Check}
-use Rattle.c8_world.specs.Agreement.{IsPlayer, IsAmong}
+use Rattle.c8_world.specs.World.{World, never_opened, start, is_player, peer_of, journal_of, with_peer, Act, Open, Tick, Say, Give, Leave, Decide, Event, Do, Stop, player_of, Happening, Answer, After, said_by, stepped, call_at_mode, call_at, open_at_mode, give_to, acted, crashed, after, MayAct, act_inside, CanHappen, Chain, Check, known_by, rows_of, with_rows, hear_at, seen_by_watcher, Show, Hear, Seen, Fresh, watch_of}
+use Rattle.c8_world.specs.Agreement.{IsPlayer, IsAmong, HasTrueRows}
 use Rattle.c8_world.proofs.Journals.{AreSound, MayAdd, Fits, Grown, HasMore, player_one, more_grown, frozen_grown, sound_more, fits_later}
 use Rattle.c8_world.proofs.Records.{fits_head, fits_epoch}
-use Rattle.c8_world.proofs.Events.{AreNamed, IsAwake, IsSaid, IsWorldly, good_call}
+use Rattle.c8_world.proofs.Events.{AreNamed, IsAwake, IsSaid, IsWorldly, good_call, IsTold}
+use Rattle.c8_wire.specs.Seats.{is_watcher}
+use Rattle.c8_known.specs.Confirmed.{confirmed, confirmed_rows, row}
+use Rattle.c8_known.specs.checked.ConfirmedLaws.{confirmed_rises, rows_stay}
+use Rattle.c8_game.specs.declared.row.Row.{Row}
+use Rattle.c8_peer.specs.Hearing.{seen_in}
+use Rattle.c8_spectator.specs.checked.WatchLaws.{truth_heard}
+use Rattle.c8_peer.specs.checked.BoundLaws.{session_low, confirmed_frames}
+use Rattle.std.proofs.lemmas.List.FromFn.{length-map-range_with_len}
 
 -- ---- what holds of a world
 
@@ -44,6 +54,7 @@ pub record IsSound (rules : Rules) (room : ℕ) (w : World) : Type 0 where
   pub journals : AreSound rules room (journal_of w)
   pub said : (packet : Packet) → IsAmong w.said packet → IsSaid rules (journal_of w) packet
   pub peers : (p : ℕ) → IsPlayer rules p → IsSoundPeer rules room (journal_of w) w.said p (peer_of w p)
+  pub watched : (watcher : ℕ) → HasTrueRows rules w watcher
 
 -- a later world is sound, its journals go on from those of before, and so does what was said
 pub record Reaches (rules : Rules) (room : ℕ) (w v : World) : Type 0 where
@@ -84,22 +95,33 @@ awake_later rules room J J' said new p m grown lawful awake = record {
   links = named_more said new p m awake.links;
 }
 
-said_later : (rules : Rules) (room : ℕ) (J J' : ℕ → List Record) (packet : Packet) → AreInRange rules → AreSound rules room J' → Grown rules J J' → IsSaid rules J packet → IsSaid rules J' packet
-said_later rules room J J' packet range sound grown is =
+-- what player one counts as confirmed stays
+still_known : (rules : Rules) (room : ℕ) (J J' : ℕ → List Record) → AreInRange rules → AreSound rules room J' → Grown rules J J' → IsStillKnown (known_of rules 1 (J 1)) (known_of rules 1 (J' 1))
+still_known rules room J J' range sound grown =
+    let one = player_one rules range in
+    let begins : Begins (J 1) (J' 1) = grown 1 one in
+    let valid : IsJournal rules 1 room (J 1 ++ begins.rest) = subst (λ (journal : List Record). IsJournal rules 1 room journal) begins.is (sound.valid 1 one) in
+    subst (λ (journal : List Record). IsStillKnown (known_of rules 1 (J 1)) (known_of rules 1 journal)) (sym begins.is) (journal_grows rules 1 room (J 1) begins.rest range one.from_one one.in_game valid)
+
+told_later : (rules : Rules) (room : ℕ) (J J' : ℕ → List Record) (packet : Packet) (heard : Option ℕ) → AreInRange rules → AreSound rules room J' → Grown rules J J' → IsTold rules J packet heard → IsTold rules J' packet heard
+told_later rules room J J' packet None range sound grown is =
     let q : ℕ = packet.head.from in
-    let begins : Begins (J q) (J' q) = grown q is.from in
-    let valid : IsJournal rules q room (J q ++ begins.rest) = subst (λ (journal : List Record). IsJournal rules q room journal) begins.is (sound.valid q is.from) in
-    record {
-      from = is.from;
-      true_now = subst (λ (journal : List Record). IsTrue rules q journal packet) (sym begins.is)
-          (truth_stays rules q room (J q) begins.rest packet range is.from.from_one is.from.in_game valid is.true_now);
-      spelled = is.spelled;
-    }
+    let begins : Begins (J q) (J' q) = grown q is.0 in
+    let valid : IsJournal rules q room (J q ++ begins.rest) = subst (λ (journal : List Record). IsJournal rules q room journal) begins.is (sound.valid q is.0) in
+    (is.0, subst (λ (journal : List Record). IsTrue rules q journal packet) (sym begins.is) (truth_stays rules q room (J q) begins.rest packet range is.0.from_one is.0.in_game valid is.1))
+told_later rules room J J' packet (Some rows) range sound grown is = omega (arith, is, confirmed_rises (known_of rules 1 (J 1)) (known_of rules 1 (J' 1)) (still_known rules room J J' range sound grown))
+
+rows_later : (rules : Rules) (room : ℕ) (J J' : ℕ → List Record) (rows : List Row) → AreInRange rules → AreSound rules room J' → Grown rules J J' → Begins rows (confirmed_rows (known_of rules 1 (J 1))) → Begins rows (confirmed_rows (known_of rules 1 (J' 1)))
+rows_later rules room J J' rows range sound grown begins =
+    begins_more rows (confirmed_rows (known_of rules 1 (J 1))) (confirmed_rows (known_of rules 1 (J' 1))) begins (rows_stay (known_of rules 1 (J 1)) (known_of rules 1 (J' 1)) (still_known rules room J J' range sound grown))
+
+said_later : (rules : Rules) (room : ℕ) (J J' : ℕ → List Record) (packet : Packet) → AreInRange rules → AreSound rules room J' → Grown rules J J' → IsSaid rules J packet → IsSaid rules J' packet
+said_later rules room J J' packet range sound grown is = record { told = told_later rules room J J' packet (seen_in packet.message) range sound grown is.told; spelled = is.spelled }
 
 -- ---- one peer is another, and something more is said
 
 abbrev pub placed : World → ℕ → State → List Packet → World
-placed w p s new = record { peers = slice_set w.peers (p - 1) s; said = w.said ++ new }
+placed w p s new = record w { peers = slice_set w.peers (p - 1) s; said = w.said ++ new }
 
 pub peer_here : (rules : Rules) (w : World) (p : ℕ) (s : State) (new : List Packet) → length w.peers ≡ rules.players → IsPlayer rules p → peer_of (placed w p s new) p ≡ s
 peer_here rules w p s new nodes plays =
@@ -149,6 +171,7 @@ placed_by rules room w p s new range sound plays journals grown peer news =
                     awake_later rules room (journal_of w) (journal_of v) w.said new q (peer_of w q).memory grown lawful (was.awake up);
               })
         ];
+        watched = λ watcher. rows_later rules room (journal_of w) (journal_of v) (rows_of w watcher) range journals grown (sound.watched watcher);
       };
       grown = grown;
     }
@@ -218,6 +241,7 @@ none_by_disk : (call : Call) (why : DiskError) → said_by (refused_by_disk call
 none_by_disk (states.Tick keys) why = refl
 none_by_disk (states.Deliver told) why = refl
 none_by_disk (states.Say to what) why = refl
+none_by_disk (states.Show watcher) why = refl
 none_by_disk (states.Leave leaver) why = refl
 none_by_disk (states.Decide leaver) why = refl
 none_by_disk states.Checkpoint why = refl
@@ -228,6 +252,22 @@ record Owes (rules : Rules) (room : ℕ) (w : World) (p : ℕ) (o : Outcome) : T
   awake : IsAwake rules room (journal_of w) w.said p o.memory
   grows : (r : Record) → o.keeps ≡ Some r → IsMemory rules room p (journal_of w p ++ r ∷ []) o.memory
   says : (packet : Packet) → IsAmong (said_by o.reply) packet → IsSaid rules (journal_of w) packet
+
+-- what is true of a player's journal is no SEEN
+no_seen : (rules : Rules) (me to : ℕ) (journal : List Record) (message : Message) → IsTrueMessage rules me to journal message → seen_in message ≡ None
+no_seen rules me to journal packets.Hello is = refl
+no_seen rules me to journal (packets.Welcome ack) is = refl
+no_seen rules me to journal (packets.Data d) is = refl
+no_seen rules me to journal (packets.Freeze f) is = refl
+no_seen rules me to journal (packets.Frozen f) is = refl
+no_seen rules me to journal (packets.Cut c) is = refl
+no_seen rules me to journal (packets.Show m) is = refl
+no_seen rules me to journal (packets.Seen ack) is = absurd is
+
+told_by_player : (rules : Rules) (J : ℕ → List Record) (packet : Packet) (p : ℕ) → IsPlayer rules p → p ≡ packet.head.from → IsTrue rules p (J p) packet → IsTold rules J packet (seen_in packet.message)
+told_by_player rules J packet p plays whose is_true =
+    subst (λ (heard : Option ℕ). IsTold rules J packet heard) (sym (no_seen rules p packet.head.to (J p) packet.message is_true.message))
+    (subst (λ (q : ℕ). IsPlayer rules q) whose plays, subst (λ (q : ℕ). IsTrue rules q (J q) packet) whose is_true)
 
 call_owes : (laws : ArePeersLawful) (rules : Rules) (room : ℕ) (w : World) (p : ℕ) (call : Call) → AreInRange rules → IsSound rules room w → IsPlayer rules p → (peer_of w p).mode ≡ states.Open → IsCall call → IsWorldly rules (journal_of w) w.said call
     → Owes rules room w p (outcome rules (told_of rules p (journal_of w p)) (known_of rules p (journal_of w p)) (peer_of w p).memory call)
@@ -251,8 +291,7 @@ call_owes laws rules room w p call range sound plays up is_call worldly =
           let is_true = laws.said_true rules p room (J p) m call packet range from to valid awake.lawful is_call (sound.journals.checks p plays) e in
           let whose : p ≡ packet.head.from = sym is_true.from in
           record {
-            from = subst (λ (q : ℕ). IsPlayer rules q) whose plays;
-            true_now = subst (λ (q : ℕ). IsTrue rules q (J q) packet) whose is_true;
+            told = told_by_player rules J packet p plays whose is_true;
             spelled = laws.said_spelled rules p room (J p) m call packet range from to valid awake.lawful is_call e;
           };
     }
@@ -347,7 +386,7 @@ found_sound rules room w p true (Some r) range sound plays e =
 
 -- nothing is said by it
 said_none : (w : World) (p : ℕ) (s : State) → placed w p s [] ≡ with_peer w p s
-said_none w p s = λ i. record { peers = slice_set w.peers (p - 1) s; said = append-nil w.said i }
+said_none w p s = λ i. record w { peers = slice_set w.peers (p - 1) s; said = append-nil w.said i }
 
 pub crash_sound : (rules : Rules) (room : ℕ) (w : World) (p : ℕ) (leaves : Bool) → AreInRange rules → IsSound rules room w → IsPlayer rules p
     → Reaches rules room w (with_peer w p (away (peer_of w p) (found (peer_of w p) leaves) None))
@@ -407,7 +446,7 @@ fresh_awake rules room p J said n lawful = record {
 
 -- a peer that is placed twice is the second one
 placed_twice : (w : World) (p : ℕ) (s t : State) (new : List Packet) → placed (placed w p s []) p t new ≡ placed w p t new
-placed_twice w p s t new = λ i. record { peers = set-set w.peers (p - 1) s t i; said = append-nil w.said i ++ new }
+placed_twice w p s t new = λ i. record w { peers = set-set w.peers (p - 1) s t i; said = append-nil w.said i ++ new }
 
 -- an opening's record may be added
 may_open : (laws : ArePeersLawful) (rules : Rules) (room : ℕ) (w : World) (p : ℕ) (journal : List Record) → AreInRange rules → room < 2 ^ 64 → IsSound rules room w → IsPlayer rules p → journal_of w p ≡ journal
@@ -501,6 +540,84 @@ given_sound laws rules room w p number luck (Some packet) range sound e =
     let is_said = sound.said packet (number, e) in
     call_sound laws rules room w p (states.Deliver (Ok packet)) luck range sound is_said.spelled ((number, e), is_said)
 
+-- ---- watchers
+
+-- of a watcher's rows, with another's or its own in their place
+rows_if : (P : List Row → Type 0) (b : Bool) (x y : List Row) → P x → P y → P (cond b x y)
+rows_if P true x y one other = one
+rows_if P false x y one other = other
+
+rows_with : (P : List Row → Type 0) (w : World) (watcher other : ℕ) (rows : List Row) → P rows → ((seat : ℕ) → P (rows_of w seat)) → P (rows_of (with_rows w watcher rows) other)
+rows_with P w watcher other rows new old =
+    rows_if P (other == 5) _ _ (rows_if P (watcher == 5) _ _ new (old 5)) (rows_if P (other == 6) _ _ (rows_if P (watcher == 6) _ _ new (old 6)) (old 7))
+
+-- nothing is said and no peer changes, but one watcher has other rows, which begin the confirmed ones
+watched_sound : (rules : Rules) (room : ℕ) (w : World) (watcher : ℕ) (rows : List Row) → IsSound rules room w → Begins rows (confirmed_rows (known_by rules w 1)) → Reaches rules room w (with_rows w watcher rows)
+watched_sound rules room w watcher rows sound begins = record {
+  sound = record {
+    nodes = sound.nodes;
+    journals = sound.journals;
+    said = sound.said;
+    peers = sound.peers;
+    watched = λ other. rows_with (λ (xs : List Row). Begins xs (confirmed_rows (known_by rules w 1))) w watcher other rows begins sound.watched;
+  };
+  grown = λ q plays. begins_same (journal_of w q);
+}
+
+-- what a watcher is told by SHOW stands in the confirmed rows of player one
+pub shown_stands : (rules : Rules) (J : ℕ → List Record) (packet : Packet) (m : ShowMessage) → packet.message ≡ packets.Show m → IsTold rules J packet (seen_in packet.message) → StandsIn m.start m.rows (confirmed_rows (known_of rules 1 (J 1)))
+shown_stands rules J packet m is told =
+    let q : ℕ = packet.head.from in
+    let by = subst (λ (heard : Option ℕ). IsTold rules J packet heard) (ap seen_in is) told in
+    let shown : IsTrueMessage rules q packet.head.to (J q) (packets.Show m) = subst (λ (message : Message). IsTrueMessage rules q packet.head.to (J q) message) is by.1.message in
+    subst (λ (p : ℕ). StandsIn m.start m.rows (confirmed_rows (known_of rules p (J p)))) shown.0 shown.1
+
+heard_sound : (rules : Rules) (room : ℕ) (w : World) (watcher number : ℕ) (o : Option Packet) → IsSound rules room w → slice_get w.said number ≡ o → Reaches rules room w (hear_at rules room w watcher o).world
+heard_sound rules room w watcher number None sound e = stays_as rules room w sound
+heard_sound rules room w watcher number (Some packet) sound e =
+    let shown : ShowsRowsOf (confirmed_rows (known_by rules w 1)) packet = record { stand = λ m is. shown_stands rules (journal_of w) packet m is (sound.said packet (number, e)).told } in
+    watched_sound rules room w watcher _ sound (truth_heard (confirmed_rows (known_by rules w 1)) (watch_of rules room w watcher) packet (sound.watched watcher) shown)
+
+only_said : (rules : Rules) (J : ℕ → List Record) (packet one : Packet) → IsSaid rules J packet → IsAmong (packet ∷ []) one → IsSaid rules J one
+only_said rules J packet one is (zero, e) = let same : packet ≡ one = cc in subst (λ (x : Packet). IsSaid rules J x) same is
+only_said rules J packet one is (suc n, e) = absurd cc
+
+-- a watcher says what it has
+told_sound : (rules : Rules) (room : ℕ) (w : World) (packet : Packet) → AreInRange rules → IsSound rules room w → IsSaid rules (journal_of w) packet → Reaches rules room w (record w { said = w.said ++ packet ∷ [] })
+told_sound rules room w packet range sound is =
+    let grown : Grown rules (journal_of w) (journal_of w) = λ q plays. begins_same (journal_of w q) in
+    record {
+      sound = record {
+        nodes = sound.nodes;
+        journals = sound.journals;
+        said = λ one among. ⊎_elim (λ old. sound.said one old) (λ now. only_said rules (journal_of w) packet one is now) (among_split w.said (packet ∷ []) one among);
+        peers = λ p plays. let was = sound.peers p plays in record {
+          pending = was.pending;
+          awake = λ up. let awake = was.awake up in awake_later rules room (journal_of w) (journal_of w) w.said (packet ∷ []) p (peer_of w p).memory grown awake.lawful awake;
+        };
+        watched = sound.watched;
+      };
+      grown = grown;
+    }
+
+seen_said : (rules : Rules) (room : ℕ) (w : World) (watcher : ℕ) → AreInRange rules → room < 2 ^ 64 → IsSound rules room w → is_watcher watcher ≡ true → IsSaid rules (journal_of w) (seen_by_watcher rules room w watcher)
+seen_said rules room w watcher range few sound watches =
+    let one = player_one rules range in
+    let k : KnownValue = known_by rules w 1 in
+    let begins = begins_length (rows_of w watcher) (confirmed_rows k) (sound.watched watcher) in
+    let all : length (confirmed_rows k) ≡ confirmed k = length-map-range_with_len (row k) 0 (confirmed k) in
+    let within = confirmed_frames rules 1 room (journal_of w 1) range one.from_one one.in_game (sound.journals.valid 1 one) in
+    record {
+      told = omega (arith, begins, all);
+      spelled = record {
+        head = record { session = session_low rules room; seats = rw watches refl; sender_epoch = omega arith; addressee_epoch = omega arith };
+        kind = refl;
+        fits = tt;
+        message = omega (arith, begins, all, within, range.frames);
+        room = refl;
+      };
+    }
+
 pub acted_sound : (laws : ArePeersLawful) (rules : Rules) (room : ℕ) (w : World) (act : Act) (h : Happening) → AreInRange rules → room < 2 ^ 64 → IsSound rules room w → MayAct rules room w act h → Reaches rules room w (acted rules room w act h).world
 unfolding acted
 acted_sound laws rules room w (Open p) h range few sound may =
@@ -511,6 +628,10 @@ acted_sound laws rules room w (Give number p) h range few sound may = given_soun
 acted_sound laws rules room w (Leave leaver) h range few sound may = call_sound laws rules room w 1 (states.Leave leaver) h.luck range sound tt tt
 acted_sound laws rules room w (Decide leaver) h range few sound may = call_sound laws rules room w 1 (states.Decide leaver) h.luck range sound tt tt
 acted_sound laws rules room w (Check p) h range few sound may = call_sound laws rules room w p states.Checkpoint h.luck range sound tt tt
+acted_sound laws rules room w (Show watcher) h range few sound may = call_sound laws rules room w 1 (states.Show watcher) h.luck range sound may tt
+acted_sound laws rules room w (Hear number watcher) h range few sound may = heard_sound rules room w watcher number (slice_get w.said number) sound refl
+acted_sound laws rules room w (Seen watcher) h range few sound may = told_sound rules room w (seen_by_watcher rules room w watcher) range sound (seen_said rules room w watcher range few sound may)
+acted_sound laws rules room w (Fresh watcher) h range few sound may = watched_sound rules room w watcher [] sound (record { rest = confirmed_rows (known_by rules w 1); is = refl })
 
 pub after_sound : (laws : ArePeersLawful) (rules : Rules) (room : ℕ) (w : World) (event : Event) (h : Happening) → AreInRange rules → room < 2 ^ 64 → IsSound rules room w → MayAct rules room w (act_inside event) h → Reaches rules room w (after rules room w event h).world
 after_sound laws rules room w (Do act) h range few sound may = acted_sound laws rules room w act h range few sound may
@@ -553,6 +674,12 @@ no_middle : (before rest : List Record) (r : Record) → [] ≡ before ++ r ∷ 
 no_middle [] rest r e = cc e
 no_middle (x ∷ before) rest r e = cc e
 
+none_watched : (k : KnownValue) (rules : Rules) (watcher : ℕ) → Begins (rows_of (start rules) watcher) (confirmed_rows k)
+none_watched k rules watcher =
+    let P : List Row → Type 0 = λ rows. Begins rows (confirmed_rows k) in
+    let none : P [] = record { rest = confirmed_rows k; is = refl } in
+    rows_if P (watcher == 5) _ _ none (rows_if P (watcher == 6) _ _ none none)
+
 pub start_sound : (rules : Rules) (room : ℕ) → AreInRange rules → IsSound rules room (start rules)
 start_sound rules room range = record {
   nodes = length-replicate rules.players never_opened;
@@ -569,4 +696,5 @@ start_sound rules room range = record {
     pending = λ r e. absurd cc;
     awake = λ mode. absurd (mode refl);
   });
+  watched = λ watcher. none_watched (known_by rules (start rules) 1) rules watcher;
 }

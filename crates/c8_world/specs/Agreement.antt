@@ -7,14 +7,17 @@ use Rattle.c8_wire.specs.Packet.{Packet}
 use Rattle.c8_hand.specs.Links.{link_to}
 use Rattle.c8_known.specs.Journal.{Record, held, count, had_epoch, has_freeze, has_leave, cut_of}
 use Rattle.c8_known.specs.Known.{KnownValue, player_in, known_of}
-use Rattle.c8_known.specs.Confirmed.{input_of, confirmed, rows_below}
+use Rattle.c8_known.specs.Confirmed.{input_of, confirmed, rows_below, confirmed_rows}
+use Rattle.c8_known.specs.Growth.{Begins}
 use Rattle.c8_round.specs.Round.{report_of}
-use Rattle.c8_peer.specs.declared.error.OpenError.{OpenError}
-use Rattle.c8_peer.specs.declared.error.OpenError.TheVariants as opens
-use Rattle.c8_peer.specs.declared.error.Refused.{Refused}
+use Rattle.c8_refusals.specs.declared.error.OpenError.{OpenError}
+use Rattle.c8_refusals.specs.declared.error.OpenError.TheVariants as opens
+use Rattle.c8_refusals.specs.declared.error.Refused.{Refused}
 use Rattle.c8_peer.specs.State.{Away, Opened, Delivered}
 use Rattle.c8_peer.specs.Opening.{found}
-use Rattle.c8_world.specs.World.{World, peer_of, journal_of, known_by, Answer, Told}
+use Rattle.c8_peer.specs.Hearing.{seen_in}
+use Rattle.c8_peer.specs.Truth.{IsTrue}
+use Rattle.c8_world.specs.World.{World, peer_of, journal_of, known_by, rows_of, Answer, Told}
 
 -- a player of the game
 pub record IsPlayer (rules : Rules) (p : ℕ) : Type 0 where
@@ -91,6 +94,15 @@ AgreeByReads rules w reads p r = has_leave p (read_by w reads 1) ≡ false → h
 abbrev pub IsAmong : List Packet → Packet → Type 0
 IsAmong said packet = (number : ℕ) × (slice_get said number ≡ Some packet)
 
+-- A datagram that was said is true: of its sender's journal; a SEEN, whose sender has none, where player one counts as many
+-- frames as confirmed.
+abbrev pub IsTrueBy : Rules → World → Packet → Option ℕ → Type 0
+IsTrueBy rules w packet (Some rows) = rows ≤ confirmed (known_by rules w 1)
+IsTrueBy rules w packet None = IsTrue rules packet.head.from (journal_of w packet.head.from) packet
+
+abbrev pub IsTrueSaid : Rules → World → Packet → Type 0
+IsTrueSaid rules w packet = IsTrueBy rules w packet (seen_in packet.message)
+
 -- a datagram of player q to player p names their epochs: q's own one, and p's
 pub record Names (said : List Packet) (q p theirs mine : ℕ) : Type 0 where
   pub packet : Packet
@@ -107,6 +119,12 @@ pub record IsLinked (w : World) (p q : ℕ) : Type 0 where
 
 abbrev pub AreLinked : World → ℕ → ℕ → Type 0
 AreLinked w p q = ((peer_of w p).mode ≡ Away → ⊥) → (link_to (peer_of w p).memory.links q).is_open ≡ true → IsLinked w p q
+
+-- ---- watchers
+
+-- A watcher has a beginning of the rows that player one counts as confirmed.
+abbrev pub HasTrueRows : Rules → World → ℕ → Type 0
+HasTrueRows rules w watcher = Begins (rows_of w watcher) (confirmed_rows (known_by rules w 1))
 
 -- ---- answers
 

@@ -1,5 +1,5 @@
 -- What is so of any two moments of a match.
-use Rattle.std.specs.Prelude.{◌≡◌, ◌≢◌, ℕ, Some}
+use Rattle.std.specs.Prelude.{◌≡◌, ◌≢◌, ℕ, Some, Err}
 use Rattle.std.specs.List.{slice_get}
 use Rattle.c8_game.specs.Rules.{Rules}
 use Rattle.c8_wire.specs.Packet.{Packet}
@@ -7,10 +7,11 @@ use Rattle.c8_wire.specs.Spelling.{spelling, Spells}
 use Rattle.c8_known.specs.Journal.{held}
 use Rattle.c8_known.specs.Growth.{Begins}
 use Rattle.c8_known.specs.declared.error.KnownError.TheVariants.{Differs}
-use Rattle.c8_peer.specs.declared.error.Refused.TheVariants.{BadAck, Desync, Known}
-use Rattle.c8_peer.specs.Truth.{IsTrue}
-use Rattle.c8_world.specs.World.{World, journal_of, Open, Give, Do, Answer, CanHappen}
-use Rattle.c8_world.specs.Agreement.{IsPlayer, IsUndropped, Agree, AreEntered, IsBounded, AreReports, HasFrozen, IsAmong, AreLinked, refused_for, IsFit}
+use Rattle.c8_spectator.specs.declared.error.NotTaken.TheVariants.{Watch}
+use Rattle.c8_spectator.specs.declared.error.WatchError.TheVariants as watches
+use Rattle.c8_refusals.specs.declared.error.Refused.TheVariants.{BadAck, Desync, Known}
+use Rattle.c8_world.specs.World.{World, journal_of, Open, Give, Hear, Do, Answer, Watched, CanHappen}
+use Rattle.c8_world.specs.Agreement.{IsPlayer, IsUndropped, Agree, AreEntered, IsBounded, AreReports, HasFrozen, IsAmong, IsTrueSaid, HasTrueRows, AreLinked, refused_for, IsFit}
 
 -- What is so of two moments.
 --
@@ -18,19 +19,22 @@ use Rattle.c8_world.specs.Agreement.{IsPlayer, IsUndropped, Agree, AreEntered, I
 --   confirmed, each at its own moment.
 -- - `entered`: each input that a peer counts as confirmed is what its player entered, or empty from that player's cut on.
 -- - `held_begins`: what a peer holds of a player's inputs begins what that player entered.
--- - `said`, `spelled`: each datagram that was said is true of its sender's journal, and has a spelling.
+-- - `said`, `spelled`: each datagram that was said is true, of its sender's journal or, if a watcher said it, by what player one
+--   counts, and has a spelling.
 -- - `linked`: an open link names both epochs.
 -- - `bounded`: who is undropped holds no more of a leaver's inputs than the cut.
 -- - `reports`, `frozen`: before the cut an answer is at least what its stayer holds; after it each who is undropped has frozen
 --   the leaver.
 -- - `known`, `marks`, `acks`: a delivery at an undropped peer is never answered Differs, nor Desync where the sender is
 --   undropped too; none is answered BadAck.
+-- - `watched`: a watcher has a beginning of the rows that player one counts as confirmed.
+-- - `differs`: a delivery at a watcher is never answered Differs.
 -- - `fit`: no opening of a player's peer is answered WrongGame, WrongPlayer or BadRecord.
 pub record IsHeadline (rules : Rules) (room : ℕ) (earlier later : World) : Type 0 where
   pub agree : (p r : ℕ) → IsPlayer rules p → IsPlayer rules r → Agree rules earlier later p r
   pub entered : (p : ℕ) → IsPlayer rules p → AreEntered rules earlier later p
   pub held_begins : (p q : ℕ) → IsPlayer rules p → IsPlayer rules q → Begins (held rules q (journal_of later p)) (held rules q (journal_of later q))
-  pub said : (packet : Packet) → IsAmong later.said packet → IsTrue rules packet.head.from (journal_of later packet.head.from) packet
+  pub said : (packet : Packet) → IsAmong later.said packet → IsTrueSaid rules later packet
   pub spelled : (packet : Packet) → IsAmong later.said packet → Spells (spelling packet) packet
   pub linked : (p q : ℕ) → IsPlayer rules p → AreLinked later p q
   pub bounded : (p : ℕ) → IsPlayer rules p → IsBounded rules later p
@@ -40,4 +44,6 @@ pub record IsHeadline (rules : Rules) (room : ℕ) (earlier later : World) : Typ
   pub marks : (p number : ℕ) (packet : Packet) (answer : Answer) (v : World) → IsUndropped later p → slice_get later.said number ≡ Some packet → IsUndropped later packet.head.from
       → CanHappen rules room later (Do (Give number p)) answer v → answer ≢ refused_for Desync
   pub acks : (p number : ℕ) (answer : Answer) (v : World) → CanHappen rules room later (Do (Give number p)) answer v → answer ≢ refused_for BadAck
+  pub watched : (watcher : ℕ) → HasTrueRows rules later watcher
+  pub differs : (watcher number : ℕ) (answer : Answer) (v : World) → CanHappen rules room later (Do (Hear number watcher)) answer v → answer ≢ Watched (Err (Watch watches.Differs))
   pub fit : (p : ℕ) (answer : Answer) (v : World) → IsPlayer rules p → CanHappen rules room later (Do (Open p)) answer v → IsFit answer

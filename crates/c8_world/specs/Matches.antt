@@ -13,10 +13,10 @@ use Rattle.c8_known.specs.declared.error.KnownError.TheVariants as knowns
 use Rattle.c8_known.specs.Journal.{Head, has_leave, cut_of}
 use Rattle.c8_known.specs.Known.{player_in, count_in}
 use Rattle.c8_known.specs.Confirmed.{input_of, confirmed, row, rows_below}
-use Rattle.c8_peer.specs.declared.error.OpenError.TheVariants as openings
-use Rattle.c8_peer.specs.declared.error.TickError.TheVariants as ticks
-use Rattle.c8_peer.specs.declared.error.DecideError.TheVariants as decisions
-use Rattle.c8_peer.specs.declared.error.Refused.TheVariants.{Hand, Known}
+use Rattle.c8_refusals.specs.declared.error.OpenError.TheVariants as openings
+use Rattle.c8_refusals.specs.declared.error.TickError.TheVariants as ticks
+use Rattle.c8_refusals.specs.declared.error.DecideError.TheVariants as decisions
+use Rattle.c8_refusals.specs.declared.error.Refused.TheVariants.{Hand, Known}
 use Rattle.c8_peer.specs.declared.heard.Heard.{Heard}
 use Rattle.c8_peer.specs.declared.heard.Heard.TheVariants.{Nothing, Kept, Out}
 use Rattle.c8_peer.specs.State.{Saying, Hello, Welcome, Data, Freeze, Frozen, Cut, Opened, Ticked, Delivered, Said, Left, Decided}
@@ -64,7 +64,7 @@ enters p keys = done (Do (Tick p keys)) (Told (Ticked (Ok tt)))
 abbrev pub hears : ℕ → ℕ → Heard → Line
 hears number p what = done (Do (Give number p)) (Told (Delivered (Ok what)))
 
--- what is said of that message
+-- what is said of that message (nobody watches these matches)
 abbrev pub saying_of : Message → Saying
 saying_of packets.Hello = Hello
 saying_of (packets.Welcome ack) = Welcome
@@ -72,6 +72,8 @@ saying_of (packets.Data d) = Data
 saying_of (packets.Freeze f) = Freeze f.leaver
 saying_of (packets.Frozen f) = Frozen f.leaver
 saying_of (packets.Cut c) = Cut c.leaver
+saying_of (packets.Show m) = Hello
+saying_of (packets.Seen ack) = Hello
 
 -- the datagram of a player in an epoch to another, whose epoch is known so
 abbrev pub datagram : Rules → ℕ → ℕ → ℕ → ℕ → Message → Packet

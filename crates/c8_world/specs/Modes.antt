@@ -5,7 +5,7 @@ use Rattle.c8_peer.specs.Replies.{mode_told}
 use Rattle.c8_world.specs.declared.answer.Answer as codes
 use Rattle.c8_world.specs.declared.answer.Answer.TheVariants as answers
 use Rattle.c8_world.specs.declared.event.Event as asked
-use Rattle.c8_world.specs.World.{player_of, Event, act_inside, Answer, Told, IsUp, IsDown, NoSuch, Stopped}
+use Rattle.c8_world.specs.World.{player_of, Event, act_inside, Answer, Told, IsUp, IsDown, NoSuch, Stopped, Watched, Spoken, Anew}
 use Rattle.c8_world.specs.Events.{event_of}
 
 -- after an answer of its own; who was not asked stands as before, and who was stopped is away
@@ -15,6 +15,9 @@ mode_answered mode IsUp = mode
 mode_answered mode IsDown = mode
 mode_answered mode NoSuch = mode
 mode_answered mode Stopped = Away
+mode_answered mode (Watched result) = mode
+mode_answered mode (Spoken packet) = mode
+mode_answered mode Anew = mode
 
 -- a player's, after an event, which may be another player's
 abbrev pub mode_after : ℕ → Mode → Event → Answer → Mode
@@ -43,6 +46,9 @@ mode_reported mode (answers.Decided result) = mode_told (Decided result)
 mode_reported mode (answers.Checked result) = mode_told (Checked result)
 mode_reported mode answers.Down = mode
 mode_reported mode answers.Stopped = Away
+mode_reported mode (answers.Watched result) = mode
+mode_reported mode (answers.Spoken posted) = mode
+mode_reported mode answers.Anew = mode
 
 -- a player's, after a list of events
 abbrev pub reported_by : ℕ → Mode → List asked.Event → List codes.Answer → Mode

@@ -8,8 +8,8 @@ use Rattle.c8_wire.specs.Spelling.{Spells}
 use Rattle.c8_known.specs.Journal.{ticks}
 use Rattle.c8_known.specs.Known.{known_of}
 use Rattle.c8_known.specs.Confirmed.{confirmed}
-use Rattle.c8_peer.specs.declared.error.OpenError.{OpenError}
-use Rattle.c8_peer.specs.declared.error.Unsayable.{Unsayable}
+use Rattle.c8_refusals.specs.declared.error.OpenError.{OpenError}
+use Rattle.c8_refusals.specs.declared.error.Unsayable.{Unsayable}
 use Rattle.c8_peer.specs.State.{Open, Away, State, Call, Reply, Opened, Ticked, Delivered, Said, Left, Decided, Checked}
 use Rattle.c8_peer.specs.Steps.{Works, step}
 use Rattle.c8_peer.specs.Opening.{Opening, found, opened, MayBecome}
@@ -60,6 +60,9 @@ IsAsked rules room p s call answers.Up node = ⊥
 IsAsked rules room p s call (answers.Said result) node = ⊥
 IsAsked rules room p s call answers.NoSuch node = ⊥
 IsAsked rules room p s call answers.Stopped node = ⊥
+IsAsked rules room p s call (answers.Watched result) node = ⊥
+IsAsked rules room p s call (answers.Spoken posted) node = ⊥
+IsAsked rules room p s call answers.Anew node = ⊥
 
 -- What is said at a node changes nothing there, and the bytes in front spell it.
 abbrev pub IsSaying : Rules → ℕ → State → Call → Result ℕ Unsayable → List ℕ → Type 0

@@ -1,15 +1,17 @@
 -- What the nodes and the pool of a world hold, and what an event makes of them.
-use Rattle.std.specs.Prelude.{◌≡◌, ◌≢◌, ◌⊎◌, ℕ, ◌-◌, ◌<◌, ◌^◌, List, length, Bool, map, All, slice_index_or, true, Option, Some, None, is_some, Ok, Err}
+use Rattle.std.specs.Prelude.{◌≡◌, ◌≢◌, ◌⊎◌, ℕ, ◌-◌, ◌<◌, ◌^◌, ◌==◌, if◌then◌else◌, List, [], length, Bool, map, All, slice_index_or, true, Option, Some, None, is_some, Ok, Err}
 use Rattle.c8_game.specs.Rules.{Rules}
+use Rattle.c8_game.specs.declared.row.Row.{Row}
 use Rattle.c8_wire.specs.Spelling.{spelling}
-use Rattle.c8_peer.specs.declared.error.OpenError.TheVariants as opens
+use Rattle.c8_spectator.specs.Watching.{WatchValue}
+use Rattle.c8_refusals.specs.declared.error.OpenError.TheVariants as opens
 use Rattle.c8_peer.specs.State.{Down, State, Reply, Opened, Ticked, Delivered, Said, Left, Decided, Checked}
 use Rattle.c8_peer.specs.Opening.{NoMemory, away}
 use Rattle.c8_world.specs.declared.answer.Answer as codes
 use Rattle.c8_world.specs.declared.answer.Answer.TheVariants as answers
 use Rattle.c8_world.specs.declared.node.Node.{Node}
 use Rattle.c8_world.specs.declared.node.Node.TheVariants as nodes
-use Rattle.c8_world.specs.World.{World, never_opened, peer_of, with_peer, Act, Open, Tick, Say, Give, Leave, Decide, Check, player_of, Event, Do, Happening, Answer, Told, IsUp, IsDown, NoSuch, Stopped, crashed, CanHappen, IsReached}
+use Rattle.c8_world.specs.World.{World, never_opened, peer_of, with_peer, Act, Open, Tick, Say, Give, Leave, Decide, Check, Show, Hear, Seen, Fresh, player_of, Event, Do, Happening, Answer, Told, IsUp, IsDown, NoSuch, Stopped, Watched, Spoken, Anew, crashed, CanHappen, IsReached}
 use Rattle.c8_world.specs.World.{act_inside}
 use Rattle.c8_world.specs.Agreement.{IsPlayer}
 use Rattle.c8_world.specs.Nodes.{IsNode, IsOpenedNode, counts_of}
@@ -34,17 +36,36 @@ IsOpenedAs rules room p s (answers.Decided result) (Some node) = ⊥
 IsOpenedAs rules room p s (answers.Checked result) (Some node) = ⊥
 IsOpenedAs rules room p s answers.Down (Some node) = ⊥
 IsOpenedAs rules room p s answers.Stopped (Some node) = ⊥
+IsOpenedAs rules room p s (answers.Watched result) (Some node) = ⊥
+IsOpenedAs rules room p s (answers.Spoken posted) (Some node) = ⊥
+IsOpenedAs rules room p s answers.Anew (Some node) = ⊥
 
 abbrev pub IsUnopened : Rules → ℕ → ℕ → State → Option Node → Type 0
 IsUnopened rules room p s None = ⊥
 IsUnopened rules room p s (Some node) = IsOpenedNode rules room p s (Some (Err opens.Memory)) node
 
--- the match, the nodes of its players, and the bytes of what was said, in order; a node is empty only inside a call
+-- the match, the nodes of its players, the bytes of what was said, in order, and the rows of the watchers; a node is empty only
+-- inside a call
 pub record TableValue : Type 0 where
   pub rules : Rules
   pub room : ℕ
   pub nodes : List (Option Node)
   pub pool : List (List ℕ)
+  pub five : List Row
+  pub six : List Row
+
+-- the rows of the watcher in a seat, and what that is to it
+abbrev pub rows_in : TableValue → ℕ → List Row
+rows_in t watcher = if watcher == 5 then t.five else (if watcher == 6 then t.six else [])
+
+abbrev pub watch_in : TableValue → ℕ → WatchValue
+watch_in t watcher = record { rules = t.rules; room = t.room; seat = watcher; rows = rows_in t watcher }
+
+-- it watches this match from this seat
+pub record IsWatch (rules : Rules) (room seat : ℕ) (w : WatchValue) : Type 0 where
+  pub rules_are : w.rules ≡ rules
+  pub room_is : w.room ≡ room
+  pub seat_is : w.seat ≡ seat
 
 abbrev pub node_of : TableValue → ℕ → Option Node
 node_of t p = slice_index_or t.nodes (p - 1) None
@@ -69,12 +90,15 @@ pub record IsSameMatch (old new : TableValue) : Type 0 where
   pub rules : new.rules ≡ old.rules
   pub room : new.room ≡ old.room
 
--- The table holds a world that some list of events leads to: each node its player's peer, and the pool what was said.
+-- The table holds a world that some list of events leads to: each node its player's peer, the pool what was said, and the rows
+-- of both watchers.
 pub record Holds (t : TableValue) (w : World) : Type 0 where
   pub reached : IsReached t.rules t.room w
   pub count : length w.peers ≡ t.rules.players
   pub peers : (p : ℕ) → IsPlayer t.rules p → IsTaken t.rules t.room p (node_of t p) (peer_of w p)
   pub said : t.pool ≡ map spelling w.said
+  pub five : t.five ≡ w.five
+  pub six : t.six ≡ w.six
 
 -- ---- what is reported
 
@@ -98,6 +122,9 @@ reported rules p after IsUp = answers.Up
 reported rules p after IsDown = answers.Down
 reported rules p after NoSuch = answers.NoSuch
 reported rules p after Stopped = answers.Stopped
+reported rules p after (Watched result) = answers.Watched result
+reported rules p after (Spoken packet) = answers.Spoken (record { number = length after.said - 1; length = length (spelling packet) })
+reported rules p after Anew = answers.Anew
 
 -- ---- what happens
 
@@ -129,6 +156,10 @@ TakesMemory (Give number player) = ⊥
 TakesMemory (Leave leaver) = ⊥
 TakesMemory (Decide leaver) = ⊥
 TakesMemory (Check player) = ⊥
+TakesMemory (Show watcher) = Unit {0}
+TakesMemory (Hear number watcher) = ⊥
+TakesMemory (Seen watcher) = Unit {0}
+TakesMemory (Fresh watcher) = ⊥
 
 -- An act that takes memory was refused it, and has not happened. By the definitions such an opening is an event too, which leaves
 -- its peer away.
@@ -144,3 +175,5 @@ pub record HasCrashed (old : TableValue) (w : World) (p : ℕ) (new : TableValue
   pub leaves : Bool
   pub peers : (q : ℕ) → IsPlayer old.rules q → IsTaken old.rules old.room q (node_of new q) (peer_of (crashed old.rules w p leaves) q)
   pub pool : new.pool ≡ old.pool
+  pub five : new.five ≡ old.five
+  pub six : new.six ≡ old.six

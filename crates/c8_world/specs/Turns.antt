@@ -9,7 +9,7 @@ use Rattle.c8_disk.specs.declared.mem_disk.MemDisk.{MemDisk}
 use Rattle.c8_disk.specs.contracts.mem_disk.MemDiskDisk.TheImpl.{ghosts}
 use Rattle.c8_disk.specs.Memory.{bytes_of, images_of, synced_of, calls_allowed, value_of, with_arm}
 use Rattle.c8_known.specs.Journal.{epoch}
-use Rattle.c8_peer.specs.declared.error.OpenError.{OpenError}
+use Rattle.c8_refusals.specs.declared.error.OpenError.{OpenError}
 use Rattle.c8_peer.specs.State.{Open as Up, Call, Tick, Deliver, Leave, Decide, Checkpoint, Reply, Ticked, Delivered, Left, Decided, Checked}
 use Rattle.c8_peer.specs.Peer.{IsSound, IsAnswered}
 use Rattle.c8_peer.specs.Opened.{IsOpened, IsRefusedOpening}
@@ -57,6 +57,9 @@ IsActedBy call (answers.Opened result) old new = ⊥
 IsActedBy call (answers.Said result) old new = ⊥
 IsActedBy call answers.NoSuch old new = ⊥
 IsActedBy call answers.Stopped old new = ⊥
+IsActedBy call (answers.Watched result) old new = ⊥
+IsActedBy call (answers.Spoken posted) old new = ⊥
+IsActedBy call answers.Anew old new = ⊥
 
 -- a delivery of a datagram, where there is one of that number
 abbrev pub IsGiven : Option (List ℕ) → codes.Answer → Node → Node → Type 0
@@ -84,6 +87,9 @@ IsOpenedAt rules room p (answers.Decided result) old new = ⊥
 IsOpenedAt rules room p (answers.Checked result) old new = ⊥
 IsOpenedAt rules room p answers.Down old new = ⊥
 IsOpenedAt rules room p answers.Stopped old new = ⊥
+IsOpenedAt rules room p (answers.Watched result) old new = ⊥
+IsOpenedAt rules room p (answers.Spoken posted) old new = ⊥
+IsOpenedAt rules room p answers.Anew old new = ⊥
 
 abbrev pub IsSameNode : Node → Node → Type 0
 IsSameNode old new = new ≡ old
@@ -119,7 +125,7 @@ pub record IsMove (player : ℕ) (P : Node → Node → Type 0) (old new : Table
   pub others : OthersStay player old new
   pub own : OfNodes P (node_of old player) (node_of new player)
 
--- What an act that is answered so makes of its player's node; a saying makes nothing of it.
+-- What an act that is answered so makes of its player's node; a saying makes nothing of it, and a watcher has none.
 abbrev pub IsActed : TableValue → code.Act → codes.Answer → Node → Node → Type 0
 IsActed t (acts.Open player) answer = IsOpenedAt t.rules t.room player.number answer
 IsActed t (acts.Tick player keys) answer = IsActedBy (Tick keys.0) answer
@@ -128,6 +134,10 @@ IsActed t (acts.Give number player) answer = IsGiven (slice_get t.pool number) a
 IsActed t (acts.Leave leaver) answer = IsActedBy (Leave leaver.number) answer
 IsActed t (acts.Decide leaver) answer = IsActedBy (Decide leaver.number) answer
 IsActed t (acts.Check player) answer = IsActedBy Checkpoint answer
+IsActed t (acts.Show watcher) answer = IsSameNode
+IsActed t (acts.Hear number watcher) answer = IsSameNode
+IsActed t (acts.Seen watcher) answer = IsSameNode
+IsActed t (acts.Fresh watcher) answer = IsSameNode
 
 -- An act has happened, with this answer.
 pub record IsCarriedOut (act : code.Act) (answer : codes.Answer) (old new : TableValue) : Type 0 where

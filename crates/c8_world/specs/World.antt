@@ -1,26 +1,34 @@
 -- All peers of one match, all that they ever said, and what one event makes of them.
-use Rattle.std.specs.Prelude.{◌≡◌, ℕ, ◌^◌, ◌-◌, ◌<◌, ◌&&◌, List, [], ◌∷◌, ◌++◌, replicate, slice_index_or, slice_set, nat_le, Bool, true, false, Option, Some, None, Ok, Err, if◌then◌else◌}
+use Rattle.std.specs.Prelude.{◌≡◌, ℕ, ◌^◌, ◌-◌, ◌<◌, ◌==◌, ◌&&◌, List, [], ◌∷◌, ◌++◌, replicate, slice_index_or, slice_set, nat_le, Bool, true, false, Option, Some, None, Result, Ok, Err, if◌then◌else◌}
 use Rattle.std.specs.List.{slice_get}
 use Rattle.c8_game.specs.Rules.{Rules}
+use Rattle.c8_game.specs.declared.row.Row.{Row}
 use Rattle.c8_game.specs.declared.wire.WireVersion.TheVariants as versions
+use Rattle.c8_wire.specs.Seats.{is_watcher}
 use Rattle.c8_wire.specs.Packet.{Packet}
 use Rattle.c8_hand.specs.Links.{no_link}
 use Rattle.c8_known.specs.Journal.{Record}
 use Rattle.c8_known.specs.Known.{KnownValue, known_of}
 use Rattle.c8_window.specs.Window.{first_window}
 use Rattle.c8_round.specs.Round.{no_reports, no_haves}
-use Rattle.c8_peer.specs.declared.error.OpenError.TheVariants as opens
+use Rattle.c8_refusals.specs.declared.error.OpenError.TheVariants as opens
 use Rattle.c8_peer.specs.State as calls
-use Rattle.c8_peer.specs.State.{Mode, Down, Away, State, Saying, Call, Reply, Opened, Ticked, Delivered, Said, Left, Decided, Checked}
+use Rattle.c8_spectator.specs.declared.error.NotTaken.{NotTaken}
+use Rattle.c8_spectator.specs.declared.taken.Taken.{Taken}
+use Rattle.c8_spectator.specs.Watching.{WatchValue, Watched as HeardWatch, hear, seen}
+use Rattle.c8_peer.specs.State.{none_seen, Mode, Down, Away, State, Saying, Call, Reply, Opened, Ticked, Delivered, Said, Left, Decided, Checked}
 use Rattle.c8_peer.specs.Steps.{Luck, Stepped, step}
 use Rattle.c8_peer.specs.Opening.{Opening, found, opened, away, MayBecome}
 
 -- ---- the world
 
--- each player's peer, player 1 first, and every datagram that was said, the first one number 0
+-- each player's peer, player 1 first, every datagram that was said, the first one number 0, and the rows that the watchers in
+-- seats 5 and 6 have
 pub record World : Type 0 where
   pub peers : List State
   pub said : List Packet
+  pub five : List Row
+  pub six : List Row
 
 -- a peer that was never opened: nothing is asked of its memory
 abbrev pub never_opened : State
@@ -34,11 +42,12 @@ never_opened = record {
     chair = no_reports;
     stayer = no_haves;
     alarm = false;
+    seen = none_seen;
   };
 }
 
 abbrev pub start : Rules → World
-start rules = record { peers = replicate rules.players never_opened; said = [] }
+start rules = record { peers = replicate rules.players never_opened; said = []; five = []; six = [] }
 
 abbrev pub is_player : Rules → ℕ → Bool
 is_player rules p = nat_le 1 p && nat_le p rules.players
@@ -57,6 +66,18 @@ known_by rules w p = known_of rules p (journal_of w p)
 abbrev pub with_peer : World → ℕ → State → World
 with_peer w p s = record w { peers = slice_set w.peers (p - 1) s }
 
+-- the rows of the watcher in a seat
+abbrev pub rows_of : World → ℕ → List Row
+rows_of w watcher = if watcher == 5 then w.five else (if watcher == 6 then w.six else [])
+
+-- what it is to it
+abbrev pub watch_of : Rules → ℕ → World → ℕ → WatchValue
+watch_of rules room w watcher = record { rules = rules; room = room; seat = watcher; rows = rows_of w watcher }
+
+-- the same, but for one watcher's rows
+abbrev pub with_rows : World → ℕ → List Row → World
+with_rows w watcher rows = record w { five = if watcher == 5 then rows else w.five; six = if watcher == 6 then rows else w.six }
+
 -- ---- events
 
 pub data Act : Type 0 where
@@ -70,6 +91,14 @@ pub data Act : Type 0 where
   Decide : (leaver : ℕ) → Act
   -- the next record of a checkpoint
   Check : (player : ℕ) → Act
+  -- player one shows a watcher rows
+  Show : (watcher : ℕ) → Act
+  -- the datagram of a number is delivered to a watcher
+  Hear : (number : ℕ) → (watcher : ℕ) → Act
+  -- a watcher tells player one how many rows it has
+  Seen : (watcher : ℕ) → Act
+  -- a watcher begins anew
+  Fresh : (watcher : ℕ) → Act
 
 -- An act; or an act inside which the player stops: the disk serves so many calls, and what a crash then leaves is picked. By these
 -- definitions any crash may follow; the two numbers steer a real disk alone.
@@ -77,6 +106,7 @@ pub data Event : Type 0 where
   Do : Act → Event
   Stop : Act → (calls : ℕ) → (pick : ℕ) → Event
 
+-- who acts, by its seat: a player, or a watcher, whom no stop and no failure of a disk concerns
 abbrev pub player_of : Act → ℕ
 player_of (Open player) = player
 player_of (Tick player keys) = player
@@ -85,6 +115,10 @@ player_of (Give number player) = player
 player_of (Leave leaver) = 1
 player_of (Decide leaver) = 1
 player_of (Check player) = player
+player_of (Show watcher) = 1
+player_of (Hear number watcher) = watcher
+player_of (Seen watcher) = watcher
+player_of (Fresh watcher) = watcher
 
 -- what the disk did in an event: whether a reading found the pending record, what became of an opening, whether the record
 -- was taken, and whether a crash left the pending record; an event asks only for what it needs
@@ -95,13 +129,16 @@ pub record Happening : Type 0 where
   pub leaves : Bool
 
 -- what is answered: what the peer replies; or that it is open already, that it is not open, that there is no such datagram,
--- or that it was stopped
+-- or that it was stopped; or what a watcher answers to a datagram, what it says, or that it begins anew
 pub data Answer : Type 0 where
   Told : Reply → Answer
   IsUp : Answer
   IsDown : Answer
   NoSuch : Answer
   Stopped : Answer
+  Watched : Result Taken NotTaken → Answer
+  Spoken : Packet → Answer
+  Anew : Answer
 
 pub record After : Type 0 where
   pub answer : Answer
@@ -121,7 +158,7 @@ said_by (Decided result) = []
 said_by (Checked result) = []
 
 abbrev pub stepped : World → ℕ → Stepped → After
-stepped w p t = record { answer = Told t.reply; world = record { peers = slice_set w.peers (p - 1) t.state; said = w.said ++ said_by t.reply } }
+stepped w p t = record { answer = Told t.reply; world = record w { peers = slice_set w.peers (p - 1) t.state; said = w.said ++ said_by t.reply } }
 
 abbrev pub call_at_mode : Rules → World → ℕ → Call → Luck → Mode → After
 call_at_mode rules w p call luck calls.Open = stepped w p (step rules p (peer_of w p) call luck)
@@ -145,6 +182,17 @@ abbrev pub give_to : Rules → World → ℕ → Luck → Option Packet → Afte
 give_to rules w p luck None = record { answer = NoSuch; world = w }
 give_to rules w p luck (Some packet) = call_at rules w p (calls.Deliver (Ok packet)) luck
 
+abbrev pub heard_by : World → ℕ → HeardWatch → After
+heard_by w watcher heard = record { answer = Watched heard.answer; world = with_rows w watcher heard.watch.rows }
+
+abbrev pub hear_at : Rules → ℕ → World → ℕ → Option Packet → After
+hear_at rules room w watcher None = record { answer = NoSuch; world = w }
+hear_at rules room w watcher (Some packet) = heard_by w watcher (hear (watch_of rules room w watcher) (Ok packet))
+
+-- what a watcher says
+abbrev pub seen_by_watcher : Rules → ℕ → World → ℕ → Packet
+seen_by_watcher rules room w watcher = seen (watch_of rules room w watcher)
+
 unfoldable pub acted : Rules → ℕ → World → Act → Happening → After
 acted rules room w (Open p) h = open_at rules room w p h
 acted rules room w (Tick p keys) h = call_at rules w p (calls.Tick keys) h.luck
@@ -153,6 +201,10 @@ acted rules room w (Give number p) h = give_to rules w p h.luck (slice_get w.sai
 acted rules room w (Leave leaver) h = call_at rules w 1 (calls.Leave leaver) h.luck
 acted rules room w (Decide leaver) h = call_at rules w 1 (calls.Decide leaver) h.luck
 acted rules room w (Check p) h = call_at rules w p calls.Checkpoint h.luck
+acted rules room w (Show watcher) h = call_at rules w 1 (calls.Show watcher) h.luck
+acted rules room w (Hear number watcher) h = hear_at rules room w watcher (slice_get w.said number)
+acted rules room w (Seen watcher) h = record { answer = Spoken (seen_by_watcher rules room w watcher); world = record w { said = w.said ++ seen_by_watcher rules room w watcher ∷ [] } }
+acted rules room w (Fresh watcher) h = record { answer = Anew; world = with_rows w watcher [] }
 
 -- a crash makes a peer away, with its journal as a reading of the disk finds it
 abbrev pub crashed : Rules → World → ℕ → Bool → World
@@ -165,7 +217,7 @@ after rules room w (Stop act calls pick) h = record { answer = Stopped; world = 
 
 -- ---- what may happen
 
--- keys are a set of 16 keys, and an opening comes to what it may
+-- keys are a set of 16 keys, an opening comes to what it may, and watchers sit in seats 5 and 6
 abbrev pub MayAct : Rules → ℕ → World → Act → Happening → Type 0
 MayAct rules room w (Open p) h = is_player rules p ≡ true → MayBecome rules room p (found (peer_of w p) h.finds) h.opening
 MayAct rules room w (Tick p keys) h = keys < 2 ^ 16
@@ -174,6 +226,10 @@ MayAct rules room w (Give number p) h = Unit {0}
 MayAct rules room w (Leave leaver) h = Unit {0}
 MayAct rules room w (Decide leaver) h = Unit {0}
 MayAct rules room w (Check p) h = Unit {0}
+MayAct rules room w (Show watcher) h = is_watcher watcher ≡ true
+MayAct rules room w (Hear number watcher) h = is_watcher watcher ≡ true
+MayAct rules room w (Seen watcher) h = is_watcher watcher ≡ true
+MayAct rules room w (Fresh watcher) h = is_watcher watcher ≡ true
 
 abbrev pub act_inside : Event → Act
 act_inside (Do act) = act

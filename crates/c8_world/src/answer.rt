@@ -3,6 +3,7 @@
 use c8_peer::{
     Check, CheckError, DecideError, Heard, LeaveError, OpenError, Refused, TickError, Unsayable,
 };
+use c8_spectator::{NotTaken, Taken};
 
 /// How many ticks a player has made, and how many frames are confirmed there.
 #[derive(Clone, Copy, Debug, PartialEq, Eq, Hash)]
@@ -36,6 +37,12 @@ pub enum Answer {
     Decided(Result<u32, DecideError>),
     /// What is recorded of a checkpoint.
     Checked(Result<Check, CheckError>),
+    /// What a watcher makes of a datagram.
+    Watched(Result<Taken, NotTaken>),
+    /// A watcher has told player one how many rows it has.
+    Spoken(Posted),
+    /// A watcher has begun anew.
+    Anew,
     /// The peer is down or away, or the game has no such player. The opening of such a player is
     /// refused by name in its place.
     Down,

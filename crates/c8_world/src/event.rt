@@ -3,8 +3,9 @@ ghost use Rattle.std.specs.Prelude.{◌≡◌};
 
 use c8_game::{Keys, Player};
 use c8_peer::Kind;
+use c8_wire::{Seat, Watcher};
 
-/// What one player does.
+/// What one player or watcher does.
 #[derive(Clone, Copy, Debug, PartialEq, Eq, Hash)]
 pub enum Act {
     /// Opens its peer on its disk. One that is down is closed first.
@@ -21,13 +22,21 @@ pub enum Act {
     Decide(Player),
     /// Records what comes next of a checkpoint.
     Check(Player),
+    /// Player one shows a watcher the confirmed rows that come next there.
+    Show(Watcher),
+    /// A watcher hears the datagram of this number.
+    Hear(u64, Watcher),
+    /// A watcher tells player one how many rows it has.
+    Seen(Watcher),
+    /// A watcher begins anew, with no rows.
+    Fresh(Watcher),
 }
 
 /// An act, one inside which its player stops, or one inside which its disk fails once.
 #[derive(Clone, Copy, Debug, PartialEq, Eq, Hash)]
 pub enum Event {
     Do(Act),
-    /// The disk serves so many calls more and fails then. After the act the player's peer is away,
+    /// The disk serves so many calls more and fails then (a watcher has none, and just acts). After the act the player's peer is away,
     /// and its disk holds an image that a crash may leave, picked by the last number: 0 for what was
     /// last synced, 1 for what a read gives, any other for a seed.
     Stop(Act, u64, u64),
@@ -40,14 +49,15 @@ impl Act {
     ghost use Rattle.c8_world.specs.Events.{act_of};
     ghost use Rattle.c8_world.specs.World.{player_of};
 
-    /// Whose peer acts.
-    pub fn player(self) -> Player
+    /// Who acts.
+    pub fn seat(self) -> Seat
         ensures { result.number ≡ player_of (act_of self) }
     {
         match self {
-            Act::Open(player) | Act::Tick(player, _) | Act::Say(player, _, _) => player,
-            Act::Give(_, player) | Act::Check(player) => player,
-            Act::Leave(_) | Act::Decide(_) => Player::CHAIR,
+            Act::Open(player) | Act::Tick(player, _) | Act::Say(player, _, _) => Seat::from(player),
+            Act::Give(_, player) | Act::Check(player) => Seat::from(player),
+            Act::Leave(_) | Act::Decide(_) | Act::Show(_) => Seat::from(Player::CHAIR),
+            Act::Hear(_, watcher) | Act::Seen(watcher) | Act::Fresh(watcher) => Seat::from(watcher),
         }
     }
 }

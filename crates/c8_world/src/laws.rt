@@ -1,7 +1,9 @@
 //! The theorem that peers agree, over every list of events of a world: each law is the contract of
 //! a function that only calls laws of the crates below. `IsReached` says that some list of events leads to a world, from
 //! the one in which no peer has been opened yet.
-ghost use Rattle.std.specs.Prelude.{◌≡◌, ◌≢◌, ◌⊎◌, ℕ, ◌^◌, ◌<◌, List, length, Bool, Some, false};
+ghost use Rattle.std.specs.Prelude.{◌≡◌, ◌≢◌, ◌⊎◌, ℕ, ◌^◌, ◌<◌, List, length, Bool, Some, Err, false};
+ghost use Rattle.c8_spectator.specs.declared.error.NotTaken.TheVariants.{Watch};
+ghost use Rattle.c8_spectator.specs.declared.error.WatchError.TheVariants as watches;
 ghost use Rattle.std.specs.List.{slice_get};
 ghost use Rattle.c8_game.specs.Rules.{Rules, AreInRange, id_of};
 ghost use Rattle.c8_wire.specs.Packet.{Packet, AreBytes};
@@ -9,10 +11,9 @@ ghost use Rattle.c8_wire.specs.Spelling.{spelling, Spells};
 ghost use Rattle.c8_known.specs.Journal.{held};
 ghost use Rattle.c8_known.specs.Growth.{Begins};
 ghost use Rattle.c8_known.specs.declared.error.KnownError.TheVariants.{Differs};
-ghost use Rattle.c8_peer.specs.declared.error.Refused.TheVariants.{BadAck, Desync, Known};
+ghost use Rattle.c8_refusals.specs.declared.error.Refused.TheVariants.{BadAck, Desync, Known};
 ghost use Rattle.c8_record.specs.Allowed.{IsJournal};
 ghost use Rattle.c8_peer.specs.Opening.{found};
-ghost use Rattle.c8_peer.specs.Truth.{IsTrue};
 ghost use Rattle.c8_peer.specs.State.{Open as Up, Away};
 ghost use Rattle.c8_world.specs.Modes.{mode_by, reported_by};
 ghost use Rattle.c8_world.specs.declared.answer.Answer as codes;
@@ -20,8 +21,8 @@ ghost use Rattle.c8_world.specs.declared.answer.Answer.TheVariants.{Down};
 ghost use Rattle.c8_world.specs.declared.event.Event as asked;
 ghost use Rattle.c8_world.specs.Run.{Runs};
 ghost use Rattle.c8_world.specs.Table.{reported};
-ghost use Rattle.c8_world.specs.World.{World, start, Act, Open, Give, player_of, Event, Do, Answer, IsDown, CanHappen, Chain, IsReached, peer_of, journal_of};
-ghost use Rattle.c8_world.specs.Agreement.{IsPlayer, IsUndropped, NobodyLeaves, AgreeUpTo, Agree, AreEntered, IsBounded, AreReports, HasFrozen, Reads, AgreeByReads, IsAmong, AreLinked, refused_for, IsFit};
+ghost use Rattle.c8_world.specs.World.{World, start, Act, Open, Give, Hear, player_of, Event, Do, Answer, Watched, IsDown, CanHappen, Chain, IsReached, peer_of, journal_of};
+ghost use Rattle.c8_world.specs.Agreement.{IsPlayer, IsUndropped, NobodyLeaves, AgreeUpTo, Agree, AreEntered, IsBounded, AreReports, HasFrozen, Reads, AgreeByReads, IsAmong, IsTrueSaid, HasTrueRows, AreLinked, refused_for, IsFit};
 ghost use Rattle.c8_world.specs.Headline.{IsHeadline};
 ghost use Rattle.c8_world.specs.Matches.{two, three, four, GoesInTurn, StopsInTick, CutsWhereHeld, CutsAfterRestart, WaitsForSilent, DiffersWhenDropped, EndsAfterLastFrame, RefusesOther};
 
@@ -37,12 +38,25 @@ pub fn held_inputs_were_entered()
     peers_are_lawful();
 }
 
-/// Each datagram that was said is true of its sender's journal, and has a spelling; so to deliver
-/// the bytes that spell it is to deliver it. No delivery is answered BadAck.
+/// What a watcher has begins the rows that player one counts as confirmed, and no datagram that was said is
+/// refused by it because its rows differ.
+pub fn watchers_have_a_beginning()
+    ensures rows { (rules : Rules) (room : ℕ) (w : World) (watcher : ℕ)
+        → AreInRange rules → room < 2 ^ 64 → IsReached rules room w → HasTrueRows rules w watcher }
+    ensures differs { (rules : Rules) (room : ℕ) (w v : World) (watcher number : ℕ) (answer : Answer)
+        → AreInRange rules → room < 2 ^ 64 → IsReached rules room w
+        → CanHappen rules room w (Do (Hear number watcher)) answer v
+        → answer ≢ Watched (Err (Watch watches.Differs)) }
+{
+    peers_are_lawful();
+}
+
+/// Each datagram that was said is true of its sender's journal, a SEEN of player one's confirmed frames, and
+/// has a spelling; so to deliver the bytes that spell it is to deliver it. No delivery is answered BadAck.
 pub fn what_was_said_is_true()
     ensures said { (rules : Rules) (room : ℕ) (w : World) (packet : Packet)
         → AreInRange rules → room < 2 ^ 64 → IsReached rules room w → IsAmong w.said packet
-        → IsTrue rules packet.head.from (journal_of w packet.head.from) packet }
+        → IsTrueSaid rules w packet }
     ensures spelled { (rules : Rules) (room : ℕ) (w : World) (packet : Packet)
         → AreInRange rules → room < 2 ^ 64 → IsReached rules room w → IsAmong w.said packet
         → Spells (spelling packet) packet }

@@ -23,7 +23,7 @@ use c8_peer::laws::{openings_are_deeds, what_disks_tell};
 use c8_peer::{Kind, OpenError, Peer, Unsayable};
 use c8_record::laws::{bodies_are_the_spellings, journals_are_not_refused};
 use c8_record::replay_bytes;
-use c8_wire::LONGEST_DATAGRAM;
+use c8_wire::{LONGEST_DATAGRAM, Watcher};
 use std::alloc::{AllocError, Global};
 
 /// A player's peer, open or down, or the disk of one that is away.
@@ -179,6 +179,27 @@ impl<'g> Node<'g> {
                     return None;
                 }
                 Some(peer.say(to, what, out))
+            }
+            Node::Away(_) => None,
+        }
+    }
+
+    /// Says rows to a watcher, to the front of `out`.
+    pub(crate) fn show(
+        &self,
+        watcher: Watcher,
+        out: &mut [u8; LONGEST_DATAGRAM],
+    ) -> Option<Result<usize, Unsayable>>
+        ensures said { (rules : Rules) (room p : ℕ) (s : State) → IsNode rules room p self.now s
+            → IsSaidAt rules room p s (states.Show watcher.number) result out.new }
+        ensures fits { IfSome result (λ said. IfOk said (λ size. size ≤ LONGEST_DATAGRAM)) }
+    {
+        match self {
+            Node::Held(peer) => {
+                if peer.is_down() {
+                    return None;
+                }
+                Some(peer.say_show(watcher, out))
             }
             Node::Away(_) => None,
         }

@@ -7,7 +7,7 @@ ghost use Rattle.c8_peer.specs.State.{State};
 ghost use Rattle.c8_peer.specs.Opening.{found};
 ghost use Rattle.c8_peer.specs.Runs.{crashed};
 ghost use Rattle.c8_peer.specs.Asked.{saying_of};
-ghost use Rattle.c8_world.specs.World.{World, act_inside, peer_of, player_of, start, Open, Tick, Say, Give, Leave, Decide, Check, Do, Stop};
+ghost use Rattle.c8_world.specs.World.{World, act_inside, peer_of, player_of, start, Open, Tick, Say, Give, Leave, Decide, Check, Show, Hear, Seen, Fresh, Do, Stop};
 ghost use Rattle.c8_world.specs.Events.{act_of, event_of};
 ghost use Rattle.c8_disk.specs.declared.disk.Arm.TheVariants as arms;
 ghost use Rattle.c8_world.specs.Agreement.{IsPlayer};
@@ -18,7 +18,7 @@ ghost use Rattle.c8_world.specs.Turns.{IsActedBy, IsGiven, IsOpenedAt, IsSameNod
 ghost use Rattle.c8_world.specs.declared.event.Event.TheVariants as happenings;
 ghost use Rattle.c8_world.specs.Ends.{IsStanding, AreStandings};
 ghost use Rattle.c8_world.specs.declared.node.Node.TheVariants.{Held};
-ghost use Rattle.c8_world.specs.Table.{IsTaken, IsUntouched, IsNotHeld, node_of, IsOpenedAs, IsUnopened, IsSameMatch, Holds, HasHappened, HasNotHappened, HasCrashed};
+ghost use Rattle.c8_world.specs.Table.{IsTaken, IsUntouched, IsNotHeld, node_of, IsOpenedAs, IsUnopened, IsSameMatch, watch_in, Holds, HasHappened, HasNotHappened, HasCrashed};
 
 use crate::answer::{Answer, Posted};
 use crate::ends::Standing;
@@ -29,22 +29,26 @@ use crate::pool::Pool;
 use c8_disk::{Arm, MemDisk};
 use c8_game::{Game, Keys, Player};
 use c8_peer::{Kind, OpenError, Peer};
-use c8_wire::LONGEST_DATAGRAM;
+use c8_spectator::Spectator;
 use c8_wire::laws::what_is_spelled_is_read;
+use c8_wire::{LONGEST_DATAGRAM, Seat, Watcher};
 use std::alloc::{AllocError, Global};
 use std::marker::Model;
 
-/// The nodes of all players of a match, player 1's first, and all that was said.
+/// The nodes of all players of a match, player 1's first, all that was said, and who watches.
 #[derive(Drop)]
 pub(crate) struct Table<'g> {
     game: &'g Game,
     room: u64,
     nodes: Vec<Option<Node<'g>>>,
     pool: Pool,
+    /// Who watches from seat 5, and from seat 6.
+    five: Spectator<'g>,
+    six: Spectator<'g>,
 }
 
 impl<'g> Model for Table<'g> {
-    ghost use Rattle.c8_world.specs.Table.{TableValue, IsFull};
+    ghost use Rattle.c8_world.specs.Table.{TableValue, IsFull, IsWatch};
 
     ghost Value = { TableValue };
 
@@ -53,9 +57,12 @@ impl<'g> Model for Table<'g> {
       room = t.room;
       nodes = t.nodes.items;
       pool = t.pool;
+      five = t.five.rows;
+      six = t.six.rows;
     } };
 
-    ghost invariant = { λ t. IsFull t.game.now t.room t.nodes.items };
+    ghost invariant = { λ t. IsFull t.game.now t.room t.nodes.items
+        × IsWatch t.game.now t.room 5 t.five × IsWatch t.game.now t.room 6 t.six };
 }
 
 /// The node of a player whose peer was never opened.
@@ -157,6 +164,8 @@ impl<'g> Table<'g> {
             room,
             nodes,
             pool: Pool::new(alloc),
+            five: Spectator::open(alloc, game, room, Watcher { number: 5 })?,
+            six: Spectator::open(alloc, game, room, Watcher { number: 6 })?,
         })
     }
 
@@ -196,7 +205,7 @@ impl<'g> Table<'g> {
             (for_player (player_of (act_of act)) (arms.Stop calls ∷ arms.Off ∷ []))
             self.old self.new) }
     {
-        let player = act.player();
+        let player = act.seat();
         self.arm(player, Arm::Stop(calls));
         match self.act(alloc, act) {
             Ok(_) => {
@@ -224,7 +233,7 @@ impl<'g> Table<'g> {
             (for_player (player_of (act_of act)) (arms.Once calls ∷ arms.Off ∷ []))
             self.old self.new }
     {
-        let player = act.player();
+        let player = act.seat();
         self.arm(player, Arm::Once(calls));
         let result = self.act(alloc, act);
         self.arm(player, Arm::Off);
@@ -250,6 +259,10 @@ impl<'g> Table<'g> {
             Act::Leave(leaver) => Ok(self.leave(leaver)),
             Act::Decide(leaver) => Ok(self.decide(leaver)),
             Act::Check(player) => Ok(self.check(player)),
+            Act::Show(watcher) => self.show(watcher),
+            Act::Hear(number, watcher) => Ok(self.hear(number, watcher)),
+            Act::Seen(watcher) => self.seen(watcher),
+            Act::Fresh(watcher) => Ok(self.fresh(watcher)),
         }
     }
 
@@ -392,30 +405,133 @@ impl<'g> Table<'g> {
         node.check()
     }
 
-    /// Says when the calls of a player's disk fail from now on.
-    fn arm(&mut self, player: Player, arm: Arm)
+    /// Player one shows a watcher rows.
+    fn show(&mut self, watcher: Watcher) -> Result<Answer, AllocError>
         ensures same { IsSameMatch self.old self.new }
-        ensures armed { IsArmed player.number arm self.old self.new }
-        ensures disks { AreArmed (for_player player.number (arm ∷ [])) self.old self.new }
+        ensures happened { IfOk result (λ answer. (w : World) → Holds self.old w
+            → HasHappened self.old w (Do (Show watcher.number)) answer self.new) }
+        ensures memory { IfErr result (λ _. (w : World) → Holds self.old w
+            → HasNotHappened self.old w (Show watcher.number) self.new) }
+        ensures turn { IfOk result (λ _. IsMove 1 IsSameNode self.old self.new) }
+        ensures turn_out { IfErr result (λ _. IsMove 1 IsSpared self.old self.new) }
+        ensures disks { KeepSettings self.old self.new }
     {
-        if player.number > self.game.players() {
-            return;
+        self.game.in_range();
+        let Some(node) = &self.nodes[Player::CHAIR.place()] else {
+            unreachable!();
+        };
+        let mut bytes = [0; LONGEST_DATAGRAM];
+        match node.show(watcher, &mut bytes) {
+            None => Ok(Answer::Down),
+            Some(Err(error)) => Ok(Answer::Said(Err(error))),
+            Some(Ok(length)) => {
+                let number = self.pool.len() as u64;
+                self.pool.push(&bytes, length)?;
+                Ok(Answer::Said(Ok(Posted { number, length })))
+            }
         }
+    }
+
+    /// Delivers the datagram of a number to a watcher.
+    fn hear(&mut self, number: u64, watcher: Watcher) -> Answer
+        ensures same { IsSameMatch self.old self.new }
+        ensures happened { (w : World) → Holds self.old w
+            → HasHappened self.old w (Do (Hear number watcher.number)) result self.new }
+        ensures turn { IsMove watcher.number IsSameNode self.old self.new }
+        ensures disks { KeepSettings self.old self.new }
+    {
+        self.game.in_range();
+        what_was_said_is_true();
+        what_is_spelled_is_read();
+        let Some(said) = self.pool.get(number) else {
+            return Answer::NoSuch;
+        };
+        if watcher.number == 5 {
+            return Answer::Watched(self.five.hear(said));
+        }
+        Answer::Watched(self.six.hear(said))
+    }
+
+    /// A watcher tells player one how many rows it has.
+    fn seen(&mut self, watcher: Watcher) -> Result<Answer, AllocError>
+        ensures same { IsSameMatch self.old self.new }
+        ensures happened { IfOk result (λ answer. (w : World) → Holds self.old w
+            → HasHappened self.old w (Do (Seen watcher.number)) answer self.new) }
+        ensures memory { IfErr result (λ _. (w : World) → Holds self.old w
+            → HasNotHappened self.old w (Seen watcher.number) self.new) }
+        ensures turn { IfOk result (λ _. IsMove watcher.number IsSameNode self.old self.new) }
+        ensures turn_out { IfErr result (λ _. IsMove watcher.number IsSpared self.old self.new) }
+        ensures disks { KeepSettings self.old self.new }
+    {
+        let mut bytes = [0; LONGEST_DATAGRAM];
+        let length = self.watcher(watcher).seen(&mut bytes);
+        let number = self.pool.len() as u64;
+        self.pool.push(&bytes, length)?;
+        Ok(Answer::Spoken(Posted { number, length }))
+    }
+
+    /// A watcher begins anew.
+    fn fresh(&mut self, watcher: Watcher) -> Answer
+        ensures same { IsSameMatch self.old self.new }
+        ensures happened { (w : World) → Holds self.old w
+            → HasHappened self.old w (Do (Fresh watcher.number)) result self.new }
+        ensures turn { IsMove watcher.number IsSameNode self.old self.new }
+        ensures disks { KeepSettings self.old self.new }
+    {
+        if watcher.number == 5 {
+            self.five.begin_again();
+        } else {
+            self.six.begin_again();
+        }
+        Answer::Anew
+    }
+
+    /// Who watches from a seat.
+    pub(crate) fn watcher(&self, watcher: Watcher) -> &Spectator<'g>
+        ensures { result.now ≡ watch_in self.now watcher.number }
+    {
+        if watcher.number == 5 {
+            &self.five
+        } else {
+            &self.six
+        }
+    }
+
+    /// The player of the game in a seat, if it is one's.
+    fn player_in(&self, seat: Seat) -> Option<Player>
+        ensures { MatchOption result (self.now.rules.players < seat.number)
+            (λ player. (player.number ≡ seat.number) × (player.number ≤ self.now.rules.players)) }
+    {
+        if seat.number > self.game.players() {
+            return None;
+        }
+        seat.player()
+    }
+
+    /// Says when the calls of a player's disk fail from now on. A watcher has none.
+    fn arm(&mut self, seat: Seat, arm: Arm)
+        ensures same { IsSameMatch self.old self.new }
+        ensures armed { IsArmed seat.number arm self.old self.new }
+        ensures disks { AreArmed (for_player seat.number (arm ∷ [])) self.old self.new }
+    {
+        let Some(player) = self.player_in(seat) else {
+            return;
+        };
         let Some(node) = &mut self.nodes[player.place()] else {
             unreachable!();
         };
         node.arm(arm);
     }
 
-    /// Stops a player.
-    fn crash(&mut self, player: Player, pick: u64)
+    /// Stops a player. A watcher is not stopped.
+    fn crash(&mut self, seat: Seat, pick: u64)
         ensures same { IsSameMatch self.old self.new }
-        ensures crashed { IsCrashed player.number pick self.old self.new }
+        ensures crashed { IsCrashed seat.number pick self.old self.new }
         ensures disks { KeepSettings self.old self.new }
     {
-        if player.number > self.game.players() {
+        let Some(player) = self.player_in(seat) else {
             return;
-        }
+        };
         crash_node(&mut self.nodes[player.place()], pick);
     }
 

@@ -3,7 +3,7 @@ ghost use Rattle.std.specs.Prelude.{◌≡◌, ◌≤◌, ◌<◌, ◌++◌, ◌
 ghost use Rattle.std.specs.List.{slice_get};
 ghost use Rattle.c8_world.specs.Events.{event_of};
 ghost use Rattle.c8_world.specs.World.{World as Moment, act_inside, start};
-ghost use Rattle.c8_world.specs.Table.{node_of, IsNotHeld, Holds, IsSameMatch, HasHappened, HasNotHappened};
+ghost use Rattle.c8_world.specs.Table.{node_of, watch_in, IsNotHeld, Holds, IsSameMatch, HasHappened, HasNotHappened};
 ghost use Rattle.c8_world.specs.Run.{IsLived, IsRefusedMemory, HasLivedOn, HasRun, HasRunOut, AreMoments, answers_before};
 ghost use Rattle.c8_world.specs.Headline.{IsHeadline};
 ghost use Rattle.c8_world.specs.Agreement.{Reads};
@@ -22,6 +22,8 @@ use crate::table::Table;
 use c8_disk::{GhostList, MemDisk};
 use c8_game::{Game, Player};
 use c8_peer::{OpenError, Peer};
+use c8_spectator::Spectator;
+use c8_wire::Watcher;
 use std::alloc::{AllocError, Global};
 use std::fmt;
 use std::marker::Model;
@@ -178,6 +180,13 @@ impl<'g> World<'g> {
             (λ peer. node_of self.now.table player.number ≡ Some (Held peer.now)) }
     {
         self.table.peer(player)
+    }
+
+    /// Who watches from a seat.
+    pub fn watcher(&self, watcher: Watcher) -> &Spectator<'g>
+        ensures { result.now ≡ watch_in self.now.table watcher.number }
+    {
+        self.table.watcher(watcher)
     }
 
     /// It does nothing: with the call comes that the events of its life lead to what it holds.

@@ -1,13 +1,13 @@
-//! c8peer: the command `peer` of c8play alone, in a program that is built sooner. The script
-//! `c8play` takes it where that command is asked for.
+//! c8peer: the commands `peer` and `watch` of c8play alone, in a program that is built sooner. The
+//! script `c8play` takes it where one of them is asked for.
 #![tactic(auto)]
 
 use c8_command::Status;
 use c8_front::{line_of, status_at, tell, words_in};
-use c8_net::{peer_command, peer_given};
+use c8_net::{peer_command, peer_given, watch_command, watch_given};
 use std::env::Args;
 use std::fs::File;
-use std::io::{Read, Write};
+use std::io::{IsTerminal, Read, Write};
 use std::net::Net;
 use std::process::ExitCode;
 use std::rt::Files;
@@ -18,7 +18,16 @@ use std::{env, io};
 
 fn main(rt: HostRuntime) -> ExitCode {
     let args = env::args(&rt);
-    let ended = obey(&rt, args, rt.reader(), &mut rt.stdout(), &mut rt.stderr());
+    let mut out = rt.stdout();
+    let is_terminal = out.is_terminal();
+    let ended = obey(
+        &rt,
+        args,
+        rt.reader(),
+        &mut out,
+        is_terminal,
+        &mut rt.stderr(),
+    );
     status_at(ended, &mut rt.stderr()).into()
 }
 
@@ -28,6 +37,7 @@ fn obey<R, I, W: Write, E: Write + Send>(
     args: io::Result<Args>,
     input: I,
     out: &mut W,
+    is_terminal: bool,
     refused: &mut E,
 ) -> io::Result<Status>
 where
@@ -39,9 +49,11 @@ where
         return Ok(Status::CommandLine);
     };
     let command = line_of(alloc, peer_command(alloc)?)?;
+    let command = command.subcommand(watch_command(alloc)?)?;
     match command.try_get_matches_from(words.as_slice()) {
         Ok(matches) => match matches.subcommand() {
             Some(("peer", given)) => peer_given(rt, given, input, out, refused),
+            Some(("watch", given)) => watch_given(rt, given, is_terminal, out, refused),
             _ => Ok(Status::CommandLine),
         },
         Err(error) => tell(&error, out, refused),

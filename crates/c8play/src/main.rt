@@ -4,9 +4,20 @@
 #![tactic(auto)]
 
 use std::env;
+use std::io::IsTerminal;
 use std::process::ExitCode;
 
 fn main(rt: HostRuntime) -> ExitCode {
     let args = env::args(&rt);
-    c8_cli::answer(&rt, args, rt.reader(), &mut rt.stdout(), &mut rt.stderr()).into()
+    let mut out = rt.stdout();
+    let is_terminal = out.is_terminal();
+    c8_cli::answer(
+        &rt,
+        args,
+        rt.reader(),
+        &mut out,
+        is_terminal,
+        &mut rt.stderr(),
+    )
+    .into()
 }

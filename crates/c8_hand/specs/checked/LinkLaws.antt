@@ -1,13 +1,13 @@
 -- Checked, not believed: what is admitted, and what hearing it changes.
 use Rattle.std.proofs.Common.{◌≡◌, ◌≢◌, ℕ, zero, suc, ◌<◌, ◌≤◌, ◌⊎◌, Bool, true, false, cond, Option, Some, None, refl, sym, ap, subst, ◌∙◌, inl, inr, arith}
 use Rattle.std.specs.Prelude.{◌==◌, not, if◌then◌else◌}
-use Rattle.std.proofs.lemmas.Bool.{cases_lt, cases_eq, ne_eqb, both_ways, lt-ltb, le-ltb}
+use Rattle.std.proofs.lemmas.Bool.{cases_lt, cases_eq, eqb-true, ne_eqb, both_ways, lt-ltb, le-ltb}
 use Rattle.std.proofs.lemmas.Bool.Decides.{nat_tests}
 use Rattle.c8_wire.specs.declared.kinds.DatagramKind.{DatagramKind}
 use Rattle.c8_wire.specs.declared.kinds.DatagramKind.TheVariants as kinds
 use Rattle.c8_wire.specs.Packet.{HeadValue}
 use Rattle.c8_hand.specs.declared.error.HandError.TheVariants as errors
-use Rattle.c8_hand.specs.Links.{LinkValue, LinksValue, no_link, link_to, with_link, is_mine, refusal, refusal_by_kind, refusal_of_welcome, refusal_of_others, link_after, heard, IsForMe, NamesBoth, IsWelcomeOf, OpensByWelcome}
+use Rattle.c8_hand.specs.Links.{LinkValue, LinksValue, no_link, link_to, with_link, is_mine, refusal, refusal_of_seen, refusal_by_kind, refusal_of_welcome, refusal_of_others, link_after, heard, IsForMe, NamesBoth, IsWelcomeOf, OpensByWelcome}
 
 -- ---- one link is changed
 
@@ -20,7 +20,7 @@ link_with l (suc (suc (suc (suc zero)))) link from to = refl
 link_with l (suc (suc (suc (suc (suc n))))) link from to = absurd (omega arith)
 
 -- there is no link to a fifth player
-link_past : (l : LinksValue) (player : ℕ) → 4 < player → link_to l player ≡ no_link
+pub link_past : (l : LinksValue) (player : ℕ) → 4 < player → link_to l player ≡ no_link
 link_past l player past =
     rw (ne_eqb player 1 (λ e. omega arith), ne_eqb player 2 (λ e. omega arith), ne_eqb player 3 (λ e. omega arith), ne_eqb player 4 (λ e. omega arith)) refl
 
@@ -36,6 +36,20 @@ link_other l player link (suc (suc (suc (suc zero)))) apart = unless player 4 li
 link_other l player link (suc (suc (suc (suc (suc n))))) apart =
     let past : 4 < suc (suc (suc (suc (suc n)))) = omega arith in
     link_past (with_link l player link) (suc (suc (suc (suc (suc n))))) past ∙ sym (link_past l (suc (suc (suc (suc (suc n))))) past)
+
+-- none changes where a watcher says something
+unlinked : (player place : ℕ) (link old : LinkValue) → 4 < player → place ≤ 4 → (if player == place then link else old) ≡ old
+unlinked player place link old past within = unless player place link old (λ same. omega (arith, same, past, within))
+
+pub heard_past : (l : LinksValue) (head : HeadValue) → 4 < head.from → heard l head ≡ l
+heard_past l head past =
+    let link : LinkValue = link_after head.kind (link_to l head.from) head.sender_epoch in
+    λ i. record l {
+      one = unlinked head.from 1 link l.one past (omega arith) i;
+      two = unlinked head.from 2 link l.two past (omega arith) i;
+      three = unlinked head.from 3 link l.three past (omega arith) i;
+      four = unlinked head.from 4 link l.four past (omega arith) i;
+    }
 
 -- ---- what is admitted
 
@@ -92,6 +106,16 @@ linked_by_kind kinds.Data link own theirs mine none hello welcome = linked link 
 linked_by_kind kinds.Freeze link own theirs mine none hello welcome = linked link own theirs mine none
 linked_by_kind kinds.Frozen link own theirs mine none hello welcome = linked link own theirs mine none
 linked_by_kind kinds.Cut link own theirs mine none hello welcome = linked link own theirs mine none
+linked_by_kind kinds.Show link own theirs mine none hello welcome = absurd cc
+linked_by_kind kinds.Seen link own theirs mine none hello welcome = absurd cc
+
+-- SHOW and SEEN are never admitted as a player's
+among_players : (kind : DatagramKind) (link : LinkValue) (own theirs mine : ℕ) → refusal_by_kind kind link own theirs mine ≡ None → (kind ≢ kinds.Show) × (kind ≢ kinds.Seen)
+among_players kind link own theirs mine none =
+    (λ is. let never = ap (λ (k : DatagramKind). refusal_by_kind k link own theirs mine) (sym is) ∙ none in absurd cc, λ is. let never = ap (λ (k : DatagramKind). refusal_by_kind k link own theirs mine) (sym is) ∙ none in absurd cc)
+
+pub admitted_players : (l : LinksValue) (head : HeadValue) → refusal l head ≡ None → (head.kind ≢ kinds.Show) × (head.kind ≢ kinds.Seen)
+admitted_players l head none = among_players head.kind (link_to l head.from) l.epoch head.sender_epoch head.addressee_epoch (admitted l head none).by_kind
 
 pub admitted_welcome : (l : LinksValue) (head : HeadValue) → refusal l head ≡ None → head.kind ≡ kinds.Welcome → head.addressee_epoch ≡ l.epoch
 admitted_welcome l head none kind =
@@ -109,6 +133,13 @@ names_both l head none hello welcome =
 
 pub comes_by_link : (l : LinksValue) (head : HeadValue) → refusal l head ≡ None → head.kind ≢ kinds.Hello → head.kind ≢ kinds.Welcome → (link_to l head.from).is_open ≡ true
 comes_by_link l head none hello welcome = (admitted_linked l head none hello welcome).is_open
+
+-- a SEEN that is admitted is for this player
+pub admitted_seen : (l : LinksValue) (head : HeadValue) → refusal_of_seen l head ≡ None → head.to ≡ l.me
+unfolding refusal_of_seen
+admitted_seen l head none =
+    let past = none_past (not (head.session == l.session)) errors.Session _ none in
+    eqb-true head.to l.me (none_within (head.to == l.me) errors.NotMine None past.1).0
 
 -- ---- only a WELCOME opens a link
 
@@ -131,6 +162,8 @@ opened kinds.Data link theirs was = inl refl
 opened kinds.Freeze link theirs was = inl refl
 opened kinds.Frozen link theirs was = inl refl
 opened kinds.Cut link theirs was = inl refl
+opened kinds.Show link theirs was = inl refl
+opened kinds.Seen link theirs was = inl refl
 
 -- the link to the sender, where there is one
 sender_opens : (l : LinksValue) (head : HeadValue) → refusal l head ≡ None → 1 ≤ head.from → head.from ≤ 4 → (link_to (heard l head) head.from).is_open ≡ true
@@ -177,6 +210,8 @@ not_below kinds.Data link own theirs mine none = omega arith
 not_below kinds.Freeze link own theirs mine none = omega arith
 not_below kinds.Frozen link own theirs mine none = omega arith
 not_below kinds.Cut link own theirs mine none = omega arith
+not_below kinds.Show link own theirs mine none = omega arith
+not_below kinds.Seen link own theirs mine none = omega arith
 
 pub known_rises : (l : LinksValue) (head : HeadValue) (player : ℕ) → refusal l head ≡ None → (link_to l player).known ≤ (link_to (heard l head) player).known
 known_rises l head player none =

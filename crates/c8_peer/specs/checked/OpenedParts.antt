@@ -10,8 +10,8 @@ use Rattle.c8_known.specs.Known.{KnownValue, known_of}
 use Rattle.c8_check.specs.Checks.{ChecksValue, checks_of}
 use Rattle.c8_record.specs.Body.{records_of}
 use Rattle.c8_record.specs.Replay.{AreJournalBodies}
-use Rattle.c8_peer.specs.declared.error.OpenError.{OpenError}
-use Rattle.c8_peer.specs.declared.error.OpenError.TheVariants as opens
+use Rattle.c8_refusals.specs.declared.error.OpenError.{OpenError}
+use Rattle.c8_refusals.specs.declared.error.OpenError.TheVariants as opens
 use Rattle.c8_peer.specs.Opening.{last_epoch, opening_record}
 use Rattle.c8_disk.specs.Asks.{Run, Asks}
 use Rattle.c8_log.specs.Asked.{AppendWithin}

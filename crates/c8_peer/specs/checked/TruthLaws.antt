@@ -8,20 +8,20 @@ use Rattle.c8_wire.specs.Packet.{Message, Packet}
 use Rattle.c8_wire.specs.Packet as packets
 use Rattle.c8_known.specs.Journal.{Record, Freeze, held, count}
 use Rattle.c8_known.specs.Known.{KnownValue, known_of}
-use Rattle.c8_known.specs.Confirmed.{confirmed, row, rows_below}
-use Rattle.c8_known.specs.Growth.{Begins, IsStillKnown}
-use Rattle.c8_known.specs.checked.ConfirmedLaws.{confirmed_rises, row_stays, map_same}
+use Rattle.c8_known.specs.Confirmed.{confirmed, row, rows_below, confirmed_rows}
+use Rattle.c8_known.specs.Growth.{Begins, Stands, IsStillKnown}
+use Rattle.c8_known.specs.checked.ConfirmedLaws.{confirmed_rises, row_stays, rows_stay, map_same}
 use Rattle.c8_known.specs.checked.BeginsLaws.{begins_more, begins_drop, begins_length}
 use Rattle.c8_known.specs.checked.JournalLaws.{held_begins, leave_stays, epoch_stays, cut_stays}
 use Rattle.c8_record.specs.Allowed.{IsJournal}
 use Rattle.c8_record.specs.checked.JournalLaws.{journal_grows}
-use Rattle.c8_peer.specs.Truth.{Stands, IsTrueMark, IsFrozenAt, IsTrueMessage, IsTrue}
+use Rattle.c8_peer.specs.Truth.{IsTrueMark, IsFrozenAt, IsTrueMessage, IsTrue}
 
 -- rows that are confirmed stay
 pub rows_same : (early late : KnownValue) (n : ℕ) → IsStillKnown early late → n ≤ confirmed early → rows_below late n ≡ rows_below early n
 rows_same early late n still within = map_same (row late) (row early) 0 n (λ frame below. row_stays early late still frame (omega (arith, below, within)))
 
-pub stands_longer : (start : ℕ) (words short long : List ℕ) → Begins short long → Stands start words short → Stands start words long
+pub stands_longer : {X : Type 0} (start : ℕ) (words short long : List X) → Begins short long → Stands start words short → Stands start words long
 stands_longer start words short long begins stands =
     let within = stands.within in
     let rises = begins_length short long begins in
@@ -76,6 +76,9 @@ message_stays rules me to journal rest (packets.Frozen f) still is =
     )
 message_stays rules me to journal rest (packets.Cut c) still is =
     (is.0, cut_stays c.leaver c.length journal rest is.1, stands_longer c.start c.words (held rules c.leaver journal) (held rules c.leaver (journal ++ rest)) (held_begins rules c.leaver journal rest) is.2)
+message_stays rules me to journal rest (packets.Show m) still is =
+    (is.0, stands_longer m.start m.rows (confirmed_rows (known_of rules me journal)) (confirmed_rows (known_of rules me (journal ++ rest))) (rows_stay (known_of rules me journal) (known_of rules me (journal ++ rest)) still) is.1)
+message_stays rules me to journal rest (packets.Seen ack) still is = is
 
 pub truth_stays : (rules : Rules) (me room : ℕ) (journal rest : List Record) (p : Packet) → AreInRange rules → 1 ≤ me → me ≤ rules.players
     → IsJournal rules me room (journal ++ rest) → IsTrue rules me journal p → IsTrue rules me (journal ++ rest) p

@@ -8,8 +8,8 @@ use Rattle.c8_known.specs.Known.{KnownValue, count_in}
 use Rattle.c8_window.specs.Window.{acked_more}
 use Rattle.c8_round.specs.Round.{with_report, with_have}
 use Rattle.c8_record.specs.Lent.{value_of}
-use Rattle.c8_peer.specs.declared.error.Refused.{Refused}
-use Rattle.c8_peer.specs.declared.error.Refused.TheVariants as refusals
+use Rattle.c8_refusals.specs.declared.error.Refused.{Refused}
+use Rattle.c8_refusals.specs.declared.error.Refused.TheVariants as refusals
 use Rattle.c8_peer.specs.declared.heard.Heard.TheVariants as heards
 use Rattle.c8_peer.specs.declared.verdict.Verdict.{Verdict}
 use Rattle.c8_peer.specs.declared.verdict.Verdict.TheVariants as verdicts
@@ -27,6 +27,8 @@ memory_after_message m head (packets.Data d) = record m { acks = acked_more m.ac
 memory_after_message m head (packets.Freeze f) = record m { stayer = with_have m.stayer f.leaver f.have }
 memory_after_message m head (packets.Frozen f) = record m { chair = with_report m.chair f.leaver head.from f.length }
 memory_after_message m head (packets.Cut c) = m
+memory_after_message m head (packets.Show shown) = m
+memory_after_message m head (packets.Seen ack) = m
 
 abbrev pub memory_after : Memory → Packet → Memory
 memory_after m p = memory_after_message m p.head p.message
@@ -39,6 +41,8 @@ AcksWithin k (packets.Data d) = d.ack ≤ count_in k k.me
 AcksWithin k (packets.Freeze f) = Unit {0}
 AcksWithin k (packets.Frozen f) = Unit {0}
 AcksWithin k (packets.Cut c) = Unit {0}
+AcksWithin k (packets.Show shown) = Unit {0}
+AcksWithin k (packets.Seen ack) = Unit {0}
 
 -- What a delivery comes to by its verdict, where the memory is one before it, and another once the datagram is noted. A
 -- machine that differs raises the alarm.

@@ -5,11 +5,11 @@ ghost use Rattle.c8_record.specs.Lent.{value_of};
 ghost use Rattle.c8_peer.specs.State.{Tick, Leave, Decide, Ticked, Left, Decided};
 
 use super::Peer;
-use crate::error::{DecideError, LeaveError, TickError};
 use crate::judging::{judge_decide, judge_leave, judge_tick};
 use c8_disk::Disk;
 use c8_game::{Keys, Player};
 use c8_record::Record;
+use c8_refusals::{DecideError, LeaveError, TickError};
 use c8_wire::Run;
 
 impl<'g, D: Disk> Peer<'g, D> {

@@ -10,7 +10,6 @@ ghost use Rattle.c8_peer.specs.checked.Held.{next_record, next_said};
 
 use super::{Peer, go_on};
 use crate::check::Check;
-use crate::error::CheckError;
 use c8_check::{Checks, PIECES};
 use c8_disk::Disk;
 use c8_game::Player;
@@ -18,6 +17,7 @@ use c8_known::Known;
 use c8_log::BODY_LENGTH;
 use c8_record::laws::journals_stay_within_the_window;
 use c8_record::{Record, body_of};
+use c8_refusals::CheckError;
 use c8_roll::Roll;
 use c8_wire::Run;
 

@@ -1,29 +1,31 @@
 //! A delivery.
-ghost use Rattle.std.specs.Prelude.{◌≡◌, true, false, None, Ok, OnOk};
+ghost use Rattle.std.specs.Prelude.{◌≡◌, ◌≤◌, true, false, Some, None, Ok, OnOk};
 ghost use Rattle.c8_wire.specs.Packet.{IsPacket};
 ghost use Rattle.c8_wire.specs.Lent.{packet_of};
 ghost use Rattle.c8_wire.specs.checked.Read.{read};
 ghost use Rattle.c8_hand.specs.Links.{refusal, IsForMe};
-ghost use Rattle.c8_known.specs.Known.{player_in};
-ghost use Rattle.c8_peer.specs.State.{Open, Deliver, Delivered};
-ghost use Rattle.c8_peer.specs.Hearing.{is_of_other_wire, hear_message};
+ghost use Rattle.c8_known.specs.Known.{Plays, player_in};
+ghost use Rattle.c8_known.specs.Confirmed.{confirmed};
+ghost use Rattle.c8_peer.specs.State.{Open, Deliver, Delivered, with_seen};
+ghost use Rattle.c8_peer.specs.Hearing.{is_of_other_wire, hear_message, seen_in};
 ghost use Rattle.c8_peer.specs.Lawful.{IsMemory};
 ghost use Rattle.c8_peer.specs.checked.Verdicts.{AcksWithin, Judges, memory_after};
 
 use super::Peer;
-use crate::error::Refused;
 use crate::heard::Heard;
-use crate::hearing::judge;
+use crate::hearing::{judge, judge_seen, rows_seen};
 use crate::verdict::Verdict;
 use c8_disk::Disk;
-use c8_wire::{Datagram, view};
+use c8_game::Player;
+use c8_refusals::Refused;
+use c8_wire::{Datagram, Watcher, view};
 
 impl<'g, D: Disk> Peer<'g, D> {
     ghost use Rattle.c8_peer.specs.Peer.{IsAnswered, known_by, told_by};
 
     /// Takes what came over the network: any bytes, of any length. They are read where they are.
     /// What they say is judged in this order: `Down`, `Dropped`, `Wire`, `OtherWire`, `Hand`, then by
-    /// kind, in the order of the lines in `specs/Hearing.antt`.
+    /// kind, in the order of the lines in `specs/Hearing.antt`. A SEEN needs no link.
     pub fn deliver(&mut self, bytes: &[u8]) -> Result<Heard, Refused>
         ensures { IsAnswered D.Disk self.old (Deliver (read bytes.now)) (Delivered result)
             self.new }
@@ -57,9 +59,12 @@ impl<'g, D: Disk> Peer<'g, D> {
         if self.is_of_other_wire(datagram) {
             return Err(Refused::OtherWire);
         }
-        match self.memory.links.admit(datagram) {
-            Ok(()) => self.hear(datagram),
-            Err(error) => Err(Refused::Hand(error)),
+        match rows_seen(datagram) {
+            Some(rows) => self.hear_seen(datagram, rows),
+            None => match self.memory.links.admit(datagram) {
+                Ok(()) => self.hear(datagram),
+                Err(error) => Err(Refused::Hand(error)),
+            },
         }
     }
 
@@ -84,9 +89,10 @@ impl<'g, D: Disk> Peer<'g, D> {
     {
         // For the proof: what is so of every peer.
         let _down = self.is_down();
-        match self.judge(datagram) {
+        let sender = self.sender_of(datagram);
+        match self.judge(sender, datagram) {
             Ok(Verdict::Nothing) => {
-                self.note(datagram);
+                self.note(sender, datagram);
                 Ok(Heard::Nothing)
             }
             Ok(Verdict::Alarm) => {
@@ -95,7 +101,7 @@ impl<'g, D: Disk> Peer<'g, D> {
             }
             Ok(Verdict::Keep(record, heard)) => match self.keep(&record) {
                 Ok(()) => {
-                    self.note(datagram);
+                    self.note(sender, datagram);
                     Ok(heard)
                 }
                 Err(error) => Err(Refused::Disk(error)),
@@ -104,23 +110,36 @@ impl<'g, D: Disk> Peer<'g, D> {
         }
     }
 
-    /// What a datagram that the links admit comes to.
-    fn judge<'a>(&self, datagram: &Datagram<'a>) -> Result<Verdict<'a>, Refused>
+    /// Who says a datagram that the links admit.
+    fn sender_of(&self, datagram: &Datagram<'_>) -> Player
         requires { IsForMe self.now.state.memory.links (packet_of datagram.now).head }
+        ensures from { result.number ≡ (packet_of datagram.now).head.from }
+        ensures plays { Plays (known_by self.now) result.number }
+    {
+        // For the proof: what is so of every peer.
+        let _down = self.is_down();
+        let Some(sender) = datagram.header().from().player() else {
+            unreachable!();
+        };
+        sender
+    }
+
+    /// What a datagram of a player comes to.
+    fn judge<'a>(&self, sender: Player, datagram: &Datagram<'a>) -> Result<Verdict<'a>, Refused>
+        requires from { sender.number ≡ (packet_of datagram.now).head.from }
+        requires plays { Plays (known_by self.now) sender.number }
         ensures judged { Judges (hear_message self.now.rules (told_by self.now)
             (known_by self.now) self.now.state.memory (packet_of datagram.now).head (packet_of datagram.now).message)
             self.now.state.memory
             (memory_after self.now.state.memory (packet_of datagram.now)) result }
         ensures acks { OnOk result (AcksWithin (known_by self.now) (packet_of datagram.now).message) }
     {
-        let Some(sender) = datagram.header().from().player() else {
-            unreachable!();
-        };
         judge(&self.known, self.roll.marks(), sender, datagram)
     }
 
-    /// Keeps in memory what a datagram says that nothing refuses.
-    fn note(&mut self, datagram: &Datagram<'_>)
+    /// Keeps in memory what a datagram of a player says that nothing refuses.
+    fn note(&mut self, sender: Player, datagram: &Datagram<'_>)
+        requires from { sender.number ≡ (packet_of datagram.now).head.from }
         requires admitted { refusal self.old.state.memory.links (packet_of datagram.now).head
             ≡ None }
         requires acks { AcksWithin (known_by self.old) (packet_of datagram.now).message }
@@ -132,7 +151,7 @@ impl<'g, D: Disk> Peer<'g, D> {
           };
         } }
     {
-        self.memory.note(&self.known, datagram);
+        self.memory.note(&self.known, sender, datagram);
     }
 
     fn raise_alarm(&mut self)
@@ -143,5 +162,44 @@ impl<'g, D: Disk> Peer<'g, D> {
         } }
     {
         self.memory.raise_alarm();
+    }
+
+    /// Takes a SEEN of the game's version: a watcher tells how many rows it has.
+    fn hear_seen(&mut self, datagram: &Datagram<'_>, rows: u32) -> Result<Heard, Refused>
+        requires up { self.old.state.mode ≡ Open }
+        requires stays { (player_in (known_by self.old) self.old.me).leaving ≡ false }
+        requires packet { IsPacket (packet_of datagram.now) }
+        requires wire { is_of_other_wire self.old.rules (packet_of datagram.now).head ≡ false }
+        requires seen { seen_in (packet_of datagram.now).message ≡ Some rows }
+        ensures { IsAnswered D.Disk self.old (Deliver (Ok (packet_of datagram.now)))
+            (Delivered result) self.new }
+    {
+        // For the proof: what is so of every peer.
+        let _down = self.is_down();
+        let head = datagram.header().head();
+        let Some(watcher) = head.from.watcher() else {
+            unreachable!();
+        };
+        match judge_seen(&self.known, &self.memory, &head, rows) {
+            Ok(()) => {
+                self.note_seen(watcher, rows);
+                Ok(Heard::Nothing)
+            }
+            Err(error) => Err(error),
+        }
+    }
+
+    /// Keeps how many rows a watcher has.
+    fn note_seen(&mut self, watcher: Watcher, rows: u32)
+        requires { rows ≤ confirmed (known_by self.old) }
+        ensures { self.new ≡ record self.old {
+          state = record self.old.state {
+            memory = record self.old.state.memory {
+              seen = with_seen self.old.state.memory.seen watcher.number rows;
+            };
+          };
+        } }
+    {
+        self.memory.seen(watcher, rows);
     }
 }

@@ -12,12 +12,11 @@ ghost use Rattle.c8_check.specs.Checks.{no_checks, or_first};
 ghost use Rattle.c8_check.specs.Seen.{value_of as checked};
 ghost use Rattle.c8_record.specs.Body.{records_of};
 ghost use Rattle.c8_record.specs.Replay.{AreJournalBodies};
-ghost use Rattle.c8_peer.specs.Opening.{last_epoch};
+ghost use Rattle.c8_peer.specs.Opening.{last_epoch, unfit};
 ghost use Rattle.c8_peer.specs.Opened.{disk_after, opening_body, IsOpened, IsRefusedFor, IsRefusedOpening, OpeningLeaves};
 ghost use Rattle.c8_peer.specs.checked.OpenedParts.{disk_read, disk_begun, IsRead, BeginRun, IsBegun, IsNotBegun, BeginningLeaves};
 
 use super::Peer;
-use crate::error::OpenError;
 use crate::memory::Memory;
 use c8_check::Checks;
 use c8_digest::Checkpoint;
@@ -27,6 +26,7 @@ use c8_known::Known;
 use c8_log::{BODY_LENGTH, Journal, Log, LogError};
 use c8_record::laws::checkpoints_are_in_order;
 use c8_record::{Record, ReplayError, body_of, replay};
+use c8_refusals::OpenError;
 use c8_roll::{Buffers, Roll};
 use std::alloc::{AllocError, Global};
 
@@ -165,7 +165,7 @@ fn read_journal<D: Disk>(
     let _count = log.len();
     match replay(&mut log, game, room, known, checks) {
         Ok(last) => Ok((log, last)),
-        Err(error) => Err((OpenError::from(error), log.close())),
+        Err(error) => Err((refused_as(error), log.close())),
     }
 }
 
@@ -230,17 +230,14 @@ fn opening_body(game: &Game, room: u64, me: Player, last: u32, is_first: bool) -
     body_of(&record)
 }
 
-impl From<ReplayError> for OpenError {
-    ghost use Rattle.c8_peer.specs.Opening.{unfit};
-
-    ghost from_gives = { λ error result. result ≡ unfit error };
-
-    fn from(error: ReplayError) -> OpenError {
-        match error {
-            ReplayError::WrongGame => OpenError::WrongGame,
-            ReplayError::WrongPlayer => OpenError::WrongPlayer,
-            ReplayError::BadRecord(n) => OpenError::BadRecord(n),
-            ReplayError::Disk(why) => OpenError::Disk(why),
-        }
+/// Why an opening is refused whose journal is.
+fn refused_as(error: ReplayError) -> OpenError
+    ensures { result ≡ unfit error }
+{
+    match error {
+        ReplayError::WrongGame => OpenError::WrongGame,
+        ReplayError::WrongPlayer => OpenError::WrongPlayer,
+        ReplayError::BadRecord(n) => OpenError::BadRecord(n),
+        ReplayError::Disk(why) => OpenError::Disk(why),
     }
 }

@@ -5,13 +5,13 @@ ghost use Rattle.c8_peer.specs.Asked.{saying_of};
 ghost use Rattle.c8_peer.specs.Saying.{newest_mark};
 
 use super::Peer;
-use crate::error::Unsayable;
 use crate::kind::Kind;
-use crate::saying::{judge_saying, message};
+use crate::saying::{judge_saying, message, rows_from};
 use c8_digest::{FrameMark, MARK_LENGTH};
 use c8_disk::Disk;
 use c8_game::Player;
-use c8_wire::{LONGEST_DATAGRAM, Said, write};
+use c8_refusals::Unsayable;
+use c8_wire::{Body, LONGEST_DATAGRAM, Said, Watcher, write};
 
 impl<'g, D: Disk> Peer<'g, D> {
     ghost use Rattle.c8_peer.specs.Peer.{IsStep, IsSaid, told_by};
@@ -49,6 +49,39 @@ impl<'g, D: Disk> Peer<'g, D> {
         );
         let head = self.memory.head(to, kind);
         Ok(write(&Said { head, body }, out))
+    }
+
+    /// Writes a SHOW to a watcher to the front of `out`, and answers its length, 30 to 158: the confirmed
+    /// rows from the first one on that it has not told it has, at most 16. Refusals are `Down`, and then
+    /// `NotMine` where this is not player one; after one `out` is as it was.
+    pub fn say_show(
+        &self,
+        watcher: Watcher,
+        out: &mut [u8; LONGEST_DATAGRAM],
+    ) -> Result<usize, Unsayable>
+        ensures said { IfOk result (λ size.
+            IsSaid self.now (states.Show watcher.number) (take size out.new)) }
+        ensures rest { IfOk result (λ size. drop size out.new ≡ drop size out.old) }
+        ensures fits { IfOk result (λ size. size ≤ LONGEST_DATAGRAM) }
+        ensures refused { IfErr result (λ error.
+            IsStep self.now (states.Show watcher.number) (states.Said (Err error)) self.now) }
+        ensures refused_leaves { OnErr result (out.new ≡ out.old) }
+    {
+        if self.is_down() {
+            return Err(Unsayable::Down);
+        }
+        if !self.known.me().is_chair() {
+            return Err(Unsayable::NotMine);
+        }
+        let start = self.memory.watchers.rows(watcher);
+        let rows = rows_from(&self.known, start);
+        let head = self.memory.show_head(watcher);
+        let body = Body::Show {
+            start,
+            rows: rows.as_slice(),
+        };
+        let said = Said { head, body };
+        Ok(write(&said, out))
     }
 
     /// The mark of the greatest multiple of 32 confirmed frames.

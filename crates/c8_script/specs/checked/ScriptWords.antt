@@ -10,11 +10,13 @@ use Rattle.c8_game.specs.GameText.{is_skipped}
 use Rattle.c8_game.specs.KeysText.{is_keys_text, keys_number}
 use Rattle.c8_game.specs.declared.row.Keys.{Keys}
 use Rattle.c8_game.specs.declared.row.Player.{Player}
+use Rattle.c8_wire.specs.declared.watcher.Watcher.{Watcher}
 use Rattle.c8_peer.specs.declared.kind.Kind.{Kind}
 use Rattle.c8_peer.specs.declared.kind.Kind.TheVariants.{Hello, Welcome, Data, Freeze, Frozen, Cut}
 use Rattle.c8_world.specs.declared.event.Act.{Act}
-use Rattle.c8_world.specs.declared.event.Act.TheVariants.{Open, Tick, Say, Give, Leave, Decide, Check}
+use Rattle.c8_world.specs.declared.event.Act.TheVariants.{Open, Tick, Say, Give, Leave, Decide, Check, Show, Hear, Seen, Fresh}
 use Rattle.c8_world.specs.declared.event.Event.{Event}
+use Rattle.c8_script.specs.Script.{may_be_held}
 use Rattle.c8_world.specs.declared.event.Event.TheVariants.{Do, Stop, Fail}
 
 -- the player of a number
@@ -30,6 +32,22 @@ abbrev pub player_in : List ℕ → Option Player
 player_in [] = None
 player_in (digit ∷ []) = player_of (digit - 48)
 player_in (digit ∷ next ∷ more) = None
+
+-- the watcher of a number
+abbrev pub watcher_of : ℕ → Option Watcher
+watcher_of zero = None
+watcher_of (suc zero) = None
+watcher_of (suc (suc zero)) = None
+watcher_of (suc (suc (suc zero))) = None
+watcher_of (suc (suc (suc (suc zero)))) = None
+watcher_of (suc (suc (suc (suc (suc zero))))) = Some (record { number = 5; from_five = lit≤ tt; to_six = lit≤ tt })
+watcher_of (suc (suc (suc (suc (suc (suc zero)))))) = Some (record { number = 6; from_five = lit≤ tt; to_six = lit≤ tt })
+watcher_of (suc (suc (suc (suc (suc (suc (suc n))))))) = None
+
+abbrev pub watcher_in : List ℕ → Option Watcher
+watcher_in [] = None
+watcher_in (digit ∷ []) = watcher_of (digit - 48)
+watcher_in (digit ∷ next ∷ more) = None
 
 abbrev pub keys_in : List ℕ → Option Keys
 keys_in word = if is_keys_text word then Some (record { 0 = keys_number word }) else None
@@ -57,25 +75,50 @@ act_of make one other = option_and_then (λ a. option_map (make a) other) one
 abbrev pub said_of : Option Player → Option Player → Option Kind → Option Act
 said_of player to what = option_and_then (λ p. act_of (Say p) to what) player
 
+-- the first act, if there is one, else the other
+abbrev pub act_or : Option Act → Option Act → Option Act
+act_or None other = other
+act_or (Some act) other = Some act
+
+-- what player one says to a watcher, and a watcher to player one
+abbrev pub shown_in : List ℕ → List ℕ → List ℕ → List (List ℕ) → Option Act
+shown_in one other what [] =
+    if bytes_eq what (codes "show") && bytes_eq one (codes "1") then option_map Show (watcher_in other)
+    else if bytes_eq what (codes "seen") && bytes_eq other (codes "1") then option_map Seen (watcher_in one)
+    else None
+shown_in one other what (next ∷ more) = None
+
 abbrev pub player_act_in : List ℕ → List ℕ → Option Act
 player_act_in verb player =
     if bytes_eq verb (codes "open") then option_map Open (player_in player)
     else if bytes_eq verb (codes "leave") then option_map Leave (player_in player)
     else if bytes_eq verb (codes "decide") then option_map Decide (player_in player)
     else if bytes_eq verb (codes "check") then option_map Check (player_in player)
+    else if bytes_eq verb (codes "fresh") then option_map Fresh (watcher_in player)
+    else None
+
+abbrev pub other_act_in : List ℕ → List ℕ → List ℕ → Option Act
+other_act_in verb one other =
+    if bytes_eq verb (codes "tick") then act_of Tick (player_in one) (keys_in other)
+    else if bytes_eq verb (codes "give") then act_or (act_of Give (number_in one) (player_in other)) (act_of Hear (number_in one) (watcher_in other))
+    else None
+
+abbrev pub saying_in : List ℕ → List ℕ → List ℕ → List ℕ → List (List ℕ) → Option Act
+saying_in verb one other what more =
+    if bytes_eq verb (codes "say") then act_or (said_of (player_in one) (player_in other) (kind_in what more)) (shown_in one other what more)
     else None
 
 abbrev pub act_in : List (List ℕ) → Option Act
 act_in [] = None
 act_in (verb ∷ []) = None
 act_in (verb ∷ player ∷ []) = player_act_in verb player
-act_in (verb ∷ one ∷ other ∷ []) =
-    if bytes_eq verb (codes "tick") then act_of Tick (player_in one) (keys_in other)
-    else if bytes_eq verb (codes "give") then act_of Give (number_in one) (player_in other)
-    else None
-act_in (verb ∷ one ∷ other ∷ what ∷ more) =
-    if bytes_eq verb (codes "say") then said_of (player_in one) (player_in other) (kind_in what more)
-    else None
+act_in (verb ∷ one ∷ other ∷ []) = other_act_in verb one other
+act_in (verb ∷ one ∷ other ∷ what ∷ more) = saying_in verb one other what more
+
+-- an act that a stop or a failure may hold
+abbrev pub held_in : Option Act → Option Act
+held_in None = None
+held_in (Some act) = if may_be_held act then Some act else None
 
 abbrev pub stop_of : Option Act → Option ℕ → Option ℕ → Option Event
 stop_of act calls pick = option_and_then (λ a. option_and_then (λ k. option_map (Stop a k) pick) calls) act
@@ -85,7 +128,7 @@ stop_in [] = None
 stop_in (verb ∷ []) = None
 stop_in (verb ∷ calls ∷ []) = None
 stop_in (verb ∷ calls ∷ pick ∷ act) =
-    if bytes_eq verb (codes "stop") then stop_of (act_in act) (number_in calls) (number_in pick) else None
+    if bytes_eq verb (codes "stop") then stop_of (held_in (act_in act)) (number_in calls) (number_in pick) else None
 
 abbrev pub fail_of : Option Act → Option ℕ → Option Event
 fail_of act calls = option_and_then (λ a. option_map (Fail a) calls) act
@@ -93,7 +136,7 @@ fail_of act calls = option_and_then (λ a. option_map (Fail a) calls) act
 abbrev pub fail_in : List (List ℕ) → Option Event
 fail_in [] = None
 fail_in (verb ∷ []) = None
-fail_in (verb ∷ calls ∷ act) = if bytes_eq verb (codes "fail") then fail_of (act_in act) (number_in calls) else None
+fail_in (verb ∷ calls ∷ act) = if bytes_eq verb (codes "fail") then fail_of (held_in (act_in act)) (number_in calls) else None
 
 abbrev pub stop_or_fail : Option Event → Option Event → Option Event
 stop_or_fail None fail = fail

@@ -1,10 +1,13 @@
 //! The words of a script's line, each shape in one arm.
 
 ghost use Rattle.std.specs.Prelude.{◌≡◌, map};
-ghost use Rattle.c8_script.specs.checked.ScriptWords.{event_in, stop_in, fail_in, act_in, player_act_in, kind_in, player_in, number_in};
+ghost use Rattle.c8_script.specs.checked.ScriptWords.{event_in, stop_in, fail_in, held_in, act_or, act_of, said_of, act_in, player_act_in, other_act_in, saying_in, shown_in, kind_in, player_in, watcher_in, number_in};
+ghost use Rattle.c8_script.specs.Script.{may_be_held};
+ghost use Rattle.c8_world.specs.declared.event.Act.TheVariants.{Give, Hear};
 
 use c8_game::{Keys, Player};
 use c8_peer::Kind;
+use c8_wire::Watcher;
 use c8_world::{Act, Event};
 
 /// The event that the words of a line spell.
@@ -30,7 +33,7 @@ fn stop_in(words: &[&[u8]]) -> Option<Event>
     if *verb != b"stop".as_slice() {
         return None;
     }
-    Some(Event::Stop(act_in(act)?, number_in(calls)?, number_in(pick)?))
+    Some(Event::Stop(held_in(act)?, number_in(calls)?, number_in(pick)?))
 }
 
 /// The failure that these words spell: its number, and then the act inside it.
@@ -43,7 +46,34 @@ fn fail_in(words: &[&[u8]]) -> Option<Event>
     if *verb != b"fail".as_slice() {
         return None;
     }
-    Some(Event::Fail(act_in(act)?, number_in(calls)?))
+    Some(Event::Fail(held_in(act)?, number_in(calls)?))
+}
+
+/// The act that these words spell, if a stop or a failure may hold it.
+fn held_in(words: &[&[u8]]) -> Option<Act>
+    ensures { result ≡ held_in (act_in (map (λ word. word.now) words.now)) }
+{
+    match act_in(words) {
+        Some(act) if may_be_held(act) => Some(act),
+        _ => None,
+    }
+}
+
+/// Whether a stop or a failure may hold an act: a watcher has no disk.
+fn may_be_held(act: Act) -> bool
+    ensures { result ≡ may_be_held act }
+{
+    match act {
+        Act::Open(_)
+        | Act::Tick(_, _)
+        | Act::Say(_, _, _)
+        | Act::Give(_, _)
+        | Act::Leave(_)
+        | Act::Decide(_)
+        | Act::Check(_)
+        | Act::Show(_) => true,
+        Act::Hear(_, _) | Act::Seen(_) | Act::Fresh(_) => false,
+    }
 }
 
 /// The act that these words spell.
@@ -52,18 +82,81 @@ fn act_in(words: &[&[u8]]) -> Option<Act>
 {
     match words {
         [verb, player] => player_act_in(verb, player),
-        [verb, player, keys] if *verb == b"tick".as_slice() => {
-            Some(Act::Tick(player_in(player)?, Keys::from_hex(keys)?))
-        }
-        [verb, number, player] if *verb == b"give".as_slice() => {
-            Some(Act::Give(number_in(number)?, player_in(player)?))
-        }
-        [verb, player, to, what, leaver @ ..] if *verb == b"say".as_slice() => Some(Act::Say(
-            player_in(player)?,
-            player_in(to)?,
-            kind_in(what, leaver)?,
-        )),
+        [verb, one, other] => other_act_in(verb, one, other),
+        [verb, one, other, what, more @ ..] => saying_in(verb, one, other, what, more),
         _ => None,
+    }
+}
+
+/// The act that a verb and two words spell.
+fn other_act_in(verb: &[u8], one: &[u8], other: &[u8]) -> Option<Act>
+    ensures { result ≡ other_act_in verb.now one.now other.now }
+{
+    if verb == b"tick".as_slice() {
+        Some(Act::Tick(player_in(one)?, Keys::from_hex(other)?))
+    } else if verb == b"give".as_slice() {
+        given_in(one, other)
+    } else {
+        None
+    }
+}
+
+/// The act that a verb and more than two words spell.
+fn saying_in(verb: &[u8], one: &[u8], other: &[u8], what: &[u8], more: &[&[u8]]) -> Option<Act>
+    ensures { result
+        ≡ saying_in verb.now one.now other.now what.now (map (λ word. word.now) more.now) }
+{
+    if verb == b"say".as_slice() {
+        spoken_in(one, other, what, more)
+    } else {
+        None
+    }
+}
+
+/// The act of one who is given a datagram.
+fn given_in(number: &[u8], to: &[u8]) -> Option<Act>
+    ensures { result ≡ act_or (act_of Give (number_in number.now) (player_in to.now)) (act_of Hear (number_in number.now) (watcher_in to.now)) }
+{
+    let number = number_in(number)?;
+    match player_in(to) {
+        Some(player) => Some(Act::Give(number, player)),
+        None => Some(Act::Hear(number, watcher_in(to)?)),
+    }
+}
+
+/// What one says to another.
+fn spoken_in(one: &[u8], other: &[u8], what: &[u8], more: &[&[u8]]) -> Option<Act>
+    ensures { result ≡ act_or (said_of (player_in one.now) (player_in other.now)
+        (kind_in what.now (map (λ word. word.now) more.now)))
+        (shown_in one.now other.now what.now (map (λ word. word.now) more.now)) }
+{
+    match said_in(one, other, what, more) {
+        Some(act) => Some(act),
+        None => shown_in(one, other, what, more),
+    }
+}
+
+/// What one player says to another.
+fn said_in(player: &[u8], to: &[u8], what: &[u8], leaver: &[&[u8]]) -> Option<Act>
+    ensures { result ≡ said_of (player_in player.now) (player_in to.now)
+        (kind_in what.now (map (λ word. word.now) leaver.now)) }
+{
+    Some(Act::Say(player_in(player)?, player_in(to)?, kind_in(what, leaver)?))
+}
+
+/// What player one says to a watcher, or a watcher to player one.
+fn shown_in(one: &[u8], other: &[u8], what: &[u8], more: &[&[u8]]) -> Option<Act>
+    ensures { result ≡ shown_in one.now other.now what.now (map (λ word. word.now) more.now) }
+{
+    if !more.is_empty() {
+        return None;
+    }
+    if what == b"show".as_slice() && one == b"1".as_slice() {
+        Some(Act::Show(watcher_in(other)?))
+    } else if what == b"seen".as_slice() && other == b"1".as_slice() {
+        Some(Act::Seen(watcher_in(one)?))
+    } else {
+        None
     }
 }
 
@@ -79,6 +172,8 @@ fn player_act_in(verb: &[u8], player: &[u8]) -> Option<Act>
         Some(Act::Decide(player_in(player)?))
     } else if verb == b"check".as_slice() {
         Some(Act::Check(player_in(player)?))
+    } else if verb == b"fresh".as_slice() {
+        Some(Act::Fresh(watcher_in(player)?))
     } else {
         None
     }
@@ -105,6 +200,18 @@ fn player_in(word: &[u8]) -> Option<Player>
 {
     match word {
         [digit @ b'1'..=b'4'] => Some(Player {
+            number: *digit - b'0',
+        }),
+        _ => None,
+    }
+}
+
+/// The watcher of one digit, 5 or 6.
+fn watcher_in(word: &[u8]) -> Option<Watcher>
+    ensures { result ≡ watcher_in word.now }
+{
+    match word {
+        [digit @ b'5'..=b'6'] => Some(Watcher {
             number: *digit - b'0',
         }),
         _ => None,

@@ -18,10 +18,10 @@ Wrote told u v = (text : List ℕ) × AreLines 1 told text × Appends u v text
 
 -- the match was played to its end, and all was written
 finished : (game script : List ℕ) (u v w : Option (List ℕ)) (transcript : Transcript) (told : List Answer) → IsOutcomeOfSim game script (Ok transcript) → told ≡ transcript.answers.items → Wrote told u v
-    → Appends v w (ends_text transcript.ends.players.items transcript.ends.agree) → HasEnded game script Done u w
+    → Appends v w (ends_text transcript.ends.players.items transcript.watched transcript.ends.agree) → HasEnded game script Done u w
 unfolding Wrote
 finished game script u v w transcript told is same wrote ends =
-    let text = ends_text transcript.ends.players.items transcript.ends.agree in
+    let text = ends_text transcript.ends.players.items transcript.watched transcript.ends.agree in
     record {
       outcome = Ok transcript;
       is_outcome = is;

@@ -33,6 +33,8 @@ returns-in-Ok-ends c =
       reads = ends.0;
       ends = ends.1;
       agree = c.in-Ok-ends.ensures.agree;
+      five = c.rows_told.ensures.five;
+      six = c.rows_told.ensures.six;
     }
 
 pub returns : goal.returns

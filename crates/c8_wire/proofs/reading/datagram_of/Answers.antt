@@ -2,7 +2,7 @@ use Rattle.std.proofs.Common.{◌≡◌, Some, ap, ◌∙◌, arith}
 use Rattle.c8_wire.specs.Packet.{AreBytes}
 use Rattle.c8_wire.specs.declared.kinds.DatagramKind.TheVariants as kinds
 use Rattle.c8_wire.specs.Reading.{kind_at}
-use Rattle.c8_wire.proofs.PacketLemmas.{found, hello_size, welcome_size, data_run, freeze_size, frozen_run, cut_run}
+use Rattle.c8_wire.proofs.PacketLemmas.{found, hello_size, welcome_size, data_run, freeze_size, frozen_run, cut_run, show_shape, seen_size}
 use Rattle.c8_wire.proofs.reading.datagram_of.Goals as goal
 
 pub invariant_of-result : goal.invariant_of-result
@@ -73,3 +73,18 @@ invariant_of-result-in-Cut-2 c =
     let named : kind_at bytes ≡ Some kinds.Cut = c.requires.kind ∙ ap Some c.in-Cut.is in
     let run = cut_run bytes fits named c.requires.accepted in
     record { long = run.long; few = run.short; sized = run.sized; paired = run.paired; spelled = found kinds.Cut bytes fits named c.requires.accepted }
+
+pub invariant_of-result-in-Show : goal.invariant_of-result-in-Show
+invariant_of-result-in-Show c =
+    let bytes = c.args.bytes.now in
+    let fits : AreBytes bytes = λ i. omega (arith, c.type_inv.bytes i) in
+    let named : kind_at bytes ≡ Some kinds.Show = c.requires.kind ∙ ap Some c.in-Show.is in
+    let is = show_shape bytes fits named c.requires.accepted in
+    record { few = is.short; size = is.size; spelled = found kinds.Show bytes fits named c.requires.accepted }
+
+pub invariant_of-result-in-Seen : goal.invariant_of-result-in-Seen
+invariant_of-result-in-Seen c =
+    let bytes = c.args.bytes.now in
+    let fits : AreBytes bytes = λ i. omega (arith, c.type_inv.bytes i) in
+    let named : kind_at bytes ≡ Some kinds.Seen = c.requires.kind ∙ ap Some c.in-Seen.is in
+    record { size = seen_size bytes fits named c.requires.accepted; spelled = found kinds.Seen bytes fits named c.requires.accepted }

@@ -5,15 +5,15 @@ use Rattle.c8_hand.specs.Links.{LinksValue, link_to, heard, OpensByWelcome}
 use Rattle.c8_hand.specs.checked.LinkLaws.{opens_by_welcome, known_rises}
 use Rattle.c8_hand.proofs.links.Links.hear.Goals as goal
 
-pub returns-clause-opens : goal.returns-clause-opens
-returns-clause-opens c =
+pub returns-in-Some-clause-opens : goal.returns-in-Some-clause-opens
+returns-in-Some-clause-opens c =
     let old : LinksValue = c.args.self.now in
     let head : HeadValue = (packet_of c.args.datagram.now).head in
     let same : c.take.new.self ≡ heard old head = search rules in
     subst (λ (new : LinksValue). OpensByWelcome old head new) (sym same) (opens_by_welcome old head c.requires)
 
-pub returns-clause-rises : goal.returns-clause-rises
-returns-clause-rises c =
+pub returns-in-Some-clause-rises : goal.returns-in-Some-clause-rises
+returns-in-Some-clause-rises c =
     let old : LinksValue = c.args.self.now in
     let head : HeadValue = (packet_of c.args.datagram.now).head in
     let same : c.take.new.self ≡ heard old head = search rules in

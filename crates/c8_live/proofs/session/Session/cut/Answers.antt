@@ -1,5 +1,5 @@
 use Rattle.std.proofs.Common.{◌≡◌, Err}
-use Rattle.c8_peer.specs.declared.error.DecideError.TheVariants as decides
+use Rattle.c8_refusals.specs.declared.error.DecideError.TheVariants as decides
 use Rattle.c8_live.specs.declared.error.SessionError.TheVariants.{Disk}
 use Rattle.c8_live.specs.Turns.{Cuts}
 use Rattle.c8_live.proofs.session.Session.cut.Goals as goal

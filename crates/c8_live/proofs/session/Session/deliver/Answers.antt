@@ -1,5 +1,5 @@
 use Rattle.std.proofs.Common.{◌≡◌, Err}
-use Rattle.c8_peer.specs.declared.error.Refused.TheVariants as refusals
+use Rattle.c8_refusals.specs.declared.error.Refused.TheVariants as refusals
 use Rattle.c8_live.proofs.session.Session.deliver.Goals as goal
 
 pub returns-in-Err-Disk-clause-end : goal.returns-in-Err-Disk-clause-end

@@ -1,5 +1,5 @@
 use Rattle.std.proofs.Common.{◌≡◌, Err}
-use Rattle.c8_peer.specs.declared.error.LeaveError.TheVariants as leaves
+use Rattle.c8_refusals.specs.declared.error.LeaveError.TheVariants as leaves
 use Rattle.c8_live.specs.declared.error.SessionError.TheVariants.{Disk}
 use Rattle.c8_live.specs.Turns.{LetsGo}
 use Rattle.c8_live.proofs.session.Session.let_go.Goals as goal

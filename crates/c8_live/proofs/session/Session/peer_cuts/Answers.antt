@@ -1,5 +1,5 @@
 use Rattle.std.proofs.Common.{ℕ, Result, ap}
-use Rattle.c8_peer.specs.declared.error.DecideError.{DecideError}
+use Rattle.c8_refusals.specs.declared.error.DecideError.{DecideError}
 use Rattle.c8_peer.specs.Peer.{luck_of}
 use Rattle.c8_peer.specs.State.{Decide, Decided}
 use Rattle.c8_live.proofs.session.Session.peer_cuts.Goals as goal

@@ -1,6 +1,6 @@
 use Rattle.std.proofs.Common.{Result, Ok, ap}
 use Rattle.c8_wire.specs.Lent.{packet_of}
-use Rattle.c8_peer.specs.declared.error.Refused.{Refused}
+use Rattle.c8_refusals.specs.declared.error.Refused.{Refused}
 use Rattle.c8_peer.specs.declared.heard.Heard.{Heard}
 use Rattle.c8_peer.specs.Peer.{luck_of}
 use Rattle.c8_peer.specs.State.{Deliver, Delivered}

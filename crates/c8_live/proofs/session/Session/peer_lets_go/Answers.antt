@@ -1,5 +1,5 @@
 use Rattle.std.proofs.Common.{Result, ap}
-use Rattle.c8_peer.specs.declared.error.LeaveError.{LeaveError}
+use Rattle.c8_refusals.specs.declared.error.LeaveError.{LeaveError}
 use Rattle.c8_peer.specs.Peer.{luck_of}
 use Rattle.c8_peer.specs.State.{Leave, Left}
 use Rattle.c8_live.proofs.session.Session.peer_lets_go.Goals as goal

@@ -1,6 +1,6 @@
 use Rattle.std.proofs.Common.{Result, ap, arith}
 use Rattle.c8_peer.specs.declared.check.Check.{Check}
-use Rattle.c8_peer.specs.declared.error.CheckError.{CheckError}
+use Rattle.c8_refusals.specs.declared.error.CheckError.{CheckError}
 use Rattle.c8_peer.specs.Peer.{luck_of}
 use Rattle.c8_peer.specs.State.{Checkpoint, Checked}
 use Rattle.c8_live.proofs.session.Session.peer_saves.Goals as goal

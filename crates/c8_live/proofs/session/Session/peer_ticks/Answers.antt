@@ -1,5 +1,5 @@
 use Rattle.std.proofs.Common.{Result, ap, arith}
-use Rattle.c8_peer.specs.declared.error.TickError.{TickError}
+use Rattle.c8_refusals.specs.declared.error.TickError.{TickError}
 use Rattle.c8_peer.specs.Peer.{luck_of}
 use Rattle.c8_peer.specs.State.{Tick, Ticked}
 use Rattle.c8_live.proofs.session.Session.peer_ticks.Goals as goal

@@ -1,5 +1,5 @@
 use Rattle.std.proofs.Common.{◌≡◌, Err, arith}
-use Rattle.c8_peer.specs.declared.error.CheckError.TheVariants as checks
+use Rattle.c8_refusals.specs.declared.error.CheckError.TheVariants as checks
 use Rattle.c8_live.specs.Turns.{Saves}
 use Rattle.c8_live.proofs.TurnLemmas.{done_still}
 use Rattle.c8_live.proofs.session.Session.save.Goals as goal

@@ -16,8 +16,8 @@ use Rattle.c8_roll.specs.checked.RollLaws.{roll_rules}
 use Rattle.c8_record.specs.Body.{body_of, record_of, records_of}
 use Rattle.c8_record.specs.checked.BodyLaws.{read_again}
 use Rattle.c8_peer.specs.declared.check.Check.{Check}
-use Rattle.c8_peer.specs.declared.error.CheckError.{CheckError}
-use Rattle.c8_peer.specs.declared.error.CheckError.TheVariants as checks
+use Rattle.c8_refusals.specs.declared.error.CheckError.{CheckError}
+use Rattle.c8_refusals.specs.declared.error.CheckError.TheVariants as checks
 use Rattle.c8_peer.specs.Told.{told_of}
 use Rattle.c8_peer.specs.State.{Open, Checkpoint, Checked, recorded, answered}
 use Rattle.c8_peer.specs.Peer.{PeerValue, mode_of, luck_of, LeavesJournal, IsAnswered}

@@ -1,14 +1,14 @@
-use Rattle.std.proofs.Common.{◌≡◌, ℕ, Ok, Err, Some, false, refl, sym, ap, ◌∙◌}
+use Rattle.std.proofs.Common.{◌≡◌, ℕ, Ok, Err, Some, None, false, refl, sym, ap, ◌∙◌}
 use Rattle.c8_wire.specs.Lent.{packet_of}
 use Rattle.c8_hand.specs.Links.{refusal}
 use Rattle.c8_known.specs.Known.{player_in}
 use Rattle.c8_record.specs.Body.{records_of}
 use Rattle.c8_peer.specs.Told.{told_of}
-use Rattle.c8_peer.specs.declared.error.Refused.TheVariants as refusals
+use Rattle.c8_refusals.specs.declared.error.Refused.TheVariants as refusals
 use Rattle.c8_peer.specs.declared.peer.Peer.TheInside.{Inside}
 use Rattle.c8_peer.specs.State.{Memory, Deliver, Delivered, answered}
 use Rattle.c8_peer.specs.Steps.{outcome}
-use Rattle.c8_peer.specs.Hearing.{is_of_other_wire}
+use Rattle.c8_peer.specs.Hearing.{is_of_other_wire, seen_in}
 use Rattle.c8_peer.specs.Peer.{PeerValue, mode_of}
 use Rattle.c8_peer.proofs.AnswerLemmas.{answers, outcome_seen}
 use Rattle.c8_peer.proofs.peer.Peer.deliver_datagram.Goals as goal
@@ -31,7 +31,8 @@ returns-in-Err g c =
     let no : refusal m.links head ≡ Some c.in-Err.error = ap (λ (y : Inside g.row.D.Denot). refusal y.memory.links head) (sym same) ∙ judged in
     let wire : is_of_other_wire c.self.inside.game.now head ≡ false =
     ap (λ (v : PeerValue g.row.D.Denot). is_of_other_wire v.rules head) c.self.view_is ∙ sym c.is_of_other_wire.ensures ∙ c.if-is_of_other_wire.false in
-    rw (stays, wire, no) refl in
+    let player : seen_in packet.message ≡ None = sym c.rows_seen.ensures ∙ c.in-None.is in
+    rw (stays, wire, player, no) refl in
     answers g.D.Disk c.args.self.now c.args.self.now.state.memory (Deliver (Ok packet)) (Delivered (Err (refusals.Hand c.in-Err.error))) c.is_down.ensures.sound
     (c.is_down.ensures.value ∙ ap mode_of c.if-is_down.false)
     (outcome_seen c.args.self.now c.self.inside.game.now c.self.inside.room c.self.inside.journal k m c.self.invariant.0 c.self.view_is (Deliver (Ok packet))

@@ -2,7 +2,7 @@ use Rattle.std.proofs.Common.{◌∙◌, ◌+◌, ◌++◌, ◌∷◌, [], Bool,
 use Rattle.std.specs.Prelude.{if◌then◌else◌}
 use Rattle.c8_wire.specs.Lent.{packet_of}
 use Rattle.c8_record.specs.Lent.{value_of}
-use Rattle.c8_peer.specs.declared.error.Refused.TheVariants as refusals
+use Rattle.c8_refusals.specs.declared.error.Refused.TheVariants as refusals
 use Rattle.c8_peer.specs.declared.heard.Heard.TheVariants as heards
 use Rattle.c8_peer.specs.State.{Deliver, Delivered, recorded}
 use Rattle.c8_peer.specs.Hearing.{taken}
@@ -16,12 +16,13 @@ use Rattle.c8_peer.proofs.MemoryLemmas.{memory_more}
 use Rattle.c8_peer.proofs.DeliveryLemmas.{heard_is, comes_to, heard_later, memory_noted, record_allowed, acks_kept, cause_of}
 use Rattle.c8_peer.proofs.AnswerLemmas.{answers, records, is_refused, with_record, without_record, Kept}
 use Rattle.c8_peer.proofs.peer.Peer.hear.Goals as goal
+use Rattle.c8_record.specs.checked.JournalLaws.{journal_more}
 
 pub note-requires-clause-memory : goal.note-requires-clause-memory
 note-requires-clause-memory g c =
     let v = c.args.self.now in
     let p = packet_of c.args.datagram.now in
-    let comes = comes_to v p verdicts.Nothing c.in-Ok-Nothing.field-0 c.requires.stays c.requires.wire c.requires.admitted c.in-Ok-Nothing.ensures.judged.0 c.in-Ok-Nothing.field-0-is in
+    let comes = comes_to v p verdicts.Nothing c.in-Ok-Nothing.field-0 c.requires.packet c.requires.stays c.requires.wire c.requires.admitted c.in-Ok-Nothing.ensures.judged.0 c.in-Ok-Nothing.field-0-is in
     memory_noted g.D.Disk v p (taken (memory_after v.state.memory p) heards.Nothing) c.is_down-down.ensures.sound c.requires.packet comes
 
 pub keep-requires-clause-allowed : goal.keep-requires-clause-allowed
@@ -29,7 +30,7 @@ keep-requires-clause-allowed g c =
     let v = c.args.self.now in
     let p = packet_of c.args.datagram.now in
     let r = value_of c.in-Ok-Keep.record in
-    let comes = comes_to v p (verdicts.Keep c.in-Ok-Keep.record c.in-Ok-Keep.heard) c.in-Ok-Keep.field-0 c.requires.stays c.requires.wire c.requires.admitted c.in-Ok-Keep.ensures.judged.0 c.in-Ok-Keep.field-0-is in
+    let comes = comes_to v p (verdicts.Keep c.in-Ok-Keep.record c.in-Ok-Keep.heard) c.in-Ok-Keep.field-0 c.requires.packet c.requires.stays c.requires.wire c.requires.admitted c.in-Ok-Keep.ensures.judged.0 c.in-Ok-Keep.field-0-is in
     record_allowed g.D.Disk v p (recorded (memory_after v.state.memory p) (Delivered (Ok c.in-Ok-Keep.heard)) r) r c.is_down-down.ensures.sound c.requires.packet comes refl
 
 pub note-requires-in-Ok-clause-acks : goal.note-requires-in-Ok-clause-acks
@@ -37,7 +38,7 @@ note-requires-in-Ok-clause-acks g c =
     let v = c.args.self.now in
     let p = packet_of c.args.datagram.now in
     let r = value_of c.in-Ok-Keep.record in
-    let comes = comes_to v p (verdicts.Keep c.in-Ok-Keep.record c.in-Ok-Keep.heard) c.in-Ok-Keep.field-0 c.requires.stays c.requires.wire c.requires.admitted c.in-Ok-Keep.ensures.judged.0 c.in-Ok-Keep.field-0-is in
+    let comes = comes_to v p (verdicts.Keep c.in-Ok-Keep.record c.in-Ok-Keep.heard) c.in-Ok-Keep.field-0 c.requires.packet c.requires.stays c.requires.wire c.requires.admitted c.in-Ok-Keep.ensures.judged.0 c.in-Ok-Keep.field-0-is in
     let may = record_allowed g.D.Disk v p (recorded (memory_after v.state.memory p) (Delivered (Ok c.in-Ok-Keep.heard)) r) r c.is_down-down.ensures.sound c.requires.packet comes refl in
     subst (λ (x : PeerValue g.row.D.Denot). AcksWithin (known_by x) p.message) (sym c.in-Ok.ensures.ok) (acks_kept g.D.Disk v p.message r c.is_down-down.ensures.sound may c.in-Ok-Keep.ensures.acks)
 
@@ -46,20 +47,20 @@ note-requires-in-Ok-clause-memory g c =
     let v = c.args.self.now in
     let p = packet_of c.args.datagram.now in
     let r = value_of c.in-Ok-Keep.record in
-    let comes = comes_to v p (verdicts.Keep c.in-Ok-Keep.record c.in-Ok-Keep.heard) c.in-Ok-Keep.field-0 c.requires.stays c.requires.wire c.requires.admitted c.in-Ok-Keep.ensures.judged.0 c.in-Ok-Keep.field-0-is in
+    let comes = comes_to v p (verdicts.Keep c.in-Ok-Keep.record c.in-Ok-Keep.heard) c.in-Ok-Keep.field-0 c.requires.packet c.requires.stays c.requires.wire c.requires.admitted c.in-Ok-Keep.ensures.judged.0 c.in-Ok-Keep.field-0-is in
     let stays = memory_noted g.D.Disk v p (recorded (memory_after v.state.memory p) (Delivered (Ok c.in-Ok-Keep.heard)) r) c.is_down-down.ensures.sound c.requires.packet comes in
     let sound = c.is_down-down.ensures.sound in
     let may = record_allowed g.D.Disk v p (recorded (memory_after v.state.memory p) (Delivered (Ok c.in-Ok-Keep.heard)) r) r sound c.requires.packet comes refl in
     let later = heard_later (verdicts.Keep c.in-Ok-Keep.record c.in-Ok-Keep.heard) c.in-Ok-Keep.field-0 c.in-Ok-Keep.ensures.judged.1 c.in-Ok-Keep.field-0-is in
     subst (λ (x : PeerValue g.row.D.Denot). IsMemory x.rules x.room x.me x.state.journal (memory_after x.state.memory p)) (sym c.in-Ok.ensures.ok)
-    (memory_more v.rules v.room v.me v.state.journal r (memory_after v.state.memory p) stays
+    (memory_more v.rules v.room v.me v.state.journal r (memory_after v.state.memory p) sound.range sound.plays.0 sound.plays.1 (journal_more v.rules v.me v.room v.state.journal r sound.is_journal may) stays
     (saving_play v.rules v.me v.room v.state.journal r sound.range sound.plays.0 sound.plays.1 sound.is_journal may later.0 sound.memory.saving))
 
 pub returns-in-Ok-Nothing : goal.returns-in-Ok-Nothing
 returns-in-Ok-Nothing g c =
     let v = c.args.self.now in
     let p = packet_of c.args.datagram.now in
-    let comes = comes_to v p verdicts.Nothing c.in-Ok-Nothing.field-0 c.requires.stays c.requires.wire c.requires.admitted c.in-Ok-Nothing.ensures.judged.0 c.in-Ok-Nothing.field-0-is in
+    let comes = comes_to v p verdicts.Nothing c.in-Ok-Nothing.field-0 c.requires.packet c.requires.stays c.requires.wire c.requires.admitted c.in-Ok-Nothing.ensures.judged.0 c.in-Ok-Nothing.field-0-is in
     subst (λ (x : PeerValue g.row.D.Denot). IsAnswered g.D.Disk v (Deliver (Ok p)) (Delivered (Ok heards.Nothing)) x) (sym c.note.ensures)
     (answers g.D.Disk v (memory_after v.state.memory p) (Deliver (Ok p)) (Delivered (Ok heards.Nothing)) c.is_down-down.ensures.sound c.requires.up comes refl)
 
@@ -67,7 +68,7 @@ pub returns-in-Ok-Alarm : goal.returns-in-Ok-Alarm
 returns-in-Ok-Alarm g c =
     let v = c.args.self.now in
     let p = packet_of c.args.datagram.now in
-    let comes = comes_to v p verdicts.Alarm c.in-Ok-Alarm.field-0 c.requires.stays c.requires.wire c.requires.admitted c.in-Ok-Alarm.ensures.judged.0 c.in-Ok-Alarm.field-0-is in
+    let comes = comes_to v p verdicts.Alarm c.in-Ok-Alarm.field-0 c.requires.packet c.requires.stays c.requires.wire c.requires.admitted c.in-Ok-Alarm.ensures.judged.0 c.in-Ok-Alarm.field-0-is in
     subst (λ (x : PeerValue g.row.D.Denot). IsAnswered g.D.Disk v (Deliver (Ok p)) (Delivered (Err refusals.Desync)) x) (sym c.raise_alarm.ensures)
     (answers g.D.Disk v _ (Deliver (Ok p)) (Delivered (Err refusals.Desync)) c.is_down-down.ensures.sound c.requires.up comes refl)
 
@@ -77,7 +78,7 @@ returns-in-Ok g c =
     let p = packet_of c.args.datagram.now in
     let r = value_of c.in-Ok-Keep.record in
     let noted = memory_after v.state.memory p in
-    let comes = comes_to v p (verdicts.Keep c.in-Ok-Keep.record c.in-Ok-Keep.heard) c.in-Ok-Keep.field-0 c.requires.stays c.requires.wire c.requires.admitted c.in-Ok-Keep.ensures.judged.0 c.in-Ok-Keep.field-0-is in
+    let comes = comes_to v p (verdicts.Keep c.in-Ok-Keep.record c.in-Ok-Keep.heard) c.in-Ok-Keep.field-0 c.requires.packet c.requires.stays c.requires.wire c.requires.admitted c.in-Ok-Keep.ensures.judged.0 c.in-Ok-Keep.field-0-is in
     let leaves = subst (LeavesJournal g.D.Disk) c.in-Ok.ensures.ok c.in-Ok.ensures.journal in
     let kept : Kept g.D.Disk v r (Ok tt) c.keep.new.self.disk =
     record { any_moment = c.in-Ok.ensures.any_moment; changes = c.in-Ok.ensures.changes; same = c.in-Ok.ensures.same; asks = c.in-Ok.ensures.asks } in
@@ -96,7 +97,7 @@ returns-in-Err-keep g c =
     let r = value_of c.in-Ok-Keep.record in
     let why = c.in-Err-keep.error in
     let is = c.in-Err-keep.ensures.err in
-    let comes = comes_to v p (verdicts.Keep c.in-Ok-Keep.record c.in-Ok-Keep.heard) c.in-Ok-Keep.field-0 c.requires.stays c.requires.wire c.requires.admitted c.in-Ok-Keep.ensures.judged.0 c.in-Ok-Keep.field-0-is in
+    let comes = comes_to v p (verdicts.Keep c.in-Ok-Keep.record c.in-Ok-Keep.heard) c.in-Ok-Keep.field-0 c.requires.packet c.requires.stays c.requires.wire c.requires.admitted c.in-Ok-Keep.ensures.judged.0 c.in-Ok-Keep.field-0-is in
     let leaves = subst (LeavesJournal g.D.Disk) is c.in-Err-keep.ensures.journal in
     let kept : Kept g.D.Disk v r (Err why) c.keep.new.self.disk =
     record { any_moment = c.in-Err-keep.ensures.any_moment; changes = c.in-Err-keep.ensures.changes; same = c.in-Err-keep.ensures.same; asks = c.in-Err-keep.ensures.asks } in
@@ -108,5 +109,5 @@ pub returns-in-Err : goal.returns-in-Err
 returns-in-Err g c =
     let v = c.args.self.now in
     let p = packet_of c.args.datagram.now in
-    let comes = heard_is v p c.requires.stays c.requires.wire c.requires.admitted ∙ c.in-Err.ensures.judged.0 in
+    let comes = heard_is v p c.requires.packet c.requires.stays c.requires.wire c.requires.admitted ∙ c.in-Err.ensures.judged.0 in
     answers g.D.Disk v v.state.memory (Deliver (Ok p)) (Delivered (Err c.in-Err.error)) c.is_down-down.ensures.sound c.requires.up comes c.in-Err.ensures.judged.1

@@ -1,7 +1,6 @@
-use Rattle.std.proofs.Common.{◌≡◌, ◌∙◌, arith, ap, subst}
-use Rattle.c8_wire.specs.Packet.{HeadValue}
+use Rattle.std.proofs.Common.{◌∙◌, ap, sym, subst}
 use Rattle.c8_wire.specs.Lent.{packet_of}
-use Rattle.c8_known.specs.Known.{KnownValue}
+use Rattle.c8_known.specs.Known.{KnownValue, Plays}
 use Rattle.c8_known.specs.Confirmed.{confirmed}
 use Rattle.c8_check.specs.Checks.{begun_at}
 use Rattle.c8_record.specs.Body.{records_of}
@@ -12,16 +11,13 @@ use Rattle.c8_peer.specs.Told.{told_of}
 use Rattle.c8_peer.specs.Hearing.{hear_message}
 use Rattle.c8_peer.specs.Peer.{PeerValue, known_by, told_by}
 use Rattle.c8_peer.specs.checked.Verdicts.{Judges, memory_after}
-use Rattle.c8_peer.proofs.ReaderLemmas.{plays_inside}
+use Rattle.c8_peer.proofs.ReaderLemmas.{known_is}
 use Rattle.c8_peer.proofs.peer.Peer.judge.Goals as goal
 
 pub judge-requires-clause-plays : goal.judge-requires-clause-plays
 judge-requires-clause-plays g c =
-    let v = c.args.self.now in
-    let players = subst (λ (x : PeerValue g.row.D.Denot). x.state.memory.links.players ≡ x.rules.players) c.self.view_is c.self.invariant.0.memory.players in
-    let from = ap (λ (head : HeadValue). head.from) c.header.ensures in
-    plays_inside v c.self.inside.game.now c.self.inside.room c.self.inside.journal c.self.inside.known c.self.inside.memory c.in-Some.sender.number c.self.view_is c.self.invariant.0 c.in-Some.sender.from_one
-    (omega (arith, c.in-Some.ensures, c.from.ensures, from, c.requires.plays, players))
+    subst (λ (known : KnownValue). Plays known c.args.sender.number)
+    (sym (known_is c.args.self.now c.self.inside.game.now c.self.inside.room c.self.inside.journal c.self.inside.known c.self.inside.memory c.self.view_is c.self.invariant.0)) c.requires.plays
 
 pub returns-clause-judged : goal.returns-clause-judged
 unfolding told_of

@@ -17,7 +17,7 @@ pub returns-in-Err-clause-refused : goal.returns-in-Err-clause-refused
 returns-in-Err-clause-refused g c =
     let rules = c.args.game.now in
     let me = c.args.known.now.me in
-    rw (c.from.ensures, c.close.ensures)
+    rw (c.refused_as.ensures, c.close.ensures)
     (refused_reading g.D.Disk g.met.D.Disk.reads_now c.args.disk c.in-Ok.log.disk c.replay.new.log.disk rules c.args.room me c.replay.new.known
     c.in-Ok.ensures.kept c.in-Ok.ensures.repaired (c.in-Ok.ensures.at_rest).durable c.in-Ok.ensures.same c.replay.ensures.reads (value_of c.replay.new.checks) c.in-Err.error
     (read_run g.D.Disk c.args.disk rules c.args.room me c.in-Ok.log.disk c.replay.new.log.disk (Err c.in-Err.error) (told_by (Err c.in-Err.error)) c.in-Ok.ensures.asks c.in-Ok.ensures.kept c.in-Err.ensures.asks)

@@ -9,8 +9,8 @@ use Rattle.c8_peer.specs.Steps.{Stepped}
 use Rattle.c8_peer.specs.Opening.{Stands, found, opened}
 use Rattle.c8_peer.specs.Peer.{stepped}
 use Rattle.c8_peer.specs.Runs.{After}
-use Rattle.c8_peer.specs.declared.error.OpenError.{OpenError}
-use Rattle.c8_peer.specs.declared.error.OpenError.TheVariants as opens
+use Rattle.c8_refusals.specs.declared.error.OpenError.{OpenError}
+use Rattle.c8_refusals.specs.declared.error.OpenError.TheVariants as opens
 use Rattle.c8_peer.specs.Opened.{IsOpened, IsRefusedOpening}
 use Rattle.c8_disk.specs.declared.mem_disk.MemDisk.{MemDisk}
 use Rattle.c8_disk.specs.contracts.mem_disk.MemDiskDisk.TheImpl.{ghosts}

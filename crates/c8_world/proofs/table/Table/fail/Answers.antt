@@ -35,5 +35,5 @@ returns-clause-disks c =
     let acted = c.act-result.new.self in
     let new = c.arm-2.new.self in
     are_armed_round old armed acted new _ (arms.Once c.args.calls) arms.Off c.arm.ensures.same c.act-result.ensures.same
-    (subst (λ (p : ℕ). AreArmed (for_player p (arms.Once c.args.calls ∷ [])) old armed) c.player-player.ensures c.arm.ensures.disks) c.act-result.ensures.disks
-    (subst (λ (p : ℕ). AreArmed (for_player p (arms.Off ∷ [])) acted new) c.player-player.ensures c.arm-2.ensures.disks)
+    (subst (λ (p : ℕ). AreArmed (for_player p (arms.Once c.args.calls ∷ [])) old armed) c.seat-player.ensures c.arm.ensures.disks) c.act-result.ensures.disks
+    (subst (λ (p : ℕ). AreArmed (for_player p (arms.Off ∷ [])) acted new) c.seat-player.ensures c.arm-2.ensures.disks)

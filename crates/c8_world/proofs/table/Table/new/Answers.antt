@@ -1,5 +1,6 @@
-use Rattle.std.proofs.Common.{◌-◌, arith}
+use Rattle.std.proofs.Common.{◌-◌, ap, arith}
 use Rattle.std.specs.Prelude.{None}
+use Rattle.c8_spectator.specs.Watching.{WatchValue}
 use Rattle.c8_world.specs.Table.{IsNodeed, IsUntouched}
 use Rattle.c8_world.specs.Disks.{IsNewDisk}
 use Rattle.c8_world.proofs.LifeLemmas.{node_more, start_holds}
@@ -17,7 +18,9 @@ loop-preserved c = record {
 
 -- src/table.rt:114:5
 pub returns-clause-holds : goal.returns-clause-holds
-returns-clause-holds c = start_holds _ (omega arith, omega arith, c.loop.invariant.nodeed) c.loop.invariant.untouched c.new.ensures
+returns-clause-holds c =
+    start_holds _ (omega arith, omega arith, c.loop.invariant.nodeed) c.loop.invariant.untouched c.new.ensures
+    (ap (λ (v : WatchValue). v.rows) c.in_ok-open.ensures) (ap (λ (v : WatchValue). v.rows) c.in_ok-open-2.ensures)
 
 pub returns-clause-disks : goal.returns-clause-disks
 returns-clause-disks c p plays =

@@ -11,7 +11,7 @@ use Rattle.c8_world.proofs.table.Table.stop.Goals as goal
 pub returns-in-Ok-clause-happened : goal.returns-in-Ok-clause-happened
 returns-in-Ok-clause-happened c w holds =
     let armed = c.arm.ensures.armed.holds w holds in
-    let crashes = subst (λ (p : ℕ). (v : World) → Holds c.act.new.self v → HasCrashed c.act.new.self v p c.crash.new.self) c.player-player.ensures c.crash.ensures.crashed.crashed in
+    let crashes = subst (λ (p : ℕ). (v : World) → Holds c.act.new.self v → HasCrashed c.act.new.self v p c.crash.new.self) c.seat-player.ensures c.crash.ensures.crashed.crashed in
     happened_from c.args.self.now c.arm.new.self c.crash.new.self w (Stop (act_of c.args.act) c.args.calls c.args.pick) answers.Stopped c.arm.ensures.same
     (stop_happens c.arm.new.self c.act.new.self c.crash.new.self w (act_of c.args.act) c.args.calls c.args.pick c.in-Ok.field-0 armed c.act.ensures.same c.crash.ensures.same
     (c.in-Ok.ensures.happened w armed) crashes)
@@ -28,9 +28,9 @@ returns-in-Ok-clause-turn c = (
     armed = c.arm.new.self;
     acted = c.act.new.self;
     answer = c.in-Ok.field-0;
-    begins = subst (λ (p : ℕ). IsArmed p (arms.Stop c.args.calls) c.args.self.now c.arm.new.self) c.player-player.ensures c.arm.ensures.armed;
+    begins = subst (λ (p : ℕ). IsArmed p (arms.Stop c.args.calls) c.args.self.now c.arm.new.self) c.seat-player.ensures c.arm.ensures.armed;
     does = c.in-Ok.ensures.turn;
-    crashes = subst (λ (p : ℕ). IsCrashed p c.args.pick c.act.new.self c.crash.new.self) c.player-player.ensures c.crash.ensures.crashed;
+    crashes = subst (λ (p : ℕ). IsCrashed p c.args.pick c.act.new.self c.crash.new.self) c.seat-player.ensures c.crash.ensures.crashed;
   },
 )
 
@@ -38,7 +38,7 @@ pub returns-in-Err-clause-turn_out : goal.returns-in-Err-clause-turn_out
 returns-in-Err-clause-turn_out c = record {
   armed = c.arm.new.self;
   undone = c.act.new.self;
-  begins = subst (λ (p : ℕ). IsArmed p (arms.Stop c.args.calls) c.args.self.now c.arm.new.self) c.player-player.ensures c.arm.ensures.armed;
+  begins = subst (λ (p : ℕ). IsArmed p (arms.Stop c.args.calls) c.args.self.now c.arm.new.self) c.seat-player.ensures c.arm.ensures.armed;
   does = c.in-Err.ensures.turn_out;
-  ends = subst (λ (p : ℕ). IsArmed p arms.Off c.act.new.self c.arm-in-Err.new.self) c.player-player.ensures c.arm-in-Err.ensures.armed;
+  ends = subst (λ (p : ℕ). IsArmed p arms.Off c.act.new.self c.arm-in-Err.new.self) c.seat-player.ensures c.arm-in-Err.ensures.armed;
 }

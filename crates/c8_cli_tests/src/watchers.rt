@@ -1,0 +1,181 @@
+//! Two who watch a match over the loopback, on ways that lose every third packet.
+use c8_game::Player;
+use c8_net::{Asked, WatchAsked, peer, watch};
+use c8_wire::Watcher;
+use mio::net::UdpSocket;
+use std::fs;
+use std::fs::File;
+use std::net::{Ipv4Addr, Net, SocketAddr};
+use std::rt::Files;
+use std::sync::Wait;
+use std::sync::atomic::{AtomicBool, Ordering};
+use std::test::Fail;
+use std::thread::{Threads, join, sleep};
+use std::time::{Clock, Duration};
+
+/// A game of two players and 40 frames: V0 counts the loops, V1 those in which key 5 is down.
+const GAME: &str =
+    "players 2\nipf 10\nframes 40\ndelay 0\nwindow 8\nseed 0\nmask1 ffff\nmask2 ffff\ncode 6205e2a1710170011202\n";
+
+const GAME_FILE: &str = "cli_watchers.game";
+
+/// Where the players are; below the ports that a system hands out.
+const ONE: &str = "127.0.0.1:21401";
+
+const TWO: &str = "127.0.0.1:21402";
+
+/// One who watches, from where, and where one is who carries packets between it and player one.
+#[derive(Clone, Copy)]
+struct Far {
+    seat: Watcher,
+    local: &'static str,
+    port: u16,
+    carrier: &'static str,
+    carrier_port: u16,
+}
+
+const FIVE: Far = Far {
+    seat: Watcher { number: 5 },
+    local: "127.0.0.1:21405",
+    port: 21_405,
+    carrier: "127.0.0.1:21415",
+    carrier_port: 21_415,
+};
+
+const SIX: Far = Far {
+    seat: Watcher { number: 6 },
+    local: "127.0.0.1:21406",
+    port: 21_406,
+    carrier: "127.0.0.1:21416",
+    carrier_port: 21_416,
+};
+
+/// A port here.
+fn at(port: u16) -> SocketAddr {
+    SocketAddr::from((Ipv4Addr::LOCALHOST, port))
+}
+
+/// What a player's peer prints; nothing where it is refused.
+fn played<'x, R>(
+    rt: &R,
+    number: u8,
+    local: &'x str,
+    remote: &'x str,
+    watchers: [Option<&'x str>; 2],
+) -> Vec<u8>
+where
+    R: Files<File = File> + Net + Clock + Threads + Wait + Sync + AllocGlobal,
+{
+    let journal = if number == 1 {
+        "cli_watched_one.journal"
+    } else {
+        "cli_watched_two.journal"
+    };
+    let asked = Asked {
+        game: GAME_FILE,
+        player: Player::new(number).unwrap_or(Player::CHAIR),
+        journal,
+        local,
+        remotes: Some(&[remote]),
+        watchers,
+        room: 9,
+        turns: 10_000,
+        patience: None,
+        stop: None,
+        checkpoint: 0,
+        progress: false,
+        explain: false,
+    };
+    let (mut report, mut refused) = (Vec::new(rt.alloc()), Vec::new(rt.alloc()));
+    let keys = b"0020\n0000\n0020\n".as_slice();
+    let _ended = peer(rt, &asked, keys, &mut report, &mut refused);
+    report
+}
+
+/// What one who watches prints; nothing where it is refused.
+fn watched<R>(rt: &R, far: Far, is_over: &AtomicBool) -> Vec<u8>
+where
+    R: Files<File = File> + Net + Clock + Threads + Wait + Sync + AllocGlobal,
+{
+    let asked = WatchAsked {
+        game: GAME_FILE,
+        seat: far.seat,
+        local: far.local,
+        remote: far.carrier,
+        room: 9,
+        turns: 10_000,
+        stop: None,
+        screen: false,
+        explain: false,
+    };
+    let (mut report, mut refused) = (Vec::new(rt.alloc()), Vec::new(rt.alloc()));
+    let _ended = watch(rt, &asked, &mut report, &mut refused);
+    is_over.store(true, Ordering::SeqCst);
+    report
+}
+
+/// Carries packets between player one and one who watches, and loses every third one, until it is over.
+fn carry<R: Net + Clock + Wait>(rt: &R, far: Far, is_over: &AtomicBool) {
+    let (watcher, one) = (at(far.port), at(21_401));
+    let Ok(socket) = UdpSocket::bind(rt, at(far.carrier_port)) else {
+        return;
+    };
+    let mut packet = [0; 300];
+    let mut count: u8 = 0;
+    for _ in rt.forever() {
+        if is_over.load(Ordering::SeqCst) {
+            break;
+        }
+        match socket.recv_from(&mut packet) {
+            Ok((size, from)) => {
+                count = if count == 2 {
+                    0
+                } else {
+                    count.saturating_add(1)
+                };
+                if count > 0 {
+                    let to = if from == watcher { one } else { watcher };
+                    let _ = socket.send_to(&packet[..size], to);
+                }
+            }
+            Err(_) => sleep(rt, Duration::from_micros(100)),
+        }
+    }
+}
+
+/// Both who watch print what player one prints, though every third packet on the way is lost.
+#[test]
+fn two_watchers_print_player_ones_report(rt: HostRuntime) -> Result<(), Fail> {
+    fs::write(&rt, GAME_FILE, GAME)?;
+    let watchers = [Some(FIVE.carrier), Some(SIX.carrier)];
+    let (over_five, over_six) = (AtomicBool::new(false), AtomicBool::new(false));
+    let ((one, two), ((five, ()), (six, ()))) = join(
+        &rt,
+        || join(
+            &rt,
+            || played(&rt, 1, ONE, TWO, watchers),
+            || played(&rt, 2, TWO, ONE, [None, None]),
+        ),
+        || join(
+            &rt,
+            || join(
+                &rt,
+                || watched(&rt, FIVE, &over_five),
+                || carry(&rt, FIVE, &over_five),
+            ),
+            || join(
+                &rt,
+                || watched(&rt, SIX, &over_six),
+                || carry(&rt, SIX, &over_six),
+            ),
+        ),
+    );
+    assert!(rt; one.starts_with(b"frames 40\n"));
+    assert!(rt; two.as_slice() == one.as_slice());
+    assert!(rt; five.as_slice() == one.as_slice());
+    assert!(rt; six.as_slice() == one.as_slice());
+    fs::remove_file(&rt, GAME_FILE)?;
+    fs::remove_file(&rt, "cli_watched_one.journal")?;
+    fs::remove_file(&rt, "cli_watched_two.journal")?;
+    Ok(())
+}

@@ -1,0 +1,58 @@
+//! What player one shows those who watch.
+
+ghost use Rattle.std.specs.Prelude.{◌≡◌};
+ghost use Rattle.c8_live.specs.Turns.{HasSpoken};
+
+use super::Session;
+use crate::error::WireFailed;
+use crate::laws::sayings_join;
+use crate::wire::Wire;
+use c8_disk::Disk;
+use c8_wire::{LONGEST_DATAGRAM, Seat, Watcher};
+
+/// Which seats of watchers are taken.
+#[derive(Clone, Copy, Debug, Default)]
+pub(super) struct Watchers {
+    five: bool,
+    six: bool,
+}
+
+impl<'g, D: Disk> Session<'g, D> {
+    /// From now on a watcher is shown what is confirmed: one SHOW a turn, from the first row on that it has
+    /// not told it has. Where this is not player one nothing is shown.
+    pub fn show_to(&mut self, watcher: Watcher)
+        ensures { self.new.peer ≡ self.old.peer }
+    {
+        if watcher.number == 5 {
+            self.watchers.five = true;
+        } else {
+            self.watchers.six = true;
+        }
+    }
+
+    /// Shows each watcher what it lacks.
+    pub(super) fn show<W: Wire>(&self, wire: &mut W) -> Result<(), WireFailed>
+        ensures spoke { HasSpoken D.Disk W.Wire self.now.peer wire.old wire.new }
+    {
+        sayings_join::<D, W>();
+        if self.watchers.five {
+            self.show_one(wire, Watcher { number: 5 })?;
+        }
+        if self.watchers.six {
+            self.show_one(wire, Watcher { number: 6 })?;
+        }
+        Ok(())
+    }
+
+    /// Shows a watcher the rows that come next there, if that can be said.
+    fn show_one<W: Wire>(&self, wire: &mut W, watcher: Watcher) -> Result<(), WireFailed>
+        ensures spoke { HasSpoken D.Disk W.Wire self.now.peer wire.old wire.new }
+    {
+        sayings_join::<D, W>();
+        let mut datagram = [0; LONGEST_DATAGRAM];
+        match self.peer.say_show(watcher, &mut datagram) {
+            Ok(size) => wire.send(Seat::from(watcher), &datagram[..size]),
+            Err(_) => Ok(()),
+        }
+    }
+}

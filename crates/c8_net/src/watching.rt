@@ -1,0 +1,164 @@
+//! `c8play watch`: a match is watched over UDP, and nothing is entered.
+//!
+//! What a turn is c8_watch says; `arguments` says what the command takes, `stage` has its two threads, and
+//! `drawing` the picture.
+
+ghost use Rattle.std.specs.Prelude.{◌≡◌, IfOk, Result};
+ghost use Rattle.c8_command.specs.Status.{status_of_outcome};
+ghost use Rattle.c8_keys.specs.declared.lines.Played.{Played};
+ghost use Rattle.c8_net.specs.Errors.{peer_part};
+ghost use Rattle.c8_net.specs.Match.{HasWatched};
+ghost use Rattle.c8_net.specs.declared.error.PeerError.{PeerError};
+
+mod arguments;
+mod drawing;
+mod stage;
+
+use crate::addresses::{Addresses, no_address};
+use crate::command::refuse;
+use crate::error::{PeerError, SocketError};
+use crate::fault::Fault;
+use crate::udp::Udp;
+use arguments::asked_of;
+pub use arguments::{WatchAsked, watch_command};
+use c8_command::{Status, read_file};
+use c8_game::Game;
+use c8_keys::{Played, write_report};
+use c8_live::Wire;
+use c8_peer::OpenError;
+use c8_spectator::Spectator;
+use c8_watch::laws::turns_take_nothing_back;
+use clap::ArgMatches;
+use stage::Stage;
+use std::fs::File;
+use std::io;
+use std::io::Write;
+use std::net::Net;
+use std::rt::Files;
+use std::sync::Wait;
+use std::thread::Threads;
+use std::time::Clock;
+
+/// Watches what the command line asks for, as `watch` does. A screen is drawn only where `out` is a
+/// terminal; where it is asked for and is none, the command line is refused. The error is that of a writer.
+pub fn watch_given<R, W, E>(
+    rt: &R,
+    given: &ArgMatches<'_>,
+    is_terminal: bool,
+    out: &mut W,
+    refused: &mut E,
+) -> io::Result<Status>
+where
+    R: Files<File = File> + Net + Clock + Threads + Wait + Sync + AllocGlobal,
+    W: Write,
+    E: Write,
+{
+    match asked_of(given) {
+        Some(asked) if asked.screen && !is_terminal => {
+            writeln!(refused, "error: --screen wants a terminal to draw on")?;
+            Ok(Status::CommandLine)
+        }
+        Some(asked) => watch(rt, &asked, out, refused),
+        None => Ok(Status::CommandLine),
+    }
+}
+
+/// Watches a match: the report of the machine after the frames that player one has shown goes to `out`,
+/// and the screen before it, where that is asked for; the line of a refusal goes to `refused`, with the one
+/// that explains it where that is asked for. The error is that of a writer.
+pub fn watch<R, W, E>(
+    rt: &R,
+    asked: &WatchAsked<'_>,
+    out: &mut W,
+    refused: &mut E,
+) -> io::Result<Status>
+where
+    R: Files<File = File> + Net + Clock + Threads + Wait + Sync + AllocGlobal,
+    W: Write,
+    E: Write,
+    ensures { IfOk result (λ status. (outcome : Result Played PeerError)
+        × (status ≡ status_of_outcome peer_part outcome)) }
+{
+    match watched(rt, asked, out) {
+        Ok(Played { frames, machine }) => {
+            write_report(out, frames, &machine)?;
+            Ok(Status::Done)
+        }
+        Err(fault) => {
+            let word = no_address(asked.local, &[asked.remote], [None, None]);
+            refuse(rt.alloc(), asked.explain, word, &fault, refused)
+        }
+    }
+}
+
+/// The machine at the end. Faults are found in this order: the game's file, the game, the addresses, the
+/// socket, want of memory.
+fn watched<'a, R, W>(rt: &R, asked: &WatchAsked<'a>, out: &mut W) -> Result<Played, Fault<'a>>
+where
+    R: Files<File = File> + Net + Clock + Threads + Wait + Sync + AllocGlobal,
+    W: Write,
+{
+    let text = match read_file(rt, asked.game) {
+        Ok(text) => text,
+        Err(error) => return Err(Fault::unread(rt.alloc(), error, asked.game)),
+    };
+    let game = match Game::read(rt.alloc(), &text) {
+        Ok(game) => game,
+        Err(error) => return Err(Fault::of_text(PeerError::Game(error), asked.game, text)),
+    };
+    watched_at(rt, asked, &game, out).map_err(|error| Fault::new(rt.alloc(), error, asked.game))
+}
+
+/// The same of a game that was read.
+fn watched_at<R, W>(
+    rt: &R,
+    asked: &WatchAsked<'_>,
+    game: &Game,
+    out: &mut W,
+) -> Result<Played, PeerError>
+where
+    R: Net + Clock + Threads + Wait + Sync + AllocGlobal,
+    W: Write,
+{
+    let addresses = match Addresses::of_player_one(asked.local, asked.remote) {
+        Ok(addresses) => addresses,
+        Err(error) => return Err(PeerError::Socket(error)),
+    };
+    match Udp::open(rt, &addresses) {
+        Ok(wire) => watch_on(rt, asked, game, wire, out),
+        Err(error) => Err(PeerError::Socket(error)),
+    }
+}
+
+/// Watches a match of a game over a wire: the machine at the end is the serial run on the rows that were
+/// taken. `Open` is want of memory, `Socket` a wire that failed.
+pub fn watch_on<R, W, O>(
+    rt: &R,
+    asked: &WatchAsked<'_>,
+    game: &Game,
+    wire: W,
+    out: &mut O,
+) -> Result<Played, PeerError>
+where
+    R: Clock + Threads + Wait + Sync + AllocGlobal,
+    W: Wire + Drop,
+    O: Write,
+    ensures { IfOk result
+        (HasWatched W.Wire game.now asked.now.room asked.now.seat.number wire) }
+{
+    turns_take_nothing_back::<W>();
+    let Ok(spectator) = Spectator::open(rt.alloc(), game, asked.room, asked.seat) else {
+        return Err(PeerError::Open(OpenError::Memory));
+    };
+    let Ok(stage) = Stage::open(rt.alloc(), &spectator) else {
+        return Err(PeerError::Open(OpenError::Memory));
+    };
+    let (spectator, turns) = stage.watch(rt, asked, spectator, wire, out);
+    if turns.is_err() {
+        return Err(PeerError::Socket(SocketError::Failed));
+    }
+    Ok(Played {
+        frames: spectator.count(),
+        machine: *spectator.shown(),
+    })
+}

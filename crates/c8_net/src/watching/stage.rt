@@ -1,0 +1,139 @@
+//! The two threads of one who watches: the caller's makes the turns, and one looks at the board.
+ghost use Rattle.std.specs.Prelude.{◌≡◌, ℕ, IfOk};
+ghost use Rattle.c8_watch.specs.Published.{MayShow};
+ghost use Rattle.c8_watch.specs.Turns.{AreTurns};
+
+use super::arguments::WatchAsked;
+use super::drawing::Drawing;
+use crate::pace::Pace;
+use crate::stage::Onlooker;
+use c8_board::{Board, Pen, Viewer};
+use c8_live::{Wire, WireFailed, Worker};
+use c8_spectator::Spectator;
+use c8_watch::{open_watch_board, watch_worker};
+use std::alloc::{AllocError, Global};
+use std::io::Write;
+use std::sync::Wait;
+use std::thread;
+use std::thread::Threads;
+use std::time::{Clock, Duration};
+
+/// How many milliseconds the viewer sleeps between two looks.
+const VIEWER_PAUSE: u64 = 5;
+
+/// A board that shows what a spectator has, with its pen and one viewer.
+#[derive(Drop)]
+pub(super) struct Stage {
+    board: Board,
+    pen: Pen,
+    viewer: Viewer,
+    ghost writes: { pen.board ≡ board },
+    ghost watches: { viewer.board ≡ board },
+}
+
+/// What the two threads share.
+#[derive(Drop)]
+struct Shared<'r, R> {
+    board: Board,
+    pace: Pace<'r, R>,
+}
+
+impl Stage {
+    /// A board with one viewer. The error is want of memory.
+    pub(super) fn open(alloc: Global, spectator: &Spectator<'_>) -> Result<Stage, AllocError>
+        ensures { IfOk result (λ stage. MayShow spectator.now stage.pen) }
+    {
+        let (board, pen, mut viewers) = open_watch_board(alloc, spectator, 1)?;
+        let Some(viewer) = viewers.pop() else {
+            unreachable!();
+        };
+        Ok(Stage { board, pen, viewer })
+    }
+
+    /// Watches over a wire, until there is every row, the turns are made, the viewer has asked for the end,
+    /// or the wire fails. Both threads are joined then.
+    pub(super) fn watch<'g, R, W, O>(
+        self,
+        rt: &R,
+        asked: &WatchAsked<'_>,
+        spectator: Spectator<'g>,
+        wire: W,
+        out: &mut O,
+    ) -> (Spectator<'g>, Result<u64, WireFailed>)
+    where
+        R: Clock + Threads + Wait + Sync,
+        W: Wire + Drop,
+        O: Write,
+        requires { MayShow spectator self.pen }
+        ensures { (n : ℕ) × (last : W) × AreTurns W.Wire n spectator.entry result.0 wire last }
+    {
+        let Stage { board, pen, viewer } = self;
+        let shared = Shared {
+            board,
+            pace: Pace::new(rt),
+        };
+        let onlooker = Onlooker {
+            board: &shared.board,
+            viewer,
+        };
+        let ((), ended) = thread::join(
+            rt,
+            || look_on(rt, asked.stop, onlooker, &shared.pace),
+            || make_turns(rt, asked, spectator, wire, pen, out, &shared),
+        );
+        ended
+    }
+}
+
+/// The caller's thread: the turns, and the picture.
+fn make_turns<'g, R, W, O>(
+    rt: &R,
+    asked: &WatchAsked<'_>,
+    spectator: Spectator<'g>,
+    wire: W,
+    pen: Pen,
+    out: &mut O,
+    shared: &Shared<'_, R>,
+) -> (Spectator<'g>, Result<u64, WireFailed>)
+where
+    R: Clock,
+    W: Wire + Drop,
+    O: Write,
+    requires board { pen.board ≡ shared.now.board }
+    requires shows { MayShow spectator pen }
+    ensures { (n : ℕ) × (last : W) × AreTurns W.Wire n spectator.entry result.0 wire last }
+{
+    let Shared { board, pace } = shared;
+    let (mut spectator, mut wire, mut pen) = (spectator, wire, pen);
+    let mut drawing = Drawing::new(rt, out, asked.screen);
+    let turns = watch_worker(
+        &mut spectator,
+        &mut wire,
+        board,
+        &mut pen,
+        &mut drawing,
+        asked.turns,
+        pace,
+    );
+    drawing.end();
+    pace.end(Worker::Game);
+    (spectator, turns)
+}
+
+/// The viewer's thread: asks for the end once there are as many frames as are asked for, until the turns
+/// are over.
+fn look_on<R: Clock + Wait>(
+    rt: &R,
+    enough: Option<u64>,
+    onlooker: Onlooker<'_>,
+    pace: &Pace<'_, R>,
+) {
+    let mut onlooker = onlooker;
+    for _ in rt.forever() {
+        if pace.is_game_over() {
+            break;
+        }
+        let _frames = onlooker.look(enough);
+        thread::sleep(rt, Duration::from_millis(VIEWER_PAUSE));
+    }
+}

@@ -1,0 +1,379 @@
+//! The refusals of openings, ticks, deliveries, sayings, departures, cuts and checkpoints.
+ghost use Rattle.std.specs.Prelude.{◌≡◌};
+ghost use Rattle.c8_refusals.specs.Errors.{open_number_of, tick_number_of, refused_number_of, unsayable_number_of, leave_number_of, decide_number_of, check_number_of};
+
+use c8_disk::DiskError;
+use c8_hand::HandError;
+use c8_known::KnownError;
+use c8_wire::WireError;
+use thiserror::Error;
+
+/// Why a peer was not opened. The disk is given back with the refusal.
+#[derive(Clone, Copy, Debug, PartialEq, Eq, Hash, Error)]
+pub enum OpenError {
+    /// The journal begins with a HEAD of another game or another room. It stays as it was.
+    #[error("a journal of another game or room")]
+    WrongGame,
+    /// The journal begins with a HEAD of another player, or there is no such player in the game. It
+    /// stays as it was.
+    #[error("no journal of this player, or no player of the game")]
+    WrongPlayer,
+    /// The body of this number, counted from 0, is the first that spells no record, or one that the
+    /// rules don't allow there. The journal stays as it was.
+    #[error("body {0} is no record that may stand there")]
+    BadRecord(usize),
+    /// The last epoch was the last that there is. The journal stays as it was.
+    #[error("the epochs are spent")]
+    EpochsSpent,
+    /// Memory was refused, before the disk was touched.
+    #[error("out of memory")]
+    Memory,
+    /// The disk refused a call. The next opening finds what it would have found before, or what this
+    /// one found and then the record that it would have added.
+    #[error("the disk refused a call")]
+    Disk(DiskError),
+}
+
+impl OpenError {
+    /// The number that stands for it in what a program prints.
+    pub fn number(self) -> u8
+        ensures { result ≡ open_number_of self }
+    {
+        match self {
+            OpenError::WrongGame => 1,
+            OpenError::WrongPlayer => 2,
+            OpenError::BadRecord(_) => 3,
+            OpenError::EpochsSpent => 4,
+            OpenError::Memory => 5,
+            OpenError::Disk(_) => 6,
+        }
+    }
+
+    pub fn name(self) -> &'static str {
+        match self {
+            OpenError::WrongGame => "WrongGame",
+            OpenError::WrongPlayer => "WrongPlayer",
+            OpenError::BadRecord(_) => "BadRecord",
+            OpenError::EpochsSpent => "EpochsSpent",
+            OpenError::Memory => "Memory",
+            OpenError::Disk(_) => "Disk",
+        }
+    }
+}
+
+/// Why a tick was refused. But for `Disk`, nothing has changed.
+#[derive(Clone, Copy, Debug, PartialEq, Eq, Hash, Error)]
+pub enum TickError {
+    /// As many frames are not confirmed as the game's window has.
+    #[error("too far ahead of what is confirmed")]
+    Threshold,
+    /// All frames of the game have been ticked.
+    #[error("the game is at its end")]
+    End,
+    /// This peer's player has been dropped.
+    #[error("this player has been dropped")]
+    Dropped,
+    /// The disk refused the record. The peer is down: what its readers answer is as before the call,
+    /// and the next opening that reads the journal decides whether the input stands.
+    #[error("the disk refused a call")]
+    Disk(DiskError),
+    /// The disk refused a record before; the peer has to be opened again.
+    #[error("the peer is down")]
+    Down,
+}
+
+impl TickError {
+    /// The number that stands for it in what a program prints.
+    pub fn number(self) -> u8
+        ensures { result ≡ tick_number_of self }
+    {
+        match self {
+            TickError::Threshold => 1,
+            TickError::End => 2,
+            TickError::Dropped => 3,
+            TickError::Disk(_) => 4,
+            TickError::Down => 5,
+        }
+    }
+
+    pub fn name(self) -> &'static str {
+        match self {
+            TickError::Threshold => "Threshold",
+            TickError::End => "End",
+            TickError::Dropped => "Dropped",
+            TickError::Disk(_) => "Disk",
+            TickError::Down => "Down",
+        }
+    }
+}
+
+/// Why a datagram was refused. But for `Desync` and `Disk`, nothing has changed.
+#[derive(Clone, Copy, Debug, PartialEq, Eq, Hash, Error)]
+pub enum Refused {
+    /// It is no datagram.
+    #[error("{0}")]
+    Wire(WireError),
+    /// It is a datagram, but not in the version of the format that the game names.
+    #[error("not in the version of datagrams that the game names")]
+    OtherWire,
+    /// It is not for this peer, this match or these epochs.
+    #[error("{0}")]
+    Hand(HandError),
+    /// The inputs that it brings cannot be held, or the end that it tells cannot stand.
+    #[error("{0}")]
+    Known(KnownError),
+    /// It acknowledges more inputs than this player has entered.
+    #[error("more inputs are acknowledged than there are")]
+    BadAck,
+    /// It is for player one to say or to hear, and was not.
+    #[error("only player one says or hears this")]
+    NotChair,
+    /// No LEAVE of the player stands at player one, or no FREEZE elsewhere.
+    #[error("the player has not been let go here")]
+    NotFrozen,
+    /// The player that it names cannot leave by it.
+    #[error("this player does not leave so")]
+    WrongLeaver,
+    /// The sender's machine differs from this peer's after the same number of frames. The alarm stands
+    /// until the next opening; nothing else has changed.
+    #[error("the sender's machine differs")]
+    Desync,
+    /// The disk refused the record. The peer is down: what its readers answer is as before the call,
+    /// and the next opening that reads the journal decides whether the record stands.
+    #[error("the disk refused a call")]
+    Disk(DiskError),
+    /// The disk refused a record before; the peer has to be opened again.
+    #[error("the peer is down")]
+    Down,
+    /// This peer's player has been dropped.
+    #[error("this player has been dropped")]
+    Dropped,
+}
+
+impl Refused {
+    /// The number that stands for it in what a program prints.
+    pub fn number(self) -> u8
+        ensures { result ≡ refused_number_of self }
+    {
+        match self {
+            Refused::Wire(error) => error.number(),
+            Refused::Hand(error) => error.number(),
+            Refused::Known(error) => error.number(),
+            Refused::BadAck => 10,
+            Refused::NotChair => 11,
+            Refused::NotFrozen => 12,
+            Refused::WrongLeaver => 13,
+            Refused::Desync => 14,
+            Refused::Disk(_) => 15,
+            Refused::Down => 16,
+            Refused::Dropped => 17,
+            Refused::OtherWire => 18,
+        }
+    }
+
+    pub fn name(self) -> &'static str {
+        match self {
+            Refused::Wire(error) => error.name(),
+            Refused::Hand(error) => error.name(),
+            Refused::Known(error) => error.name(),
+            Refused::BadAck => "BadAck",
+            Refused::NotChair => "NotChair",
+            Refused::NotFrozen => "NotFrozen",
+            Refused::WrongLeaver => "WrongLeaver",
+            Refused::Desync => "Desync",
+            Refused::Disk(_) => "Disk",
+            Refused::Down => "Down",
+            Refused::Dropped => "Dropped",
+            Refused::OtherWire => "OtherWire",
+        }
+    }
+}
+
+/// Why a datagram cannot be said. Nothing has changed.
+#[derive(Clone, Copy, Debug, PartialEq, Eq, Hash, Error)]
+pub enum Unsayable {
+    /// The disk refused a record; the peer has to be opened again.
+    #[error("the peer is down")]
+    Down,
+    /// This peer's player has been dropped.
+    #[error("this player has been dropped")]
+    Dropped,
+    /// The addressee is this peer, or not in the game.
+    #[error("the addressee is no other player of the game")]
+    NotAPlayer,
+    /// A FREEZE or CUT is player one's to say, a FROZEN the others' to player one, and a FREEZE is not
+    /// said to the leaver.
+    #[error("this is not this player's to say to that one")]
+    NotMine,
+    /// The journal lacks the LEAVE, FREEZE or CUT of which this would tell.
+    #[error("the journal says nothing of the kind")]
+    NoRecord,
+    /// A WELCOME wants the addressee's epoch, and all but HELLO and WELCOME an open link.
+    #[error("no link to the addressee")]
+    NoLink,
+}
+
+impl Unsayable {
+    /// The number that stands for it in what a program prints.
+    pub fn number(self) -> u8
+        ensures { result ≡ unsayable_number_of self }
+    {
+        match self {
+            Unsayable::Down => 1,
+            Unsayable::Dropped => 2,
+            Unsayable::NotAPlayer => 3,
+            Unsayable::NotMine => 4,
+            Unsayable::NoRecord => 5,
+            Unsayable::NoLink => 6,
+        }
+    }
+
+    pub fn name(self) -> &'static str {
+        match self {
+            Unsayable::Down => "Down",
+            Unsayable::Dropped => "Dropped",
+            Unsayable::NotAPlayer => "NotAPlayer",
+            Unsayable::NotMine => "NotMine",
+            Unsayable::NoRecord => "NoRecord",
+            Unsayable::NoLink => "NoLink",
+        }
+    }
+}
+
+/// Why a player was not let go. But for `Disk`, nothing has changed.
+#[derive(Clone, Copy, Debug, PartialEq, Eq, Hash, Error)]
+pub enum LeaveError {
+    /// This peer is not player one.
+    #[error("only player one lets a player go")]
+    NotChair,
+    /// Player one does not leave.
+    #[error("player one cannot leave")]
+    Myself,
+    /// The player has been let go.
+    #[error("the player has been let go already")]
+    Already,
+    /// The disk refused the record. The peer is down, and the next opening that reads the journal
+    /// decides whether the record stands.
+    #[error("the disk refused a call")]
+    Disk(DiskError),
+    /// The disk refused a record before; the peer has to be opened again.
+    #[error("the peer is down")]
+    Down,
+    /// No such player is in the game.
+    #[error("not a player of the game")]
+    NotPlaying,
+}
+
+impl LeaveError {
+    /// The number that stands for it in what a program prints.
+    pub fn number(self) -> u8
+        ensures { result ≡ leave_number_of self }
+    {
+        match self {
+            LeaveError::NotChair => 1,
+            LeaveError::Myself => 2,
+            LeaveError::Already => 3,
+            LeaveError::Disk(_) => 4,
+            LeaveError::Down => 5,
+            LeaveError::NotPlaying => 6,
+        }
+    }
+
+    pub fn name(self) -> &'static str {
+        match self {
+            LeaveError::NotChair => "NotChair",
+            LeaveError::Myself => "Myself",
+            LeaveError::Already => "Already",
+            LeaveError::Disk(_) => "Disk",
+            LeaveError::Down => "Down",
+            LeaveError::NotPlaying => "NotPlaying",
+        }
+    }
+}
+
+/// Why a leaver was not cut. But for `Disk`, nothing has changed.
+#[derive(Clone, Copy, Debug, PartialEq, Eq, Hash, Error)]
+pub enum DecideError {
+    /// No LEAVE of the player stands, or this peer is not player one.
+    #[error("the player has not been let go")]
+    NotLeaving,
+    /// A player who stays has not answered, or holds more inputs of the leaver than this peer.
+    #[error("not all who stay have answered")]
+    NotReady,
+    /// The player has been cut.
+    #[error("the player has been cut already")]
+    Already,
+    /// The disk refused the record. The peer is down, and the next opening that reads the journal
+    /// decides whether the record stands.
+    #[error("the disk refused a call")]
+    Disk(DiskError),
+    /// The disk refused a record before; the peer has to be opened again.
+    #[error("the peer is down")]
+    Down,
+}
+
+impl DecideError {
+    /// The number that stands for it in what a program prints.
+    pub fn number(self) -> u8
+        ensures { result ≡ decide_number_of self }
+    {
+        match self {
+            DecideError::NotLeaving => 1,
+            DecideError::NotReady => 2,
+            DecideError::Already => 3,
+            DecideError::Disk(_) => 4,
+            DecideError::Down => 5,
+        }
+    }
+
+    pub fn name(self) -> &'static str {
+        match self {
+            DecideError::NotLeaving => "NotLeaving",
+            DecideError::NotReady => "NotReady",
+            DecideError::Already => "Already",
+            DecideError::Disk(_) => "Disk",
+            DecideError::Down => "Down",
+        }
+    }
+}
+
+/// Why nothing of a checkpoint was recorded. The peer stays as it was, unless the disk refused.
+#[derive(Clone, Copy, Debug, PartialEq, Eq, Hash, Error)]
+pub enum CheckError {
+    /// No checkpoint is under way, and no frame was confirmed after the last one.
+    #[error("nothing was confirmed since the last checkpoint")]
+    Nothing,
+    /// This peer's player has been dropped.
+    #[error("this player has been dropped")]
+    Dropped,
+    /// The disk refused the record. The peer is down, and the next opening that reads the journal
+    /// decides whether the record stands.
+    #[error("the disk refused a call")]
+    Disk(DiskError),
+    /// The disk refused a record before; the peer has to be opened again.
+    #[error("the peer is down")]
+    Down,
+}
+
+impl CheckError {
+    /// The number that stands for it in what a program prints.
+    pub fn number(self) -> u8
+        ensures { result ≡ check_number_of self }
+    {
+        match self {
+            CheckError::Nothing => 1,
+            CheckError::Dropped => 2,
+            CheckError::Disk(_) => 3,
+            CheckError::Down => 4,
+        }
+    }
+
+    pub fn name(self) -> &'static str {
+        match self {
+            CheckError::Nothing => "Nothing",
+            CheckError::Dropped => "Dropped",
+            CheckError::Disk(_) => "Disk",
+            CheckError::Down => "Down",
+        }
+    }
+}

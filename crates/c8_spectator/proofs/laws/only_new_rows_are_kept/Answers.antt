@@ -1,0 +1,8 @@
+use Rattle.c8_spectator.specs.checked.WatchLaws.{kept_more, unkept_same}
+use Rattle.c8_spectator.proofs.laws.only_new_rows_are_kept.Goals as goal
+
+pub returns-clause-more : goal.returns-clause-more
+returns-clause-more c = kept_more
+
+pub returns-clause-same : goal.returns-clause-same
+returns-clause-same c = unkept_same

@@ -1,0 +1,4 @@
+pub mod Watching
+pub mod Growth
+pub mod Errors
+pub mod checked

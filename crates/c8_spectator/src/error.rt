@@ -1,0 +1,65 @@
+//! Why a watcher does not take a datagram.
+ghost use Rattle.std.specs.Prelude.{◌≡◌};
+ghost use Rattle.c8_spectator.specs.Errors.{number_of};
+
+use c8_wire::WireError;
+use thiserror::Error;
+
+/// The first reason, in this order, why a watcher does not take a datagram.
+#[derive(Clone, Copy, Debug, PartialEq, Eq, Hash, Error)]
+pub enum WatchError {
+    /// It belongs to another match, or is in another version of the format than the game's.
+    #[error("from another match, or in another version of the format")]
+    Session,
+    /// It is no SHOW, or not for this seat.
+    #[error("no rows for this watcher")]
+    NotMine,
+    /// A row has keys of a player who is not in the game.
+    #[error("keys of a player who is not in the game")]
+    Absent,
+    /// The rows go past the last frame of the game.
+    #[error("rows past the last frame")]
+    Full,
+    /// Rows are missing between those that the watcher has and these.
+    #[error("rows are missing before these")]
+    Gap,
+    /// A row is not the one that the watcher has of that frame.
+    #[error("a row that differs from the one that was taken")]
+    Differs,
+}
+
+impl WatchError {
+    /// The number that stands for it in what a program prints.
+    pub fn number(self) -> u8
+        ensures { result ≡ number_of self }
+    {
+        match self {
+            WatchError::Session => 1,
+            WatchError::NotMine => 2,
+            WatchError::Gap => 3,
+            WatchError::Differs => 4,
+            WatchError::Full => 5,
+            WatchError::Absent => 6,
+        }
+    }
+
+    pub fn name(self) -> &'static str {
+        match self {
+            WatchError::Session => "Session",
+            WatchError::NotMine => "NotMine",
+            WatchError::Gap => "Gap",
+            WatchError::Differs => "Differs",
+            WatchError::Full => "Full",
+            WatchError::Absent => "Absent",
+        }
+    }
+}
+
+/// Why bytes are not taken: they are no datagram, or none that the watcher takes.
+#[derive(Clone, Copy, Debug, PartialEq, Eq, Hash, Error)]
+pub enum NotTaken {
+    #[error("{0}")]
+    Wire(WireError),
+    #[error("{0}")]
+    Watch(WatchError),
+}

@@ -1,0 +1,63 @@
+//! Whether shown rows may be taken. They are read where they lie.
+ghost use Rattle.std.specs.Prelude.{◌≡◌, ◌==◌, ◌||◌, nat_lt};
+ghost use Rattle.c8_wire.specs.Lent.{shown};
+ghost use Rattle.c8_spectator.specs.Watching.{is_of_game, are_of_game, are_same, differ};
+
+use c8_game::{Game, Keys, Row};
+use c8_wire::ShownRows;
+
+/// Whether no shown row has keys of a player who is not in the game.
+pub(crate) fn are_of_game(game: &Game, rows: ShownRows<'_>) -> bool
+    ensures { result ≡ are_of_game game.now (shown rows.entry) }
+{
+    for place in 0..rows.len() {
+        if !is_of_game(game, &rows.get(place)) {
+            return false;
+        }
+    }
+    true
+}
+
+/// Whether a row has no keys of a player who is not in the game.
+fn is_of_game(game: &Game, row: &Row) -> bool
+    ensures { result ≡ is_of_game game.now row.now }
+{
+    let players = game.players();
+    let [one, two, three, four] = row.sets;
+    may_hold(players, 0, one)
+        && may_hold(players, 1, two)
+        && may_hold(players, 2, three)
+        && may_hold(players, 3, four)
+}
+
+/// Whether the keys at a place are those of a player of the game, or none.
+fn may_hold(players: u8, place: u8, keys: Keys) -> bool
+    ensures { result ≡ (nat_lt place players || keys.0 == 0) }
+{
+    place < players || keys.0 == 0
+}
+
+/// Whether some shown row is not the one that was taken of its frame: the first of them is of the frame
+/// of the first of those.
+pub(crate) fn differ(taken: &[Row], rows: ShownRows<'_>) -> bool
+    ensures { result ≡ differ taken.now (shown rows.entry) }
+{
+    for place in 0..taken.len().min(rows.len()) {
+        if !are_same(&taken[place], &rows.get(place)) {
+            return true;
+        }
+    }
+    false
+}
+
+/// Whether the four key sets of two rows are the same.
+fn are_same(row: &Row, other: &Row) -> bool
+    ensures { result ≡ are_same row.now other.now }
+{
+    let [one, two, three, four] = row.sets;
+    let [other_one, other_two, other_three, other_four] = other.sets;
+    one.0 == other_one.0
+        && two.0 == other_two.0
+        && three.0 == other_three.0
+        && four.0 == other_four.0
+}

@@ -1,0 +1,4 @@
+pub mod Terminal
+pub mod Picture
+pub mod Painting
+pub mod Painter

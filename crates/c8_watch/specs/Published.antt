@@ -1,0 +1,27 @@
+-- What the pen of a board shows of one who watches.
+use Rattle.std.specs.Prelude.{◌≡◌, []}
+use Rattle.atomic_table.specs.Seated.{TableId}
+use Rattle.c8_game.specs.Rules.{Rules}
+use Rattle.c8_digest.specs.Origin.{first_origin}
+use Rattle.c8_board.specs.Starts.{StartValue, start_of}
+use Rattle.c8_board.specs.Tokens.{PenValue, Begins}
+use Rattle.c8_spectator.specs.Watching.{WatchValue}
+
+-- a watcher's run begins before the first frame
+abbrev pub beginning : Rules → StartValue
+beginning rules = start_of (first_origin rules)
+
+-- The pen can show what is watched: it is of the same game, its run begins before the first frame, and the rows that it published
+-- begin those that were taken.
+pub record MayShow (w : WatchValue) (pen : PenValue) : Type 0 where
+  pub game : pen.game ≡ w.rules
+  pub from : pen.from ≡ beginning w.rules
+  pub rows : Begins pen.rows w.rows
+
+-- the pen has published the rows that were taken
+abbrev pub IsShown : WatchValue → PenValue → PenValue → Type 0
+IsShown w old new = new ≡ record old { rows = w.rows }
+
+-- the pen of a new board that shows what is watched
+abbrev pub pen_at : TableId → WatchValue → PenValue
+pen_at board w = record { board = board; game = w.rules; from = beginning w.rules; rows = w.rows }

@@ -1,0 +1,41 @@
+//! A turn of one who watches: it hears, and says how many rows it has.
+ghost use Rattle.std.specs.Prelude.{◌≡◌};
+ghost use Rattle.c8_live.specs.Turns.{most_packets};
+ghost use Rattle.c8_watch.specs.Turns.{HasHeard, IsTurn};
+
+use crate::laws::hearings_join;
+use c8_game::Player;
+use c8_live::{LONGEST_PACKET, Wire, WireFailed};
+use c8_spectator::Spectator;
+use c8_wire::{LONGEST_DATAGRAM, Seat};
+
+/// The most packets that are taken from the wire in one turn.
+const MOST_PACKETS: u16 = 256;
+
+/// One turn: the spectator hears what the wire gives, at most 256 packets, whatever they are, and then
+/// player one is told how many rows there are. The error is the wire's; what was heard before it stays.
+pub fn watch_turn<W: Wire>(spectator: &mut Spectator<'_>, wire: &mut W) -> Result<(), WireFailed>
+    ensures { IsTurn W.Wire spectator.old spectator.new wire.old wire.new }
+{
+    hear(spectator, wire)?;
+    let mut datagram = [0; LONGEST_DATAGRAM];
+    let size = spectator.seen(&mut datagram);
+    wire.send(Seat::from(Player::CHAIR), &datagram[..size])
+}
+
+/// Hears the packets that wait.
+fn hear<W: Wire>(spectator: &mut Spectator<'_>, wire: &mut W) -> Result<(), WireFailed>
+    ensures { HasHeard W.Wire most_packets spectator.old spectator.new wire.old wire.new }
+{
+    hearings_join::<W>();
+    let mut packet = [0; LONGEST_PACKET];
+    for _ in 0..MOST_PACKETS {
+        match wire.receive(&mut packet)? {
+            Some(size) => {
+                let _heard = spectator.hear(&packet[..size]);
+            }
+            None => break,
+        }
+    }
+    Ok(())
+}

@@ -1,0 +1,144 @@
+//! One who watches, turn after turn, and the board that shows what was taken.
+ghost use Rattle.std.specs.Prelude.{◌≡◌, ◌≤◌, ℕ, List, length, vec_len, IfOk};
+ghost use Rattle.std.specs.List.{All};
+ghost use Rattle.c8_game.specs.Rules.{most_frames};
+ghost use Rattle.c8_game.specs.declared.row.Row.{Row};
+ghost use Rattle.c8_machine.specs.State.{state};
+ghost use Rattle.c8_machine.specs.Serial.{serial};
+ghost use Rattle.c8_board.specs.Tokens.{new_viewer};
+ghost use Rattle.c8_spectator.specs.Watching.{WatchValue};
+ghost use Rattle.c8_watch.specs.Turns.{AreTurns};
+ghost use Rattle.c8_watch.specs.Published.{MayShow, IsShown, beginning, pen_at};
+
+use crate::laws::{a_turn_takes_nothing_back, turns_join};
+use crate::turn::watch_turn;
+use c8_board::laws::the_first_start_is_serial;
+use c8_board::{Board, Pen, Viewer};
+use c8_game::Game;
+use c8_live::{Gate, Wire, WireFailed, Worker};
+use c8_machine::Machine;
+use c8_spectator::Spectator;
+use std::alloc::{AllocError, Global};
+
+/// Who looks at the machine of a match that is watched, in the thread that makes the turns.
+pub trait Picture {
+    /// Told after each turn.
+    fn show(&mut self, machine: &Machine);
+}
+
+/// Makes turns of a spectator, at most so many, until it has every row of the game, a viewer of the board
+/// asks for the end, or the gate ends it (as the game's worker); answers how many it made. Before the first
+/// one and after each the pen publishes what was taken, and after each the picture is shown the machine. The
+/// error is the wire's; the pen shows what had been taken before that turn then.
+pub fn watch_worker<W: Wire, G: Gate, P: Picture>(
+    spectator: &mut Spectator<'_>,
+    wire: &mut W,
+    board: &Board,
+    pen: &mut Pen,
+    picture: &mut P,
+    turns: u64,
+    gate: &G,
+) -> Result<u64, WireFailed>
+    requires board { pen.old.board ≡ board.now }
+    requires shows { MayShow spectator.old pen.old }
+    ensures turns { (n : ℕ) × AreTurns W.Wire n spectator.old spectator.new wire.old wire.new }
+    ensures shown { IfOk result (λ made. IsShown spectator.new pen.old pen.new) }
+{
+    turns_join::<W>();
+    a_turn_takes_nothing_back::<W>();
+    let mut made: u64 = 0;
+    publish(spectator, board, pen);
+    for turn in 0..turns {
+        let is_whole = spectator.count() >= spectator.game().frames();
+        if is_whole || board.stop_asked(pen) || !gate.before(Worker::Game, turn) {
+            break;
+        }
+        watch_turn(spectator, wire)?;
+        publish(spectator, board, pen);
+        picture.show(spectator.shown());
+        gate.after(Worker::Game, turn);
+        made = turn + 1;
+    }
+    Ok(made)
+}
+
+/// A board of the game, which shows what a spectator has, with its pen and 1 to 4 viewers. The error is
+/// want of memory.
+pub fn open_watch_board(
+    alloc: Global,
+    spectator: &Spectator<'_>,
+    viewers: usize,
+) -> Result<(Board, Pen, Vec<Viewer>), AllocError>
+    requires some { 1 ≤ viewers }
+    requires few { viewers ≤ 4 }
+    ensures pen { IfOk result (λ r. r.1 ≡ pen_at r.0 spectator.now) }
+    ensures viewers { IfOk result (λ r. All (λ v. v
+        ≡ new_viewer r.0 spectator.now.rules (beginning spectator.now.rules) spectator.now.rows)
+        r.2.items) }
+    ensures count { IfOk result (λ r. vec_len r.2 ≡ viewers) }
+{
+    the_first_start_is_serial();
+    let (count, machine) = (spectator.count(), spectator.shown());
+    open_at(alloc, spectator, spectator.game(), count, machine, viewers)
+}
+
+/// The same of a machine and its count that are the spectator's.
+fn open_at(
+    alloc: Global,
+    _spectator: &Spectator<'_>,
+    game: &Game,
+    count: u32,
+    machine: &Machine,
+    viewers: usize,
+) -> Result<(Board, Pen, Vec<Viewer>), AllocError>
+    ghost rows: { List Row }
+    requires game { game.now ≡ _spectator.now.rules }
+    requires rows { rows ≡ _spectator.now.rows }
+    requires count { count ≡ length rows }
+    requires frames { count ≤ most_frames }
+    requires machine { state machine.now ≡ serial game.now rows }
+    requires some { 1 ≤ viewers }
+    requires few { viewers ≤ 4 }
+    ensures pen { IfOk result (λ r. r.1 ≡ pen_at r.0 _spectator.now) }
+    ensures viewers { IfOk result (λ r. All (λ v. v
+        ≡ new_viewer r.0 game.now (beginning game.now) _spectator.now.rows) r.2.items) }
+    ensures count { IfOk result (λ r. vec_len r.2 ≡ viewers) }
+{
+    the_first_start_is_serial();
+    game.in_range();
+    Board::open(alloc, game, count, machine, viewers)
+}
+
+/// The pen publishes what a spectator has.
+fn publish(spectator: &Spectator<'_>, board: &Board, pen: &mut Pen)
+    requires board { pen.old.board ≡ board.now }
+    requires shows { MayShow spectator.now pen.old }
+    ensures shown { IsShown spectator.now pen.old pen.new }
+{
+    let (count, machine) = (spectator.count(), spectator.shown());
+    show(spectator, spectator.game(), count, machine, board, pen);
+}
+
+/// The same of a machine and its count that are the spectator's.
+fn show(
+    _spectator: &Spectator<'_>,
+    game: &Game,
+    count: u32,
+    machine: &Machine,
+    board: &Board,
+    pen: &mut Pen,
+)
+    ghost rows: { List Row }
+    requires game { game.now ≡ _spectator.now.rules }
+    requires rows { rows ≡ _spectator.now.rows }
+    requires shows { MayShow _spectator.now pen.old }
+    requires board { pen.old.board ≡ board.now }
+    requires count { count ≡ length rows }
+    requires few { count ≤ most_frames }
+    requires machine { state machine.now ≡ serial game.now rows }
+    ensures { IsShown _spectator.now pen.old pen.new }
+{
+    the_first_start_is_serial();
+    game.in_range();
+    board.publish(pen, count, machine);
+}

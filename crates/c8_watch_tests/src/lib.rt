@@ -1,0 +1,23 @@
+//! The tests of those who watch a match: of c8_spectator (`taking`), of what a peer of c8_peer says to
+//! them and hears of them (`showing`), and of c8_world, in which two of them watch (`script`, `watching`,
+//! `chance`).
+#![tactic(auto)]
+
+#[cfg(test)]
+mod chance;
+#[cfg(test)]
+mod letter;
+#[cfg(test)]
+mod played;
+#[cfg(test)]
+mod script;
+#[cfg(test)]
+mod showing;
+#[cfg(test)]
+mod step;
+#[cfg(test)]
+mod taking;
+#[cfg(test)]
+mod walk;
+#[cfg(test)]
+mod watching;

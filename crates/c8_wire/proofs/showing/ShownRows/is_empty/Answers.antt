@@ -1,0 +1,7 @@
+use Rattle.std.proofs.Common.{ℕ, sym, ap}
+use Rattle.std.specs.Prelude.{◌==◌}
+use Rattle.c8_wire.proofs.ShowLemmas.{length_of_rows}
+use Rattle.c8_wire.proofs.showing.ShownRows.is_empty.Goals as goal
+
+pub returns : goal.returns
+returns c = ap (λ (n : ℕ). n == 0) (sym (length_of_rows c.args.self.now.count 30 c.args.self.now.bytes.now))
