@@ -4,3 +4,8 @@ pub mod LineLemmas
 pub mod ByteLemmas
 pub mod CellLemmas
 pub mod PaintingLemmas
+pub mod KeyboardLemmas
+pub mod DecodingLemmas
+pub mod HeldLemmas
+pub mod SentLemmas
+pub mod StrokeLemmas

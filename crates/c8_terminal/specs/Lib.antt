@@ -2,3 +2,9 @@ pub mod Terminal
 pub mod Picture
 pub mod Painting
 pub mod Painter
+pub mod Keyboard
+pub mod Decoding
+pub mod Decoder
+pub mod Strokes
+pub mod Held
+pub mod Sent

@@ -1,8 +1,13 @@
-//! The tests of c8_terminal: exact bytes, and 10,000 screens by chance on a terminal of their own.
+//! The tests of c8_terminal: exact bytes, 10,000 screens by chance on a terminal of their own, and what
+//! comes of a keyboard.
 #![tactic(auto)]
 
 #[cfg(test)]
 mod chance;
+#[cfg(test)]
+mod held;
+#[cfg(test)]
+mod keyboard;
 #[cfg(test)]
 mod painting;
 #[cfg(test)]

@@ -1,0 +1,230 @@
+-- What a decoder has read, and what one byte more makes of it.
+use Rattle.std.specs.Prelude.{ℕ, ◌+◌, ◌-◌, ◌*◌, ◌/◌, ◌%◌, ◌==◌, ◌&&◌, ◌||◌, Bool, false, min, nat_lt, nat_le, Option, Some, None, if◌then◌else◌}
+use Rattle.c8_terminal.specs.declared.signal.Signal.{Signal}
+use Rattle.c8_terminal.specs.declared.signal.Signal.TheVariants.{Struck, Down, Up, LetGo, Quit, Repaint}
+use Rattle.c8_terminal.specs.Keyboard.{key_of, arrow_key, small}
+
+-- The numbers of a control sequence so far. They stand in fields, which ; separates, and these in parts,
+-- which : separates; both are counted from 0. A number that has not come is 0
+pub record Numbers : Type 0 where
+  -- where the next digit belongs
+  pub field : ℕ
+  pub part : ℕ
+  -- field 0: the character of a key, and, in part 2, that of an English keyboard in its place
+  pub code : ℕ
+  pub base : ℕ
+  -- field 1: one more than the sum of the modifiers, of which control is 4; and, in part 1, the event
+  pub modifiers : ℕ
+  pub event : ℕ
+
+-- what a decoder has read of a sequence that is not complete
+pub data Reading : Type 0 where
+  -- nothing: the last one is complete
+  Nothing : Reading
+  -- ESC
+  Escape : Reading
+  -- ESC O
+  Single : Reading
+  -- ESC [ and numbers
+  Control : Numbers → Reading
+  -- ESC [ ? and the number so far, the beginning of what a terminal answers
+  Answer : ℕ → Reading
+  -- ESC [ and something else
+  Foreign : Reading
+
+-- a decoder: what it has read, and whether the terminal is known to tell when a key is let go
+pub record Decoding : Type 0 where
+  pub reading : Reading
+  pub exact : Bool
+
+-- a decoder that has read nothing
+abbrev pub nothing_read : Decoding
+nothing_read = record { reading = Nothing; exact = false }
+
+-- what one byte tells, and the decoder after it
+pub record Step : Type 0 where
+  pub told : Option Signal
+  pub next : Decoding
+
+-- a sequence goes on
+abbrev pub reads : Reading → Bool → Step
+reads reading exact = record { told = None; next = record { reading = reading; exact = exact } }
+
+-- a sequence is complete
+abbrev pub tells : Option Signal → Bool → Step
+tells signal exact = record { told = signal; next = record { reading = Nothing; exact = exact } }
+
+abbrev pub is_digit : ℕ → Bool
+is_digit b = nat_le 0x30 b && nat_le b 0x39
+
+-- a byte that may stand in a sequence, and one that ends a control sequence
+abbrev pub is_text : ℕ → Bool
+is_text b = nat_le 0x20 b && nat_le b 0x7E
+
+abbrev pub is_last : ℕ → Bool
+is_last b = nat_le 0x40 b && nat_le b 0x7E
+
+-- what is told of a key of the keypad, with the event that the terminal names: 1 pressed, 2 repeated, 3 let
+-- go, and 0 where it names none
+abbrev pub told_of : ℕ → Bool → ℕ → Option Signal
+told_of event exact key =
+    if event == 3 then Some (Up key)
+    else if nat_lt 3 event then None
+    else if exact then Some (Down key)
+    else Some (Struck key)
+
+-- the same, where there is such a key
+abbrev pub told_of_any : Option ℕ → ℕ → Bool → Option Signal
+told_of_any None event exact = None
+told_of_any (Some key) event exact = told_of event exact key
+
+-- a byte that stands alone: control-C, control-L, or a character
+abbrev pub character : ℕ → Option Signal
+character b =
+    if b == 0x03 then Some Quit
+    else if b == 0x0C then Some Repaint
+    else told_of_any (key_of b) 0 false
+
+-- a byte that begins anew, whatever was read: an ESC, or a byte that stands alone
+abbrev pub alone : ℕ → Bool → Step
+alone b exact = if b == 0x1B then reads Escape exact else tells (character b) exact
+
+abbrev pub no_numbers : Numbers
+no_numbers = record { field = 0; part = 0; code = 0; base = 0; modifiers = 0; event = 0 }
+
+-- after ESC: another one, so that the first was the key of that name; the beginning of a sequence; or
+-- a character with alt
+abbrev pub escaped : ℕ → Bool → Step
+escaped b exact =
+    if b == 0x1B then record { told = Some Quit; next = record { reading = Escape; exact = exact } }
+    else if b == 0x5B then reads (Control no_numbers) exact
+    else if b == 0x4F then reads Single exact
+    else tells None exact
+
+-- what the last byte tells of an arrow
+abbrev pub arrow : ℕ → ℕ → Bool → Option Signal
+arrow b event exact = told_of_any (arrow_key b) event exact
+
+-- a number with one more digit; what is greater than 65535 stays there
+abbrev pub with_digit : ℕ → ℕ → ℕ
+with_digit n b = min (10 * n + (b - 0x30)) 65535
+
+abbrev pub stands_at : ℕ → ℕ → Numbers → Bool
+stands_at field part n = n.field == field && n.part == part
+
+-- numbers with one more digit, of a number that matters or of another one
+abbrev pub with_number : ℕ → Numbers → Numbers
+with_number b n =
+    record n {
+      code = if stands_at 0 0 n then with_digit n.code b else n.code;
+      base = if stands_at 0 2 n then with_digit n.base b else n.base;
+      modifiers = if stands_at 1 0 n then with_digit n.modifiers b else n.modifiers;
+      event = if stands_at 1 1 n then with_digit n.event b else n.event;
+    }
+
+-- nothing but zeros has come
+abbrev pub is_blank : Numbers → Bool
+is_blank n = stands_at 0 0 n && n.code == 0
+
+-- what follows is the next part, or the next field. All parts from the fourth on are as one, and all
+-- fields from the third on
+abbrev pub next_part : Numbers → Numbers
+next_part n = record n { part = min (n.part + 1) 3 }
+
+abbrev pub next_field : Numbers → Numbers
+next_field n = record n { field = min (n.field + 1) 2; part = 0 }
+
+-- a byte of a control sequence that is not its last
+abbrev pub control_with : ℕ → Numbers → Reading
+control_with b n =
+    if is_digit b then Control (with_number b n)
+    else if b == 0x3A then Control (next_part n)
+    else if b == 0x3B then Control (next_field n)
+    else if b == 0x3F && is_blank n then Answer 0
+    else Foreign
+
+-- a byte of an answer that is not its last
+abbrev pub answer_with : ℕ → ℕ → Reading
+answer_with b flags = if is_digit b then Answer (with_digit flags b) else Foreign
+
+-- the key of the keypad that a key of the keyboard stands for: by its place, if that is told
+abbrev pub key_at : Numbers → Option ℕ
+key_at n = if n.base == 0 then key_of n.code else key_of n.base
+
+abbrev pub has_control : Numbers → Bool
+has_control n = ((n.modifiers - 1) / 4) % 2 == 1
+
+-- whether a key is that of a letter, on this keyboard or by its place
+abbrev pub is_letter : ℕ → Numbers → Bool
+is_letter letter n = small n.code == letter || small n.base == letter
+
+-- a letter with control: C or L
+abbrev pub with_control : Numbers → Option Signal
+with_control n = if is_letter 0x63 n then Some Quit else if is_letter 0x6C n then Some Repaint else None
+
+-- an event of a key. What is let go is let go, whatever else is held; a press of escape ends, and one
+-- with control is none of the keypad
+abbrev pub key_event : Numbers → Bool → Option Signal
+key_event n exact =
+    if nat_lt 2 n.event then told_of_any (key_at n) n.event exact
+    else if n.code == 27 then Some Quit
+    else if has_control n then with_control n
+    else told_of_any (key_at n) n.event exact
+
+-- what a control sequence tells: u an event of a key, O that the window has no focus, A to D an arrow
+abbrev pub meaning : ℕ → Numbers → Bool → Option Signal
+meaning b n exact =
+    if b == 0x75 then key_event n exact
+    else if b == 0x4F then Some LetGo
+    else arrow b n.event exact
+
+abbrev pub names_event : Numbers → Bool
+names_event n = nat_lt 0 n.event
+
+-- the flag 2 of an answer: the terminal reports event types
+abbrev pub reports_events : ℕ → Bool
+reports_events flags = (flags / 2) % 2 == 1
+
+-- a terminal that answers that it reports event types, or names an event, is exact: it tells when a key is
+-- let go. A u alone does not say so, and no other answer changes it
+abbrev pub exact_after : Numbers → Bool → Bool
+exact_after n exact = exact || names_event n
+
+abbrev pub exact_after_answer : ℕ → ℕ → Bool → Bool
+exact_after_answer b flags exact = exact || (b == 0x75 && reports_events flags)
+
+abbrev pub control_ended : ℕ → Numbers → Bool → Step
+control_ended b n exact = tells (meaning b n (exact_after n exact)) (exact_after n exact)
+
+-- what one byte makes of what was read
+abbrev pub step_in : Reading → ℕ → Bool → Step
+step_in Nothing b exact = alone b exact
+step_in Escape b exact = escaped b exact
+step_in Single b exact = if is_text b then tells (arrow b 0 exact) exact else alone b exact
+step_in (Control n) b exact =
+    if is_last b then control_ended b n exact
+    else if is_text b then reads (control_with b n) exact
+    else alone b exact
+step_in (Answer flags) b exact =
+    if is_last b then tells None (exact_after_answer b flags exact)
+    else if is_text b then reads (answer_with b flags) exact
+    else alone b exact
+step_in Foreign b exact =
+    if is_last b then tells None exact
+    else if is_text b then reads Foreign exact
+    else alone b exact
+
+abbrev pub step : ℕ → Decoding → Step
+step b d = step_in d.reading b d.exact
+
+-- where nothing comes for now: an ESC was the key of that name
+abbrev pub pause_in : Reading → Bool → Step
+pause_in Nothing exact = reads Nothing exact
+pause_in Escape exact = tells (Some Quit) exact
+pause_in Single exact = reads Single exact
+pause_in (Control n) exact = reads (Control n) exact
+pause_in (Answer flags) exact = reads (Answer flags) exact
+pause_in Foreign exact = reads Foreign exact
+
+abbrev pub pause : Decoding → Step
+pause d = pause_in d.reading d.exact

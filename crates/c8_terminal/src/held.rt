@@ -1,0 +1,102 @@
+//! The keys that are held in a frame.
+ghost use Rattle.std.specs.Prelude.{◌≡◌, ◌<◌, ◌↔◌, ℕ, IsTrue};
+ghost use Rattle.c8_game.specs.Rules.{HasKey};
+ghost use Rattle.c8_terminal.specs.Decoder.{IsOfKeypad};
+ghost use Rattle.c8_terminal.specs.Held.{hold_of, press_at};
+ghost use Rattle.c8_terminal.specs.Strokes.{after_frame, is_held, no_press, noted};
+
+use crate::press::Press;
+use crate::signal::Signal;
+use c8_game::Keys;
+
+/// The keys of the keypad, 0 to 15.
+const KEYS: usize = 16;
+
+/// Keeps which keys are held down, by what a keyboard tells, and counts the frames.
+///
+/// A key that is told to be down is held until it is told to be up, and for one frame at least. A key
+/// that is struck, and of which nothing more is told, counts as held for some frames: a number of the
+/// caller's, or 6 where it was struck no more than 45 frames before, so that the keyboard repeats it.
+#[derive(Clone, Copy)]
+pub struct Held {
+    hold: u8,
+    presses: [Press; KEYS],
+}
+
+impl Held {
+    /// No key is held. A stroke counts for `hold` frames, 1 to 255, the first of which is the next one.
+    pub fn new(hold: u8) -> Self
+        requires { 0 < hold }
+        ensures hold { hold_of result ≡ hold }
+        ensures presses { (key : ℕ) → key < 16 → press_at result key ≡ no_press }
+    {
+        Held {
+            hold,
+            presses: [Press::NONE; KEYS],
+        }
+    }
+
+    /// Notes what a keyboard tells, of a key from 0 to 15. [`Signal::Quit`] and [`Signal::Repaint`]
+    /// change nothing.
+    pub fn note(&mut self, signal: Signal)
+        requires { IsOfKeypad signal }
+        ensures hold { hold_of self.new ≡ hold_of self.old }
+        ensures presses { (key : ℕ) → key < 16
+            → press_at self.new key ≡ noted (hold_of self.old) signal key (press_at self.old key) }
+    {
+        match signal {
+            Signal::Struck(key) => {
+                let key = usize::from(key);
+                self.presses[key] = self.presses[key].struck(self.hold);
+            }
+            Signal::Down(key) => {
+                let key = usize::from(key);
+                self.presses[key] = self.presses[key].pressed();
+            }
+            Signal::Up(key) => {
+                let key = usize::from(key);
+                self.presses[key] = self.presses[key].released();
+            }
+            Signal::LetGo => self.presses = [Press::NONE; KEYS],
+            Signal::Quit | Signal::Repaint => {}
+        }
+    }
+
+    /// The keys that are held in the frame that begins now, which is counted.
+    pub fn frame(&mut self) -> Keys
+        ensures keys { (key : ℕ) → key < 16
+            → HasKey result.0 key ↔ IsTrue (is_held (press_at self.old key)) }
+        ensures hold { hold_of self.new ≡ hold_of self.old }
+        ensures presses { (key : ℕ) → key < 16
+            → press_at self.new key ≡ after_frame (press_at self.old key) }
+    {
+        let keys = self.keys();
+        self.count_frame();
+        keys
+    }
+
+    /// The keys that are held.
+    fn keys(&self) -> Keys
+        ensures { (key : ℕ) → key < 16
+            → HasKey result.0 key ↔ IsTrue (is_held (press_at self.now key)) }
+    {
+        let mut keys = 0;
+        for key in 0..KEYS {
+            if self.presses[key].is_held() {
+                keys |= 1 << key;
+            }
+        }
+        Keys(keys)
+    }
+
+    /// A frame began.
+    fn count_frame(&mut self)
+        ensures hold { hold_of self.new ≡ hold_of self.old }
+        ensures presses { (key : ℕ) → key < 16
+            → press_at self.new key ≡ after_frame (press_at self.old key) }
+    {
+        for key in 0..KEYS {
+            self.presses[key] = self.presses[key].after_frame();
+        }
+    }
+}

@@ -1,0 +1,187 @@
+//! The numbers of a control sequence, and what it tells of keys.
+ghost use Rattle.std.specs.Prelude.{◌≡◌, ◌<◌, ◌≤◌, ◌+◌, true, false};
+ghost use Rattle.c8_terminal.specs.Decoder.{numbers_of};
+ghost use Rattle.c8_terminal.specs.Decoding as decoding;
+ghost use Rattle.c8_terminal.specs.Decoding.{arrow, has_control, is_blank, is_letter, key_event, meaning, told_of, with_control, with_digit, with_number};
+
+use crate::keyboard::{arrow_key, key_of, small};
+use crate::signal::Signal;
+
+/// The number of a key that was let go, as a terminal tells it. Those below are of a key that is down.
+const LET_GO: u16 = 3;
+
+/// The character of escape.
+const ESCAPE: u16 = 27;
+
+/// The numbers of a control sequence so far. They stand in fields, which `;` separates, and these in
+/// parts, which `:` separates; both are counted from 0. A number that has not come is 0.
+#[derive(Clone, Copy)]
+pub(crate) struct Numbers {
+    field: u8,
+    part: u8,
+    code: u16,
+    base: u16,
+    modifiers: u16,
+    event: u16,
+}
+
+impl Numbers {
+    /// No number has come.
+    pub(crate) fn new() -> Self
+        ensures { numbers_of result ≡ decoding.no_numbers }
+    {
+        Numbers {
+            field: 0,
+            part: 0,
+            code: 0,
+            base: 0,
+            modifiers: 0,
+            event: 0,
+        }
+    }
+
+    /// The numbers with one more digit, given as its character.
+    pub(crate) fn with_number(mut self, digit: u8) -> Self
+        requires from { 0x30 ≤ digit }
+        requires to { digit ≤ 0x39 }
+        ensures { numbers_of result ≡ with_number digit (numbers_of self) }
+    {
+        match (self.field, self.part) {
+            (0, 0) => self.code = with_digit(self.code, digit),
+            (0, 2) => self.base = with_digit(self.base, digit),
+            (1, 0) => self.modifiers = with_digit(self.modifiers, digit),
+            (1, 1) => self.event = with_digit(self.event, digit),
+            _ => {}
+        }
+        self
+    }
+
+    /// What follows is the next part of a field. All parts from the fourth on are as one.
+    pub(crate) fn next_part(self) -> Self
+        ensures { numbers_of result ≡ decoding.next_part (numbers_of self) }
+    {
+        let part = if self.part < 3 { self.part + 1 } else { 3 };
+        Numbers { part, ..self }
+    }
+
+    /// What follows is the next field. All fields from the third on are as one.
+    pub(crate) fn next_field(self) -> Self
+        ensures { numbers_of result ≡ decoding.next_field (numbers_of self) }
+    {
+        let field = if self.field < 2 { self.field + 1 } else { 2 };
+        Numbers {
+            field,
+            part: 0,
+            ..self
+        }
+    }
+
+    /// Whether nothing but zeros has come.
+    pub(crate) fn is_blank(self) -> bool
+        ensures { result ≡ is_blank (numbers_of self) }
+    {
+        self.field == 0 && self.part == 0 && self.code == 0
+    }
+
+    /// Whether an event is named, so that the terminal tells when a key is let go.
+    pub(crate) fn names_event(self) -> bool
+        ensures { result ≡ decoding.names_event (numbers_of self) }
+    {
+        self.event > 0
+    }
+
+    /// What the sequence tells that ends with a byte.
+    pub(crate) fn meaning(self, last: u8, exact: bool) -> Option<Signal>
+        ensures { result ≡ meaning last (numbers_of self) exact }
+    {
+        match last {
+            b'u' => self.key_event(exact),
+            b'O' => Some(Signal::LetGo),
+            _ => arrow(last, self.event, exact),
+        }
+    }
+
+    /// What an event of a key tells.
+    fn key_event(self, exact: bool) -> Option<Signal>
+        ensures { result ≡ key_event (numbers_of self) exact }
+    {
+        if self.event >= LET_GO {
+            told_of(self.key(), self.event, exact)
+        } else if self.code == ESCAPE {
+            Some(Signal::Quit)
+        } else if self.has_control() {
+            self.with_control()
+        } else {
+            told_of(self.key(), self.event, exact)
+        }
+    }
+
+    /// What a letter with control tells.
+    fn with_control(self) -> Option<Signal>
+        ensures { result ≡ with_control (numbers_of self) }
+    {
+        if self.is_letter(b'c') {
+            Some(Signal::Quit)
+        } else if self.is_letter(b'l') {
+            Some(Signal::Repaint)
+        } else {
+            None
+        }
+    }
+
+    /// The key of the keypad, by the place of the key that was used, if that is told.
+    fn key(self) -> Option<u8>
+        ensures { result ≡ decoding.key_at (numbers_of self) }
+    {
+        key_of(if self.base == 0 { self.code } else { self.base })
+    }
+
+    /// Whether control is held.
+    fn has_control(self) -> bool
+        ensures { result ≡ has_control (numbers_of self) }
+    {
+        self.modifiers.saturating_sub(1) / 4 % 2 == 1
+    }
+
+    /// Whether the key is that of a letter, on this keyboard or by its place.
+    fn is_letter(self, letter: u8) -> bool
+        ensures { result ≡ is_letter letter (numbers_of self) }
+    {
+        small(self.code) == u16::from(letter) || small(self.base) == u16::from(letter)
+    }
+}
+
+/// A number with one more digit, given as its character. What is greater than 65535 stays there.
+pub(crate) fn with_digit(number: u16, digit: u8) -> u16
+    requires from { 0x30 ≤ digit }
+    requires to { digit ≤ 0x39 }
+    ensures { result ≡ with_digit number digit }
+{
+    number
+        .saturating_mul(10)
+        .saturating_add(u16::from(digit - b'0'))
+}
+
+/// What the last byte of a sequence tells of an arrow, with the event that it names.
+pub(crate) fn arrow(last: u8, event: u16, exact: bool) -> Option<Signal>
+    ensures { result ≡ arrow last event exact }
+{
+    told_of(arrow_key(last), event, exact)
+}
+
+/// What an event of a key of the keypad tells. Where none is named the key is held until it is let go,
+/// if the terminal tells that.
+pub(crate) fn told_of(key: Option<u8>, event: u16, exact: bool) -> Option<Signal>
+    ensures { result ≡ decoding.told_of_any key event exact }
+{
+    let key = key?;
+    if event == LET_GO {
+        Some(Signal::Up(key))
+    } else if event > LET_GO {
+        None
+    } else if exact {
+        Some(Signal::Down(key))
+    } else {
+        Some(Signal::Struck(key))
+    }
+}
