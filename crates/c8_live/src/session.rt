@@ -44,9 +44,11 @@ pub struct Session<'g, D: Disk> {
     interval: u32,
     is_saving: bool,
     silence: Silence,
+    /// Whose HELLO was taken since something was said last, player 1's place first.
+    greeters: [bool; MOST_PLAYERS],
     /// To whom player one shows what is confirmed.
     watchers: Watchers,
-    /// The rollbacks of the turn made last.
+    /// The rollbacks of the turn or the listening made last.
     rollbacks: Rollbacks,
     /// The turns since all was confirmed and acknowledged, that one included.
     rested: u32,
@@ -83,6 +85,7 @@ impl<'g, D: Disk> Session<'g, D> {
             interval,
             is_saving: false,
             silence: Silence::new(),
+            greeters: [false; MOST_PLAYERS],
             watchers: Watchers::default(),
             rollbacks: Rollbacks::default(),
             rested: 0,
@@ -101,7 +104,7 @@ impl<'g, D: Disk> Session<'g, D> {
         self.frames
     }
 
-    /// The rollbacks of the turn that was made last.
+    /// The rollbacks of the turn that was made last, or of the listening after it.
     pub fn rollbacks(&self) -> Rollbacks {
         self.rollbacks
     }
@@ -116,10 +119,28 @@ impl<'g, D: Disk> Session<'g, D> {
         self.peer.dropped() || self.rested > REST
     }
 
-    /// One turn: the peer hears what the wire gives, at most `MOST_PACKETS` packets, ticks, as player
-    /// one lets go and cuts, and records of a checkpoint, each a step of the definitions; then it speaks,
-    /// and what the wire takes is what it said. The error is that of the disk or of the wire, which ends the session.
+    /// One turn: the peer hears what the wire gives, at most `MOST_PACKETS` packets, enters the next of
+    /// its key sets, after the last an empty one, as player one lets go and cuts, and records of a
+    /// checkpoint, each a step of the definitions; then it speaks, and what the wire takes is what it said.
+    /// A key set that is refused is entered again in the next turn. The error is that of the disk or of the
+    /// wire, which ends the session.
     pub fn turn<W: Wire>(&mut self, wire: &mut W) -> Result<(), SessionError>
+        ensures turn { IsTurn D.Disk W.Wire self.old.peer self.new.peer wire.old wire.new }
+        ensures ran { HasRunOn D.Disk self.old.peer self.new.peer }
+        ensures end { IfErr result (IsEnd D.Disk self.old.peer self.new.peer) }
+    {
+        let next = self.keys.get(self.entered).copied();
+        let is_taken = self.play(Some(next.unwrap_or_default()), wire)?;
+        if is_taken && next.is_some() {
+            self.entered = self.entered.saturating_add(1);
+        }
+        Ok(())
+    }
+
+    /// One turn like that, of one who has no list of key sets: it enters this one, if there is one, and
+    /// answers whether it was taken. One is refused where the peer may run no further ahead of the others,
+    /// and after the last frame.
+    pub fn play<W: Wire>(&mut self, keys: Option<Keys>, wire: &mut W) -> Result<bool, SessionError>
         ensures turn { IsTurn D.Disk W.Wire self.old.peer self.new.peer wire.old wire.new }
         ensures ran { HasRunOn D.Disk self.old.peer self.new.peer }
         ensures end { IfErr result (IsEnd D.Disk self.old.peer self.new.peer) }
@@ -128,39 +149,58 @@ impl<'g, D: Disk> Session<'g, D> {
         turns_run_on::<D, W>();
         self.silence.begin();
         self.rollbacks = Rollbacks::default();
-        let greeters = self.hear(wire)?;
-        self.tick()?;
+        self.hear(wire)?;
+        let is_taken = self.enter(keys)?;
         self.let_go()?;
         self.cut()?;
         self.save()?;
-        self.speak(wire, greeters)?;
+        self.speak(wire)?;
+        self.greeters = [false; MOST_PLAYERS];
         if self.is_finished() {
             self.rested = self.rested.saturating_add(1);
         }
-        Ok(())
+        Ok(is_taken)
     }
 
-    /// Delivers the packets that wait, and tells of which players a HELLO was taken, player 1's
-    /// place first.
-    fn hear<W: Wire>(&mut self, wire: &mut W) -> Result<[bool; MOST_PLAYERS], SessionError>
+    /// Hears, between two turns, what the wire gives, at most `MOST_PACKETS` packets, so that less is to be
+    /// heard in the turn that comes. What there is to say to that is said there. The error is that of the
+    /// disk or of the wire, which ends the session.
+    pub fn listen<W: Wire>(&mut self, wire: &mut W) -> Result<(), SessionError>
+        ensures heard { HasHeard D.Disk W.Wire most_packets self.old.peer self.new.peer wire.old wire.new }
+        ensures ran { HasRunOn D.Disk self.old.peer self.new.peer }
+        ensures end { IfErr result (IsEnd D.Disk self.old.peer self.new.peer) }
+    {
+        self.rollbacks = Rollbacks::default();
+        self.hear(wire)
+    }
+
+    /// Delivers the packets that wait, and notes of which players a HELLO was taken.
+    fn hear<W: Wire>(&mut self, wire: &mut W) -> Result<(), SessionError>
         ensures heard { HasHeard D.Disk W.Wire most_packets self.old.peer self.new.peer wire.old wire.new }
         ensures end { IfErr result (IsEnd D.Disk self.old.peer self.new.peer) }
     {
         peers_run_on::<D>();
         hearings_join::<D, W>();
-        let mut greeters = [false; MOST_PLAYERS];
         let mut packet = [0; LONGEST_PACKET];
         for _ in 0..MOST_PACKETS {
             match wire.receive(&mut packet)? {
                 Some(size) => {
-                    if let Some(greeter) = self.deliver(&packet[..size])? {
-                        greeters[greeter.place()] = true;
-                    }
+                    let greeter = self.deliver(&packet[..size])?;
+                    self.greet_back(greeter);
                 }
                 None => break,
             }
         }
-        Ok(greeters)
+        Ok(())
+    }
+
+    /// Notes whose HELLO was taken, if one was: a WELCOME is to be said.
+    fn greet_back(&mut self, greeter: Option<Player>)
+        ensures { self.new.peer ≡ self.old.peer }
+    {
+        if let Some(greeter) = greeter {
+            self.greeters[greeter.place()] = true;
+        }
     }
 
     /// Delivers a packet, and answers whose HELLO it was, if it was one and was taken.
@@ -196,24 +236,18 @@ impl<'g, D: Disk> Session<'g, D> {
         }
     }
 
-    /// Enters the next key set, after the last an empty one. One that is refused is entered again in
-    /// the next turn.
-    fn tick(&mut self) -> Result<(), SessionError>
+    /// Enters a key set, if there is one, and answers whether it was taken.
+    fn enter(&mut self, keys: Option<Keys>) -> Result<bool, SessionError>
         ensures ran { HasDoneOnce D.Disk Ticks self.old.peer self.new.peer }
         ensures end { IfErr result (IsEnd D.Disk self.old.peer self.new.peer) }
     {
-        let (next, is_past) = match self.keys.get(self.entered) {
-            Some(keys) => (*keys, false),
-            None => (Keys::default(), true),
+        let Some(keys) = keys else {
+            return Ok(false);
         };
-        match self.peer_ticks(next) {
-            Ok(()) if is_past => Ok(()),
-            Ok(()) => {
-                self.entered = self.entered.saturating_add(1);
-                Ok(())
-            }
+        match self.peer_ticks(keys) {
+            Ok(()) => Ok(true),
             Err(TickError::Disk(error)) => Err(SessionError::Disk(error)),
-            Err(_) => Ok(()),
+            Err(_) => Ok(false),
         }
     }
 
@@ -283,13 +317,13 @@ impl<'g, D: Disk> Session<'g, D> {
     }
 
     /// Says to each other player what there is to say, and shows the watchers what they lack.
-    fn speak<W: Wire>(&self, wire: &mut W, greeters: [bool; MOST_PLAYERS]) -> Result<(), WireFailed>
+    fn speak<W: Wire>(&self, wire: &mut W) -> Result<(), WireFailed>
         ensures spoke { HasSpoken D.Disk W.Wire self.now.peer wire.old wire.new }
     {
         sayings_join::<D, W>();
         for number in 1..self.peer.players() + 1 {
             if let Some(to) = self.other(number) {
-                let has_greeted = greeters[to.place()];
+                let has_greeted = self.greeters[to.place()];
                 self.speak_to(wire, to, has_greeted)?;
                 self.speak_of_leavers(wire, to)?;
             }

@@ -268,6 +268,21 @@ impl<'g> Table<'g> {
         Ok(told)
     }
 
+    /// The session hears what waits, between two turns: all that it says then.
+    pub(crate) fn listen(&mut self) -> Result<String, Fail> {
+        self.session.listen(&mut self.wire)?;
+        self.told()
+    }
+
+    /// One turn with a key set, or none: whether it was taken, and all that the session says in it. Each
+    /// addressee hears that.
+    pub(crate) fn play(&mut self, keys: Option<Keys>) -> Result<(bool, String), Fail> {
+        let is_taken = self.session.play(keys, &mut self.wire)?;
+        let told = self.told()?;
+        self.carry();
+        Ok((is_taken, told))
+    }
+
     /// The twin hears what waits, and ticks.
     fn follow(&mut self) {
         for letter in self.wire.waiting.iter().skip(self.wire.taken) {

@@ -200,6 +200,51 @@ fn wait_and_enter(rt: &impl Abort, table: &mut Table<'_>, rows: &[(u32, u32)]) -
     Ok(())
 }
 
+/// A key set that is played, or none; whether it is taken, all that is said then, and how many frames are
+/// ticked after it.
+type Played = (Option<u16>, bool, &'static str, u32);
+
+/// Player 2 has said WELCOME and HELLO before the second one. Where two frames are not confirmed no more is taken.
+static PLAYED: [Played; 6] = [
+    (None, false, "2 HELLO", 0),
+    (Some(5), true, "2 WELCOME", 1),
+    (None, false, "2 DATA", 1),
+    (Some(6), true, "2 DATA", 2),
+    (Some(7), false, "2 DATA", 2),
+    (None, false, "2 DATA", 2),
+];
+
+/// Plays these, and compares what comes of each.
+fn play_given(rt: &impl Abort, table: &mut Table<'_>, rows: &[Played]) -> Result<(), Fail> {
+    for (place, row) in rows.iter().enumerate() {
+        let (keys, is_taken, wanted, ticked) = *row;
+        let (taken, told) = table.play(keys.map(Keys))?;
+        assert!(rt;
+            told.as_str() == wanted && taken == is_taken,
+            "turn {place}: {told}"
+        );
+        assert!(rt; table.ticked_and_confirmed().0 == ticked, "turn {place}");
+    }
+    Ok(())
+}
+
+/// What is heard between two turns is answered in the next, and a turn enters the key set that it is given.
+#[test]
+fn hears_between_turns_and_enters_what_is_given(rt: HostRuntime) -> Result<(), Fail> {
+    let game = Game::read(rt.alloc(), NARROW.as_bytes())?;
+    let mut table = Table::new(rt.alloc(), &game, 1, "0009\n", None)?;
+    play_given(&rt, &mut table, &PLAYED[..1])?;
+    table.says(&(2, WELCOME, 0))?;
+    table.says(&(2, HELLO, 0))?;
+    let told = table.listen()?;
+    assert!(rt; told.is_empty() && table.session.silent(Player { number: 2 }) == 0);
+    play_given(&rt, &mut table, &PLAYED[1..2])?;
+    assert!(rt; table.session.peer().shown().keys() == Keys(5));
+    play_given(&rt, &mut table, &PLAYED[2..])?;
+    assert!(rt; table.session.peer().shown().keys() == Keys(6));
+    Ok(())
+}
+
 /// A key set that is refused, since two frames are not confirmed, is entered in a later turn. Player
 /// 2 is let go after the tick of the fourth turn, which is refused too.
 #[test]
