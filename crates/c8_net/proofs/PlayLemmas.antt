@@ -8,7 +8,6 @@ use Rattle.c8_record.specs.Body.{records_of}
 use Rattle.c8_disk.specs.declared.disk.Disk.{Ghosts}
 use Rattle.c8_known.specs.Confirmed.{confirmed, confirmed_rows}
 use Rattle.c8_refusals.specs.declared.error.OpenError.{OpenError}
-use Rattle.c8_refusals.specs.declared.error.OpenError.TheVariants as opens
 use Rattle.c8_peer.specs.Opened.{bodies_found, IsOpened, IsRefusedOpening}
 use Rattle.c8_peer.specs.Peer.{PeerValue, known_by, begun_by, IsSound}
 use Rattle.c8_peer.specs.Runs.{TellsTruly}
@@ -18,7 +17,9 @@ use Rattle.c8_keys.specs.declared.lines.Played.{Played}
 use Rattle.c8_live.specs.declared.error.SessionError.{SessionError}
 use Rattle.c8_live.specs.declared.error.SessionError.TheVariants as sessions
 use Rattle.c8_live.specs.Runs.{HasRunOn, IsEnd}
-use Rattle.c8_net.specs.Errors.{error_of_session}
+use Rattle.c8_net.specs.Errors.{error_of_session, error_of_unopened}
+use Rattle.c8_net.specs.declared.error.Unopened.{Unopened}
+use Rattle.c8_net.specs.declared.error.Unopened.TheVariants as unopened
 use Rattle.c8_net.specs.Match.{HasEnded, HasPlayed, HasFailed}
 
 module _ {D : Type 0} (g : Ghosts D) (disk : D) (rules : Rules) (room me : ℕ) where
@@ -36,8 +37,14 @@ module _ {D : Type 0} (g : Ghosts D) (disk : D) (rules : Rules) (room me : ℕ) 
   pub not_opened : (error : OpenError) (left : D) → IsRefusedOpening g disk rules room me error left → HasFailed g disk rules room me (Open error)
   not_opened error left refused = inl (left, refused)
 
-  pub without_room : (peer : PeerValue D) → IsOpened g disk rules room me peer → HasFailed g disk rules room me (Open opens.Memory)
-  without_room peer opened = inr (refl, peer, opened)
+  -- the peer of a session is the one that was opened
+  pub opened_still : (peer now : PeerValue D) → now ≡ peer → IsOpened g disk rules room me peer → IsOpened g disk rules room me now
+  opened_still peer now same opened = subst (IsOpened g disk rules room me) (sym same) opened
+
+  -- nothing to play with after it
+  pub unopened_failed : (peer : PeerValue D) (error : Unopened) → IsOpened g disk rules room me peer → HasFailed g disk rules room me (error_of_unopened error)
+  unopened_failed peer unopened.Memory opened = inr (refl, peer, opened)
+  unopened_failed peer unopened.Socket opened = tt
 
   -- that a machine begins where it did, and that what is true of checkpoints stays so and shows the serial run, as c8_live says it
   abbrev pub BeginsThere : Type 0

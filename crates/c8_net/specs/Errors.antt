@@ -13,6 +13,8 @@ use Rattle.c8_net.specs.declared.error.PeerError.{PeerError}
 use Rattle.c8_net.specs.declared.error.PeerError.TheVariants.{Game, Keys, Open, Disk, Socket}
 use Rattle.c8_net.specs.declared.error.SocketError.{SocketError}
 use Rattle.c8_net.specs.declared.error.SocketError.TheVariants as sockets
+use Rattle.c8_net.specs.declared.error.Unopened.{Unopened}
+use Rattle.c8_net.specs.declared.error.Unopened.TheVariants as unopened
 
 abbrev pub socket_error_number : SocketError → ℕ
 socket_error_number sockets.Failed = 1
@@ -55,3 +57,8 @@ peer_error_number (Socket error) = socket_error_number error
 abbrev pub error_of_session : SessionError → PeerError
 error_of_session (sessions.Disk error) = Disk error
 error_of_session (sessions.Wire failed) = Socket sockets.Failed
+
+-- there is no memory to start with, or no socket
+abbrev pub error_of_unopened : Unopened → PeerError
+error_of_unopened unopened.Memory = Open openings.Memory
+error_of_unopened unopened.Socket = Socket sockets.Failed

@@ -42,7 +42,15 @@ pub fn peer_command<'a>(alloc: Global) -> Result<Command<'a>, AllocError> {
             "Plays a game with others over UDP, and prints the machine after the confirmed frames",
         )
         .after_help(PEER_ENDING);
-    with_options(alloc, with_players(alloc, command)?)
+    let turns = number(
+        alloc,
+        "turns",
+        "The most turns, of a millisecond and more each",
+    );
+    let progress =
+        "Says each second, on standard error, how far the game is, and then how it ended";
+    let command = with_players(alloc, command)?;
+    with_options(alloc, command, turns.default_value("100000"), progress)
 }
 
 /// The arguments of `peer` that say what is played with whom.
@@ -64,16 +72,16 @@ fn with_players<'a>(alloc: Global, command: Command<'a>) -> Result<Command<'a>, 
     command.arg(remote)
 }
 
-/// The options of `peer`.
-fn with_options<'a>(alloc: Global, command: Command<'a>) -> Result<Command<'a>, AllocError> {
+/// The options of `peer`, and of whatever else plays a match: that of its turns, and what `--progress` says.
+pub fn with_options<'a>(
+    alloc: Global,
+    command: Command<'a>,
+    turns: Arg<'a>,
+    progress: &'a str,
+) -> Result<Command<'a>, AllocError> {
     let room = number(alloc, "room", "The match, the same for all its players");
     let command = command.arg(room.default_value("0"))?;
-    let turns = number(
-        alloc,
-        "turns",
-        "The most turns, of a millisecond and more each",
-    );
-    let command = command.arg(turns.default_value("100000"))?;
+    let command = command.arg(turns)?;
     let patience = "The turns of silence after which player 1 drops a player [default: never]";
     let command = command.arg(number(alloc, "patience", patience))?;
     let stop = "Ends once so many frames are confirmed [default: never]";
@@ -88,7 +96,7 @@ fn with_options<'a>(alloc: Global, command: Command<'a>) -> Result<Command<'a>, 
     let command = with_watcher(alloc, command, "watch6")?;
     let progress = Arg::new(alloc, "progress")
         .long("progress")
-        .help("Says each second, on standard error, how far the game is, and then how it ended")
+        .help(progress)
         .action(ArgAction::SetTrue);
     with_explain(alloc, command.arg(progress)?)
 }
@@ -106,7 +114,7 @@ fn with_watcher<'a>(
 }
 
 /// An option with a number.
-pub(crate) fn number<'a>(alloc: Global, name: &'a str, help: &'a str) -> Arg<'a> {
+pub fn number<'a>(alloc: Global, name: &'a str, help: &'a str) -> Arg<'a> {
     Arg::new(alloc, name)
         .long(name)
         .value_name("N")
@@ -118,7 +126,12 @@ pub(crate) fn number<'a>(alloc: Global, name: &'a str, help: &'a str) -> Arg<'a>
 /// and in its range.
 pub(crate) fn asked_of<'m, 'a>(given: &'m ArgMatches<'a>) -> Option<Asked<'m, 'a>> {
     let player = Player::new(given.get_one::<u8>("PLAYER")?)?;
-    Some(Asked {
+    Some(asked_for(given, player))
+}
+
+/// What a command of these places and options is asked to play, as a player.
+pub fn asked_for<'m, 'a>(given: &'m ArgMatches<'a>, player: Player) -> Asked<'m, 'a> {
+    Asked {
         game: word_of(given, "GAME"),
         player,
         journal: word_of(given, "JOURNAL"),
@@ -126,13 +139,13 @@ pub(crate) fn asked_of<'m, 'a>(given: &'m ArgMatches<'a>) -> Option<Asked<'m, 'a
         remotes: given.get_strs("REMOTE"),
         watchers: [given.get_str("watch5"), given.get_str("watch6")],
         room: number_of(given, "room").unwrap_or(0),
-        turns: number_of(given, "turns").unwrap_or(0),
+        turns: number_of(given, "turns").unwrap_or(u64::MAX),
         patience: number_of(given, "patience"),
         stop: number_of(given, "stop"),
         checkpoint: interval_of(number_of(given, "checkpoint").unwrap_or(0)),
         progress: given.get_flag("progress"),
         explain: is_explained(given),
-    })
+    }
 }
 
 /// The interval of a number of frames; no game has as many as the greatest.
@@ -140,6 +153,7 @@ fn interval_of(frames: u64) -> u32 {
     u32::try_from(frames).unwrap_or(u32::MAX)
 }
 
-pub(crate) fn number_of(given: &ArgMatches<'_>, name: &str) -> Option<u64> {
+/// The number that an option was given, or has by default.
+pub fn number_of(given: &ArgMatches<'_>, name: &str) -> Option<u64> {
     given.get_one::<u64>(name)
 }

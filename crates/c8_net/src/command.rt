@@ -1,7 +1,7 @@
 //! `c8play peer`: a game is played with others over UDP.
 //!
-//! The turns are c8_live's, and the match is `play`'s; here the files are opened that the command is
-//! given, and the report is written.
+//! The turns are c8_live's, and the match is `play`'s; here the files are opened that the command is given, and
+//! the report is written.
 
 ghost use Rattle.std.specs.Prelude.{◌≡◌, IfOk, Result};
 ghost use Rattle.c8_command.specs.Status.{status_of, status_of_outcome};
@@ -13,7 +13,8 @@ use crate::addresses::no_address;
 use crate::arguments::{Asked, asked_of};
 use crate::error::PeerError;
 use crate::fault::{Fault, INPUT};
-use crate::play::{Prepared, Unprepared, play_on, prepare};
+use crate::performance::Performance;
+use crate::play::{Prepared, Unprepared, perform_on, play_on, prepare};
 use c8_command::{Refusal, Status, TextError, read_file};
 use c8_disk::{DiskError, FileDisk, FileError};
 use c8_keys::{Played, write_report};
@@ -47,16 +48,41 @@ where
     E: Write + Send,
 {
     match asked_of(given) {
-        Some(asked) if !may_be_watched(&asked) => {
-            writeln!(
-                refused,
-                "error: --watch5 and --watch6 are for player 1 alone"
-            )?;
-            Ok(Status::CommandLine)
-        }
+        Some(asked) if !may_be_watched(&asked) => refuse_watchers(refused),
         Some(asked) => peer(rt, &asked, input, out, refused),
         None => Ok(Status::CommandLine),
     }
+}
+
+/// Plays what a command line asks for by a performance; one that asks for watchers of another than player 1
+/// is refused. The error is that of a writer.
+pub fn perform_given<R, P, W, E>(
+    rt: &R,
+    asked: &Asked<'_, '_>,
+    performance: P,
+    out: &mut W,
+    refused: &mut E,
+) -> io::Result<Status>
+where
+    R: Files<File = File> + Net + AllocGlobal,
+    P: Performance + Drop,
+    W: Write,
+    E: Write,
+{
+    if may_be_watched(asked) {
+        perform(rt, asked, performance, out, refused)
+    } else {
+        refuse_watchers(refused)
+    }
+}
+
+/// Tells that another than player 1 shows nothing.
+fn refuse_watchers<E: Write>(refused: &mut E) -> io::Result<Status> {
+    writeln!(
+        refused,
+        "error: --watch5 and --watch6 are for player 1 alone"
+    )?;
+    Ok(Status::CommandLine)
 }
 
 /// Whether those who watch are player one's, if there are any.
@@ -65,9 +91,9 @@ fn may_be_watched(asked: &Asked<'_, '_>) -> bool {
     asked.player.is_chair() || five.is_none() && six.is_none()
 }
 
-/// Plays a game with others: the keys are those of the text in `input`, the confirmed machine's
-/// report goes to `out`; the line of a refusal goes to `refused`, with the one that explains it where
-/// that is asked for, and where the peer stands. The error is that of a writer.
+/// Plays a game with others, in threads: the key sets are those of the text in `input`, the confirmed
+/// machine's report goes to `out`; the line of a refusal goes to `refused`, with the one that explains it
+/// where that is asked for, and where the peer stands. The error is that of a writer.
 pub fn peer<R, I, W, E>(
     rt: &R,
     asked: &Asked<'_, '_>,
@@ -83,7 +109,54 @@ where
     ensures { IfOk result (λ status. (outcome : Result Played PeerError)
         × (status ≡ status_of_outcome peer_part outcome)) }
 {
-    match played(rt, asked, input, refused) {
+    let outcome = match begun(rt, asked, input) {
+        Ok((it, disk)) => play_on(rt, asked, it, disk, refused).map_err(|error| Fault::new(
+            rt.alloc(),
+            error,
+            asked.journal,
+        )),
+        Err(fault) => Err(fault),
+    };
+    tell_outcome(rt.alloc(), asked, outcome, out, refused)
+}
+
+/// The same by a performance, in the caller's thread, which has key sets of its own.
+pub fn perform<R, P, W, E>(
+    rt: &R,
+    asked: &Asked<'_, '_>,
+    performance: P,
+    out: &mut W,
+    refused: &mut E,
+) -> io::Result<Status>
+where
+    R: Files<File = File> + Net + AllocGlobal,
+    P: Performance + Drop,
+    W: Write,
+    E: Write,
+    ensures { IfOk result (λ status. (outcome : Result Played PeerError)
+        × (status ≡ status_of_outcome peer_part outcome)) }
+{
+    let outcome = match begun(rt, asked, io::empty()) {
+        Ok((it, disk)) => perform_on(rt, asked, it, disk, performance, refused).map_err(
+            |error| Fault::new(rt.alloc(), error, asked.journal),
+        ),
+        Err(fault) => Err(fault),
+    };
+    tell_outcome(rt.alloc(), asked, outcome, out, refused)
+}
+
+/// Writes the report of what was played, or the line of a refusal.
+fn tell_outcome<W: Write, E: Write>(
+    alloc: Global,
+    asked: &Asked<'_, '_>,
+    outcome: Result<Played, Fault<'_>>,
+    out: &mut W,
+    refused: &mut E,
+) -> io::Result<Status>
+    ensures { IfOk result (λ status. (outcome : Result Played PeerError)
+        × (status ≡ status_of_outcome peer_part outcome)) }
+{
+    match outcome {
         Ok(Played { frames, machine }) => {
             write_report(out, frames, &machine)?;
             Ok(Status::Done)
@@ -91,14 +164,14 @@ where
         Err(fault) => {
             let remotes = asked.remotes.unwrap_or(&[]);
             let word = no_address(asked.local, remotes, asked.watchers);
-            refuse(rt.alloc(), asked.explain, word, &fault, refused)
+            refuse(alloc, asked.explain, word, &fault, refused)
         }
     }
 }
 
 /// Writes the line of a refusal, and where that is asked for the one that explains it; `no_address` is the
 /// first word that is no address, if one is not.
-pub(crate) fn refuse<E: Write>(
+pub fn refuse<E: Write>(
     alloc: Global,
     explain: bool,
     no_address: Option<&str>,
@@ -118,25 +191,23 @@ pub(crate) fn refuse<E: Write>(
     }
 }
 
-/// The confirmed machine at the end. Faults are found in this order: the game's file, all that `prepare`
-/// judges, the journal and its opening, the socket.
-fn played<'a, R, I, E>(
+/// What a match takes, and the disk of its journal. Faults are found in this order: the game's file, all that
+/// `prepare` judges, the journal; its opening and the socket come then.
+fn begun<'a, R, I>(
     rt: &R,
     asked: &Asked<'_, 'a>,
     input: I,
-    progress: &mut E,
-) -> Result<Played, Fault<'a>>
+) -> Result<(Prepared, FileDisk), Fault<'a>>
 where
-    R: Files<File = File> + Net + Clock + Threads + Wait + Sync + AllocGlobal,
+    R: Files<File = File> + AllocGlobal,
     I: Read + Drop,
-    E: Write + Send,
 {
     let text = match read_file(rt, asked.game) {
         Ok(text) => text,
         Err(error) => return Err(Fault::unread(rt.alloc(), error, asked.game)),
     };
     let remotes = asked.remotes.unwrap_or(&[]);
-    match prepare(
+    let it = match prepare(
         rt.alloc(),
         &text,
         input,
@@ -145,28 +216,13 @@ where
         remotes,
         asked.watchers,
     ) {
-        Ok(it) => played_at(rt, asked, it, progress).map_err(|error| Fault::new(
-            rt.alloc(),
-            error,
-            asked.journal,
-        )),
-        Err(it) => Err(at_start(asked.game, text, it)),
+        Ok(it) => it,
+        Err(it) => return Err(at_start(asked.game, text, it)),
+    };
+    match journal_at(rt, asked.journal) {
+        Ok(disk) => Ok((it, disk)),
+        Err(error) => Err(Fault::new(rt.alloc(), error, asked.journal)),
     }
-}
-
-/// What is played on the journal at the path that is asked for.
-fn played_at<R, E>(
-    rt: &R,
-    asked: &Asked<'_, '_>,
-    it: Prepared,
-    progress: &mut E,
-) -> Result<Played, PeerError>
-where
-    R: Files<File = File> + Net + Clock + Threads + Wait + Sync + AllocGlobal,
-    E: Write + Send,
-{
-    let disk = journal_at(rt, asked.journal)?;
-    play_on(rt, asked, it, disk, progress)
 }
 
 /// Why a match cannot begin that would be of the game of a file, with this text.

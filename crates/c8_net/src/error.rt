@@ -1,7 +1,7 @@
 //! Why a peer cannot play.
 
 ghost use Rattle.std.specs.Prelude.{◌≡◌};
-ghost use Rattle.c8_net.specs.Errors.{socket_error_number, peer_part, peer_error_number, error_of_session};
+ghost use Rattle.c8_net.specs.Errors.{socket_error_number, peer_part, peer_error_number, error_of_session, error_of_unopened};
 
 use c8_command::{Part, Refusal};
 use c8_disk::DiskError;
@@ -63,6 +63,27 @@ pub enum PeerError {
     /// The addresses, or the socket.
     #[error("{0}")]
     Socket(SocketError),
+}
+
+/// Why there is nothing to play with once the journal is open.
+#[derive(Clone, Copy, Debug, PartialEq, Eq)]
+pub enum Unopened {
+    /// Want of memory.
+    Memory,
+    /// The socket cannot be opened.
+    Socket,
+}
+
+/// Want of memory is told as one to start with.
+impl From<Unopened> for PeerError {
+    ghost from_gives = { λ error result. result ≡ error_of_unopened error };
+
+    fn from(error: Unopened) -> PeerError {
+        match error {
+            Unopened::Memory => PeerError::Open(OpenError::Memory),
+            Unopened::Socket => PeerError::Socket(SocketError::Failed),
+        }
+    }
 }
 
 /// Why a session that cannot go on ends the command.

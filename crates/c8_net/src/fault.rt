@@ -1,19 +1,21 @@
 //! Why nothing was played, and where the fault is.
 
 use crate::error::{PeerError, SocketError};
-use c8_command::{Site, Text, TextError};
+use c8_command::{Site, Text, TextError, read_file};
 use c8_disk::DiskError;
-use c8_game::GameError;
+use c8_game::{Game, GameError};
 use c8_keys::{KeysError, game_site, key_sets_site};
 use c8_peer::OpenError;
 use std::alloc::Global;
+use std::fs::File;
+use std::rt::Files;
 
 /// What standard input is called.
 pub(crate) const INPUT: &str = "standard input";
 
 /// Why nothing was played, and the file that was at hand then.
 #[derive(Drop)]
-pub(crate) struct Fault<'a> {
+pub struct Fault<'a> {
     pub(crate) error: PeerError,
     pub(crate) file: &'a str,
     /// What the file has, where a line of it may be at fault.
@@ -68,6 +70,21 @@ impl<'a> Fault<'a> {
             PeerError::Socket(_) | PeerError::Open(OpenError::Memory) => Site::Nowhere,
             PeerError::Keys(_) | PeerError::Open(_) | PeerError::Disk(_) => Site::File(file),
         }
+    }
+}
+
+/// The game that the text of a file spells. Faults are found in this order: the file, the game.
+pub fn game_at<'a, R>(rt: &R, path: &'a str) -> Result<Game, Fault<'a>>
+where
+    R: Files<File = File> + AllocGlobal,
+{
+    let text = match read_file(rt, path) {
+        Ok(text) => text,
+        Err(error) => return Err(Fault::unread(rt.alloc(), error, path)),
+    };
+    match Game::read(rt.alloc(), &text) {
+        Ok(game) => Ok(game),
+        Err(error) => Err(Fault::of_text(PeerError::Game(error), path, text)),
     }
 }
 

@@ -1,14 +1,18 @@
 //! A match over UDP: what it takes to begin, and what is played of it on a journal.
 
-ghost use Rattle.std.specs.Prelude.{◌≡◌, ◌+◌, length, IfOk, IfErr, IfSome};
+ghost use Rattle.std.specs.Prelude.{◌≡◌, ◌+◌, ℕ, length, IfOk, IfErr, IfSome};
 ghost use Rattle.c8_game.specs.GameText.{Spells};
+ghost use Rattle.c8_game.specs.Rules.{Rules};
 ghost use Rattle.c8_keys.specs.KeySets.{AreSetsOf};
-ghost use Rattle.c8_net.specs.Match.{IsNoKeys, IsNoMatch, HasPlayed, HasFailed};
+ghost use Rattle.c8_peer.specs.Opened.{IsOpened};
+ghost use Rattle.c8_peer.specs.Peer.{PeerValue};
+ghost use Rattle.c8_net.specs.Match.{IsNoKeys, IsNoMatch, HasEnded, HasPlayed, HasFailed};
 
 use crate::addresses::{Addresses, MOST_WATCHERS};
 use crate::arguments::Asked;
-use crate::error::{PeerError, SocketError};
-use crate::stage::{Ended, Stage};
+use crate::error::{PeerError, Unopened};
+use crate::performance::{Ended, Performance};
+use crate::stage::Stage;
 use crate::udp::Udp;
 use c8_command::{TextError, text_of};
 use c8_disk::{Disk, DiskError};
@@ -113,10 +117,10 @@ fn keys_in<I: Read + Drop>(alloc: Global, input: I) -> Result<Vec<Keys>, Unprepa
     }
 }
 
-/// Plays a match on the disk that holds the own journal: opens that first, then the socket, and makes
-/// turns until the session is over, as many were made as are asked for, or as many frames are confirmed
-/// as are enough. The caller's thread makes the turns, one moves packets, and one watches. Answers the
-/// confirmed machine, which began at the last checkpoint that was found; where that is true it is the
+/// Plays a match on the disk that holds the own journal, in threads: opens that first, then the socket, and
+/// makes turns until the session is over, as many were made as are asked for, or as many frames are
+/// confirmed as are enough. The caller's thread makes the turns, one moves packets, and one watches. Answers
+/// the confirmed machine, which began at the last checkpoint that was found; where that is true it is the
 /// machine of the serial run.
 pub fn play_on<R, D, E>(
     rt: &R,
@@ -144,22 +148,71 @@ where
         Err((error, _disk)) => return Err(PeerError::Open(error)),
     };
     let Ok(stage) = Stage::open(rt.alloc(), &game, &peer) else {
-        return Err(PeerError::Open(OpenError::Memory));
+        return Err(PeerError::from(Unopened::Memory));
     };
-    let wire = match Udp::open(rt, &addresses) {
-        Ok(wire) => wire,
-        Err(error) => return Err(PeerError::Socket(error)),
+    let Ok(wire) = Udp::open(rt, &addresses) else {
+        return Err(PeerError::from(Unopened::Socket));
     };
     let session = session_of(peer, &game, keys, asked);
     let (ended, moved) = stage.play(rt, asked, session, wire, progress);
+    outcome_of(asked, ended.after(moved), progress)
+}
+
+/// The same of a match that a performance plays, in the caller's thread.
+pub fn perform_on<R, D, P, E>(
+    rt: &R,
+    asked: &Asked<'_, '_>,
+    it: Prepared,
+    disk: D,
+    performance: P,
+    progress: &mut E,
+) -> Result<Played, PeerError>
+where
+    R: Net + AllocGlobal,
+    D: Disk + Drop,
+    P: Performance + Drop,
+    E: Write,
+    ensures played { IfOk result
+        (HasPlayed D.Disk disk it.game asked.now.room asked.now.player.number) }
+    ensures refused { IfErr result
+        (HasFailed D.Disk disk it.game asked.now.room asked.now.player.number) }
+{
+    let Prepared {
+        game,
+        addresses,
+        keys,
+    } = it;
+    let peer = match Peer::open(rt.alloc(), disk, &game, asked.player, asked.room) {
+        Ok(peer) => peer,
+        Err((error, _disk)) => return Err(PeerError::Open(error)),
+    };
+    let session = session_of(peer, &game, keys, asked);
+    match performance.perform(rt, asked, &addresses, &game, session, progress) {
+        Ok(ended) => outcome_of(asked, ended, progress),
+        Err(error) => Err(PeerError::from(error)),
+    }
+}
+
+/// What a session comes to whose turns are over, by what was found on the disk of its journal.
+fn outcome_of<D: Disk + Drop, E: Write>(
+    asked: &Asked<'_, '_>,
+    ended: Ended<'_, D>,
+    progress: &mut E,
+) -> Result<Played, PeerError>
+    ensures played { (disk : D) (rules : Rules) (room me : ℕ) (first : PeerValue D)
+        → IsOpened D.Disk disk rules room me first
+        → HasEnded D.Disk first ended.entry.session.peer ended.entry.turns
+        → IfOk result (HasPlayed D.Disk disk rules room me) }
+    ensures refused { (disk : D) (rules : Rules) (room me : ℕ) (first : PeerValue D)
+        → IsOpened D.Disk disk rules room me first
+        → HasEnded D.Disk first ended.entry.session.peer ended.entry.turns
+        → IfErr result (HasFailed D.Disk disk rules room me) }
+{
     let Ended { session, turns } = ended;
     let made = match turns {
         Ok(made) => made,
         Err(error) => return Err(PeerError::from(error)),
     };
-    if moved.is_err() {
-        return Err(PeerError::Socket(SocketError::Failed));
-    }
     if asked.progress {
         let _ = tell_end(progress, made, &session);
     }

@@ -5,6 +5,7 @@ ghost use Rattle.c8_net.specs.Match.{HasEnded};
 
 use crate::arguments::Asked;
 use crate::pace::Pace;
+use crate::performance::Ended;
 use c8_board::{Board, Pen, Viewer};
 use c8_disk::Disk;
 use c8_game::Game;
@@ -59,13 +60,6 @@ pub(crate) struct Onlooker<'b> {
     pub(crate) board: &'b Board,
     pub(crate) viewer: Viewer,
     pub(crate) ghost watches: { viewer.board ≡ board.now },
-}
-
-/// A session whose turns are over, and how many were made, or why there are no more.
-#[derive(Drop)]
-pub(crate) struct Ended<'g, D: Disk> {
-    pub(crate) session: Session<'g, D>,
-    pub(crate) turns: Result<u64, SessionError>,
 }
 
 impl Stage {

@@ -7,6 +7,7 @@ use crate::error::SocketError;
 use c8_live::{LONGEST_PACKET, Traffic, Wire, WireFailed};
 use c8_wire::Seat;
 use mio::net::UdpSocket;
+use mio::{Interest, Registry, Token};
 use std::io;
 use std::io::ErrorKind;
 use std::net::Net;
@@ -35,6 +36,13 @@ impl Udp {
             Ok(socket) => Ok(Udp::over(socket, addresses)),
             Err(_) => Err(SocketError::Failed),
         }
+    }
+
+    /// Has a poll end its wait, under this token, where a packet has come.
+    pub fn wake(&mut self, registry: &Registry, token: Token) -> io::Result<()>
+        ensures { self.new.traffic ≡ self.old.traffic }
+    {
+        registry.register(&mut self.socket, token, Interest::READABLE)
     }
 
     /// The way over a socket that is open already, wherever that is.
@@ -84,9 +92,15 @@ impl Wire for Udp {
 }
 
 /// Whether an error of the socket tells that a datagram is lost, since nobody listens at the other
-/// end yet. The system may tell it by a later call of any kind.
+/// end yet, or no network leads there now. The system may tell it by a later call of any kind.
 fn was_unheard(error: &io::Error) -> bool {
-    error.kind() == ErrorKind::ConnectionRefused
+    matches!(
+        error.kind(),
+        ErrorKind::ConnectionRefused
+            | ErrorKind::HostUnreachable
+            | ErrorKind::NetworkUnreachable
+            | ErrorKind::NetworkDown
+    )
 }
 
 /// Whether a call would have to wait: no packet has come, or there is no room for one.

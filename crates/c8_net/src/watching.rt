@@ -17,11 +17,11 @@ mod stage;
 use crate::addresses::{Addresses, no_address};
 use crate::command::refuse;
 use crate::error::{PeerError, SocketError};
-use crate::fault::Fault;
+use crate::fault::{Fault, game_at};
 use crate::udp::Udp;
 use arguments::asked_of;
 pub use arguments::{WatchAsked, watch_command};
-use c8_command::{Status, read_file};
+use c8_command::Status;
 use c8_game::Game;
 use c8_keys::{Played, write_report};
 use c8_live::Wire;
@@ -98,14 +98,7 @@ where
     R: Files<File = File> + Net + Clock + Threads + Wait + Sync + AllocGlobal,
     W: Write,
 {
-    let text = match read_file(rt, asked.game) {
-        Ok(text) => text,
-        Err(error) => return Err(Fault::unread(rt.alloc(), error, asked.game)),
-    };
-    let game = match Game::read(rt.alloc(), &text) {
-        Ok(game) => game,
-        Err(error) => return Err(Fault::of_text(PeerError::Game(error), asked.game, text)),
-    };
+    let game = game_at(rt, asked.game)?;
     watched_at(rt, asked, &game, out).map_err(|error| Fault::new(rt.alloc(), error, asked.game))
 }
 

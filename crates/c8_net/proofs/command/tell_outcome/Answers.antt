@@ -1,6 +1,6 @@
 use Rattle.std.proofs.Common.{Ok, refl}
 use Rattle.c8_net.proofs.OutcomeLemmas.{of_error}
-use Rattle.c8_net.proofs.command.peer.Goals as goal
+use Rattle.c8_net.proofs.command.tell_outcome.Goals as goal
 
 pub returns-in_ok-write_report-in-Ok : goal.returns-in_ok-write_report-in-Ok
 returns-in_ok-write_report-in-Ok g c = (Ok c.in-Ok.field-0, refl)

@@ -1,0 +1,14 @@
+use Rattle.std.proofs.Common.{refl}
+use Rattle.c8_net.proofs.PlayLemmas.{ended_failed, has_played}
+use Rattle.c8_net.proofs.play.outcome_of.Goals as goal
+
+pub returns-in-Err-clause-refused : goal.returns-in-Err-clause-refused
+returns-in-Err-clause-refused g c = λ disk rules room me first opened ended.
+    rw c.from.ensures
+    (ended_failed g.D.Disk disk rules room me first first c.args.ended.session.peer c.args.ended.turns c.in-Err.error opened refl ended c.in-Err.is)
+
+pub returns-clause-played : goal.returns-clause-played
+returns-clause-played g c = λ disk rules room me first opened ended.
+    has_played g.D.Disk disk rules room me c.machines_begin_where_they_did.ensures c.true_checks_show_the_serial_run.ensures.opened c.true_checks_show_the_serial_run.ensures.stays
+    first first c.args.ended.session.peer c.peer.result.now _ opened refl ended.ran c.peer.ensures c.base-frames.ensures.confirmed
+    c.base-frames.ensures.machine c.base-frames.ensures.serial

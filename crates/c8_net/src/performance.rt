@@ -1,0 +1,54 @@
+//! How a match is played once its journal is open.
+
+ghost use Rattle.std.specs.Prelude.{◌≡◌, IfOk};
+ghost use Rattle.c8_peer.specs.Peer.{PeerValue};
+ghost use Rattle.c8_net.specs.Match.{HasEnded};
+
+use crate::addresses::Addresses;
+use crate::arguments::Asked;
+use crate::error::Unopened;
+use c8_disk::Disk;
+use c8_game::Game;
+use c8_live::{Session, SessionError, WireFailed};
+use std::io::Write;
+use std::net::Net;
+
+/// A session whose turns are over, and how many were made, or why there are no more.
+#[derive(Drop)]
+pub struct Ended<'g, D: Disk> {
+    pub session: Session<'g, D>,
+    pub turns: Result<u64, SessionError>,
+}
+
+impl<'g, D: Disk> Ended<'g, D> {
+    /// The same where another thread could use the wire to the end, or could not: that ends a session too.
+    pub(crate) fn after(self, moved: Result<(), WireFailed>) -> Ended<'g, D>
+        ensures { (first : PeerValue D) → HasEnded D.Disk first self.entry.session.peer self.entry.turns
+            → HasEnded D.Disk first result.session.peer result.turns }
+    {
+        let Ended { session, turns } = self;
+        let turns = match moved {
+            Err(failed) if turns.is_ok() => Err(SessionError::Wire(failed)),
+            _ => turns,
+        };
+        Ended { session, turns }
+    }
+}
+
+/// What makes the turns of a session in the caller's thread, as from a keyboard, once a frame. Whatever it
+/// does, the session's peer only runs on, each of its calls one step of the definitions.
+pub trait Performance {
+    /// Opens the way to the others, and makes turns until the session is over or no more are wanted. The
+    /// error comes before the first turn.
+    fn perform<'g, R: Net, D: Disk + Drop, E: Write>(
+        self,
+        rt: &R,
+        asked: &Asked<'_, '_>,
+        addresses: &Addresses,
+        game: &Game,
+        session: Session<'g, D>,
+        progress: &mut E,
+    ) -> Result<Ended<'g, D>, Unopened>
+        ensures { IfOk result (λ ended.
+            HasEnded D.Disk session.entry.peer ended.session.peer ended.turns) };
+}
