@@ -8,6 +8,7 @@ use c8_front::{
 };
 use c8_keys::run_files;
 use c8_net::{peer_command, peer_given, watch_command, watch_given};
+use c8_play::{play_command, play_given};
 use c8_script::sim_files;
 use c8_show::show;
 use c8_threads::{rig_command, rig_given};
@@ -74,6 +75,7 @@ fn command<'a>(alloc: Global) -> Result<Command<'a>, AllocError> {
         .arg_required_else_help(true);
     let command = command.subcommand(run_command(alloc)?)?;
     let command = command.subcommand(peer_command(alloc)?)?;
+    let command = command.subcommand(play_command(alloc)?)?;
     let command = command.subcommand(watch_command(alloc)?)?;
     let command = command.subcommand(sim_command(alloc)?)?;
     let command = command.subcommand(rig_command(alloc)?)?;
@@ -110,6 +112,7 @@ where
             run_files(rt, game, keys, is_explained(given), out, refused)
         }
         Some(("peer", given)) => peer_given(rt, given, input, out, refused),
+        Some(("play", given)) => play_given(rt, given, out, refused),
         Some(("watch", given)) => watch_given(rt, given, is_terminal, out, refused),
         Some(("sim", given)) => {
             let (game, script) = (word_of(given, "GAME"), word_of(given, "SCRIPT"));

@@ -1,10 +1,11 @@
-//! c8peer: the commands `peer` and `watch` of c8play alone, in a program that is built sooner. The
+//! c8peer: the commands `peer`, `play` and `watch` of c8play alone, in a program that is built sooner. The
 //! script `c8play` takes it where one of them is asked for.
 #![tactic(auto)]
 
 use c8_command::Status;
 use c8_front::{line_of, status_at, tell, words_in};
 use c8_net::{peer_command, peer_given, watch_command, watch_given};
+use c8_play::{play_command, play_given};
 use std::env::Args;
 use std::fs::File;
 use std::io::{IsTerminal, Read, Write};
@@ -49,10 +50,12 @@ where
         return Ok(Status::CommandLine);
     };
     let command = line_of(alloc, peer_command(alloc)?)?;
+    let command = command.subcommand(play_command(alloc)?)?;
     let command = command.subcommand(watch_command(alloc)?)?;
     match command.try_get_matches_from(words.as_slice()) {
         Ok(matches) => match matches.subcommand() {
             Some(("peer", given)) => peer_given(rt, given, input, out, refused),
+            Some(("play", given)) => play_given(rt, given, out, refused),
             Some(("watch", given)) => watch_given(rt, given, is_terminal, out, refused),
             _ => Ok(Status::CommandLine),
         },

@@ -1,0 +1,35 @@
+use Rattle.std.proofs.Common.{arith}
+use Rattle.std.proofs.lemmas.Result.{err_from_is_err_and}
+use Rattle.c8_play.proofs.live.play_frames.Goals as goal
+
+pub returns-in_err-wait-clause-end : goal.returns-in_err-wait-clause-end
+returns-in_err-wait-clause-end g c =
+    let error = err_from_is_err_and c.from_residual.result c.from_residual.ensures.1 in
+    rw (error.1, error.2)
+    (c.peers_run_on.ensures.ended c.args.session.now.peer c.loop-turn.session.peer c.wait.new.session.peer c.in_err-wait.field-0.0 c.loop-turn.invariant.ran c.in_err-wait.ensures.end)
+
+pub returns-in_err-play_frame-clause-ran : goal.returns-in_err-play_frame-clause-ran
+returns-in_err-play_frame-clause-ran g c =
+    let first = c.args.session.now.peer in
+    c.peers_run_on.ensures.joined first c.wait.new.session.peer c.play_frame.new.session.peer
+    (c.peers_run_on.ensures.joined first c.loop-turn.session.peer c.wait.new.session.peer c.loop-turn.invariant.ran c.in_ok-wait.ensures.ran)
+    c.in_err-play_frame.ensures.ran
+
+pub returns-in_err-play_frame-clause-end : goal.returns-in_err-play_frame-clause-end
+returns-in_err-play_frame-clause-end g c =
+    let first = c.args.session.now.peer in
+    let error = err_from_is_err_and c.from_residual-in_err-play_frame.result c.from_residual-in_err-play_frame.ensures.1 in
+    rw (error.1, error.2)
+    (c.peers_run_on.ensures.ended first c.wait.new.session.peer c.play_frame.new.session.peer c.in_err-play_frame.field-0.0
+    (c.peers_run_on.ensures.joined first c.loop-turn.session.peer c.wait.new.session.peer c.loop-turn.invariant.ran c.in_ok-wait.ensures.ran)
+    c.in_err-play_frame.ensures.end)
+
+pub loop-turn-preserved : goal.loop-turn-preserved
+loop-turn-preserved g c =
+    let first = c.args.session.now.peer in
+    record {
+      ran = c.peers_run_on.ensures.joined first c.wait.new.session.peer c.play_frame.new.session.peer
+          (c.peers_run_on.ensures.joined first c.loop-turn.session.peer c.wait.new.session.peer c.loop-turn.invariant.ran c.in_ok-wait.ensures.ran)
+          c.in_ok-play_frame.ensures.ran;
+      few = omega (arith, c.loop-turn-test.true);
+    }

@@ -1,0 +1,36 @@
+//! A game that one person plays, with the keys of all players and without a network.
+
+ghost use Rattle.std.specs.Prelude.{◌≡◌, ◌≤◌};
+ghost use Rattle.c8_play.specs.Alone.{IsPlayedAlone};
+
+use crate::console::Console;
+use crate::desk::Desk;
+use c8_game::{Game, Row};
+use c8_keys::Played;
+use c8_machine::Machine;
+
+/// Plays a game at a desk, a frame at a time, up to its last frame or as many as are asked for, or until the
+/// person wants to end. Answers how many frames were played, and the machine of the serial run on what was
+/// held down in them.
+pub fn play_alone<C: Console>(game: &Game, desk: &mut Desk<C>, frames: u64) -> Played
+    ensures played { IsPlayedAlone game.now result }
+    ensures few { result.frames ≤ frames }
+{
+    let mut played = Played {
+        frames: 0,
+        machine: Machine::start(game),
+    };
+    for frame in 0..game.frames() {
+        if desk.has_left() || u64::from(frame) >= frames {
+            break;
+        }
+        desk.sit_out();
+        let keys = desk.begin();
+        desk.entered();
+        let row = Row { sets: [keys; 4] };
+        played.machine.frame(game, game.joined(&row));
+        played.frames = frame + 1;
+        desk.show(played.machine.screen(), &[]);
+    }
+    played
+}

@@ -1,0 +1,85 @@
+//! What the command `play` takes, and what it is asked to play by that.
+
+use crate::desk::Pace;
+use crate::help::PLAY_ENDING;
+use c8_front::{with_place, word_of};
+use c8_game::Player;
+use c8_net::{number, with_options};
+use clap::{Arg, ArgMatches, Command, value_parser};
+use std::alloc::{AllocError, Global};
+
+/// Who plays.
+#[derive(Clone, Copy, Debug, PartialEq, Eq)]
+pub(crate) enum Seat {
+    /// One person, with the keys of all players.
+    Alone,
+    /// A player of a match, who has a journal and an address.
+    Player(Player),
+}
+
+/// What `play` takes.
+pub fn play_command<'a>(alloc: Global) -> Result<Command<'a>, AllocError> {
+    let command = Command::new(alloc, "play")
+        .about("Plays a game at the keyboard, alone or with others over UDP")
+        .after_help(PLAY_ENDING);
+    let turns = number(
+        alloc,
+        "turns",
+        "The most turns, one a frame [default: no end]",
+    );
+    let progress =
+        "Says in the end, on standard error, how late frames were, and how the match ended";
+    let command = with_options(alloc, with_players(alloc, command)?, turns, progress)?;
+    let rate = Arg::new(alloc, "rate")
+        .long("rate")
+        .value_name("N")
+        .help("How many frames a second")
+        .value_parser(value_parser!(u8).range(1..241))
+        .default_value("60");
+    let command = command.arg(rate)?;
+    let hold = Arg::new(alloc, "hold")
+        .long("hold")
+        .value_name("N")
+        .help("For how many frames a key counts as held where the terminal does not tell")
+        .value_parser(value_parser!(u8).range(1..))
+        .default_value("9");
+    command.arg(hold)
+}
+
+/// The arguments that say what is played by whom.
+fn with_players<'a>(alloc: Global, command: Command<'a>) -> Result<Command<'a>, AllocError> {
+    let game = "The path of the game's text, the same for all players";
+    let command = with_place(alloc, command, "GAME", game)?;
+    let player = "The own player's number, 1 to 4, or alone";
+    let command = with_place(alloc, command, "PLAYER", player)?;
+    let journal = "The path of the own journal, made where there is none";
+    let command = command.arg(Arg::new(alloc, "JOURNAL").help(journal))?;
+    let local = "The own address, as 127.0.0.1:4001";
+    let command = command.arg(Arg::new(alloc, "LOCAL").help(local))?;
+    let remote = Arg::new(alloc, "REMOTE")
+        .help("The other players' addresses, in order of their numbers")
+        .num_args(0..);
+    command.arg(remote)
+}
+
+/// Who is to play, if that is said: one alone has neither journal nor address, a player has both.
+pub(crate) fn seat_of(given: &ArgMatches<'_>) -> Option<Seat> {
+    let has_match = given.get_str("JOURNAL").is_some() && given.get_str("LOCAL").is_some();
+    let has_none = given.get_str("JOURNAL").is_none();
+    match word_of(given, "PLAYER") {
+        "alone" if has_none => Some(Seat::Alone),
+        "1" if has_match => Some(Seat::Player(Player::CHAIR)),
+        "2" if has_match => Some(Seat::Player(Player { number: 2 })),
+        "3" if has_match => Some(Seat::Player(Player { number: 3 })),
+        "4" if has_match => Some(Seat::Player(Player { number: 4 })),
+        _ => None,
+    }
+}
+
+/// How fast the game goes, by a command line whose reader has seen that the numbers are in their ranges.
+pub(crate) fn pace_of(given: &ArgMatches<'_>) -> Pace {
+    Pace {
+        rate: given.get_one::<u8>("rate").unwrap_or(60).max(1),
+        hold: given.get_one::<u8>("hold").unwrap_or(9).max(1),
+    }
+}

@@ -1,0 +1,84 @@
+//! `c8play play`: a game is played at the keyboard.
+
+use crate::alone::play_alone;
+use crate::arguments::{Seat, pace_of, seat_of};
+use crate::desk::{Desk, Pace};
+use crate::live::{Live, tell_lateness};
+use crate::terminal::Terminal;
+use c8_command::Status;
+use c8_front::{is_explained, word_of};
+use c8_keys::write_report;
+use c8_net::{asked_for, game_at, number_of, perform_given, refuse};
+use clap::ArgMatches;
+use std::fs::File;
+use std::io;
+use std::io::Write;
+use std::net::Net;
+use std::rt::Files;
+use std::time::Clock;
+
+/// Plays what the command line asks for, as `play` does: the screen is drawn on the terminal that the program
+/// runs in, and the report of the machine at the end goes to `out`; the line of a refusal goes to `refused`.
+/// Without such a terminal the command line is refused. The error is that of a writer.
+pub fn play_given<R, W, E>(
+    rt: &R,
+    given: &ArgMatches<'_>,
+    out: &mut W,
+    refused: &mut E,
+) -> io::Result<Status>
+where
+    R: Files<File = File> + Net + Clock + AllocGlobal,
+    W: Write,
+    E: Write,
+{
+    let Some(seat) = seat_of(given) else {
+        writeln!(
+            refused,
+            "error: play takes GAME alone, or GAME, a PLAYER from 1 to 4, JOURNAL, LOCAL and REMOTE"
+        )?;
+        return Ok(Status::CommandLine);
+    };
+    let Ok(console) = Terminal::open(rt) else {
+        writeln!(refused, "error: play wants a terminal")?;
+        return Ok(Status::CommandLine);
+    };
+    let pace = pace_of(given);
+    match seat {
+        Seat::Alone => alone(rt, given, console, pace, out, refused),
+        Seat::Player(player) => {
+            let asked = asked_for(given, player);
+            let live = Live { console, pace };
+            perform_given(rt, &asked, live, out, refused)
+        }
+    }
+}
+
+/// Plays a game alone, of which the file may be refused.
+fn alone<R, W, E>(
+    rt: &R,
+    given: &ArgMatches<'_>,
+    console: Terminal<'_, R>,
+    pace: Pace,
+    out: &mut W,
+    refused: &mut E,
+) -> io::Result<Status>
+where
+    R: Files<File = File> + Net + Clock + AllocGlobal,
+    W: Write,
+    E: Write,
+{
+    let game = match game_at(rt, word_of(given, "GAME")) {
+        Ok(game) => game,
+        Err(fault) => return refuse(rt.alloc(), is_explained(given), None, &fault, refused),
+    };
+    let stop = number_of(given, "stop").unwrap_or(u64::MAX);
+    let turns = number_of(given, "turns").unwrap_or(u64::MAX);
+    let mut desk = Desk::new(console, pace);
+    let played = play_alone(&game, &mut desk, stop.min(turns));
+    let lateness = desk.end();
+    if given.get_flag("progress") {
+        tell_lateness(refused, &lateness)?;
+    }
+    write_report(out, played.frames, &played.machine)?;
+    Ok(Status::Done)
+}

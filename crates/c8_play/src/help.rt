@@ -1,0 +1,26 @@
+//! What the help of `play` ends with.
+
+/// The end of the help of `play`.
+pub const PLAY_ENDING: &str =
+    "The left block of the keyboard stands for the keypad, by place, and the arrows for 5, 8, 7 and 9:
+  1 2 3 4      1 2 3 C
+  q w e r      4 5 6 D          5
+  a s d f      7 8 9 E        7 8 9
+  z x c v      A 0 B F
+A player has the keys of the game's mask for the player; who plays alone has those of all players.
+Escape and control-C end the game, control-L paints the screen anew. A terminal that tells when a key
+is let go (one with kitty's keyboard protocol) plays better than one that does not: there a key
+counts as held for --hold frames after each stroke.
+
+The screen takes 64 columns and 16 rows of the terminal; the row below tells each second how many
+frames are ticked and how many confirmed, the rollbacks of that second and the longest, for how long
+each other player has been silent, and at once for whom the game waits. When the game ends the
+machine after the confirmed frames is printed.
+
+Alone, and two players, each in a terminal of their own:
+  ./c8play play games/rally.game alone
+  ./c8play play games/rally.game 1 one.journal 127.0.0.1:4001 127.0.0.1:4002
+  ./c8play play games/rally.game 2 two.journal 127.0.0.1:4002 127.0.0.1:4001
+
+A turn is a frame: so many are made a second as --rate says. The other options, the refusals and the
+exit statuses are those of the command peer; standard input is not read.";

@@ -1,0 +1,160 @@
+//! A match that is played at a desk.
+
+ghost use Rattle.std.specs.Prelude.{◌≡◌, ◌≤◌, IfOk, IfErr};
+ghost use Rattle.c8_live.specs.Runs.{HasRunOn, IsEnd};
+ghost use Rattle.c8_net.specs.Match.{HasEnded};
+
+use crate::beat::Lateness;
+use crate::console::Console;
+use crate::desk::{Desk, Pace};
+use crate::lead::{Lead, hindmost};
+use crate::status::Status;
+use c8_disk::Disk;
+use c8_game::Game;
+use c8_live::laws::peers_run_on;
+use c8_live::{Session, SessionError, Wire};
+use c8_net::{Addresses, Asked, Ended, Performance, Udp, Unopened};
+use std::io;
+use std::io::Write;
+use std::net::Net;
+
+/// How often a peer listens before a frame at most, so that no flood of packets holds it up.
+const MOST_RESTS: u16 = 1000;
+
+/// The performance at a console: a turn a frame, which enters the keys that are held.
+#[derive(Drop)]
+pub struct Live<C> {
+    pub console: C,
+    pub pace: Pace,
+}
+
+impl<C: Console + Drop> Performance for Live<C> {
+    fn perform<'g, R: Net, D: Disk + Drop, E: Write>(
+        self,
+        rt: &R,
+        asked: &Asked<'_, '_>,
+        addresses: &Addresses,
+        game: &Game,
+        session: Session<'g, D>,
+        progress: &mut E,
+    ) -> Result<Ended<'g, D>, Unopened> {
+        let Ok(mut wire) = Udp::open(rt, addresses) else {
+            return Err(Unopened::Socket);
+        };
+        let Live { console, pace } = self;
+        let mut desk = Desk::new(console, pace);
+        desk.wake_at(&mut wire);
+        let mut session = session;
+        let lead = Lead::new(game.window(), pace.rate);
+        let turns = play_frames(&mut session, &mut wire, &mut desk, lead, asked);
+        let lateness = desk.end();
+        if asked.progress {
+            let _ = tell_lateness(progress, &lateness);
+        }
+        Ok(Ended { session, turns })
+    }
+}
+
+/// Writes how late frames were.
+pub(crate) fn tell_lateness<E: Write>(out: &mut E, lateness: &Lateness) -> io::Result<()> {
+    let (median, most) = (lateness.median(), lateness.most());
+    writeln!(
+        out,
+        "frames were late by {median} ms in the median, by {most} ms at most"
+    )
+}
+
+/// Plays a session at a desk, a turn a frame, until it is over, its turns are made, as many frames are
+/// confirmed as are enough, or the person wants to end. Between two frames the peer listens. Answers how many
+/// turns were made. The error is that of the disk or of the wire.
+pub fn play_frames<D: Disk, W: Wire, C: Console>(
+    session: &mut Session<'_, D>,
+    wire: &mut W,
+    desk: &mut Desk<C>,
+    lead: Lead,
+    asked: &Asked<'_, '_>,
+) -> Result<u64, SessionError>
+    ensures ran { HasRunOn D.Disk session.old.peer session.new.peer }
+    ensures end { IfErr result (IsEnd D.Disk session.old.peer session.new.peer) }
+    ensures few { IfOk result (λ made. made ≤ asked.now.turns) }
+{
+    peers_run_on::<D>();
+    let mut lead = lead;
+    let mut status = Status::new(desk.now(), asked.player, session.peer().players());
+    let mut made: u64 = 0;
+    for turn in 0..asked.turns {
+        let is_enough = is_enough(session.peer().confirmed(), asked.stop);
+        if session.is_over() || is_enough || desk.has_left() {
+            break;
+        }
+        wait(session, wire, desk, &status)?;
+        play_frame(session, wire, desk, &mut lead, &mut status)?;
+        made = turn + 1;
+    }
+    Ok(made)
+}
+
+/// Whether so many frames are enough.
+fn is_enough(confirmed: u32, enough: Option<u64>) -> bool {
+    match enough {
+        Some(enough) => u64::from(confirmed) >= enough,
+        None => false,
+    }
+}
+
+/// Waits for the next frame, and listens meanwhile.
+fn wait<D: Disk, W: Wire, C: Console>(
+    session: &mut Session<'_, D>,
+    wire: &mut W,
+    desk: &mut Desk<C>,
+    status: &Status,
+) -> Result<(), SessionError>
+    ensures ran { HasRunOn D.Disk session.old.peer session.new.peer }
+    ensures end { IfErr result (IsEnd D.Disk session.old.peer session.new.peer) }
+{
+    peers_run_on::<D>();
+    for _ in 0..MOST_RESTS {
+        if desk.is_due() {
+            break;
+        }
+        session.listen(wire)?;
+        status.note(session);
+    }
+    desk.sit_out();
+    Ok(())
+}
+
+/// One frame: its turn, and what is seen of it. Where no more can be ticked before more is confirmed, that is
+/// shown as waiting, for the player of whom the least is known.
+fn play_frame<D: Disk, W: Wire, C: Console>(
+    session: &mut Session<'_, D>,
+    wire: &mut W,
+    desk: &mut Desk<C>,
+    lead: &mut Lead,
+    status: &mut Status,
+) -> Result<(), SessionError>
+    ensures ran { HasRunOn D.Disk session.old.peer session.new.peer }
+    ensures end { IfErr result (IsEnd D.Disk session.old.peer session.new.peer) }
+{
+    let keys = desk.begin();
+    let is_left_out = lead.is_left_out(session.peer());
+    let is_taken = session.play(if is_left_out { None } else { Some(keys) }, wire)?;
+    status.note(session);
+    if is_taken {
+        desk.entered();
+    } else if !is_left_out {
+        lead.has_waited();
+    }
+    let peer = session.peer();
+    let is_held_up = !is_taken && !is_left_out && peer.confirmed() < session.frames();
+    let waits = if is_held_up { hindmost(peer) } else { None };
+    if desk.is_spoilt() {
+        status.forget();
+    }
+    let now = desk.now();
+    desk.show(
+        peer.shown().screen(),
+        status.row(now, peer.confirmed(), waits),
+    );
+    Ok(())
+}

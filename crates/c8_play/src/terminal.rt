@@ -1,0 +1,111 @@
+//! The terminal that the program runs in: the only file here that touches the system.
+
+use crate::console::{Console, Gone, KEY_BYTES};
+use c8_net::Udp;
+use c8_terminal::{ENTER, LEAVE};
+use mio::{Events, Poll, Token};
+use std::fs::{File, OpenOptions};
+use std::io::{ErrorKind, Read, Write};
+use std::net::Net;
+use std::os::fd::AsRawFd;
+use std::rt::Files;
+use std::time::{Clock, Duration};
+use std::{io, thread};
+
+/// The terminal of the process, whatever its standard streams are.
+const TTY: &str = "/dev/tty";
+
+/// Asks for kitty's keyboard protocol (no ambiguity, event types, all keys as sequences), and whether the
+/// terminal has it; asks to be told where the window loses the focus; and text that is too long for a row is
+/// cut off from now on.
+const ASK: &[u8] = b"\x1b[>11u\x1b[?u\x1b[?1004h\x1b[?7l";
+
+/// Takes all of that back.
+const ASK_NO_MORE: &[u8] = b"\x1b[?7h\x1b[?1004l\x1b[<u";
+
+/// How many wakes are told at once: there is one socket.
+const MOST_EVENTS: usize = 4;
+
+/// The terminal of the process. Its settings are not touched: the script `c8play` has it send keys as they
+/// are struck, and gives it back however the program ends.
+#[derive(Drop)]
+pub struct Terminal<'r, R> {
+    rt: &'r R,
+    keys: File,
+    screen: File,
+    poll: Poll,
+    events: Events,
+    /// What the clock said last.
+    last: Duration,
+}
+
+impl<'r, R> Terminal<'r, R>
+where
+    R: Files<File = File> + Net + Clock + AllocGlobal,
+{
+    /// Opens the terminal twice: to read without waiting, which is a setting of that opening alone, and to
+    /// write. Nothing is written yet.
+    pub fn open(rt: &'r R) -> io::Result<Terminal<'r, R>> {
+        let keys = File::open(rt, TTY)?;
+        if os::set_nonblocking(keys.as_raw_fd(), true) != 0 {
+            return Err(ErrorKind::Other.into());
+        }
+        let screen = OpenOptions::new().write(true).open(rt, TTY)?;
+        let poll = Poll::new(rt)?;
+        let events = Events::with_capacity(rt.alloc(), MOST_EVENTS)?;
+        Ok(Terminal {
+            rt,
+            keys,
+            screen,
+            poll,
+            events,
+            last: Duration::from_secs(0),
+        })
+    }
+}
+
+impl<'r, R: Clock> Console for Terminal<'r, R> {
+    fn enter(&mut self) -> Result<(), Gone> {
+        self.draw(ENTER)?;
+        self.draw(ASK)
+    }
+
+    fn leave(&mut self) {
+        let _ = self.draw(ASK_NO_MORE);
+        let _ = self.draw(LEAVE);
+    }
+
+    fn now(&mut self) -> Duration {
+        // where the clock cannot be read no time has gone by
+        self.last = self.rt.monotonic().unwrap_or(self.last);
+        self.last
+    }
+
+    fn keys(&mut self, bytes: &mut [u8; KEY_BYTES]) -> Result<usize, Gone> {
+        match self.keys.read(bytes) {
+            // the end of a terminal's input: it has hung up
+            Ok(0) => Err(Gone),
+            Ok(size) => Ok(size),
+            Err(error) if error.kind() == ErrorKind::WouldBlock => Ok(0),
+            Err(error) if error.kind() == ErrorKind::Interrupted => Ok(0),
+            Err(_) => Err(Gone),
+        }
+    }
+
+    fn draw(&mut self, text: &[u8]) -> Result<(), Gone> {
+        self.screen.write_all(text).map_err(|_| Gone)
+    }
+
+    fn wake_at(&mut self, wire: &mut Udp) {
+        // without it packets are taken when the next frame is due
+        let _ = wire.wake(self.poll.registry(), Token(0));
+    }
+
+    fn rest(&mut self, time: Duration) {
+        let _ = self.poll.poll(&mut self.events, Some(time));
+    }
+
+    fn sleep(&mut self, time: Duration) {
+        thread::sleep(self.rt, time);
+    }
+}

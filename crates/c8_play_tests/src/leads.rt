@@ -1,0 +1,49 @@
+//! A player who is ahead of the others.
+
+use c8_disk::MemDisk;
+use c8_game::{Game, Keys, Player};
+use c8_peer::Peer;
+use c8_play::Lead;
+use std::alloc::Global;
+use std::test::Fail;
+
+/// Two players, with a window of eight frames: more than four ahead is too far.
+const GAME: &[u8] =
+    b"players 2\nipf 10\nframes 60\ndelay 0\nwindow 8\nseed 0\nmask1 ffff\nmask2 ffff\ncode 1200\n";
+
+/// After how many ticks of player 1, of whom nobody has heard, and which of ten frames are left out then, at
+/// three frames a second.
+static ROWS: [(u8, &str); 3] = [(0, ".........."), (4, ".........."), (5, "..x..x..x.")];
+
+/// Player 1's peer after some ticks.
+fn ticked<'g>(alloc: Global, game: &'g Game, ticks: u8) -> Result<Peer<'g, MemDisk>, Fail> {
+    let disk = MemDisk::new(alloc, 100_000, 4_000)?;
+    let Ok(mut peer) = Peer::open(alloc, disk, game, Player::CHAIR, 0) else {
+        return Err(Fail::new("not opened"));
+    };
+    for _ in 0..ticks {
+        peer.tick(Keys(1))?;
+    }
+    Ok(peer)
+}
+
+/// Which of ten frames are left out.
+fn left_out(alloc: Global, peer: &Peer<'_, MemDisk>) -> Result<String, Fail> {
+    let mut lead = Lead::new(8, 3);
+    let mut told = String::new(alloc);
+    for _ in 0..10 {
+        told.push(if lead.is_left_out(peer) { 'x' } else { '.' })?;
+    }
+    Ok(told)
+}
+
+#[test]
+fn one_tick_a_second_is_left_out(rt: HostRuntime) -> Result<(), Fail> {
+    let game = Game::read(rt.alloc(), GAME)?;
+    for (ticks, wanted) in &ROWS {
+        let peer = ticked(rt.alloc(), &game, *ticks)?;
+        let told = left_out(rt.alloc(), &peer)?;
+        assert!(rt; told.as_str() == *wanted, "{told}");
+    }
+    Ok(())
+}

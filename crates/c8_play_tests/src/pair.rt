@@ -1,0 +1,101 @@
+//! Two people, each at a console of their own, who play over the loopback.
+
+use crate::console::{Marks, Stroke, Written};
+use c8_game::Player;
+use c8_net::{Asked, perform};
+use c8_play::{Live, Pace};
+use std::fs;
+use std::fs::File;
+use std::net::{Ipv4Addr, Net, SocketAddr, UdpSocket};
+use std::rt::Files;
+use std::sync::Wait;
+use std::test::Fail;
+use std::thread::{Threads, join};
+use std::time::Clock;
+
+/// A game of two players and 60 frames. V1 counts the loops in which key 5 is down, V3 those in which key 13 is.
+const GAME: &str =
+    "players 2\nipf 10\nframes 60\ndelay 2\nwindow 8\nseed 0\nmask1 0020\nmask2 2000\ncode 6205640de2a17101e4a1730170011204\n";
+
+const GAME_FILE: &str = "play_pair.game";
+
+/// Player 1 strikes key 5, player 2 key 13.
+static ONE: [Stroke; 3] = [(10, b'w'), (20, b'w'), (30, b'w')];
+
+static TWO: [Stroke; 3] = [(15, b'r'), (25, b'r'), (35, b'r')];
+
+/// The address of a socket that is no more, as text.
+fn free(rt: &HostRuntime) -> Result<String, Fail> {
+    let socket = UdpSocket::bind(rt, SocketAddr::from((Ipv4Addr::LOCALHOST, 0)))?;
+    Ok(format!(in rt.alloc(); "{}", socket.local_addr()?)?)
+}
+
+/// What a player prints who plays at one address with one at another; nothing where it is refused.
+fn printed<'x, R>(
+    rt: &'x R,
+    number: u8,
+    strokes: &'static [Stroke],
+    journal: &'x str,
+    local: &'x str,
+    remote: &'x str,
+    marks: &'x Marks,
+) -> Vec<u8>
+where
+    R: Files<File = File> + Net + Clock + Threads + Wait + Sync + AllocGlobal,
+{
+    let asked = Asked {
+        game: GAME_FILE,
+        player: Player::new(number).unwrap_or(Player::CHAIR),
+        journal,
+        local,
+        remotes: Some(&[remote]),
+        watchers: [None, None],
+        room: 3,
+        turns: 10_000,
+        patience: None,
+        stop: None,
+        checkpoint: 0,
+        progress: false,
+        explain: false,
+    };
+    let live = Live {
+        console: Written::new(rt, strokes, marks),
+        pace: Pace { rate: 240, hold: 9 },
+    };
+    let (mut report, mut refused) = (Vec::new(rt.alloc()), Vec::new(rt.alloc()));
+    let _ended = perform(rt, &asked, live, &mut report, &mut refused);
+    report
+}
+
+/// Whether a register is not 0 in a report, whose third line has the registers: `v 00 3f ...`.
+fn is_counted(report: &[u8], register: usize) -> bool {
+    let line = report.split(|byte| *byte == b'\n').nth(2);
+    match line.and_then(|line| line.get(2 + 3 * register..4 + 3 * register)) {
+        Some(digits) => digits != b"00".as_slice(),
+        None => false,
+    }
+}
+
+#[test]
+fn two_at_consoles_print_one_report(rt: HostRuntime) -> Result<(), Fail> {
+    fs::write(&rt, GAME_FILE, GAME)?;
+    let (here, there) = (free(&rt)?, free(&rt)?);
+    let (here, there) = (here.as_str(), there.as_str());
+    let marks = Marks::new();
+    let (one, two) = join(
+        &rt,
+        || printed(&rt, 1, &ONE, "play_one.journal", here, there, &marks),
+        || printed(&rt, 2, &TWO, "play_two.journal", there, here, &marks),
+    );
+    assert!(rt; one.starts_with(b"frames 60\n"));
+    assert!(rt; one.as_slice() == two.as_slice());
+    // the keys of both had their effect: neither V1 nor V3 is 0
+    assert!(rt; is_counted(&one, 1) && is_counted(&one, 3));
+    // both consoles were made ready, and given back
+    let (entered, drawn, left) = marks.take();
+    assert!(rt; entered == 2 && left == 2 && drawn >= 4);
+    fs::remove_file(&rt, GAME_FILE)?;
+    fs::remove_file(&rt, "play_one.journal")?;
+    fs::remove_file(&rt, "play_two.journal")?;
+    Ok(())
+}
