@@ -67,13 +67,17 @@ where
     report
 }
 
-/// Whether a register is not 0 in a report, whose third line has the registers: `v 00 3f ...`.
+/// Whether a register is not 0 in a report, one line of which has the registers: `v 00 3f ...`.
 fn is_counted(report: &[u8], register: usize) -> bool {
-    let line = report.split(|byte| *byte == b'\n').nth(2);
-    match line.and_then(|line| line.get(2 + 3 * register..4 + 3 * register)) {
-        Some(digits) => digits != b"00".as_slice(),
-        None => false,
+    for place in 0..report.len() {
+        if report[place..].starts_with(b"\nv ") {
+            let at = place
+                .saturating_add(3)
+                .saturating_add(register.saturating_mul(3));
+            return report.get(at..at.saturating_add(2)) != Some(b"00".as_slice());
+        }
     }
+    false
 }
 
 #[test]
