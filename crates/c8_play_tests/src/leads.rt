@@ -27,12 +27,26 @@ fn ticked<'g>(alloc: Global, game: &'g Game, ticks: u8) -> Result<Peer<'g, MemDi
     Ok(peer)
 }
 
-/// Which of ten frames are left out.
-fn left_out(alloc: Global, peer: &Peer<'_, MemDisk>) -> Result<String, Fail> {
+/// Ten frames in which no tick is refused.
+static NONE: &str = "..........";
+
+/// In which of ten frames a tick is refused: that one is counted anew after it.
+static REFUSED: &str = "..x.......";
+
+/// Which of ten frames are left out then.
+static LEFT_OUT: &str = ".....x..x.";
+
+/// Which of ten frames are left out, where ticks are refused in these.
+fn left_out(alloc: Global, peer: &Peer<'_, MemDisk>, refused: &str) -> Result<String, Fail> {
     let mut lead = Lead::new(8, 3);
     let mut told = String::new(alloc);
-    for _ in 0..10 {
-        told.push(if lead.is_left_out(peer) { 'x' } else { '.' })?;
+    for frame in refused.chars() {
+        if frame == 'x' {
+            lead.has_waited();
+            told.push('.')?;
+        } else {
+            told.push(if lead.is_left_out(peer) { 'x' } else { '.' })?;
+        }
     }
     Ok(told)
 }
@@ -42,8 +56,11 @@ fn one_tick_a_second_is_left_out(rt: HostRuntime) -> Result<(), Fail> {
     let game = Game::read(rt.alloc(), GAME)?;
     for (ticks, wanted) in &ROWS {
         let peer = ticked(rt.alloc(), &game, *ticks)?;
-        let told = left_out(rt.alloc(), &peer)?;
+        let told = left_out(rt.alloc(), &peer, NONE)?;
         assert!(rt; told.as_str() == *wanted, "{told}");
     }
+    let peer = ticked(rt.alloc(), &game, 5)?;
+    let told = left_out(rt.alloc(), &peer, REFUSED)?;
+    assert!(rt; told.as_str() == LEFT_OUT, "{told}");
     Ok(())
 }
