@@ -1,4 +1,4 @@
-use Rattle.std.proofs.Common.{◌≡◌, ◌≤◌, ℕ, take, refl, true, arith}
+use Rattle.std.proofs.Common.{◌≡◌, ◌≤◌, ℕ, take, refl, true}
 use Rattle.std.proofs.lemmas.Bool.{le-leb}
 use Rattle.c8_wire.specs.Seats.{is_watcher}
 use Rattle.c8_peer.specs.State.{Show}
