@@ -23,7 +23,7 @@ use Rattle.c8_world.specs.World.{World, is_player, peer_of, journal_of, Act, Ope
 use Rattle.c8_world.specs.Agreement.{IsPlayer, IsUndropped, NobodyLeaves, refused_for}
 use Rattle.c8_world.proofs.Events.{IsWorldly}
 use Rattle.c8_world.proofs.Worlds.{IsSound, plays_if, shown_stands}
-use Rattle.c8_world.proofs.Reached.{reached_sound, reached_later, peers_agree, inputs_entered, begins_own, said_holds, said_spells, links_name, cut_bounds, reports_bound, stayers_froze, rows_true}
+use Rattle.c8_world.proofs.Reached.{checks_true, reached_sound, reached_later, peers_agree, inputs_entered, begins_own, said_holds, said_spells, links_name, cut_bounds, reports_bound, stayers_froze, rows_true}
 use Rattle.c8_world.specs.Headline.{IsHeadline}
 use Rattle.c8_world.proofs.Openings.{after_if, openings_fit}
 use Rattle.c8_world.proofs.Replies.{IsCalm, AnswersCalmly, EndsCalmly, calm_other, unrefused, teller_of, calm_call}
@@ -208,6 +208,7 @@ headline laws rules room w v events answers range few reached chain =
       known = λ p number answer u. never_differs laws rules room v u p number answer range few later;
       marks = λ p number packet answer u. never_desync laws rules room v u p number packet answer range few later;
       acks = λ p number answer u. never_bad_ack laws rules room v u (Do (Give number p)) answer range few later;
+      checks = λ p. checks_true laws rules room v p range few later;
       watched = λ watcher. rows_true laws rules room v watcher range few later;
       differs = λ watcher number answer u. never_differs_watched laws rules room v u watcher number answer range few later;
       fit = λ p answer u plays. openings_fit laws rules room v u p answer range few later plays;

@@ -1,7 +1,10 @@
 -- What holds of every world that some list of events leads to.
-use Rattle.std.proofs.Common.{◌≡◌, ◌≢◌, ℕ, zero, suc, ◌<◌, ◌≤◌, ◌^◌, inl, inr, ⊎_elim, List, [], ◌∷◌, ◌++◌, length, true, false, None, refl, sym, ap, subst, ◌∙◌, arith, Option, Some}
+use Rattle.std.proofs.Common.{◌≡◌, ◌≢◌, ℕ, zero, suc, ◌<◌, ◌≤◌, ◌^◌, inl, inr, ⊎_elim, List, [], ◌∷◌, ◌++◌, length, take, true, false, None, refl, sym, ap, subst, ◌∙◌, arith, Option, Some}
 use Rattle.std.proofs.lemmas.Bool.{cases_eq, leb-true, and_parts, both_ways}
+use Rattle.std.proofs.Math.Seq.{take-append_seam}
 use Rattle.c8_game.specs.Rules.{Rules, AreInRange}
+use Rattle.c8_game.specs.declared.row.Row.{Row}
+use Rattle.c8_machine.specs.Serial.{serial}
 use Rattle.c8_wire.specs.Packet.{Packet, IsPacket}
 use Rattle.c8_wire.specs.Spelling.{spelling, Spells}
 use Rattle.c8_hand.specs.Links.{link_to, LinkValue, LinksValue}
@@ -12,8 +15,9 @@ use Rattle.c8_known.specs.Growth.{Begins}
 use Rattle.c8_peer.specs.State.{State}
 use Rattle.c8_peer.specs.Opening.{found, away}
 use Rattle.c8_peer.specs.Truth.{IsTrue}
+use Rattle.c8_peer.specs.TrueChecks.{HasTrueChecks}
 use Rattle.c8_world.specs.checked.Below.{ArePeersLawful}
-use Rattle.c8_world.specs.World.{World, start, peer_of, journal_of, with_peer, Event, Answer, Chain, IsReached}
+use Rattle.c8_world.specs.World.{World, start, peer_of, journal_of, rows_of, with_peer, Event, Answer, Chain, IsReached}
 use Rattle.c8_world.specs.Agreement.{IsPlayer, NobodyLeaves, AreSameUpTo, AgreeUpTo, Agree, AreEntered, IsBounded, AreReports, HasFrozen, Reads, read_by, AgreeByReads, IsAmong, AreLinked, IsTrueSaid, IsTrueBy, HasTrueRows}
 use Rattle.c8_world.proofs.Journals.{AreSound, has_freeze_at, player_one}
 use Rattle.c8_world.proofs.Moments.{bounded_at, rows_agree, same_up_to, moments_agree, confirmed_entered}
@@ -36,9 +40,19 @@ holds_by : (rules : Rules) (w : World) (packet : Packet) (heard : Option ℕ) �
 holds_by rules w packet None told = told.1
 holds_by rules w packet (Some rows) told = told
 
--- a watcher has true rows
+-- what a journal says of checkpoints is true
+pub checks_true : (laws : ArePeersLawful) (rules : Rules) (room : ℕ) (w : World) (p : ℕ) → AreInRange rules → room < 2 ^ 64 → IsReached rules room w → IsPlayer rules p → HasTrueChecks rules p (journal_of w p)
+checks_true laws rules room w p range few is = (reached_sound laws rules room w range few is).journals.checks p
+
+-- a watcher has true rows, and the machine of these
 pub rows_true : (laws : ArePeersLawful) (rules : Rules) (room : ℕ) (w : World) (watcher : ℕ) → AreInRange rules → room < 2 ^ 64 → IsReached rules room w → HasTrueRows rules w watcher
-rows_true laws rules room w watcher range few is = (reached_sound laws rules room w range few is).watched watcher
+rows_true laws rules room w watcher range few is =
+    let begins = (reached_sound laws rules room w range few is).watched watcher in
+    let rows : List Row = rows_of w watcher in
+    record {
+      rows = begins;
+      machine = ap (serial rules) (sym (ap (take (length rows)) begins.is ∙ take-append_seam rows begins.rest));
+    }
 
 pub said_holds : (laws : ArePeersLawful) (rules : Rules) (room : ℕ) (w : World) (packet : Packet) → AreInRange rules → room < 2 ^ 64 → IsReached rules room w → IsAmong w.said packet → IsTrueSaid rules w packet
 said_holds laws rules room w packet range few is among = holds_by rules w packet (seen_in packet.message) ((reached_sound laws rules room w range few is).said packet among).told

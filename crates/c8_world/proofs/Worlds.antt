@@ -29,7 +29,7 @@ use Rattle.c8_peer.specs.Told.{told_of}
 use Rattle.c8_peer.specs.checked.TruthLaws.{truth_stays}
 use Rattle.c8_world.specs.checked.Below.{ArePeersLawful}
 use Rattle.c8_world.specs.World.{World, never_opened, start, is_player, peer_of, journal_of, with_peer, Act, Open, Tick, Say, Give, Leave, Decide, Event, Do, Stop, player_of, Happening, Answer, After, said_by, stepped, call_at_mode, call_at, open_at_mode, give_to, acted, crashed, after, MayAct, act_inside, CanHappen, Chain, Check, known_by, rows_of, with_rows, hear_at, seen_by_watcher, Show, Hear, Seen, Fresh, watch_of}
-use Rattle.c8_world.specs.Agreement.{IsPlayer, IsAmong, HasTrueRows}
+use Rattle.c8_world.specs.Agreement.{IsPlayer, IsAmong}
 use Rattle.c8_world.proofs.Journals.{AreSound, MayAdd, Fits, Grown, HasMore, player_one, more_grown, frozen_grown, sound_more, fits_later}
 use Rattle.c8_world.proofs.Records.{fits_head, fits_epoch}
 use Rattle.c8_world.proofs.Events.{AreNamed, IsAwake, IsSaid, IsWorldly, good_call, IsTold}
@@ -54,7 +54,7 @@ pub record IsSound (rules : Rules) (room : ℕ) (w : World) : Type 0 where
   pub journals : AreSound rules room (journal_of w)
   pub said : (packet : Packet) → IsAmong w.said packet → IsSaid rules (journal_of w) packet
   pub peers : (p : ℕ) → IsPlayer rules p → IsSoundPeer rules room (journal_of w) w.said p (peer_of w p)
-  pub watched : (watcher : ℕ) → HasTrueRows rules w watcher
+  pub watched : (watcher : ℕ) → Begins (rows_of w watcher) (confirmed_rows (known_by rules w 1))
 
 -- a later world is sound, its journals go on from those of before, and so does what was said
 pub record Reaches (rules : Rules) (room : ℕ) (w v : World) : Type 0 where

@@ -1,5 +1,5 @@
 -- What all peers of a world have in common.
-use Rattle.std.specs.Prelude.{◌≡◌, ◌≢◌, ℕ, ◌<◌, ◌≤◌, ◌⊎◌, List, true, false, Bool, Option, Some, None, Err}
+use Rattle.std.specs.Prelude.{◌≡◌, ◌≢◌, ℕ, ◌<◌, ◌≤◌, ◌⊎◌, List, length, take, true, false, Bool, Option, Some, None, Err}
 use Rattle.std.specs.List.{slice_get}
 use Rattle.c8_game.specs.Rules.{Rules}
 use Rattle.c8_machine.specs.Serial.{serial}
@@ -122,9 +122,10 @@ AreLinked w p q = ((peer_of w p).mode ≡ Away → ⊥) → (link_to (peer_of w 
 
 -- ---- watchers
 
--- A watcher has a beginning of the rows that player one counts as confirmed.
-abbrev pub HasTrueRows : Rules → World → ℕ → Type 0
-HasTrueRows rules w watcher = Begins (rows_of w watcher) (confirmed_rows (known_by rules w 1))
+-- A watcher has a beginning of the rows that player one counts as confirmed, and so the machine that player one had then.
+pub record HasTrueRows (rules : Rules) (w : World) (watcher : ℕ) : Type 0 where
+  pub rows : Begins (rows_of w watcher) (confirmed_rows (known_by rules w 1))
+  pub machine : serial rules (rows_of w watcher) ≡ serial rules (take (length (rows_of w watcher)) (confirmed_rows (known_by rules w 1)))
 
 -- ---- answers
 

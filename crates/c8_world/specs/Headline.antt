@@ -10,6 +10,7 @@ use Rattle.c8_known.specs.declared.error.KnownError.TheVariants.{Differs}
 use Rattle.c8_spectator.specs.declared.error.NotTaken.TheVariants.{Watch}
 use Rattle.c8_spectator.specs.declared.error.WatchError.TheVariants as watches
 use Rattle.c8_refusals.specs.declared.error.Refused.TheVariants.{BadAck, Desync, Known}
+use Rattle.c8_peer.specs.TrueChecks.{HasTrueChecks}
 use Rattle.c8_world.specs.World.{World, journal_of, Open, Give, Hear, Do, Answer, Watched, CanHappen}
 use Rattle.c8_world.specs.Agreement.{IsPlayer, IsUndropped, Agree, AreEntered, IsBounded, AreReports, HasFrozen, IsAmong, IsTrueSaid, HasTrueRows, AreLinked, refused_for, IsFit}
 
@@ -27,7 +28,8 @@ use Rattle.c8_world.specs.Agreement.{IsPlayer, IsUndropped, Agree, AreEntered, I
 --   the leaver.
 -- - `known`, `marks`, `acks`: a delivery at an undropped peer is never answered Differs, nor Desync where the sender is
 --   undropped too; none is answered BadAck.
--- - `watched`: a watcher has a beginning of the rows that player one counts as confirmed.
+-- - `checks`: what a player's journal says of checkpoints is true, so that its machine, wherever it began, is the serial run.
+-- - `watched`: a watcher has a beginning of the rows that player one counts as confirmed, and the machine of these.
 -- - `differs`: a delivery at a watcher is never answered Differs.
 -- - `fit`: no opening of a player's peer is answered WrongGame, WrongPlayer or BadRecord.
 pub record IsHeadline (rules : Rules) (room : ℕ) (earlier later : World) : Type 0 where
@@ -44,6 +46,7 @@ pub record IsHeadline (rules : Rules) (room : ℕ) (earlier later : World) : Typ
   pub marks : (p number : ℕ) (packet : Packet) (answer : Answer) (v : World) → IsUndropped later p → slice_get later.said number ≡ Some packet → IsUndropped later packet.head.from
       → CanHappen rules room later (Do (Give number p)) answer v → answer ≢ refused_for Desync
   pub acks : (p number : ℕ) (answer : Answer) (v : World) → CanHappen rules room later (Do (Give number p)) answer v → answer ≢ refused_for BadAck
+  pub checks : (p : ℕ) → IsPlayer rules p → HasTrueChecks rules p (journal_of later p)
   pub watched : (watcher : ℕ) → HasTrueRows rules later watcher
   pub differs : (watcher number : ℕ) (answer : Answer) (v : World) → CanHappen rules room later (Do (Hear number watcher)) answer v → answer ≢ Watched (Err (Watch watches.Differs))
   pub fit : (p : ℕ) (answer : Answer) (v : World) → IsPlayer rules p → CanHappen rules room later (Do (Open p)) answer v → IsFit answer

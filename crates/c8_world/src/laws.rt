@@ -15,6 +15,7 @@ ghost use Rattle.c8_refusals.specs.declared.error.Refused.TheVariants.{BadAck, D
 ghost use Rattle.c8_record.specs.Allowed.{IsJournal};
 ghost use Rattle.c8_peer.specs.Opening.{found};
 ghost use Rattle.c8_peer.specs.State.{Open as Up, Away};
+ghost use Rattle.c8_peer.specs.TrueChecks.{HasTrueChecks};
 ghost use Rattle.c8_world.specs.Modes.{mode_by, reported_by};
 ghost use Rattle.c8_world.specs.declared.answer.Answer as codes;
 ghost use Rattle.c8_world.specs.declared.answer.Answer.TheVariants.{Down};
@@ -38,8 +39,18 @@ pub fn held_inputs_were_entered()
     peers_are_lawful();
 }
 
-/// What a watcher has begins the rows that player one counts as confirmed, and no datagram that was said is
-/// refused by it because its rows differ.
+/// What each player's journal says of checkpoints is true: a machine that begins at one, as `Peer::base` and
+/// `Peer::shown` of a peer that was opened again, is the serial run of all confirmed rows.
+pub fn checkpoints_are_true()
+    ensures { (rules : Rules) (room : ℕ) (w : World) (p : ℕ)
+        → AreInRange rules → room < 2 ^ 64 → IsReached rules room w → IsPlayer rules p
+        → HasTrueChecks rules p (journal_of w p) }
+{
+    peers_are_lawful();
+}
+
+/// What a watcher has begins the rows that player one counts as confirmed, and its machine is the serial run on
+/// these; and no datagram that was said is refused by it because its rows differ.
 pub fn watchers_have_a_beginning()
     ensures rows { (rules : Rules) (room : ℕ) (w : World) (watcher : ℕ)
         → AreInRange rules → room < 2 ^ 64 → IsReached rules room w → HasTrueRows rules w watcher }

@@ -1,0 +1,5 @@
+use Rattle.c8_world.proofs.Reached.{checks_true}
+use Rattle.c8_world.proofs.laws.checkpoints_are_true.Goals as goal
+
+pub returns : goal.returns
+returns c = checks_true c.peers_are_lawful.ensures
