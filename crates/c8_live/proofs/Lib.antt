@@ -1,3 +1,4 @@
+pub mod EnteredLemmas
 pub mod PartLemmas
 pub mod RunLemmas
 pub mod TurnLemmas

@@ -1,6 +1,7 @@
 //! The loop of one peer, turn by turn: it hears, ticks, lets go, cuts, records of a checkpoint and speaks.
 
-ghost use Rattle.std.specs.Prelude.{◌≡◌, ◌≤◌, [], ◌∷◌, IfSome, IfErr};
+ghost use Rattle.std.specs.Prelude.{◌≡◌, ◌≤◌, [], ◌∷◌, IfOk, IfSome, IfErr};
+ghost use Rattle.c8_live.specs.Entered.{HasHandedIn};
 ghost use Rattle.c8_live.specs.Runs.{HasRunOn, IsEnd};
 ghost use Rattle.c8_live.specs.Turns.{Ticks, LetsGo, Cuts, Saves, HasDone, HasDoneOnce, HasHeardOf, HasHeard, HasSpoken, most_packets, IsTurn};
 
@@ -9,7 +10,8 @@ mod showing;
 
 use crate::error::{SessionError, WireFailed};
 use crate::laws::{
-    a_packet_is_heard, doings_join, hearings_join, peers_run_on, sayings_join, turns_run_on,
+    a_packet_is_heard, doings_join, entries_join, hearings_join, peers_run_on, sayings_join,
+    turns_run_on,
 };
 use crate::rollbacks::Rollbacks;
 use crate::silence::Silence;
@@ -142,10 +144,12 @@ impl<'g, D: Disk> Session<'g, D> {
     /// and after the last frame.
     pub fn play<W: Wire>(&mut self, keys: Option<Keys>, wire: &mut W) -> Result<bool, SessionError>
         ensures turn { IsTurn D.Disk W.Wire self.old.peer self.new.peer wire.old wire.new }
+        ensures entered { IfOk result (λ taken. HasHandedIn D.Disk keys taken self.old.peer self.new.peer) }
         ensures ran { HasRunOn D.Disk self.old.peer self.new.peer }
         ensures end { IfErr result (IsEnd D.Disk self.old.peer self.new.peer) }
     {
         peers_run_on::<D>();
+        entries_join::<D>();
         turns_run_on::<D, W>();
         self.silence.begin();
         self.rollbacks = Rollbacks::default();
@@ -239,8 +243,10 @@ impl<'g, D: Disk> Session<'g, D> {
     /// Enters a key set, if there is one, and answers whether it was taken.
     fn enter(&mut self, keys: Option<Keys>) -> Result<bool, SessionError>
         ensures ran { HasDoneOnce D.Disk Ticks self.old.peer self.new.peer }
+        ensures entered { IfOk result (λ taken. HasHandedIn D.Disk keys taken self.old.peer self.new.peer) }
         ensures end { IfErr result (IsEnd D.Disk self.old.peer self.new.peer) }
     {
+        entries_join::<D>();
         let Some(keys) = keys else {
             return Ok(false);
         };

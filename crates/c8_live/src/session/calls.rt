@@ -1,15 +1,17 @@
 //! The calls of its peer that a session makes, and what becomes of the peer by each.
 
-ghost use Rattle.std.specs.Prelude.{◌≡◌, List, ℕ, [], ◌∷◌, Err};
+ghost use Rattle.std.specs.Prelude.{◌≡◌, List, ℕ, [], ◌∷◌, Some, Err};
 ghost use Rattle.c8_disk.specs.declared.error.DiskError.{DiskError};
 ghost use Rattle.c8_wire.specs.Packet.{IsPacket};
 ghost use Rattle.c8_wire.specs.Lent.{packet_of};
 ghost use Rattle.c8_wire.specs.Spelling.{Spells};
+ghost use Rattle.c8_peer.specs.State.{Tick, Ticked};
+ghost use Rattle.c8_live.specs.Entered.{entered_by, HasEntered};
 ghost use Rattle.c8_live.specs.Runs.{IsStopped};
 ghost use Rattle.c8_live.specs.Turns.{Ticks, LetsGo, Cuts, Saves, HasDone, HasDoneOnce, HasHeardOf};
 
 use super::Session;
-use crate::laws::{a_packet_is_heard, doings_join, peers_run_on};
+use crate::laws::{a_packet_is_heard, doings_join, entries_join, peers_run_on};
 use c8_disk::Disk;
 use c8_game::{Keys, Player};
 use c8_peer::{Check, CheckError, DecideError, Heard, LeaveError, Refused, TickError};
@@ -35,11 +37,13 @@ impl<'g, D: Disk> Session<'g, D> {
     /// The peer enters a key set.
     pub(super) fn peer_ticks(&mut self, keys: Keys) -> Result<(), TickError>
         ensures ran { HasDoneOnce D.Disk Ticks self.old.peer self.new.peer }
+        ensures entered { HasEntered D.Disk (entered_by (Tick keys.0) (Some (Ticked result))) self.old.peer self.new.peer }
         ensures stopped { (why : DiskError) → result ≡ Err (TickError.Disk why)
             → IsStopped D.Disk self.old.peer self.new.peer why }
     {
         peers_run_on::<D>();
         doings_join::<D>();
+        entries_join::<D>();
         self.peer.tick(keys)
     }
 

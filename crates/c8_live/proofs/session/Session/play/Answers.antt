@@ -1,6 +1,6 @@
-use Rattle.std.proofs.Common.{refl}
+use Rattle.std.proofs.Common.{refl, []}
 use Rattle.std.proofs.lemmas.Result.{err_from_is_err_and}
-use Rattle.c8_live.specs.Turns.{Ticks, LetsGo, Cuts, Saves}
+use Rattle.c8_live.specs.Turns.{Hears, Ticks, LetsGo, Cuts, Saves}
 use Rattle.c8_live.proofs.TurnLemmas.{done_still, none_done, spoken_still, turn_of}
 use Rattle.c8_live.proofs.session.Session.play.Goals as goal
 
@@ -111,3 +111,23 @@ returns-else-is_finished-clause-turn g c =
 
 pub returns-else-is_finished-clause-ran : goal.returns-else-is_finished-clause-ran
 returns-else-is_finished-clause-ran g c = c.turns_run_on.ensures c.args.self.now.peer c.save.new.self.peer c.args.wire.now c.speak.new.wire (returns-else-is_finished-clause-turn g c)
+
+pub returns-then-is_finished-clause-entered : goal.returns-then-is_finished-clause-entered
+returns-then-is_finished-clause-entered g c =
+    let none = c.entries_join.ensures.none in
+    let joined = c.entries_join.ensures.joined [] [] in
+    c.entries_join.ensures.through c.args.keys c.in_ok-is_taken.is_taken c.args.self.now.peer c.hear.new.self.peer c.enter.new.self.peer c.save.new.self.peer
+    (none Hears c.args.self.now.peer c.hear.new.self.peer (λ e. cc e) c.in_ok-hear.ensures.heard.heard.0) c.in_ok-is_taken.ensures.entered
+    (joined c.enter.new.self.peer c.let_go.new.self.peer c.save.new.self.peer (none LetsGo c.enter.new.self.peer c.let_go.new.self.peer (λ e. cc e) c.in_ok-let_go.ensures.ran)
+    (joined c.let_go.new.self.peer c.cut.new.self.peer c.save.new.self.peer (none Cuts c.let_go.new.self.peer c.cut.new.self.peer (λ e. cc e) c.in_ok-cut.ensures.ran)
+    (none Saves c.cut.new.self.peer c.save.new.self.peer (λ e. cc e) c.in_ok-save.ensures.ran.0)))
+
+pub returns-else-is_finished-clause-entered : goal.returns-else-is_finished-clause-entered
+returns-else-is_finished-clause-entered g c =
+    let none = c.entries_join.ensures.none in
+    let joined = c.entries_join.ensures.joined [] [] in
+    c.entries_join.ensures.through c.args.keys c.in_ok-is_taken.is_taken c.args.self.now.peer c.hear.new.self.peer c.enter.new.self.peer c.save.new.self.peer
+    (none Hears c.args.self.now.peer c.hear.new.self.peer (λ e. cc e) c.in_ok-hear.ensures.heard.heard.0) c.in_ok-is_taken.ensures.entered
+    (joined c.enter.new.self.peer c.let_go.new.self.peer c.save.new.self.peer (none LetsGo c.enter.new.self.peer c.let_go.new.self.peer (λ e. cc e) c.in_ok-let_go.ensures.ran)
+    (joined c.let_go.new.self.peer c.cut.new.self.peer c.save.new.self.peer (none Cuts c.let_go.new.self.peer c.cut.new.self.peer (λ e. cc e) c.in_ok-cut.ensures.ran)
+    (none Saves c.cut.new.self.peer c.save.new.self.peer (λ e. cc e) c.in_ok-save.ensures.ran.0)))
