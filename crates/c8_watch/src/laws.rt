@@ -1,13 +1,24 @@
 //! What callers may rest on that is no single call's, each the contract of a function that does
 //! nothing.
-ghost use Rattle.std.specs.Prelude.{◌≡◌, ◌≤◌, ◌+◌, ℕ, List, [], ◌∷◌, ◌++◌};
+ghost use Rattle.std.specs.Prelude.{◌≡◌, ◌<◌, ◌≤◌, ◌+◌, ◌^◌, ℕ, List, [], ◌∷◌, ◌++◌, Option};
+ghost use Rattle.c8_game.specs.Rules.{Rules, AreInRange};
+ghost use Rattle.c8_known.specs.Growth.{Begins};
+ghost use Rattle.c8_known.specs.Known.{known_of};
+ghost use Rattle.c8_known.specs.Confirmed.{confirmed_rows};
+ghost use Rattle.c8_peer.specs.State.{State, Reply};
+ghost use Rattle.c8_peer.specs.Runs.{Deed, IsRun, never_opened};
 ghost use Rattle.c8_wire.specs.checked.Read.{read};
 ghost use Rattle.c8_spectator.specs.Growth.{IsStillWatched};
-ghost use Rattle.c8_spectator.specs.Watching.{WatchValue, hear};
-ghost use Rattle.c8_watch.specs.Turns.{HasHeard, IsTurn, AreTurns};
+ghost use Rattle.c8_spectator.specs.Watching.{WatchValue, first_watch, hear};
+ghost use Rattle.c8_watch.specs.Turns.{after_hearing, HasHeard, IsTurn, AreTurns};
+ghost use Rattle.c8_watch.specs.Shown.{ShowsWereSaid};
 
 use c8_live::Wire;
-use c8_spectator::laws::{what_is_heard_takes_nothing_back, what_is_still_watched_chains};
+use c8_peer::laws::a_peers_word_stands;
+use c8_spectator::laws::{
+    what_is_heard_takes_nothing_back, what_is_shown_of_one_list_begins_it,
+    what_is_still_watched_chains,
+};
 
 /// What is heard, joined: nothing (`none`), one packet more after others (`more`), and fewer than so many
 /// (`fewer`).
@@ -51,4 +62,19 @@ pub fn turns_take_nothing_back<W: Wire>()
 {
     a_turn_takes_nothing_back::<W>();
     what_is_still_watched_chains();
+}
+
+/// Whatever is delivered to player one's peer, forged datagrams too, however often it stops and starts again, and
+/// whatever comes to a watcher: if each SHOW among that was said by this peer, at any time and in any order,
+/// what the watcher has begins the rows that player one counts as confirmed in the end.
+pub fn only_a_forged_show_misleads()
+    ensures { (rules : Rules) (room seat : ℕ) (s : State) (deeds : List Deed)
+        (answers : List (Option Reply)) (given : List (List ℕ))
+        → AreInRange rules → room < 2 ^ 64 → IsRun rules room 1 never_opened deeds answers s
+        → ShowsWereSaid answers given
+        → Begins (after_hearing (first_watch rules room seat) given).rows
+        (confirmed_rows (known_of rules 1 s.journal)) }
+{
+    a_peers_word_stands();
+    what_is_shown_of_one_list_begins_it();
 }
