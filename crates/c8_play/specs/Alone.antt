@@ -1,21 +1,46 @@
 -- What one who plays alone has played.
-use Rattle.std.specs.Prelude.{◌≡◌, ◌≤◌, List, length, replicate}
-use Rattle.std.specs.List.{All}
+use Rattle.std.specs.Prelude.{◌≡◌, ◌⊎◌, ◌≤◌, ℕ, zero, suc, min, true, List, [], ◌∷◌, ◌++◌, length, replicate}
 use Rattle.c8_game.specs.Rules.{Rules}
 use Rattle.c8_game.specs.declared.row.Row.{Row}
 use Rattle.c8_game.specs.declared.row.Keys.{Keys}
 use Rattle.c8_machine.specs.State.{state}
 use Rattle.c8_machine.specs.Serial.{serial}
 use Rattle.c8_keys.specs.declared.lines.Played.{Played}
+use Rattle.c8_play.specs.declared.console.Console.{Ghosts}
+use Rattle.c8_play.specs.declared.desk.Desk.{Desk}
+use Rattle.c8_play.specs.Typing.{Typing, HasRead, AreHeld, HasCounted}
+use Rattle.c8_play.specs.Desk.{typing, drawn_at, IsSameDesk, MayForget, HasShown}
 
--- one person enters the same keys for each of four players
-abbrev pub IsOfOne : Row → Type 0
-IsOfOne row = (keys : Keys) × (row.sets ≡ replicate 4 keys)
+-- A frame after others with these rows: what the keys have sent is read, the keys that are held are those of each of four players, the
+-- frame is counted, and the machine's screen is painted.
+pub record IsFrameAlone {C : Type 0} (console : Ghosts C) (rules : Rules) (before : List Row) (row : Row) (old new : Desk C) : Type 0 where
+  pub read : Typing
+  pub keys : Keys
+  pub counted : Desk C
+  pub reads : HasRead (typing console old) read
+  pub held : AreHeld read keys.0
+  pub of_one : row.sets ≡ replicate 4 keys
+  pub counts : HasCounted read (typing console counted)
+  pub forgets : MayForget old counted
+  pub drawn : drawn_at console counted ≡ drawn_at console old
+  pub typing_is : typing console new ≡ typing console counted
+  pub shown : HasShown console (serial rules (before ++ row ∷ [])).screen counted new
 
--- the machine is that of the serial run on as many rows as frames were played, which the game has, each of one person
-pub record IsPlayedAlone (rules : Rules) (played : Played) : Type 0 where
+-- so many frames, with these rows; before each there was a wait
+abbrev pub AreFramesAlone : {C : Type 0} → Ghosts C → Rules → ℕ → List Row → Desk C → Desk C → Type 0
+AreFramesAlone console rules zero rows old new = (rows ≡ []) × IsSameDesk console old new
+AreFramesAlone {C} console rules (suc fewer) rows old new =
+    (before : List Row) × (row : Row) × (rested ready : Desk C) × (rows ≡ before ++ row ∷ []) × AreFramesAlone console rules fewer before old rested × IsSameDesk console rested ready
+    × IsFrameAlone console rules before row ready new
+
+-- as many frames were played as the game has at most, each with what was held down in it, and the machine is that of the serial run
+pub record IsPlayedAlone {C : Type 0} (console : Ghosts C) (rules : Rules) (played : Played) (old new : Desk C) : Type 0 where
   pub rows : List Row
   pub frames : played.frames ≡ length rows
   pub few : played.frames ≤ rules.frames
-  pub of_one : All IsOfOne rows
   pub machine : state played.machine ≡ serial rules rows
+  pub frames_are : AreFramesAlone console rules played.frames rows old new
+
+-- it ended because nobody is there any more, or after as many frames as were asked for, or the game's last
+abbrev pub IsEndAlone : {C : Type 0} → Rules → ℕ → Played → Desk C → Type 0
+IsEndAlone rules asked played desk = (desk.has_left ≡ true) ⊎ (played.frames ≡ min asked rules.frames)

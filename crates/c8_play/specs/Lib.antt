@@ -1,1 +1,4 @@
 pub mod Alone
+pub mod Typing
+pub mod Desk
+pub mod Frames

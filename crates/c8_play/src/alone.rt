@@ -1,7 +1,7 @@
 //! A game that one person plays, with the keys of all players and without a network.
 
 ghost use Rattle.std.specs.Prelude.{◌≡◌, ◌≤◌};
-ghost use Rattle.c8_play.specs.Alone.{IsPlayedAlone};
+ghost use Rattle.c8_play.specs.Alone.{IsPlayedAlone, IsEndAlone};
 
 use crate::console::Console;
 use crate::desk::Desk;
@@ -13,8 +13,9 @@ use c8_machine::Machine;
 /// person wants to end. Answers how many frames were played, and the machine of the serial run on what was
 /// held down in them.
 pub fn play_alone<C: Console>(game: &Game, desk: &mut Desk<C>, frames: u64) -> Played
-    ensures played { IsPlayedAlone game.now result }
+    ensures played { IsPlayedAlone C.Console game.now result desk.old desk.new }
     ensures few { result.frames ≤ frames }
+    ensures ended { IsEndAlone game.now frames result desk.new }
 {
     let mut played = Played {
         frames: 0,

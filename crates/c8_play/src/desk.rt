@@ -1,7 +1,14 @@
 //! A console, and what is kept of it.
 
-ghost use Rattle.std.specs.Prelude.{◌≤◌};
-ghost use Rattle.c8_terminal.specs.Decoder.{IsOfKeypad};
+ghost use Rattle.std.specs.Prelude.{◌≡◌, ◌≤◌, ◌<◌, ◌++◌, ℕ, true, false, List, []};
+ghost use Rattle.c8_screen.specs.Points.{points_of};
+ghost use Rattle.c8_terminal.specs.Decoder.{IsOfKeypad, read_by};
+ghost use Rattle.c8_terminal.specs.Held.{press_at, hold_of};
+ghost use Rattle.c8_terminal.specs.Decoding.{step};
+ghost use Rattle.c8_terminal.specs.Sent.{told_by, with_told};
+ghost use Rattle.c8_terminal.specs.Strokes.{noted};
+ghost use Rattle.c8_play.specs.Typing.{HasCome, HasRead, HasCounted, AreHeld, read_after, after_signals};
+ghost use Rattle.c8_play.specs.Desk.{typing, seen_at, drawn_at, IsSameDesk, MayForget, HasShown};
 
 use crate::beat::{Beat, Lateness};
 use crate::console::{Console, KEY_BYTES};
@@ -13,6 +20,10 @@ use std::time::Duration;
 
 /// How often keys are read in one frame at most, so that no flood of them holds it up.
 const MOST_READS: u8 = 64;
+
+/// How many milliseconds of silence end what a terminal sends at once: an escape that stands alone by then was the
+/// key of that name, and no beginning of a sequence that a read has cut.
+const SILENCE: u64 = 25;
 
 /// How fast a game goes, and for how long a stroke counts where the keyboard does not tell its end.
 #[derive(Clone, Copy, Debug, PartialEq, Eq)]
@@ -34,6 +45,8 @@ pub struct Desk<C> {
     held: Held,
     painter: Painter,
     beat: Beat,
+    /// When a byte came last.
+    last: Duration,
     has_left: bool,
     /// Whether something else may have been written on the screen.
     is_spoilt: bool,
@@ -51,28 +64,37 @@ impl<C: Console> Desk<C> {
             held: Held::new(pace.hold),
             painter: Painter::new(),
             beat: Beat::new(now, pace.rate),
+            last: now,
             has_left,
             is_spoilt: false,
         }
     }
 
     /// From now on a packet that comes over this wire ends a rest.
-    pub fn wake_at(&mut self, wire: &mut Udp) {
+    pub fn wake_at(&mut self, wire: &mut Udp)
+        ensures { IsSameDesk C.Console self.old self.new }
+    {
         self.console.wake_at(wire);
     }
 
     /// The time by the console's clock.
-    pub fn now(&mut self) -> Duration {
+    pub fn now(&mut self) -> Duration
+        ensures { IsSameDesk C.Console self.old self.new }
+    {
         self.console.now()
     }
 
     /// Whether nobody is there, or somebody who wants to end.
-    pub fn has_left(&self) -> bool {
+    pub fn has_left(&self) -> bool
+        ensures { result ≡ self.now.has_left }
+    {
         self.has_left
     }
 
     /// Whether the next frame is due. Where it is not, rests until it is, or until a packet has come.
-    pub fn is_due(&mut self) -> bool {
+    pub fn is_due(&mut self) -> bool
+        ensures { IsSameDesk C.Console self.old self.new }
+    {
         let left = self.beat.left(self.console.now());
         if left.is_zero() {
             return true;
@@ -82,7 +104,9 @@ impl<C: Console> Desk<C> {
     }
 
     /// Waits until the next frame is due, whatever comes.
-    pub fn sit_out(&mut self) {
+    pub fn sit_out(&mut self)
+        ensures { IsSameDesk C.Console self.old self.new }
+    {
         let left = self.beat.left(self.console.now());
         if !left.is_zero() {
             self.console.sleep(left);
@@ -91,21 +115,51 @@ impl<C: Console> Desk<C> {
 
     /// The next frame begins. Answers the keys that are held in it; they are held in the one after it too,
     /// unless this one is told to be entered.
-    pub fn begin(&mut self) -> Keys {
+    pub fn begin(&mut self) -> Keys
+        ensures read { HasRead (typing C.Console self.old) (typing C.Console self.new) }
+        ensures held { AreHeld (typing C.Console self.new) result.0 }
+        ensures seen { MayForget self.old self.new }
+        ensures drawn { drawn_at C.Console self.new ≡ drawn_at C.Console self.old }
+    {
         let now = self.console.now();
         self.beat.begin(now);
-        self.read();
+        self.read(now);
         let mut held = self.held;
         held.frame()
     }
 
     /// The keys of the frame that began last were entered.
-    pub fn entered(&mut self) {
+    pub fn entered(&mut self)
+        ensures counted { HasCounted (typing C.Console self.old) (typing C.Console self.new) }
+        ensures seen { seen_at self.new ≡ seen_at self.old }
+        ensures drawn { drawn_at C.Console self.new ≡ drawn_at C.Console self.old }
+    {
         let _keys = self.held.frame();
     }
 
-    /// Reads what keys have sent. An escape after which nothing has come for a frame is the key itself.
-    fn read(&mut self) {
+    /// Reads what keys have sent by now. An escape after which nothing has come for so long is the key itself.
+    fn read(&mut self, now: Duration)
+        ensures read { HasRead (typing C.Console self.old) (typing C.Console self.new) }
+        ensures seen { MayForget self.old self.new }
+        ensures drawn { drawn_at C.Console self.new ≡ drawn_at C.Console self.old }
+    {
+        if self.read_waiting() {
+            self.last = now;
+            return;
+        }
+        let silence = Duration::from_millis(SILENCE);
+        if now.saturating_sub(self.last) >= silence && self.decoder.pause() == Some(Signal::Quit) {
+            self.has_left = true;
+        }
+    }
+
+    /// Reads what keys have sent, and answers whether that was anything.
+    fn read_waiting(&mut self) -> bool
+        ensures came { (bytes : List ℕ) × HasCome bytes (typing C.Console self.old) (typing C.Console self.new) }
+        ensures none { result ≡ false → typing C.Console self.new ≡ typing C.Console self.old }
+        ensures seen { MayForget self.old self.new }
+        ensures drawn { drawn_at C.Console self.new ≡ drawn_at C.Console self.old }
+    {
         let mut bytes = [0; KEY_BYTES];
         let mut has_come = false;
         for _ in 0..MOST_READS {
@@ -117,27 +171,50 @@ impl<C: Console> Desk<C> {
                 }
                 Err(_) => {
                     self.has_left = true;
-                    return;
+                    break;
                 }
             }
         }
-        if !has_come && self.decoder.pause() == Some(Signal::Quit) {
-            self.has_left = true;
-        }
+        has_come
     }
 
     /// Takes bytes that keys have sent.
-    fn take(&mut self, bytes: &[u8]) {
+    fn take(&mut self, bytes: &[u8])
+        ensures read { read_by self.new.decoder ≡ read_after bytes.now (read_by self.old.decoder) }
+        ensures hold { hold_of self.new.held ≡ hold_of self.old.held }
+        ensures press { (key : ℕ) → key < 16 → press_at self.new.held key
+            ≡ after_signals (hold_of self.old.held) (told_by bytes.now (read_by self.old.decoder)) key (press_at self.old.held key) }
+        ensures seen { MayForget self.old self.new }
+        ensures console { self.new.console ≡ self.old.console }
+    {
         for byte in bytes {
-            if let Some(signal) = self.decoder.take(*byte) {
-                self.obey(signal);
-            }
+            self.take_byte(*byte);
+        }
+    }
+
+    /// Takes a byte that keys have sent.
+    fn take_byte(&mut self, byte: u8)
+        ensures read { read_by self.new.decoder ≡ (step byte (read_by self.old.decoder)).next }
+        ensures hold { hold_of self.new.held ≡ hold_of self.old.held }
+        ensures press { (key : ℕ) → key < 16 → press_at self.new.held key ≡ after_signals (hold_of self.old.held)
+            (with_told (step byte (read_by self.old.decoder)).told []) key (press_at self.old.held key) }
+        ensures seen { MayForget self.old self.new }
+        ensures console { self.new.console ≡ self.old.console }
+    {
+        if let Some(signal) = self.decoder.take(byte) {
+            self.obey(signal);
         }
     }
 
     /// Does what a person has told.
     fn obey(&mut self, signal: Signal)
         requires { IsOfKeypad signal }
+        ensures read { self.new.decoder ≡ self.old.decoder }
+        ensures hold { hold_of self.new.held ≡ hold_of self.old.held }
+        ensures press { (key : ℕ) → key < 16
+            → press_at self.new.held key ≡ noted (hold_of self.old.held) signal key (press_at self.old.held key) }
+        ensures seen { MayForget self.old self.new }
+        ensures console { self.new.console ≡ self.old.console }
     {
         match signal {
             Signal::Quit => self.has_left = true,
@@ -152,18 +229,22 @@ impl<C: Console> Desk<C> {
 
     /// Whether the row below the screen is to be written anew, since something else may stand there. It is told
     /// once.
-    pub fn is_spoilt(&mut self) -> bool {
+    pub fn is_spoilt(&mut self) -> bool
+        ensures { IsSameDesk C.Console self.old self.new }
+    {
         let is_spoilt = self.is_spoilt;
         self.is_spoilt = false;
         is_spoilt
     }
 
     /// Shows a screen, and writes these bytes after it, which leave its rows as they are.
-    pub fn show(&mut self, screen: &Screen, row: &[u8]) {
+    pub fn show(&mut self, screen: &Screen, row: &[u8])
+        ensures typing { typing C.Console self.new ≡ typing C.Console self.old }
+        ensures shown { HasShown C.Console (points_of screen.now) self.old self.new }
+    {
         self.painter.paint(screen);
-        let picture = self.painter.bytes();
-        let is_drawn = picture.is_empty() || self.console.draw(picture).is_ok();
-        let is_told = row.is_empty() || self.console.draw(row).is_ok();
+        let is_drawn = is_written(&mut self.console, self.painter.bytes());
+        let is_told = is_written(&mut self.console, row);
         if !is_drawn || !is_told {
             self.has_left = true;
         }
@@ -177,4 +258,12 @@ impl<C: Console + Drop> Desk<C> {
         desk.console.leave();
         *desk.beat.lateness()
     }
+}
+
+/// Writes bytes, if there are any, and answers whether they were written.
+fn is_written<C: Console>(console: &mut C, text: &[u8]) -> bool
+    ensures typed { C.typed console.new ≡ C.typed console.old }
+    ensures drawn { result ≡ true → C.drawn console.new ≡ C.drawn console.old ++ text.now }
+{
+    text.is_empty() || console.draw(text).is_ok()
 }

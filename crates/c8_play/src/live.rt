@@ -3,6 +3,7 @@
 ghost use Rattle.std.specs.Prelude.{◌≡◌, ◌≤◌, IfOk, IfErr};
 ghost use Rattle.c8_live.specs.Runs.{HasRunOn, IsEnd};
 ghost use Rattle.c8_net.specs.Match.{HasEnded};
+ghost use Rattle.c8_play.specs.Frames.{IsFrame, IsSeen, HasPlayed, HasWaited, AreFrames};
 
 use crate::beat::Lateness;
 use crate::console::Console;
@@ -11,7 +12,7 @@ use crate::lead::{Lead, hindmost};
 use crate::status::Status;
 use c8_disk::Disk;
 use c8_game::Game;
-use c8_live::laws::peers_run_on;
+use c8_live::laws::{hearings_join, peers_run_on};
 use c8_live::{Session, SessionError, Wire};
 use c8_net::{Addresses, Asked, Ended, Performance, Udp, Unopened};
 use std::io;
@@ -77,6 +78,8 @@ pub fn play_frames<D: Disk, W: Wire, C: Console>(
     ensures ran { HasRunOn D.Disk session.old.peer session.new.peer }
     ensures end { IfErr result (IsEnd D.Disk session.old.peer session.new.peer) }
     ensures few { IfOk result (λ made. made ≤ asked.now.turns) }
+    ensures frames { IfOk result (λ made. AreFrames D.Disk W.Wire C.Console made
+        session.old.peer session.new.peer wire.old wire.new desk.old desk.new) }
 {
     peers_run_on::<D>();
     let mut lead = lead;
@@ -111,8 +114,11 @@ fn wait<D: Disk, W: Wire, C: Console>(
 ) -> Result<(), SessionError>
     ensures ran { HasRunOn D.Disk session.old.peer session.new.peer }
     ensures end { IfErr result (IsEnd D.Disk session.old.peer session.new.peer) }
+    ensures waited { HasWaited D.Disk W.Wire C.Console session.old.peer session.new.peer
+        wire.old wire.new desk.old desk.new }
 {
     peers_run_on::<D>();
+    hearings_join::<D, W>();
     for _ in 0..MOST_RESTS {
         if desk.is_due() {
             break;
@@ -124,8 +130,7 @@ fn wait<D: Disk, W: Wire, C: Console>(
     Ok(())
 }
 
-/// One frame: its turn, and what is seen of it. Where no more can be ticked before more is confirmed, that is
-/// shown as waiting, for the player of whom the least is known.
+/// One frame: its turn, and what is seen of it.
 fn play_frame<D: Disk, W: Wire, C: Console>(
     session: &mut Session<'_, D>,
     wire: &mut W,
@@ -135,18 +140,64 @@ fn play_frame<D: Disk, W: Wire, C: Console>(
 ) -> Result<(), SessionError>
     ensures ran { HasRunOn D.Disk session.old.peer session.new.peer }
     ensures end { IfErr result (IsEnd D.Disk session.old.peer session.new.peer) }
+    ensures frame { IfOk result (λ _. IsFrame D.Disk W.Wire C.Console
+        session.old.peer session.new.peer wire.old wire.new desk.old desk.new) }
+{
+    let entry = enter(session, wire, desk, lead)?;
+    status.note(session);
+    show(session, desk, status, entry);
+    Ok(())
+}
+
+/// What became of the keys that are held in a frame.
+#[derive(Clone, Copy, PartialEq, Eq)]
+enum Entry {
+    /// They were entered.
+    Taken,
+    /// This player is ahead, and leaves out a tick.
+    LeftOut,
+    /// No more can be ticked before more is confirmed, or the game is over.
+    Refused,
+}
+
+/// The turn of a frame, in which the keys that are held are handed in, unless this player leaves out a tick.
+fn enter<D: Disk, W: Wire, C: Console>(
+    session: &mut Session<'_, D>,
+    wire: &mut W,
+    desk: &mut Desk<C>,
+    lead: &mut Lead,
+) -> Result<Entry, SessionError>
+    ensures ran { HasRunOn D.Disk session.old.peer session.new.peer }
+    ensures end { IfErr result (IsEnd D.Disk session.old.peer session.new.peer) }
+    ensures played { IfOk result (λ _. HasPlayed D.Disk W.Wire C.Console
+        session.old.peer session.new.peer wire.old wire.new desk.old desk.new) }
 {
     let keys = desk.begin();
-    let is_left_out = lead.is_left_out(session.peer());
-    let is_taken = session.play(if is_left_out { None } else { Some(keys) }, wire)?;
-    status.note(session);
-    if is_taken {
-        desk.entered();
-    } else if !is_left_out {
-        lead.has_waited();
+    if lead.is_left_out(session.peer()) {
+        let _taken = session.play(None, wire)?;
+        return Ok(Entry::LeftOut);
     }
+    if session.play(Some(keys), wire)? {
+        desk.entered();
+        Ok(Entry::Taken)
+    } else {
+        lead.has_waited();
+        Ok(Entry::Refused)
+    }
+}
+
+/// What is seen of a frame. Where no more can be ticked before more is confirmed, that is shown as waiting, for
+/// the player of whom the least is known.
+fn show<D: Disk, C: Console>(
+    session: &Session<'_, D>,
+    desk: &mut Desk<C>,
+    status: &mut Status,
+    entry: Entry,
+)
+    ensures { IsSeen C.Console session.now.peer desk.old desk.new }
+{
     let peer = session.peer();
-    let is_held_up = !is_taken && !is_left_out && peer.confirmed() < session.frames();
+    let is_held_up = entry == Entry::Refused && peer.confirmed() < session.frames();
     let waits = if is_held_up { hindmost(peer) } else { None };
     if desk.is_spoilt() {
         status.forget();
@@ -156,5 +207,4 @@ fn play_frame<D: Disk, W: Wire, C: Console>(
         peer.shown().screen(),
         status.row(now, peer.confirmed(), waits),
     );
-    Ok(())
 }

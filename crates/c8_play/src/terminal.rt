@@ -1,6 +1,7 @@
 //! The terminal that the program runs in: the only file here that touches the system.
 
 use crate::console::{Console, Gone, KEY_BYTES};
+use crate::exchange::Exchange;
 use c8_net::Udp;
 use c8_terminal::{ENTER, LEAVE};
 use mio::{Events, Poll, Token};
@@ -37,6 +38,7 @@ pub struct Terminal<'r, R> {
     events: Events,
     /// What the clock said last.
     last: Duration,
+    exchange: Exchange,
 }
 
 impl<'r, R> Terminal<'r, R>
@@ -60,11 +62,16 @@ where
             poll,
             events,
             last: Duration::from_secs(0),
+            exchange: Exchange::new(),
         })
     }
 }
 
 impl<'r, R: Clock> Console for Terminal<'r, R> {
+    ghost typed = { λ terminal. terminal.exchange.typed.items };
+
+    ghost drawn = { λ terminal. terminal.exchange.drawn.items };
+
     fn enter(&mut self) -> Result<(), Gone> {
         self.draw(ENTER)?;
         self.draw(ASK)
@@ -85,7 +92,10 @@ impl<'r, R: Clock> Console for Terminal<'r, R> {
         match self.keys.read(bytes) {
             // the end of a terminal's input: it has hung up
             Ok(0) => Err(Gone),
-            Ok(size) => Ok(size),
+            Ok(size) => {
+                self.exchange.sent(&bytes[..size]);
+                Ok(size)
+            }
             Err(error) if error.kind() == ErrorKind::WouldBlock => Ok(0),
             Err(error) if error.kind() == ErrorKind::Interrupted => Ok(0),
             Err(_) => Err(Gone),
@@ -93,7 +103,9 @@ impl<'r, R: Clock> Console for Terminal<'r, R> {
     }
 
     fn draw(&mut self, text: &[u8]) -> Result<(), Gone> {
-        self.screen.write_all(text).map_err(|_| Gone)
+        self.screen.write_all(text).map_err(|_| Gone)?;
+        self.exchange.wrote(text);
+        Ok(())
     }
 
     fn wake_at(&mut self, wire: &mut Udp) {

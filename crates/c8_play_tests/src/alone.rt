@@ -13,10 +13,7 @@ const GAME: &[u8] =
 /// Key 5 is struck in frame 3, and key 13, the other player's, in frame 20.
 static BOTH: [Stroke; 2] = [(3, b'w'), (20, b'r')];
 
-/// Key 5 again, and escape in frame 10, which is told one frame later.
-static ENDED: [Stroke; 2] = [(3, b'w'), (10, 0x1b)];
-
-/// The same with control-C, and with a terminal that hangs up, which are told at once: the frame is the last.
+/// Key 5 again, and control-C in frame 11, or a terminal that hangs up: the frame is the last.
 static STOPPED: [Stroke; 2] = [(3, b'w'), (11, 0x03)];
 
 static HUNG_UP: [Stroke; 2] = [(3, b'w'), (11, HANGS_UP)];
@@ -71,8 +68,7 @@ fn strokes_make_what_key_lines_do(rt: HostRuntime) -> Result<(), Fail> {
     assert!(rt; is_played(&rt, &BOTH, 1_000, LINES)?);
     // as many frames as are asked for
     assert!(rt; is_played(&rt, &BOTH, 12, &LINES[..FEWER])?);
-    // up to the escape, control-C or the end of the terminal
-    assert!(rt; is_played(&rt, &ENDED, 1_000, &LINES[..FEWER])?);
+    // up to the control-C or the end of the terminal
     assert!(rt; is_played(&rt, &STOPPED, 1_000, &LINES[..FEWER])?);
     assert!(rt; is_played(&rt, &HUNG_UP, 1_000, &LINES[..FEWER])?);
     Ok(())

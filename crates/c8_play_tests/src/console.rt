@@ -1,7 +1,7 @@
 //! Consoles whose keys are written down.
 
 use c8_net::Udp;
-use c8_play::{Console, Gone, KEY_BYTES};
+use c8_play::{Console, Exchange, Gone, KEY_BYTES};
 use std::sync::atomic::{AtomicU32, Ordering};
 use std::thread;
 use std::time::{Clock, Duration};
@@ -48,6 +48,7 @@ pub struct Written<'r, R> {
     /// In which frame it is, and how many strokes it has told.
     frame: u32,
     told: usize,
+    exchange: Exchange,
 }
 
 impl<'r, R: Clock> Written<'r, R> {
@@ -58,11 +59,16 @@ impl<'r, R: Clock> Written<'r, R> {
             marks,
             frame: 0,
             told: 0,
+            exchange: Exchange::new(),
         }
     }
 }
 
 impl<'r, R: Clock> Console for Written<'r, R> {
+    ghost typed = { λ console. console.exchange.typed.items };
+
+    ghost drawn = { λ console. console.exchange.drawn.items };
+
     fn enter(&mut self) -> Result<(), Gone> {
         self.marks.entered.fetch_add(1, Ordering::SeqCst);
         Ok(())
@@ -82,14 +88,19 @@ impl<'r, R: Clock> Console for Written<'r, R> {
             && *frame == self.frame
         {
             self.told = self.told.saturating_add(1);
+            if *byte == HANGS_UP {
+                return Err(Gone);
+            }
             bytes[0] = *byte;
-            return if *byte == HANGS_UP { Err(Gone) } else { Ok(1) };
+            self.exchange.sent(&bytes[..1]);
+            return Ok(1);
         }
         self.frame = self.frame.saturating_add(1);
         Ok(0)
     }
 
-    fn draw(&mut self, _text: &[u8]) -> Result<(), Gone> {
+    fn draw(&mut self, text: &[u8]) -> Result<(), Gone> {
+        self.exchange.wrote(text);
         self.marks.drawn.fetch_add(1, Ordering::SeqCst);
         Ok(())
     }

@@ -11,6 +11,10 @@ mod console;
 #[cfg(test)]
 mod leads;
 #[cfg(test)]
+mod paced;
+#[cfg(test)]
 mod pair;
 #[cfg(test)]
 mod rows;
+#[cfg(test)]
+mod timed;

@@ -1,5 +1,7 @@
-use Rattle.std.proofs.Common.{arith}
+use Rattle.std.proofs.Common.{ℕ, ◌+◌, arith, refl, ap, subst}
 use Rattle.std.proofs.lemmas.Result.{err_from_is_err_and}
+use Rattle.c8_play.specs.Frames.{AreFrames}
+use Rattle.c8_play.proofs.FrameLemmas.{frames_more}
 use Rattle.c8_play.proofs.live.play_frames.Goals as goal
 
 pub returns-in_err-wait-clause-end : goal.returns-in_err-wait-clause-end
@@ -32,4 +34,9 @@ loop-turn-preserved g c =
           (c.peers_run_on.ensures.joined first c.loop-turn.session.peer c.wait.new.session.peer c.loop-turn.invariant.ran c.in_ok-wait.ensures.ran)
           c.in_ok-play_frame.ensures.ran;
       few = omega (arith, c.loop-turn-test.true);
+      counted = refl;
+      frames = subst (λ (n : ℕ). AreFrames g.D.Disk g.W.Wire g.C.Console n first c.play_frame.new.session.peer c.args.wire.now c.play_frame.new.wire c.args.desk.now c.play_frame.new.desk)
+          (ap (λ (n : ℕ). n + 1) c.loop-turn.invariant.counted)
+          (frames_more g.D.Disk g.W.Wire g.C.Console c.loop-turn.made first c.loop-turn.session.peer c.wait.new.session.peer c.play_frame.new.session.peer c.args.wire.now c.loop-turn.wire c.wait.new.wire c.play_frame.new.wire
+          c.args.desk.now c.loop-turn.desk c.wait.new.desk c.play_frame.new.desk c.loop-turn.invariant.frames c.in_ok-wait.ensures.waited c.in_ok-play_frame.ensures.frame);
     }

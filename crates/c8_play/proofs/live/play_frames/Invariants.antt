@@ -1,9 +1,12 @@
-use Rattle.std.specs.Prelude.{◌≤◌}
+use Rattle.std.specs.Prelude.{◌≡◌, ◌≤◌}
 use Rattle.c8_live.specs.Runs.{HasRunOn}
+use Rattle.c8_play.specs.Frames.{AreFrames}
 use Rattle.c8_play.proofs.live.play_frames.Given as goal
 
 abbrev pub invariant-loop-turn : goal.invariant-loop-turn
 invariant-loop-turn g l = record {
   ran : HasRunOn g.D.Disk l.initial.session.peer l.session.peer;
   few : l.made ≤ l.asked.turns;
+  counted : l.made ≡ l.turn;
+  frames : AreFrames g.D.Disk g.W.Wire g.C.Console l.made l.initial.session.peer l.session.peer l.initial.wire l.wire l.fn.desk l.desk;
 }

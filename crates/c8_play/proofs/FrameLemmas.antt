@@ -1,0 +1,47 @@
+-- How frames are put together.
+use Rattle.std.proofs.Common.{◌≡◌, ℕ, suc, ◌+◌, subst, arith, List, [], ◌∷◌, ◌++◌, Bool, true, false, None, refl}
+use Rattle.c8_game.specs.Rules.{Rules}
+use Rattle.c8_game.specs.declared.row.Row.{Row}
+use Rattle.c8_disk.specs.declared.disk.Disk.{Ghosts as DiskGhosts}
+use Rattle.c8_peer.specs.Peer.{PeerValue}
+use Rattle.c8_live.specs.Entered.{HasHandedIn}
+use Rattle.c8_live.specs.Turns.{HasHeard}
+use Rattle.c8_live.specs.declared.wire.Wire.{Ghosts as WireGhosts}
+use Rattle.c8_play.specs.declared.console.Console.{Ghosts as ConsoleGhosts}
+use Rattle.c8_play.specs.declared.desk.Desk.{Desk}
+use Rattle.c8_play.specs.Alone.{IsFrameAlone, AreFramesAlone}
+use Rattle.c8_play.specs.Desk.{IsSameDesk}
+use Rattle.c8_play.specs.Typing.{Typing}
+use Rattle.c8_play.specs.Frames.{IsCountedIf, IsFrame, HasWaited, AreFrames}
+use Rattle.c8_play.proofs.DeskLemmas.{same_chain}
+
+module _ {D W C : Type 0} (disk : DiskGhosts D) (wire : WireGhosts W) (console : ConsoleGhosts C) where
+  pub frames_more : (n : ℕ) (p played ready q : PeerValue D) (before between due after : W) (old rested awake new : Desk C) → AreFrames disk wire console n p played before between old rested
+      → HasWaited disk wire console played ready between due rested awake → IsFrame disk wire console ready q due after awake new → AreFrames disk wire console (n + 1) p q before after old new
+  frames_more n p played ready q before between due after old rested awake new frames waited frame =
+      let more : suc n ≡ n + 1 = omega arith in
+      subst (λ (m : ℕ). AreFrames disk wire console m p q before after old new) more (played, ready, between, due, rested, awake, frames, waited, frame)
+
+  -- that what is heard joins, as c8_live says it
+  abbrev pub HearingsJoin : Type 0
+  HearingsJoin = (most more : ℕ) (first middle last : PeerValue D) (before between after : W) → HasHeard disk wire most first middle before between
+      → HasHeard disk wire more middle last between after → HasHeard disk wire (most + more) first last before after
+
+  pub waited_more : HearingsJoin → (more : ℕ) (first middle last : PeerValue D) (before between after : W) (old rested new : Desk C) → HasWaited disk wire console first middle before between old rested
+      → IsSameDesk console rested new → HasHeard disk wire more middle last between after → HasWaited disk wire console first last before after old new
+  waited_more join more first middle last before between after old rested new waited same heard = record {
+    packets = waited.packets + more;
+    heard = join waited.packets more first middle last before between after waited.heard heard;
+    same = same_chain console old rested new waited.same same;
+  }
+
+  -- where no key set was handed in none was taken, and no frame is counted
+  pub none_counted : (taken : Bool) (p q : PeerValue D) (read : Typing) → HasHandedIn disk None taken p q → IsCountedIf taken read read
+  none_counted true p q read handed = absurd handed
+  none_counted false p q read handed = refl
+
+pub alone_more : {C : Type 0} (console : ConsoleGhosts C) (rules : Rules) (n : ℕ) (before : List Row) (row : Row) (old rested ready new : Desk C) → AreFramesAlone console rules n before old rested
+    → IsSameDesk console rested ready → IsFrameAlone console rules before row ready new → AreFramesAlone console rules (n + 1) (before ++ row ∷ []) old new
+alone_more console rules n before row old rested ready new frames same frame =
+    let more : suc n ≡ n + 1 = omega arith in
+    subst (λ (m : ℕ). AreFramesAlone console rules m (before ++ row ∷ []) old new) more (before, row, rested, ready, refl, frames, same, frame)

@@ -1,0 +1,3 @@
+pub mod TypingLemmas
+pub mod DeskLemmas
+pub mod FrameLemmas

@@ -1,0 +1,57 @@
+//! What goes through a console, for those who reason about it.
+
+ghost use Rattle.std.specs.Prelude.{◌≡◌, ◌++◌, []};
+
+use c8_disk::GhostList;
+
+/// The bytes that keys have sent, and the text that was written, the oldest first. It takes no room: a console
+/// that keeps neither has one, and its `typed` and `drawn` are read of it.
+#[derive(Debug, Drop)]
+pub struct Exchange {
+    pub typed: GhostList<u8>,
+    pub drawn: GhostList<u8>,
+}
+
+impl Exchange {
+    /// Nothing yet.
+    pub fn new() -> Exchange
+        ensures typed { result.typed.items ≡ [] }
+        ensures drawn { result.drawn.items ≡ [] }
+    {
+        Exchange {
+            typed: GhostList::new(),
+            drawn: GhostList::new(),
+        }
+    }
+
+    /// Keys have sent these bytes.
+    pub fn sent(&mut self, bytes: &[u8])
+        ensures typed { self.new.typed.items ≡ self.old.typed.items ++ bytes.now }
+        ensures drawn { self.new.drawn.items ≡ self.old.drawn.items }
+    {
+        extend(&mut self.typed, bytes);
+    }
+
+    /// This text was written.
+    pub fn wrote(&mut self, text: &[u8])
+        ensures typed { self.new.typed.items ≡ self.old.typed.items }
+        ensures drawn { self.new.drawn.items ≡ self.old.drawn.items ++ text.now }
+    {
+        extend(&mut self.drawn, text);
+    }
+}
+
+impl Default for Exchange {
+    fn default() -> Exchange {
+        Exchange::new()
+    }
+}
+
+/// Adds bytes to a list of them.
+fn extend(list: &mut GhostList<u8>, bytes: &[u8])
+    ensures { list.new.items ≡ list.old.items ++ bytes.now }
+{
+    for byte in bytes {
+        *list = list.and(byte);
+    }
+}
