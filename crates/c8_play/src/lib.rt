@@ -27,5 +27,5 @@ pub use console::{Console, Gone, KEY_BYTES};
 pub use desk::{Desk, Pace};
 pub use lead::Lead;
 pub use live::{Live, play_frames};
-pub use status::Status;
+pub use status::StatusRow;
 pub use terminal::Terminal;

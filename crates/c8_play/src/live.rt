@@ -8,7 +8,7 @@ use crate::beat::Lateness;
 use crate::console::Console;
 use crate::desk::{Desk, Pace};
 use crate::lead::{Lead, hindmost};
-use crate::status::Status;
+use crate::status::StatusRow;
 use c8_disk::Disk;
 use c8_game::Game;
 use c8_live::laws::peers_run_on;
@@ -80,7 +80,7 @@ pub fn play_frames<D: Disk, W: Wire, C: Console>(
 {
     peers_run_on::<D>();
     let mut lead = lead;
-    let mut status = Status::new(desk.now(), asked.player, session.peer().players());
+    let mut status = StatusRow::new(desk.now(), asked.player, session.peer().players());
     let mut made: u64 = 0;
     for turn in 0..asked.turns {
         let is_enough = is_enough(session.peer().confirmed(), asked.stop);
@@ -107,7 +107,7 @@ fn wait<D: Disk, W: Wire, C: Console>(
     session: &mut Session<'_, D>,
     wire: &mut W,
     desk: &mut Desk<C>,
-    status: &Status,
+    status: &StatusRow,
 ) -> Result<(), SessionError>
     ensures ran { HasRunOn D.Disk session.old.peer session.new.peer }
     ensures end { IfErr result (IsEnd D.Disk session.old.peer session.new.peer) }
@@ -131,7 +131,7 @@ fn play_frame<D: Disk, W: Wire, C: Console>(
     wire: &mut W,
     desk: &mut Desk<C>,
     lead: &mut Lead,
-    status: &mut Status,
+    status: &mut StatusRow,
 ) -> Result<(), SessionError>
     ensures ran { HasRunOn D.Disk session.old.peer session.new.peer }
     ensures end { IfErr result (IsEnd D.Disk session.old.peer session.new.peer) }
