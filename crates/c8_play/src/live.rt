@@ -137,7 +137,7 @@ fn play_frame<D: Disk, W: Wire, C: Console>(
     ensures end { IfErr result (IsEnd D.Disk session.old.peer session.new.peer) }
 {
     let keys = desk.begin();
-    let is_left_out = lead.is_left_out(session.peer());
+    let is_left_out = lead.leaves_out(session.peer());
     let is_taken = session.play(if is_left_out { None } else { Some(keys) }, wire)?;
     status.note(session);
     if is_taken {
