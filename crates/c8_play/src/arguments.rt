@@ -33,8 +33,8 @@ pub fn play_command<'a>(alloc: Global) -> Result<Command<'a>, AllocError> {
     let rate = Arg::new(alloc, "rate")
         .long("rate")
         .value_name("N")
-        .help("How many frames a second")
-        .value_parser(value_parser!(u8).range(1..241))
+        .help("How many frames a second, 1 to 120")
+        .value_parser(value_parser!(u8).range(1..121))
         .default_value("60");
     let command = command.arg(rate)?;
     let hold = Arg::new(alloc, "hold")

@@ -9,13 +9,17 @@ pub const PLAY_ENDING: &str =
   z x c v      A 0 B F
 A player has the keys of the game's mask for the player; who plays alone has those of all players.
 Escape and control-C end the game, control-L paints the screen anew. A terminal that tells when a key
-is let go (one with kitty's keyboard protocol) plays better than one that does not: there a key
-counts as held for --hold frames after each stroke.
+is let go (one with kitty's keyboard protocol) plays better than one that does not: there a stroke
+counts for --hold frames, and one within 45 frames of the key's last stroke for 6 more, as of a
+keyboard that repeats it. With --hold 30 a key that is held down has no gap where the keyboard
+begins to repeat it within half a second.
 
-The screen takes 64 columns and 16 rows of the terminal; the row below tells each second how many
-frames are ticked and how many confirmed, the rollbacks of that second and the longest, for how long
-each other player has been silent, and at once for whom the game waits. When the game ends the
-machine after the confirmed frames is printed.
+The screen takes 64 columns and 16 rows of the terminal. The row below tells once a second what
+stands here, and at once for whom the game waits:
+  423/421  waits for 2  2: 16 ms  back 3, longest 5
+423 frames are ticked and 421 confirmed; it waits for player 2, of whom something was taken 16 ms
+ago; in the last second it went back 3 times, over 5 frames at most. When the game ends the machine
+after the confirmed frames is printed.
 
 Alone, and two players, each in a terminal of their own:
   ./c8play play games/rally.game alone

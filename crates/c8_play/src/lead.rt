@@ -1,5 +1,11 @@
 //! Whether a player runs ahead of the others.
 
+ghost use Rattle.std.specs.Prelude.{◌≡◌, ℕ, ◌+◌, ◌<◌, ◌≤◌, ◌↔◌, IsTrue, false, IfSome};
+ghost use Rattle.c8_known.specs.Known.{count_in};
+ghost use Rattle.c8_peer.specs.Peer.{known_by};
+ghost use Rattle.c8_play.specs.Lead.{IsOther, IsHindmost, IsAhead, window_of, patience_of, frames_of};
+ghost use Rattle.c8_play.specs.checked.Hindmost.{FoundBelow};
+
 use c8_disk::Disk;
 use c8_game::Player;
 use c8_peer::Peer;
@@ -10,35 +16,45 @@ use c8_peer::Peer;
 /// leaves out one tick a second for as long as that lasts.
 #[derive(Clone, Copy, Debug, PartialEq, Eq)]
 pub struct Lead {
-    /// By how many frames one may be ahead, and for how many on end.
-    most: u32,
-    patience: u32,
-    frames: u32,
+    window: u8,
+    /// For how many frames on end one may be ahead, the last of which is left out.
+    patience: u8,
+    frames: u8,
 }
 
 impl Lead {
     /// Of a game with such a window, at so many frames a second.
-    pub fn new(window: u8, rate: u8) -> Lead {
+    pub fn new(window: u8, rate: u8) -> Lead
+        ensures window { window_of result ≡ window }
+        ensures patience { patience_of result ≡ rate }
+        ensures frames { frames_of result ≡ 0 }
+    {
         Lead {
-            most: u32::from(window) / 2,
-            patience: u32::from(rate),
+            window,
+            patience: rate,
             frames: 0,
         }
     }
 
-    /// Whether the tick of this frame is left out.
-    pub fn is_left_out<D: Disk>(&mut self, peer: &Peer<'_, D>) -> bool {
-        let now = peer.now();
-        let is_ahead = match hindmost(peer) {
-            Some(player) => now.saturating_sub(peer.count(player)) > self.most,
-            None => false,
-        };
-        self.frames = if is_ahead {
-            self.frames.saturating_add(1)
-        } else {
-            0
-        };
-        if self.frames < self.patience {
+    /// Whether the tick of this frame, which is counted, is left out: where the player is ahead, as in all the
+    /// frames before it that make up a second with it. Then a new second begins.
+    pub fn leaves_out<D: Disk>(&mut self, peer: &Peer<'_, D>) -> bool
+        ensures window { window_of self.new ≡ window_of self.old }
+        ensures patience { patience_of self.new ≡ patience_of self.old }
+        ensures out { IsTrue result
+            ↔ (IsAhead (window_of self.old) peer.now
+            × (patience_of self.old ≤ frames_of self.old + 1)) }
+        ensures anew { IsTrue result → frames_of self.new ≡ 0 }
+        ensures behind { ¬ IsAhead (window_of self.old) peer.now → frames_of self.new ≡ 0 }
+        ensures counted { IsAhead (window_of self.old) peer.now → result ≡ false
+            → frames_of self.new ≡ frames_of self.old + 1 }
+    {
+        if !self.is_ahead(peer) {
+            self.frames = 0;
+            return false;
+        }
+        if self.frames < self.patience.saturating_sub(1) {
+            self.frames += 1;
             return false;
         }
         self.frames = 0;
@@ -46,30 +62,81 @@ impl Lead {
     }
 
     /// A tick was refused: a player who waits for the others does not wait once more.
-    pub fn has_waited(&mut self) {
+    pub fn has_waited(&mut self)
+        ensures window { window_of self.new ≡ window_of self.old }
+        ensures patience { patience_of self.new ≡ patience_of self.old }
+        ensures frames { frames_of self.new ≡ 0 }
+    {
         self.frames = 0;
+    }
+
+    /// Whether the player is ahead of another.
+    fn is_ahead<D: Disk>(&self, peer: &Peer<'_, D>) -> bool
+        ensures { IsTrue result ↔ IsAhead (window_of self.now) peer.now }
+    {
+        match hindmost(peer) {
+            Some(player) => {
+                peer.now().saturating_sub(peer.count(player)) > u32::from(self.window / 2)
+            }
+            None => false,
+        }
     }
 }
 
-/// The other player of whom the fewest inputs are known, of those whose inputs are not cut.
-pub(crate) fn hindmost<D: Disk>(peer: &Peer<'_, D>) -> Option<Player> {
+/// The other player of whom the fewest inputs are known, of those whose inputs are not cut; none where all
+/// others' are.
+pub(crate) fn hindmost<D: Disk>(peer: &Peer<'_, D>) -> Option<Player>
+    ensures some { IfSome result (λ player. IsHindmost peer.now player.number) }
+    ensures none { result ≡ None → (player : ℕ) → ¬ IsOther peer.now player }
+{
     let mut found: Option<Player> = None;
     for number in 1..peer.players() + 1 {
-        if let Some(player) = Player::new(number)
-            && number != peer.me().number
-            && peer.cut_of(player).is_none()
-            && is_fewer(peer, player, found)
-        {
-            found = Some(player);
-        }
+        found = hindmost_with(peer, number, found);
     }
     found
 }
 
+/// The hindmost of the others below a number and of the one that has it.
+fn hindmost_with<D: Disk>(peer: &Peer<'_, D>, number: u8, found: Option<Player>) -> Option<Player>
+    ensures { FoundBelow peer.now number found → FoundBelow peer.now (number + 1) result }
+{
+    match other(peer, number) {
+        Some(player) => {
+            if is_fewer(peer, player, found) {
+                Some(player)
+            } else {
+                found
+            }
+        }
+        None => found,
+    }
+}
+
+/// The other player with a number, whose inputs are not cut, if there is one.
+fn other<D: Disk>(peer: &Peer<'_, D>, number: u8) -> Option<Player>
+    ensures some { IfSome result (λ player. IsOther peer.now player.number) }
+    ensures same { IfSome result (λ player. player.number ≡ number) }
+    ensures none { result ≡ None → ¬ IsOther peer.now number }
+{
+    let players = peer.players();
+    let player = Player::new(number)?;
+    if number <= players && number != peer.me().number && peer.cut_of(player).is_none() {
+        Some(player)
+    } else {
+        None
+    }
+}
+
 /// Whether fewer inputs are known of a player than of another, if there is one.
-fn is_fewer<D: Disk>(peer: &Peer<'_, D>, player: Player, other: Option<Player>) -> bool {
-    match other {
-        Some(other) => peer.count(player) < peer.count(other),
+fn is_fewer<D: Disk>(peer: &Peer<'_, D>, player: Player, found: Option<Player>) -> bool
+    ensures fewer { IsTrue result → IfSome found (λ it. count_in (known_by peer.now) player.number
+        < count_in (known_by peer.now) it.number) }
+    ensures first { found ≡ None → IsTrue result }
+    ensures most { result ≡ false → IfSome found (λ it. count_in (known_by peer.now) it.number
+        ≤ count_in (known_by peer.now) player.number) }
+{
+    match found {
+        Some(it) => peer.count(player) < peer.count(it),
         None => true,
     }
 }

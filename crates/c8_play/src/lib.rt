@@ -29,5 +29,5 @@ pub use desk::{Desk, Pace};
 pub use exchange::Exchange;
 pub use lead::Lead;
 pub use live::{Live, play_frames};
-pub use status::Status;
+pub use status::StatusRow;
 pub use terminal::Terminal;

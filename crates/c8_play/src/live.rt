@@ -9,7 +9,7 @@ use crate::beat::Lateness;
 use crate::console::Console;
 use crate::desk::{Desk, Pace};
 use crate::lead::{Lead, hindmost};
-use crate::status::Status;
+use crate::status::StatusRow;
 use c8_disk::Disk;
 use c8_game::Game;
 use c8_live::laws::{hearings_join, peers_run_on};
@@ -83,7 +83,7 @@ pub fn play_frames<D: Disk, W: Wire, C: Console>(
 {
     peers_run_on::<D>();
     let mut lead = lead;
-    let mut status = Status::new(desk.now(), asked.player, session.peer().players());
+    let mut status = StatusRow::new(desk.now(), asked.player, session.peer().players());
     let mut made: u64 = 0;
     for turn in 0..asked.turns {
         let is_enough = is_enough(session.peer().confirmed(), asked.stop);
@@ -110,7 +110,7 @@ fn wait<D: Disk, W: Wire, C: Console>(
     session: &mut Session<'_, D>,
     wire: &mut W,
     desk: &mut Desk<C>,
-    status: &Status,
+    status: &StatusRow,
 ) -> Result<(), SessionError>
     ensures ran { HasRunOn D.Disk session.old.peer session.new.peer }
     ensures end { IfErr result (IsEnd D.Disk session.old.peer session.new.peer) }
@@ -136,7 +136,7 @@ fn play_frame<D: Disk, W: Wire, C: Console>(
     wire: &mut W,
     desk: &mut Desk<C>,
     lead: &mut Lead,
-    status: &mut Status,
+    status: &mut StatusRow,
 ) -> Result<(), SessionError>
     ensures ran { HasRunOn D.Disk session.old.peer session.new.peer }
     ensures end { IfErr result (IsEnd D.Disk session.old.peer session.new.peer) }
@@ -173,7 +173,7 @@ fn enter<D: Disk, W: Wire, C: Console>(
         session.old.peer session.new.peer wire.old wire.new desk.old desk.new) }
 {
     let keys = desk.begin();
-    if lead.is_left_out(session.peer()) {
+    if lead.leaves_out(session.peer()) {
         let _taken = session.play(None, wire)?;
         return Ok(Entry::LeftOut);
     }
@@ -191,7 +191,7 @@ fn enter<D: Disk, W: Wire, C: Console>(
 fn show<D: Disk, C: Console>(
     session: &Session<'_, D>,
     desk: &mut Desk<C>,
-    status: &mut Status,
+    status: &mut StatusRow,
     entry: Entry,
 )
     ensures { IsSeen C.Console session.now.peer desk.old desk.new }

@@ -16,10 +16,10 @@ use std::{io, thread};
 /// The terminal of the process, whatever its standard streams are.
 const TTY: &str = "/dev/tty";
 
-/// Asks for kitty's keyboard protocol (no ambiguity, event types, all keys as sequences), and whether the
-/// terminal has it; asks to be told where the window loses the focus; and text that is too long for a row is
-/// cut off from now on.
-const ASK: &[u8] = b"\x1b[>11u\x1b[?u\x1b[?1004h\x1b[?7l";
+/// Asks for kitty's keyboard protocol, and whether the terminal has it: no ambiguity (1), event types (2), the
+/// place of a key on an English keyboard (4), all keys as sequences (8). Asks to be told where the window loses
+/// the focus; and text that is too long for a row is cut off from now on.
+const ASK: &[u8] = b"\x1b[>15u\x1b[?u\x1b[?1004h\x1b[?7l";
 
 /// Takes all of that back.
 const ASK_NO_MORE: &[u8] = b"\x1b[?7h\x1b[?1004l\x1b[<u";

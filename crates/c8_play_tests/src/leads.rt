@@ -45,7 +45,7 @@ fn left_out(alloc: Global, peer: &Peer<'_, MemDisk>, refused: &str) -> Result<St
             lead.has_waited();
             told.push('.')?;
         } else {
-            told.push(if lead.is_left_out(peer) { 'x' } else { '.' })?;
+            told.push(if lead.leaves_out(peer) { 'x' } else { '.' })?;
         }
     }
     Ok(told)

@@ -1,7 +1,8 @@
 //! The row of text below the screen.
 
 use c8_game::Player;
-use c8_play::Status;
+use c8_live::Standing;
+use c8_play::StatusRow;
 use std::test::Fail;
 use std::time::Duration;
 
@@ -9,27 +10,36 @@ use std::time::Duration;
 type Told = (u64, Option<u8>, &'static [u8]);
 
 /// Seven frames are confirmed, and nothing else has happened.
-static ROWS: [Told; 7] = [
-    (500, None, b"\x1b[17;1H\x1b[K"),
-    (600, None, b""),
-    (700, Some(2), b"\x1b[17;1H\x1b[Kwaits for player 2, "),
-    (800, Some(2), b""),
+static ROWS: [Told; 8] = [
     (
-        1_000,
-        Some(2),
-        b"\x1b[17;1H\x1b[Kwaits for player 2, ticked 0, confirmed 7, rollbacks 0, longest 0, player 2 silent for 1000 ms",
-    ),
-    (
-        1_100,
+        500,
         None,
-        b"\x1b[17;1H\x1b[Kticked 0, confirmed 7, rollbacks 0, longest 0, player 2 silent for 1000 ms",
+        b"\x1b[17;1H\x1b[K0/7  2: 500 ms  back 0, longest 0",
     ),
-    (1_900, None, b""),
+    (600, None, b""),
+    (
+        700,
+        Some(2),
+        b"\x1b[17;1H\x1b[K0/7  waits for 2  2: 500 ms  back 0, longest 0",
+    ),
+    (800, Some(2), b""),
+    (1_499, Some(2), b""),
+    (
+        1_500,
+        Some(2),
+        b"\x1b[17;1H\x1b[K0/7  waits for 2  2: 1500 ms  back 0, longest 0",
+    ),
+    (
+        1_600,
+        None,
+        b"\x1b[17;1H\x1b[K0/7  2: 1500 ms  back 0, longest 0",
+    ),
+    (2_400, None, b""),
 ];
 
 #[test]
 fn a_row_is_written_where_it_changes(rt: HostRuntime) -> Result<(), Fail> {
-    let mut status = Status::new(Duration::from_secs(0), Player::CHAIR, 2);
+    let mut status = StatusRow::new(Duration::from_secs(0), Player::CHAIR, 2);
     for (millis, waits, wanted) in &ROWS {
         let row = status.row(
             Duration::from_millis(*millis),
@@ -40,7 +50,147 @@ fn a_row_is_written_where_it_changes(rt: HostRuntime) -> Result<(), Fail> {
     }
     // what was forgotten is written again
     status.forget();
-    let again = status.row(Duration::from_millis(1_950), 7, None);
-    assert!(rt; again == ROWS[5].2);
+    let again = status.row(Duration::from_millis(2_450), 7, None);
+    assert!(rt; again == ROWS[6].2);
     Ok(())
+}
+
+/// When, how the peer stands, for whom it waits, and all that is written then.
+struct Look {
+    millis: u64,
+    confirmed: u32,
+    ticked: u64,
+    rollbacks: u64,
+    longest: u64,
+    heard: [u64; 4],
+    is_alarmed: bool,
+    waits: Option<u8>,
+    wanted: &'static [u8],
+}
+
+/// Of player 2 of two. The longest rollback is that of all since the look before.
+static OF_TWO: [Look; 5] = [
+    Look {
+        millis: 200,
+        confirmed: 18,
+        ticked: 21,
+        rollbacks: 4,
+        longest: 5,
+        heard: [2, 0, 0, 0],
+        is_alarmed: false,
+        waits: None,
+        wanted: b"\x1b[17;1H\x1b[K21/18  1: 0 ms  back 4, longest 5",
+    },
+    Look {
+        millis: 700,
+        confirmed: 40,
+        ticked: 43,
+        rollbacks: 6,
+        longest: 6,
+        heard: [2, 0, 0, 0],
+        is_alarmed: false,
+        waits: None,
+        wanted: b"",
+    },
+    Look {
+        millis: 1_216,
+        confirmed: 421,
+        ticked: 423,
+        rollbacks: 7,
+        longest: 2,
+        heard: [2, 0, 0, 0],
+        is_alarmed: false,
+        waits: Some(1),
+        wanted: b"\x1b[17;1H\x1b[K423/421  waits for 1  1: 1016 ms  back 3, longest 6",
+    },
+    Look {
+        millis: 2_216,
+        confirmed: 479,
+        ticked: 480,
+        rollbacks: 9,
+        longest: 1,
+        heard: [3, 0, 0, 0],
+        is_alarmed: true,
+        waits: None,
+        wanted: b"\x1b[17;1H\x1b[K480/479  the machines differ  1: 0 ms  back 2, longest 1",
+    },
+    // 70 characters, of which 64 are written
+    Look {
+        millis: 10_000_000_002_216,
+        confirmed: 262_136,
+        ticked: 262_144,
+        rollbacks: 132,
+        longest: 45,
+        heard: [3, 0, 0, 0],
+        is_alarmed: false,
+        waits: Some(1),
+        wanted: b"\x1b[17;1H\x1b[K262144/262136  waits for 1  1: 10000000000000 ms  back 123, long",
+    },
+];
+
+/// Of player 3 of four.
+static OF_FOUR: [Look; 3] = [
+    Look {
+        millis: 200,
+        confirmed: 18,
+        ticked: 21,
+        rollbacks: 4,
+        longest: 5,
+        heard: [2, 0, 9, 1],
+        is_alarmed: false,
+        waits: None,
+        wanted: b"\x1b[17;1H\x1b[K21/18  1: 0 ms  2: 100 ms  4: 0 ms  back 4, longest 5",
+    },
+    Look {
+        millis: 1_300,
+        confirmed: 88,
+        ticked: 99,
+        rollbacks: 15,
+        longest: 7,
+        heard: [2, 0, 9, 2],
+        is_alarmed: false,
+        waits: Some(2),
+        wanted: b"\x1b[17;1H\x1b[K99/88  waits for 2  1: 1100 ms  2: 1200 ms  4: 0 ms  back 11, longest 7",
+    },
+    // 99 characters, of which 80 are written
+    Look {
+        millis: 123_456_989,
+        confirmed: 262_136,
+        ticked: 262_144,
+        rollbacks: 138,
+        longest: 45,
+        heard: [2, 0, 9, 2],
+        is_alarmed: false,
+        waits: Some(2),
+        wanted: b"\x1b[17;1H\x1b[K262144/262136  waits for 2  1: 123456789 ms  2: 123456889 ms  4: 123455689 ms  b",
+    },
+];
+
+/// Whether these are the rows of a player of a game of so many, which begins at 100 milliseconds.
+fn are_told(number: u8, players: u8, looks: &[Look]) -> bool {
+    let me = Player::new(number).unwrap_or(Player::CHAIR);
+    let mut status = StatusRow::new(Duration::from_millis(100), me, players);
+    for look in looks {
+        let standing = Standing {
+            ticked: look.ticked,
+            rollbacks: look.rollbacks,
+            longest: look.longest,
+            heard: look.heard,
+            is_alarmed: look.is_alarmed,
+            lost: 0,
+        };
+        let now = Duration::from_millis(look.millis);
+        let waits = look.waits.and_then(Player::new);
+        let row = status.row_of(now, look.confirmed, &standing, waits);
+        if row != look.wanted {
+            return false;
+        }
+    }
+    true
+}
+
+#[test]
+fn a_row_tells_all_and_is_cut(rt: HostRuntime) {
+    assert!(rt; are_told(2, 2, &OF_TWO));
+    assert!(rt; are_told(3, 4, &OF_FOUR));
 }

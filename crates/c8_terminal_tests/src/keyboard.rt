@@ -75,6 +75,27 @@ fn places() -> &'static [Row] {
             sent: "\x1b[1081::113u\x1b[1081:1049:113;2u\x1b[1081:1049:113;2:3u\x1b[97:65u",
             told: &[Struck(0x4), Struck(0x4), Up(0x4), Down(0x7)],
         },
+        // What a terminal with all of that reports, on a Russian keyboard: it names no event of a press, nor
+        // modifiers where there are none. Num Lock is one, Shift brings the other letter.
+        Row {
+            sent: "\x1b[?15u\x1b[1081::113u\x1b[1081::113;1u\x1b[1081::113;129u\x1b[1081::113;1:3u\x1b[1081:1049:113;2u",
+            told: &[Down(4), Down(4), Down(4), Up(4), Down(4)],
+        },
+        // On a French one, whose a stands at the place of q, q at that of a, and & at that of 1.
+        Row {
+            sent: "\x1b[97::113u\x1b[97:65:113;2u\x1b[113::97;1:3u\x1b[38:49:49;2u\x1b[38::49;65:3u",
+            told: &[Struck(4), Struck(4), Up(7), Down(1), Up(1)],
+        },
+        // The letter with Shift alone, where the place is that of the letter.
+        Row {
+            sent: "\x1b[97:65;2u\x1b[115:83;66u\x1b[97:65;2:3u",
+            told: &[Struck(7), Struck(8), Up(7)],
+        },
+        // Text in a third field, after modifiers or none, and of no key.
+        Row {
+            sent: "\x1b[97;2;65u\x1b[115;;223u\x1b[1092::97;1:2;1092u\x1b[100;3:1;97:98:99u\x1b[0;;113u",
+            told: &[Struck(7), Struck(8), Down(7), Down(9)],
+        },
         // Characters that have no such place.
         Row {
             sent: "5tgb0-; \r\n\t\x7f\x00\x01ÿй\u{10ffff}€",
@@ -107,6 +128,11 @@ fn others() -> &'static [Row] {
             sent: "\x1b[1;2A\x1b[1;1:1B\x1b[C\x1b[1;5:3D\x1b[1;1:2A\x1b[1;1:4A",
             told: &[Struck(5), Down(8), Down(9), Up(7), Down(5)],
         },
+        // With Num Lock, with Caps Lock, with both.
+        Row {
+            sent: "\x1b[1;129A\x1b[?15u\x1b[1;129A\x1b[1;65C\x1b[1;193B\x1b[1;129:3D",
+            told: &[Struck(5), Down(5), Down(9), Down(8), Up(7)],
+        },
         Row {
             sent: "\x1b[D\x1b[57442;5u\x1b[D\x1b[57442;5:1u\x1b[D",
             told: &[Struck(7), Struck(7), Down(7)],
@@ -126,6 +152,11 @@ fn others() -> &'static [Row] {
         Row {
             sent: "\x1b[108;5u\x1b[76;8u\x1b[99;5:3u\x1b[108;5:3u\x1b[113;5u\x1b[113;5:3u",
             told: &[Repaint, Repaint, Up(0xb), Up(4)],
+        },
+        // By the place too, with Num Lock, and with text.
+        Row {
+            sent: "\x1b[1076::108;5u\x1b[1089::99;133u\x1b[1089:1057:99;6;1089u",
+            told: &[Repaint, Quit, Quit],
         },
         Row {
             sent: "\x1b[27u\x1b[27;1:3u\x1b[27;1:2u\x1b[27;1:4u",
