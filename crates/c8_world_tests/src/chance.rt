@@ -20,8 +20,11 @@ const GAMES: [&[u8]; 3] = [
     b"players 4\nipf 10\nframes 300\ndelay 2\nwindow 8\nseed 1\nmask1 000f\nmask2 00f0\nmask3 0f00\nmask4 f000\ncode 6205e2a1710170011202\n",
 ];
 
-/// A seed of each match of a game.
-const SEEDS: [u64; 4] = [2026, 7, 65537, 19];
+/// A seed of each match of a game, and whether a player may be let go in it.
+const SEEDS: [(u64, bool); 4] = [(2026, true), (7, true), (65537, true), (19, false)];
+
+/// How many players a match can have.
+const MOST: u8 = 4;
 
 /// How many draws a match has.
 const DRAWS: u32 = 1200;
@@ -47,6 +50,11 @@ struct Counted {
     saved: u32,
     /// Matches in which somebody confirmed more than 20 frames.
     far: u32,
+    /// Pairs of machines after more than 20 frames that were compared, of peers one of which had begun at a
+    /// checkpoint.
+    compared: u32,
+    /// Peers that were asked for an alarm where nobody may be let go.
+    calm: u32,
 }
 
 const NOTHING: Counted = Counted {
@@ -61,6 +69,8 @@ const NOTHING: Counted = Counted {
     cut: 0,
     saved: 0,
     far: 0,
+    compared: 0,
+    calm: 0,
 };
 
 /// One more.
@@ -73,6 +83,8 @@ fn count(number: &mut u32) {
 struct Chance {
     numbers: Pcg32,
     players: u8,
+    /// Whether a player may be let go.
+    leaves: bool,
     said: u64,
     /// To whom the last datagram is.
     to: Player,
@@ -82,10 +94,11 @@ struct Chance {
 }
 
 impl Chance {
-    fn new(seed: u64, players: u8, counted: Counted) -> Chance {
+    fn new(seed: u64, players: u8, leaves: bool, counted: Counted) -> Chance {
         Chance {
             numbers: Pcg32::seed_from_u64(seed),
             players,
+            leaves,
             said: 0,
             to: ONE,
             counted,
@@ -157,9 +170,9 @@ impl Chance {
         }
     }
 
-    /// A leave, and that late in a match of two: nobody else is there afterwards.
+    /// A leave, where one may be, and late in a match of two: nobody else is there afterwards.
     fn rare(&mut self) -> Act {
-        if self.players == 2 && self.said < 500 {
+        if !self.leaves || (self.players == 2 && self.said < 500) {
             Act::Tick(self.player(), Keys(0x0010))
         } else {
             Act::Leave(self.leaver())
@@ -230,6 +243,60 @@ impl Chance {
         self.happen(alloc, world, Event::Do(last));
     }
 
+    /// The rest of a match; then all stop and are opened once more. None where two machines differ.
+    fn end(&mut self, alloc: Global, world: &mut World<'_>) -> Option<()> {
+        let leaver = self.leaver().number;
+        go_on(alloc, world, leaver);
+        let goes_well = self.finds_no_other_machine(world);
+        for number in 1..MOST + 1 {
+            let player = Player { number };
+            self.happen(alloc, world, Event::Stop(Act::Check(player), 0, 1));
+        }
+        go_on(alloc, world, leaver);
+        if goes_well && self.finds_no_other_machine(world) {
+            Some(())
+        } else {
+            None
+        }
+    }
+
+    /// Whether those whom player 1 has not let go, where it is there, have one machine after equally many
+    /// frames, and no alarm stands where nobody may be let go.
+    fn finds_no_other_machine(&mut self, world: &World<'_>) -> bool {
+        for pair in 0..MOST * MOST {
+            let (one, other) = (pair / MOST + 1, pair % MOST + 1);
+            if !self.is_like(world, Player { number: one }, Player { number: other }) {
+                return false;
+            }
+        }
+        true
+    }
+
+    /// Whether nothing is wrong with a player beside another one.
+    fn is_like(&mut self, world: &World<'_>, one: Player, other: Player) -> bool {
+        let (Some(chair), Some(peer), Some(beside)) = (
+            world.peer(ONE),
+            world.peer(one),
+            world.peer(other),
+        ) else {
+            return true;
+        };
+        if !self.leaves {
+            count(&mut self.counted.calm);
+            if peer.alarm() {
+                return false;
+            }
+        }
+        let ((frames, machine), (others, other_machine)) = (peer.base(), beside.base());
+        if chair.leaving(one) || chair.leaving(other) || frames != others {
+            return true;
+        }
+        if frames > 20 && peer.last_checkpoint() != beside.last_checkpoint() {
+            count(&mut self.counted.compared);
+        }
+        *machine == *other_machine
+    }
+
     /// One event.
     fn happen(&mut self, alloc: Global, world: &mut World<'_>, event: Event) {
         match answers(alloc, world, &[event]) {
@@ -281,18 +348,24 @@ impl Counted {
 }
 
 /// A match of one seed: its events, and then the rest of it. Those who stay agree after each hundred
-/// draws and in the end. None where they don't, or where memory was refused.
-fn play(alloc: Global, game: &Game, seed: u64, counted: Counted) -> Option<Counted> {
+/// draws and in the end, and so do their machines. None where they don't, or where memory was refused.
+fn play(
+    alloc: Global,
+    game: &Game,
+    (seed, leaves): (u64, bool),
+    counted: Counted,
+) -> Option<Counted> {
     let mut world = World::new(alloc, game, 7, 300000, 16384).ok()?;
-    let mut chance = Chance::new(seed, game.players(), counted);
+    let mut chance = Chance::new(seed, game.players(), leaves, counted);
     for draw in 0..DRAWS {
         chance.go_on(alloc, &mut world);
-        if draw % 100 == 0 && agrees(alloc, &world).is_none() {
+        if draw % 100 == 0
+            && (agrees(alloc, &world).is_none() || !chance.finds_no_other_machine(&world))
+        {
             return None;
         }
     }
-    let leaver = chance.leaver();
-    go_on(alloc, &mut world, leaver.number);
+    chance.end(alloc, &mut world)?;
     let confirmed = agrees(alloc, &world)?;
     let mut counted = chance.counted;
     if confirmed > 20 {
@@ -330,7 +403,7 @@ fn play_all(alloc: Global) -> Result<Counted, Fail> {
 }
 
 /// Two, three and four players, four matches each, with stops, failures of disks, restarts, checkpoints
-/// and a drop round in them. That each kind was met is asked of all together.
+/// and, but for one each, a drop round in them. That each kind was met is asked of all together.
 #[test]
 fn who_stays_agrees(rt: HostRuntime) -> Result<(), Fail> {
     let counted = play_all(rt.alloc())?;
@@ -340,5 +413,6 @@ fn who_stays_agrees(rt: HostRuntime) -> Result<(), Fail> {
     assert!(rt; counted.delivery > 0 && counted.round > 0);
     assert!(rt; counted.check > 0 && counted.saved > 0);
     assert!(rt; counted.far > 0);
+    assert!(rt; counted.compared > 0 && counted.calm > 0);
     Ok(())
 }

@@ -7,6 +7,7 @@ use crate::walk::answers;
 use c8_disk::DiskError;
 use c8_game::{Game, Keys, Player};
 use c8_peer::{Heard, Kind, OpenError, TickError};
+use c8_wire::Watcher;
 use c8_world::{Act, Answer, Counts, Event, Posted, RunError, Tally, World};
 use std::alloc::Global;
 use std::test::Fail;
@@ -23,9 +24,15 @@ const TWO: Player = Player { number: 2 };
 
 const HELLO: Event = Event::Do(Act::Say(ONE, TWO, Kind::Hello));
 
+const FIVE: Watcher = Watcher { number: 5 };
+
+const SIX: Watcher = Watcher { number: 6 };
+
 /// Openings of disks that are empty, that have a record, of peers that are down, and inside a failure
-/// and a stop; and sayings, of which there are more than a first allocation has room for.
-const EVENTS: [Event; 22] = [
+/// and a stop; and sayings, of which there are more than a first allocation has room for. There is room for
+/// four datagrams, then for eight, then for sixteen: the one that is shown to a watcher, the fifth, and the one
+/// that a watcher says, the ninth, want more.
+const EVENTS: [Event; 23] = [
     Event::Do(Act::Open(ONE)),
     Event::Fail(Act::Open(TWO), 6),
     Event::Do(Act::Open(TWO)),
@@ -43,10 +50,11 @@ const EVENTS: [Event; 22] = [
     Event::Do(Act::Open(TWO)),
     HELLO,
     Event::Fail(Act::Say(ONE, TWO, Kind::Hello), 0),
+    Event::Do(Act::Show(FIVE)),
     HELLO,
     HELLO,
     HELLO,
-    HELLO,
+    Event::Do(Act::Seen(SIX)),
     HELLO,
 ];
 
@@ -89,11 +97,15 @@ fn wanted(place: usize) -> Answer {
         11 => ticked(2),
         15 => said(2, 24),
         16 => said(3, 24),
-        17 => said(4, 24),
+        17 => said(4, 30),
         18 => said(5, 24),
         19 => said(6, 24),
         20 => said(7, 24),
-        21 => said(8, 24),
+        21 => Answer::Spoken(Posted {
+            number: 8,
+            length: 28,
+        }),
+        22 => said(9, 24),
         _ => Answer::NoSuch,
     }
 }
@@ -133,14 +145,15 @@ fn ends(alloc: Global, world: &World<'_>) -> Option<[Tally; 2]> {
     }
 }
 
-/// Whether two worlds have said the same.
+/// Whether two worlds have said the same, and no watcher has rows.
 fn have_said_the_same(world: &World<'_>, other: &World<'_>) -> bool {
     for number in 0..world.said() {
         if world.datagram(number) != other.datagram(number) {
             return false;
         }
     }
-    world.said() == other.said()
+    let rows = (world.watcher(FIVE).count(), world.watcher(SIX).count());
+    world.said() == other.said() && rows == (0, 0)
 }
 
 /// Whether a player stands in two worlds alike; one who was to be opened in the first may be away
