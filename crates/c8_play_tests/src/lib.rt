@@ -18,3 +18,5 @@ mod pair;
 mod rows;
 #[cfg(test)]
 mod timed;
+#[cfg(test)]
+mod waits;

@@ -24,7 +24,7 @@ static TIMES: [(u8, [u64; 5]); 3] = [
 ];
 
 /// The bytes that paint the whole screen of that game.
-fn whole(alloc: Global) -> Result<Vec<u8>, Fail> {
+pub fn whole(alloc: Global) -> Result<Vec<u8>, Fail> {
     let mut text = Vec::new(alloc);
     for row in 1..17 {
         write!(text, "\x1b[{row};1H")?;
