@@ -10,7 +10,7 @@ use std::alloc::{AllocError, Global};
 
 /// Who plays.
 #[derive(Clone, Copy, Debug, PartialEq, Eq)]
-pub(crate) enum Seat {
+pub(crate) enum Who {
     /// One person, with the keys of all players.
     Alone,
     /// A player of a match, who has a journal and an address.
@@ -63,15 +63,15 @@ fn with_players<'a>(alloc: Global, command: Command<'a>) -> Result<Command<'a>, 
 }
 
 /// Who is to play, if that is said: one alone has neither journal nor address, a player has both.
-pub(crate) fn seat_of(given: &ArgMatches<'_>) -> Option<Seat> {
+pub(crate) fn who_of(given: &ArgMatches<'_>) -> Option<Who> {
     let has_match = given.get_str("JOURNAL").is_some() && given.get_str("LOCAL").is_some();
     let has_none = given.get_str("JOURNAL").is_none();
     match word_of(given, "PLAYER") {
-        "alone" if has_none => Some(Seat::Alone),
-        "1" if has_match => Some(Seat::Player(Player::CHAIR)),
-        "2" if has_match => Some(Seat::Player(Player { number: 2 })),
-        "3" if has_match => Some(Seat::Player(Player { number: 3 })),
-        "4" if has_match => Some(Seat::Player(Player { number: 4 })),
+        "alone" if has_none => Some(Who::Alone),
+        "1" if has_match => Some(Who::Player(Player::CHAIR)),
+        "2" if has_match => Some(Who::Player(Player { number: 2 })),
+        "3" if has_match => Some(Who::Player(Player { number: 3 })),
+        "4" if has_match => Some(Who::Player(Player { number: 4 })),
         _ => None,
     }
 }

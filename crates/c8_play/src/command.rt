@@ -1,7 +1,7 @@
 //! `c8play play`: a game is played at the keyboard.
 
 use crate::alone::play_alone;
-use crate::arguments::{Seat, pace_of, seat_of};
+use crate::arguments::{Who, pace_of, who_of};
 use crate::desk::{Desk, Pace};
 use crate::live::{Live, tell_lateness};
 use crate::terminal::Terminal;
@@ -31,7 +31,7 @@ where
     W: Write,
     E: Write,
 {
-    let Some(seat) = seat_of(given) else {
+    let Some(who) = who_of(given) else {
         writeln!(
             refused,
             "error: play takes GAME alone, or GAME, a PLAYER from 1 to 4, JOURNAL, LOCAL and REMOTE"
@@ -43,9 +43,9 @@ where
         return Ok(Status::CommandLine);
     };
     let pace = pace_of(given);
-    match seat {
-        Seat::Alone => alone(rt, given, console, pace, out, refused),
-        Seat::Player(player) => {
+    match who {
+        Who::Alone => alone(rt, given, console, pace, out, refused),
+        Who::Player(player) => {
             let asked = asked_for(given, player);
             let live = Live { console, pace };
             perform_given(rt, &asked, live, out, refused)

@@ -91,8 +91,8 @@ impl<C: Console> Desk<C> {
         self.has_left
     }
 
-    /// Whether the next frame is due. Where it is not, rests until it is, or until a packet has come.
-    pub fn is_due(&mut self) -> bool
+    /// Rests until the next frame is due, or until a packet has come; answers whether it was due already.
+    pub fn rest_unless_due(&mut self) -> bool
         ensures { IsSameDesk C.Console self.old self.new }
     {
         let left = self.beat.left(self.console.now());
@@ -229,7 +229,7 @@ impl<C: Console> Desk<C> {
 
     /// Whether the row below the screen is to be written anew, since something else may stand there. It is told
     /// once.
-    pub fn is_spoilt(&mut self) -> bool
+    pub fn take_spoilt(&mut self) -> bool
         ensures { IsSameDesk C.Console self.old self.new }
     {
         let is_spoilt = self.is_spoilt;

@@ -120,7 +120,7 @@ fn wait<D: Disk, W: Wire, C: Console>(
     peers_run_on::<D>();
     hearings_join::<D, W>();
     for _ in 0..MOST_RESTS {
-        if desk.is_due() {
+        if desk.rest_unless_due() {
             break;
         }
         session.listen(wire)?;
@@ -199,7 +199,7 @@ fn show<D: Disk, C: Console>(
     let peer = session.peer();
     let is_held_up = entry == Entry::Refused && peer.confirmed() < session.frames();
     let waits = if is_held_up { hindmost(peer) } else { None };
-    if desk.is_spoilt() {
+    if desk.take_spoilt() {
         status.forget();
     }
     let now = desk.now();

@@ -8,7 +8,7 @@ use Rattle.c8_play.proofs.live.show.Goals as goal
 
 pub returns : goal.returns
 returns g c =
-    let same = same_chain g.C.Console c.args.desk.now c.is_spoilt.new.self c.now-now.new.self c.is_spoilt.ensures c.now-now.ensures in
+    let same = same_chain g.C.Console c.args.desk.now c.take_spoilt.new.self c.now-now.new.self c.take_spoilt.ensures c.now-now.ensures in
     let points : points_of c.screen.result.now ≡ points_shown c.args.session.now.peer =
     c.screen.ensures ∙ ap (λ (m : State). m.screen) c.shown.ensures.value ∙ ap points_shown c.peer-peer.ensures in
     record {

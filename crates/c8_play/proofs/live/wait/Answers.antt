@@ -11,12 +11,12 @@ returns-in_err-listen-clause-end g c =
 
 pub returns-in_err-listen-clause-waited : goal.returns-in_err-listen-clause-waited
 returns-in_err-listen-clause-waited g c =
-    waited_more g.D.Disk g.W.Wire g.C.Console c.hearings_join.ensures.joined most_packets c.args.session.now.peer c.loop.session.peer c.listen.new.self.peer c.args.wire.now c.loop.wire c.listen.new.wire c.args.desk.now c.loop.desk c.is_due.new.self
-    c.loop.invariant.waited c.is_due.ensures c.in_err-listen.ensures.heard
+    waited_more g.D.Disk g.W.Wire g.C.Console c.hearings_join.ensures.joined most_packets c.args.session.now.peer c.loop.session.peer c.listen.new.self.peer c.args.wire.now c.loop.wire c.listen.new.wire c.args.desk.now c.loop.desk c.rest_unless_due.new.self
+    c.loop.invariant.waited c.rest_unless_due.ensures c.in_err-listen.ensures.heard
 
 pub loop-preserved : goal.loop-preserved
 loop-preserved g c = record {
   ran = c.peers_run_on.ensures.joined c.args.session.now.peer c.loop.session.peer c.listen.new.self.peer c.loop.invariant.ran c.in_ok-listen.ensures.ran;
-  waited = waited_more g.D.Disk g.W.Wire g.C.Console c.hearings_join.ensures.joined most_packets c.args.session.now.peer c.loop.session.peer c.listen.new.self.peer c.args.wire.now c.loop.wire c.listen.new.wire c.args.desk.now c.loop.desk c.is_due.new.self
-      c.loop.invariant.waited c.is_due.ensures c.in_ok-listen.ensures.heard;
+  waited = waited_more g.D.Disk g.W.Wire g.C.Console c.hearings_join.ensures.joined most_packets c.args.session.now.peer c.loop.session.peer c.listen.new.self.peer c.args.wire.now c.loop.wire c.listen.new.wire c.args.desk.now c.loop.desk c.rest_unless_due.new.self
+      c.loop.invariant.waited c.rest_unless_due.ensures c.in_ok-listen.ensures.heard;
 }
