@@ -10,8 +10,8 @@ pub const PLAY_ENDING: &str =
 A player has the keys of the game's mask for the player; who plays alone has those of all players.
 Escape and control-C end the game, control-L paints the screen anew. A terminal that tells when a key
 is let go (one with kitty's keyboard protocol) plays better than one that does not: there a stroke
-counts for --hold frames, and one within 45 frames of the key's last stroke for 6 more, as of a
-keyboard that repeats it. With --hold 30 a key that is held down has no gap where the keyboard
+counts for --hold frames, and one within 45 frames of the key's last stroke for 6 from then on, as
+of a keyboard that repeats it. With --hold 30 a key that is held down has no gap where the keyboard
 begins to repeat it within half a second.
 
 The screen takes 64 columns and 16 rows of the terminal. The row below tells once a second what
