@@ -93,19 +93,26 @@ fn bytes_of_a_keyboard_are_keys_of_frames(rt: HostRuntime) -> Result<(), Fail> {
     Ok(())
 }
 
-/// At so many frames a second, with these bytes, so many frames are played: an escape ends the game once nothing has
-/// come for 25 milliseconds, and not where it begins a sequence that a read cuts.
-static ESCAPES: [(u8, [Sent; 2], u32); 4] = [
-    (60, [(3, b"w"), (10, b"\x1b")], 13),
-    (120, [(3, b"w"), (10, b"\x1b")], 14),
-    (20, [(3, b"w"), (10, b"\x1b")], 12),
-    (60, [(10, b"\x1b"), (11, b"[A")], 30),
+/// A stroke, and an escape that stands alone.
+static ESCAPE: [Sent; 2] = [(3, b"w"), (10, b"\x1b")];
+
+/// An arrow that a read cuts after its escape.
+static CUT: [Sent; 2] = [(10, b"\x1b"), (11, b"[A")];
+
+/// At so many frames a second, with the escape or with the arrow that is cut, so many frames are played: an escape ends
+/// the game once nothing has come for 25 milliseconds.
+static ENDS: [(u8, bool, u32); 4] = [
+    (60, false, 13),
+    (120, false, 14),
+    (20, false, 12),
+    (60, true, 30),
 ];
 
-/// How many frames of the game are played at so many a second, with these bytes.
-fn played_at(alloc: Global, game: &Game, rate: u8, sent: &'static [Sent]) -> u32
+/// How many frames of the game are played at so many a second.
+fn played_at(alloc: Global, game: &Game, rate: u8, is_cut: bool) -> u32
     requires { 1 ≤ rate }
 {
+    let sent: &'static [Sent] = if is_cut { &CUT } else { &ESCAPE };
     let mut log = Log::new(alloc);
     let mut desk = Desk::new(Timed::new(sent, &mut log), Pace { rate, hold: 9 });
     let played = play_alone(game, &mut desk, 1_000);
@@ -116,9 +123,9 @@ fn played_at(alloc: Global, game: &Game, rate: u8, sent: &'static [Sent]) -> u32
 #[test]
 fn an_escape_that_stands_alone_ends_the_game(rt: HostRuntime) -> Result<(), Fail> {
     let game = Game::read(rt.alloc(), GAME)?;
-    for (rate, sent, frames) in &ESCAPES {
+    for (rate, is_cut, frames) in &ENDS {
         if *rate >= 1 {
-            let played = played_at(rt.alloc(), &game, *rate, sent);
+            let played = played_at(rt.alloc(), &game, *rate, *is_cut);
             assert!(rt; played == *frames);
         }
     }
