@@ -1,3 +1,4 @@
 pub mod PlayLemmas
 pub mod WatchingLemmas
 pub mod OutcomeLemmas
+pub mod BeatLemmas

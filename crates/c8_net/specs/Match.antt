@@ -1,5 +1,5 @@
 -- What `peer` comes to: by the text of a game and what standard input has, and then on a journal.
-use Rattle.std.specs.Prelude.{◌≡◌, ◌≢◌, ◌⊎◌, ℕ, ◌+◌, List, length, Option, IfSome, Result, IfErr}
+use Rattle.std.specs.Prelude.{◌≡◌, ◌≢◌, ◌≤◌, ◌⊎◌, ℕ, ◌+◌, List, length, Option, IfSome, Result, IfErr}
 use Rattle.c8_game.specs.GameFaults.{IsRefused}
 use Rattle.c8_game.specs.GameText.{Spells}
 use Rattle.c8_game.specs.Rules.{Rules}
@@ -92,11 +92,12 @@ module _ {D : Type 0} (g : Ghosts D) (disk : D) (rules : Rules) (room me : ℕ) 
 
 -- ---- of one who watches
 
--- A match was watched from a seat: so many turns over this wire, from no rows on. These are the frames that were taken, and the machine
--- is the serial run on their rows.
-pub record HasWatched {W : Type 0} (wire : WireGhosts W) (rules : Rules) (room seat : ℕ) (first : W) (played : Played) : Type 0 where
+-- A match was watched from a seat: some turns over this wire, from no rows on, and no more than may be made. These are the frames that
+-- were taken, and the machine is the serial run on their rows.
+pub record HasWatched {W : Type 0} (wire : WireGhosts W) (rules : Rules) (room seat most : ℕ) (first : W) (played : Played) : Type 0 where
   pub last : W
   pub turns : ℕ
+  pub few : turns ≤ most
   pub watch : WatchValue
   pub watched : AreTurns wire turns (first_watch rules room seat) watch first last
   pub frames : played.frames ≡ length watch.rows

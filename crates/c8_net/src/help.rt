@@ -43,7 +43,8 @@ keeps no file: one that is started again is shown the match from its first frame
 for it: player 1 ends 120 turns after the players are done.
 It ends when it has the whole game, once it has as many frames as --stop says, or after the last
 turn, and then prints the machine after the frames that it has. With --screen it draws the screen
-as it goes, at most sixty times a second; standard output has to be a terminal then.
+as it goes, sixty times a second by the clock; standard output has to be a terminal then, of 64
+columns and 16 rows at least.
 
 Two players and a watcher, each in a terminal of their own:
   ./c8play peer games/duel.game 1 one.journal 127.0.0.1:4001 127.0.0.1:4002 --watch5 127.0.0.1:4005 \\

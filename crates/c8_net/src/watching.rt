@@ -137,7 +137,7 @@ where
     W: Wire + Drop,
     O: Write,
     ensures { IfOk result
-        (HasWatched W.Wire game.now asked.now.room asked.now.seat.number wire) }
+        (HasWatched W.Wire game.now asked.now.room asked.now.seat.number asked.now.turns wire) }
 {
     turns_take_nothing_back::<W>();
     let Ok(spectator) = Spectator::open(rt.alloc(), game, asked.room, asked.seat) else {

@@ -2,14 +2,18 @@
 //!
 //! `console` is what a person plays at, and `terminal` the one of the system, the only file here that touches
 //! it. A [`Desk`] is a console with what is kept of it: the keys that are held, what is painted, and when the
-//! next frame is due, by `beat`. `live` plays a match at a desk: it is a performance of c8_net, whose turns are
-//! made once a frame; `alone` plays a game at a desk without a network. `arguments` says what the command
+//! next frame is due, by a [`Beat`]. `live` plays a match at a desk: it is a performance of c8_net, whose turns
+//! are made once a frame; `alone` plays a game at a desk without a network. `arguments` says what the command
 //! takes, `command` reads that.
 #![tactic(auto)]
 
 mod alone;
 mod arguments;
-mod beat;
+/// The clock of a desk, as the files here name it.
+mod beat {
+    pub(crate) use c8_net::{Beat, Lateness};
+}
+
 mod command;
 mod console;
 mod desk;
@@ -22,7 +26,7 @@ mod terminal;
 
 pub use alone::play_alone;
 pub use arguments::play_command;
-pub use beat::{Beat, Lateness};
+pub use c8_net::{Beat, Lateness};
 pub use command::play_given;
 pub use console::{Console, Gone, KEY_BYTES};
 pub use desk::{Desk, Pace};

@@ -41,7 +41,8 @@ pub fn watch_worker<W: Wire, G: Gate, P: Picture>(
 ) -> Result<u64, WireFailed>
     requires board { pen.old.board ≡ board.now }
     requires shows { MayShow spectator.old pen.old }
-    ensures turns { (n : ℕ) × AreTurns W.Wire n spectator.old spectator.new wire.old wire.new }
+    ensures turns { (n : ℕ) × n ≤ turns × IfOk result (λ made. made ≡ n)
+        × AreTurns W.Wire n spectator.old spectator.new wire.old wire.new }
     ensures shown { IfOk result (λ made. IsShown spectator.new pen.old pen.new) }
 {
     turns_join::<W>();

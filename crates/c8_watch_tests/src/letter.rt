@@ -29,11 +29,7 @@ pub(crate) struct Letter {
 impl Letter {
     /// A datagram with no body yet.
     fn head(game: &Game, kind: u8, from: u8, to: u8, epoch: u32) -> Letter {
-        let mut letter = Letter {
-            bytes: [0; 174],
-            size: 0,
-        };
-        letter.put(b"C8");
+        let mut letter = Letter::of(b"C8");
         letter.put(&[game.wire().number(), kind]);
         letter.put(&game.session(ROOM).to_be_bytes());
         letter.put(&[from, to, 0, 0]);
@@ -42,14 +38,29 @@ impl Letter {
         letter
     }
 
-    /// More bytes, and the length of the body in the header.
-    fn put(&mut self, bytes: &[u8]) {
+    /// One of these bytes.
+    pub(crate) fn of(bytes: &[u8]) -> Letter {
+        let mut letter = Letter {
+            bytes: [0; 174],
+            size: 0,
+        };
+        letter.add(bytes);
+        letter
+    }
+
+    /// More bytes.
+    fn add(&mut self, bytes: &[u8]) {
         for byte in bytes {
             if let Some(place) = self.bytes.get_mut(self.size) {
                 *place = *byte;
                 self.size = self.size.saturating_add(1);
             }
         }
+    }
+
+    /// More bytes, and the length of the body in the header.
+    fn put(&mut self, bytes: &[u8]) {
+        self.add(bytes);
         if let Some(place) = self.bytes.get_mut(15) {
             *place = u8::try_from(self.size.saturating_sub(24)).unwrap_or(0);
         }

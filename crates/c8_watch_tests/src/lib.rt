@@ -1,10 +1,12 @@
 //! The tests of those who watch a match: of c8_spectator (`taking`), of what a peer of c8_peer says to
-//! them and hears of them (`showing`), and of c8_world, in which two of them watch (`script`, `watching`,
-//! `chance`).
+//! them and hears of them (`showing`), of c8_world, in which two of them watch (`script`, `watching`,
+//! `chance`), of c8_watch (`turns`), and of what c8_net draws (`drawing`).
 #![tactic(auto)]
 
 #[cfg(test)]
 mod chance;
+#[cfg(test)]
+mod drawing;
 #[cfg(test)]
 mod letter;
 #[cfg(test)]
@@ -17,6 +19,8 @@ mod showing;
 mod step;
 #[cfg(test)]
 mod taking;
+#[cfg(test)]
+mod turns;
 #[cfg(test)]
 mod walk;
 #[cfg(test)]

@@ -1,56 +1,89 @@
 //! The screen of a match that is watched, drawn on a terminal.
 
+use crate::beat::Beat;
 use c8_machine::Machine;
-use c8_terminal::Painter;
+use c8_screen::Screen;
+use c8_terminal::{ENTER, LEAVE, Painter};
 use c8_watch::Picture;
 use std::io::Write;
 use std::time::{Clock, Duration};
 
-/// How many microseconds lie between two pictures at least: sixty are drawn a second.
-const PICTURE: u64 = 16_667;
+/// How many pictures are due a second.
+const RATE: u8 = 60;
 
-/// Draws the screen, if that is wanted, at most sixty times a second, and each picture by one write. A
-/// terminal that takes no more is left alone.
+/// Draws the screen, if that is wanted, sixty times a second by the clock, and each picture by one write:
+/// the rows of text that have changed, and of every sixtieth all, since a window that has changed its size
+/// tells nothing. A terminal that takes no more is left alone.
 #[derive(Drop)]
 pub(super) struct Drawing<'r, 'w, R, W> {
     rt: &'r R,
     out: &'w mut W,
     painter: Painter,
-    due: Duration,
+    beat: Beat,
+    /// What the clock said last.
+    last: Duration,
+    /// How many pictures there were since the screen was painted whole.
+    since_whole: u8,
+    is_wanted: bool,
+    /// Whether it is wanted, and the terminal has taken all so far.
     is_on: bool,
 }
 
 impl<'r, 'w, R: Clock, W: Write> Drawing<'r, 'w, R, W> {
     /// Nothing is drawn yet; where pictures are wanted the terminal is made ready for them.
-    pub(super) fn new(rt: &'r R, out: &'w mut W, is_on: bool) -> Drawing<'r, 'w, R, W> {
-        let is_on = is_on && out.write_all(c8_terminal::ENTER).is_ok();
+    pub(super) fn new(rt: &'r R, out: &'w mut W, is_wanted: bool) -> Drawing<'r, 'w, R, W> {
+        let is_on = is_wanted && out.write_all(ENTER).is_ok();
+        let last = rt.monotonic().unwrap_or(Duration::from_secs(0));
         Drawing {
             rt,
             out,
             painter: Painter::new(),
-            due: Duration::from_secs(0),
+            beat: Beat::new(last, RATE),
+            last,
+            since_whole: 0,
+            is_wanted,
             is_on,
         }
     }
 
-    /// Gives the terminal back, as it was.
+    /// Gives the terminal back, as it was, also where it took no more.
     pub(super) fn end(self) {
-        if self.is_on {
-            let _ = self.out.write_all(c8_terminal::LEAVE);
+        if self.is_wanted {
+            let _ = self.out.write_all(LEAVE);
             let _ = self.out.flush();
+        }
+    }
+
+    /// The time; where the clock cannot be read none has gone by.
+    fn now(&mut self) -> Duration {
+        self.last = self.rt.monotonic().unwrap_or(self.last);
+        self.last
+    }
+
+    /// Draws a picture.
+    fn draw(&mut self, screen: &Screen) {
+        if self.since_whole >= RATE {
+            self.painter.forget();
+            self.since_whole = 0;
+        }
+        self.since_whole = self.since_whole.saturating_add(1);
+        self.painter.paint(screen);
+        let text = self.painter.bytes();
+        if !text.is_empty() {
+            self.is_on = self.out.write_all(text).is_ok() && self.out.flush().is_ok();
         }
     }
 }
 
 impl<'r, 'w, R: Clock, W: Write> Picture for Drawing<'r, 'w, R, W> {
     fn show(&mut self, machine: &Machine) {
-        let now = self.rt.monotonic().unwrap_or(self.due);
-        if !self.is_on || now < self.due {
+        if !self.is_on {
             return;
         }
-        self.due = now.saturating_add(Duration::from_micros(PICTURE));
-        self.painter.paint(machine.screen());
-        let text = self.painter.bytes();
-        self.is_on = self.out.write_all(text).is_ok() && self.out.flush().is_ok();
+        let now = self.now();
+        if self.beat.left(now).is_zero() {
+            self.beat.begin(now);
+            self.draw(machine.screen());
+        }
     }
 }

@@ -1,5 +1,5 @@
 //! The two threads of one who watches: the caller's makes the turns, and one looks at the board.
-ghost use Rattle.std.specs.Prelude.{◌≡◌, ℕ, IfOk};
+ghost use Rattle.std.specs.Prelude.{◌≡◌, ◌≤◌, ℕ, IfOk};
 ghost use Rattle.c8_watch.specs.Published.{MayShow};
 ghost use Rattle.c8_watch.specs.Turns.{AreTurns};
 
@@ -65,7 +65,8 @@ impl Stage {
         W: Wire + Drop,
         O: Write,
         requires { MayShow spectator self.pen }
-        ensures { (n : ℕ) × (last : W) × AreTurns W.Wire n spectator.entry result.0 wire last }
+        ensures { (n : ℕ) × (last : W) × n ≤ asked.now.turns × IfOk result.1 (λ made. made ≡ n)
+            × AreTurns W.Wire n spectator.entry result.0 wire last }
     {
         let Stage { board, pen, viewer } = self;
         let shared = Shared {
@@ -101,7 +102,8 @@ where
     O: Write,
     requires board { pen.board ≡ shared.now.board }
     requires shows { MayShow spectator pen }
-    ensures { (n : ℕ) × (last : W) × AreTurns W.Wire n spectator.entry result.0 wire last }
+    ensures { (n : ℕ) × (last : W) × n ≤ asked.now.turns × IfOk result.1 (λ made. made ≡ n)
+        × AreTurns W.Wire n spectator.entry result.0 wire last }
 {
     let Shared { board, pace } = shared;
     let (mut spectator, mut wire, mut pen) = (spectator, wire, pen);

@@ -6,6 +6,7 @@ use Rattle.c8_watch.proofs.worker.watch_worker.Given as goal
 
 abbrev pub invariant-loop-turn : goal.invariant-loop-turn
 invariant-loop-turn g l = record {
+  made : l.made ≡ l.turn;
   turns : AreTurns g.W.Wire l.turn l.initial.spectator l.spectator l.initial.wire l.wire;
   still : IsStillWatched l.initial.spectator l.spectator;
   shown : IsShown l.spectator l.fn.pen l.pen;

@@ -1,0 +1,8 @@
+use Rattle.std.proofs.Common.{◌≡◌, ◌≤◌, ◌*◌, sum, take}
+use Rattle.c8_net.proofs.beat.Lateness.all.Given as goal
+
+abbrev pub invariant-loop-frames : goal.invariant-loop-frames
+invariant-loop-frames l = record {
+  all : l.all ≡ sum (take l.frames-index l.self.frames);
+  few : l.all ≤ l.frames-index * 4_294_967_295;
+}

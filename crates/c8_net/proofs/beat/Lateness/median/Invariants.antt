@@ -1,0 +1,11 @@
+use Rattle.std.proofs.Common.{◌≡◌, ◌≤◌, ◌<◌, ◌*◌, ℕ, sum, take}
+use Rattle.c8_net.specs.Beats.{IsHalf}
+use Rattle.c8_net.proofs.beat.Lateness.median.Given as goal
+
+abbrev pub invariant-loop-place : goal.invariant-loop-place
+invariant-loop-place l = record {
+  all : l.all ≡ sum l.self.frames;
+  some : l.some ≡ sum (take l.place l.self.frames);
+  few : l.some ≤ l.place * 4_294_967_295;
+  none : (fewer : ℕ) → fewer < l.place → IsHalf l.self.frames fewer → ⊥;
+}

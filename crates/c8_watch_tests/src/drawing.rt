@@ -1,0 +1,293 @@
+//! What is drawn of a match that is watched, and when, by a clock that is made here.
+ghost use Rattle.std.specs.Prelude.{◌≡◌};
+
+use c8_game::Game;
+use c8_live::{LONGEST_PACKET, Traffic, Wire, WireFailed};
+use c8_net::{WatchAsked, watch_command, watch_given, watch_on};
+use c8_terminal::{ENTER, LEAVE};
+use c8_wire::{Seat, Watcher};
+use std::alloc::Global;
+use std::fs::File;
+use std::io::Write;
+use std::net::Net;
+use std::rt::Files;
+use std::sync::Wait;
+use std::sync::atomic::{AtomicU64, Ordering};
+use std::test::Fail;
+use std::thread::Threads;
+use std::time::{Clock, Duration};
+use std::{fs, io};
+
+/// Each frame turns one point of the uppermost row, the leftmost first, and after the last that again.
+const GAME: &str =
+    "players 2\nipf 3\nframes 5000\ndelay 0\nwindow 8\nseed 0\nmask1 ffff\nmask2 ffff\ncode a208d0117001120280\n";
+
+/// Whose sleep after a turn is no time to wait for, but a millisecond of a clock that counts these alone.
+#[derive(Drop)]
+struct Counted<'r, R> {
+    rt: &'r R,
+    millis: AtomicU64,
+}
+
+impl<'r, R: Wait> Wait for Counted<'r, R> {}
+
+impl<'r, R: Threads> Threads for Counted<'r, R> {}
+
+impl<'r, R: AllocGlobal> Alloc for Counted<'r, R> {
+    type A = Global;
+
+    fn alloc(&self) -> Global {
+        self.rt.alloc()
+    }
+}
+
+impl<'r, R: Clock> Clock for Counted<'r, R> {
+    fn monotonic(&self) -> io::Result<Duration> {
+        Ok(Duration::from_millis(self.millis.load(Ordering::SeqCst)))
+    }
+
+    fn since_1970(&self) -> io::Result<Duration> {
+        self.monotonic()
+    }
+
+    fn sleep(&self, duration: Duration) {
+        if duration == Duration::from_millis(1) {
+            self.millis.fetch_add(1, Ordering::SeqCst);
+        } else {
+            self.rt.sleep(duration);
+        }
+    }
+}
+
+/// A way on which one more row comes each turn, in which no key is held.
+#[derive(Drop)]
+struct Shows {
+    show: [u8; 38],
+    frame: u32,
+    has_come: bool,
+    traffic: Traffic,
+}
+
+impl Shows {
+    /// The rows of a match in room 3, to seat 5.
+    fn new(game: &Game) -> Shows {
+        let mut show = [0; 38];
+        show[..4].copy_from_slice(b"C8\x01\x07");
+        show[4..12].copy_from_slice(&game.session(3).to_be_bytes());
+        show[12..16].copy_from_slice(&[1, 5, 0, 14]);
+        show[19] = 1;
+        show[29] = 1;
+        Shows {
+            show,
+            frame: 0,
+            has_come: false,
+            traffic: Traffic::new(),
+        }
+    }
+}
+
+impl Wire for Shows {
+    ghost sent = { λ shows. shows.traffic.sent.items };
+
+    ghost received = { λ shows. shows.traffic.received.items };
+
+    fn send(&mut self, _: Seat, _: &[u8]) -> Result<(), WireFailed> {
+        Ok(())
+    }
+
+    fn receive(&mut self, packet: &mut [u8; LONGEST_PACKET]) -> Result<Option<usize>, WireFailed> {
+        self.has_come = !self.has_come;
+        if !self.has_come {
+            return Ok(None);
+        }
+        self.show[24..28].copy_from_slice(&self.frame.to_be_bytes());
+        self.frame = self.frame.saturating_add(1);
+        packet[..38].copy_from_slice(&self.show);
+        self.traffic.gave(&packet[..38]);
+        Ok(Some(38))
+    }
+}
+
+/// Keeps what is written, and where each write ends. One of them fails, and is not kept.
+#[derive(Drop)]
+struct Pages {
+    text: Vec<u8>,
+    ends: Vec<usize>,
+    /// How many writes come before the one that fails.
+    until_failure: u64,
+}
+
+impl Pages {
+    fn new(alloc: Global, until_failure: u64) -> Pages {
+        Pages {
+            text: Vec::new(alloc),
+            ends: Vec::new(alloc),
+            until_failure,
+        }
+    }
+}
+
+impl Write for Pages {
+    fn write(&mut self, buf: &[u8]) -> io::Result<usize> {
+        if self.until_failure == 0 {
+            self.until_failure = u64::MAX;
+            return Err(io::ErrorKind::StorageFull.into());
+        }
+        self.until_failure -= 1;
+        self.text.extend_from_slice(buf)?;
+        self.ends.push(self.text.len())?;
+        Ok(buf.len())
+    }
+
+    fn flush(&mut self) -> io::Result<()> {
+        Ok(())
+    }
+}
+
+/// The screen after so many frames: all rows of text, or only the uppermost.
+fn picture(alloc: Global, frames: u64, is_whole: bool) -> io::Result<Vec<u8>> {
+    let rows = if is_whole { 16 } else { 1 };
+    let mut text = Vec::new(alloc);
+    for row in 1..rows + 1 {
+        write!(text, "\x1b[{row};1H")?;
+        for column in 0..64 {
+            let turns = frames.saturating_add(63 - column) / 64;
+            let cell = if row == 1 && turns % 2 == 1 { "▀" } else { " " };
+            text.write_all(cell.as_bytes())?;
+        }
+    }
+    Ok(text)
+}
+
+/// What is to be drawn: the pictures that are due by the clock, of which each sixtieth is whole, between what
+/// makes the terminal ready and what gives it back.
+fn wanted(alloc: Global, row: &Row) -> io::Result<Pages> {
+    let mut pages = Pages::new(alloc, row.until_failure);
+    if row.screen {
+        let _ = pages.write_all(ENTER);
+        for number in 0..row.pictures {
+            let turn = number.saturating_mul(50).saturating_add(2) / 3;
+            let frames = turn.saturating_add(1);
+            let text = picture(alloc, frames, number % 60 == 0)?;
+            let _ = pages.write_all(&text);
+        }
+        let _ = pages.write_all(LEAVE);
+    }
+    Ok(pages)
+}
+
+/// For how many turns of a millisecond a match is watched, whether it is drawn, and how many writes come before
+/// one that fails. Then how many pictures are drawn, that one counted.
+struct Row {
+    turns: u64,
+    screen: bool,
+    until_failure: u64,
+    pictures: u64,
+}
+
+#[rattlefmt::skip]
+static ROWS: [Row; 6] = [
+    // two seconds, and to the turn before the second picture, and to that
+    Row { turns: 2000, screen: true, until_failure: u64::MAX, pictures: 120 },
+    Row { turns: 17, screen: true, until_failure: u64::MAX, pictures: 1 },
+    Row { turns: 18, screen: true, until_failure: u64::MAX, pictures: 2 },
+    Row { turns: 100, screen: false, until_failure: u64::MAX, pictures: 0 },
+    // the terminal is given back, also where it took nothing
+    Row { turns: 100, screen: true, until_failure: 0, pictures: 0 },
+    Row { turns: 100, screen: true, until_failure: 3, pictures: 3 },
+];
+
+fn rows() -> &'static [Row] {
+    &ROWS
+}
+
+/// Whether a match is drawn as a row says, and watched to its last turn.
+fn is_drawn<R>(rt: &R, game: &Game, row: &Row) -> io::Result<bool>
+where
+    R: Clock + Threads + Wait + Sync + AllocGlobal,
+{
+    let asked = WatchAsked {
+        game: "",
+        seat: Watcher { number: 5 },
+        local: "",
+        remote: "",
+        room: 3,
+        turns: row.turns,
+        stop: None,
+        screen: row.screen,
+        explain: false,
+    };
+    let clock = Counted {
+        rt,
+        millis: AtomicU64::new(0),
+    };
+    let mut pages = Pages::new(rt.alloc(), row.until_failure);
+    let frames = match watch_on(&clock, &asked, game, Shows::new(game), &mut pages) {
+        Ok(played) => u64::from(played.frames),
+        Err(_) => return Ok(false),
+    };
+    let wanted = wanted(rt.alloc(), row)?;
+    Ok(frames == row.turns && pages.text == wanted.text && pages.ends == wanted.ends)
+}
+
+#[test]
+fn sixty_pictures_a_second_are_drawn(rt: HostRuntime) -> Result<(), Fail> {
+    let game = Game::read(rt.alloc(), GAME.as_bytes())?;
+    for (place, row) in rows().iter().enumerate() {
+        let is_drawn = is_drawn(&rt, &game, row)?;
+        assert!(rt; is_drawn, "row {place}");
+    }
+    Ok(())
+}
+
+const GAME_FILE: &str = "watch_drawing.game";
+
+/// The arguments of a match that nobody plays, watched for one turn.
+static WORDS: [&str; 8] = [
+    "watch",
+    GAME_FILE,
+    "5",
+    "127.0.0.1:21425",
+    "127.0.0.1:21421",
+    "--turns",
+    "1",
+    "--screen",
+];
+
+/// What the first so many of them print on a terminal; nothing where they are a mistake.
+fn printed<R>(rt: &R, count: usize) -> io::Result<Vec<u8>>
+where
+    R: Files<File = File> + Net + Clock + Threads + Wait + Sync + AllocGlobal,
+{
+    let (mut out, mut refused) = (Vec::new(rt.alloc()), Vec::new(rt.alloc()));
+    let mut words = Vec::new(rt.alloc());
+    for word in WORDS.iter().take(count) {
+        words.push(*word)?;
+    }
+    let command = watch_command(rt.alloc())?;
+    if let Ok(given) = command.try_get_matches_from(words.as_slice()) {
+        let _status = watch_given(rt, &given, true, &mut out, &mut refused)?;
+    }
+    Ok(out)
+}
+
+/// What is drawn there, and then this report.
+fn drawn(alloc: Global, report: &[u8]) -> io::Result<Vec<u8>> {
+    let mut text = Vec::new(alloc);
+    text.write_all(ENTER)?;
+    text.write_all(&picture(alloc, 0, true)?)?;
+    text.write_all(LEAVE)?;
+    text.write_all(report)?;
+    Ok(text)
+}
+
+/// A screen is not refused on a terminal, and the report of the machine follows it.
+#[test]
+fn the_report_follows_the_screen(rt: HostRuntime) -> Result<(), Fail> {
+    fs::write(&rt, GAME_FILE, GAME)?;
+    let report = printed(&rt, 7)?;
+    assert!(rt; report.starts_with(b"frames 0\n"));
+    assert!(rt; printed(&rt, 8)?.as_slice() == drawn(rt.alloc(), &report)?.as_slice());
+    fs::remove_file(&rt, GAME_FILE)?;
+    Ok(())
+}
