@@ -1,4 +1,4 @@
-//! The tests of those who watch a match: of c8_spectator (`taking`), of what a peer of c8_peer says to
+//! The tests of those who watch a match: of c8_spectator (`taking`, `changed`, `memory`), of what a peer of c8_peer says to
 //! them and hears of them (`showing`), and of c8_world, in which two of them watch (`script`, `watching`,
 //! `chance`).
 #![tactic(auto)]
@@ -6,7 +6,13 @@
 #[cfg(test)]
 mod chance;
 #[cfg(test)]
+mod changed;
+#[cfg(test)]
+mod judge;
+#[cfg(test)]
 mod letter;
+#[cfg(test)]
+mod memory;
 #[cfg(test)]
 mod played;
 #[cfg(test)]
