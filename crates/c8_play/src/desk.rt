@@ -10,10 +10,9 @@ ghost use Rattle.c8_terminal.specs.Strokes.{noted};
 ghost use Rattle.c8_play.specs.Typing.{HasCome, HasRead, HasCounted, AreHeld, read_after, after_signals};
 ghost use Rattle.c8_play.specs.Desk.{typing, seen_at, drawn_at, IsSameDesk, MayForget, HasShown};
 
-use crate::beat::{Beat, Lateness};
 use crate::console::{Console, KEY_BYTES};
 use c8_game::Keys;
-use c8_net::Udp;
+use c8_net::{Beat, Lateness, Udp};
 use c8_screen::Screen;
 use c8_terminal::{Decoder, Held, Painter, Signal};
 use std::time::Duration;

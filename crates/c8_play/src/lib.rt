@@ -9,11 +9,6 @@
 
 mod alone;
 mod arguments;
-/// The clock of a desk, as the files here name it.
-mod beat {
-    pub(crate) use c8_net::{Beat, Lateness};
-}
-
 mod command;
 mod console;
 mod desk;

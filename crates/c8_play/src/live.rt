@@ -5,7 +5,6 @@ ghost use Rattle.c8_live.specs.Runs.{HasRunOn, IsEnd};
 ghost use Rattle.c8_net.specs.Match.{HasEnded};
 ghost use Rattle.c8_play.specs.Frames.{IsFrame, IsSeen, HasPlayed, HasWaited, AreFrames};
 
-use crate::beat::Lateness;
 use crate::console::Console;
 use crate::desk::{Desk, Pace};
 use crate::lead::{Lead, hindmost};
@@ -14,7 +13,7 @@ use c8_disk::Disk;
 use c8_game::Game;
 use c8_live::laws::{hearings_join, peers_run_on};
 use c8_live::{Session, SessionError, Wire};
-use c8_net::{Addresses, Asked, Ended, Performance, Udp, Unopened};
+use c8_net::{Addresses, Asked, Ended, Lateness, Performance, Udp, Unopened};
 use std::io;
 use std::io::Write;
 use std::net::Net;

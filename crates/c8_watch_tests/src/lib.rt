@@ -1,14 +1,20 @@
-//! The tests of those who watch a match: of c8_spectator (`taking`), of what a peer of c8_peer says to
-//! them and hears of them (`showing`), of c8_world, in which two of them watch (`script`, `watching`,
-//! `chance`), of c8_watch (`turns`), and of what c8_net draws (`drawing`).
+//! The tests of those who watch a match: of c8_spectator (`taking`, `changed`, `memory`), of what a peer of
+//! c8_peer says to them and hears of them (`showing`), of c8_world, in which two of them watch (`script`,
+//! `watching`, `chance`), of c8_watch (`turns`), and of what c8_net draws (`drawing`).
 #![tactic(auto)]
 
 #[cfg(test)]
 mod chance;
 #[cfg(test)]
+mod changed;
+#[cfg(test)]
 mod drawing;
 #[cfg(test)]
+mod judge;
+#[cfg(test)]
 mod letter;
+#[cfg(test)]
+mod memory;
 #[cfg(test)]
 mod played;
 #[cfg(test)]

@@ -1,7 +1,7 @@
 //! A roll against machines that are run on the real rows, where inputs come late.
 use crate::calls::at_first;
 use crate::roll::{hear, read, tick};
-use c8_digest::{MARK_LENGTH, mark};
+use c8_digest::{Checkpoint, MARK_LENGTH, MARKS_LENGTH, mark};
 use c8_game::{Game, Keys, Row};
 use c8_known::Known;
 use c8_machine::Machine;
@@ -24,6 +24,49 @@ pub fn gone_on(game: &Game, machine: &Machine, one: u16, two: u16) -> Machine {
     };
     next.frame(game, game.joined(&row));
     next
+}
+
+/// The bytes of the last sixteen marks, oldest first, and zeros behind them.
+#[derive(Clone, Copy)]
+struct Kept {
+    bytes: [u8; MARKS_LENGTH],
+    count: usize,
+}
+
+impl Kept {
+    fn put(&mut self, added: &[u8; MARK_LENGTH]) {
+        if self.count == 16 {
+            self.bytes.rotate_left(MARK_LENGTH);
+            self.count = 15;
+        }
+        let place = self.count.saturating_mul(MARK_LENGTH);
+        for (byte, new) in self.bytes.iter_mut().skip(place).zip(added) {
+            *byte = *new;
+        }
+        self.count = self.count.saturating_add(1);
+    }
+}
+
+/// The checkpoint after so many frames, run on what both entered.
+fn saved(game: &Game, frames: u32) -> Checkpoint {
+    let mut machine = Machine::start(game);
+    let mut kept = Kept {
+        bytes: [0; MARKS_LENGTH],
+        count: 0,
+    };
+    kept.put(&mark(&machine));
+    for frame in 0..frames {
+        let (one, two) = entered(frame);
+        machine = gone_on(game, &machine, one, two);
+        if (frame + 1) % 32 == 0 {
+            kept.put(&mark(&machine));
+        }
+    }
+    Checkpoint {
+        frames,
+        machine,
+        marks: kept.bytes,
+    }
 }
 
 /// More marks than are made here.
@@ -116,6 +159,16 @@ impl<'g> Play<'g> {
         Ok(())
     }
 
+    /// The roll is opened anew at a checkpoint after so many frames. Whether it ran those after it alone.
+    fn opens_at(&mut self, alloc: Global, frames: u32) -> Result<bool, Fail> {
+        let from = saved(self.game, frames);
+        if from.frames > self.known.confirmed() {
+            return Ok(false);
+        }
+        self.roll = Roll::open_at(alloc, self.game, &self.known, &from)?;
+        Ok(self.roll.last_run() == self.known.ticks().saturating_sub(frames))
+    }
+
     /// Player 1 makes a tick, and then inputs of player 2 come up to this frame, each by itself.
     /// Whether the roll agreed after each call.
     fn goes_on(&mut self, frame: u32, due: u32) -> bool {
@@ -161,7 +214,8 @@ fn lag(lags: &str, frame: u32) -> u32 {
 }
 
 /// Plays some frames, with player 2's inputs so many frames late as a pattern says. Whether the roll
-/// agreed after each call, and then has all marks, and so has one that is opened then.
+/// agreed after each call, and then has all marks, and so has one that is opened then, at the first frame and
+/// at others on the way.
 fn plays(alloc: Global, game: &Game, frames: u32, ahead: u32, lags: &str) -> Result<bool, Fail> {
     let mut play = Play::new(alloc, game)?;
     for frame in 0..frames {
@@ -175,7 +229,16 @@ fn plays(alloc: Global, game: &Game, frames: u32, ahead: u32, lags: &str) -> Res
         }
     }
     play.open_again(alloc)?;
-    Ok(play.agrees(frames))
+    if !play.agrees(frames) || play.roll.last_run() != frames {
+        return Ok(false);
+    }
+    let confirmed = play.frames;
+    for at in [1, frames / 2, frames.saturating_sub(20), confirmed] {
+        if !play.opens_at(alloc, at)? || !play.agrees(frames) {
+            return Ok(false);
+        }
+    }
+    Ok(true)
 }
 
 /// Draws a random byte in every frame, counts the frames with player 2's key down, and adds the byte

@@ -1,0 +1,32 @@
+//! Memory that is refused when a watcher is made.
+//!
+//! With ample memory the watcher is compared with what it must be. `rt try --test --fail-alloc N` refuses the Nth
+//! allocation: where that is the watcher's, the test fails by the name `STANDS`, or by another one where something
+//! else was found.
+use crate::played::{ROOM, SIX, game_of};
+use c8_game::Game;
+use c8_machine::Machine;
+use c8_spectator::Spectator;
+use std::test::Fail;
+
+const STANDS: &str = "out of memory, and the next watcher is as any";
+
+/// Whether a watcher in seat 6 has no rows yet, and the machine before its first frame.
+fn is_new(game: &Game, spectator: &Spectator<'_>) -> bool {
+    spectator.seat() == SIX
+        && spectator.rows().is_empty()
+        && spectator.count() == 0
+        && *spectator.shown() == Machine::start(game)
+}
+
+#[test]
+fn memory_is_refused_to_a_watcher(rt: HostRuntime) -> Result<(), Fail> {
+    let game = game_of(rt.alloc(), 2, 20, 1)?;
+    let Ok(spectator) = Spectator::open(rt.alloc(), &game, ROOM, SIX) else {
+        let spectator = Spectator::open(rt.alloc(), &game, ROOM, SIX)?;
+        assert!(rt; is_new(&game, &spectator));
+        return Err(Fail::new(STANDS));
+    };
+    assert!(rt; is_new(&game, &spectator));
+    Ok(())
+}
