@@ -1,5 +1,7 @@
-//! Tests of c8_play: when frames are due, who is ahead, what the row below the screen says, a game that is
-//! played alone, and a match of two at desks, with consoles that are made here.
+//! Tests of c8_play and of the clock and the pictures of c8_net: when frames are due, who is ahead, what the row
+//! below the screen says, what is painted, which keys bytes are, a game that is played alone, a match in which
+//! nobody else is there, one of two at desks, with consoles that are made here, and what is drawn of a match that
+//! is watched.
 #![tactic(auto)]
 
 #[cfg(test)]
@@ -8,6 +10,8 @@ mod alone;
 mod beats;
 #[cfg(test)]
 mod console;
+#[cfg(test)]
+mod drawing;
 #[cfg(test)]
 mod leads;
 #[cfg(test)]

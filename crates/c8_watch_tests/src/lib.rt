@@ -1,14 +1,12 @@
 //! The tests of those who watch a match: of c8_spectator (`taking`, `changed`, `memory`), of what a peer of
 //! c8_peer says to them and hears of them (`showing`), of c8_world, in which two of them watch (`script`,
-//! `watching`, `chance`), of c8_watch (`turns`), and of what c8_net draws (`drawing`).
+//! `watching`, `chance`), and of c8_watch (`turns`).
 #![tactic(auto)]
 
 #[cfg(test)]
 mod chance;
 #[cfg(test)]
 mod changed;
-#[cfg(test)]
-mod drawing;
 #[cfg(test)]
 mod judge;
 #[cfg(test)]
