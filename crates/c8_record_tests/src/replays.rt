@@ -41,6 +41,9 @@ enum Step {
     Now(u32),
     /// A closed gate is added.
     Close,
+    /// At how many frames the last checkpoint is that a replay of the journal finds, of which form the records
+    /// are then, how many pieces are under way, and at how many frames these are.
+    Finds(u32, u32, u32, u32),
     /// With this record behind it, it is taken, and this is the last epoch.
     Good(Rec, u32),
     /// With this record behind it, it is refused: that record may not stand there.
@@ -49,7 +52,7 @@ enum Step {
     Refused(Rec, ReplayError),
 }
 
-const STEPS: [Step; 212] = [
+const STEPS: [Step; 221] = [
     Step::Case("an empty journal says nothing"),
     Step::Empty(1),
     Step::Now(0),
@@ -174,6 +177,7 @@ const STEPS: [Step; 212] = [
     Step::Case("pieces of a checkpoint in order, of what is confirmed, and their digest"),
     Step::Empty(1),
     Step::Add(Rec::HeadOfForm(1, 2)),
+    Step::Finds(0, 2, 0, 0),
     Step::Bad(Rec::Zeros(1, 0, 0, 64)),
     Step::Add(Rec::Own(1, 1, 5)),
     Step::Bad(Rec::Zeros(1, 1, 1, 64)),
@@ -183,6 +187,7 @@ const STEPS: [Step; 212] = [
     Step::Bad(Rec::Zeros(1, 1, 0, 63)),
     Step::Good(Rec::Zeros(1, 1, 0, 64), 1),
     Step::Add(Rec::State(1, 1, 0, 0x0a0b, 64)),
+    Step::Finds(0, 2, 1, 1),
     Step::Bad(Rec::Zeros(1, 1, 0, 64)),
     Step::Bad(Rec::Zeros(1, 1, 2, 64)),
     Step::Bad(Rec::Zeros(1, 2, 1, 64)),
@@ -191,6 +196,7 @@ const STEPS: [Step; 212] = [
     Step::Add(Rec::Own(1, 2, 6)),
     Step::Add(Rec::Got(2, 1, 1, 1)),
     Step::Add(Rec::Got(3, 1, 1, 1)),
+    Step::Finds(0, 2, 2, 1),
     Step::Add(Rec::Zeros(1, 1, 2, 64)),
     Step::Add(Rec::Zeros(1, 1, 3, 64)),
     Step::Add(Rec::Zeros(1, 1, 4, 64)),
@@ -229,19 +235,23 @@ const STEPS: [Step; 212] = [
     Step::Bad(Rec::Check(1, 1, 0x65407c1db0a6518e)),
     Step::Bad(Rec::State(1, 1, 35, 1, 64)),
     Step::Add(Rec::Zeros(1, 1, 35, 64)),
+    Step::Finds(0, 2, 36, 1),
     Step::Bad(Rec::Zeros(1, 1, 36, 64)),
     Step::Bad(Rec::Check(1, 1, 0xcc34da889bab835b)),
     Step::Bad(Rec::Check(1, 2, 0x65407c1db0a6518e)),
     Step::Bad(Rec::Check(2, 1, 0x65407c1db0a6518e)),
     Step::Good(Rec::Check(1, 1, 0x65407c1db0a6518e), 1),
     Step::Add(Rec::Check(1, 1, 0x65407c1db0a6518e)),
+    Step::Finds(1, 2, 0, 0),
     Step::Bad(Rec::Check(1, 1, 0x65407c1db0a6518e)),
     Step::Bad(Rec::Zeros(1, 1, 0, 64)),
     Step::Good(Rec::Zeros(1, 2, 0, 64), 1),
     Step::Add(Rec::Zeros(1, 2, 0, 64)),
+    Step::Finds(1, 2, 1, 2),
     Step::Bad(Rec::Epoch(1, 2)),
     Step::Bad(Rec::EpochOfForm(1, 2, 1)),
     Step::Add(Rec::EpochOfForm(1, 2, 2)),
+    Step::Finds(1, 2, 0, 0),
     Step::Bad(Rec::Zeros(1, 2, 1, 64)),
     Step::Good(Rec::Zeros(1, 2, 0, 64), 2),
     Step::Case("only the second form has checkpoints"),
@@ -252,7 +262,9 @@ const STEPS: [Step; 212] = [
     Step::Bad(Rec::Zeros(1, 1, 0, 64)),
     Step::Add(Rec::Epoch(1, 2)),
     Step::Bad(Rec::Zeros(1, 1, 0, 64)),
+    Step::Finds(0, 0, 0, 0),
     Step::Add(Rec::EpochOfForm(1, 3, 2)),
+    Step::Finds(0, 2, 0, 0),
     Step::Good(Rec::Zeros(1, 1, 0, 64), 3),
     Step::Case("a dropped player adds no checkpoint"),
     Step::Empty(2),
@@ -270,14 +282,24 @@ pub fn add(image: &mut Vec<u8>, game: &Game, other: &Game, rec: Rec) -> bool {
     image.push(0xa5).is_ok() && image.extend_from_slice(&body).is_ok()
 }
 
-/// What a replay of the image answers for this player, and what is known then; none where there is
-/// no such player.
+/// At how many frames the last checkpoint is, of which form the records are, how many pieces are under way,
+/// and at how many frames these are.
+pub type Found = (u32, u32, u32, u32);
+
+pub fn counts_of(checks: &Checks) -> Found {
+    let count = checks.count();
+    let frames = if count == 0 { 0 } else { checks.frames() };
+    (checks.last_frames(), checks.form(), count, frames)
+}
+
+/// What a replay of the image answers for this player, and what is known and found then; none where there
+/// is no such player.
 pub fn replayed(
     alloc: Global,
     game: &Game,
     me: u8,
     image: &[u8],
-) -> Option<(Result<u32, ReplayError>, Known)> {
+) -> Option<(Result<u32, ReplayError>, Known, Found)> {
     game.in_range();
     let Some(me) = Player::new(me) else {
         return None;
@@ -288,9 +310,9 @@ pub fn replayed(
     let Ok(known) = Known::new(alloc, game, me) else {
         return None;
     };
-    let mut known = known;
-    let answer = replay_bytes(image, game, ROOM, &mut known, &mut Checks::new());
-    Some((answer, known))
+    let (mut known, mut checks) = (known, Checks::new());
+    let answer = replay_bytes(image, game, ROOM, &mut known, &mut checks);
+    Some((answer, known, counts_of(&checks)))
 }
 
 /// A journal as the bytes of a disk: of how many records, whose and of which game.
@@ -315,10 +337,24 @@ impl Play<'_> {
     }
 
     fn answer(&self, alloc: Global) -> Option<Result<u32, ReplayError>> {
+        let (answer, _) = self.replayed(alloc)?;
+        Some(answer)
+    }
+
+    /// What is answered, and found then.
+    fn replayed(&self, alloc: Global) -> Option<(Result<u32, ReplayError>, Found)> {
         let game = if self.is_short { self.short } else { self.game };
         match replayed(alloc, game, self.me, &self.image) {
-            Some((answer, _)) => Some(answer),
+            Some((answer, _, found)) => Some((answer, found)),
             None => None,
+        }
+    }
+
+    /// Whether the journal as it stands is taken, and that is found.
+    fn finds(&self, alloc: Global, wanted: Found) -> bool {
+        match self.replayed(alloc) {
+            Some((Ok(_), found)) => found == wanted,
+            _ => false,
         }
     }
 
@@ -351,6 +387,9 @@ impl Play<'_> {
             Step::Add(rec) => self.add(rec),
             Step::Now(epoch) => self.answer(alloc) == Some(Ok(epoch)),
             Step::Close => self.image.push(0).is_ok(),
+            Step::Finds(last, form, count, frames) => {
+                self.finds(alloc, (last, form, count, frames))
+            }
             Step::Good(rec, epoch) => self.answer_with(alloc, rec) == Some(Ok(epoch)),
             Step::Bad(rec) => {
                 let count = self.count;

@@ -1,6 +1,6 @@
 //! A whole match, read again from the bytes of a disk and from a log.
 use crate::parts::{ROOM, Rec, spelled};
-use crate::replays::{add, game, replayed};
+use crate::replays::{Found, add, counts_of, game, replayed};
 use c8_check::Checks;
 use c8_disk::{Arm, DiskError, MemDisk};
 use c8_game::{Game, Player};
@@ -126,7 +126,7 @@ fn all_hold(known: &Known, rows: &[Row]) -> bool {
 fn is_known_again(alloc: Global, game: &Game, me: u8, rows: &[Row]) -> Result<bool, Fail> {
     let image = a_match(alloc, game, me)?;
     match replayed(alloc, game, me, &image) {
-        Some((Ok(2), known)) => Ok(all_hold(&known, rows)),
+        Some((Ok(2), known, found)) => Ok(all_hold(&known, rows) && found == (0, 0, 0, 0)),
         _ => Ok(false),
     }
 }
@@ -146,7 +146,7 @@ fn a_record_is_made_known(rt: HostRuntime) -> Result<(), Fail> {
     let mut image = Vec::new(rt.alloc());
     assert!(rt; add_all(&mut image, &game, &[Rec::Head(1), Rec::Got(2, 1, 7, 2)]));
     let known = match replayed(rt.alloc(), &game, 1, &image) {
-        Some((Ok(1), known)) => known,
+        Some((Ok(1), known, _)) => known,
         _ => return Err(Fail::from("the journal is refused")),
     };
     assert!(rt; holds(&known, &(2, 6, 3, None, false, false)));
@@ -187,12 +187,12 @@ fn append(log: &mut Log<MemDisk>, game: &Game, rec: Rec) -> Result<u32, LogError
     log.append(&spelled(game, game, rec))
 }
 
-/// What a replay of the log answers, and how many inputs of player 2 are then held.
+/// What a replay of the log answers, how many inputs of player 2 are then held, and what is found.
 fn replayed_log(
     alloc: Global,
     game: &Game,
     log: &mut Log<MemDisk>,
-) -> Option<(Result<u32, ReplayError>, u32)> {
+) -> Option<(Result<u32, ReplayError>, u32, Found)> {
     game.in_range();
     if log.is_down() {
         return None;
@@ -200,12 +200,16 @@ fn replayed_log(
     let Ok(known) = Known::new(alloc, game, Player { number: 1 }) else {
         return None;
     };
-    let mut known = known;
-    let answer = replay(log, game, ROOM, &mut known, &mut Checks::new());
+    let (mut known, mut checks) = (known, Checks::new());
+    let answer = replay(log, game, ROOM, &mut known, &mut checks);
     if known.players() < 2 {
         return None;
     }
-    Some((answer, known.count(Player { number: 2 })))
+    Some((
+        answer,
+        known.count(Player { number: 2 }),
+        counts_of(&checks),
+    ))
 }
 
 /// Whether a replay of the log answers this, with so many inputs of player 2 held.
@@ -216,7 +220,31 @@ fn is_replayed(
     wanted: Result<u32, ReplayError>,
     held: u32,
 ) -> bool {
-    replayed_log(alloc, game, log) == Some((wanted, held))
+    replayed_log(alloc, game, log) == Some((wanted, held, (0, 0, 0, 0)))
+}
+
+/// A journal of the second form, with three pieces of a checkpoint under way.
+const PIECES: [Rec; 5] = [
+    Rec::HeadOfForm(1, 2),
+    Rec::Own(1, 1, 5),
+    Rec::Zeros(1, 1, 0, 64),
+    Rec::Zeros(1, 1, 1, 64),
+    Rec::Zeros(1, 1, 2, 64),
+];
+
+/// The log of these pieces is replayed, and once more after the next opening.
+#[test]
+fn pieces_in_a_log_are_found(rt: HostRuntime) -> Result<(), Fail> {
+    let game = game(rt.alloc())?;
+    let mut image = Vec::new(rt.alloc());
+    let mut log = new_log(rt.alloc())?;
+    assert!(rt; add_all(&mut image, &game, &PIECES) && is_logged(&mut log, &image));
+    let answer = replayed_log(rt.alloc(), &game, &mut log);
+    assert!(rt; answer == Some((Ok(1), 1, (0, 2, 3, 1))));
+    assert!(rt; append(&mut log, &game, Rec::EpochOfForm(1, 4, 2)).is_ok());
+    let answer = replayed_log(rt.alloc(), &game, &mut log);
+    assert!(rt; answer == Some((Ok(4), 1, (0, 2, 0, 0))));
+    Ok(())
 }
 
 #[test]
