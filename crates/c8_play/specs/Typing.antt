@@ -31,7 +31,7 @@ pub record HasCome (bytes : List ℕ) (old new : Typing) : Type 0 where
   pub hold : new.hold ≡ old.hold
   pub press : (key : ℕ) → key < 16 → new.press key ≡ after_signals old.hold (told_by bytes old.read) key (old.press key)
 
--- Nothing came for a frame, so that an escape was the key of that name. The keys stay.
+-- Nothing came for a while, so that an escape was the key of that name. The keys stay.
 pub record HasPaused (old new : Typing) : Type 0 where
   pub typed : new.typed ≡ old.typed
   pub read : new.read ≡ (pause old.read).next
