@@ -1,16 +1,15 @@
 -- How what is entered is put together.
-use Rattle.std.proofs.Common.{◌≡◌, ℕ, List, [], ◌∷◌, ◌++◌, Bool, true, false, Option, Some, None, refl, sym, ap, ◌∙◌, map, append-nil, append_assoc}
+use Rattle.std.proofs.Common.{◌≡◌, ℕ, List, [], ◌∷◌, ◌++◌, Option, Some, refl, sym, ap, subst, ◌∙◌, map, append-nil, append_assoc}
 use Rattle.std.proofs.lemmas.List.Elements.{All-head, All-tail}
 use Rattle.std.specs.List.{All}
 use Rattle.c8_game.specs.Rules.{Rules}
-use Rattle.c8_game.specs.declared.row.Keys.{Keys}
 use Rattle.c8_disk.specs.declared.disk.Disk.{Ghosts}
 use Rattle.c8_peer.specs.State.{State, Call, Tick, Deliver, Say, Show, Leave, Decide, Checkpoint, Reply}
 use Rattle.c8_peer.specs.Steps.{Luck}
 use Rattle.c8_peer.specs.Peer.{PeerValue, IsAnswered, luck_of}
 use Rattle.c8_peer.specs.Runs.{Does, IsDone, IsRun}
-use Rattle.c8_live.specs.Entered.{entered_by, entered_in, HasEntered, HasHandedIn}
-use Rattle.c8_live.specs.Runs.{does, HasRunOn}
+use Rattle.c8_live.specs.Entered.{entered_by, entered_in, HasEntered}
+use Rattle.c8_live.specs.Runs.{does}
 use Rattle.c8_live.specs.Turns.{Doing, Ticks, doing, HasDone}
 use Rattle.c8_live.proofs.RunLemmas.{RunsJoin, still, joined, once}
 
@@ -61,12 +60,8 @@ module _ {D : Type 0} (disk : Ghosts D) where
         ∙ ap (λ (l : List ℕ). l ++ entered_in two.ran.calls two.ran.answers) one.entered ∙ ap (λ (l : List ℕ). words ++ l) two.entered;
   }
 
-  -- what is handed in, with calls before and after it that enter nothing
-  pub handed_through : RunsJoin → (keys : Option Keys) (taken : Bool) (first before after last : PeerValue D) → HasEntered disk [] first before → HasHandedIn disk keys taken before after
-      → HasEntered disk [] after last → HasHandedIn disk keys taken first last
-  handed_through join None true first before after last one handed two = handed
-  handed_through join None false first before after last one handed two = entered_joined join [] [] first before last one (entered_joined join [] [] before after last handed two)
-  handed_through join (Some keys) true first before after last one handed two =
-      entered_joined join [] (keys.0 ∷ []) first before last one (entered_joined join (keys.0 ∷ []) [] before after last handed two)
-  handed_through join (Some keys) false first before after last one handed two =
-      entered_joined join [] [] first before last one (entered_joined join [] [] before after last handed two)
+  -- what is entered, with calls before and after it that enter nothing
+  pub entered_through : RunsJoin → (words : List ℕ) (first before after last : PeerValue D) → HasEntered disk [] first before → HasEntered disk words before after → HasEntered disk [] after last → HasEntered disk words first last
+  entered_through join words first before after last one entered two =
+      subst (λ (all : List ℕ). HasEntered disk all first last) (append-nil words)
+      (entered_joined join [] (words ++ []) first before last one (entered_joined join words [] before after last entered two))

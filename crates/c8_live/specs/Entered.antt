@@ -1,11 +1,14 @@
 -- Which key sets a player enters: those of the ticks that its peer takes.
-use Rattle.std.specs.Prelude.{◌≡◌, ℕ, List, [], ◌∷◌, ◌++◌, Bool, true, false, Option, None, Some, Ok, if◌then◌else◌}
+use Rattle.std.specs.Prelude.{◌≡◌, ℕ, List, [], ◌∷◌, ◌++◌, Bool, true, false, Option, None, Some, Ok, Err, if◌then◌else◌}
 use Rattle.c8_game.specs.declared.row.Keys.{Keys}
-use Rattle.c8_disk.specs.declared.disk.Disk.{Ghosts}
+use Rattle.c8_disk.specs.declared.disk.Disk.{Ghosts as DiskGhosts}
+use Rattle.c8_refusals.specs.declared.error.TickError.{TickError}
 use Rattle.c8_peer.specs.State.{Call, Tick, Deliver, Say, Show, Leave, Decide, Checkpoint, Reply, Ticked}
 use Rattle.c8_peer.specs.Steps.{Luck}
-use Rattle.c8_peer.specs.Peer.{PeerValue}
+use Rattle.c8_peer.specs.Peer.{PeerValue, IsAnswered}
+use Rattle.c8_live.specs.declared.wire.Wire.{Ghosts as WireGhosts}
 use Rattle.c8_live.specs.Runs.{HasRunOn}
+use Rattle.c8_live.specs.Turns.{IsTurn}
 
 -- whether this is the answer to a tick that was taken
 abbrev pub was_taken : Option Reply → Bool
@@ -28,13 +31,24 @@ entered_in (call ∷ calls) [] = []
 entered_in (call ∷ calls) (answer ∷ answers) = entered_by call.0 answer ++ entered_in calls answers
 
 -- The peer has run on, and these are the key sets that its player entered by that, one after the other.
-pub record HasEntered {D : Type 0} (disk : Ghosts D) (words : List ℕ) (old new : PeerValue D) : Type 0 where
+pub record HasEntered {D : Type 0} (disk : DiskGhosts D) (words : List ℕ) (old new : PeerValue D) : Type 0 where
   pub ran : HasRunOn disk old new
   pub entered : entered_in ran.calls ran.answers ≡ words
 
--- A key set was handed in, or none: it was entered once, if it is said to be taken, and nothing else was.
-abbrev pub HasHandedIn : {D : Type 0} → Ghosts D → Option Keys → Bool → PeerValue D → PeerValue D → Type 0
-HasHandedIn disk None true old new = ⊥
-HasHandedIn disk None false old new = HasEntered disk [] old new
-HasHandedIn disk (Some keys) true old new = HasEntered disk (keys.0 ∷ []) old new
-HasHandedIn disk (Some keys) false old new = HasEntered disk [] old new
+-- the key set, if there is one and it was taken
+abbrev pub entered_of : Option Keys → Bool → List ℕ
+entered_of (Some keys) true = keys.0 ∷ []
+entered_of (Some keys) false = []
+entered_of None taken = []
+
+-- The peer ticks with this key set, and its answer tells whether it is taken. Where there is none it does not tick.
+abbrev pub HasTicked : {D : Type 0} → DiskGhosts D → Option Keys → Bool → PeerValue D → PeerValue D → Type 0
+HasTicked disk (Some keys) true old new = IsAnswered disk old (Tick keys.0) (Ticked (Ok tt)) new
+HasTicked disk (Some keys) false old new = (why : TickError) × IsAnswered disk old (Tick keys.0) (Ticked (Err why)) new
+HasTicked disk None true old new = ⊥
+HasTicked disk None false old new = new ≡ old
+
+-- A turn in which this key set is handed in, or none: its tick is the one with these keys.
+pub record HasHandedIn {D W : Type 0} (disk : DiskGhosts D) (wire : WireGhosts W) (keys : Option Keys) (taken : Bool) (old new : PeerValue D) (before after : W) : Type 0 where
+  pub turn : IsTurn disk wire old new before after
+  pub ticked : HasTicked disk keys taken turn.heard turn.ticked

@@ -1,5 +1,5 @@
 //! What callers may rest on that is no single call's.
-ghost use Rattle.std.specs.Prelude.{◌≡◌, ◌≢◌, ℕ, ◌+◌, List, [], ◌∷◌, ◌++◌, length, Bool, Option, Some, Ok};
+ghost use Rattle.std.specs.Prelude.{◌≡◌, ◌≢◌, ℕ, ◌+◌, List, [], ◌∷◌, ◌++◌, length, Some, Ok};
 ghost use Rattle.c8_peer.specs.Lawful.{IsCall};
 ghost use Rattle.c8_peer.specs.Peer.{PeerValue, IsAnswered, IsSaid, IsSound, known_by, begun_by};
 ghost use Rattle.c8_game.specs.Rules.{Rules};
@@ -16,7 +16,7 @@ ghost use Rattle.c8_peer.specs.State.{Call, Reply, Deliver};
 ghost use Rattle.c8_wire.specs.Packet.{Packet};
 ghost use Rattle.c8_wire.specs.Spelling.{Spells};
 ghost use Rattle.c8_live.specs.declared.error.SessionError.{SessionError};
-ghost use Rattle.c8_live.specs.Entered.{entered_by, HasEntered, HasHandedIn};
+ghost use Rattle.c8_live.specs.Entered.{entered_by, HasEntered};
 ghost use Rattle.c8_live.specs.Parts.{IsHandedOn};
 ghost use Rattle.c8_live.specs.Runs.{HasRunOn, IsEnd};
 ghost use Rattle.c8_live.specs.Turns.{Doing, Ticks, Speaks, doing, HasDone, HasHeardOf, HasHeard, HasSpoken, IsTurn, AreTurns};
@@ -63,8 +63,8 @@ pub fn doings_join<D: Disk>()
 }
 
 /// What a player enters, joined: nothing without a call (`still`), nothing by calls that are no ticks
-/// (`none`), a tick's key set if it was taken (`once`), more after it (`joined`), and a key set that is
-/// handed in between calls that enter nothing (`through`).
+/// (`none`), a tick's key set if it was taken (`once`), more after it (`joined`), and what is entered
+/// between calls that enter nothing (`through`).
 pub fn entries_join<D: Disk>()
     ensures still { (p : PeerValue D) → HasEntered D.Disk [] p p }
     ensures none { (what : Doing) (old new : PeerValue D) → what ≢ Ticks
@@ -75,9 +75,9 @@ pub fn entries_join<D: Disk>()
     ensures joined { (words others : List ℕ) (first middle last : PeerValue D)
         → HasEntered D.Disk words first middle → HasEntered D.Disk others middle last
         → HasEntered D.Disk (words ++ others) first last }
-    ensures through { (keys : Option Keys) (taken : Bool) (first before after last : PeerValue D)
-        → HasEntered D.Disk [] first before → HasHandedIn D.Disk keys taken before after
-        → HasEntered D.Disk [] after last → HasHandedIn D.Disk keys taken first last }
+    ensures through { (words : List ℕ) (first before after last : PeerValue D)
+        → HasEntered D.Disk [] first before → HasEntered D.Disk words before after
+        → HasEntered D.Disk [] after last → HasEntered D.Disk words first last }
 {
     runs_join();
     calls_are_deeds::<D>();

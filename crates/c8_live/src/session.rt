@@ -1,7 +1,8 @@
 //! The loop of one peer, turn by turn: it hears, ticks, lets go, cuts, records of a checkpoint and speaks.
 
-ghost use Rattle.std.specs.Prelude.{◌≡◌, ◌≤◌, [], ◌∷◌, IfOk, IfSome, IfErr};
-ghost use Rattle.c8_live.specs.Entered.{HasHandedIn};
+ghost use Rattle.std.specs.Prelude.{◌≡◌, ◌≤◌, ◌↔◌, [], ◌∷◌, IsTrue, IfOk, IfSome, IfErr};
+ghost use Rattle.c8_live.specs.Entered.{entered_of, HasEntered, HasTicked, HasHandedIn};
+ghost use Rattle.c8_live.specs.Over.{IsOver};
 ghost use Rattle.c8_live.specs.Runs.{HasRunOn, IsEnd};
 ghost use Rattle.c8_live.specs.Turns.{Ticks, LetsGo, Cuts, Saves, HasDone, HasDoneOnce, HasHeardOf, HasHeard, HasSpoken, most_packets, IsTurn};
 
@@ -117,7 +118,9 @@ impl<'g, D: Disk> Session<'g, D> {
     }
 
     /// Whether there is no more to do: this peer's player has been dropped, or it has rested.
-    pub fn is_over(&self) -> bool {
+    pub fn is_over(&self) -> bool
+        ensures { IsTrue result ↔ IsOver self.now }
+    {
         self.peer.dropped() || self.rested > REST
     }
 
@@ -139,12 +142,14 @@ impl<'g, D: Disk> Session<'g, D> {
         Ok(())
     }
 
-    /// One turn like that, of one who has no list of key sets: it enters this one, if there is one, and
-    /// answers whether it was taken. One is refused where the peer may run no further ahead of the others,
-    /// and after the last frame.
+    /// One turn like that, of one who has no list of key sets: its tick is the one with these keys, if there
+    /// are any, and it answers whether they were taken. They are refused where the peer may run no further
+    /// ahead of the others, and after the last frame.
     pub fn play<W: Wire>(&mut self, keys: Option<Keys>, wire: &mut W) -> Result<bool, SessionError>
         ensures turn { IsTurn D.Disk W.Wire self.old.peer self.new.peer wire.old wire.new }
-        ensures entered { IfOk result (λ taken. HasHandedIn D.Disk keys taken self.old.peer self.new.peer) }
+        ensures handed_in { IfOk result (λ taken. HasHandedIn D.Disk W.Wire keys taken
+            self.old.peer self.new.peer wire.old wire.new) }
+        ensures entered { IfOk result (λ taken. HasEntered D.Disk (entered_of keys taken) self.old.peer self.new.peer) }
         ensures ran { HasRunOn D.Disk self.old.peer self.new.peer }
         ensures end { IfErr result (IsEnd D.Disk self.old.peer self.new.peer) }
     {
@@ -243,7 +248,8 @@ impl<'g, D: Disk> Session<'g, D> {
     /// Enters a key set, if there is one, and answers whether it was taken.
     fn enter(&mut self, keys: Option<Keys>) -> Result<bool, SessionError>
         ensures ran { HasDoneOnce D.Disk Ticks self.old.peer self.new.peer }
-        ensures entered { IfOk result (λ taken. HasHandedIn D.Disk keys taken self.old.peer self.new.peer) }
+        ensures ticked { IfOk result (λ taken. HasTicked D.Disk keys taken self.old.peer self.new.peer) }
+        ensures entered { IfOk result (λ taken. HasEntered D.Disk (entered_of keys taken) self.old.peer self.new.peer) }
         ensures end { IfErr result (IsEnd D.Disk self.old.peer self.new.peer) }
     {
         entries_join::<D>();

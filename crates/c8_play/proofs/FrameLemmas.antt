@@ -11,16 +11,23 @@ use Rattle.c8_play.specs.declared.console.Console.{Ghosts as ConsoleGhosts}
 use Rattle.c8_play.specs.declared.desk.Desk.{Desk}
 use Rattle.c8_play.specs.Alone.{IsFrameAlone, AreFramesAlone}
 use Rattle.c8_play.specs.Desk.{IsSameDesk}
-use Rattle.c8_play.specs.Typing.{Typing}
-use Rattle.c8_play.specs.Frames.{IsCountedIf, IsFrame, HasWaited, AreFrames}
+use Rattle.c8_play.specs.Frames.{IsFrame, HasWaited, AreFrames}
 use Rattle.c8_play.proofs.DeskLemmas.{same_chain}
 
 module _ {D W C : Type 0} (disk : DiskGhosts D) (wire : WireGhosts W) (console : ConsoleGhosts C) where
-  pub frames_more : (n : ℕ) (p played ready q : PeerValue D) (before between due after : W) (old rested awake new : Desk C) → AreFrames disk wire console n p played before between old rested
-      → HasWaited disk wire console played ready between due rested awake → IsFrame disk wire console ready q due after awake new → AreFrames disk wire console (n + 1) p q before after old new
-  frames_more n p played ready q before between due after old rested awake new frames waited frame =
+  pub frames_more : (window patience n : ℕ) (p played ready q : PeerValue D) (before between due after : W) (old rested awake new : Desk C) (led so_far leads : ℕ)
+      → AreFrames disk wire console window patience n p played before between old rested led so_far → HasWaited disk wire console played ready between due rested awake
+      → IsFrame disk wire console window patience ready q due after awake new so_far leads → AreFrames disk wire console window patience (n + 1) p q before after old new led leads
+  frames_more window patience n p played ready q before between due after old rested awake new led so_far leads frames waited frame =
       let more : suc n ≡ n + 1 = omega arith in
-      subst (λ (m : ℕ). AreFrames disk wire console m p q before after old new) more (played, ready, between, due, rested, awake, frames, waited, frame)
+      subst (λ (m : ℕ). AreFrames disk wire console window patience m p q before after old new led leads) more (played, ready, between, due, rested, awake, so_far, frames, waited, frame)
+
+  -- a frame of the same window and patience
+  pub led_with : (p q : PeerValue D) (before after : W) (old new : Desk C) (led leads window patience same_window same_patience : ℕ) → window ≡ same_window → patience ≡ same_patience
+      → IsFrame disk wire console window patience p q before after old new led leads → IsFrame disk wire console same_window same_patience p q before after old new led leads
+  led_with p q before after old new led leads window patience same_window same_patience one two frame =
+      subst (λ (w : ℕ). IsFrame disk wire console w same_patience p q before after old new led leads) one
+      (subst (λ (n : ℕ). IsFrame disk wire console window n p q before after old new led leads) two frame)
 
   -- that what is heard joins, as c8_live says it
   abbrev pub HearingsJoin : Type 0
@@ -35,10 +42,10 @@ module _ {D W C : Type 0} (disk : DiskGhosts D) (wire : WireGhosts W) (console :
     same = same_chain console old rested new waited.same same;
   }
 
-  -- where no key set was handed in none was taken, and no frame is counted
-  pub none_counted : (taken : Bool) (p q : PeerValue D) (read : Typing) → HasHandedIn disk None taken p q → IsCountedIf taken read read
-  none_counted true p q read handed = absurd handed
-  none_counted false p q read handed = refl
+  -- where no key set was handed in none was taken
+  pub none_taken : (taken : Bool) (p q : PeerValue D) (before after : W) → HasHandedIn disk wire None taken p q before after → taken ≡ false
+  none_taken true p q before after handed = absurd handed.ticked
+  none_taken false p q before after handed = refl
 
 pub alone_more : {C : Type 0} (console : ConsoleGhosts C) (rules : Rules) (n : ℕ) (before : List Row) (row : Row) (old rested ready new : Desk C) → AreFramesAlone console rules n before old rested
     → IsSameDesk console rested ready → IsFrameAlone console rules before row ready new → AreFramesAlone console rules (n + 1) (before ++ row ∷ []) old new

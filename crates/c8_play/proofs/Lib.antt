@@ -1,3 +1,4 @@
 pub mod TypingLemmas
 pub mod DeskLemmas
 pub mod FrameLemmas
+pub mod LeadLemmas

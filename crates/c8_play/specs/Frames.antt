@@ -1,16 +1,20 @@
 -- The frames of a match at a desk: what is entered is what is held down, and what is painted is what the peer shows.
-use Rattle.std.specs.Prelude.{◌≡◌, ℕ, zero, suc, Bool, true, false, Option, None, Some}
+use Rattle.std.specs.Prelude.{◌≡◌, ◌⊎◌, ◌≤◌, ℕ, zero, suc, Bool, true, false, Option, None, Some}
 use Rattle.c8_game.specs.declared.row.Keys.{Keys}
 use Rattle.c8_disk.specs.declared.disk.Disk.{Ghosts as DiskGhosts}
 use Rattle.c8_digest.specs.Origin.{run_since}
-use Rattle.c8_known.specs.Confirmed.{best_rows}
+use Rattle.c8_known.specs.Confirmed.{best_rows, confirmed}
 use Rattle.c8_peer.specs.Peer.{PeerValue, known_by, begun_by}
 use Rattle.c8_screen.specs.Points.{Points}
 use Rattle.c8_live.specs.declared.wire.Wire.{Ghosts as WireGhosts}
 use Rattle.c8_live.specs.Entered.{HasHandedIn}
-use Rattle.c8_live.specs.Turns.{HasHeard, IsTurn}
+use Rattle.c8_live.specs.Over.{IsOver}
+use Rattle.c8_live.specs.Turns.{HasHeard}
+use Rattle.c8_live.specs.declared.session.Session.{Session}
+use Rattle.c8_net.specs.declared.arguments.Asked.{Asked}
 use Rattle.c8_play.specs.declared.console.Console.{Ghosts as ConsoleGhosts}
 use Rattle.c8_play.specs.declared.desk.Desk.{Desk}
+use Rattle.c8_play.specs.Lead.{HasLed}
 use Rattle.c8_play.specs.Typing.{Typing, HasRead, AreHeld, HasCounted}
 use Rattle.c8_play.specs.Desk.{typing, drawn_at, IsSameDesk, MayForget, HasShown}
 
@@ -18,10 +22,10 @@ use Rattle.c8_play.specs.Desk.{typing, drawn_at, IsSameDesk, MayForget, HasShown
 abbrev pub points_shown : {D : Type 0} → PeerValue D → Points
 points_shown p = (run_since p.rules (begun_by p) (best_rows (known_by p))).screen
 
--- these keys, if any, are the ones that are held
-abbrev pub AreThoseHeld : Typing → Option Keys → Type 0
-AreThoseHeld t None = Unit {0}
-AreThoseHeld t (Some keys) = AreHeld t keys.0
+-- what is handed in: these keys, or none where the tick is left out
+abbrev pub unless_left_out : Bool → Keys → Option Keys
+unless_left_out true keys = None
+unless_left_out false keys = Some keys
 
 -- a frame whose keys were taken is counted
 abbrev pub IsCountedIf : Bool → Typing → Typing → Type 0
@@ -33,36 +37,52 @@ pub record IsSeen {D C : Type 0} (console : ConsoleGhosts C) (p : PeerValue D) (
   pub typing_is : typing console new ≡ typing console old
   pub shown : HasShown console (points_shown p) old new
 
-module _ {D W C : Type 0} (disk : DiskGhosts D) (wire : WireGhosts W) (console : ConsoleGhosts C) where
-  -- What the keys have sent is read, and the peer makes one turn, in which the keys that are held are handed in, or none. Nothing is
-  -- written at the desk; what its screen shows may be forgotten, where a person wants it painted anew.
-  pub record HasPlayed (p q : PeerValue D) (before after : W) (old new : Desk C) : Type 0 where
+-- Between two frames the peer hears what comes, and nothing is read or written at the desk.
+pub record HasWaited {D W C : Type 0} (disk : DiskGhosts D) (wire : WireGhosts W) (console : ConsoleGhosts C) (p q : PeerValue D)
+    (before after : W) (old new : Desk C) : Type 0 where
+  pub packets : ℕ
+  pub heard : HasHeard disk wire packets p q before after
+  pub same : IsSameDesk console old new
+
+module _ {D W C : Type 0} (disk : DiskGhosts D) (wire : WireGhosts W) (console : ConsoleGhosts C) (window patience : ℕ) where
+  -- What the keys have sent is read, and the peer makes one turn, in which the keys that are held are handed in, unless the tick is left
+  -- out: `HasLed` tells when, by the counts before the frame and after it. Nothing is written at the desk; what its screen shows may be
+  -- forgotten, where a person wants it painted anew.
+  pub record HasPlayed (p q : PeerValue D) (before after : W) (old new : Desk C) (led leads : ℕ) : Type 0 where
     pub read : Typing
-    pub keys : Option Keys
+    pub keys : Keys
+    pub out : Bool
     pub taken : Bool
     pub reads : HasRead (typing console old) read
-    pub held : AreThoseHeld read keys
-    pub turn : IsTurn disk wire p q before after
-    pub handed_in : HasHandedIn disk keys taken p q
+    pub held : AreHeld read keys.0
+    pub lead : HasLed window patience p out taken led leads
+    pub handed_in : HasHandedIn disk wire (unless_left_out out keys) taken p q before after
     pub counted : IsCountedIf taken read (typing console new)
     pub forgets : MayForget old new
     pub drawn : drawn_at console new ≡ drawn_at console old
 
-  -- one frame: the one and then the other
-  pub record IsFrame (p q : PeerValue D) (before after : W) (old new : Desk C) : Type 0 where
+  -- one frame: its turn, and then what is seen of it
+  pub record IsFrame (p q : PeerValue D) (before after : W) (old new : Desk C) (led leads : ℕ) : Type 0 where
     pub between : Desk C
-    pub played : HasPlayed p q before after old between
+    pub played : HasPlayed p q before after old between led leads
     pub seen : IsSeen console q between new
 
-  -- Between two frames the peer hears what comes, and nothing is read or written at the desk.
-  pub record HasWaited (p q : PeerValue D) (before after : W) (old new : Desk C) : Type 0 where
-    pub packets : ℕ
-    pub heard : HasHeard disk wire packets p q before after
-    pub same : IsSameDesk console old new
-
   -- so many frames, before each of which there was a wait
-  abbrev pub AreFrames : ℕ → PeerValue D → PeerValue D → W → W → Desk C → Desk C → Type 0
-  AreFrames zero p q before after old new = (q ≡ p) × (wire.received after ≡ wire.received before) × (wire.sent after ≡ wire.sent before) × IsSameDesk console old new
-  AreFrames (suc fewer) p q before after old new =
-      (played ready : PeerValue D) × (between due : W) × (rested awake : Desk C) × AreFrames fewer p played before between old rested
-      × HasWaited played ready between due rested awake × IsFrame ready q due after awake new
+  abbrev pub AreFrames : ℕ → PeerValue D → PeerValue D → W → W → Desk C → Desk C → ℕ → ℕ → Type 0
+  AreFrames zero p q before after old new led leads =
+      (q ≡ p) × (wire.received after ≡ wire.received before) × (wire.sent after ≡ wire.sent before) × IsSameDesk console old new
+      × (leads ≡ led)
+  AreFrames (suc fewer) p q before after old new led leads =
+      (played ready : PeerValue D) × (between due : W) × (rested awake : Desk C) × (so_far : ℕ)
+      × AreFrames fewer p played before between old rested led so_far
+      × HasWaited disk wire console played ready between due rested awake × IsFrame ready q due after awake new so_far leads
+
+-- so many frames are confirmed as are enough, if any are
+abbrev pub IsEnough : {D : Type 0} → Option ℕ → PeerValue D → Type 0
+IsEnough None p = ⊥
+IsEnough (Some enough) p = enough ≤ confirmed (known_by p)
+
+-- a match ended because all its turns are made, its session is over, enough is confirmed, or nobody is there any more
+abbrev pub IsEndOfPlay : {D C : Type 0} → Asked → ℕ → Session D → Desk C → Type 0
+IsEndOfPlay asked made session desk =
+    (made ≡ asked.turns) ⊎ IsOver session ⊎ IsEnough asked.stop session.peer ⊎ (desk.has_left ≡ true)

@@ -1,5 +1,5 @@
--- When a player is ahead of the others, and for how long.
-use Rattle.std.specs.Prelude.{◌≡◌, ℕ, ◌+◌, ◌/◌, ◌<◌, ◌≤◌, None}
+-- When a player is ahead of the others, for how long, and which ticks it leaves out.
+use Rattle.std.specs.Prelude.{◌≡◌, ℕ, ◌+◌, ◌/◌, ◌<◌, ◌≤◌, ◌↔◌, Bool, false, IsTrue, None}
 use Rattle.c8_known.specs.Journal.{ticks}
 use Rattle.c8_known.specs.Known.{player_in, count_in}
 use Rattle.c8_peer.specs.Peer.{PeerValue, known_by}
@@ -23,8 +23,16 @@ pub record IsAhead {D : Type 0} (window : ℕ) (peer : PeerValue D) : Type 0 whe
   pub other : IsOther peer player
   pub beyond : count_in (known_by peer) player + window / 2 < ticks peer.state.journal
 
--- the window of the game, for how many frames on end one may be ahead, the last of which is left out, and for
--- how many one was
+-- A frame, by the count of frames on end in which the player was ahead and its keys were taken, before it and after it. The tick is left
+-- out where the player is ahead and that count, with this frame, makes up the patience. Where the keys are not taken, since the tick is
+-- left out or refused, the count begins anew: who has waited for the others does not wait once more.
+pub record HasLed {D : Type 0} (window patience : ℕ) (peer : PeerValue D) (out taken : Bool) (before after : ℕ) : Type 0 where
+  pub left_out : IsTrue out ↔ (IsAhead window peer × (patience ≤ before + 1))
+  pub counted : IsAhead window peer → IsTrue taken → after ≡ before + 1
+  pub behind : ¬ IsAhead window peer → after ≡ 0
+  pub waited : taken ≡ false → after ≡ 0
+
+-- the window of the game, for how many frames on end one may be ahead, the last of which is left out, and how many are counted so far
 abbrev pub window_of : Lead → ℕ
 window_of lead = lead.window
 

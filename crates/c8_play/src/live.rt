@@ -1,9 +1,10 @@
 //! A match that is played at a desk.
 
-ghost use Rattle.std.specs.Prelude.{◌≡◌, ◌≤◌, IfOk, IfErr};
+ghost use Rattle.std.specs.Prelude.{◌≡◌, ◌≤◌, ◌↔◌, ℕ, IsTrue, IfOk, IfErr};
 ghost use Rattle.c8_live.specs.Runs.{HasRunOn, IsEnd};
 ghost use Rattle.c8_net.specs.Match.{HasEnded};
-ghost use Rattle.c8_play.specs.Frames.{IsFrame, IsSeen, HasPlayed, HasWaited, AreFrames};
+ghost use Rattle.c8_play.specs.Frames.{IsFrame, IsSeen, HasPlayed, HasWaited, AreFrames, IsEnough, IsEndOfPlay};
+ghost use Rattle.c8_play.specs.Lead.{window_of, patience_of, frames_of};
 
 use crate::console::Console;
 use crate::desk::{Desk, Pace};
@@ -14,6 +15,7 @@ use c8_game::Game;
 use c8_live::laws::{hearings_join, peers_run_on};
 use c8_live::{Session, SessionError, Wire};
 use c8_net::{Addresses, Asked, Ended, Lateness, Performance, Udp, Unopened};
+use c8_peer::Peer;
 use std::io;
 use std::io::Write;
 use std::net::Net;
@@ -77,16 +79,17 @@ pub fn play_frames<D: Disk, W: Wire, C: Console>(
     ensures ran { HasRunOn D.Disk session.old.peer session.new.peer }
     ensures end { IfErr result (IsEnd D.Disk session.old.peer session.new.peer) }
     ensures few { IfOk result (λ made. made ≤ asked.now.turns) }
-    ensures frames { IfOk result (λ made. AreFrames D.Disk W.Wire C.Console made
-        session.old.peer session.new.peer wire.old wire.new desk.old desk.new) }
+    ensures frames { IfOk result (λ made. (leads : ℕ)
+        × AreFrames D.Disk W.Wire C.Console (window_of lead) (patience_of lead) made session.old.peer session.new.peer
+        wire.old wire.new desk.old desk.new (frames_of lead) leads) }
+    ensures ended { IfOk result (λ made. IsEndOfPlay asked.now made session.new desk.new) }
 {
     peers_run_on::<D>();
     let mut lead = lead;
     let mut status = StatusRow::new(desk.now(), asked.player, session.peer().players());
     let mut made: u64 = 0;
     for turn in 0..asked.turns {
-        let is_enough = is_enough(session.peer().confirmed(), asked.stop);
-        if session.is_over() || is_enough || desk.has_left() {
+        if session.is_over() || is_enough(session.peer(), asked.stop) || desk.has_left() {
             break;
         }
         wait(session, wire, desk, &status)?;
@@ -96,10 +99,12 @@ pub fn play_frames<D: Disk, W: Wire, C: Console>(
     Ok(made)
 }
 
-/// Whether so many frames are enough.
-fn is_enough(confirmed: u32, enough: Option<u64>) -> bool {
+/// Whether as many frames are confirmed as are enough.
+fn is_enough<D: Disk>(peer: &Peer<'_, D>, enough: Option<u64>) -> bool
+    ensures { IsTrue result ↔ IsEnough enough peer.now }
+{
     match enough {
-        Some(enough) => u64::from(confirmed) >= enough,
+        Some(enough) => u64::from(peer.confirmed()) >= enough,
         None => false,
     }
 }
@@ -139,8 +144,10 @@ fn play_frame<D: Disk, W: Wire, C: Console>(
 ) -> Result<(), SessionError>
     ensures ran { HasRunOn D.Disk session.old.peer session.new.peer }
     ensures end { IfErr result (IsEnd D.Disk session.old.peer session.new.peer) }
-    ensures frame { IfOk result (λ _. IsFrame D.Disk W.Wire C.Console
-        session.old.peer session.new.peer wire.old wire.new desk.old desk.new) }
+    ensures frame { IfOk result (λ _. IsFrame D.Disk W.Wire C.Console (window_of lead.old) (patience_of lead.old)
+        session.old.peer session.new.peer wire.old wire.new desk.old desk.new (frames_of lead.old) (frames_of lead.new)) }
+    ensures window { window_of lead.new ≡ window_of lead.old }
+    ensures patience { patience_of lead.new ≡ patience_of lead.old }
 {
     let entry = enter(session, wire, desk, lead)?;
     status.note(session);
@@ -168,8 +175,10 @@ fn enter<D: Disk, W: Wire, C: Console>(
 ) -> Result<Entry, SessionError>
     ensures ran { HasRunOn D.Disk session.old.peer session.new.peer }
     ensures end { IfErr result (IsEnd D.Disk session.old.peer session.new.peer) }
-    ensures played { IfOk result (λ _. HasPlayed D.Disk W.Wire C.Console
-        session.old.peer session.new.peer wire.old wire.new desk.old desk.new) }
+    ensures played { IfOk result (λ _. HasPlayed D.Disk W.Wire C.Console (window_of lead.old) (patience_of lead.old)
+        session.old.peer session.new.peer wire.old wire.new desk.old desk.new (frames_of lead.old) (frames_of lead.new)) }
+    ensures window { window_of lead.new ≡ window_of lead.old }
+    ensures patience { patience_of lead.new ≡ patience_of lead.old }
 {
     let keys = desk.begin();
     if lead.leaves_out(session.peer()) {

@@ -5,6 +5,7 @@ ghost use Rattle.c8_disk.specs.declared.error.DiskError.{DiskError};
 ghost use Rattle.c8_wire.specs.Packet.{IsPacket};
 ghost use Rattle.c8_wire.specs.Lent.{packet_of};
 ghost use Rattle.c8_wire.specs.Spelling.{Spells};
+ghost use Rattle.c8_peer.specs.Peer.{IsAnswered};
 ghost use Rattle.c8_peer.specs.State.{Tick, Ticked};
 ghost use Rattle.c8_live.specs.Entered.{entered_by, HasEntered};
 ghost use Rattle.c8_live.specs.Runs.{IsStopped};
@@ -37,6 +38,7 @@ impl<'g, D: Disk> Session<'g, D> {
     /// The peer enters a key set.
     pub(super) fn peer_ticks(&mut self, keys: Keys) -> Result<(), TickError>
         ensures ran { HasDoneOnce D.Disk Ticks self.old.peer self.new.peer }
+        ensures answered { IsAnswered D.Disk self.old.peer (Tick keys.0) (Ticked result) self.new.peer }
         ensures entered { HasEntered D.Disk (entered_by (Tick keys.0) (Some (Ticked result))) self.old.peer self.new.peer }
         ensures stopped { (why : DiskError) → result ≡ Err (TickError.Disk why)
             → IsStopped D.Disk self.old.peer self.new.peer why }

@@ -1,4 +1,4 @@
-use Rattle.c8_live.proofs.EnteredLemmas.{entered_still, entered_other, entered_once, entered_joined, handed_through}
+use Rattle.c8_live.proofs.EnteredLemmas.{entered_still, entered_other, entered_once, entered_joined, entered_through}
 use Rattle.c8_live.proofs.laws.entries_join.Goals as goal
 
 pub returns-clause-still : goal.returns-clause-still
@@ -14,4 +14,4 @@ pub returns-clause-joined : goal.returns-clause-joined
 returns-clause-joined g c words others first middle last one two = entered_joined g.D.Disk c.runs_join.ensures.run words others first middle last one two
 
 pub returns-clause-through : goal.returns-clause-through
-returns-clause-through g c keys taken first before after last one handed two = handed_through g.D.Disk c.runs_join.ensures.run keys taken first before after last one handed two
+returns-clause-through g c words first before after last one handed two = entered_through g.D.Disk c.runs_join.ensures.run words first before after last one handed two

@@ -1,6 +1,7 @@
 use Rattle.std.specs.Prelude.{◌≡◌, ◌≤◌}
 use Rattle.c8_live.specs.Runs.{HasRunOn}
 use Rattle.c8_play.specs.Frames.{AreFrames}
+use Rattle.c8_play.specs.Lead.{window_of, patience_of, frames_of}
 use Rattle.c8_play.proofs.live.play_frames.Given as goal
 
 abbrev pub invariant-loop-turn : goal.invariant-loop-turn
@@ -8,5 +9,8 @@ invariant-loop-turn g l = record {
   ran : HasRunOn g.D.Disk l.initial.session.peer l.session.peer;
   few : l.made ≤ l.asked.turns;
   counted : l.made ≡ l.turn;
-  frames : AreFrames g.D.Disk g.W.Wire g.C.Console l.made l.initial.session.peer l.session.peer l.initial.wire l.wire l.fn.desk l.desk;
+  window : window_of l.lead ≡ window_of l.initial.lead;
+  patience : patience_of l.lead ≡ patience_of l.initial.lead;
+  frames : AreFrames g.D.Disk g.W.Wire g.C.Console (window_of l.initial.lead) (patience_of l.initial.lead) l.made l.initial.session.peer l.session.peer l.initial.wire l.wire l.fn.desk l.desk
+      (frames_of l.initial.lead) (frames_of l.lead);
 }
