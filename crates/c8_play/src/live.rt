@@ -47,8 +47,7 @@ impl<C: Console + Drop> Performance for Live<C> {
         let mut desk = Desk::new(console, pace);
         desk.wake_at(&mut wire);
         let mut session = session;
-        let lead = Lead::new(game.window(), pace.rate);
-        let turns = play_frames(&mut session, &mut wire, &mut desk, lead, asked);
+        let turns = play_frames(&mut session, &mut wire, &mut desk, game, pace.rate, asked);
         let lateness = desk.end();
         if asked.progress {
             let _ = tell_lateness(progress, &lateness);
@@ -66,26 +65,28 @@ pub(crate) fn tell_lateness<E: Write>(out: &mut E, lateness: &Lateness) -> io::R
     )
 }
 
-/// Plays a session at a desk, a turn a frame, until it is over, its turns are made, as many frames are
-/// confirmed as are enough, or the person wants to end. Between two frames the peer listens. Answers how many
-/// turns were made. The error is that of the disk or of the wire.
+/// Plays a session of a game at a desk, a turn a frame, until it is over, its turns are made, as many frames
+/// are confirmed as are enough, or the person wants to end. Between two frames the peer listens. A player who
+/// is ahead for so many frames as make up a second, `rate`, leaves out a tick. Answers how many turns were
+/// made. The error is that of the disk or of the wire.
 pub fn play_frames<D: Disk, W: Wire, C: Console>(
     session: &mut Session<'_, D>,
     wire: &mut W,
     desk: &mut Desk<C>,
-    lead: Lead,
+    game: &Game,
+    rate: u8,
     asked: &Asked<'_, '_>,
 ) -> Result<u64, SessionError>
     ensures ran { HasRunOn D.Disk session.old.peer session.new.peer }
     ensures end { IfErr result (IsEnd D.Disk session.old.peer session.new.peer) }
     ensures few { IfOk result (λ made. made ≤ asked.now.turns) }
     ensures frames { IfOk result (λ made. (leads : ℕ)
-        × AreFrames D.Disk W.Wire C.Console (window_of lead) (patience_of lead) made session.old.peer session.new.peer
-        wire.old wire.new desk.old desk.new (frames_of lead) leads) }
+        × AreFrames D.Disk W.Wire C.Console game.now.window rate made session.old.peer session.new.peer
+        wire.old wire.new desk.old desk.new 0 leads) }
     ensures ended { IfOk result (λ made. IsEndOfPlay asked.now made session.new desk.new) }
 {
     peers_run_on::<D>();
-    let mut lead = lead;
+    let mut lead = Lead::new(game.window(), rate);
     let mut status = StatusRow::new(desk.now(), asked.player, session.peer().players());
     let mut made: u64 = 0;
     for turn in 0..asked.turns {

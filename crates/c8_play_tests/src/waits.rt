@@ -9,7 +9,7 @@ use c8_game::{Game, Player};
 use c8_live::{LONGEST_PACKET, Session, Traffic, Wire, WireFailed};
 use c8_net::Asked;
 use c8_peer::Peer;
-use c8_play::{Desk, Lead, Pace, play_frames};
+use c8_play::{Desk, Pace, play_frames};
 use c8_wire::Seat;
 use std::alloc::Global;
 use std::test::Fail;
@@ -86,8 +86,8 @@ fn played(
         traffic: Traffic::new(),
     };
     let mut desk = Desk::new(Timed::new(&[], log), Pace { rate, hold: 9 });
-    let lead = Lead::new(game.window(), rate);
-    let made = play_frames(&mut session, &mut wire, &mut desk, lead, &asked_for(turns));
+    let asked = asked_for(turns);
+    let made = play_frames(&mut session, &mut wire, &mut desk, game, rate, &asked);
     let _lateness = desk.end();
     match made {
         Ok(made) => Ok((made, session.peer().now())),

@@ -30,8 +30,8 @@ returns-in_err-play_frame-clause-end g c =
 pub loop-turn-preserved : goal.loop-turn-preserved
 loop-turn-preserved g c =
     let first = c.args.session.now.peer in
-    let window = window_of c.args.lead in
-    let patience = patience_of c.args.lead in
+    let window = c.args.game.now.window in
+    let patience = c.args.rate in
     let frame = led_with g.D.Disk g.W.Wire g.C.Console c.wait.new.session.peer c.play_frame.new.session.peer c.wait.new.wire c.play_frame.new.wire c.wait.new.desk c.play_frame.new.desk
     (frames_of c.loop-turn.lead) (frames_of c.play_frame.new.lead) (window_of c.loop-turn.lead) (patience_of c.loop-turn.lead) window patience c.loop-turn.invariant.window c.loop-turn.invariant.patience c.in_ok-play_frame.ensures.frame in
     record {
@@ -43,7 +43,7 @@ loop-turn-preserved g c =
       window = c.play_frame.ensures.window ∙ c.loop-turn.invariant.window;
       patience = c.play_frame.ensures.patience ∙ c.loop-turn.invariant.patience;
       frames = subst (λ (n : ℕ). AreFrames g.D.Disk g.W.Wire g.C.Console window patience n first c.play_frame.new.session.peer c.args.wire.now c.play_frame.new.wire c.args.desk.now c.play_frame.new.desk
-          (frames_of c.args.lead) (frames_of c.play_frame.new.lead)) (ap (λ (n : ℕ). n + 1) c.loop-turn.invariant.counted)
+          0 (frames_of c.play_frame.new.lead)) (ap (λ (n : ℕ). n + 1) c.loop-turn.invariant.counted)
           (frames_more g.D.Disk g.W.Wire g.C.Console window patience c.loop-turn.made first c.loop-turn.session.peer c.wait.new.session.peer c.play_frame.new.session.peer c.args.wire.now c.loop-turn.wire c.wait.new.wire c.play_frame.new.wire
-          c.args.desk.now c.loop-turn.desk c.wait.new.desk c.play_frame.new.desk (frames_of c.args.lead) (frames_of c.loop-turn.lead) (frames_of c.play_frame.new.lead) c.loop-turn.invariant.frames c.in_ok-wait.ensures.waited frame);
+          c.args.desk.now c.loop-turn.desk c.wait.new.desk c.play_frame.new.desk 0 (frames_of c.loop-turn.lead) (frames_of c.play_frame.new.lead) c.loop-turn.invariant.frames c.in_ok-wait.ensures.waited frame);
     }

@@ -9,8 +9,7 @@ invariant-loop-turn g l = record {
   ran : HasRunOn g.D.Disk l.initial.session.peer l.session.peer;
   few : l.made ≤ l.asked.turns;
   counted : l.made ≡ l.turn;
-  window : window_of l.lead ≡ window_of l.initial.lead;
-  patience : patience_of l.lead ≡ patience_of l.initial.lead;
-  frames : AreFrames g.D.Disk g.W.Wire g.C.Console (window_of l.initial.lead) (patience_of l.initial.lead) l.made l.initial.session.peer l.session.peer l.initial.wire l.wire l.fn.desk l.desk
-      (frames_of l.initial.lead) (frames_of l.lead);
+  window : window_of l.lead ≡ l.game.window;
+  patience : patience_of l.lead ≡ l.rate;
+  frames : AreFrames g.D.Disk g.W.Wire g.C.Console l.game.window l.rate l.made l.initial.session.peer l.session.peer l.initial.wire l.wire l.fn.desk l.desk 0 (frames_of l.lead);
 }
