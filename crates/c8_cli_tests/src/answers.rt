@@ -6,6 +6,7 @@ use c8_peer::{
     Check, CheckError, DecideError, Heard, LeaveError, OpenError, Refused, TickError, Unsayable,
 };
 use c8_script::{Watched, write_answers, write_ends};
+use c8_spectator::{NotTaken, Taken, WatchError};
 use c8_wire::WireError;
 use c8_world::{Answer, Counts, Ends, Posted, Tally};
 use std::alloc::Global;
@@ -181,6 +182,59 @@ const TOLD_DELIVERIES: &str = "1 no wire 1 Short
 27 no deliver 18 OtherWire
 ";
 
+/// What becomes of a watcher, and each refusal of what comes to it.
+const WATCHED: [Answer; 20] = [
+    Answer::Watched(Ok(Taken::Kept)),
+    Answer::Watched(Ok(Taken::Nothing)),
+    Answer::Spoken(Posted {
+        number: 41,
+        length: 28,
+    }),
+    Answer::Anew,
+    Answer::Watched(Err(NotTaken::Watch(WatchError::Session))),
+    Answer::Watched(Err(NotTaken::Watch(WatchError::NotMine))),
+    Answer::Watched(Err(NotTaken::Watch(WatchError::Gap))),
+    Answer::Watched(Err(NotTaken::Watch(WatchError::Differs))),
+    Answer::Watched(Err(NotTaken::Watch(WatchError::Full))),
+    Answer::Watched(Err(NotTaken::Watch(WatchError::Absent))),
+    Answer::Watched(Err(NotTaken::Wire(WireError::Short))),
+    Answer::Watched(Err(NotTaken::Wire(WireError::Magic))),
+    Answer::Watched(Err(NotTaken::Wire(WireError::Version))),
+    Answer::Watched(Err(NotTaken::Wire(WireError::Kind))),
+    Answer::Watched(Err(NotTaken::Wire(WireError::Length))),
+    Answer::Watched(Err(NotTaken::Wire(WireError::Player))),
+    Answer::Watched(Err(NotTaken::Wire(WireError::Reserved))),
+    Answer::Watched(Err(NotTaken::Wire(WireError::Count))),
+    Answer::Watched(Err(NotTaken::Wire(WireError::Beyond))),
+    Answer::Watched(Err(NotTaken::Wire(WireError::Pairs))),
+];
+
+fn watched() -> &'static [Answer] {
+    &WATCHED
+}
+
+const TOLD_WATCHED: &str = "1 kept
+2 nothing
+3 datagram 41 length 28
+4 fresh
+5 no watch 1 Session
+6 no watch 2 NotMine
+7 no watch 3 Gap
+8 no watch 4 Differs
+9 no watch 5 Full
+10 no watch 6 Absent
+11 no wire 1 Short
+12 no wire 2 Magic
+13 no wire 3 Version
+14 no wire 4 Kind
+15 no wire 5 Length
+16 no wire 6 Player
+17 no wire 7 Reserved
+18 no wire 8 Count
+19 no wire 9 Beyond
+20 no wire 10 Pairs
+";
+
 fn told(alloc: Global, answers: &[Answer]) -> Result<Vec<u8>, Fail> {
     let mut out = Vec::new(alloc);
     write_answers(&mut out, answers)?;
@@ -192,6 +246,7 @@ fn each_answer_has_its_line(rt: HostRuntime) -> Result<(), Fail> {
     assert!(rt; told(rt.alloc(), answers())?.as_slice() == TOLD_ANSWERS.as_bytes());
     assert!(rt; told(rt.alloc(), refusals())?.as_slice() == TOLD_REFUSALS.as_bytes());
     assert!(rt; told(rt.alloc(), deliveries())?.as_slice() == TOLD_DELIVERIES.as_bytes());
+    assert!(rt; told(rt.alloc(), watched())?.as_slice() == TOLD_WATCHED.as_bytes());
     Ok(())
 }
 
