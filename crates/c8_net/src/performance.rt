@@ -38,8 +38,8 @@ impl<'g, D: Disk> Ended<'g, D> {
 /// What makes the turns of a session in the caller's thread, as from a keyboard, once a frame. Whatever it
 /// does, the session's peer only runs on, each of its calls one step of the definitions.
 pub trait Performance {
-    /// Opens the way to the others, and makes turns until the session is over or no more are wanted. The
-    /// error comes before the first turn.
+    /// Opens the way to the others, and makes turns of a session of this game until it is over or no more are
+    /// wanted. The error comes before the first turn.
     fn perform<'g, R: Net, D: Disk + Drop, E: Write>(
         self,
         rt: &R,
@@ -49,6 +49,7 @@ pub trait Performance {
         session: Session<'g, D>,
         progress: &mut E,
     ) -> Result<Ended<'g, D>, Unopened>
+        requires { session.peer.rules ≡ game.now }
         ensures { IfOk result (λ ended.
             HasEnded D.Disk session.entry.peer ended.session.peer ended.turns) };
 }

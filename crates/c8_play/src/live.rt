@@ -65,10 +65,10 @@ pub(crate) fn tell_lateness<E: Write>(out: &mut E, lateness: &Lateness) -> io::R
     )
 }
 
-/// Plays a session of a game at a desk, a turn a frame, until it is over, its turns are made, as many frames
-/// are confirmed as are enough, or the person wants to end. Between two frames the peer listens. A player who
-/// is ahead for so many frames as make up a second, `rate`, leaves out a tick. Answers how many turns were
-/// made. The error is that of the disk or of the wire.
+/// Plays a session of this game at a desk, a turn a frame, until it is over, its turns are made, as many
+/// frames are confirmed as are enough, or the person wants to end. Between two frames the peer listens. A
+/// player who is ahead for so many frames as make up a second, `rate`, leaves out a tick. Answers how many
+/// turns were made. The error is that of the disk or of the wire.
 pub fn play_frames<D: Disk, W: Wire, C: Console>(
     session: &mut Session<'_, D>,
     wire: &mut W,
@@ -77,11 +77,12 @@ pub fn play_frames<D: Disk, W: Wire, C: Console>(
     rate: u8,
     asked: &Asked<'_, '_>,
 ) -> Result<u64, SessionError>
+    requires { session.old.peer.rules ≡ game.now }
     ensures ran { HasRunOn D.Disk session.old.peer session.new.peer }
     ensures end { IfErr result (IsEnd D.Disk session.old.peer session.new.peer) }
     ensures few { IfOk result (λ made. made ≤ asked.now.turns) }
     ensures frames { IfOk result (λ made. (leads : ℕ)
-        × AreFrames D.Disk W.Wire C.Console game.now.window rate made session.old.peer session.new.peer
+        × AreFrames D.Disk W.Wire C.Console session.old.peer.rules.window rate made session.old.peer session.new.peer
         wire.old wire.new desk.old desk.new 0 leads) }
     ensures ended { IfOk result (λ made. IsEndOfPlay asked.now made session.new desk.new) }
 {

@@ -30,7 +30,7 @@ returns-in_err-play_frame-clause-end g c =
 pub loop-turn-preserved : goal.loop-turn-preserved
 loop-turn-preserved g c =
     let first = c.args.session.now.peer in
-    let window = c.args.game.now.window in
+    let window = c.args.session.now.peer.rules.window in
     let patience = c.args.rate in
     let frame = led_with g.D.Disk g.W.Wire g.C.Console c.wait.new.session.peer c.play_frame.new.session.peer c.wait.new.wire c.play_frame.new.wire c.wait.new.desk c.play_frame.new.desk
     (frames_of c.loop-turn.lead) (frames_of c.play_frame.new.lead) (window_of c.loop-turn.lead) (patience_of c.loop-turn.lead) window patience c.loop-turn.invariant.window c.loop-turn.invariant.patience c.in_ok-play_frame.ensures.frame in
