@@ -37,7 +37,7 @@ const PAIR: &[u8] = b"C8\x02\x03\x01\x02\x03\x04\x05\x06\x07\x08\x02\x01\0\x19\
     \0\0\0\x09\0\0\0\x0a\0\0\0\x0b\0\0\0\x20\x11\x12\x13\x14\x15\x16\x17\x18\
     \0\0\0\0\0\x03\x03\0\x20";
 
-/// Whether so much of it is lent.
+/// Whether this part of it is lent.
 fn lends_of_the_pair(known: &mut Known, wanted: Part<'_>) -> bool {
     match hear_data(known, TWO, PAIR) {
         Some(Ok(lent)) => lent == wanted,

@@ -58,7 +58,7 @@ fn tick(known: &mut Known, roll: &mut Roll<'_>) -> bool {
     true
 }
 
-/// Whether each of so many ticks runs one frame.
+/// Makes ticks. Whether each of them runs one frame.
 fn ticks(known: &mut Known, roll: &mut Roll<'_>, many: u32) -> bool {
     for _ in 0..many {
         if !tick(known, roll) || roll.last_run() != 1 {
@@ -68,7 +68,7 @@ fn ticks(known: &mut Known, roll: &mut Roll<'_>, many: u32) -> bool {
     true
 }
 
-/// What the roll answers to all that is known now; none where there is a tick that it has not seen.
+/// What the roll answers to all that is known now. None where it has not seen the last tick.
 fn settle(known: &Known, roll: &mut Roll<'_>) -> Option<Option<u32>> {
     if known.ticks() != roll.ticks() {
         return None;
@@ -76,7 +76,7 @@ fn settle(known: &Known, roll: &mut Roll<'_>) -> Option<Option<u32>> {
     Some(roll.settle(known))
 }
 
-/// Inputs of player 2 come. What the roll answers to them; none where they are not taken.
+/// Inputs of player 2 come. What the roll answers to them, and none where they are refused.
 fn hear(known: &mut Known, roll: &mut Roll<'_>, bytes: &[u8]) -> Option<Option<u32>> {
     let two = Player { number: 2 };
     if !come(known, two, bytes) {
@@ -139,7 +139,8 @@ fn is_guessed(known: &mut Known, roll: &mut Roll<'_>, row: &Guess) -> bool {
     ticks(known, roll, 8) && counts(roll) == (0, 1, 8) && look(roll.shown()) == row.guessed
 }
 
-/// Whether the inputs that come make of it what a row says, which is then certain.
+/// Whether the roll answers the inputs that come and shows what a row says, and whether all of it is
+/// then confirmed.
 fn is_taken_back(game: &Game, known: &mut Known, roll: &mut Roll<'_>, row: &Guess) -> bool {
     hear_drawn(known, roll, row.heard) == Some(Some(row.oldest))
         && counts(roll) == (8, row.ran, 8)
