@@ -1,4 +1,5 @@
-//! The tests of c8_known, c8_window, c8_round and c8_roll.
+//! The tests of c8_known, c8_window and c8_roll: the worked rows, and what no contract says. What
+//! c8_round answers stands in rows of c8_peer's tests and in scripts.
 #![tactic(auto)]
 
 #[cfg(test)]
@@ -6,10 +7,4 @@ mod calls;
 #[cfg(test)]
 mod known;
 #[cfg(test)]
-mod pairs;
-#[cfg(test)]
 mod roll;
-#[cfg(test)]
-mod round;
-#[cfg(test)]
-mod window;

@@ -1,7 +1,6 @@
-//! The tests of c8_pairs, c8_wire and c8_hand.
-//!
-//! Tables are lent by functions that say nothing of them: a proof is then of any rows. A row has
-//! its bytes as hexadecimal text.
+//! The tests of c8_pairs, c8_wire and c8_hand: the worked rows that no case has, and what no contract
+//! says. What a datagram says as people read it, and what bytes are none, stands in cases of
+//! c8play_cases.
 #![tactic(auto)]
 
 #[cfg(test)]
@@ -9,18 +8,4 @@ mod datagrams;
 #[cfg(test)]
 mod hand;
 #[cfg(test)]
-mod judge;
-#[cfg(test)]
-mod pairs;
-#[cfg(test)]
-mod refusals;
-#[cfg(test)]
-mod runs;
-#[cfg(test)]
-mod shown;
-#[cfg(test)]
 mod texts;
-#[cfg(test)]
-mod watching;
-#[cfg(test)]
-mod writing;
