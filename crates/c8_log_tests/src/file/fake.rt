@@ -33,7 +33,7 @@ impl Content {
 }
 
 /// What becomes of one call.
-#[derive(Clone, Copy, PartialEq, Eq)]
+#[derive(Clone, Copy)]
 pub enum Fault {
     /// It fails, with this error of the system.
     Error(i32),
@@ -85,12 +85,7 @@ impl FakeSystem {
         self.is_short.set(false);
     }
 
-    /// Lets so many more calls pass, and fails the next one.
-    pub fn fail_after(&self, calls: u32) {
-        self.fail_with(calls, Fault::Error(libc::EIO));
-    }
-
-    /// The same with what becomes of that call.
+    /// Lets so many more calls pass, and has this become of the next one.
     pub fn fail_with(&self, calls: u32, fault: Fault) {
         self.failing.set(Some(self.calls.get().wrapping_add(calls)));
         self.fault.set(fault);
