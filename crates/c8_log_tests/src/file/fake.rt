@@ -85,7 +85,7 @@ impl FakeSystem {
         self.is_short.set(false);
     }
 
-    /// Lets so many more calls pass, and has this become of the next one.
+    /// Lets this many more calls pass, and has this fault in the next one.
     pub fn fail_with(&self, calls: u32, fault: Fault) {
         self.failing.set(Some(self.calls.get().wrapping_add(calls)));
         self.fault.set(fault);
