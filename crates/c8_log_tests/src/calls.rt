@@ -1,6 +1,6 @@
 //! The calls of a disk as data. Each call stands here once, in a function without a contract, so a
 //! test that makes many of them stays cheap to prove.
-use c8_disk::{Arm, Disk, DiskError, LONGEST_WRITE};
+use c8_disk::{Disk, DiskError, LONGEST_WRITE};
 
 /// A call of a disk, and its answer: the refusal, if any.
 #[derive(Clone, Copy)]
@@ -12,12 +12,6 @@ pub enum Call {
     /// Lends these bytes in place, and no others.
     Held(&'static str),
     Sync(Option<DiskError>),
-    Len(u32),
-    Capacity(u32),
-    /// Tells the disk to fail after this many more calls.
-    Stop(u64),
-    /// Tells the disk not to fail.
-    Off,
 }
 
 /// Whether a write at a place within the disk's bytes has this answer.
@@ -56,11 +50,6 @@ pub fn syncs<D: Disk>(disk: &mut D, wanted: Option<DiskError>) -> bool {
     disk.sync().err() == wanted
 }
 
-fn arm<D: Disk>(disk: &mut D, arm: Arm) -> bool {
-    disk.arm(arm);
-    true
-}
-
 /// Whether a call has the answer that it names.
 pub fn holds<D: Disk>(disk: &mut D, call: Call) -> bool {
     match call {
@@ -68,9 +57,5 @@ pub fn holds<D: Disk>(disk: &mut D, call: Call) -> bool {
         Call::Read(at, text, wanted) => reads(disk, at, text.as_bytes(), wanted),
         Call::Held(text) => lends(disk, text.as_bytes()),
         Call::Sync(wanted) => syncs(disk, wanted),
-        Call::Len(length) => disk.len() == length,
-        Call::Capacity(capacity) => disk.capacity() == capacity,
-        Call::Stop(calls) => arm(disk, Arm::Stop(calls)),
-        Call::Off => arm(disk, Arm::Off),
     }
 }

@@ -6,7 +6,7 @@ mod system;
 use crate::calls::{self, Call};
 use crate::texts::shows;
 use c8_disk::{DiskError, FileDisk, FileError};
-use fake::{Content, FakeFile, FakeSystem, Fault, ROOM};
+use fake::{FakeFile, FakeSystem, Fault, ROOM};
 use std::alloc::Global;
 
 /// What is done, and its answer.
@@ -20,12 +20,8 @@ enum Step {
     Reads(&'static str),
     /// After this many more calls of the system the next one has this fault.
     Fail(u32, Fault),
-    /// Each read and each write moves one byte.
-    Short,
     /// The power goes.
     LosePower,
-    /// The system's copy of the file becomes this.
-    Copy(&'static str),
     /// The system has had this many calls.
     Calls(u32),
     IsDown(bool),
@@ -40,12 +36,12 @@ const INTERRUPTED: Fault = Fault::Error(libc::EINTR);
 
 /// The calls of an opening, from 0: lock, length, sync, copies dropped, folder synced, read. A write
 /// and a sync make one each.
-static STEPS: [Step; 174] = [
+static STEPS: [Step; 157] = [
     Step::Case("an opening makes six calls", "abcde"),
     Step::Open(16, None),
     Step::Calls(6),
     Step::IsDown(false),
-    Step::Do(Call::Len(5)),
+    Step::Do(Call::Held("abcde")),
     Step::Case("each call of an opening may fail: the first", "abcde"),
     Step::Fail(0, EIO),
     Step::Open(16, Some(FileError::Failed)),
@@ -104,7 +100,7 @@ static STEPS: [Step; 174] = [
     Step::Reads("aXcde"),
     Step::Case("what was synced is durable and so is the name", ""),
     Step::Open(16, None),
-    Step::Do(Call::Len(0)),
+    Step::Do(Call::Held("")),
     Step::Do(Call::Write(0, "abcde", None)),
     Step::Do(Call::Sync(None)),
     Step::LosePower,
@@ -120,7 +116,7 @@ static STEPS: [Step; 174] = [
     Step::Do(Call::Read(1, "XYd", None)),
     Step::Calls(8),
     Step::IsDown(false),
-    // A disk that failed is down until it is opened anew, and asks nothing of the system.
+    // A disk that failed is down until the next opening, and asks nothing of the system.
     Step::Case("a write failed", "abcde"),
     Step::Open(16, None),
     Step::Do(Call::Read(1, "bcd", None)),
@@ -129,7 +125,6 @@ static STEPS: [Step; 174] = [
     Step::Fail(0, EIO),
     Step::Do(Call::Write(1, "XY", FAILED)),
     Step::Calls(9),
-    Step::Do(Call::Off),
     Step::IsDown(true),
     Step::Do(Call::Held("aXYde")),
     Step::Do(Call::Read(1, "XYd", FAILED)),
@@ -148,7 +143,6 @@ static STEPS: [Step; 174] = [
     Step::Fail(0, EIO),
     Step::Do(Call::Sync(FAILED)),
     Step::Calls(9),
-    Step::Do(Call::Off),
     Step::IsDown(true),
     Step::Do(Call::Read(1, "XYd", FAILED)),
     Step::IsDown(true),
@@ -158,13 +152,6 @@ static STEPS: [Step; 174] = [
     Step::Calls(9),
     Step::Open(16, None),
     Step::IsDown(false),
-    Step::Case("short reads and writes go on", ""),
-    Step::Short,
-    Step::Open(16, None),
-    Step::Do(Call::Write(0, "abcde", None)),
-    Step::Do(Call::Sync(None)),
-    Step::Do(Call::Read(1, "bcd", None)),
-    Step::Reads("abcde"),
     // An interrupted read or write is made again, and so is the rest of a short one, unless it moved nothing.
     Step::Case("an interrupted read goes on", "abcde"),
     Step::Fail(5, INTERRUPTED),
@@ -210,18 +197,10 @@ static STEPS: [Step; 174] = [
     Step::Fail(0, Fault::Error(libc::ENOSPC)),
     Step::Do(Call::Write(1, "XY", FAILED)),
     Step::IsDown(true),
-    Step::Case("what another hand makes of the file is not read", "abcde"),
-    Step::Open(16, None),
-    Step::Copy("abX"),
-    Step::Do(Call::Len(5)),
-    Step::Do(Call::Read(1, "bcde", None)),
-    Step::IsDown(false),
     Step::Case("a full file is no failure", "0123456789abcdef"),
     Step::Open(16, None),
-    Step::Do(Call::Len(16)),
     Step::Do(Call::Write(16, "g", Some(DiskError::Full))),
     Step::IsDown(false),
-    Step::Do(Call::Capacity(16)),
     Step::Open(15, Some(FileError::Full)),
 ];
 
@@ -296,16 +275,8 @@ impl Play<'_> {
                 self.system.fail_with(calls, fault);
                 true
             }
-            Step::Short => {
-                self.system.is_short.set(true);
-                true
-            }
             Step::LosePower => {
                 self.system.lose_power();
-                true
-            }
-            Step::Copy(text) => {
-                self.system.copy.set(Content::of(text.as_bytes()));
                 true
             }
             Step::Calls(calls) => self.system.calls.get() == calls,

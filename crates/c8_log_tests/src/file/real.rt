@@ -37,17 +37,15 @@ enum Step {
     Do(Call),
 }
 
-static STEPS: [Step; 41] = [
+static STEPS: [Step; 39] = [
     Step::Case("a file keeps what was written"),
     Step::Open(FILE, 8),
     Step::Do(Call::Write(0, "abcde", None)),
     Step::Do(Call::Sync(None)),
-    Step::Do(Call::Capacity(8)),
     // The file is this disk's alone.
     Step::Refused(FILE, 8, FileError::Failed),
     Step::Close,
     Step::Open(FILE, 8),
-    Step::Do(Call::Stop(0)),
     Step::Do(Call::Read(1, "bcd", None)),
     Step::Case("what another hand writes is found by the next opening"),
     Step::Put(FILE, "abcde"),
