@@ -1,5 +1,5 @@
 //! Both ends in one thread.
-use c8_inlet::{LONGEST_PACKET, Packet, Putter, Taker, TooLong, after, inlet};
+use c8_inlet::{LONGEST_PACKET, Packet, Putter, Taker, TooLong, after, beside, inlet};
 use std::alloc::{AllocError, Global};
 use std::fmt::{Debug, Display};
 use std::test::Fail;
@@ -119,6 +119,7 @@ fn packets_come_out_once_and_in_order(rt: HostRuntime) -> Result<(), Fail> {
 fn a_putter_finishes(rt: HostRuntime) -> Result<(), Fail> {
     let (mut putter, mut taker) = inlet(rt.alloc(), 1)?;
     assert!(rt; putter.put(packet(1, 30)?) == Ok(()));
+    assert!(rt; beside(&mut putter, &mut taker) == 1);
     let mut ended = putter.finish().ok_or("the taker is there")?;
     assert!(rt; after(&mut ended, &mut taker) == 1);
     assert!(rt; taker.take() == packet(1, 30).ok());
