@@ -1,7 +1,6 @@
 //! The tests of c8_board.
 //!
-//! `run` has a run of rows that hold no key, which a test publishes frame by frame; the bits that
-//! are expected are computed from its machine's mark, beside the board.
+//! `run` has a run of rows that hold no key, which a test publishes frame by frame.
 #![tactic(auto)]
 
 #[cfg(test)]

@@ -1,10 +1,9 @@
 //! A run of rows that hold no key, and its publishing.
-ghost use Rattle.std.specs.Prelude.{◌≡◌, ◌≤◌, [], IfOk};
+ghost use Rattle.std.specs.Prelude.{◌≡◌, ◌≤◌, []};
 ghost use Rattle.c8_board_tests.specs.Idle.{IsIdleRun, first_start, idle_rows};
 
 use c8_board::laws::the_first_start_is_serial;
-use c8_board::{Board, Pen, Viewer};
-use c8_digest::mark;
+use c8_board::{Board, Pen};
 use c8_game::{Game, Keys, MOST_FRAMES, Row};
 use c8_machine::Machine;
 use std::alloc::Global;
@@ -42,33 +41,12 @@ impl<'g> Run<'g> {
             self.count += 1;
         }
     }
-
-    /// A board on which this run is published, and its viewer.
-    pub(crate) fn shown(&self, alloc: Global) -> Result<(Board, Viewer), Fail>
-        ensures { IfOk result (λ r. r.1.board ≡ r.0) }
-    {
-        self.game.in_range();
-        the_first_start_is_serial();
-        let (board, _, mut viewers) = Board::open(alloc, self.game, self.count, &self.machine, 1)?;
-        match viewers.pop() {
-            Some(viewer) => Ok((board, viewer)),
-            None => Err(Fail::new("no viewer")),
-        }
-    }
-
-    /// The first five bytes of the machine's mark, as a number.
-    pub(crate) fn bits(&self) -> u64 {
-        mark(&self.machine)
-            .iter()
-            .take(5)
-            .fold(0, |bits, byte| bits << 8 | u64::from(*byte))
-    }
 }
 
 /// A pen that publishes a run.
 #[derive(Drop)]
 pub(crate) struct Publisher<'g> {
-    pub(crate) run: Run<'g>,
+    run: Run<'g>,
     pub(crate) pen: Pen,
     published: u32,
     ghost game_is: { pen.game ≡ run.game.now },

@@ -1,30 +1,20 @@
-//! The calls of a disk, by steps: each call stands here once, in a function that asks what the call
-//! wants and says nothing, so a test that makes many of them is proved of any answers.
-use c8_disk::{Arm, Disk, DiskError, LONGEST_WRITE};
-use std::alloc::Global;
-use std::fmt::Display;
+//! The calls of a disk as data. Each call stands here once, in a function without a contract, so a
+//! test that makes many of them stays cheap to prove.
+use c8_disk::{Disk, DiskError, LONGEST_WRITE};
 
-/// What is called of a disk, and what is answered: the refusal, if any.
+/// A call of a disk, and its answer: the refusal, if any.
 #[derive(Clone, Copy)]
 pub enum Call {
-    /// These bytes are written at this place.
+    /// Writes these bytes at this place.
     Write(u32, &'static str, Option<DiskError>),
-    /// From this place on these bytes are read.
+    /// Reads these bytes from this place on.
     Read(u32, &'static str, Option<DiskError>),
-    /// These bytes are lent in place, all that a read gives.
+    /// Lends these bytes in place, and no others.
     Held(&'static str),
     Sync(Option<DiskError>),
-    Len(u32),
-    Capacity(u32),
-    /// It is to fail after so many more calls.
-    Stop(u64),
-    /// One call is to fail, after so many more.
-    Once(u64),
-    /// It is not to fail.
-    Off,
 }
 
-/// Whether a write at a place that is there is answered as is wanted.
+/// Whether a write at a place within the disk's bytes has this answer.
 pub fn writes<D: Disk>(disk: &mut D, at: u32, bytes: &[u8], wanted: Option<DiskError>) -> bool {
     if at > disk.len() || bytes.len() > LONGEST_WRITE {
         return false;
@@ -32,11 +22,11 @@ pub fn writes<D: Disk>(disk: &mut D, at: u32, bytes: &[u8], wanted: Option<DiskE
     disk.write_at(at, bytes).err() == wanted
 }
 
-/// The most bytes that are read at once.
-pub const MOST: usize = 16;
+/// The most bytes that one read has here.
+const MOST: usize = 16;
 
-/// Whether these bytes are read at a place, or it is refused as is wanted.
-pub fn reads<D: Disk>(disk: &mut D, at: u32, bytes: &[u8], wanted: Option<DiskError>) -> bool {
+/// Whether a read at a place gives these bytes, or has this refusal.
+fn reads<D: Disk>(disk: &mut D, at: u32, bytes: &[u8], wanted: Option<DiskError>) -> bool {
     let (length, many) = (disk.len() as usize, bytes.len());
     let mut room = [0; MOST];
     if many > MOST || at as usize > length || many > length - at as usize {
@@ -48,7 +38,7 @@ pub fn reads<D: Disk>(disk: &mut D, at: u32, bytes: &[u8], wanted: Option<DiskEr
     }
 }
 
-/// Whether the disk lends these bytes, and no other.
+/// Whether the disk lends these bytes, and no others.
 fn lends<D: Disk>(disk: &D, bytes: &[u8]) -> bool {
     match disk.held() {
         Some(held) => held == bytes,
@@ -60,30 +50,12 @@ pub fn syncs<D: Disk>(disk: &mut D, wanted: Option<DiskError>) -> bool {
     disk.sync().err() == wanted
 }
 
-fn arm<D: Disk>(disk: &mut D, arm: Arm) -> bool {
-    disk.arm(arm);
-    true
-}
-
-/// Whether a call is answered as it says.
+/// Whether a call has the answer that it names.
 pub fn holds<D: Disk>(disk: &mut D, call: Call) -> bool {
     match call {
         Call::Write(at, text, wanted) => writes(disk, at, text.as_bytes(), wanted),
         Call::Read(at, text, wanted) => reads(disk, at, text.as_bytes(), wanted),
         Call::Held(text) => lends(disk, text.as_bytes()),
         Call::Sync(wanted) => syncs(disk, wanted),
-        Call::Len(length) => disk.len() == length,
-        Call::Capacity(capacity) => disk.capacity() == capacity,
-        Call::Stop(calls) => arm(disk, Arm::Stop(calls)),
-        Call::Once(calls) => arm(disk, Arm::Once(calls)),
-        Call::Off => arm(disk, Arm::Off),
-    }
-}
-
-/// Whether a value prints a text.
-pub fn prints<T: Display + Drop>(alloc: Global, value: T, text: &str) -> bool {
-    match format!(in alloc; "{value}") {
-        Ok(told) => told.as_str() == text,
-        Err(_) => false,
     }
 }

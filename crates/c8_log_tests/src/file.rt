@@ -1,33 +1,28 @@
-//! A disk in a file of a system that stands in for the operating system's, by steps.
+//! A disk in a file of a system that stands in for the operating system, by steps.
 mod fake;
-mod faults;
 mod real;
 mod system;
 
 use crate::calls::{self, Call};
-use c8_disk::{Disk, DiskError, FileDisk, FileError};
-use fake::{Content, FakeFile, FakeSystem, ROOM};
+use crate::texts::shows;
+use c8_disk::{DiskError, FileDisk, FileError};
+use fake::{FakeFile, FakeSystem, Fault, ROOM};
 use std::alloc::Global;
-use std::test::Fail;
 
-/// What is done, and what is answered.
+/// What is done, and its answer.
 #[derive(Clone, Copy)]
 enum Step {
-    /// A case begins, with a file that holds these bytes for good, or that was just made.
+    /// A case begins, with a file that holds these bytes for good, or with a new one.
     Case(&'static str, &'static str),
-    /// The file is opened as a disk with this capacity: why it is refused.
+    /// Opens the file as a disk with this capacity: why that is refused.
     Open(u32, Option<FileError>),
-    /// The disk is opened anew, and reads these bytes.
+    /// Opens the disk once more: it has these bytes and no others.
     Reads(&'static str),
-    /// So many more calls of the system pass, and the next one fails.
-    Fail(u32),
-    /// Each read and each write is of one byte.
-    Short,
+    /// After this many more calls of the system the next one has this fault.
+    Fail(u32, Fault),
     /// The power goes.
     LosePower,
-    /// The system's copy of the file becomes this.
-    Copy(&'static str),
-    /// So many calls of the system there were.
+    /// The system has had this many calls.
     Calls(u32),
     IsDown(bool),
     Do(Call),
@@ -35,39 +30,45 @@ enum Step {
 
 const FAILED: Option<DiskError> = Some(DiskError::Failed);
 
-const STEPS: [Step; 131] = [
+const EIO: Fault = Fault::Error(libc::EIO);
+
+const INTERRUPTED: Fault = Fault::Error(libc::EINTR);
+
+/// The calls of an opening, from 0: lock, length, sync, copies dropped, folder synced, read. A write
+/// and a sync make one each.
+static STEPS: [Step; 157] = [
     Step::Case("an opening makes six calls", "abcde"),
     Step::Open(16, None),
     Step::Calls(6),
     Step::IsDown(false),
-    Step::Do(Call::Len(5)),
+    Step::Do(Call::Held("abcde")),
     Step::Case("each call of an opening may fail: the first", "abcde"),
-    Step::Fail(0),
+    Step::Fail(0, EIO),
     Step::Open(16, Some(FileError::Failed)),
     Step::Calls(1),
     Step::Reads("abcde"),
     Step::Case("the second", "abcde"),
-    Step::Fail(1),
+    Step::Fail(1, EIO),
     Step::Open(16, Some(FileError::Failed)),
     Step::Calls(2),
     Step::Reads("abcde"),
     Step::Case("the third", "abcde"),
-    Step::Fail(2),
+    Step::Fail(2, EIO),
     Step::Open(16, Some(FileError::Failed)),
     Step::Calls(3),
     Step::Reads("abcde"),
     Step::Case("the fourth", "abcde"),
-    Step::Fail(3),
+    Step::Fail(3, EIO),
     Step::Open(16, Some(FileError::Failed)),
     Step::Calls(4),
     Step::Reads("abcde"),
     Step::Case("the fifth", "abcde"),
-    Step::Fail(4),
+    Step::Fail(4, EIO),
     Step::Open(16, Some(FileError::Failed)),
     Step::Calls(5),
     Step::Reads("abcde"),
     Step::Case("the sixth", "abcde"),
-    Step::Fail(5),
+    Step::Fail(5, EIO),
     Step::Open(16, Some(FileError::Failed)),
     Step::Calls(6),
     Step::Reads("abcde"),
@@ -83,7 +84,7 @@ const STEPS: [Step; 131] = [
     // The sync fails: what it was to write is in memory alone, and is not believed.
     Step::Case("the sync fails", "abcde"),
     Step::Open(16, None),
-    Step::Fail(1),
+    Step::Fail(1, EIO),
     Step::Do(Call::Write(1, "XY", None)),
     Step::Do(Call::Sync(FAILED)),
     Step::Reads("abcde"),
@@ -92,14 +93,14 @@ const STEPS: [Step; 131] = [
     // The write fails after its first byte.
     Step::Case("the write fails", "abcde"),
     Step::Open(16, None),
-    Step::Fail(0),
+    Step::Fail(0, EIO),
     Step::Do(Call::Write(1, "XY", FAILED)),
     Step::Reads("aXcde"),
     Step::LosePower,
     Step::Reads("aXcde"),
     Step::Case("what was synced is durable and so is the name", ""),
     Step::Open(16, None),
-    Step::Do(Call::Len(0)),
+    Step::Do(Call::Held("")),
     Step::Do(Call::Write(0, "abcde", None)),
     Step::Do(Call::Sync(None)),
     Step::LosePower,
@@ -111,20 +112,19 @@ const STEPS: [Step; 131] = [
     Step::Do(Call::Write(1, "XY", None)),
     Step::Do(Call::Held("aXYde")),
     Step::Do(Call::Sync(None)),
-    Step::Fail(0),
+    Step::Fail(0, EIO),
     Step::Do(Call::Read(1, "XYd", None)),
     Step::Calls(8),
     Step::IsDown(false),
-    // A disk that failed is down until it is opened anew, and asks nothing of the system.
+    // A disk that failed is down until the next opening, and asks nothing of the system.
     Step::Case("a write failed", "abcde"),
     Step::Open(16, None),
     Step::Do(Call::Read(1, "bcd", None)),
     Step::Do(Call::Write(1, "XY", None)),
     Step::Do(Call::Sync(None)),
-    Step::Fail(0),
+    Step::Fail(0, EIO),
     Step::Do(Call::Write(1, "XY", FAILED)),
     Step::Calls(9),
-    Step::Do(Call::Off),
     Step::IsDown(true),
     Step::Do(Call::Held("aXYde")),
     Step::Do(Call::Read(1, "XYd", FAILED)),
@@ -140,10 +140,9 @@ const STEPS: [Step; 131] = [
     Step::Do(Call::Read(1, "bcd", None)),
     Step::Do(Call::Write(1, "XY", None)),
     Step::Do(Call::Sync(None)),
-    Step::Fail(0),
+    Step::Fail(0, EIO),
     Step::Do(Call::Sync(FAILED)),
     Step::Calls(9),
-    Step::Do(Call::Off),
     Step::IsDown(true),
     Step::Do(Call::Read(1, "XYd", FAILED)),
     Step::IsDown(true),
@@ -153,27 +152,61 @@ const STEPS: [Step; 131] = [
     Step::Calls(9),
     Step::Open(16, None),
     Step::IsDown(false),
-    Step::Case("short reads and writes go on", ""),
-    Step::Short,
+    // An interrupted read or write is made again, and so is the rest of a short one, unless it moved nothing.
+    Step::Case("an interrupted read goes on", "abcde"),
+    Step::Fail(5, INTERRUPTED),
     Step::Open(16, None),
-    Step::Do(Call::Write(0, "abcde", None)),
+    Step::Do(Call::Held("abcde")),
+    Step::Case("an interrupted write goes on", "abcde"),
+    Step::Open(16, None),
+    Step::Fail(0, INTERRUPTED),
+    Step::Do(Call::Write(1, "XY", None)),
     Step::Do(Call::Sync(None)),
-    Step::Do(Call::Read(1, "bcd", None)),
+    Step::LosePower,
+    Step::Reads("aXYde"),
+    Step::Case("a read that moves nothing fails", "abcde"),
+    Step::Fail(5, Fault::Moves(0)),
+    Step::Open(16, Some(FileError::Failed)),
     Step::Reads("abcde"),
-    Step::Case("what another hand makes of the file is not read", "abcde"),
+    Step::Case("a short read goes on", "abcde"),
+    Step::Fail(5, Fault::Moves(4)),
     Step::Open(16, None),
-    Step::Copy("abX"),
-    Step::Do(Call::Len(5)),
-    Step::Do(Call::Read(1, "bcde", None)),
-    Step::IsDown(false),
+    Step::Do(Call::Held("abcde")),
+    Step::Case("a write that moves nothing fails", "abcde"),
+    Step::Open(16, None),
+    Step::Fail(0, Fault::Moves(0)),
+    Step::Do(Call::Write(1, "XY", FAILED)),
+    Step::IsDown(true),
+    Step::Reads("abcde"),
+    Step::Case("a short write goes on", "abcde"),
+    Step::Open(16, None),
+    Step::Fail(0, Fault::Moves(1)),
+    Step::Do(Call::Write(1, "XY", None)),
+    Step::Do(Call::Sync(None)),
+    Step::LosePower,
+    Step::Reads("aXYde"),
+    Step::Case("an interrupted sync is a failure", "abcde"),
+    Step::Open(16, None),
+    Step::Do(Call::Write(1, "XY", None)),
+    Step::Fail(0, INTERRUPTED),
+    Step::Do(Call::Sync(FAILED)),
+    Step::IsDown(true),
+    // Full is the disk's own capacity alone.
+    Step::Case("a full device is a failure", "abcde"),
+    Step::Open(16, None),
+    Step::Fail(0, Fault::Error(libc::ENOSPC)),
+    Step::Do(Call::Write(1, "XY", FAILED)),
+    Step::IsDown(true),
     Step::Case("a full file is no failure", "0123456789abcdef"),
     Step::Open(16, None),
-    Step::Do(Call::Len(16)),
     Step::Do(Call::Write(16, "g", Some(DiskError::Full))),
     Step::IsDown(false),
-    Step::Do(Call::Capacity(16)),
     Step::Open(15, Some(FileError::Full)),
 ];
+
+fn steps() -> &'static [Step] {
+    &STEPS
+}
 
 fn open(
     alloc: Global,
@@ -192,7 +225,7 @@ struct Play<'a> {
 }
 
 impl Play<'_> {
-    /// Opens the disk anew. Whether it is refused as is wanted.
+    /// Opens the disk once more. Whether that has this answer.
     fn opens(&mut self, alloc: Global, capacity: u32, wanted: Option<FileError>) -> bool {
         match open(alloc, self.system, capacity) {
             Ok(disk) => {
@@ -206,7 +239,7 @@ impl Play<'_> {
         }
     }
 
-    /// Whether a call of the disk is answered as it says.
+    /// Whether a call of the disk has the answer that it names.
     fn does(&mut self, call: Call) -> bool {
         match &mut self.disk {
             Some(disk) => calls::holds(disk, call),
@@ -214,18 +247,11 @@ impl Play<'_> {
         }
     }
 
-    /// Opens the disk anew. Whether it has these bytes and no other.
+    /// Opens the disk once more. Whether it has these bytes and no others.
     fn reads(&mut self, alloc: Global, text: &'static str) -> bool {
         self.opens(alloc, ROOM as u32, None)
-            && self.has_length(text.len())
+            && self.does(Call::Held(text))
             && self.does(Call::Read(0, text, None))
-    }
-
-    fn has_length(&self, length: usize) -> bool {
-        match &self.disk {
-            Some(disk) => disk.len() as usize == length,
-            None => false,
-        }
     }
 
     fn is_down(&self) -> Option<bool> {
@@ -235,7 +261,7 @@ impl Play<'_> {
         }
     }
 
-    /// Whether a step is answered as it says.
+    /// Whether a step has its answer.
     fn holds(&mut self, alloc: Global, step: Step) -> bool {
         match step {
             Step::Case(_, text) => {
@@ -245,20 +271,12 @@ impl Play<'_> {
             }
             Step::Open(capacity, wanted) => self.opens(alloc, capacity, wanted),
             Step::Reads(text) => self.reads(alloc, text),
-            Step::Fail(calls) => {
-                self.system.fail_after(calls);
-                true
-            }
-            Step::Short => {
-                self.system.is_short.set(true);
+            Step::Fail(calls, fault) => {
+                self.system.fail_with(calls, fault);
                 true
             }
             Step::LosePower => {
                 self.system.lose_power();
-                true
-            }
-            Step::Copy(text) => {
-                self.system.copy.set(Content::of(text.as_bytes()));
                 true
             }
             Step::Calls(calls) => self.system.calls.get() == calls,
@@ -268,29 +286,28 @@ impl Play<'_> {
     }
 }
 
+/// Whether a disk shows its length, its capacity and whether it is down.
+fn is_shown(alloc: Global, system: &FakeSystem) -> bool {
+    match open(alloc, system, ROOM as u32) {
+        Ok(disk) => shows(
+            alloc,
+            disk,
+            "FileDisk { length: 5, capacity: 16, down: false }",
+        ),
+        Err(_) => false,
+    }
+}
+
 #[test]
 fn each_step_is_answered_as_it_says(rt: HostRuntime) {
     let system = FakeSystem::new();
+    system.begin(b"abcde");
+    assert!(rt; is_shown(rt.alloc(), &system));
     let mut play = Play {
         system: &system,
         disk: None,
     };
-    for (n, step) in STEPS.iter().enumerate() {
+    for (n, step) in steps().iter().enumerate() {
         assert!(rt; play.holds(rt.alloc(), *step), "step {n}");
     }
-}
-
-/// Whether a disk prints its length, its capacity and whether it is down.
-fn shows(alloc: Global, system: &FakeSystem) -> Result<bool, Fail> {
-    let disk = open(alloc, system, ROOM as u32)?;
-    let shown = format!(in alloc; "{disk:?}")?;
-    Ok(shown.as_str() == "FileDisk { length: 5, capacity: 16, down: false }")
-}
-
-#[test]
-fn a_disk_prints_what_it_is(rt: HostRuntime) -> Result<(), Fail> {
-    let system = FakeSystem::new();
-    system.begin(b"abcde");
-    assert!(rt; shows(rt.alloc(), &system)?);
-    Ok(())
 }

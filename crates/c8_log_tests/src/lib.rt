@@ -9,3 +9,5 @@ mod disk;
 mod file;
 #[cfg(test)]
 mod log;
+#[cfg(test)]
+mod texts;

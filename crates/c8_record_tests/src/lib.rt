@@ -1,9 +1,7 @@
-//! The tests of c8_record: the spelling of records, which may stand after which, and a whole match.
+//! The tests of c8_record: journals as text, how a record is spelled, and what a refusal says.
 #![tactic(auto)]
 
 #[cfg(test)]
-mod parts;
+mod errors;
 #[cfg(test)]
-mod replays;
-#[cfg(test)]
-mod spelling;
+mod journals;

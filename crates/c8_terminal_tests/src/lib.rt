@@ -1,11 +1,9 @@
-//! The tests of c8_terminal: exact bytes, 10,000 screens by chance on a terminal of their own, and what
-//! comes of a keyboard.
+//! The tests of c8_terminal: exact bytes, 10,000 screens by chance on a terminal of their own, and the
+//! bytes of a keyboard.
 #![tactic(auto)]
 
 #[cfg(test)]
 mod chance;
-#[cfg(test)]
-mod held;
 #[cfg(test)]
 mod keyboard;
 #[cfg(test)]

@@ -1,21 +1,20 @@
 //! A match in threads, written as a script, and played again in one thread.
 use c8_disk::MemDisk;
 use c8_game::{Game, Keys, Player};
-use c8_inlet::Packet;
 use c8_live::{Gate, Worker};
 use c8_peer::{Kind, Peer};
-use c8_rig::{Gathering, Watch, rig};
+use c8_rig::{Gathering, Note, Watch, rig};
 use c8_script::{Transcript, play_script, read_script, write_act};
 use c8_threads::write_script;
-use c8_wire::LONGEST_DATAGRAM;
 use c8_world::{Act, Event, Tally};
-use std::alloc::{AllocError, Global};
+use std::alloc::Global;
+use std::io;
 use std::sync::Wait;
 use std::test::Fail;
 use std::thread::Threads;
 
 /// Games of two, three and four players: V0 counts the loops, V1 those in which key 5 is down.
-const GAMES: [&str; 3] = [
+static GAMES: [&str; 3] = [
     "players 2\nipf 10\nframes 60\ndelay 0\nwindow 8\nseed 0\nmask1 ffff\nmask2 ffff\ncode 6205e2a1710170011202\n",
     "players 3\nipf 10\nframes 60\ndelay 1\nwindow 8\nseed 0\nmask1 ffff\nmask2 ffff\nmask3 ffff\ncode 6205e2a1710170011202\n",
     "players 4\nipf 10\nframes 60\ndelay 2\nwindow 8\nseed 0\nmask1 ffff\nmask2 ffff\nmask3 ffff\nmask4 ffff\ncode 6205e2a1710170011202\n",
@@ -45,149 +44,83 @@ impl Watch for Open {
     fn noted(&self, _: Player, _: usize) {}
 }
 
-/// The peers of a match that is played in one thread, and all that was said.
-#[derive(Drop)]
-struct Replay<'g> {
-    alloc: Global,
-    game: &'g Game,
-    peers: Vec<Option<Peer<'g, MemDisk>>>,
-    said: Vec<Packet>,
-}
-
-impl<'g> Replay<'g> {
-    fn new(alloc: Global, game: &'g Game) -> Result<Replay<'g>, AllocError> {
-        let mut peers = Vec::new(alloc);
-        for _ in 0..game.players() {
-            peers.push(None)?;
+/// Whether a player of a script's match stands as a peer does.
+fn stands_so(tally: &Tally, peer: &Peer<'_, MemDisk>) -> bool {
+    let (now, confirmed) = (peer.now(), peer.confirmed());
+    let held = [
+        peer.count(ONE),
+        peer.count(TWO),
+        peer.count(THREE),
+        peer.count(FOUR),
+    ];
+    *tally
+        == Tally {
+            now,
+            confirmed,
+            held,
         }
-        Ok(Replay {
-            alloc,
-            game,
-            peers,
-            said: Vec::new(alloc),
-        })
-    }
-
-    /// Does what an act says, if it can be done.
-    fn act(&mut self, act: Act) -> Option<()> {
-        let player = act.seat().player()?;
-        let peer = self.peers.get_mut(player.place())?;
-        match act {
-            Act::Open(player) => {
-                let disk = MemDisk::new(self.alloc, 589_825, 65_536).ok()?;
-                *peer = Some(Peer::open(self.alloc, disk, self.game, player, 0).ok()?);
-            }
-            Act::Tick(_, keys) => {
-                let _ticked = peer.as_mut()?.tick(keys);
-            }
-            Act::Say(_, to, kind) => {
-                let mut datagram = [0; LONGEST_DATAGRAM];
-                let size = peer.as_mut()?.say(to, kind, &mut datagram).ok()?;
-                let packet = Packet::try_from(&datagram[..size]).ok()?;
-                self.said.push(packet).ok()?;
-            }
-            Act::Give(number, _) => {
-                let packet = self.said.get(number as usize)?;
-                let _heard = peer.as_mut()?.deliver(packet.as_bytes());
-            }
-            Act::Leave(leaver) => {
-                let _left = peer.as_mut()?.leave(leaver);
-            }
-            Act::Decide(leaver) => {
-                let _decided = peer.as_mut()?.decide(leaver);
-            }
-            Act::Check(_) => {
-                let _checked = peer.as_mut()?.checkpoint();
-            }
-            // nobody watches
-            Act::Show(_) | Act::Hear(_, _) | Act::Seen(_) | Act::Fresh(_) => return None,
-        }
-        Some(())
-    }
 }
 
 /// Whether the players of a script's match stand as these peers do, and agree.
 fn stand_so(transcript: &Transcript, peers: &[Peer<'_, MemDisk>]) -> bool {
     let mut is_so = transcript.ends.agree && transcript.ends.players.len() == peers.len();
     for (tally, peer) in transcript.ends.players.iter().zip(peers) {
-        let (now, confirmed) = (peer.now(), peer.confirmed());
-        let held = [
-            peer.count(ONE),
-            peer.count(TWO),
-            peer.count(THREE),
-            peer.count(FOUR),
-        ];
-        is_so = is_so
-            && *tally
-                == Tally {
-                    now,
-                    confirmed,
-                    held,
-                };
+        is_so = is_so && stands_so(tally, peer);
     }
     is_so
 }
 
-/// The bytes of the disks of peers, player 1's first.
-fn disks_of(
-    alloc: Global,
-    peers: Vec<Option<Peer<'_, MemDisk>>>,
-) -> Result<Vec<MemDisk>, AllocError> {
-    let mut disks = Vec::new(alloc);
-    for peer in peers {
-        if let Some(peer) = peer {
-            disks.push(peer.close())?;
-        }
+/// Whether a script is played to the same end.
+fn is_played(alloc: Global, game: &str, script: &[u8], peers: &[Peer<'_, MemDisk>]) -> bool {
+    match play_script(alloc, game.as_bytes(), script) {
+        Ok(transcript) => stand_so(&transcript, peers),
+        Err(_) => false,
     }
-    Ok(disks)
 }
 
-/// Whether disks have the same bytes.
-fn are_same(disks: &[MemDisk], others: &[MemDisk]) -> bool {
-    let mut same = disks.len() == others.len();
-    for (disk, other) in disks.iter().zip(others) {
-        same = same && disk.bytes() == other.bytes();
+/// Whether a script has the acts of a log, one for one.
+fn is_read(alloc: Global, script: &[u8], log: &[Note]) -> bool {
+    let Ok(events) = read_script(alloc, script) else {
+        return false;
+    };
+    let mut is_so = events.len() == log.len();
+    for (event, note) in events.iter().zip(log) {
+        is_so = is_so && *event == Event::Do(note.act);
     }
-    same
+    is_so
 }
 
-/// Plays a match in threads, its script in a world, and its script again by peers that the test has: all
-/// come to the same end, journals to the byte.
-fn is_replayed<R>(rt: &R, text: &str, seed: u64) -> Result<bool, Fail>
+/// Whether the script of a log has its acts, and is played to the end of these peers.
+fn is_replayed(alloc: Global, game: &str, log: &[Note], peers: &[Peer<'_, MemDisk>]) -> bool {
+    let mut script = Vec::new(alloc);
+    write_script(&mut script, log).is_ok()
+        && is_read(alloc, &script, log)
+        && is_played(alloc, game, &script, peers)
+}
+
+/// Plays a match in threads, and its script in one.
+fn comes_to_the_same<R>(rt: &R, game: &Game, text: &str, seed: u64) -> bool
 where
     R: Threads + Wait + Sync + AllocGlobal,
 {
-    let alloc = rt.alloc();
-    let game = Game::read(alloc, text.as_bytes())?;
-    let gathering = rig(rt, alloc, &game, seed, TURNS, &Open)?;
+    let Ok(gathering) = rig(rt, rt.alloc(), game, seed, TURNS, &Open) else {
+        return false;
+    };
     let Gathering::Gathered { log, peers, .. } = gathering else {
-        return Ok(false);
+        return false;
     };
-    let mut script = Vec::new(alloc);
-    write_script(&mut script, &log)?;
-    let Ok(transcript) = play_script(alloc, text.as_bytes(), &script) else {
-        return Ok(false);
-    };
-    let mut is_so = stand_so(&transcript, &peers);
-    let mut replay = Replay::new(alloc, &game)?;
-    let events = read_script(alloc, &script)?;
-    is_so = is_so && events.len() == log.len();
-    for (event, note) in events.iter().zip(&log) {
-        is_so = is_so && *event == Event::Do(note.act) && replay.act(event.act()).is_some();
-    }
-    let mut disks = Vec::new(alloc);
-    for peer in peers {
-        disks.push(peer.close())?;
-    }
-    let again = disks_of(alloc, replay.peers)?;
-    Ok(is_so && again.len() == disks.len() && are_same(&disks, &again))
+    is_replayed(rt.alloc(), text, &log, &peers)
 }
 
 #[test]
 fn a_script_is_played_to_the_same_end(rt: HostRuntime) -> Result<(), Fail> {
     for text in games() {
+        let game = Game::read(rt.alloc(), text.as_bytes())?;
         for seed in 1..SEEDS + 1 {
-            assert!(rt; is_replayed(&rt, text, seed)?, "seed {seed} of {text}");
+            assert!(rt;
+                comes_to_the_same(&rt, &game, text, seed),
+                "seed {seed} of {text}"
+            );
         }
     }
     Ok(())
@@ -201,7 +134,7 @@ const THREE: Player = Player { number: 3 };
 
 const FOUR: Player = Player { number: 4 };
 
-const ACTS: [Act; 11] = [
+static ACTS: [Act; 11] = [
     Act::Open(FOUR),
     Act::Tick(TWO, Keys(0x0a1f)),
     Act::Say(ONE, THREE, Kind::Hello),
@@ -214,6 +147,10 @@ const ACTS: [Act; 11] = [
     Act::Leave(TWO),
     Act::Decide(THREE),
 ];
+
+fn acts() -> &'static [Act] {
+    &ACTS
+}
 
 const LINES: &str = "open 4
 tick 2 0a1f
@@ -228,13 +165,15 @@ leave 2
 decide 3
 ";
 
-#[test]
-fn each_act_has_its_line(rt: HostRuntime) -> Result<(), Fail> {
-    let mut told = Vec::new(rt.alloc());
-    for act in ACTS {
-        write_act(&mut told, act)?;
+fn write_acts(out: &mut Vec<u8>) -> io::Result<()> {
+    for act in acts() {
+        write_act(out, *act)?;
     }
-    let told = str::from_utf8(&told).unwrap_or("no text");
-    assert!(rt; told == LINES, "{told}");
     Ok(())
+}
+
+#[test]
+fn each_act_has_its_line(rt: HostRuntime) {
+    let mut told = Vec::new(rt.alloc());
+    assert!(rt; write_acts(&mut told).is_ok() && told.as_slice() == LINES.as_bytes());
 }

@@ -33,7 +33,7 @@ impl Content {
 }
 
 /// What becomes of one call.
-#[derive(Clone, Copy, PartialEq, Eq)]
+#[derive(Clone, Copy)]
 pub enum Fault {
     /// It fails, with this error of the system.
     Error(i32),
@@ -55,8 +55,6 @@ pub struct FakeSystem {
     pub calls: Cell<u32>,
     pub failing: Cell<Option<u32>>,
     pub fault: Cell<Fault>,
-    /// Each read and each write is of one byte.
-    pub is_short: Cell<bool>,
 }
 
 impl FakeSystem {
@@ -70,11 +68,10 @@ impl FakeSystem {
             calls: Cell::new(0),
             failing: Cell::new(None),
             fault: Cell::new(Fault::Error(libc::EIO)),
-            is_short: Cell::new(false),
         }
     }
 
-    /// Begins anew: a file that holds these bytes for good, or with none one that was just made.
+    /// Begins with a file that holds these bytes for good, or with none with a new one.
     pub fn begin(&self, text: &[u8]) {
         self.device.set(Content::of(text));
         self.copy.set(Content::of(text));
@@ -82,15 +79,9 @@ impl FakeSystem {
         self.is_named.set(!text.is_empty());
         self.calls.set(0);
         self.failing.set(None);
-        self.is_short.set(false);
     }
 
-    /// Lets so many more calls pass, and fails the next one.
-    pub fn fail_after(&self, calls: u32) {
-        self.fail_with(calls, Fault::Error(libc::EIO));
-    }
-
-    /// The same with what becomes of that call.
+    /// Lets this many more calls pass, and has this fault in the next one.
     pub fn fail_with(&self, calls: u32, fault: Fault) {
         self.failing.set(Some(self.calls.get().wrapping_add(calls)));
         self.fault.set(fault);
@@ -109,9 +100,8 @@ impl FakeSystem {
     fn pass(&self) -> io::Result<usize> {
         let number = self.calls.get();
         self.calls.set(number.wrapping_add(1));
-        let most = if self.is_short.get() { 1 } else { ROOM };
         if self.failing.get() != Some(number) {
-            return Ok(most);
+            return Ok(ROOM);
         }
         match self.fault.get() {
             Fault::Error(error) => Err(io::Error::from_raw_os_error(error)),

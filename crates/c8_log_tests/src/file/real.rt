@@ -3,7 +3,6 @@ use crate::calls::{self, Call};
 use c8_disk::{FileDisk, FileError};
 use std::fs::{self, File, Permissions};
 use std::os::unix::fs::{PermissionsExt, symlink};
-use std::test::Fail;
 
 const FILE: &str = "c8_disk_test.bytes";
 
@@ -13,38 +12,40 @@ const INSIDE: &str = "c8_disk_test_folder/file";
 
 const LINK: &str = "c8_disk_test_link";
 
-/// What is done, and what is answered.
+/// What is done, and its answer.
 #[derive(Clone, Copy)]
 enum Step {
     /// A case begins: the files are removed.
     Case(&'static str),
     /// Another hand writes the file.
     Put(&'static str, &'static str),
-    /// The file holds these bytes and no other.
+    /// The file holds these bytes and no others.
     Holds(&'static str, &'static str),
     MakeFolder,
-    /// The link is made, to the file in the folder.
+    /// Makes the link, to the file in the folder.
     MakeLink,
     RemoveFolder,
-    /// The file is opened as a disk, which is kept, in the place of the one before.
+    /// Nobody may write the file, but for root.
+    Protect(&'static str),
+    /// Opens the file as a disk, in the place of the disk before.
     Open(&'static str, u32),
     /// The file is refused as a disk, for this.
     Refused(&'static str, u32, FileError),
+    /// The file is refused as a disk, but for a user who may write it.
+    RefusedUnlessRoot(&'static str),
     Close,
     Do(Call),
 }
 
-const STEPS: [Step; 37] = [
+static STEPS: [Step; 39] = [
     Step::Case("a file keeps what was written"),
     Step::Open(FILE, 8),
     Step::Do(Call::Write(0, "abcde", None)),
     Step::Do(Call::Sync(None)),
-    Step::Do(Call::Capacity(8)),
     // The file is this disk's alone.
     Step::Refused(FILE, 8, FileError::Failed),
     Step::Close,
     Step::Open(FILE, 8),
-    Step::Do(Call::Stop(0)),
     Step::Do(Call::Read(1, "bcd", None)),
     Step::Case("what another hand writes is found by the next opening"),
     Step::Put(FILE, "abcde"),
@@ -69,17 +70,33 @@ const STEPS: [Step; 37] = [
     Step::Refused(FOLDER, 8, FileError::Failed),
     Step::RemoveFolder,
     Step::Refused(INSIDE, 8, FileError::Failed),
-    // A program that runs may be written by nobody, root or not.
     Step::Case("what is no file to read and write is refused"),
+    Step::Put(FILE, "abc"),
+    Step::Protect(FILE),
+    Step::RefusedUnlessRoot(FILE),
+    Step::Holds(FILE, "abc"),
+    // Nobody may write a program that runs, root or not.
     Step::Refused("/proc/self/exe", 8, FileError::Failed),
     Step::Refused("/dev/null", 8, FileError::Failed),
     Step::Case(""),
 ];
 
+fn steps() -> &'static [Step] {
+    &STEPS
+}
+
 fn remove_all(rt: &HostRuntime) {
     let _ = fs::remove_file(rt, FILE);
     let _ = fs::remove_file(rt, LINK);
     let _ = fs::remove_dir_all(rt, FOLDER);
+}
+
+fn protect(rt: &HostRuntime, path: &str) -> bool {
+    fs::set_permissions(rt, path, Permissions::from_mode(0o444)).is_ok()
+}
+
+fn may_write(rt: &HostRuntime, path: &str) -> bool {
+    File::options().write(true).open(rt, path).is_ok()
 }
 
 fn open(rt: &HostRuntime, path: &str, capacity: u32) -> Result<FileDisk, FileError> {
@@ -99,6 +116,10 @@ fn opens(rt: &HostRuntime, disk: &mut Option<FileDisk>, path: &str, capacity: u3
     disk.is_some()
 }
 
+fn is_refused(rt: &HostRuntime, path: &str, capacity: u32, error: FileError) -> bool {
+    open(rt, path, capacity).err() == Some(error)
+}
+
 fn does(disk: &mut Option<FileDisk>, call: Call) -> bool {
     match disk {
         Some(disk) => calls::holds(disk, call),
@@ -106,7 +127,7 @@ fn does(disk: &mut Option<FileDisk>, call: Call) -> bool {
     }
 }
 
-/// Whether a step is answered as it says.
+/// Whether a step has its answer.
 fn holds(rt: &HostRuntime, disk: &mut Option<FileDisk>, step: Step) -> bool {
     match step {
         Step::Case(_) => {
@@ -119,8 +140,12 @@ fn holds(rt: &HostRuntime, disk: &mut Option<FileDisk>, step: Step) -> bool {
         Step::MakeFolder => fs::create_dir(rt, FOLDER).is_ok(),
         Step::MakeLink => symlink(rt, INSIDE, LINK).is_ok(),
         Step::RemoveFolder => fs::remove_dir_all(rt, FOLDER).is_ok(),
+        Step::Protect(path) => protect(rt, path),
         Step::Open(path, capacity) => opens(rt, disk, path, capacity),
-        Step::Refused(path, capacity, error) => open(rt, path, capacity).err() == Some(error),
+        Step::Refused(path, capacity, error) => is_refused(rt, path, capacity, error),
+        Step::RefusedUnlessRoot(path) => {
+            may_write(rt, path) || is_refused(rt, path, 8, FileError::Failed)
+        }
         Step::Close => {
             *disk = None;
             true
@@ -132,27 +157,7 @@ fn holds(rt: &HostRuntime, disk: &mut Option<FileDisk>, step: Step) -> bool {
 #[test]
 fn each_step_is_answered_as_it_says(rt: HostRuntime) {
     let mut disk = None;
-    for (n, step) in STEPS.iter().enumerate() {
+    for (n, step) in steps().iter().enumerate() {
         assert!(rt; holds(&rt, &mut disk, *step), "step {n}");
     }
-}
-
-const READONLY: &str = "c8_disk_test_readonly.bytes";
-
-/// Makes a file that is not to be written. Whether it may be written all the same: root may.
-fn make_readonly(rt: &HostRuntime) -> Result<bool, Fail> {
-    let _ = fs::remove_file(rt, READONLY);
-    fs::write(rt, READONLY, b"abc".as_slice())?;
-    fs::set_permissions(rt, READONLY, Permissions::from_mode(0o444))?;
-    Ok(File::options().write(true).open(rt, READONLY).is_ok())
-}
-
-#[test]
-fn a_file_that_is_not_to_be_written_is_refused(rt: HostRuntime) -> Result<(), Fail> {
-    let is_root = make_readonly(&rt)?;
-    let refusal = open(&rt, READONLY, 8).err();
-    assert!(rt; is_root || refusal == Some(FileError::Failed));
-    assert!(rt; is_file(&rt, READONLY, "abc"));
-    assert!(rt; fs::remove_file(&rt, READONLY).is_ok());
-    Ok(())
 }
