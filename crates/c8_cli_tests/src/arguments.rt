@@ -5,14 +5,13 @@ use std::alloc::Global;
 use std::env::Args;
 use std::fs::File;
 use std::io;
+use std::io::Write;
 use std::net::Net;
 use std::rt::Files;
 use std::sync::Wait;
 use std::test::Fail;
 use std::thread::Threads;
 use std::time::Clock;
-
-const WORD: &str = "433801010102030405060708020100000000000200000000";
 
 const DISK: &str = "refused: disk 1 Failed\n";
 
@@ -24,8 +23,21 @@ fn kind_of(number: u8) -> io::ErrorKind {
     }
 }
 
-/// Which error the arguments are, and the status and the line then.
-const UNREAD: [(u8, u8, &'static str); 3] = [
+/// The status of a command line.
+fn status_of<R, E: Write + Send>(
+    rt: &R,
+    args: io::Result<Args>,
+    out: &mut Short,
+    refused: &mut E,
+) -> u8
+where
+    R: Files<File = File> + Net + Clock + Threads + Wait + Sync + AllocGlobal,
+{
+    answer(rt, args, b"".as_slice(), out, false, refused).code()
+}
+
+/// The number of the error in place of the arguments, and the status and the line then.
+static UNREAD: [(u8, u8, &str); 3] = [
     (0, 2, "error: an argument is not UTF-8\n"),
     (1, 1, "refused: open 5 Memory\n"),
     (2, 3, DISK),
@@ -35,96 +47,64 @@ fn unread() -> &'static [(u8, u8, &'static str)] {
     &UNREAD
 }
 
-/// The arguments of the program: its own name, and one or two words, if the second is not empty.
-fn words(alloc: Global, first: &str, second: &str) -> Result<Args, Fail> {
-    let mut words = Vec::new(alloc);
-    words.push("c8play".to_string(alloc)?)?;
-    words.push(first.to_string(alloc)?)?;
-    if !second.is_empty() {
-        words.push(second.to_string(alloc)?)?;
-    }
-    Ok(words.into_iter())
-}
-
-/// The status where the arguments are such an error, and whether nothing is printed.
-fn ends_unread<R>(rt: &R, number: u8, refused: &mut Vec<u8>) -> (u8, bool)
-where
-    R: Files<File = File> + Net + Clock + Threads + Wait + Sync + AllocGlobal,
-{
-    let mut printed = Vec::new(rt.alloc());
-    let (args, input) = (Err(kind_of(number).into()), b"".as_slice());
-    let status = answer(rt, args, input, &mut printed, false, refused);
-    (status.code(), printed.is_empty())
-}
-
 #[test]
 fn arguments_that_cannot_be_read(rt: HostRuntime) {
-    for (number, code, line) in unread() {
-        let mut refused = Vec::new(rt.alloc());
-        let ended = ends_unread(&rt, *number, &mut refused);
+    for (number, status, line) in unread() {
+        let (mut out, mut refused) = (Short { room: 5 }, Vec::new(rt.alloc()));
+        let ended = status_of(&rt, Err(kind_of(*number).into()), &mut out, &mut refused);
         assert!(rt;
-            ended == (*code, true) && refused.as_slice() == line.as_bytes(),
+            ended == *status && out.room == 5 && refused.as_slice() == line.as_bytes(),
             "row {number}"
         );
     }
 }
 
-/// Words whose answer is longer than what the writer takes: on standard output where the second is
-/// true, else on standard error.
-const UNWRITTEN: [(&'static str, &'static str, bool); 5] = [
-    ("show", WORD, true),
-    ("--help", "", true),
-    ("--version", "", true),
-    ("show", "4", false),
-    ("play", "", false),
+/// Command lines whose answer is longer than five bytes, and whether it goes to standard output.
+static UNWRITTEN: [(&str, bool); 5] = [
+    (
+        "c8play show 433801010102030405060708020100000000000200000000",
+        true,
+    ),
+    ("c8play --help", true),
+    ("c8play --version", true),
+    ("c8play show 4", false),
+    ("c8play play", false),
 ];
 
-fn unwritten() -> &'static [(&'static str, &'static str, bool)] {
+fn unwritten() -> &'static [(&'static str, bool)] {
     &UNWRITTEN
 }
 
-/// The status where standard output takes five bytes.
-fn ends_unprinted<R>(rt: &R, args: Args, refused: &mut Vec<u8>) -> u8
-where
-    R: Files<File = File> + Net + Clock + Threads + Wait + Sync + AllocGlobal,
-{
-    let input = b"".as_slice();
-    answer(rt, Ok(args), input, &mut Short { room: 5 }, false, refused).code()
+/// The arguments of a command line.
+fn words_in(alloc: Global, line: &str) -> Result<Args, Fail> {
+    let mut words = Vec::new(alloc);
+    for word in line.split(' ') {
+        words.push(word.to_string(alloc)?)?;
+    }
+    Ok(words.into_iter())
 }
 
-/// The status where standard error takes five bytes.
-fn ends_untold<R>(rt: &R, args: Args) -> u8
+/// Whether a command line whose answer finds room for five bytes ends as the disk's fault. It says so on standard error,
+/// unless that is what has no room.
+fn fails<R>(rt: &R, args: Args, is_printed: bool) -> bool
 where
     R: Files<File = File> + Net + Clock + Threads + Wait + Sync + AllocGlobal,
 {
-    let mut printed = Vec::new(rt.alloc());
-    let input = b"".as_slice();
-    answer(
-        rt,
-        Ok(args),
-        input,
-        &mut printed,
-        false,
-        &mut Short { room: 5 },
-    )
-    .code()
+    let mut out = Short { room: 5 };
+    if is_printed {
+        let mut refused = Vec::new(rt.alloc());
+        let status = status_of(rt, Ok(args), &mut out, &mut refused);
+        status == 3 && refused.as_slice() == DISK.as_bytes()
+    } else {
+        status_of(rt, Ok(args), &mut out, &mut Short { room: 5 }) == 3
+    }
 }
 
 #[test]
 fn output_that_cannot_be_written(rt: HostRuntime) -> Result<(), Fail> {
-    for (first, second, is_printed) in unwritten() {
-        let args = words(rt.alloc(), first, second)?;
-        let mut refused = Vec::new(rt.alloc());
-        let code = if *is_printed {
-            ends_unprinted(&rt, args, &mut refused)
-        } else {
-            ends_untold(&rt, args)
-        };
-        let told = if *is_printed { DISK } else { "" };
-        assert!(rt;
-            code == 3 && refused.as_slice() == told.as_bytes(),
-            "{first}"
-        );
+    for (line, is_printed) in unwritten() {
+        let args = words_in(rt.alloc(), line)?;
+        assert!(rt; fails(&rt, args, *is_printed), "{line}");
     }
     Ok(())
 }

@@ -1,18 +1,14 @@
 //! The way to the other players, over the loopback, with sockets of the system.
 use c8_game::Player;
 use c8_live::{LONGEST_PACKET, Wire, WireFailed};
-use c8_net::{Addresses, Asked, SocketError, Udp, peer};
+use c8_net::{Addresses, SocketError, Udp};
 use c8_wire::Seat;
-use std::fs;
-use std::fs::File;
-use std::net::{Ipv4Addr, Net, SocketAddr, UdpSocket};
-use std::rt::Files;
-use std::sync::Wait;
+use std::net::{Ipv4Addr, SocketAddr, UdpSocket};
 use std::test::Fail;
-use std::thread::Threads;
-use std::time::Clock;
 
 const TWO: Player = Player { number: 2 };
+
+const THREE: Player = Player { number: 3 };
 
 /// Any free port.
 fn any() -> SocketAddr {
@@ -51,20 +47,34 @@ fn answer_twice(other: &UdpSocket) -> Result<bool, Fail> {
     Ok(size == 8 && heard.starts_with(b"datagram"))
 }
 
-/// A packet that is longer than any datagram comes as its first bytes.
+/// Whether player 2 is sent a datagram.
+fn sends(wire: &mut Udp) -> bool {
+    wire.send(Seat::from(TWO), b"datagram").is_ok()
+}
+
+/// Whether no packet has come.
+fn is_quiet(wire: &mut Udp) -> bool {
+    let mut packet = [0; LONGEST_PACKET];
+    received(wire, &mut packet).is_none()
+}
+
+/// Whether both answers come, the long one as its first bytes, and no more.
+fn hears_twice(wire: &mut Udp) -> bool {
+    let mut packet = [0; LONGEST_PACKET];
+    received(wire, &mut packet) == Some(LONGEST_PACKET)
+        && packet == [7; LONGEST_PACKET]
+        && received(wire, &mut packet) == Some(5)
+        && packet.starts_with(b"short")
+        && is_quiet(wire)
+}
+
 #[test]
 fn carries_packets_and_never_waits(rt: HostRuntime) -> Result<(), Fail> {
     let other = other_socket(&rt)?;
     let mut wire = wire_to(&rt, other.local_addr()?)?;
-    let mut packet = [0; LONGEST_PACKET];
-    assert!(rt; received(&mut wire, &mut packet).is_none());
-    wire.send(Seat::from(TWO), b"datagram")?;
+    assert!(rt; is_quiet(&mut wire) && sends(&mut wire));
     assert!(rt; answer_twice(&other)?);
-    assert!(rt; received(&mut wire, &mut packet) == Some(LONGEST_PACKET));
-    assert!(rt; packet == [7; LONGEST_PACKET]);
-    assert!(rt; received(&mut wire, &mut packet) == Some(5));
-    assert!(rt; packet.starts_with(b"short"));
-    assert!(rt; received(&mut wire, &mut packet).is_none());
+    assert!(rt; hears_twice(&mut wire));
     Ok(())
 }
 
@@ -73,16 +83,17 @@ fn gone(rt: &HostRuntime) -> Result<SocketAddr, Fail> {
     Ok(other_socket(rt)?.local_addr()?)
 }
 
-/// Nobody has a known address for a player who is not in the game.
+/// Whether a datagram is sent, and nothing comes.
+fn loses(wire: &mut Udp) -> bool {
+    sends(wire) && is_quiet(wire)
+}
+
+/// A player at whose address nobody is, and one without an address, are losses.
 #[test]
 fn a_player_who_is_not_there_is_a_loss(rt: HostRuntime) -> Result<(), Fail> {
     let mut wire = wire_to(&rt, gone(&rt)?)?;
-    let mut packet = [0; LONGEST_PACKET];
-    for _ in 0..3 {
-        wire.send(Seat::from(TWO), b"datagram")?;
-        assert!(rt; received(&mut wire, &mut packet).is_none());
-    }
-    wire.send(Seat::from(Player { number: 3 }), b"datagram")?;
+    assert!(rt; loses(&mut wire) && loses(&mut wire) && loses(&mut wire));
+    assert!(rt; wire.send(Seat::from(THREE), b"datagram").is_ok());
     Ok(())
 }
 
@@ -98,59 +109,12 @@ fn opens_at(rt: &HostRuntime, local: SocketAddr) -> bool {
     Udp::open(rt, &addresses).is_ok()
 }
 
+/// An address that is taken, and one to which nothing can be sent.
 #[test]
-fn an_address_that_is_taken_or_of_no_use_is_a_fault(rt: HostRuntime) -> Result<(), Fail> {
+fn an_address_of_no_use_is_a_fault(rt: HostRuntime) -> Result<(), Fail> {
     let other = other_socket(&rt)?;
     assert!(rt; !opens_at(&rt, other.local_addr()?) && opens_at(&rt, any()));
     let mut wire = wire_to(&rt, any())?;
-    let sent = wire.send(Seat::from(TWO), b"datagram");
-    assert!(rt; sent == Err(WireFailed), "{sent:?}");
-    Ok(())
-}
-
-const GAME: &str =
-    "players 2\nipf 10\nframes 1\ndelay 0\nwindow 8\nseed 0\nmask1 000f\nmask2 fff0\ncode 600570031204\n";
-
-/// Whether the command `peer` tells of a socket that failed, where all else that it is given is
-/// right.
-fn is_socket_fault<'x, R>(rt: &R, local: &'x str, remote: &'x str) -> Result<bool, Fail>
-where
-    R: Files<File = File> + Net + Clock + Threads + Wait + Sync + AllocGlobal,
-{
-    let asked = Asked {
-        game: "cli_socket.game",
-        player: Player { number: 1 },
-        journal: "cli_socket.journal",
-        local,
-        remotes: Some(&[remote]),
-        watchers: [None, None],
-        room: 3,
-        turns: 3,
-        patience: None,
-        stop: None,
-        checkpoint: 0,
-        progress: false,
-        explain: false,
-    };
-    let (mut printed, mut refused) = (Vec::new(rt.alloc()), Vec::new(rt.alloc()));
-    let status = peer(rt, &asked, b"0000".as_slice(), &mut printed, &mut refused)?;
-    Ok(
-        status.code() == 3
-            && printed.is_empty()
-            && refused.as_slice() == b"refused: socket 1 Failed\n".as_slice(),
-    )
-}
-
-/// The own address is taken; and nothing can be sent to the other's.
-#[test]
-fn a_socket_that_fails_ends_a_game(rt: HostRuntime) -> Result<(), Fail> {
-    fs::write(&rt, "cli_socket.game", GAME)?;
-    let other = other_socket(&rt)?;
-    let taken = format!(in rt.alloc(); "{}", other.local_addr()?)?;
-    assert!(rt; is_socket_fault(&rt, taken.as_str(), "127.0.0.1:4999")?);
-    assert!(rt; is_socket_fault(&rt, "127.0.0.1:0", "127.0.0.1:0")?);
-    assert!(rt; !is_socket_fault(&rt, "127.0.0.1:0", "127.0.0.1:4999")?);
-    fs::remove_file(&rt, "cli_socket.game")?;
-    fs::remove_file(&rt, "cli_socket.journal")?;
+    assert!(rt; wire.send(Seat::from(TWO), b"datagram") == Err(WireFailed));
     Ok(())
 }

@@ -7,7 +7,7 @@ use std::alloc::Global;
 use std::io;
 use std::io::Write;
 
-/// A writer that takes this many bytes, and then no more.
+/// A writer that takes some bytes, and then no more.
 #[derive(Drop)]
 pub(crate) struct Short {
     pub(crate) room: usize,
@@ -28,7 +28,7 @@ impl Write for Short {
     }
 }
 
-/// A writer that fails once, after this many calls, and takes all else.
+/// A writer that fails once, after some calls, and takes all else.
 #[derive(Drop)]
 struct FailsOnce {
     after: u32,
@@ -61,18 +61,19 @@ struct Writers {
 const GAME: &str =
     "players 2\nipf 10\nframes 100\ndelay 0\nwindow 8\nseed 0\nmask1 000f\nmask2 fff0\ncode 1200\n";
 
-/// What a command is given, and how many calls of a writer it makes at most.
+/// What a command is given.
 struct Given {
     command: &'static str,
     first: &'static str,
     second: &'static str,
+    /// More calls of a writer than the command makes.
     calls: u32,
 }
 
 /// A game and no keys; a game and a script; a line that each refuses; and a word of each kind, and one
 /// of each refusal.
 #[rattlefmt::skip]
-const COMMANDS: [Given; 14] = [
+static COMMANDS: [Given; 14] = [
     Given { command: "run", first: GAME, second: "", calls: 200 },
     Given { command: "run", first: "", second: "", calls: 20 },
     Given { command: "run", first: GAME, second: "0000\n", calls: 60 },
@@ -99,7 +100,7 @@ fn text<'a>(text: &'a str) -> Text<'a> {
     Text { file: "a", bytes }
 }
 
-/// Whether the command ends well, where a refusal is to be explained.
+/// Whether the command ends without an error. It explains a refusal.
 fn ends_well(alloc: Global, given: &Given, to: &mut Writers) -> bool {
     let first = text(given.first);
     let second = text(given.second);
@@ -118,8 +119,8 @@ fn fails_after(after: u32) -> FailsOnce {
     }
 }
 
-/// After how many calls a writer fails where the command makes something else of it than an error,
-/// or where it fails both writers; or the greatest number of calls, if it fails then too.
+/// The first number of calls after which a failure is no error of the command, or reaches both writers. The last one
+/// tried must not fail.
 fn first_missed(alloc: Global, given: &Given) -> Option<u32> {
     for after in 0..given.calls {
         let mut to = Writers {
@@ -136,8 +137,7 @@ fn first_missed(alloc: Global, given: &Given) -> Option<u32> {
     None
 }
 
-/// One call of a writer that fails is an error, wherever it is; then nothing goes to the other
-/// writer.
+/// Any call of a writer that fails is an error, and then nothing goes to the other writer.
 #[test]
 fn each_command_fails_where_its_writer_does(rt: HostRuntime) {
     for (place, given) in commands().iter().enumerate() {

@@ -1,188 +1,215 @@
-//! A SHOW of two rows, of which a watcher has the first, that was cut short, made longer or changed in one byte on
-//! its way: each is judged by the documents alone.
-use crate::judge::Watching;
+//! A SHOW of two rows, the first of which the watcher has: cut short at every length, made one byte longer, and with
+//! every byte replaced by each of its 255 other values. A table made from the documents says what each is answered.
 use crate::letter::Letter;
 use crate::played::{FIVE, ROOM, SIX, game_of, row_of, serial};
 use c8_game::{Game, Row};
 use c8_machine::Machine;
-use c8_spectator::{NotTaken, Spectator, Taken};
-use c8_wire::Watcher;
+use c8_spectator::NotTaken::{Watch, Wire};
+use c8_spectator::{NotTaken, Spectator, Taken, WatchError};
+use c8_wire::{Watcher, WireError};
 use std::alloc::Global;
 use std::test::Fail;
 
 /// How many frames the game has.
 const FRAMES: u32 = 20;
 
-/// How many rows the watcher has.
-const THERE: usize = 6;
-
-/// From which frame on it is shown two.
+/// The frame of the first row in the SHOW.
 const START: u32 = 5;
 
-/// How many bytes that has.
+/// How many bytes the SHOW has.
 const SIZE: usize = 46;
 
-/// How many byte lists come of it: its beginnings, one byte more, and 255 other values of each byte.
+/// The last byte of its start.
+const START_AT: usize = 27;
+
+/// Where its rows begin.
+const ROWS_AT: usize = 30;
+
+/// How many byte lists there are: shorter ones, the longer one, and 255 changes of each byte.
 const LISTS: usize = 46 + 1 + 46 * 255;
 
-/// A byte list.
+type Answer = Result<Taken, NotTaken>;
+
+/// The first and the last byte that a row is about, the least and the greatest value that one of them is changed to,
+/// and the answer.
+type Change = (usize, usize, u8, u8, Answer);
+
+/// The first row that fits a change says the answer.
+#[rattlefmt::skip]
+static CHANGES: [Change; 25] = [
+    (0, 1, 0, 255, Err(Wire(WireError::Magic))),
+    // the version
+    (2, 2, 1, 2, Err(Watch(WatchError::Session))),
+    (2, 2, 0, 255, Err(Wire(WireError::Version))),
+    // the kind: those with a run may have a body of 22 bytes, but never these seats
+    (3, 3, 3, 3, Err(Wire(WireError::Player))),
+    (3, 3, 5, 6, Err(Wire(WireError::Player))),
+    (3, 3, 1, 8, Err(Wire(WireError::Length))),
+    (3, 3, 0, 255, Err(Wire(WireError::Kind))),
+    (4, 11, 0, 255, Err(Watch(WatchError::Session))),
+    // the seats
+    (12, 12, 0, 255, Err(Wire(WireError::Player))),
+    (13, 13, 5, 6, Err(Watch(WatchError::NotMine))),
+    (13, 13, 0, 255, Err(Wire(WireError::Player))),
+    (14, 15, 0, 255, Err(Wire(WireError::Length))),
+    // the epochs
+    (16, 23, 0, 255, Ok(Taken::Kept)),
+    // the start
+    (24, 24, 0, 255, Err(Wire(WireError::Beyond))),
+    (25, 25, 4, 255, Err(Wire(WireError::Beyond))),
+    (25, 26, 0, 255, Err(Watch(WatchError::Full))),
+    (27, 27, 0, 4, Err(Watch(WatchError::Differs))),
+    (27, 27, 6, 6, Ok(Taken::Kept)),
+    (27, 27, 7, 18, Err(Watch(WatchError::Gap))),
+    (27, 27, 19, 255, Err(Watch(WatchError::Full))),
+    (28, 29, 0, 255, Err(Wire(WireError::Count))),
+    // the row that is there, and the new one: players 1 and 2, and two who are not in the game
+    (30, 33, 0, 255, Err(Watch(WatchError::Differs))),
+    (34, 37, 0, 255, Err(Watch(WatchError::Absent))),
+    (38, 41, 0, 255, Ok(Taken::Kept)),
+    (42, 45, 0, 255, Err(Watch(WatchError::Absent))),
+];
+
+fn changes() -> &'static [Change] {
+    &CHANGES
+}
+
+/// What the table answers where the byte at a place has this value.
+fn answer_at(place: usize, value: u8) -> Option<Answer> {
+    for (first, last, least, greatest, answer) in changes() {
+        if *first <= place && place <= *last && *least <= value && value <= *greatest {
+            return Some(*answer);
+        }
+    }
+    None
+}
+
+/// A byte list, and the answer to it.
 #[derive(Clone, Copy)]
 struct List {
     bytes: [u8; SIZE + 1],
     size: usize,
+    answer: Option<Answer>,
 }
 
 /// The list of a number.
-fn changed(show: &[u8], number: usize) -> List {
-    let mut list = List {
-        bytes: [0; SIZE + 1],
-        size: SIZE,
-    };
-    for (byte, said) in list.bytes.iter_mut().zip(show) {
+fn list_of(show: &[u8], number: usize) -> List {
+    let mut bytes = [0; SIZE + 1];
+    for (byte, said) in bytes.iter_mut().zip(show) {
         *byte = *said;
     }
-    match number.checked_sub(SIZE + 1) {
-        None if number < SIZE => list.size = number,
-        None => list.size = SIZE + 1,
-        Some(change) => {
-            if let Some(byte) = list.bytes.get_mut(change / 255) {
-                *byte ^= ((change % 255 + 1) & 0xff) as u8;
-            }
-        }
+    let Some(change) = number.checked_sub(SIZE + 1) else {
+        return cut(bytes, number);
+    };
+    let place = change / 255;
+    let mut value = ((change % 255 + 1) & 0xff) as u8;
+    if let Some(byte) = bytes.get_mut(place) {
+        value ^= *byte;
+        *byte = value;
     }
-    list
-}
-
-/// How many byte lists were answered so: that nothing was new, that rows were kept, and then by the numbers of
-/// the refusals, those of the wire and those of a watcher.
-type Counted = [u32; 18];
-
-fn place_of(answer: Result<Taken, NotTaken>) -> usize {
-    match answer {
-        Ok(Taken::Nothing) => 0,
-        Ok(Taken::Kept) => 1,
-        Err(NotTaken::Wire(error)) => usize::from(error.number()).saturating_add(1),
-        Err(NotTaken::Watch(error)) => usize::from(error.number()).saturating_add(11),
+    List {
+        bytes,
+        size: SIZE,
+        answer: answer_at(place, value),
     }
 }
 
-/// What another program makes of them by the documents.
-const COUNTED: Counted = [
-    0, 3061, 24, 510, 254, 248, 537, 512, 0, 510, 507, 0, 2041, 1, 12, 1025, 495, 2040,
-];
+/// The first bytes of a list; at its own size it is one byte longer instead.
+fn cut(bytes: [u8; SIZE + 1], size: usize) -> List {
+    let error = if size < 24 {
+        WireError::Short
+    } else {
+        WireError::Length
+    };
+    List {
+        bytes,
+        size: if size < SIZE { size } else { SIZE + 1 },
+        answer: Some(Err(Wire(error))),
+    }
+}
 
-/// Whether a watcher has these rows and no other, and this machine.
-fn has(spectator: &Spectator<'_>, rows: &[Row], machine: &Machine) -> bool {
-    spectator.rows() == rows
+/// What a watcher has before each list.
+#[derive(Clone, Copy)]
+struct Before {
+    rows: [Row; 6],
+    machine: Machine,
+}
+
+/// Whether a watcher has what it had before.
+fn has_no_more(spectator: &Spectator<'_>, before: &Before) -> bool {
+    spectator.rows() == before.rows.as_slice()
+        && spectator.count() == 6
+        && *spectator.shown() == before.machine
+}
+
+/// Whether a watcher that kept rows of a list has them at their frames, the rows before them, and the machine after all.
+fn has_kept(game: &Game, spectator: &Spectator<'_>, before: &Before, list: &List) -> bool {
+    let rows = spectator.rows();
+    let start = usize::from(list.bytes[START_AT]);
+    let (Some(first), Some(shown)) = (rows.get(..6), rows.get(start..)) else {
+        return false;
+    };
+    let spelled = Letter::rows(shown);
+    first == before.rows.as_slice()
+        && spelled.bytes() == &list.bytes[ROWS_AT..SIZE]
         && spectator.count() as usize == rows.len()
-        && *spectator.shown() == *machine
-}
-
-/// Some rows and those that are new, and how many they are.
-fn rows_with(there: &[Row], fresh: [Option<Row>; 2]) -> ([Row; THERE + 2], usize) {
-    let mut rows = [Row::default(); THERE + 2];
-    let mut count = 0;
-    for row in there {
-        put(&mut rows, &mut count, Some(*row));
-    }
-    put(&mut rows, &mut count, fresh[0]);
-    put(&mut rows, &mut count, fresh[1]);
-    (rows, count)
-}
-
-fn put(rows: &mut [Row; THERE + 2], count: &mut usize, row: Option<Row>) {
-    if let Some(row) = row {
-        if let Some(place) = rows.get_mut(*count) {
-            *place = row;
-        }
-        *count = count.saturating_add(1);
-    }
+        && *spectator.shown() == serial(game, rows)
 }
 
 /// A watcher begins again, and takes the first rows. Whether it did.
 fn begins(game: &Game, spectator: &mut Spectator<'_>) -> bool {
-    let first = Letter::show(game, spectator.seat().number, 9, 0, 6);
+    let first = Letter::show(game, spectator.seat().number, 0, 6);
     spectator.begin_again();
     spectator.hear(first.bytes()) == Ok(Taken::Kept)
 }
 
-/// A watcher that has the first rows, and this machine after them, hears bytes. The place of what it answers, where
-/// that is what is judged and it has then what it is to have; after rows were kept it begins again.
-fn heard(
-    game: &Game,
-    spectator: &mut Spectator<'_>,
-    watching: &Watching<'_>,
-    before: &Machine,
-    bytes: &[u8],
-) -> Option<usize> {
-    let answer = spectator.hear(bytes);
-    let (wanted, fresh) = watching.judge(bytes);
-    let is_so = if answer == Ok(Taken::Kept) {
-        let (rows, count) = rows_with(watching.rows, fresh);
-        let rows = rows.get(..count)?;
-        let is_so = has(spectator, rows, &serial(game, rows));
-        begins(game, spectator) && is_so
+/// Whether a watcher answers a list as it should, and then has what it should. Where it kept rows it begins again.
+fn hears(game: &Game, spectator: &mut Spectator<'_>, before: &Before, list: &List) -> bool {
+    let answer = spectator.hear(list.bytes.get(..list.size).unwrap_or(&[]));
+    if list.answer != Some(answer) {
+        return false;
+    }
+    if answer == Ok(Taken::Kept) {
+        has_kept(game, spectator, before, list) && begins(game, spectator)
     } else {
-        has(spectator, watching.rows, before)
-    };
-    if answer == wanted && is_so {
-        Some(place_of(answer))
-    } else {
-        None
+        has_no_more(spectator, before)
     }
 }
 
-/// How each byte list is answered, or the first that is answered otherwise than it is judged, or after which
-/// something else is there.
-fn count_all(
-    game: &Game,
-    spectator: &mut Spectator<'_>,
-    watching: &Watching<'_>,
-) -> Result<Counted, usize> {
-    let show = Letter::show(game, spectator.seat().number, 9, START, 2);
-    let before = serial(game, watching.rows);
+/// The first list that a watcher answers otherwise, or after which it has something else.
+fn first_wrong(game: &Game, spectator: &mut Spectator<'_>) -> Option<usize> {
+    let show = Letter::show(game, spectator.seat().number, START, 2);
+    let rows = [
+        row_of(0),
+        row_of(1),
+        row_of(2),
+        row_of(3),
+        row_of(4),
+        row_of(5),
+    ];
+    let machine = serial(game, &rows);
+    let before = Before { rows, machine };
     if !begins(game, spectator) {
-        return Err(LISTS);
+        return Some(LISTS);
     }
-    let mut counted: Counted = [0; 18];
     for number in 0..LISTS {
-        let list = changed(show.bytes(), number);
-        let bytes = list.bytes.get(..list.size).unwrap_or(&[]);
-        match heard(game, spectator, watching, &before, bytes) {
-            Some(place) => {
-                if let Some(count) = counted.get_mut(place) {
-                    *count = count.saturating_add(1);
-                }
-            }
-            None => return Err(number),
+        if !hears(game, spectator, &before, &list_of(show.bytes(), number)) {
+            return Some(number);
         }
     }
-    Ok(counted)
+    None
 }
 
-/// All byte lists are heard in a seat of a game, in a version of the datagrams.
-fn walks(alloc: Global, wire: u8, seat: Watcher) -> Result<Result<Counted, usize>, Fail> {
+/// The first list that is wrong in a seat, in a version of the datagrams.
+fn walk(alloc: Global, wire: u8, seat: Watcher) -> Result<Option<usize>, Fail> {
     let game = game_of(alloc, 2, FRAMES, wire)?;
     let mut spectator = Spectator::open(alloc, &game, ROOM, seat)?;
-    let mut rows = [Row::default(); THERE];
-    for (frame, row) in (0..FRAMES).zip(rows.iter_mut()) {
-        *row = row_of(&game, frame);
-    }
-    let watching = Watching {
-        wire: u64::from(wire),
-        session: game.session(ROOM),
-        seat: u64::from(seat.number),
-        players: 2,
-        frames: u64::from(FRAMES),
-        rows: &rows,
-    };
-    Ok(count_all(&game, &mut spectator, &watching))
+    Ok(first_wrong(&game, &mut spectator))
 }
 
-/// In either version of the datagrams, and in either seat.
 #[test]
-fn a_changed_show_is_judged_by_the_documents(rt: HostRuntime) -> Result<(), Fail> {
-    assert!(rt; walks(rt.alloc(), 1, FIVE)? == Ok(COUNTED));
-    assert!(rt; walks(rt.alloc(), 2, SIX)? == Ok(COUNTED));
+fn an_altered_show_is_judged_by_the_documents(rt: HostRuntime) -> Result<(), Fail> {
+    let wrong = (walk(rt.alloc(), 1, FIVE)?, walk(rt.alloc(), 2, SIX)?);
+    assert!(rt; wrong == (None, None), "{wrong:?}");
     Ok(())
 }

@@ -1,6 +1,8 @@
-//! The tests of those who watch a match: of c8_spectator (`taking`, `changed`, `memory`), of what a peer of
-//! c8_peer says to them and hears of them (`showing`), of c8_world, in which two of them watch (`script`,
-//! `watching`, `chance`), and of c8_watch (`turns`).
+//! Tests of watching a match that neither a contract nor a script of `c8play sim` covers. The scripts are the cases in
+//! crates/c8play_cases/data whose names begin with `sim_watch`.
+//!
+//! c8_spectator: altered datagrams (`changed`), the longest game and printed texts (`longest`), memory refused
+//! (`memory`). c8_world: the bytes of one match (`script`), and random matches (`chance`). c8_watch: `turns`.
 #![tactic(auto)]
 
 #[cfg(test)]
@@ -8,9 +10,9 @@ mod chance;
 #[cfg(test)]
 mod changed;
 #[cfg(test)]
-mod judge;
-#[cfg(test)]
 mod letter;
+#[cfg(test)]
+mod longest;
 #[cfg(test)]
 mod memory;
 #[cfg(test)]
@@ -18,14 +20,4 @@ mod played;
 #[cfg(test)]
 mod script;
 #[cfg(test)]
-mod showing;
-#[cfg(test)]
-mod step;
-#[cfg(test)]
-mod taking;
-#[cfg(test)]
 mod turns;
-#[cfg(test)]
-mod walk;
-#[cfg(test)]
-mod watching;

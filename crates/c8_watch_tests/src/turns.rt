@@ -1,57 +1,50 @@
-//! The turns of one who watches, over a way that is written down.
+//! The turns of a watcher, over a wire that the test makes.
 ghost use Rattle.std.specs.Prelude.{◌≡◌};
 
 use crate::letter::Letter;
-use crate::played::{FIVE, ROOM, game_of, none_is, row_of};
+use crate::played::{FIVE, ROOM, game_of, row_of};
 use c8_board::{Board, Viewer};
 use c8_game::Game;
 use c8_live::{Gate, LONGEST_PACKET, Traffic, Wire, WireFailed, Worker};
 use c8_machine::Machine;
 use c8_spectator::Spectator;
-use c8_watch::{Picture, open_watch_board, watch_turn, watch_worker};
+use c8_watch::{Picture, open_watch_board, watch_worker};
 use c8_wire::Seat;
 use std::alloc::Global;
 use std::sync::atomic::{AtomicU64, Ordering};
 use std::test::Fail;
 
-/// A way on which rows of a match wait, one a packet, and which keeps what is sent.
+/// A wire on which rows of a match wait, one a packet, and which checks what is sent.
 #[derive(Drop)]
 struct Way<'g> {
     game: &'g Game,
-    /// How many packets wait, and how many more once something is sent.
+    /// How many packets wait.
     waiting: u32,
+    /// How many more packets wait once something is sent.
     a_turn: u32,
-    /// The frame whose row comes next.
+    /// The frame of the row that comes next.
     frame: u32,
     /// How many calls it serves before it fails.
     calls: u32,
-    sent: Vec<(Seat, Letter)>,
+    /// The counts that SEENs to player one have, in order.
+    wanted: &'static [u32],
+    /// How many of these were sent, unless something else was.
+    sent: Option<usize>,
     traffic: Traffic,
 }
 
-impl<'g> Way<'g> {
-    fn new(alloc: Global, game: &'g Game, a_turn: u32, calls: u32) -> Way<'g> {
-        Way {
-            game,
-            waiting: a_turn,
-            a_turn,
-            frame: 0,
-            calls,
-            sent: Vec::new(alloc),
-            traffic: Traffic::new(),
-        }
-    }
-
-    /// Whether it told player one of these numbers of rows, one after the other, and nothing else.
-    fn has_told(&self, counts: &[u32]) -> bool {
-        self.sent.len() == counts.len()
-            && self.sent.iter().zip(counts).all(|((to, letter), count)| {
-                to.number == 1 && letter.bytes() == Letter::seen(self.game, 5, *count).bytes()
-            })
+/// What has been sent after a datagram more.
+fn sent_with(way: &Way<'_>, to: Seat, datagram: &[u8]) -> Option<usize> {
+    let sent = way.sent?;
+    let seen = Letter::seen(way.game, 5, *way.wanted.get(sent)?);
+    if to.number == 1 && datagram == seen.bytes() {
+        Some(sent.saturating_add(1))
+    } else {
+        None
     }
 }
 
-/// One call more is served, unless there were as many as are.
+/// Serves one more call, or fails where none is left.
 fn served(calls: &mut u32) -> Result<(), WireFailed> {
     if *calls == 0 {
         return Err(WireFailed);
@@ -67,9 +60,7 @@ impl<'g> Wire for Way<'g> {
 
     fn send(&mut self, to: Seat, datagram: &[u8]) -> Result<(), WireFailed> {
         served(&mut self.calls)?;
-        if self.sent.push((to, Letter::of(datagram))).is_err() {
-            return Err(WireFailed);
-        }
+        self.sent = sent_with(self, to, datagram);
         self.waiting = self.waiting.saturating_add(self.a_turn);
         self.traffic.took(datagram);
         Ok(())
@@ -81,7 +72,7 @@ impl<'g> Wire for Way<'g> {
             return Ok(None);
         }
         self.waiting -= 1;
-        let letter = Letter::show(self.game, 5, 1, self.frame, 1);
+        let letter = Letter::show(self.game, 5, self.frame, 1);
         self.frame = self.frame.saturating_add(1);
         let bytes = letter.bytes();
         let size = bytes.len().min(LONGEST_PACKET);
@@ -91,7 +82,7 @@ impl<'g> Wire for Way<'g> {
     }
 }
 
-/// Lets so many turns begin, and counts those that were made.
+/// Lets some turns begin, and counts those that end.
 #[derive(Drop)]
 struct Turns {
     most: u64,
@@ -108,61 +99,71 @@ impl Gate for Turns {
     }
 }
 
-/// Keeps the machines that are shown, and asks for the end at one of them.
+/// Checks the machines that are shown, and asks for the end after some of them.
 #[derive(Drop)]
 struct Album<'b> {
+    game: &'b Game,
     board: &'b Board,
     viewer: Viewer,
-    /// How many are enough.
+    /// After how many it asks.
     enough: usize,
-    machines: Vec<Machine>,
+    /// The counts of rows after which the machines are wanted, in order.
+    wanted: &'static [u32],
+    /// How many of these were shown, unless another one was.
+    shown: Option<usize>,
     ghost looks: { viewer.board ≡ board.now },
+}
+
+/// What has been shown after a machine more.
+fn shown_with(album: &Album<'_>, machine: &Machine) -> Option<usize> {
+    let shown = album.shown?;
+    if *machine == after(album.game, *album.wanted.get(shown)?) {
+        Some(shown.saturating_add(1))
+    } else {
+        None
+    }
 }
 
 impl<'b> Picture for Album<'b> {
     fn show(&mut self, machine: &Machine) {
-        let _ = self.machines.push(*machine);
-        if self.machines.len() == self.enough {
+        self.shown = shown_with(self, machine);
+        if self.shown == Some(self.enough) {
             self.board.ask_stop(&mut self.viewer);
         }
     }
 }
 
-/// Whether these are the machines after so many rows each.
-fn are_after(game: &Game, machines: &[Machine], counts: &[u32]) -> bool {
-    machines.len() == counts.len()
-        && machines
-            .iter()
-            .zip(counts)
-            .all(|(machine, count)| *machine == after(game, *count))
-}
-
-/// The machine after so many rows of the match.
+/// The machine after this many rows of the match.
 fn after(game: &Game, count: u32) -> Machine {
     let mut machine = Machine::start(game);
     for frame in 0..count {
-        machine.frame(game, game.joined(&row_of(game, frame)));
+        machine.frame(game, game.joined(&row_of(frame)));
     }
     machine
 }
 
-/// A match of five frames that is watched: how many packets wait at each turn, how many calls the way
-/// serves, how many turns are asked for, how many the gate lets begin, and how many pictures are enough.
-/// Then what is answered, how many rows there are in the end, and of how many player one is told after each
-/// turn, which is then shown.
+/// The turns of a watcher, and what comes of them.
 struct Row {
+    /// How many packets come before each turn.
     a_turn: u32,
+    /// How many calls the wire serves.
     calls: u32,
+    /// How many turns are asked for.
     turns: u64,
+    /// How many turns the gate lets begin.
     gate: u64,
+    /// After how many pictures a viewer asks for the end.
     enough: usize,
     made: Result<u64, WireFailed>,
+    /// How many rows there are in the end.
     rows: u32,
+    /// The count of rows after each turn, which player one is told and the picture shows.
     seen: &'static [u32],
 }
 
 const ALL: u32 = 1000;
 
+/// A match of five frames.
 #[rattlefmt::skip]
 static ROWS: [Row; 11] = [
     // it ends once it has all rows
@@ -176,11 +177,16 @@ static ROWS: [Row; 11] = [
     // where the gate ends it, and where a viewer asks for the end
     Row { a_turn: 1, calls: ALL, turns: 100, gate: 3, enough: 100, made: Ok(3), rows: 3, seen: &[1, 2, 3] },
     Row { a_turn: 1, calls: ALL, turns: 100, gate: 100, enough: 4, made: Ok(4), rows: 4, seen: &[1, 2, 3, 4] },
-    // where the way fails: at its first call, after a packet of the second turn, and where that turn says how many rows there are
+    // where the wire fails: at its first call, after a packet of the second turn, and where that turn sends a SEEN
     Row { a_turn: 1, calls: 0, turns: 100, gate: 100, enough: 100, made: Err(WireFailed), rows: 0, seen: &[] },
     Row { a_turn: 1, calls: 4, turns: 100, gate: 100, enough: 100, made: Err(WireFailed), rows: 2, seen: &[1] },
     Row { a_turn: 1, calls: 5, turns: 100, gate: 100, enough: 100, made: Err(WireFailed), rows: 2, seen: &[1] },
 ];
+
+/// A match of 300 frames: the first turn leaves a packet for the second, which takes the last 44 rows.
+#[rattlefmt::skip]
+static CROWD: Row =
+    Row { a_turn: 257, calls: ALL, turns: 2, gate: 100, enough: 100, made: Ok(2), rows: 300, seen: &[256, 300] };
 
 fn rows() -> &'static [Row] {
     &ROWS
@@ -198,12 +204,23 @@ fn goes(alloc: Global, game: &Game, row: &Row) -> bool {
         return false;
     };
     let mut album = Album {
+        game,
         board: &board,
         viewer,
         enough: row.enough,
-        machines: Vec::new(alloc),
+        wanted: row.seen,
+        shown: Some(0),
     };
-    let mut way = Way::new(alloc, game, row.a_turn, row.calls);
+    let mut way = Way {
+        game,
+        waiting: row.a_turn,
+        a_turn: row.a_turn,
+        frame: 0,
+        calls: row.calls,
+        wanted: row.seen,
+        sent: Some(0),
+        traffic: Traffic::new(),
+    };
     let gate = Turns {
         most: row.gate,
         made: AtomicU64::new(0),
@@ -219,47 +236,23 @@ fn goes(alloc: Global, game: &Game, row: &Row) -> bool {
     );
     made == row.made
         && spectator.count() == row.rows
-        && way.has_told(row.seen)
-        && are_after(game, &album.machines, row.seen)
+        && way.sent == Some(row.seen.len())
+        && album.shown == Some(row.seen.len())
         && gate.made.load(Ordering::SeqCst) == row.seen.len() as u64
-}
-
-/// The first row of which something else comes.
-fn first_wrong(alloc: Global, game: &Game) -> Option<usize> {
-    for (place, row) in rows().iter().enumerate() {
-        if !goes(alloc, game, row) {
-            return Some(place);
-        }
-    }
-    None
 }
 
 #[test]
 fn a_watcher_makes_turns_until_it_ends(rt: HostRuntime) -> Result<(), Fail> {
     let game = game_of(rt.alloc(), 2, 5, 1)?;
-    none_is(first_wrong(rt.alloc(), &game))
-}
-
-/// How many rows there are after each of two turns before which 257 packets wait, if player one is told.
-fn two_turns(alloc: Global, game: &Game) -> Option<[u32; 2]> {
-    let mut spectator = Spectator::open(alloc, game, ROOM, FIVE).ok()?;
-    let mut way = Way::new(alloc, game, 257, ALL);
-    way.a_turn = 0;
-    let mut counts = [0; 2];
-    for count in &mut counts {
-        watch_turn(&mut spectator, &mut way).ok()?;
-        *count = spectator.count();
+    for (place, row) in rows().iter().enumerate() {
+        assert!(rt; goes(rt.alloc(), &game, row), "row {place}");
     }
-    if way.has_told(&counts) {
-        Some(counts)
-    } else {
-        None
-    }
+    Ok(())
 }
 
 #[test]
 fn a_turn_takes_256_packets(rt: HostRuntime) -> Result<(), Fail> {
     let game = game_of(rt.alloc(), 2, 300, 2)?;
-    assert!(rt; two_turns(rt.alloc(), &game) == Some([256, 257]));
+    assert!(rt; goes(rt.alloc(), &game, &CROWD));
     Ok(())
 }

@@ -1,4 +1,5 @@
-//! Two who watch a match over the loopback, on ways that lose every third packet.
+//! Two players and two watchers in one process, who print one report. They play over the loopback, each in threads of
+//! its own; every third packet to or from a watcher is lost.
 use c8_game::Player;
 use c8_net::{Asked, WatchAsked, peer, watch};
 use c8_wire::Watcher;
@@ -13,18 +14,22 @@ use std::test::Fail;
 use std::thread::{Threads, join, sleep};
 use std::time::{Clock, Duration};
 
-/// A game of two players and 40 frames: V0 counts the loops, V1 those in which key 5 is down.
+/// A game of two players and 30 frames: V0 counts the loops, V1 those in which key 5 is down.
 const GAME: &str =
-    "players 2\nipf 10\nframes 40\ndelay 0\nwindow 8\nseed 0\nmask1 ffff\nmask2 ffff\ncode 6205e2a1710170011202\n";
+    "players 2\nipf 10\nframes 30\ndelay 0\nwindow 8\nseed 0\nmask1 ffff\nmask2 ffff\ncode 6205e2a1710170011202\n";
 
-const GAME_FILE: &str = "cli_watchers.game";
+const GAME_FILE: &str = "cli_loopback.game";
 
-/// Where the players are; below the ports that a system hands out.
+const ONE_JOURNAL: &str = "cli_loopback_one.journal";
+
+const TWO_JOURNAL: &str = "cli_loopback_two.journal";
+
+/// The addresses of the players, below the ports that a system hands out.
 const ONE: &str = "127.0.0.1:21401";
 
 const TWO: &str = "127.0.0.1:21402";
 
-/// One who watches, from where, and where one is who carries packets between it and player one.
+/// A watcher with its address, and that of the carrier between it and player one.
 #[derive(Clone, Copy)]
 struct Far {
     seat: Watcher,
@@ -67,9 +72,9 @@ where
     R: Files<File = File> + Net + Clock + Threads + Wait + Sync + AllocGlobal,
 {
     let journal = if number == 1 {
-        "cli_watched_one.journal"
+        ONE_JOURNAL
     } else {
-        "cli_watched_two.journal"
+        TWO_JOURNAL
     };
     let asked = Asked {
         game: GAME_FILE,
@@ -92,7 +97,7 @@ where
     report
 }
 
-/// What one who watches prints; nothing where it is refused.
+/// What a watcher prints; nothing where it is refused.
 fn watched<R>(rt: &R, far: Far, is_over: &AtomicBool) -> Vec<u8>
 where
     R: Files<File = File> + Net + Clock + Threads + Wait + Sync + AllocGlobal,
@@ -114,7 +119,7 @@ where
     report
 }
 
-/// Carries packets between player one and one who watches, and loses every third one, until it is over.
+/// Carries packets between player one and a watcher, and loses every third one, until the watcher has ended.
 fn carry<R: Net + Clock + Wait>(rt: &R, far: Far, is_over: &AtomicBool) {
     let (watcher, one) = (at(far.port), at(21_401));
     let Ok(socket) = UdpSocket::bind(rt, at(far.carrier_port)) else {
@@ -143,39 +148,46 @@ fn carry<R: Net + Clock + Wait>(rt: &R, far: Far, is_over: &AtomicBool) {
     }
 }
 
-/// Both who watch print what player one prints, though every third packet on the way is lost.
-#[test]
-fn two_watchers_print_player_ones_report(rt: HostRuntime) -> Result<(), Fail> {
-    fs::write(&rt, GAME_FILE, GAME)?;
+/// Whether both players and both watchers print the report of the whole game.
+fn print_one_report<R>(rt: &R) -> bool
+where
+    R: Files<File = File> + Net + Clock + Threads + Wait + Sync + AllocGlobal,
+{
     let watchers = [Some(FIVE.carrier), Some(SIX.carrier)];
     let (over_five, over_six) = (AtomicBool::new(false), AtomicBool::new(false));
     let ((one, two), ((five, ()), (six, ()))) = join(
-        &rt,
+        rt,
         || join(
-            &rt,
-            || played(&rt, 1, ONE, TWO, watchers),
-            || played(&rt, 2, TWO, ONE, [None, None]),
+            rt,
+            || played(rt, 1, ONE, TWO, watchers),
+            || played(rt, 2, TWO, ONE, [None, None]),
         ),
         || join(
-            &rt,
+            rt,
             || join(
-                &rt,
-                || watched(&rt, FIVE, &over_five),
-                || carry(&rt, FIVE, &over_five),
+                rt,
+                || watched(rt, FIVE, &over_five),
+                || carry(rt, FIVE, &over_five),
             ),
             || join(
-                &rt,
-                || watched(&rt, SIX, &over_six),
-                || carry(&rt, SIX, &over_six),
+                rt,
+                || watched(rt, SIX, &over_six),
+                || carry(rt, SIX, &over_six),
             ),
         ),
     );
-    assert!(rt; one.starts_with(b"frames 40\n"));
-    assert!(rt; two.as_slice() == one.as_slice());
-    assert!(rt; five.as_slice() == one.as_slice());
-    assert!(rt; six.as_slice() == one.as_slice());
+    one.starts_with(b"frames 30\n")
+        && two.as_slice() == one.as_slice()
+        && five.as_slice() == one.as_slice()
+        && six.as_slice() == one.as_slice()
+}
+
+#[test]
+fn players_and_watchers_print_one_report(rt: HostRuntime) -> Result<(), Fail> {
+    fs::write(&rt, GAME_FILE, GAME)?;
+    assert!(rt; print_one_report(&rt));
     fs::remove_file(&rt, GAME_FILE)?;
-    fs::remove_file(&rt, "cli_watched_one.journal")?;
-    fs::remove_file(&rt, "cli_watched_two.journal")?;
+    fs::remove_file(&rt, ONE_JOURNAL)?;
+    fs::remove_file(&rt, TWO_JOURNAL)?;
     Ok(())
 }
