@@ -6,15 +6,11 @@ mod checkpoints;
 #[cfg(test)]
 mod drops;
 #[cfg(test)]
-mod ends;
+mod journals;
 #[cfg(test)]
-mod lists;
-#[cfg(test)]
-mod opening;
+mod memory;
 #[cfg(test)]
 mod playing;
-#[cfg(test)]
-mod refused;
 #[cfg(test)]
 mod stops;
 #[cfg(test)]
