@@ -1,10 +1,16 @@
-//! The tests of c8_peer: tables of what its peers are asked, each with what it answers.
+//! The tests of c8_peer: tables of what its peers are asked, each with what it answers. Beside them stand
+//! the texts of its refusals, and journals that are read a block of 32 slots at a time, of c8_log and
+//! c8_record.
 #![tactic(auto)]
 
+#[cfg(test)]
+mod blocks;
 #[cfg(test)]
 mod checkpoints;
 #[cfg(test)]
 mod drops;
+#[cfg(test)]
+mod images;
 #[cfg(test)]
 mod journals;
 #[cfg(test)]
@@ -13,5 +19,7 @@ mod memory;
 mod playing;
 #[cfg(test)]
 mod stops;
+#[cfg(test)]
+mod texts;
 #[cfg(test)]
 mod walking;
