@@ -2,19 +2,18 @@
 use crate::deed::{About, Answer, Deed, FOUR, Look, ONE, OfPlayer, THREE, TWO, Told};
 use c8_disk::{Arm, Disk, LONGEST_WRITE, MemDisk};
 use c8_game::{Game, Keys, Player};
+use c8_log::SLOT_LENGTH;
 use c8_peer::{Kind, Peer};
+use c8_wire::LONGEST_DATAGRAM;
 use std::alloc::Global;
 
-/// How many bytes of a disk a record takes, with its gate.
-const SLOT_LENGTH: usize = 144;
-
-/// The same as a length of disks.
-const SLOT: u32 = 144;
+/// How many bytes of a disk a slot takes.
+const SLOT: u32 = SLOT_LENGTH as u32;
 
 /// The bytes of a datagram.
 #[derive(Clone, Copy)]
 pub(crate) struct Letter {
-    bytes: [u8; 174],
+    bytes: [u8; LONGEST_DATAGRAM],
     size: usize,
 }
 
@@ -145,7 +144,7 @@ impl<'g> Node<'g> {
         let Some(peer) = &self.peer else {
             return Err(Answer::Impossible);
         };
-        let mut bytes = [0; 174];
+        let mut bytes = [0; LONGEST_DATAGRAM];
         match peer.say(to, kind, &mut bytes) {
             Ok(size) => Ok(Letter { bytes, size }),
             Err(error) => Err(Answer::Said(Err(error))),
@@ -199,7 +198,7 @@ impl<'g> Node<'g> {
     }
 }
 
-/// Whether these bytes could be written at a place.
+/// Writes bytes at a place of a disk. Whether that worked.
 fn writes(disk: &mut MemDisk, place: u32, bytes: &[u8]) -> bool {
     if place > disk.len() || bytes.len() > LONGEST_WRITE {
         return false;
