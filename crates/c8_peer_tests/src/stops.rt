@@ -56,7 +56,8 @@ impl<'a> Stage<'a> {
 
     /// A failure after this many calls leaves what was written.
     fn fails(self, trial: &Trial, calls: u64) -> Result<(), Fail> {
-        let (place, pick) = (trial.place, None);
+        let place = trial.place;
+        let pick: Option<u64> = None;
         let found = if calls < trial.gate {
             trial.bare
         } else {
