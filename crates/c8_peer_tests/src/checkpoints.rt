@@ -194,8 +194,8 @@ fn a_changed_byte_of_a_checkpoint_is_refused(rt: HostRuntime) -> Result<(), Fail
 const ROUNDS: &str =
     "players 2\nipf 10\nframes 1000\ndelay 0\nwindow 12\nseed 0\nmask1 000f\nmask2 fff0\ncode 70011200\n";
 
-/// 40 frames are confirmed, in each of which both players hold 0012 down. An opening there keeps the
-/// marks of frames 0 and 32, which stand from byte 28 of DATA on: the right ones are heard.
+/// Both players hold 0012 down for 40 frames, which are confirmed. An opening there keeps the marks of
+/// frames 0 and 32: DATA has a frame and its mark from byte 28 on, and a changed mark is refused.
 #[rattlefmt::skip]
 static MARKS: [Row; 27] = [
     (ONE, Deed::Meet, Answer::Done),
@@ -232,8 +232,8 @@ fn an_opening_keeps_the_marks(rt: HostRuntime) -> Result<(), Fail> {
     plays(rt.alloc(), ROUNDS, &[], &MARKS)
 }
 
-/// A journal of the first form, of player 1 in a match of 12 ticks, ten of which are confirmed, as the
-/// program wrote it before there were checkpoints. games/first_form.journal.hex has the same bytes.
+/// A journal of the first form, as the program wrote it before there were checkpoints: player 1 ticked
+/// twelve times, and ten frames are confirmed. games/first_form.journal.hex has the same bytes.
 #[rattlefmt::skip]
 static FIRST_FORM: [Row; 16] = [
     (ONE, Deed::Disk(20000, 1000), Answer::Done),

@@ -165,9 +165,9 @@ const A_TICK: Told = Told {
 
 const A_TICK_AFTER: Told = Told { epoch: 3, ..A_TICK };
 
-/// The opening of an empty disk makes a sync, and two writes and syncs, of which the last ones are the
-/// record and its gate. A tick makes these four calls alone. The opening of two records makes a sync,
-/// two reads and the four calls.
+/// A tick makes four calls of the disk: it writes the record and syncs, writes its gate and syncs. The
+/// opening of an empty disk makes three before that: a sync, and the first closed gate with a sync. The
+/// opening of two records makes a sync and two reads before it.
 #[rattlefmt::skip]
 static ALONE_TRIALS: [Trial; 3] = [
     Trial { place: 1, gate: 6, bare: FIRST, kept: SECOND },
