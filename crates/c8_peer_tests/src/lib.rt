@@ -1,21 +1,25 @@
-//! The tests of c8_peer: tables of what its peers are asked, each with what it answers.
+//! The tests of c8_peer: tables of what its peers are asked, each with what it answers. Beside them stand
+//! the texts of its refusals, and journals that are read a block of 32 slots at a time, of c8_log and
+//! c8_record.
 #![tactic(auto)]
 
+#[cfg(test)]
+mod blocks;
 #[cfg(test)]
 mod checkpoints;
 #[cfg(test)]
 mod drops;
 #[cfg(test)]
-mod ends;
+mod images;
 #[cfg(test)]
-mod lists;
+mod journals;
 #[cfg(test)]
-mod opening;
+mod memory;
 #[cfg(test)]
 mod playing;
 #[cfg(test)]
-mod refused;
-#[cfg(test)]
 mod stops;
+#[cfg(test)]
+mod texts;
 #[cfg(test)]
 mod walking;

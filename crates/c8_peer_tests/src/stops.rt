@@ -1,229 +1,288 @@
-//! Stops inside calls: each call of the disk is the last in turn, and what the next opening finds
-//! is one of the two that the definitions allow.
-use crate::opening;
-use crate::opening::HEAD;
-use c8_disk::DiskError;
+//! Stops and failures inside each call that records something: the disk stops after each number of its
+//! calls, or one of them fails, and the next opening finds the record or not.
+use c8_disk::{Arm, DiskError};
 use c8_game::Game;
-use c8_peer::{OpenError, TickError};
-use c8_table::Look::{Down, LastRun, Now};
-use c8_table::{Answer, Deed, Row, Table, plays};
+use c8_peer::Kind::{Cut, Data, Freeze, Frozen};
+use c8_peer::{CheckError, DecideError, Heard, LeaveError, OpenError, Refused, TickError};
+use c8_table::{Answer, Deed, ONE, OfPlayer, Row, THREE, TWO, Table, Told};
 use std::alloc::Global;
 use std::test::Fail;
 
-/// Two players, a window of 8 frames and no delay.
-const GAME: &str =
-    "players 2\nipf 10\nframes 100\ndelay 0\nwindow 8\nseed 0\nmask1 000f\nmask2 fff0\ncode 1200\n";
-
-/// What is found after a stop.
-#[derive(Clone, Copy, Debug, PartialEq, Eq)]
-struct Found {
-    /// What the call is answered in which the disk stopped.
-    answer: Answer,
-    /// What the next opening is answered.
-    opened: Answer,
-    /// The ticks that it finds.
-    ticks: Answer,
-}
-
-/// What may be found where the disk served a number of calls from the first on and below the second
-/// one, with a pick from the third number on and below the fourth.
-type Stop = (u64, u64, u64, u64, Found, Found);
-
-/// A call of a player in which the disk stops, after rows that made it ready.
+/// A call of a history, by its place there. Once the disk has served as many calls as `gate` says, the
+/// gate of the record is written; one more call syncs it. What the next opening finds is `bare` without
+/// the record, and `kept` with it.
 #[derive(Clone, Copy)]
-struct Trial<'a> {
-    alloc: Global,
-    game: &'a Game,
-    before: &'a [Row],
-    at: u8,
-    call: Deed,
+pub(crate) struct Trial {
+    pub(crate) place: usize,
+    pub(crate) gate: u64,
+    pub(crate) bare: Told,
+    pub(crate) kept: Told,
 }
 
-/// A stop after which something else is found.
-#[derive(Debug, Drop)]
+/// A fault in a call, after which the opening finds something else. Where no image is picked the disk
+/// failed once.
+#[derive(Clone, Copy, Debug)]
 struct Wrong {
+    place: usize,
     calls: u64,
-    pick: u64,
-    found: Found,
+    pick: Option<u64>,
 }
 
-impl<'a> Trial<'a> {
-    /// Each stop leaves what it may.
-    fn stops(self, stops: &[Stop]) -> Result<(), Fail> {
-        for stop in stops {
-            self.stops_after(stop)?;
+/// A game, and the history whose calls are tried.
+#[derive(Clone, Copy)]
+pub(crate) struct Stage<'a> {
+    pub(crate) alloc: Global,
+    pub(crate) game: &'a Game,
+    pub(crate) history: &'a [Row],
+}
+
+impl<'a> Stage<'a> {
+    /// Each trial comes to what it says.
+    pub(crate) fn holds(self, trials: &[Trial]) -> Result<(), Fail> {
+        for trial in trials {
+            self.holds_at(trial)?;
         }
         Ok(())
     }
 
-    /// Each number of calls of a row.
-    fn stops_after(self, stop: &Stop) -> Result<(), Fail> {
-        for calls in stop.0..stop.1 {
-            self.stops_with(stop, calls)?;
+    /// A trial with each number of calls.
+    pub(crate) fn holds_at(self, trial: &Trial) -> Result<(), Fail> {
+        for calls in 0..trial.gate.saturating_add(2) {
+            self.fails(trial, calls)?;
+            self.stops(trial, calls)?;
         }
         Ok(())
     }
 
-    /// Each pick of a row.
-    fn stops_with(self, stop: &Stop, calls: u64) -> Result<(), Fail> {
-        for pick in stop.2..stop.3 {
-            let found = self.found(calls, pick)?;
-            if found != stop.4 && found != stop.5 {
-                return Err(Fail::from(Wrong { calls, pick, found }));
+    /// A failure after this many calls leaves what was written.
+    fn fails(self, trial: &Trial, calls: u64) -> Result<(), Fail> {
+        let place = trial.place;
+        let pick: Option<u64> = None;
+        let found = if calls < trial.gate {
+            trial.bare
+        } else {
+            trial.kept
+        };
+        if self.comes(trial, calls, pick) != Some(found) {
+            return Err(Fail::from(Wrong { place, calls, pick }));
+        }
+        Ok(())
+    }
+
+    /// A stop after this many calls leaves what was synced, what was written, or one of these.
+    fn stops(self, trial: &Trial, calls: u64) -> Result<(), Fail> {
+        for number in 0..6 {
+            let (place, pick) = (trial.place, Some(number));
+            let found = self.comes(trial, calls, pick);
+            let may_be_bare = calls < trial.gate || calls == trial.gate && number != 1;
+            let may_be_kept = calls > trial.gate || calls == trial.gate && number != 0;
+            let is_bare = may_be_bare && found == Some(trial.bare);
+            let is_kept = may_be_kept && found == Some(trial.kept);
+            if !is_bare && !is_kept {
+                return Err(Fail::from(Wrong { place, calls, pick }));
             }
         }
         Ok(())
     }
 
-    fn found(self, calls: u64, pick: u64) -> Result<Found, Fail> {
-        let mut table = Table::new(self.alloc, self.game, self.game)?;
-        table.walk(self.before)?;
-        table.does(self.at, Deed::Stop(calls));
-        let answer = table.does(self.at, self.call);
-        table.does(self.at, Deed::Crash(pick));
-        let opened = table.does(self.at, Deed::Open);
-        let ticks = table.does(self.at, Deed::Look(Now));
-        Ok(Found {
-            answer,
-            opened,
-            ticks,
-        })
+    /// What the opening finds after a fault; none where the history or the call has another answer.
+    fn comes(self, trial: &Trial, calls: u64, pick: Option<u64>) -> Option<Told> {
+        let before = self.history.get(..trial.place)?;
+        let row = self.history.get(trial.place)?;
+        let mut table = Table::new(self.alloc, self.game, self.game).ok()?;
+        found_at(&mut table, before, *row, (calls > trial.gate, calls, pick))
     }
 }
 
-/// Each stop in a call of a player, after rows that made it ready, leaves what it may.
-fn stops(
-    alloc: Global,
-    text: &str,
-    (before, at, call): (&[Row], u8, Deed),
-    stops: &[Stop],
-) -> Result<(), Fail> {
-    let game = Game::read(alloc, text.as_bytes())?;
-    let trial = Trial {
-        alloc,
-        game: &game,
-        before,
-        at,
-        call,
+/// The same at a table. A call that needs no more calls of the disk than are served has its own answer.
+fn found_at(
+    table: &mut Table<'_>,
+    before: &[Row],
+    (at, deed, answer): Row,
+    (is_served, calls, pick): (bool, u64, Option<u64>),
+) -> Option<Told> {
+    table.walk(before).ok()?;
+    let (arm, then) = match pick {
+        Some(pick) => (Arm::Stop(calls), Deed::Crash(pick)),
+        None => (Arm::Once(calls), Deed::Arm(Arm::Off)),
     };
-    trial.stops(stops)
+    table.does(at, Deed::Arm(arm));
+    let wanted = if is_served { answer } else { refused(deed) };
+    if table.does(at, deed) != wanted {
+        return None;
+    }
+    table.does(at, then);
+    table.does(at, Deed::Open);
+    table.told(at)
 }
 
-const NEW: [Row; 2] = [
-    (1, Deed::Disk(20000, 4000), Answer::Done),
-    (1, Deed::Open, Answer::Opened(Ok(1))),
+/// What a call answers where the disk fails.
+fn refused(deed: Deed) -> Answer {
+    let failed = DiskError::Failed;
+    match deed {
+        Deed::Open => Answer::Opened(Err(OpenError::Disk(failed))),
+        Deed::Tick(_) => Answer::Ticked(Err(TickError::Disk(failed))),
+        Deed::Hear(_) => Answer::Delivered(Err(Refused::Disk(failed))),
+        Deed::Leave(_) => Answer::Left(Err(LeaveError::Disk(failed))),
+        Deed::Decide(_) => Answer::Decided(Err(DecideError::Disk(failed))),
+        Deed::Checks(_) => Answer::Checked(Err(CheckError::Disk(failed))),
+        _ => Answer::Impossible,
+    }
+}
+
+/// Two players, a window of 8 frames and no delay.
+const GAME: &str =
+    "players 2\nipf 10\nframes 100\ndelay 0\nwindow 8\nseed 0\nmask1 000f\nmask2 fff0\ncode 1200\n";
+
+const TICKED: Answer = Answer::Ticked(Ok(()));
+
+const KEPT: Answer = Answer::Delivered(Ok(Heard::Kept));
+
+static ALONE: [Row; 4] = [
+    (ONE, Deed::Disk(1000, 100), Answer::Done),
+    (ONE, Deed::Open, Answer::Opened(Ok(1))),
+    (ONE, Deed::Tick(0x20), TICKED),
+    (ONE, Deed::Open, Answer::Opened(Ok(2))),
 ];
 
-const UNTICKED: Answer = Answer::Ticked(Err(TickError::Disk(DiskError::Failed)));
+const NONE: OfPlayer = (0, false, false, None);
 
+/// What the opening of an empty disk finds.
+const FIRST: Told = Told {
+    epoch: 1,
+    now: 0,
+    checkpoint: 0,
+    players: [NONE, NONE, NONE, NONE],
+};
+
+const SECOND: Told = Told { epoch: 2, ..FIRST };
+
+const A_TICK: Told = Told {
+    now: 1,
+    players: [(1, false, false, None), NONE, NONE, NONE],
+    ..SECOND
+};
+
+const A_TICK_AFTER: Told = Told { epoch: 3, ..A_TICK };
+
+/// A tick makes four calls of the disk: it writes the record and syncs, writes its gate and syncs. The
+/// opening of an empty disk makes three before that: a sync, and the first closed gate with a sync. The
+/// opening of two records makes a sync and two reads before it.
 #[rattlefmt::skip]
-const NO_TICK: Found = Found { answer: UNTICKED, opened: Answer::Opened(Ok(2)), ticks: Answer::Is(0) };
-
-#[rattlefmt::skip]
-const A_TICK: Found = Found { ticks: Answer::Is(1), ..NO_TICK };
-
-#[rattlefmt::skip]
-const TICKED: Found = Found { answer: Answer::Ticked(Ok(())), ..A_TICK };
-
-/// The record, a sync, the gate, a sync.
-const TICKS: [Stop; 5] = [
-    (0, 3, 0, 6, NO_TICK, NO_TICK),
-    (3, 4, 0, 1, NO_TICK, NO_TICK),
-    (3, 4, 1, 2, A_TICK, A_TICK),
-    (3, 4, 2, 6, NO_TICK, A_TICK),
-    (4, 5, 0, 6, TICKED, TICKED),
+static ALONE_TRIALS: [Trial; 3] = [
+    Trial { place: 1, gate: 6, bare: FIRST, kept: SECOND },
+    Trial { place: 2, gate: 3, bare: SECOND, kept: A_TICK },
+    Trial { place: 3, gate: 6, bare: A_TICK, kept: A_TICK_AFTER },
 ];
 
 #[test]
-fn a_stopped_tick_is_kept_or_not(rt: HostRuntime) -> Result<(), Fail> {
-    stops(rt.alloc(), GAME, (&NEW, 1, Deed::Tick(0x20)), &TICKS)
+fn a_stopped_opening_or_tick_is_kept_or_not(rt: HostRuntime) -> Result<(), Fail> {
+    let game = Game::read(rt.alloc(), GAME.as_bytes())?;
+    let stage = Stage {
+        alloc: rt.alloc(),
+        game: &game,
+        history: &ALONE,
+    };
+    stage.holds(&ALONE_TRIALS)
 }
 
-const UNOPENED: Answer = Answer::Opened(Err(OpenError::Disk(DiskError::Failed)));
+/// Three players, a window of 12 frames and no delay.
+const OF_THREE: &str =
+    "players 3\nipf 10\nframes 100\ndelay 0\nwindow 12\nseed 0\nmask1 000f\nmask2 fff0\nmask3 ffff\ncode 1200\n";
 
-const NO_HEAD: [Row; 1] = [(2, Deed::Hold(&[HEAD]), Answer::Done)];
+/// Player 3 leaves, whose only input player 2 has and player 1 lacks. Player 1 hears DATA and FROZEN,
+/// player 2 FREEZE and CUT, and player 3 CUT.
+#[rattlefmt::skip]
+static ROUND: [Row; 17] = [
+    (ONE, Deed::Meet, Answer::Done),
+    (TWO, Deed::Ticks(0x20, 2), TICKED),
+    (THREE, Deed::Tick(0x300), TICKED),
+    (TWO, Deed::Say(ONE, Data), Answer::Said(Ok(50))),
+    (ONE, Deed::Hear(0), KEPT),
+    (THREE, Deed::Say(TWO, Data), Answer::Said(Ok(48))),
+    (TWO, Deed::Hear(1), KEPT),
+    (ONE, Deed::Leave(THREE), Answer::Left(Ok(()))),
+    (ONE, Deed::Say(TWO, Freeze(THREE)), Answer::Said(Ok(30))),
+    (TWO, Deed::Hear(2), KEPT),
+    (TWO, Deed::Say(ONE, Frozen(THREE)), Answer::Said(Ok(38))),
+    (ONE, Deed::Hear(3), KEPT),
+    (ONE, Deed::Decide(THREE), Answer::Decided(Ok(1))),
+    (ONE, Deed::Say(TWO, Cut(THREE)), Answer::Said(Ok(36))),
+    (TWO, Deed::Hear(4), KEPT),
+    (ONE, Deed::Say(THREE, Cut(THREE)), Answer::Said(Ok(38))),
+    (THREE, Deed::Hear(5), Answer::Delivered(Ok(Heard::Out))),
+];
+
+/// What player 1 knows: nothing, the inputs of player 2, that player 3 leaves, its input, and its cut.
+const TWO_INPUTS: OfPlayer = (2, false, false, None);
+
+const HEARD: Told = Told {
+    players: [NONE, TWO_INPUTS, NONE, NONE],
+    ..SECOND
+};
+
+const LEAVES: Told = Told {
+    players: [NONE, TWO_INPUTS, (0, true, true, None), NONE],
+    ..SECOND
+};
+
+const ANSWERED: Told = Told {
+    players: [NONE, TWO_INPUTS, (1, true, true, None), NONE],
+    ..SECOND
+};
+
+const DECIDED: Told = Told {
+    players: [NONE, TWO_INPUTS, (1, true, true, Some(1)), NONE],
+    ..SECOND
+};
+
+/// What player 2 knows before FREEZE, after it, and after CUT.
+const HOLDS: Told = Told {
+    now: 2,
+    players: [NONE, TWO_INPUTS, (1, false, false, None), NONE],
+    ..SECOND
+};
+
+const FREEZES: Told = Told {
+    players: [NONE, TWO_INPUTS, (1, true, false, None), NONE],
+    ..HOLDS
+};
+
+const CUTS: Told = Told {
+    players: [NONE, TWO_INPUTS, (1, true, false, Some(1)), NONE],
+    ..HOLDS
+};
+
+/// What player 3 knows, before CUT and after it.
+const IN: Told = Told {
+    now: 1,
+    players: [NONE, NONE, (1, false, false, None), NONE],
+    ..SECOND
+};
+
+const OUT: Told = Told {
+    players: [NONE, NONE, (1, true, true, None), NONE],
+    ..IN
+};
 
 #[rattlefmt::skip]
-const NO_EPOCH: Found = Found { answer: UNOPENED, opened: Answer::Opened(Ok(2)), ticks: Answer::Is(0) };
-
-#[rattlefmt::skip]
-const AN_EPOCH: Found = Found { opened: Answer::Opened(Ok(3)), ..NO_EPOCH };
-
-#[rattlefmt::skip]
-const EPOCH: Found = Found { answer: Answer::Opened(Ok(2)), ..AN_EPOCH };
-
-/// A sync, two reads of the block in which the record lies, and two writes, each with a sync.
-const OPENINGS: [Stop; 5] = [
-    (0, 6, 0, 5, NO_EPOCH, NO_EPOCH),
-    (6, 7, 0, 1, NO_EPOCH, NO_EPOCH),
-    (6, 7, 1, 2, AN_EPOCH, AN_EPOCH),
-    (6, 7, 2, 5, NO_EPOCH, AN_EPOCH),
-    (7, 8, 0, 5, EPOCH, EPOCH),
+static ROUND_TRIALS: [Trial; 7] = [
+    Trial { place: 4, gate: 3, bare: SECOND, kept: HEARD },
+    Trial { place: 7, gate: 3, bare: HEARD, kept: LEAVES },
+    Trial { place: 9, gate: 3, bare: HOLDS, kept: FREEZES },
+    Trial { place: 11, gate: 3, bare: LEAVES, kept: ANSWERED },
+    Trial { place: 12, gate: 3, bare: ANSWERED, kept: DECIDED },
+    Trial { place: 14, gate: 3, bare: FREEZES, kept: CUTS },
+    Trial { place: 16, gate: 3, bare: IN, kept: OUT },
 ];
 
 #[test]
-fn an_opening_stops_after_each_call(rt: HostRuntime) -> Result<(), Fail> {
-    stops(
-        rt.alloc(),
-        opening::GAME,
-        (&NO_HEAD, 2, Deed::Open),
-        &OPENINGS,
-    )
-}
-
-const WITH_A_TICK: [Row; 4] = [
-    (1, Deed::Disk(20000, 4000), Answer::Done),
-    (1, Deed::Open, Answer::Opened(Ok(1))),
-    (1, Deed::Tick(3), Answer::Ticked(Ok(()))),
-    (1, Deed::Crash(1), Answer::Done),
-];
-
-#[rattlefmt::skip]
-const NO_EPOCH_AFTER: Found = Found { ticks: Answer::Is(1), ..NO_EPOCH };
-
-#[rattlefmt::skip]
-const AN_EPOCH_AFTER: Found = Found { ticks: Answer::Is(1), ..AN_EPOCH };
-
-#[rattlefmt::skip]
-const EPOCH_AFTER: Found = Found { ticks: Answer::Is(1), ..EPOCH };
-
-/// A sync, a read of the block with two slots and the gate after them, one of the two slots, and the
-/// four calls of the new record.
-const LATER_OPENINGS: [Stop; 5] = [
-    (0, 6, 0, 4, NO_EPOCH_AFTER, NO_EPOCH_AFTER),
-    (6, 7, 0, 1, NO_EPOCH_AFTER, NO_EPOCH_AFTER),
-    (6, 7, 1, 2, AN_EPOCH_AFTER, AN_EPOCH_AFTER),
-    (6, 7, 2, 4, NO_EPOCH_AFTER, AN_EPOCH_AFTER),
-    (7, 40, 0, 4, EPOCH_AFTER, EPOCH_AFTER),
-];
-
-#[test]
-fn a_stopped_opening_adds_its_epoch_or_not(rt: HostRuntime) -> Result<(), Fail> {
-    stops(
-        rt.alloc(),
-        GAME,
-        (&WITH_A_TICK, 1, Deed::Open),
-        &LATER_OPENINGS,
-    )
-}
-
-const FAILED: [Row; 13] = [
-    (2, Deed::Disk(20000, 4000), Answer::Done),
-    (2, Deed::Open, Answer::Opened(Ok(1))),
-    (2, Deed::Tick(1), Answer::Ticked(Ok(()))),
-    (2, Deed::Stop(1), Answer::Done),
-    (2, Deed::Tick(2), UNTICKED),
-    (2, Deed::Look(Down), Answer::Tells(true)),
-    (2, Deed::Look(Now), Answer::Is(1)),
-    (2, Deed::Look(LastRun), Answer::Is(1)),
-    (2, Deed::Crash(0), Answer::Done),
-    (2, Deed::Open, Answer::Opened(Ok(2))),
-    (2, Deed::Look(Now), Answer::Is(1)),
-    (2, Deed::Look(Down), Answer::Tells(false)),
-    (2, Deed::Look(LastRun), Answer::Is(1)),
-];
-
-#[test]
-fn a_peer_whose_disk_failed_is_closed_and_opened(rt: HostRuntime) -> Result<(), Fail> {
-    plays(rt.alloc(), GAME, &[], &FAILED)
+fn each_stopped_call_of_a_drop_round_is_kept_or_not(rt: HostRuntime) -> Result<(), Fail> {
+    let game = Game::read(rt.alloc(), OF_THREE.as_bytes())?;
+    let stage = Stage {
+        alloc: rt.alloc(),
+        game: &game,
+        history: &ROUND,
+    };
+    stage.holds(&ROUND_TRIALS)
 }

@@ -1,16 +1,19 @@
 //! One player's peer, or its disk.
-use crate::deed::{About, Answer, Deed, Look};
-use c8_disk::{Arm, Disk, MemDisk};
-use c8_game::{Game, Keys, Player, WireVersion};
-use c8_machine::Machine;
+use crate::deed::{About, Answer, Deed, FOUR, Look, ONE, OfPlayer, THREE, TWO, Told};
+use c8_disk::{Arm, Disk, LONGEST_WRITE, MemDisk};
+use c8_game::{Game, Keys, Player};
+use c8_log::SLOT_LENGTH;
 use c8_peer::{Kind, Peer};
-use c8_wire::{Body, Datagram, Run, Said, fits, view, write};
+use c8_wire::LONGEST_DATAGRAM;
 use std::alloc::Global;
 
-/// Bytes that were said.
+/// How many bytes of a disk a slot takes.
+const SLOT: u32 = SLOT_LENGTH as u32;
+
+/// The bytes of a datagram.
 #[derive(Clone, Copy)]
 pub(crate) struct Letter {
-    bytes: [u8; 174],
+    bytes: [u8; LONGEST_DATAGRAM],
     size: usize,
 }
 
@@ -22,91 +25,13 @@ impl Letter {
         }
     }
 
-    /// The same with the lowest bit of a byte changed.
-    pub(crate) fn changed(&self, place: usize) -> Letter {
+    /// The same with these bytes at a place.
+    pub(crate) fn with(&self, place: usize, bytes: &[u8]) -> Letter {
         let mut changed = *self;
-        if let Some(byte) = changed.bytes.get_mut(place) {
-            *byte ^= 1;
+        for (byte, new) in changed.bytes.iter_mut().skip(place).zip(bytes.iter()) {
+            *byte = *new;
         }
         changed
-    }
-
-    /// The same DATA with another mark, of this frame.
-    pub(crate) fn marked(&self, frame: u32, mark: u64) -> Letter {
-        let mut marked = *self;
-        let (_, rest) = marked.bytes.split_at_mut(28);
-        let (at, rest) = rest.split_at_mut(4);
-        at.copy_from_slice(&frame.to_be_bytes());
-        let (place, _) = rest.split_at_mut(8);
-        place.copy_from_slice(&mark.to_be_bytes());
-        marked
-    }
-
-    /// The same DATA in the other version of the format.
-    pub(crate) fn in_other_version(&self) -> Option<Letter> {
-        let datagram = view(self.bytes()).ok()?;
-        let mut head = datagram.header().head();
-        let Datagram::Data(data) = datagram else {
-            return None;
-        };
-        let (words, version) = (words_of(data.run()), other_than(head.version));
-        let inputs = words.get(..data.run().len())?;
-        let (run, _) = inputs.split_at(fits(version, inputs));
-        let body = Body::Data {
-            ack: data.ack(),
-            mark_frame: data.mark_frame(),
-            mark: data.mark(),
-            start: data.start(),
-            run,
-        };
-        let mut bytes = [0; 174];
-        head.version = version;
-        let size = write(&Said { head, body }, &mut bytes);
-        Some(Letter { bytes, size })
-    }
-}
-
-fn other_than(version: WireVersion) -> WireVersion {
-    match version {
-        WireVersion::One => WireVersion::Two,
-        WireVersion::Two => WireVersion::One,
-    }
-}
-
-/// The inputs of a run, with zeros after them.
-fn words_of(run: Run<'_>) -> [u16; 64] {
-    let mut words = [0; 64];
-    for (word, input) in words.iter_mut().zip(run.iter()) {
-        *word = input;
-    }
-    words
-}
-
-/// What a peer tells of its journal.
-#[derive(Clone, Copy, PartialEq, Eq)]
-pub(crate) struct Told {
-    now: u32,
-    confirmed: u32,
-    is_dropped: bool,
-    last_checkpoint: u32,
-    certain: Machine,
-    shown: Machine,
-    players: [OfPlayer; 4],
-}
-
-/// What it tells of a player: how many inputs it holds, whether the player is frozen, whether it
-/// leaves, and where its list is cut.
-type OfPlayer = (u32, bool, bool, Option<u32>);
-
-fn told_of(peer: &Peer<'_, MemDisk>, number: u8) -> OfPlayer {
-    match Player::new(number) {
-        Some(player) => (
-            peer.count(player),
-            peer.frozen(player),
-            peer.leaving(player),
-            peer.cut_of(player),
-        ),
-        None => (0, false, false, None),
     }
 }
 
@@ -126,7 +51,7 @@ impl<'g> Node<'g> {
         }
     }
 
-    /// Opens the peer, on the disk of the one that is held.
+    /// Opens the peer on its disk; one that is held is closed first.
     pub(crate) fn open(&mut self, alloc: Global, game: &'g Game, me: Player, room: u64) -> Answer {
         self.close();
         let Some(disk) = self.disk.take() else {
@@ -145,42 +70,69 @@ impl<'g> Node<'g> {
         }
     }
 
-    pub(crate) fn close(&mut self) {
+    fn close(&mut self) {
         if let Some(peer) = self.peer.take() {
             self.disk = Some(peer.close());
         }
     }
 
-    pub(crate) fn crash(&mut self, pick: u64) {
+    fn crash(&mut self, pick: u64) {
         self.close();
         if let Some(disk) = self.disk.take() {
             self.disk = Some(disk.crash(pick));
         }
     }
 
-    /// Puts a disk in the place of all that is there.
+    /// Replaces all that is there by a disk.
     pub(crate) fn put(&mut self, disk: MemDisk) {
         self.peer = None;
         self.disk = Some(disk);
     }
 
-    pub(crate) fn stop(&mut self, calls: u64) {
+    fn arm(&mut self, arm: Arm) {
         if let Some(peer) = &mut self.peer {
-            peer.arm(Arm::Stop(calls));
+            peer.arm(arm);
         } else if let Some(disk) = &mut self.disk {
-            disk.stop_after(calls);
+            disk.arm(arm);
         }
     }
 
-    pub(crate) fn sync(&mut self) -> Answer {
-        match &mut self.disk {
-            Some(disk) => Answer::Served(disk.sync()),
-            None => Answer::Impossible,
+    fn write(&mut self, place: u32, bytes: &[u8]) -> Answer {
+        self.close();
+        let Some(disk) = &mut self.disk else {
+            return Answer::Impossible;
+        };
+        if writes(disk, place, bytes) {
+            Answer::Done
+        } else {
+            Answer::Impossible
+        }
+    }
+
+    /// Adds a slot behind the last one, in place of the gate there.
+    fn add(&mut self, bytes: &[u8]) -> Answer {
+        let mut slot = [0; SLOT_LENGTH];
+        for (byte, new) in slot.iter_mut().zip(bytes.iter()) {
+            *byte = *new;
+        }
+        let place = self.length().saturating_sub(1);
+        match self.write(place, &slot) {
+            Answer::Done => self.write(place.saturating_add(SLOT), &[0]),
+            answer => answer,
+        }
+    }
+
+    /// How many bytes the disk holds, once the peer is closed.
+    fn length(&mut self) -> u32 {
+        self.close();
+        match &self.disk {
+            Some(disk) => disk.len(),
+            None => 0,
         }
     }
 
     /// What the disk holds, once the peer is closed.
-    pub(crate) fn image(&mut self) -> &[u8] {
+    fn image(&mut self) -> &[u8] {
         self.close();
         match &self.disk {
             Some(disk) => disk.bytes(),
@@ -192,7 +144,7 @@ impl<'g> Node<'g> {
         let Some(peer) = &self.peer else {
             return Err(Answer::Impossible);
         };
-        let mut bytes = [0; 174];
+        let mut bytes = [0; LONGEST_DATAGRAM];
         match peer.say(to, kind, &mut bytes) {
             Ok(size) => Ok(Letter { bytes, size }),
             Err(error) => Err(Answer::Said(Err(error))),
@@ -206,187 +158,136 @@ impl<'g> Node<'g> {
         }
     }
 
-    /// Enters a key set so often, until it is refused.
-    pub(crate) fn tick(&mut self, keys: u16, times: u32) -> Answer {
-        let Some(peer) = &mut self.peer else {
-            return Answer::Impossible;
-        };
-        for _ in 0..times {
-            if let Err(error) = peer.tick(Keys(keys)) {
-                return Answer::Ticked(Err(error));
-            }
-        }
-        Answer::Ticked(Ok(()))
-    }
-
-    pub(crate) fn leave(&mut self, leaver: Player) -> Answer {
-        match &mut self.peer {
-            Some(peer) => Answer::Left(peer.leave(leaver)),
-            None => Answer::Impossible,
-        }
-    }
-
-    pub(crate) fn decide(&mut self, leaver: Player) -> Answer {
-        match &mut self.peer {
-            Some(peer) => Answer::Decided(peer.decide(leaver)),
-            None => Answer::Impossible,
-        }
-    }
-
-    /// Asks for a checkpoint so often, until it is refused.
-    pub(crate) fn check(&mut self, times: u32) -> Answer {
-        let Some(peer) = &mut self.peer else {
-            return Answer::Impossible;
-        };
-        let mut answer = Answer::Nothing;
-        for _ in 0..times {
-            let checked = peer.checkpoint();
-            answer = Answer::Checked(checked);
-            if checked.is_err() {
-                return answer;
-            }
-        }
-        answer
-    }
-
-    pub(crate) fn look(&self, look: Look) -> Answer {
-        let Some(peer) = &self.peer else {
-            return Answer::Impossible;
-        };
-        match look {
-            Look::Me => Answer::Is(u32::from(peer.me().number)),
-            Look::Players => Answer::Is(u32::from(peer.players())),
-            Look::Now => Answer::Is(peer.now()),
-            Look::Epoch => Answer::Is(peer.epoch()),
-            Look::Confirmed => Answer::Is(peer.confirmed()),
-            Look::Down => Answer::Tells(peer.is_down()),
-            Look::Dropped => Answer::Tells(peer.dropped()),
-            Look::Alarm => Answer::Tells(peer.alarm()),
-            Look::LastRun => Answer::Is(peer.last_run()),
-            Look::LastCheckpoint => Answer::Is(peer.last_checkpoint()),
-            Look::Registers => Answer::Registers(*peer.shown().registers()),
-            Look::Counter => Answer::Is(u32::from(peer.shown().counter())),
-            Look::Base => Answer::Is(peer.base().0),
-            Look::Rows => Answer::Is(peer.rows().len()),
-            Look::NoRows => Answer::Tells(peer.rows().is_empty()),
-            Look::RowsOf => Answer::Is(u32::from(peer.rows().players())),
-        }
-    }
-
     pub(crate) fn told(&self) -> Option<Told> {
         let peer = self.peer.as_ref()?;
-        let (confirmed, certain) = peer.base();
         Some(Told {
+            epoch: peer.epoch(),
             now: peer.now(),
-            confirmed,
-            is_dropped: peer.dropped(),
-            last_checkpoint: peer.last_checkpoint(),
-            certain: *certain,
-            shown: *peer.shown(),
+            checkpoint: peer.last_checkpoint(),
             players: [
-                told_of(peer, 1),
-                told_of(peer, 2),
-                told_of(peer, 3),
-                told_of(peer, 4),
+                told_of(peer, ONE),
+                told_of(peer, TWO),
+                told_of(peer, THREE),
+                told_of(peer, FOUR),
             ],
         })
     }
 
-    pub(crate) fn about(&self, player: Player, about: About) -> Answer {
-        let Some(peer) = &self.peer else {
-            return Answer::Impossible;
-        };
-        match about {
-            About::Count => Answer::Is(peer.count(player)),
-            About::Acked => Answer::Is(peer.acked(player)),
-            About::Frozen => Answer::Tells(peer.frozen(player)),
-            About::Leaving => Answer::Tells(peer.leaving(player)),
-            About::Cut => match peer.cut_of(player) {
-                Some(length) => Answer::Is(length),
-                None => Answer::Nothing,
-            },
-        }
-    }
-
-    pub(crate) fn row(&self, frame: u32) -> Answer {
-        let Some(peer) = &self.peer else {
-            return Answer::Impossible;
-        };
-        let rows = peer.rows();
-        if frame >= rows.len() {
-            return Answer::Nothing;
-        }
-        let [one, two, three, four] = rows.row(frame).sets;
-        Answer::Sets([one.0, two.0, three.0, four.0])
-    }
-
-    pub(crate) fn has_inputs(&self, player: Player, inputs: &[u16]) -> Answer {
-        let Some(peer) = &self.peer else {
-            return Answer::Impossible;
-        };
-        let rows = peer.rows();
-        if player.number > rows.players() {
-            return Answer::Nothing;
-        }
-        Answer::Tells(rows.inputs(player) == inputs)
-    }
-}
-
-impl<'g> Node<'g> {
-    /// What a deed is answered that is of no other player.
+    /// What a deed answers that needs no other player.
     pub(crate) fn does(&mut self, deed: Deed) -> Answer {
         match deed {
-            Deed::Close => {
-                self.close();
-                Answer::Done
-            }
             Deed::Crash(pick) => {
                 self.crash(pick);
                 Answer::Done
             }
-            Deed::Stop(calls) => {
-                self.stop(calls);
+            Deed::Write(slot, place, bytes) => {
+                self.write(slot.saturating_mul(SLOT).saturating_add(place), bytes)
+            }
+            Deed::Add(bytes) => self.add(bytes),
+            Deed::Arm(arm) => {
+                self.arm(arm);
                 Answer::Done
             }
-            Deed::Sync => self.sync(),
-            Deed::Length => Answer::Is(u32::try_from(self.image().len()).unwrap_or(u32::MAX)),
             Deed::Slot(number, bytes) => Answer::Tells(is_slot(self.image(), number, bytes)),
-            Deed::Tick(keys) => self.tick(keys, 1),
-            Deed::Ticks(keys, times) => self.tick(keys, times),
-            Deed::HearBytes(bytes) => self.hear(bytes),
-            Deed::Check => self.check(1),
-            Deed::Checks(times) => self.check(times),
-            Deed::Look(look) => self.look(look),
-            Deed::Row(frame) => self.row(frame),
-            _ => self.does_to(deed),
-        }
-    }
-
-    /// The same of a deed that names a player.
-    fn does_to(&mut self, deed: Deed) -> Answer {
-        let number = match deed {
-            Deed::Leave(number)
-            | Deed::Decide(number)
-            | Deed::Of(number, _)
-            | Deed::Inputs(number, _) => number,
-            _ => 0,
-        };
-        let Some(player) = Player::new(number) else {
-            return Answer::Impossible;
-        };
-        match deed {
-            Deed::Leave(_) => self.leave(player),
-            Deed::Decide(_) => self.decide(player),
-            Deed::Of(_, about) => self.about(player, about),
-            Deed::Inputs(_, inputs) => self.has_inputs(player, inputs),
-            _ => Answer::Impossible,
+            Deed::Length => Answer::Is(self.length()),
+            _ => match &mut self.peer {
+                Some(peer) => asked(peer, deed),
+                None => Answer::Impossible,
+            },
         }
     }
 }
 
-/// Whether a slot of an image begins so, and has zeros after that.
+/// Writes bytes at a place of a disk. Whether that worked.
+fn writes(disk: &mut MemDisk, place: u32, bytes: &[u8]) -> bool {
+    if place > disk.len() || bytes.len() > LONGEST_WRITE {
+        return false;
+    }
+    disk.write_at(place, bytes).is_ok()
+}
+
+fn told_of(peer: &Peer<'_, MemDisk>, player: Player) -> OfPlayer {
+    (
+        peer.count(player),
+        peer.frozen(player),
+        peer.leaving(player),
+        peer.cut_of(player),
+    )
+}
+
+/// What a peer answers to a deed.
+fn asked(peer: &mut Peer<'_, MemDisk>, deed: Deed) -> Answer {
+    match deed {
+        Deed::Tick(keys) => ticks(peer, keys, 1),
+        Deed::Ticks(keys, times) => ticks(peer, keys, times),
+        Deed::Leave(leaver) => Answer::Left(peer.leave(leaver)),
+        Deed::Decide(leaver) => Answer::Decided(peer.decide(leaver)),
+        Deed::Checks(times) => checks(peer, times),
+        Deed::Look(look) => looked(peer, look),
+        Deed::Of(player, about) => looked_at(peer, player, about),
+        Deed::Row(frame) => row(peer, frame),
+        _ => Answer::Impossible,
+    }
+}
+
+/// Enters a key set this many times, until it is refused.
+fn ticks(peer: &mut Peer<'_, MemDisk>, keys: u16, times: u32) -> Answer {
+    for _ in 0..times {
+        if let Err(error) = peer.tick(Keys(keys)) {
+            return Answer::Ticked(Err(error));
+        }
+    }
+    Answer::Ticked(Ok(()))
+}
+
+/// This many calls for a checkpoint, until one is refused.
+fn checks(peer: &mut Peer<'_, MemDisk>, times: u32) -> Answer {
+    let mut answer = Answer::Impossible;
+    for _ in 0..times {
+        let checked = peer.checkpoint();
+        answer = Answer::Checked(checked);
+        if checked.is_err() {
+            return answer;
+        }
+    }
+    answer
+}
+
+fn looked(peer: &Peer<'_, MemDisk>, look: Look) -> Answer {
+    match look {
+        Look::Now => Answer::Is(peer.now()),
+        Look::Confirmed => Answer::Is(peer.confirmed()),
+        Look::Dropped => Answer::Tells(peer.dropped()),
+        Look::LastRun => Answer::Is(peer.last_run()),
+        Look::Registers => Answer::Registers(*peer.shown().registers()),
+        Look::Counter => Answer::Is(u32::from(peer.shown().counter())),
+        Look::Base => Answer::Is(peer.base().0),
+    }
+}
+
+fn looked_at(peer: &Peer<'_, MemDisk>, player: Player, about: About) -> Answer {
+    match about {
+        About::Count => Answer::Is(peer.count(player)),
+        About::Acked => Answer::Is(peer.acked(player)),
+        About::Cut => match peer.cut_of(player) {
+            Some(length) => Answer::Is(length),
+            None => Answer::Impossible,
+        },
+    }
+}
+
+fn row(peer: &Peer<'_, MemDisk>, frame: u32) -> Answer {
+    let rows = peer.rows();
+    if frame >= rows.len() {
+        return Answer::Impossible;
+    }
+    let [one, two, three, four] = rows.row(frame).sets;
+    Answer::Sets([one.0, two.0, three.0, four.0])
+}
+
+/// Whether a slot of an image begins so, with zeros behind that.
 fn is_slot(image: &[u8], number: usize, beginning: &[u8]) -> bool {
-    let Some(slot) = image.chunks(144).nth(number) else {
+    let Some(slot) = image.chunks(SLOT_LENGTH).nth(number) else {
         return false;
     };
     match slot.split_at_checked(beginning.len()) {
