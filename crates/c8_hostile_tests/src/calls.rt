@@ -2,7 +2,7 @@
 //!
 //! None of them takes memory. `rt try --test --fail-alloc N` refuses the Nth allocation: up to that of the last opening the test ends
 //! without peers, and from the next one on it goes as it does with ample memory.
-use c8_disk::MemDisk;
+use c8_disk::{Arm, MemDisk};
 use c8_game::{Game, Keys, Player};
 use c8_peer::{Check, Heard, Kind, Peer, Refused};
 use c8_wire::Watcher;
@@ -57,6 +57,7 @@ fn play(
     two: &mut Peer<'_, MemDisk>,
     three: &mut Peer<'_, MemDisk>,
 ) -> bool {
+    one.arm(Arm::Off);
     one.tick(Keys(0x0001)) == Ok(()) && meet(one, two) && meet(one, three)
 }
 

@@ -5,7 +5,6 @@
 use c8_peer::{Heard, Refused};
 
 /// A version of the datagrams: a game that has it, and the session of its room, which another program computed.
-#[derive(Clone, Copy)]
 pub(crate) struct Version {
     pub(crate) wire: u64,
     pub(crate) game: &'static str,

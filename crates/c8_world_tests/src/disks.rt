@@ -89,7 +89,6 @@ const ONE_RECORD: [Row; 3] = [(OPEN, NEW), (TICK, FULL), (TICK, Answer::Down)];
 const TWO_RECORDS: [Row; 4] = [(OPEN, NEW), (TICK, TICKED), (TICK, FULL), (OPEN, NO_ROOM)];
 
 /// Events over disks of one size.
-#[derive(Clone, Copy)]
 struct Played {
     /// The bytes that each disk has room for.
     room: u32,
