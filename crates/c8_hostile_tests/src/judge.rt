@@ -1,30 +1,30 @@
-//! What the peer of a scene answers to bytes, by the tables of docs/FORMATS.md and docs/PROTOCOL.md
-//! alone, line by line. Slow, and over the bytes as they are.
-use crate::scene::{EPOCH, LIMIT, MARKS, Made, Scene, keys};
+//! What the peer of a scene answers to bytes, by the tables of docs/FORMATS.md and docs/PROTOCOL.md alone, line by line. Slow, and over
+//! the bytes as they are.
+use crate::scene::{EPOCH, KNOWN, LIMIT, MARK, PLAYERS, Scene, Version, keys};
 use c8_hand::HandError;
 use c8_known::KnownError;
-use c8_peer::Refused;
+use c8_peer::{Heard, Refused};
 use c8_wire::WireError;
 
-/// The number of so many bytes at a place, the most significant first.
-pub(crate) fn number(bytes: &[u8], at: usize, size: usize) -> u64 {
+/// The number that some bytes at a place spell, the most significant first.
+fn number(bytes: &[u8], at: usize, size: usize) -> u64 {
     let mut number: u64 = 0;
-    for byte in bytes.get(at..).unwrap_or(&[]).iter().take(size) {
+    for byte in bytes.iter().skip(at).take(size) {
         number = number.wrapping_mul(256).wrapping_add(u64::from(*byte));
     }
     number
 }
 
 /// The version that byte 2 names.
-fn version(bytes: &[u8]) -> u64 {
+fn wire_of(bytes: &[u8]) -> u64 {
     number(bytes, 2, 1)
 }
 
-pub(crate) fn kind(bytes: &[u8]) -> u64 {
+fn kind(bytes: &[u8]) -> u64 {
     number(bytes, 3, 1)
 }
 
-pub(crate) fn from(bytes: &[u8]) -> u64 {
+fn from(bytes: &[u8]) -> u64 {
     number(bytes, 12, 1)
 }
 
@@ -32,25 +32,38 @@ fn to(bytes: &[u8]) -> u64 {
     number(bytes, 13, 1)
 }
 
-/// The first refusal, or none: then the datagram is taken, and leaves what `left_by` has.
-pub(crate) fn judge(scene: &Scene, bytes: &[u8]) -> Option<Refused> {
+fn leaver(bytes: &[u8]) -> u64 {
+    number(bytes, 24, 1)
+}
+
+/// The number that a FREEZE, a FROZEN or a CUT says: how many inputs are held, or the length.
+fn bound(bytes: &[u8]) -> u64 {
+    number(bytes, 26, 4)
+}
+
+/// The answer to bytes.
+pub(crate) fn judge(version: &Version, scene: &Scene, bytes: &[u8]) -> Result<Heard, Refused> {
     if let Some(error) = wire(bytes) {
-        return Some(Refused::Wire(error));
+        return Err(Refused::Wire(error));
     }
-    if version(bytes) != scene.table.wire {
-        return Some(Refused::OtherWire);
+    if wire_of(bytes) != version.wire {
+        return Err(Refused::OtherWire);
     }
-    if let Some(error) = hand(scene, bytes) {
-        return Some(Refused::Hand(error));
+    if let Some(error) = hand(version, scene, bytes) {
+        return Err(Refused::Hand(error));
     }
-    match kind(bytes) {
-        2 => bad_ack(bytes, scene.count(scene.me)),
+    let refusal = match kind(bytes) {
+        2 => bad_ack(bytes, scene.held(u64::from(scene.me))),
         3 => of_data(scene, bytes),
         4 => of_freeze(scene, bytes),
         5 => of_frozen(scene, bytes),
         6 => of_cut(scene, bytes),
         8 => bad_ack(bytes, scene.confirmed),
         _ => None,
+    };
+    match refusal {
+        Some(error) => Err(error),
+        None => Ok(heard(scene, bytes)),
     }
 }
 
@@ -63,7 +76,7 @@ fn wire(bytes: &[u8]) -> Option<WireError> {
     if number(bytes, 0, 2) != 0x4338 {
         return Some(WireError::Magic);
     }
-    if version(bytes) != 1 && version(bytes) != 2 {
+    if wire_of(bytes) != 1 && wire_of(bytes) != 2 {
         return Some(WireError::Version);
     }
     let (fixed, has_more) = match kind(bytes) {
@@ -92,7 +105,7 @@ fn wire(bytes: &[u8]) -> Option<WireError> {
         return Some(WireError::Count);
     }
     let has_run = has_more && kind(bytes) != 7;
-    if has_run && version(bytes) == 2 && !are_pairs(bytes) {
+    if has_run && wire_of(bytes) == 2 && !are_pairs(bytes) {
         return Some(WireError::Pairs);
     }
     if is_beyond(bytes) {
@@ -126,7 +139,7 @@ fn are_seats(bytes: &[u8]) -> bool {
 }
 
 /// The start and the count of a run, or of rows.
-pub(crate) fn run(bytes: &[u8]) -> (u64, u64) {
+fn run(bytes: &[u8]) -> (u64, u64) {
     let (start, count) = match kind(bytes) {
         3 => (40, 44),
         7 => (24, 28),
@@ -135,47 +148,19 @@ pub(crate) fn run(bytes: &[u8]) -> (u64, u64) {
     (number(bytes, start, 4), number(bytes, count, 2))
 }
 
+/// The frame after the last one of a run, or of rows.
+fn end(bytes: &[u8]) -> u64 {
+    let (start, count) = run(bytes);
+    start.wrapping_add(count)
+}
+
 /// The bytes of a run.
 fn run_bytes(bytes: &[u8]) -> &[u8] {
     let place = if kind(bytes) == 3 { 46 } else { 36 };
     bytes.get(place..).unwrap_or(&[])
 }
 
-/// The inputs of a run that are left, one after the other.
-#[derive(Clone, Copy)]
-pub(crate) struct Inputs<'a> {
-    run: &'a [u8],
-    has_pairs: bool,
-    /// How often the first pair has been told.
-    times: u64,
-}
-
-pub(crate) fn inputs_of_run(bytes: &[u8]) -> Inputs<'_> {
-    Inputs {
-        run: run_bytes(bytes),
-        has_pairs: version(bytes) == 2,
-        times: 0,
-    }
-}
-
-impl<'a> Inputs<'a> {
-    /// The next one, 0 where none is left.
-    pub(crate) fn next(&mut self) -> u64 {
-        let (times, size) = if self.has_pairs {
-            (number(self.run, 0, 1), 3)
-        } else {
-            (1, 2)
-        };
-        let input = number(self.run, size - 2, 2);
-        self.times = self.times.wrapping_add(1);
-        if self.times >= times {
-            (self.run, self.times) = (self.run.get(size..).unwrap_or(&[]), 0);
-        }
-        input
-    }
-}
-
-/// Whether a run or rows are not too many, and have so many bytes as they may have.
+/// Whether a run or rows are not too many, and have as many bytes as they may have.
 fn is_counted(bytes: &[u8], size: u64) -> bool {
     let (_, count) = run(bytes);
     if kind(bytes) == 7 {
@@ -184,14 +169,13 @@ fn is_counted(bytes: &[u8], size: u64) -> bool {
     if count > 64 {
         return false;
     }
-    if version(bytes) == 1 {
+    if wire_of(bytes) == 1 {
         return size == count.wrapping_mul(2);
     }
     size % 3 == 0 && size <= 126
 }
 
-/// Whether each pair is of some inputs and of another key set than the one before, and all are of as
-/// many inputs as there are.
+/// Whether each pair has inputs and another key set than the one before, and all pairs have as many inputs as the run.
 fn are_pairs(bytes: &[u8]) -> bool {
     let (_, count) = run(bytes);
     let (mut sum, mut last) = (0, None);
@@ -207,41 +191,42 @@ fn are_pairs(bytes: &[u8]) -> bool {
 
 fn is_beyond(bytes: &[u8]) -> bool {
     let (most, most_rows) = (262148, 262144);
-    let (start, count) = run(bytes);
-    let end = start.wrapping_add(count);
-    let held = number(bytes, 26, 4);
+    let (ack, frame) = (number(bytes, 24, 4), number(bytes, 28, 4));
     match kind(bytes) {
-        2 => number(bytes, 24, 4) > most,
-        3 => number(bytes, 24, 4) > most || number(bytes, 28, 4) > most || end > most,
-        4 => held > most,
-        5 | 6 => held > most || end > held,
-        7 => end > most_rows,
-        8 => number(bytes, 24, 4) > most_rows,
+        2 => ack > most,
+        3 => ack > most || frame > most || end(bytes) > most,
+        4 => bound(bytes) > most,
+        5 | 6 => bound(bytes) > most || end(bytes) > bound(bytes),
+        7 => end(bytes) > most_rows,
+        8 => ack > most_rows,
         _ => false,
     }
 }
 
 /// The tables of what the links do not admit. Of a SEEN neither who says it nor the epochs are judged.
-fn hand(scene: &Scene, bytes: &[u8]) -> Option<HandError> {
-    if number(bytes, 4, 8) != scene.table.session {
+fn hand(version: &Version, scene: &Scene, bytes: &[u8]) -> Option<HandError> {
+    let me = u64::from(scene.me);
+    if number(bytes, 4, 8) != version.session {
         return Some(HandError::Session);
     }
-    if to(bytes) != scene.me {
+    if to(bytes) != me {
         return Some(HandError::NotMine);
     }
     if kind(bytes) == 8 {
         return None;
     }
-    let q = from(bytes);
-    if q == scene.me || q > scene.table.players {
+    if from(bytes) == me || from(bytes) > PLAYERS {
         return Some(HandError::NotMine);
     }
     let (b, a) = (number(bytes, 16, 4), number(bytes, 20, 4));
-    let (known, is_open) = scene.link(q);
     let (stale, ahead, closed) = match kind(bytes) {
-        1 => (b == 0 || b < known, a > EPOCH, false),
-        2 => (b == 0 || b < known || a < EPOCH, a > EPOCH, false),
-        _ => (b < known || a < EPOCH, b > known || a > EPOCH, !is_open),
+        1 => (b < KNOWN, a > EPOCH, false),
+        2 => (b < KNOWN || a < EPOCH, a > EPOCH, false),
+        _ => (
+            b < KNOWN || a < EPOCH,
+            b > KNOWN || a > EPOCH,
+            !scene.is_linked(from(bytes)),
+        ),
     };
     if stale {
         Some(HandError::Stale)
@@ -263,107 +248,127 @@ fn bad_ack(bytes: &[u8], most: u64) -> Option<Refused> {
 }
 
 fn of_data(scene: &Scene, bytes: &[u8]) -> Option<Refused> {
-    let q = from(bytes);
-    if scene.has(Made::Freeze(q)) || scene.has(Made::Leave(q)) {
+    if from(bytes) == scene.frozen {
         return Some(Refused::Known(KnownError::FromLeaver));
     }
-    if let Some(error) = bad_ack(bytes, scene.count(scene.me)) {
+    if let Some(error) = bad_ack(bytes, scene.held(u64::from(scene.me))) {
         return Some(error);
     }
-    if let Some(error) = misfit(scene, bytes, q) {
+    if let Some(error) = misfit(scene, bytes, from(bytes)) {
         return Some(Refused::Known(error));
     }
-    let (frame, mark) = (number(bytes, 28, 4), number(bytes, 32, 8));
-    for (own_frame, own_mark) in MARKS {
-        if own_frame <= scene.confirmed && own_frame == frame && own_mark != mark {
-            return Some(Refused::Desync);
-        }
+    if number(bytes, 28, 4) == 0 && number(bytes, 32, 8) != MARK {
+        return Some(Refused::Desync);
     }
     None
 }
 
 /// Why the run of inputs of a player does not fit what is held.
 fn misfit(scene: &Scene, bytes: &[u8], player: u64) -> Option<KnownError> {
-    let (start, count) = run(bytes);
-    let held = scene.count(player);
-    if start.wrapping_add(count) > LIMIT {
+    let (start, _) = run(bytes);
+    let held = scene.held(player);
+    if end(bytes) > LIMIT {
         return Some(KnownError::Full);
     }
     if start > held {
         return Some(KnownError::Gap);
     }
-    let mut inputs = inputs_of_run(bytes);
-    for frame in start..held.min(start.wrapping_add(count)) {
-        if inputs.next() != u64::from(keys(player, frame)) {
+    for frame in start..held.min(end(bytes)) {
+        if input(bytes, frame.wrapping_sub(start)) != keys(player, frame) {
             return Some(KnownError::Differs);
         }
     }
     None
 }
 
-pub(crate) fn leaver(bytes: &[u8]) -> u64 {
-    number(bytes, 24, 1)
+/// The input at a place of a run.
+fn input(bytes: &[u8], place: u64) -> u64 {
+    let run = run_bytes(bytes);
+    if wire_of(bytes) == 1 {
+        return number(run, (place as usize).saturating_mul(2), 2);
+    }
+    let mut left = place;
+    for pair in run.chunks(3) {
+        let times = number(pair, 0, 1);
+        if left < times {
+            return number(pair, 1, 2);
+        }
+        left = left.wrapping_sub(times);
+    }
+    0
 }
 
 fn of_freeze(scene: &Scene, bytes: &[u8]) -> Option<Refused> {
     if from(bytes) != 1 {
         return Some(Refused::NotChair);
     }
-    if leaver(bytes) == scene.me || leaver(bytes) > scene.table.players {
+    if leaver(bytes) == u64::from(scene.me) || leaver(bytes) > PLAYERS {
         return Some(Refused::WrongLeaver);
     }
     None
 }
 
 fn of_frozen(scene: &Scene, bytes: &[u8]) -> Option<Refused> {
-    let leaver = leaver(bytes);
     if scene.me != 1 {
         return Some(Refused::NotChair);
     }
-    if leaver == from(bytes) || leaver > scene.table.players {
+    if leaver(bytes) == from(bytes) || leaver(bytes) > PLAYERS {
         return Some(Refused::WrongLeaver);
     }
-    if !scene.has(Made::Leave(leaver)) {
+    if leaver(bytes) != scene.frozen {
         return Some(Refused::NotFrozen);
     }
-    if scene.has(Made::Cut(leaver)) {
-        return None;
-    }
-    if number(bytes, 26, 4) > LIMIT {
+    if bound(bytes) > LIMIT {
         return Some(Refused::Known(KnownError::Full));
     }
-    match misfit(scene, bytes, leaver) {
+    match misfit(scene, bytes, leaver(bytes)) {
         Some(error) => Some(Refused::Known(error)),
         None => None,
     }
 }
 
 fn of_cut(scene: &Scene, bytes: &[u8]) -> Option<Refused> {
-    let (leaver, length) = (leaver(bytes), number(bytes, 26, 4));
     if from(bytes) != 1 {
         return Some(Refused::NotChair);
     }
-    if leaver == scene.me {
+    if leaver(bytes) == u64::from(scene.me) {
         return None;
     }
-    if leaver > scene.table.players {
+    if leaver(bytes) > PLAYERS {
         return Some(Refused::WrongLeaver);
     }
-    if !scene.has(Made::Freeze(leaver)) {
+    if leaver(bytes) != scene.frozen {
         return Some(Refused::NotFrozen);
     }
-    let held = scene.count(leaver);
-    if scene.has(Made::Cut(leaver)) {
-        if length != held {
-            return Some(Refused::Known(KnownError::Differs));
-        }
-        return None;
-    }
-    if held > length {
+    if scene.held(leaver(bytes)) > bound(bytes) {
         return Some(Refused::Known(KnownError::Differs));
     }
-    match misfit(scene, bytes, leaver) {
+    match misfit(scene, bytes, leaver(bytes)) {
         Some(error) => Some(Refused::Known(error)),
         None => None,
+    }
+}
+
+/// The answer to a datagram that is not refused.
+fn heard(scene: &Scene, bytes: &[u8]) -> Heard {
+    if kind(bytes) == 6 && leaver(bytes) == u64::from(scene.me) {
+        return Heard::Out;
+    }
+    if is_kept(scene, bytes) {
+        Heard::Kept
+    } else {
+        Heard::Nothing
+    }
+}
+
+/// Whether it brings new inputs, or is the first FREEZE of its leaver, or a CUT of a list that is whole.
+fn is_kept(scene: &Scene, bytes: &[u8]) -> bool {
+    let held = scene.held(leaver(bytes));
+    match kind(bytes) {
+        3 => end(bytes) > scene.held(from(bytes)),
+        4 => leaver(bytes) != scene.frozen,
+        5 => end(bytes) > held,
+        6 => end(bytes) > held || bound(bytes) == held,
+        _ => false,
     }
 }

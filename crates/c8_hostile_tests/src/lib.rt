@@ -1,14 +1,13 @@
-//! The tests of what comes to a peer from outside: datagrams that were cut short, made longer or
-//! changed in one byte on their way, each judged by the documents alone; and calls by chance, none of
-//! which takes memory.
+//! The tests of what a peer gets from outside: datagrams that were cut short, made longer or changed in one byte (`play`), each judged
+//! by the documents alone (`judge`); and that no call of an open peer takes memory (`calls`).
 #![tactic(auto)]
 
-#[cfg(test)]
-mod bytes;
 #[cfg(test)]
 mod calls;
 #[cfg(test)]
 mod judge;
+#[cfg(test)]
+mod letter;
 #[cfg(test)]
 mod play;
 #[cfg(test)]
@@ -16,6 +15,4 @@ mod scene;
 #[cfg(test)]
 mod scenes;
 #[cfg(test)]
-mod taken;
-#[cfg(test)]
-mod told;
+mod tells;

@@ -1,321 +1,237 @@
-//! The scenes: each kind of datagram, to a peer that is to take it, and some that it refuses.
-use crate::scene::{Body, EPOCH, FOUR, Link, MARKS, Made, Said, Scene, THREE};
+//! The scenes: a datagram of each kind at a peer that takes it, and some that are refused. The bytes are those of another program, by
+//! docs/FORMATS.md.
+use crate::scene::{Before, Scene, Step, Text};
 use c8_hand::HandError;
 use c8_known::KnownError;
-use c8_peer::{DecideError, Heard, Refused};
-use c8_wire::WireError;
+use c8_peer::{Heard, Refused};
 
-/// Players 1 and 3 have a link to player 2, who has heard player 4 and has none to it. Player 3 is in
-/// the same epoch as player 1.
-const TO_TWO: [Link; 4] = [(5, true), (0, false), (5, true), (7, false)];
+/// WELCOME of player 1 to player 2, whose two inputs of the delay it acknowledges.
+#[rattlefmt::skip]
+const WELCOME_OF_ONE: Text = (
+    "43380102104023b9c4743fd701020004000000050000000100000002",
+    "43380202627827b6fff3081301020004000000050000000100000002",
+);
 
-/// The same of player 1.
-const TO_ONE: [Link; 4] = [(0, false), (5, true), (5, true), (7, false)];
+/// HELLO of player 3 to player 2, whose epoch it does not know: the link stays closed.
+#[rattlefmt::skip]
+const HELLO_OF_THREE: Text = (
+    "43380101104023b9c4743fd7030200000000000500000000",
+    "43380201627827b6fff30813030200000000000500000000",
+);
 
-/// Player 2 holds 64 inputs of player 1, 34 of player 3, 36 of player 4 and five of its own.
-const HELD: [Made; 4] = [
-    Made::Got(1, 62),
-    Made::Got(3, 32),
-    Made::Got(4, 34),
-    Made::Own(3),
+/// WELCOME of player 3 to player 2.
+#[rattlefmt::skip]
+const WELCOME_OF_THREE: Text = (
+    "43380102104023b9c4743fd703020004000000050000000100000002",
+    "43380202627827b6fff3081303020004000000050000000100000002",
+);
+
+/// DATA of player 1 to player 2: frames 2 to 5.
+#[rattlefmt::skip]
+const DATA_OF_ONE: Text = (
+    "43380103104023b9c4743fd70102001e00000005000000010000000200000000040d1a00552be44e0000000200040100010101010101",
+    "43380203627827b6fff308130102001c00000005000000010000000200000000040d1a00552be44e000000020004010100030101",
+);
+
+/// DATA of player 3 to player 2: frames 2 to 4.
+#[rattlefmt::skip]
+const DATA_OF_THREE: Text = (
+    "43380103104023b9c4743fd70302001c00000005000000010000000200000000040d1a00552be44e000000020003030003010301",
+    "43380203627827b6fff308130302001c00000005000000010000000200000000040d1a00552be44e000000020003010300020301",
+);
+
+/// FREEZE of player 3, by player 1 to player 2.
+#[rattlefmt::skip]
+const FREEZE: Text = (
+    "43380104104023b9c4743fd7010200060000000500000001030000000004",
+    "43380204627827b6fff30813010200060000000500000001030000000004",
+);
+
+/// WELCOME of player 2 to player 1.
+#[rattlefmt::skip]
+const WELCOME_TO_ONE: Text = (
+    "43380102104023b9c4743fd702010004000000050000000100000002",
+    "43380202627827b6fff3081302010004000000050000000100000002",
+);
+
+/// WELCOME of player 3 to player 1.
+#[rattlefmt::skip]
+const THIRD_WELCOME: Text = (
+    "43380102104023b9c4743fd703010004000000050000000100000002",
+    "43380202627827b6fff3081303010004000000050000000100000002",
+);
+
+/// DATA of player 2 to player 1: frames 2 to 5.
+#[rattlefmt::skip]
+const DATA_TO_ONE: Text = (
+    "43380103104023b9c4743fd70201001e00000005000000010000000200000000040d1a00552be44e0000000200040200020102010201",
+    "43380203627827b6fff308130201001c00000005000000010000000200000000040d1a00552be44e000000020004010200030201",
+);
+
+/// DATA of player 3 to player 1: frames 2 to 4.
+#[rattlefmt::skip]
+const THIRD_DATA: Text = (
+    "43380103104023b9c4743fd70301001c00000005000000010000000200000000040d1a00552be44e000000020003030003010301",
+    "43380203627827b6fff308130301001c00000005000000010000000200000000040d1a00552be44e000000020003010300020301",
+);
+
+/// Player 2 holds six inputs of player 1 and five of its own.
+static MET: [Step; 6] = [
+    Step::Hear(WELCOME_OF_ONE),
+    Step::Hear(HELLO_OF_THREE),
+    Step::Hear(DATA_OF_ONE),
+    Step::Tick,
+    Step::Tick,
+    Step::Tick,
 ];
 
-/// The same with 37 of its own.
-const LONG: [Made; 4] = [
-    Made::Got(1, 62),
-    Made::Got(3, 32),
-    Made::Got(4, 34),
-    Made::Own(35),
+/// It holds five of player 3 too, whom player 1 drops.
+static FROZE: [Step; 8] = [
+    Step::Hear(WELCOME_OF_ONE),
+    Step::Hear(WELCOME_OF_THREE),
+    Step::Hear(DATA_OF_ONE),
+    Step::Hear(DATA_OF_THREE),
+    Step::Tick,
+    Step::Tick,
+    Step::Tick,
+    Step::Hear(FREEZE),
 ];
 
-const FROZEN: [Made; 5] = [
-    Made::Got(1, 33),
-    Made::Got(3, 62),
-    Made::Got(4, 34),
-    Made::Own(3),
-    Made::Freeze(3),
+/// Player 1 holds six inputs of player 2, five of player 3, whom it drops, and five of its own.
+static DROPS: [Step; 8] = [
+    Step::Hear(WELCOME_TO_ONE),
+    Step::Hear(THIRD_WELCOME),
+    Step::Hear(DATA_TO_ONE),
+    Step::Hear(THIRD_DATA),
+    Step::Tick,
+    Step::Tick,
+    Step::Tick,
+    Step::Leave,
 ];
 
-const CUT: [Made; 6] = [
-    Made::Got(1, 33),
-    Made::Got(3, 62),
-    Made::Got(4, 34),
-    Made::Own(3),
-    Made::Freeze(3),
-    Made::Cut(3),
-];
+/// HELLO of player 1 to player 2, in the epochs that both know.
+#[rattlefmt::skip]
+const HELLO: Text = (
+    "43380101104023b9c4743fd7010200000000000500000001",
+    "43380201627827b6fff30813010200000000000500000001",
+);
 
-/// Player 1 holds 64 inputs of player 3, whom it lets go, as it did player 4.
-const LET_GO: [Made; 6] = [
-    Made::Got(2, 35),
-    Made::Got(3, 62),
-    Made::Got(4, 32),
-    Made::Own(3),
-    Made::Leave(3),
-    Made::Leave(4),
-];
+/// WELCOME of player 1 to player 2.
+#[rattlefmt::skip]
+const WELCOME: Text = (
+    "43380102104023b9c4743fd701020004000000050000000100000004",
+    "43380202627827b6fff3081301020004000000050000000100000004",
+);
 
-/// Player 3 plays on.
-const LET_ONE_GO: [Made; 5] = [
-    Made::Got(2, 35),
-    Made::Got(3, 62),
-    Made::Got(4, 32),
-    Made::Own(3),
-    Made::Leave(4),
-];
+/// DATA of player 1 to player 2: frames 4 to 7.
+#[rattlefmt::skip]
+const DATA: Text = (
+    "43380103104023b9c4743fd70102001e00000005000000010000000400000000040d1a00552be44e0000000400040101010101020102",
+    "43380203627827b6fff308130102001c00000005000000010000000400000000040d1a00552be44e000000040004020101020102",
+);
 
-const DECIDED: [Made; 7] = [
-    Made::Got(2, 35),
-    Made::Got(3, 62),
-    Made::Got(4, 32),
-    Made::Own(3),
-    Made::Leave(3),
-    Made::Leave(4),
-    Made::Cut(3),
-];
+/// DATA of player 3 to player 2: frames 4 to 7.
+#[rattlefmt::skip]
+const DATA_OF_LEAVER: Text = (
+    "43380103104023b9c4743fd70302001e00000005000000010000000400000000040d1a00552be44e0000000400040301030103020302",
+    "43380203627827b6fff308130302001c00000005000000010000000400000000040d1a00552be44e000000040004020301020302",
+);
 
-const NOTHING: Result<Heard, Refused> = Ok(Heard::Nothing);
+/// FROZEN of player 3, by player 2 to player 1: frames 4 to 6 of seven.
+#[rattlefmt::skip]
+const FROZEN: Text = (
+    "43380105104023b9c4743fd7020100120000000500000001030000000007000000040003030103010302",
+    "43380205627827b6fff30813020100120000000500000001030000000007000000040003020301010302",
+);
+
+/// CUT of player 3 at seven inputs, by player 1 to player 2: frames 4 to 6.
+#[rattlefmt::skip]
+const CUT: Text = (
+    "43380106104023b9c4743fd7010200120000000500000001030000000007000000040003030103010302",
+    "43380206627827b6fff30813010200120000000500000001030000000007000000040003020301010302",
+);
+
+/// CUT of player 2 at five inputs, by player 1 to player 2.
+#[rattlefmt::skip]
+const CUT_OF_TWO: Text = (
+    "43380106104023b9c4743fd70102000e00000005000000010200000000050000000400010201",
+    "43380206627827b6fff308130102000f0000000500000001020000000005000000040001010201",
+);
+
+/// SHOW of player 1 to watcher 5: rows 1 and 2.
+#[rattlefmt::skip]
+const SHOW: Text = (
+    "43380107104023b9c4743fd701050016000000010000000000000001000200000000000000000100020003000000",
+    "43380207627827b6fff3081301050016000000010000000000000001000200000000000000000100020003000000",
+);
+
+/// SEEN of watcher 5 to player 1: two rows.
+#[rattlefmt::skip]
+const SEEN: Text = (
+    "43380108104023b9c4743fd705010004000000000000000000000002",
+    "43380208627827b6fff3081305010004000000000000000000000002",
+);
+
+/// What the peer of a scene does before the datagram comes.
+pub(crate) fn steps(before: Before) -> &'static [Step] {
+    match before {
+        Before::Met => &MET,
+        Before::Froze => &FROZE,
+        Before::Drops => &DROPS,
+    }
+}
 
 const KEPT: Result<Heard, Refused> = Ok(Heard::Kept);
 
-/// The mark of frame 0.
-const MARK: u64 = MARKS[0].1;
+const NOTHING: Result<Heard, Refused> = Ok(Heard::Nothing);
 
-/// 64 inputs, of which player 2 holds all but one.
-const DATA: Body = Body::Data(4, 0, MARK, 1, 64);
+const NOT_MINE: Result<Heard, Refused> = Err(Refused::Hand(HandError::NotMine));
 
-/// The same with the mark of frame 32.
-const LATER: Body = Body::Data(36, 32, MARKS[1].1, 1, 64);
+const FROM_LEAVER: Result<Heard, Refused> = Err(Refused::Known(KnownError::FromLeaver));
 
-const HELLO: Said = (1, 5, Body::Hello);
-
-/// At player 2, with another HELLO in the end.
+/// At player 2.
 const TWO: Scene = Scene {
-    table: &FOUR,
     me: 2,
-    journal: &HELD,
-    confirmed: 3,
-    links: TO_TWO,
-    seen: [0, 0],
+    before: Before::Met,
+    players: [(6, true), (5, false), (2, false)],
+    confirmed: 2,
+    frozen: 0,
     said: HELLO,
     answer: NOTHING,
-    then: HELLO,
-    then_answer: NOTHING,
-    decided: Err(DecideError::NotLeaving),
 };
 
-/// At player 1, likewise; watcher 5 has told of two of the three rows that are confirmed, watcher 6 of one.
-const ONE: Scene = Scene {
-    table: &FOUR,
-    me: 1,
-    journal: &LET_GO,
+/// At player 2, who knows that player 1 drops player 3.
+const FROZEN_AT_TWO: Scene = Scene {
+    before: Before::Froze,
+    players: [(6, true), (5, false), (5, true)],
     confirmed: 3,
-    links: TO_ONE,
-    seen: [2, 1],
-    said: (2, 5, Body::Hello),
-    answer: NOTHING,
-    then: (2, 5, Body::Hello),
-    then_answer: NOTHING,
-    decided: Err(DecideError::NotReady),
-};
-
-/// Of three players: players 1 and 3 have a link to player 2.
-const TO_TWO_OF_THREE: [Link; 4] = [(5, true), (0, false), (6, true), (0, false)];
-
-/// Players 2 and 3 have one to player 1.
-const TO_ONE_OF_THREE: [Link; 4] = [(0, false), (5, true), (6, true), (0, false)];
-
-const TWO_OF_THREE: Scene = Scene {
-    table: &THREE,
-    journal: &[Made::Got(1, 62), Made::Got(3, 32), Made::Own(3)],
-    links: TO_TWO_OF_THREE,
+    frozen: 3,
     ..TWO
 };
 
-static SCENES: [Scene; 28] = [
+/// At player 1, who drops player 3.
+const ONE: Scene = Scene {
+    me: 1,
+    before: Before::Drops,
+    players: [(5, false), (6, true), (5, true)],
+    confirmed: 3,
+    frozen: 3,
+    said: SEEN,
+    answer: NOTHING,
+};
+
+#[rattlefmt::skip]
+static SCENES: [Scene; 10] = [
     TWO,
-    Scene {
-        said: (1, 6, Body::Hello),
-        then: (1, 5, DATA),
-        then_answer: Err(Refused::Hand(HandError::Stale)),
-        ..TWO
-    },
-    Scene {
-        said: (1, 5, Body::Welcome(4)),
-        ..TWO
-    },
-    Scene {
-        said: (1, 6, Body::Welcome(4)),
-        then: (1, 6, DATA),
-        then_answer: KEPT,
-        ..TWO
-    },
-    Scene {
-        journal: &LONG,
-        confirmed: 34,
-        said: (1, 5, LATER),
-        answer: KEPT,
-        then: (1, 5, LATER),
-        ..TWO
-    },
-    Scene {
-        journal: &FROZEN,
-        said: (3, 5, Body::Data(4, 0, MARK, 60, 6)),
-        answer: Err(Refused::Known(KnownError::FromLeaver)),
-        ..TWO
-    },
-    Scene {
-        said: (1, 5, Body::Data(4, 64, 0x0102030405060708, 64, 1)),
-        answer: KEPT,
-        ..TWO
-    },
-    Scene {
-        said: (1, 5, Body::Freeze(3, 33)),
-        answer: KEPT,
-        then: (1, 5, Body::Freeze(3, 33)),
-        ..TWO
-    },
-    Scene {
-        journal: &FROZEN,
-        said: (1, 5, Body::Freeze(3, 62)),
-        ..TWO
-    },
-    Scene {
-        said: (3, 5, Body::Freeze(4, 35)),
-        answer: Err(Refused::NotChair),
-        then: (1, 5, Body::Freeze(4, 33)),
-        then_answer: KEPT,
-        ..TWO
-    },
-    Scene {
-        said: (2, 5, Body::Frozen(3, 65, 1, 64)),
-        answer: KEPT,
-        then: (2, 5, Body::Frozen(3, 65, 1, 64)),
-        decided: Ok(65),
-        ..ONE
-    },
-    Scene {
-        said: (2, 5, Body::Frozen(3, 64, 60, 4)),
-        decided: Ok(64),
-        ..ONE
-    },
-    Scene {
-        journal: &DECIDED,
-        said: (2, 5, Body::Frozen(3, 64, 63, 1)),
-        decided: Err(DecideError::Already),
-        ..ONE
-    },
-    Scene {
-        journal: &LET_ONE_GO,
-        said: (2, 5, Body::Frozen(3, 66, 62, 4)),
-        answer: Err(Refused::NotFrozen),
-        decided: Err(DecideError::NotLeaving),
-        ..ONE
-    },
-    Scene {
-        journal: &FROZEN,
-        said: (1, 5, Body::Cut(3, 65, 1, 64)),
-        answer: KEPT,
-        then: (1, 5, Body::Cut(3, 65, 1, 64)),
-        ..TWO
-    },
-    Scene {
-        journal: &FROZEN,
-        said: (1, 5, Body::Cut(3, 100, 60, 5)),
-        answer: KEPT,
-        then: (1, 5, Body::Cut(3, 100, 60, 5)),
-        ..TWO
-    },
-    Scene {
-        journal: &CUT,
-        said: (1, 5, Body::Cut(3, 64, 63, 1)),
-        ..TWO
-    },
-    Scene {
-        said: (1, 5, Body::Cut(2, 5, 4, 1)),
-        answer: Ok(Heard::Out),
-        then_answer: Err(Refused::Dropped),
-        ..TWO
-    },
-    Scene {
-        said: (1, 5, Body::Cut(3, 36, 33, 3)),
-        answer: Err(Refused::NotFrozen),
-        then: (1, 5, Body::Freeze(3, 33)),
-        then_answer: KEPT,
-        ..TWO
-    },
-    Scene {
-        said: (1, 5, DATA),
-        answer: KEPT,
-        then: (3, 6, Body::Data(4, 0, MARK, 33, 2)),
-        then_answer: KEPT,
-        ..TWO_OF_THREE
-    },
-    Scene {
-        said: (1, 5, Body::Freeze(3, 33)),
-        answer: KEPT,
-        then: (1, 5, Body::Cut(3, 35, 33, 2)),
-        then_answer: KEPT,
-        ..TWO_OF_THREE
-    },
-    Scene {
-        journal: &[
-            Made::Got(1, 62),
-            Made::Got(3, 32),
-            Made::Own(3),
-            Made::Freeze(3),
-        ],
-        said: (1, 5, Body::Cut(3, 35, 33, 2)),
-        answer: KEPT,
-        then: (1, 5, Body::Freeze(3, 33)),
-        ..TWO_OF_THREE
-    },
-    Scene {
-        journal: &[
-            Made::Got(2, 35),
-            Made::Got(3, 62),
-            Made::Own(3),
-            Made::Leave(3),
-        ],
-        links: TO_ONE_OF_THREE,
-        table: &THREE,
-        said: (2, 5, Body::Frozen(3, 65, 63, 2)),
-        answer: KEPT,
-        then: (2, 5, Body::Frozen(3, 65, 65, 0)),
-        decided: Ok(65),
-        ..ONE
-    },
-    Scene {
-        said: (5, 0, Body::Seen(3)),
-        then: (6, 0, Body::Seen(0)),
-        ..ONE
-    },
-    // The most rows that a SEEN may tell of, and then one more than are confirmed.
-    Scene {
-        said: (6, 0, Body::Seen(262144)),
-        answer: Err(Refused::BadAck),
-        then: (5, 0, Body::Seen(4)),
-        then_answer: Err(Refused::BadAck),
-        ..ONE
-    },
-    Scene {
-        said: (5, 0, Body::Seen(3)),
-        answer: Err(Refused::Hand(HandError::NotMine)),
-        ..TWO
-    },
-    // The last rows that a SHOW may have, and then a row too many.
-    Scene {
-        said: (1, 5, Body::Show(5, 262142, 2)),
-        answer: Err(Refused::Hand(HandError::NotMine)),
-        then: (1, 5, Body::Show(5, 0, 17)),
-        then_answer: Err(Refused::Wire(WireError::Count)),
-        ..TWO
-    },
-    Scene {
-        said: (1, EPOCH, Body::Show(6, 0, 2)),
-        answer: Err(Refused::Hand(HandError::NotMine)),
-        ..ONE
-    },
+    Scene { said: WELCOME, ..TWO },
+    Scene { said: DATA, answer: KEPT, ..TWO },
+    Scene { said: DATA_OF_LEAVER, answer: FROM_LEAVER, ..FROZEN_AT_TWO },
+    Scene { said: FREEZE, answer: KEPT, ..TWO },
+    Scene { said: FROZEN, answer: KEPT, ..ONE },
+    Scene { said: CUT, answer: KEPT, ..FROZEN_AT_TWO },
+    Scene { said: CUT_OF_TWO, answer: Ok(Heard::Out), ..TWO },
+    Scene { said: SHOW, answer: NOT_MINE, ..TWO },
+    ONE,
 ];
 
 /// All of them, lent: what walks them is proved of any scenes.

@@ -1,6 +1,6 @@
 //! Thousands of events drawn by chance: whatever they are, who was not let go agrees.
 use crate::rest::go_on;
-use crate::walk::answers;
+use crate::run::{ONE, answer_to};
 use c8_disk::DiskError;
 use c8_game::{Game, Keys, Player};
 use c8_peer::{
@@ -28,8 +28,6 @@ const MOST: u8 = 4;
 
 /// How many draws a match has.
 const DRAWS: u32 = 1200;
-
-const ONE: Player = Player { number: 1 };
 
 /// What has come of events.
 #[derive(Clone, Copy)]
@@ -245,7 +243,7 @@ impl Chance {
 
     /// The rest of a match; then all stop and are opened once more. None where two machines differ.
     fn end(&mut self, alloc: Global, world: &mut World<'_>) -> Option<()> {
-        let leaver = self.leaver().number;
+        let leaver = self.leaver();
         go_on(alloc, world, leaver);
         let goes_well = self.finds_no_other_machine(world);
         for number in 1..MOST + 1 {
@@ -299,29 +297,29 @@ impl Chance {
 
     /// One event.
     fn happen(&mut self, alloc: Global, world: &mut World<'_>, event: Event) {
-        match answers(alloc, world, &[event]) {
-            Some(answers) => self.note(event, answers.first().copied()),
+        match answer_to(alloc, world, event) {
+            Some(answer) => self.note(event, answer),
             None => self.refused = true,
         }
     }
 
     /// Counts what an event was answered.
-    fn note(&mut self, event: Event, answer: Option<Answer>) {
+    fn note(&mut self, event: Event, answer: Answer) {
         if let Event::Fail(_, _) = event {
             count(&mut self.counted.fails);
             self.counted.note_failure(answer);
         }
         match answer {
-            Some(Answer::Said(Ok(_))) => {
+            Answer::Said(Ok(_)) => {
                 self.said = self.said.saturating_add(1);
                 if let Act::Say(_, to, _) = event.act() {
                     self.to = to;
                 }
             }
-            Some(Answer::Delivered(Ok(Heard::Kept))) => count(&mut self.counted.kept),
-            Some(Answer::Stopped) => count(&mut self.counted.stopped),
-            Some(Answer::Decided(Ok(_))) => count(&mut self.counted.cut),
-            Some(Answer::Checked(Ok(Check::Done(_)))) => count(&mut self.counted.saved),
+            Answer::Delivered(Ok(Heard::Kept)) => count(&mut self.counted.kept),
+            Answer::Stopped => count(&mut self.counted.stopped),
+            Answer::Decided(Ok(_)) => count(&mut self.counted.cut),
+            Answer::Checked(Ok(Check::Done(_))) => count(&mut self.counted.saved),
             _ => {}
         }
     }
@@ -329,19 +327,19 @@ impl Chance {
 
 impl Counted {
     /// Counts an answer that a call of the disk failed.
-    fn note_failure(&mut self, answer: Option<Answer>) {
+    fn note_failure(&mut self, answer: Answer) {
         let failed = DiskError::Failed;
-        if answer == Some(Answer::Opened(Err(OpenError::Disk(failed)))) {
+        if answer == Answer::Opened(Err(OpenError::Disk(failed))) {
             count(&mut self.opening);
-        } else if answer == Some(Answer::Ticked(Err(TickError::Disk(failed)))) {
+        } else if answer == Answer::Ticked(Err(TickError::Disk(failed))) {
             count(&mut self.tick);
-        } else if answer == Some(Answer::Delivered(Err(Refused::Disk(failed)))) {
+        } else if answer == Answer::Delivered(Err(Refused::Disk(failed))) {
             count(&mut self.delivery);
-        } else if answer == Some(Answer::Left(Err(LeaveError::Disk(failed))))
-            || answer == Some(Answer::Decided(Err(DecideError::Disk(failed))))
+        } else if answer == Answer::Left(Err(LeaveError::Disk(failed)))
+            || answer == Answer::Decided(Err(DecideError::Disk(failed)))
         {
             count(&mut self.round);
-        } else if answer == Some(Answer::Checked(Err(CheckError::Disk(failed)))) {
+        } else if answer == Answer::Checked(Err(CheckError::Disk(failed))) {
             count(&mut self.check);
         }
     }

@@ -1,13 +1,10 @@
-//! The tests of c8_world that no script of `c8play sim` says: those that do are cases in
-//! crates/c8play_cases/data, whose names begin with `world-`.
+//! The tests of c8_world that no script of `c8play sim` can say: matches by chance whose machines are compared (`chance`, `rest`), disks
+//! of other sizes (`disks`), memory that is refused (`memory`), and the bytes of what was said (`said`). All else stands in
+//! crates/c8play_cases/data, as cases that begin with `sim_` or `world-`.
 #![tactic(auto)]
 
 #[cfg(test)]
-mod agree;
-#[cfg(test)]
 mod chance;
-#[cfg(test)]
-mod checkpoints;
 #[cfg(test)]
 mod disks;
 #[cfg(test)]
@@ -15,16 +12,6 @@ mod memory;
 #[cfg(test)]
 mod rest;
 #[cfg(test)]
-mod round;
+mod run;
 #[cfg(test)]
 mod said;
-#[cfg(test)]
-mod step;
-#[cfg(test)]
-mod stops;
-#[cfg(test)]
-mod trial;
-#[cfg(test)]
-mod versions;
-#[cfg(test)]
-mod walk;

@@ -3,12 +3,12 @@
 //! With ample memory the run is compared with what it must answer. `rt try --test --fail-alloc N`
 //! refuses the Nth allocation: where that is one of the run's, the test fails by the name `STANDS`, or by
 //! another one where something else was found.
-use crate::walk::answers;
+use crate::run::{ONE, TWO, answers_to, ends};
 use c8_disk::DiskError;
-use c8_game::{Game, Keys, Player};
+use c8_game::{Game, Keys};
 use c8_peer::{Heard, Kind, OpenError, TickError};
 use c8_wire::Watcher;
-use c8_world::{Act, Answer, Counts, Event, Posted, RunError, Tally, World};
+use c8_world::{Act, Answer, Counts, Event, Posted, Report, RunError, Tally, World};
 use std::alloc::Global;
 use std::test::Fail;
 
@@ -18,21 +18,14 @@ const GAME: &[u8] =
 
 const STANDS: &str = "out of memory, and what happened before stands";
 
-const ONE: Player = Player { number: 1 };
-
-const TWO: Player = Player { number: 2 };
-
 const HELLO: Event = Event::Do(Act::Say(ONE, TWO, Kind::Hello));
 
-const FIVE: Watcher = Watcher { number: 5 };
-
-const SIX: Watcher = Watcher { number: 6 };
-
 /// Openings of disks that are empty, that have a record, of peers that are down, and inside a failure
-/// and a stop; and sayings, of which there are more than a first allocation has room for. There is room for
+/// and a stop; and more datagrams than a first allocation has room for. There is room for
 /// four datagrams, then for eight, then for sixteen: the one that is shown to a watcher, the fifth, and the one
 /// that a watcher says, the ninth, want more.
-const EVENTS: [Event; 23] = [
+#[rattlefmt::skip]
+static EVENTS: [Event; 23] = [
     Event::Do(Act::Open(ONE)),
     Event::Fail(Act::Open(TWO), 6),
     Event::Do(Act::Open(TWO)),
@@ -50,170 +43,86 @@ const EVENTS: [Event; 23] = [
     Event::Do(Act::Open(TWO)),
     HELLO,
     Event::Fail(Act::Say(ONE, TWO, Kind::Hello), 0),
-    Event::Do(Act::Show(FIVE)),
+    Event::Do(Act::Show(Watcher { number: 5 })),
     HELLO,
     HELLO,
     HELLO,
-    Event::Do(Act::Seen(SIX)),
+    Event::Do(Act::Seen(Watcher { number: 6 })),
     HELLO,
+];
+
+const NOTHING: Answer = Answer::Delivered(Ok(Heard::Nothing));
+
+const NOT_TICKED: Answer = Answer::Ticked(Err(TickError::Disk(DiskError::Failed)));
+
+/// The answers to them, place by place.
+#[rattlefmt::skip]
+static ANSWERS: [Answer; 23] = [
+    Answer::Opened(Ok(1)),
+    Answer::Opened(Err(OpenError::Disk(DiskError::Failed))),
+    Answer::Opened(Ok(2)),
+    Answer::Said(Ok(Posted { number: 0, length: 24 })),
+    NOTHING,
+    Answer::Said(Ok(Posted { number: 1, length: 28 })),
+    NOTHING,
+    Answer::Ticked(Ok(Counts { now: 1, confirmed: 0 })),
+    NOT_TICKED,
+    Answer::Stopped,
+    Answer::Opened(Ok(3)),
+    Answer::Ticked(Ok(Counts { now: 2, confirmed: 0 })),
+    Answer::Ticked(Ok(Counts { now: 1, confirmed: 0 })),
+    NOT_TICKED,
+    Answer::Opened(Ok(3)),
+    Answer::Said(Ok(Posted { number: 2, length: 24 })),
+    Answer::Said(Ok(Posted { number: 3, length: 24 })),
+    Answer::Said(Ok(Posted { number: 4, length: 30 })),
+    Answer::Said(Ok(Posted { number: 5, length: 24 })),
+    Answer::Said(Ok(Posted { number: 6, length: 24 })),
+    Answer::Said(Ok(Posted { number: 7, length: 24 })),
+    Answer::Spoken(Posted { number: 8, length: 28 }),
+    Answer::Said(Ok(Posted { number: 9, length: 24 })),
 ];
 
 /// Where both stand in the end.
+#[rattlefmt::skip]
 const ENDS: [Tally; 2] = [
-    Tally {
-        now: 2,
-        confirmed: 0,
-        held: [2, 0, 0, 0],
-    },
-    Tally {
-        now: 2,
-        confirmed: 0,
-        held: [0, 2, 0, 0],
-    },
+    Tally { now: 2, confirmed: 0, held: [2, 0, 0, 0] },
+    Tally { now: 2, confirmed: 0, held: [0, 2, 0, 0] },
 ];
 
-fn said(number: u64, length: usize) -> Answer {
-    Answer::Said(Ok(Posted { number, length }))
+fn events() -> &'static [Event] {
+    &EVENTS
 }
 
-fn ticked(now: u32) -> Answer {
-    Answer::Ticked(Ok(Counts { now, confirmed: 0 }))
+fn wanted() -> &'static [Answer] {
+    &ANSWERS
 }
 
-/// What the event at a place is answered.
-fn wanted(place: usize) -> Answer {
-    let failed = DiskError::Failed;
-    match place {
-        0 => Answer::Opened(Ok(1)),
-        1 => Answer::Opened(Err(OpenError::Disk(failed))),
-        2 => Answer::Opened(Ok(2)),
-        3 => said(0, 24),
-        5 => said(1, 28),
-        4 | 6 => Answer::Delivered(Ok(Heard::Nothing)),
-        7 | 12 => ticked(1),
-        8 | 13 => Answer::Ticked(Err(TickError::Disk(failed))),
-        9 => Answer::Stopped,
-        10 | 14 => Answer::Opened(Ok(3)),
-        11 => ticked(2),
-        15 => said(2, 24),
-        16 => said(3, 24),
-        17 => said(4, 30),
-        18 => said(5, 24),
-        19 => said(6, 24),
-        20 => said(7, 24),
-        21 => Answer::Spoken(Posted {
-            number: 8,
-            length: 28,
-        }),
-        22 => said(9, 24),
-        _ => Answer::NoSuch,
-    }
-}
-
-/// Whether these are what the events from a place on are answered.
+/// Whether these are the answers to the events from a place on.
 fn are_wanted(answers: &[Answer], from: usize) -> bool {
-    for (place, answer) in answers.iter().enumerate() {
-        if *answer != wanted(place.saturating_add(from)) {
-            return false;
-        }
-    }
-    true
+    wanted().get(from..from.saturating_add(answers.len())) == Some(answers)
 }
 
-/// What a peer tells that is held: whether it is down, its epoch, its ticks, its confirmed frames, and
-/// how many inputs it has of each player.
-type Told = (bool, u32, u32, u32, u32, u32);
-
-fn told(world: &World<'_>, player: Player) -> Option<Told> {
-    let peer = world.peer(player)?;
-    Some((
-        peer.is_down(),
-        peer.epoch(),
-        peer.now(),
-        peer.confirmed(),
-        peer.count(ONE),
-        peer.count(TWO),
-    ))
-}
-
-/// Where the players stand, if they agree.
-fn ends(alloc: Global, world: &World<'_>) -> Option<[Tally; 2]> {
-    let ends = world.ends(alloc).ok()?;
-    match ends.players.as_slice() {
-        [one, two] if ends.agree => Some([*one, *two]),
-        _ => None,
-    }
-}
-
-/// Whether two worlds have said the same, and no watcher has rows.
-fn have_said_the_same(world: &World<'_>, other: &World<'_>) -> bool {
-    for number in 0..world.said() {
-        if world.datagram(number) != other.datagram(number) {
-            return false;
-        }
-    }
-    let rows = (world.watcher(FIVE).count(), world.watcher(SIX).count());
-    world.said() == other.said() && rows == (0, 0)
-}
-
-/// Whether a player stands in two worlds alike; one who was to be opened in the first may be away
-/// there.
-fn is_alike(
-    player: Player,
-    act: Act,
-    world: (Option<Told>, Option<[Tally; 2]>),
-    other: (Option<Told>, Option<[Tally; 2]>),
-) -> bool {
-    if act == Act::Open(player) && world.0.is_none() {
-        return world.1.is_some();
-    }
-    let place = player.place();
-    match (world.1, other.1) {
-        (Some(ends), Some(others)) => world.0 == other.0 && ends.get(place) == others.get(place),
-        _ => false,
-    }
-}
-
-/// Whether a world in which memory was refused at an act is as another one, in which the act has not
-/// happened.
-fn are_alike(alloc: Global, act: Act, world: &World<'_>, other: &World<'_>) -> bool {
-    let (stand, stood) = (ends(alloc, world), ends(alloc, other));
-    have_said_the_same(world, other)
-        && is_alike(
-            ONE,
-            act,
-            (told(world, ONE), stand),
-            (told(other, ONE), stood),
-        )
-        && is_alike(
-            TWO,
-            act,
-            (told(world, TWO), stand),
-            (told(other, TWO), stood),
-        )
-}
-
-/// Whether a world in which memory was refused after so many events is one in which these have
-/// happened, and no other.
-fn stands(alloc: Global, game: &Game, world: &World<'_>, happened: usize) -> bool {
-    let Ok(mut other) = World::new(alloc, game, 7, 20000, 400) else {
-        return false;
+/// How many events happened before memory was refused, each with its answer: all of them if it was not. None after another answer.
+fn run_all(alloc: Global, world: &mut World<'_>) -> Option<usize> {
+    let answers = match world.run(alloc, events()) {
+        Ok(report) => report.answers,
+        Err(RunError::Memory(report)) => report.answers,
     };
-    match (EVENTS.get(..happened), EVENTS.get(happened)) {
-        (Some(before), Some(event)) => {
-            answers(alloc, &mut other, before).is_some()
-                && are_alike(alloc, event.act(), world, &other)
-        }
-        _ => false,
+    if are_wanted(&answers, 0) {
+        Some(answers.len())
+    } else {
+        None
     }
 }
 
-/// Whether the events from a place on come to what they should.
+/// Whether the events from a place on get their answers, and both players then stand where all events bring them: those before have
+/// happened, once, and the one at that place has left nothing.
 fn goes_on(alloc: Global, world: &mut World<'_>, from: usize) -> bool {
-    let Some(rest) = EVENTS.get(from..) else {
+    let Some(rest) = events().get(from..) else {
         return false;
     };
-    match answers(alloc, world, rest) {
+    match answers_to(alloc, world, rest) {
         Some(answers) => {
             answers.len() == rest.len()
                 && are_wanted(&answers, from)
@@ -223,32 +132,26 @@ fn goes_on(alloc: Global, world: &mut World<'_>, from: usize) -> bool {
     }
 }
 
-/// How many events have happened before memory was refused, if they were answered as they should;
-/// none where memory was not refused.
-fn refused_after(alloc: Global, world: &mut World<'_>) -> Result<Option<usize>, Fail> {
-    match world.run(alloc, &EVENTS) {
-        Ok(report) if report.answers.len() == EVENTS.len() && are_wanted(&report.answers, 0) => {
-            Ok(None)
-        }
-        Err(RunError::Memory(report)) if are_wanted(&report.answers, 0) => {
-            Ok(Some(report.answers.len()))
-        }
-        _ => Err(Fail::new("another answer")),
-    }
-}
-
 #[test]
 fn memory_is_refused_inside_a_run(rt: HostRuntime) -> Result<(), Fail> {
     let alloc = rt.alloc();
     let game = Game::read(alloc, GAME)?;
     let mut world = World::new(alloc, &game, 7, 20000, 400)?;
-    match refused_after(alloc, &mut world)? {
-        Some(happened) => {
-            assert!(rt; stands(alloc, &game, &world, happened));
-            assert!(rt; goes_on(alloc, &mut world, happened));
-            return Err(Fail::new(STANDS));
-        }
-        None => assert!(rt; ends(alloc, &world) == Some(ENDS)),
+    let Some(happened) = run_all(alloc, &mut world) else {
+        return Err(Fail::new("another answer"));
+    };
+    assert!(rt; goes_on(alloc, &mut world, happened));
+    if happened < events().len() {
+        return Err(Fail::new(STANDS));
     }
+    Ok(())
+}
+
+#[test]
+fn want_of_memory_is_named(rt: HostRuntime) -> Result<(), Fail> {
+    let answers = Vec::new(rt.alloc());
+    let error = RunError::Memory(Report { answers });
+    let said = format!(in rt.alloc(); "{}, {error}", error.name())?;
+    assert!(rt; said.as_str() == "Memory, out of memory");
     Ok(())
 }

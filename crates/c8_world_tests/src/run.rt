@@ -1,0 +1,37 @@
+//! Events and their answers, and where two players stand.
+use c8_game::Player;
+use c8_world::{Answer, Event, RunError, Tally, World};
+use std::alloc::Global;
+
+pub(crate) const ONE: Player = Player { number: 1 };
+
+pub(crate) const TWO: Player = Player { number: 2 };
+
+/// The answers to some events. None if memory is refused.
+pub(crate) fn answers_to(
+    alloc: Global,
+    world: &mut World<'_>,
+    events: &[Event],
+) -> Option<Vec<Answer>> {
+    match world.run(alloc, events) {
+        Ok(report) => Some(report.answers),
+        Err(RunError::Memory(_)) => None,
+    }
+}
+
+/// The answer to one event. None if memory is refused.
+pub(crate) fn answer_to(alloc: Global, world: &mut World<'_>, event: Event) -> Option<Answer> {
+    match answers_to(alloc, world, &[event]) {
+        Some(answers) => answers.first().copied(),
+        None => None,
+    }
+}
+
+/// Where the players of a match of two stand, if they agree.
+pub(crate) fn ends(alloc: Global, world: &World<'_>) -> Option<[Tally; 2]> {
+    let ends = world.ends(alloc).ok()?;
+    match ends.players.as_slice() {
+        [one, two] if ends.agree => Some([*one, *two]),
+        _ => None,
+    }
+}
