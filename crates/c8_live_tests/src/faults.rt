@@ -1,65 +1,87 @@
 //! What ends a session before its game does.
-use crate::mail::Lossy;
-use crate::play::{game_of, session_on};
-use c8_disk::{Arm, DiskError};
+use crate::players::{TWO, opened};
+use crate::table::none_is;
+use crate::way::Way;
+use c8_disk::{Arm, DiskError, MemDisk};
 use c8_game::{Game, Player};
-use c8_live::{SessionError, WireFailed};
+use c8_live::{Session, SessionError, WireFailed};
 use std::alloc::Global;
 use std::test::Fail;
 
-/// A disk and a way, what the first turn answers, and how that is told.
+/// A disk and a way, and what the first turn answers.
 struct Fault {
     capacity: u32,
     arm: Arm,
     fails_to_send: bool,
     fails_to_receive: bool,
     error: SessionError,
-    told: &'static str,
 }
 
 #[rattlefmt::skip]
-const FAULTS: [Fault; 4] = [
+static FAULTS: [Fault; 4] = [
     Fault { capacity: 100_000, arm: Arm::Stop(0), fails_to_send: false, fails_to_receive: false,
-        error: SessionError::Disk(DiskError::Failed), told: "the disk failed" },
+        error: SessionError::Disk(DiskError::Failed) },
     Fault { capacity: 145, arm: Arm::Off, fails_to_send: false, fails_to_receive: false,
-        error: SessionError::Disk(DiskError::Full), told: "the disk is full" },
+        error: SessionError::Disk(DiskError::Full) },
     Fault { capacity: 100_000, arm: Arm::Off, fails_to_send: true, fails_to_receive: false,
-        error: SessionError::Wire(WireFailed), told: "the other players cannot be reached any more" },
+        error: SessionError::Wire(WireFailed) },
     Fault { capacity: 100_000, arm: Arm::Off, fails_to_send: false, fails_to_receive: true,
-        error: SessionError::Wire(WireFailed), told: "the other players cannot be reached any more" },
+        error: SessionError::Wire(WireFailed) },
 ];
 
 fn faults() -> &'static [Fault] {
     &FAULTS
 }
 
-/// What the first turn of player one answers.
-fn first_turn(alloc: Global, game: &Game, fault: &Fault) -> Result<Result<(), SessionError>, Fail> {
-    let me = Player { number: 1 };
-    let mut session = session_on(alloc, game, me, fault.capacity, fault.arm, 0)?;
-    Ok(session.turn(&mut Lossy {
-        fails_to_send: fault.fails_to_send,
-        fails_to_receive: fault.fails_to_receive,
-    }))
+/// Player one's session on the disk of a fault.
+fn session_on<'g>(alloc: Global, game: &'g Game, fault: &Fault) -> Option<Session<'g, MemDisk>> {
+    let disk = MemDisk::new(alloc, fault.capacity, 4000).ok()?;
+    let mut peer = opened(alloc, disk, game, Player::CHAIR)?;
+    peer.arm(fault.arm);
+    Some(Session::new(peer, game, Vec::new(alloc), None, 0))
+}
+
+/// Whether a fault ends a session in its first turn.
+fn ends(alloc: Global, fault: &Fault) -> bool {
+    let Ok(game) = Game::read(alloc, TWO.as_bytes()) else {
+        return false;
+    };
+    let Some(mut session) = session_on(alloc, &game, fault) else {
+        return false;
+    };
+    let mut way = Way::new(alloc);
+    way.fails_to_send = fault.fails_to_send;
+    way.fails_to_receive = fault.fails_to_receive;
+    session.turn(&mut way) == Err(fault.error)
+}
+
+fn first_wrong(alloc: Global) -> Option<usize> {
+    for (place, fault) in faults().iter().enumerate() {
+        if !ends(alloc, fault) {
+            return Some(place);
+        }
+    }
+    None
 }
 
 /// A disk that fails or is full ends the session, as does a way that fails.
 #[test]
 fn a_fault_ends_the_session(rt: HostRuntime) -> Result<(), Fail> {
-    let game = game_of(rt.alloc(), 2)?;
-    for fault in faults() {
-        let answer = first_turn(rt.alloc(), &game, fault)?;
-        assert!(rt; answer == Err(fault.error), "{answer:?}");
-    }
-    Ok(())
+    none_is(first_wrong(rt.alloc()))
 }
 
 /// Each error has a sentence.
 #[test]
-fn tells_why_a_session_ended(rt: HostRuntime) -> Result<(), Fail> {
-    for fault in faults() {
-        let told = fault.error.to_string(rt.alloc())?;
-        assert!(rt; told.as_str() == fault.told, "{told}");
-    }
+fn says_why_a_session_ended(rt: HostRuntime) -> Result<(), Fail> {
+    let (failed, full) = (
+        SessionError::Disk(DiskError::Failed),
+        SessionError::Disk(DiskError::Full),
+    );
+    let wire = SessionError::Wire(WireFailed);
+    let told = format!(in rt.alloc(); "{failed}; {full}; {wire}")?;
+    assert!(rt;
+        told.as_str()
+            == "the disk failed; the disk is full; the other players cannot be reached any more"
+    );
     Ok(())
 }

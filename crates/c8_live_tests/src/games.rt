@@ -1,222 +1,330 @@
-//! Whole games, played by one thread that gives each session a turn after the other, over
-//! mailboxes in memory.
-use crate::mail::{Lossy, Mail};
-use crate::play::{
-    PATIENCE, cut_of, game_of, many_turns, nth, played_alone, report, session_on, sessions,
-};
-use c8_disk::{Arm, MemDisk};
-use c8_game::{Game, Player};
-use c8_live::{Counters, Progress, Session, tell_end};
+//! Whole games, played by one thread that gives each session a turn after the other.
+use crate::letter::Letter;
+use crate::players::{FOUR, THREE, TWO, is_turn_made, session_of};
+use crate::table::{none_is, place_of};
+use crate::way::Way;
+use c8_disk::MemDisk;
+use c8_game::{Game, Keys, Player, Row};
+use c8_live::{Session, tell_end};
+use c8_machine::Machine;
+use c8_wire::Seat;
 use std::alloc::Global;
-use std::process::Abort;
 use std::test::Fail;
-use std::time::Duration;
+
+/// After how many turns of silence player one drops a player here.
+const PATIENCE: u32 = 60;
+
+/// The player who falls silent, and its place.
+const LEAVER: Player = Player { number: 3 };
+
+const LEAVER_PLACE: usize = 2;
+
+/// The place of nobody.
+const NOBODY: usize = 4;
+
+/// What each player enters, frame by frame. That of the second ends before the game does.
+const FIRST: &[u16] = &[
+    0x20, 0, 0x20, 0x20, 0, 0, 0, 0, 0x20, 0x20, 0x20, 0x20, 0x20, 0, 0, 0, 0, 0, 0, 0x20,
+];
+
+const SECOND: &[u16] = &[0, 0x20, 0];
+
+const THIRD: &[u16] = &[
+    0, 0, 0, 0, 0x20, 0, 0, 0, 0, 0, 0, 0, 0, 0x20, 0, 0, 0, 0, 0, 0, 0x20,
+];
+
+const FOURTH: &[u16] = &[0x20, 0x20];
+
+/// What a player enters.
+fn entered(number: u8) -> &'static [u16] {
+    match number {
+        1 => FIRST,
+        2 => SECOND,
+        3 => THIRD,
+        _ => FOURTH,
+    }
+}
+
+/// What a player enters for a frame, an empty set after the last one.
+fn set_of(number: u8, frame: usize) -> Keys {
+    Keys(entered(number).get(frame).copied().unwrap_or(0))
+}
+
+/// The machine of one who plays alone what all players enter.
+fn played_alone(game: &Game) -> Machine {
+    let mut machine = Machine::start(game);
+    for frame in 0..20 {
+        let row = Row {
+            sets: [
+                set_of(1, frame),
+                set_of(2, frame),
+                set_of(3, frame),
+                set_of(4, frame),
+            ],
+        };
+        machine.frame(game, game.joined(&row));
+    }
+    machine
+}
+
+/// A session, and its way to the others.
+#[derive(Drop)]
+struct Side<'g> {
+    session: Session<'g, MemDisk>,
+    way: Way,
+}
+
+fn side_of<'g>(alloc: Global, game: &'g Game, number: u8) -> Option<Side<'g>> {
+    let patience = if number == 1 {
+        Some(u64::from(PATIENCE))
+    } else {
+        None
+    };
+    let session = session_of(alloc, game, number, patience, entered(number))?;
+    Some(Side {
+        session,
+        way: Way::new(alloc),
+    })
+}
+
+/// The players of a game, player 1 first. Of the packets from one player to another those are lost whose number
+/// is a multiple of `lost`, none if that is 0.
+#[derive(Drop)]
+struct Match<'g> {
+    sides: Vec<Side<'g>>,
+    lost: u32,
+    /// How many packets were sent, by sender and addressee.
+    sent: [[u32; 4]; 4],
+    /// A turn has failed.
+    has_failed: bool,
+}
+
+impl<'g> Match<'g> {
+    fn new(alloc: Global, game: &'g Game, lost: u32) -> Match<'g> {
+        let mut sides = Vec::new(alloc);
+        for number in 1..game.players() + 1 {
+            if let Some(side) = side_of(alloc, game, number) {
+                let _seated = sides.push(side);
+            }
+        }
+        Match {
+            sides,
+            lost,
+            sent: [[0; 4]; 4],
+            has_failed: false,
+        }
+    }
+
+    /// This many turns of each, in order of number, but of the silent one none.
+    fn rounds(&mut self, alloc: Global, count: u32, silent: usize) {
+        for _ in 0..count {
+            self.round(alloc, silent);
+        }
+    }
+
+    fn round(&mut self, alloc: Global, silent: usize) {
+        for place in 0..4 {
+            if place != silent {
+                self.turn(alloc, place);
+            }
+        }
+    }
+
+    /// One turn of the player at a place, unless its session is over. What it sends waits for the others.
+    fn turn(&mut self, alloc: Global, place: usize) {
+        let Some(side) = self.sides.get_mut(place) else {
+            return;
+        };
+        if side.session.is_over() {
+            return;
+        }
+        let is_made = is_turn_made(&mut side.session, &mut side.way);
+        let sent = std::mem::replace(&mut side.way.sent, Vec::new(alloc));
+        self.has_failed = self.has_failed || !is_made;
+        for (to, letter) in &sent {
+            self.carry(place, *to, letter);
+        }
+    }
+
+    /// A packet goes from the player at a place to a seat, or is lost.
+    fn carry(&mut self, from: usize, to: Seat, letter: &Letter) {
+        let to = place_of(to.number);
+        if self.is_lost(from, to) {
+            return;
+        }
+        if let Some(side) = self.sides.get_mut(to) {
+            let _posted = side.way.post(letter);
+        }
+    }
+
+    /// Counts a packet from one place to another, and says whether it is lost.
+    fn is_lost(&mut self, from: usize, to: usize) -> bool {
+        let Some(sent) = self.sent.get_mut(from) else {
+            return false;
+        };
+        let Some(count) = sent.get_mut(to) else {
+            return false;
+        };
+        let number = count.saturating_add(1);
+        *count = number;
+        self.lost > 0 && number % self.lost == 0
+    }
+
+    /// Whether all is confirmed and acknowledged at player one, and whether its session is over.
+    fn is_done(&self) -> (bool, bool) {
+        match self.sides.get(0) {
+            Some(one) => (is_finished(&one.session), one.session.is_over()),
+            None => (false, false),
+        }
+    }
+
+    /// Whether all ended with all frames confirmed, and with the machine of all rows.
+    fn has_ended_well(&self, game: &Game) -> bool {
+        let alone = played_alone(game);
+        for side in &self.sides {
+            if !has_ended_with(&side.session, &alone) {
+                return false;
+            }
+        }
+        !self.has_failed && self.sides.len() == usize::from(game.players())
+    }
+}
+
+/// Whether all is confirmed at a session, and acknowledged by all other players than player one.
+fn is_finished(session: &Session<'_, MemDisk>) -> bool {
+    let peer = session.peer();
+    for number in 2..peer.players() + 1 {
+        if let Some(player) = Player::new(number)
+            && peer.acked(player) < 20
+        {
+            return false;
+        }
+    }
+    peer.confirmed() == 20
+}
+
+/// Whether a session ended with all frames confirmed, and with this machine.
+fn has_ended_with(session: &Session<'_, MemDisk>, machine: &Machine) -> bool {
+    let peer = session.peer();
+    let (frames, confirmed) = peer.base();
+    frames == 20 && *confirmed == *machine && session.is_over() && !peer.dropped() && !peer.alarm()
+}
+
+/// In which of 400 rounds player one is finished, and in which its session is over; 0 if that never is so.
+fn last_rounds(alloc: Global, all: &mut Match<'_>) -> (u32, u32) {
+    let (mut finished, mut ended) = (0, 0);
+    for round in 1..401 {
+        all.round(alloc, NOBODY);
+        let (is_finished, is_over) = all.is_done();
+        if finished == 0 && is_finished {
+            finished = round;
+        }
+        if ended == 0 && is_over {
+            ended = round;
+        }
+    }
+    (finished, ended)
+}
 
 /// How many players play, and which packets are lost.
-const GAMES: [(u8, u32); 6] = [(2, 0), (2, 3), (3, 0), (3, 3), (4, 0), (4, 3)];
+static GAMES: [(u8, u32); 6] = [(2, 0), (2, 3), (3, 0), (3, 3), (4, 0), (4, 3)];
 
 fn games() -> &'static [(u8, u32)] {
     &GAMES
 }
 
-/// Whether all ended as they should.
-fn all_ended(
-    alloc: Global,
-    sessions: &Vec<Session<'_, MemDisk>>,
-    wanted: &[u8],
-) -> Result<bool, Fail> {
-    for session in sessions {
-        let printed = report(alloc, session)?;
-        let (over, peer) = (session.is_over(), session.peer());
-        if printed.as_slice() != wanted || !over || peer.dropped() || peer.alarm() {
-            return Ok(false);
+/// Whether all end well, and player one rests for 120 turns after the one in which all is confirmed and acknowledged.
+fn ends_well(alloc: Global, players: u8, lost: u32) -> bool {
+    let text = match players {
+        2 => TWO,
+        3 => THREE,
+        _ => FOUR,
+    };
+    let Ok(game) = Game::read(alloc, text.as_bytes()) else {
+        return false;
+    };
+    let mut all = Match::new(alloc, &game, lost);
+    let (finished, ended) = last_rounds(alloc, &mut all);
+    finished > 0 && ended == finished.saturating_add(120) && all.has_ended_well(&game)
+}
+
+fn first_wrong(alloc: Global) -> Option<usize> {
+    for (place, (players, lost)) in games().iter().enumerate() {
+        if !ends_well(alloc, *players, *lost) {
+            return Some(place);
         }
     }
-    Ok(true)
+    None
 }
 
-/// Whether all end with all frames confirmed, and with the machine of their rows.
-fn ends_well(alloc: Global, game: &Game, lost: u32) -> Result<bool, Fail> {
-    let mut sessions = sessions(alloc, game)?;
-    let mut mail = Mail::new(alloc, lost);
-    many_turns(&mut sessions, &mut mail, 400, &[])?;
-    let wanted = played_alone(alloc, game)?;
-    Ok(wanted.starts_with(b"frames 20\n") && all_ended(alloc, &sessions, &wanted)?)
-}
-
-/// All players end with all frames confirmed, and with the machine of their rows.
+/// All players end with all frames confirmed, and with the machine of all rows, whatever is lost between them.
 #[test]
 fn all_end_with_the_machine_of_all_rows(rt: HostRuntime) -> Result<(), Fail> {
-    for (players, lost) in games() {
-        let game = game_of(rt.alloc(), *players)?;
-        assert!(rt;
-            ends_well(rt.alloc(), &game, *lost)?,
-            "{players} players, lost {lost}"
-        );
+    none_is(first_wrong(rt.alloc()))
+}
+
+/// Whether player one has not dropped player 3.
+fn is_patient(all: &Match<'_>) -> bool {
+    match all.sides.get(0) {
+        Some(one) => !one.session.peer().leaving(LEAVER),
+        None => false,
     }
-    Ok(())
 }
 
-/// Whether players one and two have cut player three at one length, and ended with one machine.
-fn two_agree(alloc: Global, sessions: &Vec<Session<'_, MemDisk>>) -> Result<bool, Fail> {
-    let (one, two) = (nth(sessions, 0)?, nth(sessions, 1)?);
-    let told = report(alloc, one)?;
-    let cut = cut_of(one, 3);
-    Ok(
-        told.starts_with(b"frames 20\n")
-            && told.as_slice() == report(alloc, two)?.as_slice()
-            && cut.is_some()
-            && cut_of(two, 3) == cut,
-    )
+/// Whether two sessions have all frames confirmed with one machine, and have cut player 3 at one length.
+fn agree(one: &Session<'_, MemDisk>, two: &Session<'_, MemDisk>) -> bool {
+    let (one, two) = (one.peer(), two.peer());
+    let ((frames, machine), (others, other)) = (one.base(), two.base());
+    let cut = one.cut_of(LEAVER);
+    frames == 20 && others == 20 && *machine == *other && cut.is_some() && two.cut_of(LEAVER) == cut
 }
 
-/// Which of three players are over.
-fn over(sessions: &Vec<Session<'_, MemDisk>>) -> Result<(bool, bool, bool), Fail> {
-    Ok((
-        nth(sessions, 0)?.is_over(),
-        nth(sessions, 1)?.is_over(),
-        nth(sessions, 2)?.is_over(),
-    ))
-}
-
-/// How a session is told to have ended, after so many turns.
-fn end_of(alloc: Global, session: &Session<'_, MemDisk>) -> Result<Vec<u8>, Fail> {
-    let mut told = Vec::new(alloc);
-    tell_end(&mut told, 400, session)?;
-    Ok(told)
-}
-
-/// Player 3 falls silent; the others cut it at one length and end with one machine. When it speaks
-/// again it learns that it has been dropped, and that is its end.
-fn drops_the_silent(rt: &impl Abort, alloc: Global, game: &Game, lost: u32) -> Result<(), Fail> {
-    let mut sessions = sessions(alloc, game)?;
-    let mut mail = Mail::new(alloc, lost);
-    many_turns(&mut sessions, &mut mail, 12, &[])?;
-    many_turns(&mut sessions, &mut mail, PATIENCE - 1, &[3])?;
-    assert!(rt; !nth(&sessions, 0)?.peer().leaving(Player { number: 3 }));
-    many_turns(&mut sessions, &mut mail, 400, &[3])?;
-    assert!(rt; two_agree(alloc, &sessions)?);
-    assert!(rt; over(&sessions)? == (true, true, false));
-    many_turns(&mut sessions, &mut mail, 200, &[1, 2])?;
-    assert!(rt; nth(&sessions, 2)?.peer().dropped() && nth(&sessions, 2)?.is_over());
-    let (stayed, left) = (
-        end_of(alloc, nth(&sessions, 0)?)?,
-        end_of(alloc, nth(&sessions, 2)?)?,
-    );
-    assert!(rt; stayed.as_slice() == b"all 20 frames are confirmed\n".as_slice());
-    assert!(rt; left.as_slice() == b"dropped by player 1\n".as_slice());
-    Ok(())
-}
-
-#[test]
-fn who_falls_silent_is_dropped(rt: HostRuntime) -> Result<(), Fail> {
-    let game = game_of(rt.alloc(), 3)?;
-    for lost in [0, 3] {
-        drops_the_silent(&rt, rt.alloc(), &game, lost)?;
-    }
-    Ok(())
-}
-
-/// How many frames a session has ticked, how many are confirmed, and whether it is over.
-fn stands(session: &Session<'_, MemDisk>) -> (u32, u32, bool) {
-    let peer = session.peer();
-    (peer.now(), peer.confirmed(), session.is_over())
-}
-
-/// For how many turns player 2 has been silent, and whether it is let go.
-fn misses_two(session: &Session<'_, MemDisk>) -> (u64, bool) {
-    let two = Player { number: 2 };
-    (session.silent(two), session.peer().leaving(two))
-}
-
-/// Where nobody answers, a peer enters what the window allows, in the text's order, and player one
-/// lets go of those who were never heard when its patience is at its end.
-#[test]
-fn nobody_else_is_there(rt: HostRuntime) -> Result<(), Fail> {
-    let game = game_of(rt.alloc(), 2)?;
-    let mut sessions = sessions(rt.alloc(), &game)?;
-    let mut mail = Mail::new(rt.alloc(), 1);
-    many_turns(&mut sessions, &mut mail, PATIENCE - 1, &[2])?;
-    assert!(rt; stands(nth(&sessions, 0)?) == (8, 0, false));
-    assert!(rt; misses_two(nth(&sessions, 0)?) == (59, false));
-    many_turns(&mut sessions, &mut mail, 200, &[2])?;
-    assert!(rt; stands(nth(&sessions, 0)?) == (20, 20, true));
-    assert!(rt; cut_of(nth(&sessions, 0)?, 2) == Some(0));
-    Ok(())
-}
-
-/// Whether all is confirmed and acknowledged at player one of two.
-fn is_finished(session: &Session<'_, MemDisk>) -> bool {
-    let peer = session.peer();
-    peer.players() == 2 && peer.confirmed() == 20 && peer.acked(Player { number: 2 }) >= 20
-}
-
-/// In which turn player one of two is finished, and in which it is over; 0 if it never is.
-fn last_turns(
-    sessions: &mut Vec<Session<'_, MemDisk>>,
-    mail: &mut Mail,
-) -> Result<(u32, u32), Fail> {
-    let (mut finished, mut ended) = (0, 0);
-    for turn in 1..401 {
-        many_turns(sessions, mail, 1, &[])?;
-        let one = nth(sessions, 0)?;
-        if finished == 0 && is_finished(one) {
-            finished = turn;
-        }
-        if ended == 0 && one.is_over() {
-            ended = turn;
-        }
-    }
-    Ok((finished, ended))
-}
-
-/// A peer rests for 120 turns after the one in which all is confirmed and acknowledged.
-#[test]
-fn rests_before_it_ends(rt: HostRuntime) -> Result<(), Fail> {
-    let game = game_of(rt.alloc(), 2)?;
-    let mut sessions = sessions(rt.alloc(), &game)?;
-    let mut mail = Mail::new(rt.alloc(), 0);
-    let (finished, ended) = last_turns(&mut sessions, &mut mail)?;
-    assert!(rt;
-        finished > 0 && ended == finished.saturating_add(120),
-        "{finished} {ended}"
-    );
-    Ok(())
-}
-
-/// What player 2 of four tells in nine turns of a quarter of a second in which nobody is heard.
-fn told_alone(alloc: Global, game: &Game) -> Result<Vec<u8>, Fail> {
-    let mut session = session_on(alloc, game, Player { number: 2 }, 100_000, Arm::Off, 0)?;
-    let mut wire = Lossy {
-        fails_to_send: false,
-        fails_to_receive: false,
+/// Whether players 1 and 2 have ended without player 3, whose session is not over.
+fn have_dropped(all: &Match<'_>) -> bool {
+    let [one, two, three] = all.sides.as_slice() else {
+        return false;
     };
-    let mut told = Vec::new(alloc);
-    let counters = Counters::new();
-    let mut progress = Progress::new(Duration::from_millis(500), Player { number: 2 }, 4);
-    for turn in 1..10 {
-        session.turn(&mut wire)?;
-        counters.note(&session, 0);
-        let now = Duration::from_millis(500 + 250 * turn);
-        let confirmed = session.peer().confirmed();
-        progress.tell(&mut told, now, confirmed, &counters.take())?;
-    }
-    tell_end(&mut told, 9, &session)?;
-    Ok(told)
+    agree(&one.session, &two.session)
+        && one.session.is_over()
+        && two.session.is_over()
+        && !three.session.is_over()
 }
 
-const PROGRESS: &[u8] = b"\
-    ticked 4, confirmed 0, rollbacks 0, longest 0, \
-    player 1 silent for 1000 ms, player 3 silent for 1000 ms, player 4 silent for 1000 ms\n\
-    ticked 8, confirmed 0, rollbacks 0, longest 0, \
-    player 1 silent for 2000 ms, player 3 silent for 2000 ms, player 4 silent for 2000 ms\n\
-    0 of 20 frames after 9 turns\n";
+/// Whether just this is printed of how a session ended.
+fn ends_by(alloc: Global, session: &Session<'_, MemDisk>, wanted: &[u8]) -> bool {
+    let mut told = Vec::new(alloc);
+    tell_end(&mut told, 400, session).is_ok() && told.as_slice() == wanted
+}
 
-/// A line each second, and one at the end: how far the game is, and that nobody was heard.
+/// Whether player 3 has learnt that it was dropped, which is its end, and both ends are printed.
+fn is_dropped(alloc: Global, all: &Match<'_>) -> bool {
+    let [one, _, three] = all.sides.as_slice() else {
+        return false;
+    };
+    three.session.peer().dropped()
+        && three.session.is_over()
+        && ends_by(alloc, &one.session, b"all 20 frames are confirmed\n")
+        && ends_by(alloc, &three.session, b"dropped by player 1\n")
+}
+
+/// Player 3 falls silent; the others cut it at one length and end with one machine. When it speaks again it learns that
+/// it was dropped.
+fn drops_the_silent(alloc: Global, lost: u32) -> bool {
+    let Ok(game) = Game::read(alloc, THREE.as_bytes()) else {
+        return false;
+    };
+    let mut all = Match::new(alloc, &game, lost);
+    all.rounds(alloc, 12, NOBODY);
+    all.rounds(alloc, PATIENCE - 1, LEAVER_PLACE);
+    let is_kept = is_patient(&all);
+    all.rounds(alloc, 400, LEAVER_PLACE);
+    let are_two = have_dropped(&all);
+    all.rounds(alloc, 200, NOBODY);
+    is_kept && are_two && is_dropped(alloc, &all) && !all.has_failed
+}
+
 #[test]
-fn says_where_it_stands(rt: HostRuntime) -> Result<(), Fail> {
-    let game = game_of(rt.alloc(), 4)?;
-    let told = told_alone(rt.alloc(), &game)?;
-    assert!(rt; told.as_slice() == PROGRESS);
-    Ok(())
+fn who_falls_silent_is_dropped(rt: HostRuntime) {
+    assert!(rt; drops_the_silent(rt.alloc(), 0));
+    assert!(rt; drops_the_silent(rt.alloc(), 3));
 }

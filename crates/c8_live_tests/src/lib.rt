@@ -1,11 +1,10 @@
-//! The tests of c8_live.
+//! Tests of c8_live's session, and of what a person reads of it.
 //!
-//! `games` plays whole games in one thread, `checkpoints` such in which checkpoints are made, `turns`
-//! compares all that each turn says, `told` what a person is told meanwhile. Tables are lent by functions that say nothing of them: a proof is then of any rows.
+//! `turns` plays scripts: what the other players send before each turn, and all that the turn sends. `games`
+//! plays whole games in one thread, `faults` has what ends a session, `lines` what a person reads meanwhile.
+//! Scripts and rows are lent by functions without a contract: a proof then holds for any of them.
 #![tactic(auto)]
 
-#[cfg(test)]
-mod checkpoints;
 #[cfg(test)]
 mod faults;
 #[cfg(test)]
@@ -13,14 +12,14 @@ mod games;
 #[cfg(test)]
 mod letter;
 #[cfg(test)]
-mod mail;
+mod lines;
 #[cfg(test)]
-mod play;
+mod players;
 #[cfg(test)]
-mod rows;
+mod step;
 #[cfg(test)]
 mod table;
 #[cfg(test)]
-mod told;
-#[cfg(test)]
 mod turns;
+#[cfg(test)]
+mod way;

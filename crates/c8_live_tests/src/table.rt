@@ -1,336 +1,339 @@
-//! A session whose turns are written down, and peers of the other players, whose datagrams are
-//! carried by hand.
-
+//! A session whose datagrams are read, and peers of the other players, whose datagrams are carried by hand.
 use crate::letter::{Letter, letter_of};
-use crate::play::opened;
-use crate::rows::{Comes, DATA, FREEZE, FROZEN, HELLO, WELCOME};
+use crate::players::{is_turn_made, new_peer, opened, session_of};
+use crate::step::{DATA, FREEZE, FROZEN, HELLO, Step, WELCOME};
+use crate::way::Way;
 use c8_disk::MemDisk;
 use c8_game::{Game, Keys, Player};
-use c8_keys::key_sets;
-use c8_live::{LONGEST_PACKET, Session, Traffic, Wire, WireFailed};
-use c8_peer::{Kind, Peer, Refused};
-use c8_wire::{Datagram, LONGEST_DATAGRAM, Seat, view};
-use std::alloc::{AllocError, Global};
+use c8_live::{Counters, Progress, Session};
+use c8_peer::{Kind, Peer};
+use c8_wire::{Datagram, LONGEST_DATAGRAM, Seat, Watcher, view};
+use std::alloc::Global;
+use std::io;
+use std::io::Write;
 use std::test::Fail;
+use std::time::Duration;
 
-/// A way on which packets wait, and which keeps what is sent, with its addressee.
-#[derive(Drop)]
-struct Recorder {
-    waiting: Vec<Letter>,
-    /// How many of them have been taken.
-    taken: usize,
-    sent: Vec<(Seat, Letter)>,
-    traffic: Traffic,
+/// How many milliseconds lie between two lines that a person may read.
+const PAUSE: u64 = 400;
+
+/// The place of a seat among all; that of player 1 is 0.
+pub(crate) fn place_of(number: u8) -> usize {
+    usize::from(number).wrapping_sub(1)
 }
 
-impl Wire for Recorder {
-    ghost sent = { λ wire. wire.traffic.sent.items };
-
-    ghost received = { λ wire. wire.traffic.received.items };
-
-    fn send(&mut self, to: Seat, datagram: &[u8]) -> Result<(), WireFailed> {
-        match self.sent.push((to, letter_of(datagram))) {
-            Ok(()) => {
-                self.traffic.took(datagram);
-                Ok(())
-            }
-            Err(_) => Err(WireFailed),
-        }
-    }
-
-    fn receive(&mut self, packet: &mut [u8; LONGEST_PACKET]) -> Result<Option<usize>, WireFailed> {
-        let Some(letter) = self.waiting.get(self.taken) else {
-            return Ok(None);
-        };
-        packet.copy_from_slice(&letter.bytes);
-        let size = letter.size.min(LONGEST_PACKET);
-        self.taken = self.taken.saturating_add(1);
-        self.traffic.gave(&packet[..size]);
-        Ok(Some(size))
-    }
-}
-
-/// The number of the player of whom a datagram tells that it leaves.
-fn leaver_of(datagram: &Datagram<'_>) -> Option<u8> {
-    match datagram {
-        Datagram::Hello(_) | Datagram::Welcome(_) | Datagram::Data(_) => None,
-        Datagram::Show(_) | Datagram::Seen(_) => None,
-        Datagram::Freeze(freeze) => Some(freeze.leaver().number),
-        Datagram::Frozen(frozen) => Some(frozen.leaver().number),
-        Datagram::Cut(cut) => Some(cut.leaver().number),
-    }
-}
-
-/// A datagram that was sent: its addressee, its kind and its leaver, as `2 FREEZE 3`.
-fn name_of(alloc: Global, to: Seat, letter: &Letter) -> Result<String, AllocError> {
-    let to = to.number;
-    let datagram = match view(letter.packet()) {
-        Ok(datagram) if datagram.header().to().number == to => datagram,
-        _ => return format!(in alloc; "{to} nothing that is for it"),
-    };
-    let kind = datagram.header().kind();
-    match leaver_of(&datagram) {
-        Some(leaver) => format!(in alloc; "{to} {kind} {leaver}"),
-        None => format!(in alloc; "{to} {kind}"),
-    }
-}
-
-/// The player of a number from 1 to 4.
-fn player(number: u8) -> Player {
-    Player::new(number).unwrap_or(Player { number: 1 })
-}
-
-/// What a row says, about a leaver where it is about one.
+/// What a script's kind is, about this leaver where the kind has one.
 fn kind_of(what: u8, leaver: u8) -> Kind {
+    let leaver = Player::new(leaver).unwrap_or(Player::CHAIR);
     match what {
         HELLO => Kind::Hello,
         WELCOME => Kind::Welcome,
         DATA => Kind::Data,
-        FREEZE => Kind::Freeze(player(leaver)),
-        FROZEN => Kind::Frozen(player(leaver)),
-        _ => Kind::Cut(player(leaver)),
+        FREEZE => Kind::Freeze(leaver),
+        FROZEN => Kind::Frozen(leaver),
+        _ => Kind::Cut(leaver),
     }
 }
 
-/// A player's peer over an empty disk with ample room.
-fn new_peer<'g>(alloc: Global, game: &'g Game, number: u8) -> Result<Peer<'g, MemDisk>, Fail> {
-    opened(
-        alloc,
-        MemDisk::new(alloc, 100_000, 4000)?,
-        game,
-        player(number),
-    )
+/// The leaver whom a datagram names.
+fn leaver_of(datagram: &Datagram<'_>) -> Option<u8> {
+    match datagram {
+        Datagram::Freeze(freeze) => Some(freeze.leaver().number),
+        Datagram::Frozen(frozen) => Some(frozen.leaver().number),
+        Datagram::Cut(cut) => Some(cut.leaver().number),
+        _ => None,
+    }
 }
 
-/// A peer of each player of a game but one.
-fn others_of<'g>(alloc: Global, game: &'g Game, me: u8) -> Result<Vec<Peer<'g, MemDisk>>, Fail> {
+/// Writes a datagram that was sent: its addressee, its kind and its leaver, as `2 FREEZE 3`.
+fn tell(out: &mut Vec<u8>, to: u8, datagram: &Datagram<'_>) -> io::Result<()> {
+    let kind = datagram.header().kind();
+    match leaver_of(datagram) {
+        Some(leaver) => write!(out, "{to} {kind} {leaver}"),
+        None => write!(out, "{to} {kind}"),
+    }
+}
+
+/// Writes what was sent to a seat. What is no datagram for it is `2 nothing`.
+fn tell_next(out: &mut Vec<u8>, to: u8, letter: &Letter) -> io::Result<()> {
+    if !out.is_empty() {
+        write!(out, ", ")?;
+    }
+    match view(letter.packet()) {
+        Ok(datagram) if datagram.header().to().number == to => tell(out, to, &datagram),
+        _ => write!(out, "{to} nothing"),
+    }
+}
+
+/// Whether just these datagrams were sent, in words.
+fn are_sent(alloc: Global, sent: &[(Seat, Letter)], wanted: &str) -> bool {
+    let mut told = Vec::new(alloc);
+    for (to, letter) in sent {
+        let _told = tell_next(&mut told, to.number, letter);
+    }
+    told.as_slice() == wanted.as_bytes()
+}
+
+/// Player one drops a player, or cuts its list, so that it can say so.
+fn prepare(peer: &mut Peer<'_, MemDisk>, kind: Kind) {
+    match kind {
+        Kind::Freeze(leaver) => {
+            let _dropped = peer.leave(leaver);
+        }
+        Kind::Cut(leaver) => {
+            let _length = peer.decide(leaver);
+        }
+        _ => {}
+    }
+}
+
+/// What a peer says to a player, if it can be said.
+fn said_by(peer: &Peer<'_, MemDisk>, to: Player, kind: Kind) -> Option<Letter> {
+    let mut bytes = [0; LONGEST_DATAGRAM];
+    let size = peer.say(to, kind, &mut bytes).ok()?;
+    Some(letter_of(&bytes[..size]))
+}
+
+/// A peer of each player of a game, player 1's place first, but none of this one.
+fn others_of<'g>(alloc: Global, game: &'g Game, me: u8) -> Vec<Option<Peer<'g, MemDisk>>> {
     let mut others = Vec::new(alloc);
     for number in 1..game.players() + 1 {
-        if number != me {
-            others.push(new_peer(alloc, game, number)?)?;
-        }
+        let other = if number == me {
+            None
+        } else {
+            new_peer(alloc, game, number)
+        };
+        let _seated = others.push(other);
     }
-    Ok(others)
+    others
 }
 
-/// A session of a player, with the lines that it enters.
-fn session_of<'g>(
-    alloc: Global,
-    game: &'g Game,
-    me: u8,
-    lines: &str,
-    patience: Option<u64>,
-) -> Result<Session<'g, MemDisk>, Fail> {
-    let peer = new_peer(alloc, game, me)?;
-    let keys = key_sets(alloc, lines.as_bytes())?;
-    Ok(Session::new(peer, game, keys, patience, 0))
+/// The peer of a player hears a datagram.
+fn deliver(others: &mut Vec<Option<Peer<'_, MemDisk>>>, to: u8, letter: &Letter) {
+    if let Some(Some(peer)) = others.get_mut(place_of(to)) {
+        let _heard = peer.deliver(letter.packet());
+    }
 }
 
-/// The session, and a peer of each other player.
+/// A session, and the peers of the other players.
 #[derive(Drop)]
-pub(crate) struct Table<'g> {
-    alloc: Global,
+struct Table<'g> {
     game: &'g Game,
-    pub(crate) session: Session<'g, MemDisk>,
-    others: Vec<Peer<'g, MemDisk>>,
-    /// Hears what the session hears, and enters empty key sets: it answers as the session's own peer
-    /// does where that enters nothing either and lets nobody go.
-    twin: Peer<'g, MemDisk>,
-    /// How the twin refused the last packet, if it did.
-    refusal: Option<Refused>,
-    wire: Recorder,
+    session: Session<'g, MemDisk>,
+    /// Player 1's place first; none at the session's own place.
+    others: Vec<Option<Peer<'g, MemDisk>>>,
+    way: Way,
+    /// A datagram that may come again.
+    kept: Letter,
+    counters: Counters,
+    progress: Progress,
+    /// How much time has gone by.
+    millis: u64,
 }
 
 impl<'g> Table<'g> {
-    /// The session of player `me`, to whom nobody has a link, with the lines that it enters.
-    pub(crate) fn new(
+    /// The session of a player, who enters these key sets. It has no link to anybody.
+    fn new(
         alloc: Global,
         game: &'g Game,
-        me: u8,
-        lines: &str,
+        number: u8,
         patience: Option<u64>,
-    ) -> Result<Table<'g>, Fail> {
-        let session = session_of(alloc, game, me, lines, patience)?;
-        let twin = new_peer(alloc, game, me)?;
-        let others = others_of(alloc, game, me)?;
-        let wire = Recorder {
-            waiting: Vec::new(alloc),
-            taken: 0,
-            sent: Vec::new(alloc),
-            traffic: Traffic::new(),
-        };
-        Ok(Table {
-            alloc,
+        keys: &[u16],
+    ) -> Option<Table<'g>> {
+        let session = session_of(alloc, game, number, patience, keys)?;
+        let me = session.peer().me();
+        Some(Table {
             game,
             session,
-            others,
-            twin,
-            refusal: None,
-            wire,
+            others: others_of(alloc, game, number),
+            way: Way::new(alloc),
+            kept: letter_of(b""),
+            counters: Counters::new(),
+            progress: Progress::new(Duration::from_millis(0), me, game.players()),
+            millis: 0,
         })
     }
 
-    /// The same after two turns, with links between the session and each other player. In the second
-    /// turn all were heard.
-    pub(crate) fn linked(
-        alloc: Global,
-        game: &'g Game,
-        me: u8,
-        patience: Option<u64>,
-    ) -> Result<Table<'g>, Fail> {
-        let mut table = Table::new(alloc, game, me, "", patience)?;
-        table.link()?;
-        Ok(table)
-    }
-
-    /// Two turns, in which links open between the session and each other player.
-    fn link(&mut self) -> Result<(), Fail> {
-        let _first = self.turn()?;
-        let me = self.session.peer().me();
-        for number in 1..self.game.players() + 1 {
-            if number != me.number {
-                self.says(&(number, WELCOME, 0))?;
-                self.says(&(number, HELLO, 0))?;
+    /// The first step that comes to something else.
+    fn first_wrong(&mut self, alloc: Global, steps: &[Step]) -> Option<usize> {
+        for (place, step) in steps.iter().enumerate() {
+            if !self.does(alloc, *step) {
+                return Some(place);
             }
         }
-        let _second = self.turn()?;
-        Ok(())
+        None
     }
 
-    /// Another player's peer.
-    pub(crate) fn other(&mut self, number: u8) -> Result<&mut Peer<'g, MemDisk>, Fail> {
-        let place = self
-            .others
-            .iter()
-            .position(|peer| peer.me().number == number)
-            .unwrap_or(4);
-        match self.others.get_mut(place) {
-            Some(peer) => Ok(peer),
-            None => Err(Fail::new("no such peer")),
+    /// Whether a step comes to what it says.
+    fn does(&mut self, alloc: Global, step: Step) -> bool {
+        match step {
+            Step::Sends(from, what, leaver) => self.sends(from, what, leaver),
+            Step::Keeps(from, what) => self.keeps(from, what),
+            Step::Repeats(byte) => self.repeats(byte),
+            Step::Noise(count) => self.noise(count),
+            Step::Enters(number, keys) => self.enters(number, keys),
+            Step::Restarts(number) => self.restarts(alloc, number),
+            Step::Shows(seat) => self.shows(seat),
+            Step::Turn(wanted) => self.turn(alloc, wanted),
+            Step::Listens(wanted) => self.listens(alloc, wanted),
+            Step::Plays(keys, is_taken, wanted) => self.plays(alloc, keys, is_taken, wanted),
+            Step::Silent(number, turns) => self.is_silent(number, turns),
+            Step::Stands(ticked, confirmed, keys) => self.stands(ticked, confirmed, keys),
+            Step::Prints(line) => self.prints(alloc, line),
         }
     }
 
-    /// Another player stops, and its peer is opened again over its journal.
-    pub(crate) fn restart(&mut self, number: u8) -> Result<(), Fail> {
-        let spare = new_peer(self.alloc, self.game, number)?;
-        let stopped = std::mem::replace(self.other(number)?, spare);
-        let again = opened(self.alloc, stopped.close(), self.game, player(number))?;
-        *self.other(number)? = again;
-        Ok(())
+    fn other(&mut self, number: u8) -> Option<&mut Peer<'g, MemDisk>> {
+        self.others.get_mut(place_of(number))?.as_mut()
     }
 
-    /// What another player says to the session's one.
-    pub(crate) fn said(&mut self, from: u8, kind: Kind) -> Result<Letter, Fail> {
+    /// What another player says to the session's own.
+    fn said(&mut self, from: u8, what: u8, leaver: u8) -> Option<Letter> {
         let to = self.session.peer().me();
-        said_by(self.other(from)?, to, kind)
+        let kind = kind_of(what, leaver);
+        let peer = self.other(from)?;
+        prepare(peer, kind);
+        said_by(peer, to, kind)
     }
 
-    /// A packet waits for the session's next turn.
-    pub(crate) fn post(&mut self, letter: Letter) -> Result<(), Fail> {
-        self.wire.waiting.push(letter)?;
-        Ok(())
-    }
-
-    /// Another player says something, which waits for the session's next turn.
-    pub(crate) fn says(&mut self, comes: &Comes) -> Result<(), Fail> {
-        let (from, what, leaver) = *comes;
-        let letter = self.said(from, kind_of(what, leaver))?;
-        self.post(letter)
-    }
-
-    /// How the packet that came last was refused, if it was.
-    pub(crate) fn refusal(&self) -> Option<Refused> {
-        self.refusal
-    }
-
-    /// How many frames the session's peer has ticked, and how many of them are confirmed.
-    pub(crate) fn ticked_and_confirmed(&self) -> (u32, u32) {
-        let peer = self.session.peer();
-        (peer.now(), peer.confirmed())
-    }
-
-    /// What the session's own player has entered for the frames that are confirmed.
-    pub(crate) fn entered(&self) -> &[u16] {
-        let peer = self.session.peer();
-        let me = peer.me();
-        if me.number > peer.players() {
-            return &[];
+    fn sends(&mut self, from: u8, what: u8, leaver: u8) -> bool {
+        match self.said(from, what, leaver) {
+            Some(letter) => self.way.post(&letter),
+            None => false,
         }
-        peer.rows().inputs(me)
     }
 
-    /// One turn: all that the session says in it, in order. Each addressee hears it.
-    pub(crate) fn turn(&mut self) -> Result<String, Fail> {
-        self.follow();
-        self.session.turn(&mut self.wire)?;
-        let told = self.told()?;
-        self.carry();
-        Ok(told)
-    }
-
-    /// The session hears what waits, between two turns: all that it says then.
-    pub(crate) fn listen(&mut self) -> Result<String, Fail> {
-        self.session.listen(&mut self.wire)?;
-        self.told()
-    }
-
-    /// One turn with a key set, or none: whether it was taken, and all that the session says in it. Each
-    /// addressee hears that.
-    pub(crate) fn play(&mut self, keys: Option<Keys>) -> Result<(bool, String), Fail> {
-        let is_taken = self.session.play(keys, &mut self.wire)?;
-        let told = self.told()?;
-        self.carry();
-        Ok((is_taken, told))
-    }
-
-    /// The twin hears what waits, and ticks.
-    fn follow(&mut self) {
-        for letter in self.wire.waiting.iter().skip(self.wire.taken) {
-            self.refusal = self.twin.deliver(letter.packet()).err();
-        }
-        let _ticked = self.twin.tick(Keys(0));
-    }
-
-    /// All that was sent, in words.
-    fn told(&self) -> Result<String, Fail> {
-        let mut told = String::new(self.alloc);
-        for (to, letter) in &self.wire.sent {
-            if !told.is_empty() {
-                told.push_str(", ")?;
+    fn keeps(&mut self, from: u8, what: u8) -> bool {
+        match self.said(from, what, 0) {
+            Some(letter) => {
+                self.kept = letter;
+                true
             }
-            told.push_str(name_of(self.alloc, *to, letter)?.as_str())?;
+            None => false,
         }
-        Ok(told)
     }
 
-    /// Delivers all that was sent.
-    fn carry(&mut self) {
-        for (to, letter) in &self.wire.sent {
-            deliver_to(&mut self.others, *to, letter);
+    fn repeats(&mut self, byte: usize) -> bool {
+        let letter = self.kept.changed(byte);
+        self.way.post(&letter)
+    }
+
+    fn noise(&mut self, count: u16) -> bool {
+        let letter = letter_of(b"C8");
+        let mut are_posted = true;
+        for _ in 0..count {
+            are_posted = self.way.post(&letter) && are_posted;
         }
-        self.wire.sent.clear();
+        are_posted
+    }
+
+    fn enters(&mut self, number: u8, keys: u16) -> bool {
+        match self.other(number) {
+            Some(peer) => peer.tick(Keys(keys)).is_ok(),
+            None => false,
+        }
+    }
+
+    fn restarts(&mut self, alloc: Global, number: u8) -> bool {
+        let game = self.game;
+        let Some(place) = self.others.get_mut(place_of(number)) else {
+            return false;
+        };
+        let Some(peer) = place.take() else {
+            return false;
+        };
+        let me = peer.me();
+        *place = opened(alloc, peer.close(), game, me);
+        true
+    }
+
+    fn shows(&mut self, seat: u8) -> bool {
+        match Watcher::new(seat) {
+            Some(watcher) => {
+                self.session.show_to(watcher);
+                true
+            }
+            None => false,
+        }
+    }
+
+    fn turn(&mut self, alloc: Global, wanted: &str) -> bool {
+        is_turn_made(&mut self.session, &mut self.way) && self.has_sent(alloc, wanted)
+    }
+
+    fn listens(&mut self, alloc: Global, wanted: &str) -> bool {
+        self.session.listen(&mut self.way).is_ok() && self.has_sent(alloc, wanted)
+    }
+
+    fn plays(&mut self, alloc: Global, keys: Option<u16>, is_taken: bool, wanted: &str) -> bool {
+        match self.session.play(keys.map(Keys), &mut self.way) {
+            Ok(taken) => taken == is_taken && self.has_sent(alloc, wanted),
+            Err(_) => false,
+        }
+    }
+
+    /// Whether just this was sent, which each addressee hears.
+    fn has_sent(&mut self, alloc: Global, wanted: &str) -> bool {
+        let is_wanted = are_sent(alloc, &self.way.sent, wanted);
+        for (to, letter) in &self.way.sent {
+            deliver(&mut self.others, to.number, letter);
+        }
+        self.way.sent.clear();
+        is_wanted
+    }
+
+    fn is_silent(&self, number: u8, turns: u64) -> bool {
+        match Player::new(number) {
+            Some(player) => self.session.silent(player) == turns,
+            None => false,
+        }
+    }
+
+    fn stands(&self, ticked: u32, confirmed: u32, keys: u16) -> bool {
+        let peer = self.session.peer();
+        peer.now() == ticked && peer.confirmed() == confirmed && peer.shown().keys() == Keys(keys)
+    }
+
+    fn prints(&mut self, alloc: Global, line: &str) -> bool {
+        self.millis = self.millis.saturating_add(PAUSE);
+        let now = Duration::from_millis(self.millis);
+        let confirmed = self.session.peer().confirmed();
+        self.counters.note(&self.session, 0);
+        let standing = self.counters.take();
+        let mut told = Vec::new(alloc);
+        let printed = self.progress.tell(&mut told, now, confirmed, &standing);
+        printed.is_ok() && told.as_slice() == line.as_bytes()
     }
 }
 
-/// What a peer says to a player. Player one lets a player go, or cuts it, so that it can say so.
-fn said_by(peer: &mut Peer<'_, MemDisk>, to: Player, kind: Kind) -> Result<Letter, Fail> {
-    match kind {
-        Kind::Freeze(leaver) => peer.leave(leaver)?,
-        Kind::Cut(leaver) => {
-            let _length = peer.decide(leaver)?;
-        }
-        Kind::Hello | Kind::Welcome | Kind::Data | Kind::Frozen(_) => {}
-    }
-    let mut bytes = [0; LONGEST_DATAGRAM];
-    let size = peer.say(to, kind, &mut bytes)?;
-    Ok(letter_of(&bytes[..size]))
+/// A row of a table, or a step of a script, that comes to something else.
+#[derive(Debug, Drop)]
+struct Wrong {
+    row: usize,
 }
 
-/// The peer of a player hears a datagram that is for it.
-fn deliver_to(peers: &mut Vec<Peer<'_, MemDisk>>, to: Seat, letter: &Letter) {
-    for peer in peers.iter_mut() {
-        if peer.me().number == to.number {
-            let _heard = peer.deliver(letter.packet());
-        }
+/// No row of a table is wrong.
+pub(crate) fn none_is(wrong: Option<usize>) -> Result<(), Fail> {
+    match wrong {
+        Some(row) => Err(Fail::from(Wrong { row })),
+        None => Ok(()),
     }
+}
+
+/// Each step of a script comes to what it says, at the session of a player who enters these key sets.
+pub(crate) fn follows(
+    alloc: Global,
+    text: &str,
+    number: u8,
+    patience: Option<u64>,
+    keys: &[u16],
+    steps: &[Step],
+) -> Result<(), Fail> {
+    let Ok(game) = Game::read(alloc, text.as_bytes()) else {
+        return Err(Fail::from("no game"));
+    };
+    let Some(mut table) = Table::new(alloc, &game, number, patience, keys) else {
+        return Err(Fail::from("no session"));
+    };
+    none_is(table.first_wrong(alloc, steps))
 }

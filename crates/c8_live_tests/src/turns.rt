@@ -1,255 +1,234 @@
-//! What each turn says, to whom and in which order: each row has all that one turn sends.
-use crate::letter::{Letter, letter_of};
-use crate::play::game_of;
-use crate::rows::{
-    Comes, DATA, HELLO, Hello, NOTHING, OLD, Silence, Turn, WELCOME, counts, crowd, greetings,
-    hellos, leavers, shown, silences, stayers,
+//! What each turn sends, to whom and in which order: each script has all that its turns send.
+use crate::players::{FOUR, THREE, TWO};
+use crate::step::Step::{
+    Enters, Keeps, Listens, Noise, Plays, Prints, Repeats, Restarts, Sends, Shows, Silent, Stands,
+    Turn,
 };
-use crate::table::Table;
-use c8_game::{Game, Keys, Player};
-use c8_peer::Kind;
-use c8_wire::Watcher;
-use std::process::Abort;
+use crate::step::{CUT, DATA, FREEZE, FROZEN, HELLO, Step, WELCOME, WHOLE};
+use crate::table::follows;
 use std::test::Fail;
 
-/// Two players, of whom none runs further ahead of what is confirmed than two frames.
+/// Two players, neither more than two frames ahead of what is confirmed.
 const NARROW: &str =
     "players 2\nipf 10\nframes 20\ndelay 0\nwindow 2\nseed 0\nmask1 ffff\nmask2 ffff\ncode 1200\n";
 
-/// The others say these, which wait for the next turn.
-fn all_say(table: &mut Table<'_>, comes: &[Comes]) -> Result<(), Fail> {
-    for said in comes {
-        if said.0 > 0 {
-            table.says(said)?;
-        }
-    }
-    Ok(())
-}
-
-/// One turn, before which the others say these: all that the session says in it.
-fn turn_after(table: &mut Table<'_>, comes: &[Comes]) -> Result<String, Fail> {
-    all_say(table, comes)?;
-    table.turn()
-}
-
-/// Plays turns, and compares all that each says.
-fn play(rt: &impl Abort, table: &mut Table<'_>, turns: &[Turn]) -> Result<(), Fail> {
-    for (place, turn) in turns.iter().enumerate() {
-        let told = turn_after(table, &turn.comes)?;
-        assert!(rt;
-            told.as_str() == turn.told,
-            "turn {place} of the list: {told}"
-        );
-    }
-    Ok(())
-}
-
-#[test]
-fn greets_answers_and_says_data(rt: HostRuntime) -> Result<(), Fail> {
-    let game = game_of(rt.alloc(), 3)?;
-    let mut table = Table::new(rt.alloc(), &game, 1, "", None)?;
-    play(&rt, &mut table, greetings())
-}
-
-/// Player one shows the match to those who watch it, each once a turn; another player shows nothing.
-#[test]
-fn player_one_shows_the_match(rt: HostRuntime) -> Result<(), Fail> {
-    let game = game_of(rt.alloc(), 3)?;
-    for watched in shown() {
-        let mut table = Table::new(rt.alloc(), &game, watched.player, "", None)?;
-        for seat in watched.seats {
-            if let Some(watcher) = Watcher::new(seat) {
-                table.session.show_to(watcher);
-            }
-        }
-        for _ in 0..2 {
-            let told = table.turn()?;
-            assert!(rt; told.as_str() == watched.told, "{told}");
-        }
-    }
-    Ok(())
-}
-
-#[test]
-fn player_one_says_freeze_and_then_cut(rt: HostRuntime) -> Result<(), Fail> {
-    let game = game_of(rt.alloc(), 4)?;
-    let mut table = Table::linked(rt.alloc(), &game, 1, Some(4))?;
-    play(&rt, &mut table, leavers())
-}
-
-#[test]
-fn who_stays_says_frozen_to_player_one(rt: HostRuntime) -> Result<(), Fail> {
-    let game = game_of(rt.alloc(), 4)?;
-    let mut table = Table::linked(rt.alloc(), &game, 2, None)?;
-    play(&rt, &mut table, stayers())
-}
-
-/// Of the packets that wait 256 are delivered in a turn, and the others in the next.
-#[test]
-fn takes_256_packets_in_a_turn(rt: HostRuntime) -> Result<(), Fail> {
-    let game = game_of(rt.alloc(), 3)?;
-    let mut table = Table::new(rt.alloc(), &game, 1, "", None)?;
-    for _ in 0..255 {
-        table.post(letter_of(b"C8"))?;
-    }
-    play(&rt, &mut table, crowd())
-}
-
-/// What comes of player 2, whose first HELLO was `old`.
-fn letter_given(table: &mut Table<'_>, hello: &Hello, old: &Letter) -> Result<Letter, Fail> {
-    if hello.given == OLD {
-        return Ok(*old);
-    }
-    let kind = if hello.given == WELCOME {
-        Kind::Welcome
-    } else {
-        Kind::Hello
-    };
-    let letter = table.said(2, kind)?;
-    Ok(letter.changed(hello.byte))
-}
-
-/// One turn, before which the row's datagram comes, if it has one.
-fn turn_of(table: &mut Table<'_>, hello: &Hello, old: &Letter) -> Result<String, Fail> {
-    if hello.given != NOTHING {
-        let letter = letter_given(table, hello, old)?;
-        table.post(letter)?;
-    }
-    table.turn()
-}
-
-/// Player 2 says these, and its first HELLO again. Compares all that each turn says, and how it is
-/// refused what comes.
-fn greet(rt: &impl Abort, table: &mut Table<'_>, hellos: &[Hello]) -> Result<(), Fail> {
-    let old = table.said(2, Kind::Hello)?;
-    table.restart(2)?;
-    for (place, hello) in hellos.iter().enumerate() {
-        let told = turn_of(table, hello, &old)?;
-        let refusal = table.refusal();
-        assert!(rt; told.as_str() == hello.told, "turn {place}: {told}");
-        assert!(rt;
-            hello.given == NOTHING || refusal == hello.refusal,
-            "turn {place}"
-        );
-    }
-    Ok(())
-}
-
-/// A HELLO that is refused is not answered, be it of a time before the player's restart, of another
-/// match, or no datagram at all.
-#[test]
-fn answers_no_hello_that_is_refused(rt: HostRuntime) -> Result<(), Fail> {
-    let game = game_of(rt.alloc(), 2)?;
-    let mut table = Table::new(rt.alloc(), &game, 1, "", None)?;
-    greet(&rt, &mut table, hellos())
-}
-
-/// One turn, before which player 2 is heard, and then the row's datagram comes, if it has one.
-fn turn_after_data(table: &mut Table<'_>, row: &Silence, data: &Letter) -> Result<String, Fail> {
-    table.says(&(2, DATA, 0))?;
-    if row.given == HELLO {
-        let hello = table.said(3, Kind::Hello)?;
-        table.post(hello.changed(row.byte))?;
-    } else if row.given == DATA {
-        table.post(data.changed(row.byte))?;
-    }
-    table.turn()
-}
-
-/// Player 3's DATA after it has entered a key set.
-fn data_of_three(table: &mut Table<'_>) -> Result<Letter, Fail> {
-    table.other(3)?.tick(Keys(0x20))?;
-    table.said(3, Kind::Data)
-}
-
-/// Player 2 is heard in each turn, and then what a row says comes. Compares all that each turn says,
-/// how it is refused what comes, and for how long player 3 has been silent.
-fn interrupt(rt: &impl Abort, table: &mut Table<'_>, rows: &[Silence]) -> Result<(), Fail> {
-    let data = data_of_three(table)?;
-    for (place, row) in rows.iter().enumerate() {
-        let told = turn_after_data(table, row, &data)?;
-        let (refusal, silent) = (table.refusal(), table.session.silent(Player { number: 3 }));
-        assert!(rt; told.as_str() == row.told, "turn {place}: {told}");
-        assert!(rt;
-            refusal == row.refusal && silent == row.silent,
-            "turn {place}: {silent}"
-        );
-    }
-    Ok(())
-}
-
-/// A silence ends with a datagram that is admitted, whatever is answered then, and with no other. It
-/// is judged after what comes in a turn, and before anything is said in it. Player 2 is heard in
-/// each turn, before player 3.
-#[test]
-fn what_is_admitted_ends_a_silence(rt: HostRuntime) -> Result<(), Fail> {
-    let game = game_of(rt.alloc(), 3)?;
-    let mut table = Table::linked(rt.alloc(), &game, 1, Some(3))?;
-    interrupt(&rt, &mut table, silences())
-}
-
-/// Compares how many frames each turn ticks and confirms, where nobody answers, and what is entered in
-/// the end.
-fn wait_and_enter(rt: &impl Abort, table: &mut Table<'_>, rows: &[(u32, u32)]) -> Result<(), Fail> {
-    for (place, wanted) in rows.iter().enumerate() {
-        let told = table.turn()?;
-        assert!(rt; told.as_str() == "2 HELLO", "turn {place}: {told}");
-        assert!(rt; table.ticked_and_confirmed() == *wanted, "turn {place}");
-    }
-    assert!(rt; table.entered() == [1, 2, 3, 4, 0].as_slice());
-    Ok(())
-}
-
-/// A key set that is played, or none; whether it is taken, all that is said then, and how many frames are
-/// ticked after it.
-type Played = (Option<u16>, bool, &'static str, u32);
-
-/// Player 2 has said WELCOME and HELLO before the second one. Where two frames are not confirmed no more is taken.
-static PLAYED: [Played; 6] = [
-    (None, false, "2 HELLO", 0),
-    (Some(5), true, "2 WELCOME", 1),
-    (None, false, "2 DATA", 1),
-    (Some(6), true, "2 DATA", 2),
-    (Some(7), false, "2 DATA", 2),
-    (None, false, "2 DATA", 2),
+/// HELLO until there is a link, WELCOME in the turn in which a HELLO came, and DATA in a turn that has neither.
+/// The watchers come last.
+#[rattlefmt::skip]
+static GREETINGS: [Step; 22] = [
+    Turn("2 HELLO, 3 HELLO"),
+    Turn("2 HELLO, 3 HELLO"),
+    Sends(2, HELLO, 0), Turn("2 HELLO, 2 WELCOME, 3 HELLO"),
+    Turn("2 HELLO, 3 HELLO"),
+    Sends(2, WELCOME, 0), Turn("2 DATA, 3 HELLO"),
+    Sends(2, HELLO, 0), Turn("2 WELCOME, 3 HELLO"),
+    Sends(2, DATA, 0), Turn("2 DATA, 3 HELLO"),
+    Sends(3, HELLO, 0), Sends(3, WELCOME, 0), Sends(2, DATA, 0), Turn("2 DATA, 3 WELCOME"),
+    Sends(2, HELLO, 0), Sends(2, HELLO, 0), Sends(3, DATA, 0), Turn("2 WELCOME, 3 DATA"),
+    Turn("2 DATA, 3 DATA"),
+    Shows(5), Turn("2 DATA, 3 DATA, 5 SHOW"),
 ];
 
-/// Plays these, and compares what comes of each.
-fn play_given(rt: &impl Abort, table: &mut Table<'_>, rows: &[Played]) -> Result<(), Fail> {
-    for (place, row) in rows.iter().enumerate() {
-        let (keys, is_taken, wanted, ticked) = *row;
-        let (taken, told) = table.play(keys.map(Keys))?;
-        assert!(rt;
-            told.as_str() == wanted && taken == is_taken,
-            "turn {place}: {told}"
-        );
-        assert!(rt; table.ticked_and_confirmed().0 == ticked, "turn {place}");
-    }
-    Ok(())
+#[test]
+fn greets_answers_and_sends_data(rt: HostRuntime) -> Result<(), Fail> {
+    follows(rt.alloc(), THREE, 1, None, &[], &GREETINGS)
 }
 
-/// What is heard between two turns is answered in the next, and a turn enters the key set that it is given.
+/// Player one shows the match to each watcher once a turn.
+#[rattlefmt::skip]
+static SHOWN: [Step; 8] = [
+    Turn("2 HELLO, 3 HELLO"),
+    Shows(6), Turn("2 HELLO, 3 HELLO, 6 SHOW"),
+    Shows(6), Turn("2 HELLO, 3 HELLO, 6 SHOW"),
+    Shows(5), Turn("2 HELLO, 3 HELLO, 5 SHOW, 6 SHOW"),
+    Turn("2 HELLO, 3 HELLO, 5 SHOW, 6 SHOW"),
+];
+
+#[test]
+fn player_one_shows_the_match(rt: HostRuntime) -> Result<(), Fail> {
+    follows(rt.alloc(), THREE, 1, None, &[], &SHOWN)
+}
+
+/// Players 4 and 3 fall silent, 3 two turns later. FREEZE goes to those who stay, from the turn on in which a player
+/// is dropped; once its list is cut, CUT goes to all, and DATA goes on to all.
+#[rattlefmt::skip]
+static DROPS: [Step; 28] = [
+    Turn("2 HELLO, 3 HELLO, 4 HELLO"),
+    Sends(2, WELCOME, 0), Sends(2, HELLO, 0),
+    Sends(3, WELCOME, 0), Sends(3, HELLO, 0),
+    Sends(4, WELCOME, 0), Sends(4, HELLO, 0),
+    Turn("2 WELCOME, 3 WELCOME, 4 WELCOME"),
+    Sends(2, DATA, 0), Sends(3, DATA, 0), Turn("2 DATA, 3 DATA, 4 DATA"),
+    Sends(2, DATA, 0), Sends(3, DATA, 0), Turn("2 DATA, 3 DATA, 4 DATA"),
+    Sends(2, DATA, 0), Turn("2 DATA, 3 DATA, 4 DATA"),
+    Sends(2, DATA, 0), Turn("2 DATA, 2 FREEZE 4, 3 DATA, 3 FREEZE 4, 4 DATA"),
+    Sends(2, DATA, 0), Turn("2 DATA, 2 FREEZE 4, 3 DATA, 3 FREEZE 4, 4 DATA"),
+    Sends(2, DATA, 0), Turn("2 DATA, 2 FREEZE 3, 2 FREEZE 4, 3 DATA, 4 DATA"),
+    Sends(2, FROZEN, 4), Turn("2 DATA, 2 FREEZE 3, 2 CUT 4, 3 DATA, 3 CUT 4, 4 DATA, 4 CUT 4"),
+    Sends(2, FROZEN, 3), Turn("2 DATA, 2 CUT 3, 2 CUT 4, 3 DATA, 3 CUT 3, 3 CUT 4, 4 DATA, 4 CUT 3, 4 CUT 4"),
+    Sends(2, DATA, 0), Turn("2 DATA, 2 CUT 3, 2 CUT 4, 3 DATA, 3 CUT 3, 3 CUT 4, 4 DATA, 4 CUT 3, 4 CUT 4"),
+];
+
+#[test]
+fn player_one_sends_freeze_and_then_cut(rt: HostRuntime) -> Result<(), Fail> {
+    follows(rt.alloc(), FOUR, 1, Some(4), &[], &DROPS)
+}
+
+/// A player who stays sends FROZEN of each leaver to player one alone, from the FREEZE to the CUT. It shows
+/// the match to nobody.
+#[rattlefmt::skip]
+static STAYS: [Step; 25] = [
+    Turn("1 HELLO, 3 HELLO, 4 HELLO"),
+    Sends(1, WELCOME, 0), Sends(1, HELLO, 0),
+    Sends(3, WELCOME, 0), Sends(3, HELLO, 0),
+    Sends(4, WELCOME, 0), Sends(4, HELLO, 0),
+    Turn("1 WELCOME, 3 WELCOME, 4 WELCOME"),
+    Turn("1 DATA, 3 DATA, 4 DATA"),
+    Sends(1, FREEZE, 3), Turn("1 DATA, 1 FROZEN 3, 3 DATA, 4 DATA"),
+    Sends(3, DATA, 0), Turn("1 DATA, 1 FROZEN 3, 3 DATA, 4 DATA"),
+    Sends(1, FREEZE, 4), Turn("1 DATA, 1 FROZEN 3, 1 FROZEN 4, 3 DATA, 4 DATA"),
+    Sends(1, HELLO, 0), Turn("1 WELCOME, 1 FROZEN 3, 1 FROZEN 4, 3 DATA, 4 DATA"),
+    Sends(1, CUT, 3), Turn("1 DATA, 1 FROZEN 4, 3 DATA, 4 DATA"),
+    Sends(1, CUT, 4), Turn("1 DATA, 3 DATA, 4 DATA"),
+    Turn("1 DATA, 3 DATA, 4 DATA"),
+    Shows(5), Shows(6), Turn("1 DATA, 3 DATA, 4 DATA"),
+];
+
+#[test]
+fn who_stays_sends_frozen_to_player_one(rt: HostRuntime) -> Result<(), Fail> {
+    follows(rt.alloc(), FOUR, 2, None, &[], &STAYS)
+}
+
+/// A turn takes 256 of the packets that wait, and comes to its tick; the next turn takes the others.
+#[rattlefmt::skip]
+static CROWD: [Step; 9] = [
+    Noise(255), Sends(2, HELLO, 0), Sends(3, HELLO, 0),
+    Turn("2 HELLO, 2 WELCOME, 3 HELLO"), Stands(1, 0, 0),
+    Turn("2 HELLO, 3 HELLO, 3 WELCOME"), Stands(2, 0, 0),
+    Turn("2 HELLO, 3 HELLO"), Stands(3, 0, 0),
+];
+
+#[test]
+fn takes_256_packets_in_a_turn(rt: HostRuntime) -> Result<(), Fail> {
+    follows(rt.alloc(), THREE, 1, None, &[], &CROWD)
+}
+
+/// A HELLO that is refused is not answered. Byte 4 is of the session, byte 2 of the version, byte 0 is the first of
+/// all.
+#[rattlefmt::skip]
+static REFUSED: [Step; 21] = [
+    Keeps(2, HELLO), Restarts(2),
+    Turn("2 HELLO"),
+    Sends(2, HELLO, 0), Turn("2 HELLO, 2 WELCOME"),
+    Turn("2 HELLO"),
+    // of the time before the restart
+    Repeats(WHOLE), Turn("2 HELLO"),
+    Sends(2, WELCOME, 0), Turn("2 DATA"),
+    Repeats(WHOLE), Turn("2 DATA"),
+    // of another match, of the other version, and no datagram
+    Keeps(2, HELLO),
+    Repeats(4), Turn("2 DATA"),
+    Repeats(2), Turn("2 DATA"),
+    Repeats(0), Turn("2 DATA"),
+    Repeats(WHOLE), Turn("2 WELCOME"),
+];
+
+#[test]
+fn answers_no_hello_that_is_refused(rt: HostRuntime) -> Result<(), Fail> {
+    follows(rt.alloc(), TWO, 1, None, &[], &REFUSED)
+}
+
+/// A silence ends with a datagram that the link admits, whatever is answered then, and with no other. It is judged
+/// after what comes in a turn, and before anything is sent in it. Byte 26 is of the acknowledgement, 43 of the
+/// start, 4 of the session, 19 of the sender's epoch, 2 of the version.
+#[rattlefmt::skip]
+static SILENCES: [Step; 45] = [
+    Turn("2 HELLO, 3 HELLO"),
+    Sends(2, WELCOME, 0), Sends(2, HELLO, 0),
+    Sends(3, WELCOME, 0), Sends(3, HELLO, 0),
+    Turn("2 WELCOME, 3 WELCOME"),
+    Enters(3, 0x20), Keeps(3, DATA),
+    Sends(2, DATA, 0), Turn("2 DATA, 3 DATA"), Silent(3, 1),
+    Sends(2, DATA, 0), Turn("2 DATA, 3 DATA"), Silent(3, 2),
+    // these two are admitted: one acknowledges too much, one leaves a gap
+    Sends(2, DATA, 0), Repeats(26), Turn("2 DATA, 3 DATA"), Silent(3, 0),
+    Sends(2, DATA, 0), Turn("2 DATA, 3 DATA"), Silent(3, 1),
+    Sends(2, DATA, 0), Turn("2 DATA, 3 DATA"), Silent(3, 2),
+    Sends(2, DATA, 0), Repeats(43), Turn("2 DATA, 3 DATA"), Silent(3, 0),
+    // and these are not: of another match, of an earlier epoch, no datagram, of the other version
+    Sends(2, DATA, 0), Repeats(4), Turn("2 DATA, 3 DATA"), Silent(3, 1),
+    Sends(2, DATA, 0), Repeats(19), Turn("2 DATA, 3 DATA"), Silent(3, 2),
+    Sends(2, DATA, 0), Repeats(0), Turn("2 DATA, 2 FREEZE 3, 3 DATA"), Silent(3, 3),
+    Keeps(3, HELLO), Sends(2, DATA, 0), Repeats(2), Turn("2 DATA, 2 FREEZE 3, 3 DATA"), Silent(3, 4),
+];
+
+#[test]
+fn what_is_admitted_ends_a_silence(rt: HostRuntime) -> Result<(), Fail> {
+    follows(rt.alloc(), THREE, 1, Some(3), &[], &SILENCES)
+}
+
+/// What is heard between two turns is answered in the next, and a turn enters the key set that it is given, not one
+/// of the list. While two frames are not confirmed it takes no more.
+#[rattlefmt::skip]
+static GIVEN: [Step; 16] = [
+    Plays(None, false, "2 HELLO"), Stands(0, 0, 0),
+    Sends(2, WELCOME, 0), Sends(2, HELLO, 0), Listens(""), Silent(2, 0),
+    Plays(Some(5), true, "2 WELCOME"), Stands(1, 0, 5),
+    Plays(None, false, "2 DATA"), Stands(1, 0, 5),
+    Plays(Some(6), true, "2 DATA"), Stands(2, 0, 6),
+    Plays(Some(7), false, "2 DATA"), Stands(2, 0, 6),
+    Plays(None, false, "2 DATA"), Stands(2, 0, 6),
+];
+
 #[test]
 fn hears_between_turns_and_enters_what_is_given(rt: HostRuntime) -> Result<(), Fail> {
-    let game = Game::read(rt.alloc(), NARROW.as_bytes())?;
-    let mut table = Table::new(rt.alloc(), &game, 1, "0009\n", None)?;
-    play_given(&rt, &mut table, &PLAYED[..1])?;
-    table.says(&(2, WELCOME, 0))?;
-    table.says(&(2, HELLO, 0))?;
-    let told = table.listen()?;
-    assert!(rt; told.is_empty() && table.session.silent(Player { number: 2 }) == 0);
-    play_given(&rt, &mut table, &PLAYED[1..2])?;
-    assert!(rt; table.session.peer().shown().keys() == Keys(5));
-    play_given(&rt, &mut table, &PLAYED[2..])?;
-    assert!(rt; table.session.peer().shown().keys() == Keys(6));
-    Ok(())
+    follows(rt.alloc(), NARROW, 1, None, &[9], &GIVEN)
 }
 
-/// A key set that is refused, since two frames are not confirmed, is entered in a later turn. Player
-/// 2 is let go after the tick of the fourth turn, which is refused too.
+/// A key set that is refused, since two frames are not confirmed, is entered in a later turn. Player 2 is dropped
+/// after the tick of the fourth turn, which is refused too.
+#[rattlefmt::skip]
+static AGAIN: [Step; 14] = [
+    Turn("2 HELLO"), Stands(1, 0, 1),
+    Turn("2 HELLO"), Stands(2, 0, 2),
+    Turn("2 HELLO"), Stands(2, 0, 2),
+    Turn("2 HELLO"), Stands(2, 2, 2),
+    Turn("2 HELLO"), Stands(3, 3, 3),
+    Turn("2 HELLO"), Stands(4, 4, 4),
+    Turn("2 HELLO"), Stands(5, 5, 0),
+];
+
 #[test]
 fn enters_a_refused_key_set_again(rt: HostRuntime) -> Result<(), Fail> {
-    let game = Game::read(rt.alloc(), NARROW.as_bytes())?;
-    let mut table = Table::new(rt.alloc(), &game, 1, "0001\n0002\n0003\n0004\n", Some(4))?;
-    wait_and_enter(&rt, &mut table, counts())
+    follows(rt.alloc(), NARROW, 1, Some(4), &[1, 2, 3, 4], &AGAIN)
+}
+
+/// A line a second: how far the game is, how often the peer rolled back since the last line, who is silent for how
+/// long, and that the machines differ. Byte 32 is of the mark.
+#[rattlefmt::skip]
+static PRINTED: [Step; 33] = [
+    Turn("2 HELLO"),
+    Sends(2, WELCOME, 0), Sends(2, HELLO, 0),
+    Turn("2 WELCOME"),
+    // both frames were run without the key
+    Enters(2, 0x20), Sends(2, DATA, 0), Turn("2 DATA"), Prints(""),
+    Turn("2 DATA"), Prints(""),
+    // the guess was right
+    Enters(2, 0x20), Sends(2, DATA, 0), Turn("2 DATA"),
+    Prints("ticked 5, confirmed 2, rollbacks 1, longest 2, player 2 silent for 0 ms\n"),
+    // frames 2 to 4 were run with the key
+    Enters(2, 0), Sends(2, DATA, 0), Turn("2 DATA"), Prints(""),
+    // frames 4 and 5 were run without it
+    Enters(2, 0), Enters(2, 0x20), Sends(2, DATA, 0), Turn("2 DATA"), Prints(""),
+    Turn("2 DATA"),
+    Prints("ticked 8, confirmed 5, rollbacks 2, longest 3, player 2 silent for 400 ms\n"),
+    Keeps(2, DATA), Repeats(32), Turn("2 DATA"), Prints(""),
+    Turn("2 DATA"), Prints(""),
+    Turn("2 DATA"),
+    Prints("ticked 11, confirmed 5, rollbacks 0, longest 0, player 2 silent for 800 ms, the machines differ\n"),
+];
+
+#[test]
+fn prints_once_a_second_where_it_stands(rt: HostRuntime) -> Result<(), Fail> {
+    follows(rt.alloc(), TWO, 1, None, &[], &PRINTED)
 }

@@ -1,103 +1,143 @@
-//! A game that one person plays.
+//! A game that one person plays: when its frames begin, what is painted in them, and what ends it.
 
-use crate::console::{HANGS_UP, Marks, Stroke, Written};
-use c8_game::{Game, Keys};
-use c8_keys::{Played, play, write_report};
+ghost use Rattle.std.specs.Prelude.{◌≤◌};
+
+use crate::console::{Log, Marks, Sent, Still, Written};
+use c8_game::Game;
+use c8_keys::{Played, play};
 use c8_play::{Desk, Pace, play_alone};
-use std::test::Fail;
+use std::alloc::Global;
+use std::io::Write;
+
+/// The first frame draws four points in the upper left corner; nothing is drawn after that.
+pub const DRAWS: &[u8] =
+    b"players 2\nipf 10\nframes 30\ndelay 0\nwindow 8\nseed 0\nmask1 0020\nmask2 2000\ncode a206d0011204f000\n";
+
+/// In frame 2 a person has the whole screen painted again.
+static REPAINT: [Sent; 1] = [(2, b"\x0c")];
+
+/// The bytes that paint the whole screen of that game.
+pub fn whole(alloc: Global) -> Vec<u8> {
+    let mut text = Vec::new(alloc);
+    for row in 1..17 {
+        let _ = write!(text, "\x1b[{row};1H");
+        for column in 0..64 {
+            let cell = if row == 1 && column < 4 { "▀" } else { " " };
+            let _ = text.write_all(cell.as_bytes());
+        }
+    }
+    text
+}
+
+/// What is seen where five frames of the game are played at this many a second.
+fn seen_at(alloc: Global, game: &Game, rate: u8) -> Log
+    requires { 1 ≤ rate }
+{
+    let clock = Still::new();
+    let mut log = Log::new(alloc);
+    let console = Written::new(&clock, &REPAINT, &mut log);
+    let mut desk = Desk::new(console, Pace { rate, hold: 9 });
+    let _played = play_alone(game, &mut desk, 5);
+    let _lateness = desk.end();
+    log
+}
+
+/// Whether frames begin at these microseconds, and the screen is painted whole in the first one and where a person
+/// wants it again.
+fn is_painted(alloc: Global, rate: u8, times: [u64; 5]) -> bool
+    requires { 1 ≤ rate }
+{
+    let Ok(game) = Game::read(alloc, DRAWS) else {
+        return false;
+    };
+    let log = seen_at(alloc, &game, rate);
+    let (mut wanted, again) = (whole(alloc), whole(alloc));
+    let _ = wanted.extend_from_slice(again.as_slice());
+    log.begun.as_slice() == times.as_slice() && log.drawn.as_slice() == wanted.as_slice()
+}
+
+#[test]
+fn frames_begin_by_the_clock_and_are_painted_once(rt: HostRuntime) {
+    let alloc = rt.alloc();
+    assert!(rt; is_painted(alloc, 60, [0, 16_666, 33_333, 50_000, 66_666]));
+    assert!(rt; is_painted(alloc, 20, [0, 50_000, 100_000, 150_000, 200_000]));
+    assert!(rt; is_painted(alloc, 1, [0, 1_000_000, 2_000_000, 3_000_000, 4_000_000]));
+}
 
 /// V0 counts the loops, V1 those in which key 5 is down, V3 those in which key 13 is.
-const GAME: &[u8] =
+const COUNTS: &[u8] =
     b"players 2\nipf 10\nframes 30\ndelay 0\nwindow 8\nseed 0\nmask1 0020\nmask2 2000\ncode 6205640de2a17101e4a1730170011204\n";
 
-/// Key 5 is struck in frame 3, and key 13, the other player's, in frame 20.
-static BOTH: [Stroke; 2] = [(3, b'w'), (20, b'r')];
-
-/// Key 5 again, and control-C in frame 11, or a terminal that hangs up: the frame is the last.
-static STOPPED: [Stroke; 2] = [(3, b'w'), (11, 0x03)];
-
-static HUNG_UP: [Stroke; 2] = [(3, b'w'), (11, HANGS_UP)];
-
-/// A stroke counts for 9 frames.
+/// What is held in each frame where key 5 is struck in frame 3, and key 13, the other player's, in frame 20. A
+/// stroke counts for 9 frames.
 const LINES: &[u8] =
     b"0000 0000\n0000 0000\n0000 0000\n0020 0000\n0020 0000\n0020 0000\n0020 0000\n0020 0000\n0020 0000\n0020 0000\n0020 0000\n0020 0000\n0000 0000\n0000 0000\n0000 0000\n0000 0000\n0000 0000\n0000 0000\n0000 0000\n0000 0000\n0000 2000\n0000 2000\n0000 2000\n0000 2000\n0000 2000\n0000 2000\n0000 2000\n0000 2000\n0000 2000\n0000 0000\n";
 
-/// The first twelve of these lines.
-const FEWER: usize = 120;
+/// How many bytes a line has.
+const LINE: usize = 10;
 
-/// What is played with these strokes, at most so many frames.
+/// The first lines.
+fn lines(count: usize) -> &'static [u8] {
+    LINES.get(..count.saturating_mul(LINE)).unwrap_or(b"")
+}
+
+static BOTH: [Sent; 2] = [(3, b"w"), (20, b"r")];
+
+/// The first stroke as an arrow, which a read cuts after its escape.
+static CUT: [Sent; 3] = [(2, b"\x1b"), (3, b"[A"), (20, b"r")];
+
+/// Control-C in frame 11, or a terminal that hangs up: the frame is the last.
+static STOPPED: [Sent; 2] = [(3, b"w"), (11, b"\x03")];
+
+static HUNG_UP: [Sent; 2] = [(3, b"w"), (11, b"")];
+
+/// An escape that stands alone ends the game once nothing has come for 25 milliseconds.
+static ESCAPE: [Sent; 2] = [(3, b"w"), (10, b"\x1b")];
+
+/// What is played with these keys at this many frames a second, at most as many frames as are asked for, and how
+/// often the console was used.
 fn played_by(
-    rt: &HostRuntime,
+    alloc: Global,
     game: &Game,
-    strokes: &'static [Stroke],
-    frames: u64,
-    marks: &Marks,
-) -> Played {
-    let pace = Pace { rate: 240, hold: 9 };
-    let mut desk = Desk::new(Written::new(rt, strokes, marks), pace);
-    let played = play_alone(game, &mut desk, frames);
+    rate: u8,
+    sent: &'static [Sent],
+    asked: u64,
+) -> (Played, Marks)
+    requires { 1 ≤ rate }
+{
+    let clock = Still::new();
+    let mut log = Log::new(alloc);
+    let mut desk = Desk::new(Written::new(&clock, sent, &mut log), Pace { rate, hold: 9 });
+    let played = play_alone(game, &mut desk, asked);
     let _lateness = desk.end();
-    played
+    (played, log.marks)
 }
 
-/// The report of what was played.
-fn report_of(rt: &HostRuntime, played: &Played) -> Result<Vec<u8>, Fail> {
-    let mut report = Vec::new(rt.alloc());
-    write_report(&mut report, played.frames, &played.machine)?;
-    Ok(report)
-}
-
-/// Whether strokes make of the game what key lines do, and the console is made ready once, written on once,
-/// since the program draws nothing, and given back once.
-fn is_played(
-    rt: &HostRuntime,
-    strokes: &'static [Stroke],
-    frames: u64,
-    lines: &[u8],
-) -> Result<bool, Fail> {
-    let game = Game::read(rt.alloc(), GAME)?;
-    let marks = Marks::new();
-    let wanted = play(&game, lines)?;
-    let found = played_by(rt, &game, strokes, frames, &marks);
-    let (wanted, found) = (report_of(rt, &wanted)?, report_of(rt, &found)?);
-    Ok(wanted.as_slice() == found.as_slice() && marks.take() == (1, 1, 1))
+/// Whether this many frames are played, with the machine that the same number of key lines make; and the console is
+/// made ready once, written on once, since the program draws nothing, and given back once.
+fn is_played(alloc: Global, rate: u8, sent: &'static [Sent], asked: u64, frames: usize) -> bool
+    requires { 1 ≤ rate }
+{
+    let Ok(game) = Game::read(alloc, COUNTS) else {
+        return false;
+    };
+    let Ok(wanted) = play(&game, lines(frames)) else {
+        return false;
+    };
+    let (found, marks) = played_by(alloc, &game, rate, sent, asked);
+    found.frames as usize == frames && found.machine == wanted.machine && marks == (1, 1, 1)
 }
 
 #[test]
-fn strokes_make_what_key_lines_do(rt: HostRuntime) -> Result<(), Fail> {
-    assert!(rt; is_played(&rt, &BOTH, 1_000, LINES)?);
+fn strokes_make_what_key_lines_do(rt: HostRuntime) {
+    let alloc = rt.alloc();
+    assert!(rt; is_played(alloc, 60, &BOTH, 1_000, 30));
+    assert!(rt; is_played(alloc, 60, &CUT, 1_000, 30));
     // as many frames as are asked for
-    assert!(rt; is_played(&rt, &BOTH, 12, &LINES[..FEWER])?);
-    // up to the control-C or the end of the terminal
-    assert!(rt; is_played(&rt, &STOPPED, 1_000, &LINES[..FEWER])?);
-    assert!(rt; is_played(&rt, &HUNG_UP, 1_000, &LINES[..FEWER])?);
-    Ok(())
-}
-
-/// Whether key 5 is held in each of these frames, and whether the frame is entered: a stroke counts for two
-/// that are.
-static FRAMES: [(bool, bool); 6] = [
-    (true, false),
-    (true, false),
-    (true, true),
-    (true, true),
-    (false, true),
-    (false, false),
-];
-
-static ONE: [Stroke; 1] = [(0, b'W')];
-
-#[test]
-fn frames_that_are_not_entered_use_no_keys_up(rt: HostRuntime) -> Result<(), Fail> {
-    let marks = Marks::new();
-    let mut desk = Desk::new(Written::new(&rt, &ONE, &marks), Pace { rate: 240, hold: 2 });
-    for (is_held, is_entered) in &FRAMES {
-        let keys = desk.begin();
-        assert!(rt; keys == Keys(if *is_held { 0x20 } else { 0 }));
-        if *is_entered {
-            desk.entered();
-        }
-    }
-    let _lateness = desk.end();
-    Ok(())
+    assert!(rt; is_played(alloc, 60, &BOTH, 12, 12));
+    assert!(rt; is_played(alloc, 60, &STOPPED, 1_000, 12));
+    assert!(rt; is_played(alloc, 60, &HUNG_UP, 1_000, 12));
+    assert!(rt; is_played(alloc, 60, &ESCAPE, 1_000, 13));
+    assert!(rt; is_played(alloc, 120, &ESCAPE, 1_000, 14));
+    assert!(rt; is_played(alloc, 20, &ESCAPE, 1_000, 12));
 }

@@ -1,64 +1,87 @@
-//! Consoles whose keys are written down.
+//! Consoles whose keys are written down, and a clock that only sleeps move on.
 
 use c8_net::Udp;
 use c8_play::{Console, Exchange, Gone, KEY_BYTES};
-use std::sync::atomic::{AtomicU32, Ordering};
-use std::thread;
+use std::alloc::Global;
+use std::sync::atomic::{AtomicU64, Ordering};
 use std::time::{Clock, Duration};
+use std::{io, thread};
 
-/// A stroke: in which frame, counted from 0, and the byte that the terminal sends.
-pub type Stroke = (u32, u8);
-
-/// In place of a byte: the terminal hangs up.
-pub const HANGS_UP: u8 = 0xff;
-
-/// How often consoles were made ready, written on, and given back.
+/// A clock that only sleeps move on.
 #[derive(Drop)]
-pub struct Marks {
-    entered: AtomicU32,
-    drawn: AtomicU32,
-    left: AtomicU32,
+pub struct Still {
+    nanos: AtomicU64,
 }
 
-impl Marks {
-    pub fn new() -> Marks {
-        Marks {
-            entered: AtomicU32::new(0),
-            drawn: AtomicU32::new(0),
-            left: AtomicU32::new(0),
+impl Still {
+    pub fn new() -> Still {
+        Still {
+            nanos: AtomicU64::new(0),
         }
     }
+}
 
-    /// How often each was done since this was asked last.
-    pub fn take(&self) -> (u32, u32, u32) {
-        (
-            self.entered.swap(0, Ordering::SeqCst),
-            self.drawn.swap(0, Ordering::SeqCst),
-            self.left.swap(0, Ordering::SeqCst),
-        )
+impl Clock for Still {
+    fn monotonic(&self) -> io::Result<Duration> {
+        Ok(Duration::from_nanos(self.nanos.load(Ordering::SeqCst)))
+    }
+
+    fn since_1970(&self) -> io::Result<Duration> {
+        self.monotonic()
+    }
+
+    fn sleep(&self, duration: Duration) {
+        let nanos = u64::try_from(duration.as_nanos()).unwrap_or(u64::MAX);
+        self.nanos.fetch_add(nanos, Ordering::SeqCst);
     }
 }
 
-/// A console with such strokes. Its clock is the system's.
+/// What a terminal sends, and in which frame, counted from 0. Where it sends nothing it hangs up.
+pub type Sent = (u32, &'static [u8]);
+
+/// How often a console was made ready, written on, and given back.
+pub type Marks = (u32, u32, u32);
+
+/// What was seen at a console.
+#[derive(Drop)]
+pub struct Log {
+    /// At which microseconds frames began.
+    pub begun: Vec<u64>,
+    /// All that was written.
+    pub drawn: Vec<u8>,
+    pub marks: Marks,
+}
+
+impl Log {
+    pub fn new(alloc: Global) -> Log {
+        Log {
+            begun: Vec::new(alloc),
+            drawn: Vec::new(alloc),
+            marks: (0, 0, 0),
+        }
+    }
+}
+
+/// A console on which these keys are sent.
 #[derive(Drop)]
 pub struct Written<'r, R> {
     rt: &'r R,
-    strokes: &'static [Stroke],
-    marks: &'r Marks,
-    /// In which frame it is, and how many strokes it has told.
-    frame: u32,
+    sent: &'static [Sent],
+    /// How many of these the desk has read, and in which frame it is.
     told: usize,
+    frame: u32,
+    log: &'r mut Log,
     exchange: Exchange,
 }
 
 impl<'r, R: Clock> Written<'r, R> {
-    pub fn new(rt: &'r R, strokes: &'static [Stroke], marks: &'r Marks) -> Written<'r, R> {
+    pub fn new(rt: &'r R, sent: &'static [Sent], log: &'r mut Log) -> Written<'r, R> {
         Written {
             rt,
-            strokes,
-            marks,
-            frame: 0,
+            sent,
             told: 0,
+            frame: 0,
+            log,
             exchange: Exchange::new(),
         }
     }
@@ -70,38 +93,43 @@ impl<'r, R: Clock> Console for Written<'r, R> {
     ghost drawn = { λ console. console.exchange.drawn.items };
 
     fn enter(&mut self) -> Result<(), Gone> {
-        self.marks.entered.fetch_add(1, Ordering::SeqCst);
+        self.log.marks.0 = self.log.marks.0.saturating_add(1);
         Ok(())
     }
 
     fn leave(&mut self) {
-        self.marks.left.fetch_add(1, Ordering::SeqCst);
+        self.log.marks.2 = self.log.marks.2.saturating_add(1);
     }
 
     fn now(&mut self) -> Duration {
         self.rt.monotonic().unwrap_or(Duration::from_secs(0))
     }
 
-    /// A frame is over where there is no stroke of it left.
+    /// A frame is over where nothing is left of what is sent in it.
     fn keys(&mut self, bytes: &mut [u8; KEY_BYTES]) -> Result<usize, Gone> {
-        if let Some((frame, byte)) = self.strokes.get(self.told)
+        if let Some((frame, sent)) = self.sent.get(self.told)
             && *frame == self.frame
         {
             self.told = self.told.saturating_add(1);
-            if *byte == HANGS_UP {
+            if sent.is_empty() {
                 return Err(Gone);
             }
-            bytes[0] = *byte;
-            self.exchange.sent(&bytes[..1]);
-            return Ok(1);
+            let size = sent.len().min(KEY_BYTES);
+            bytes[..size].copy_from_slice(&sent[..size]);
+            self.exchange.sent(&bytes[..size]);
+            return Ok(size);
         }
         self.frame = self.frame.saturating_add(1);
+        let now = self.rt.monotonic().unwrap_or(Duration::from_secs(0));
+        let micros = u64::try_from(now.as_micros()).unwrap_or(u64::MAX);
+        let _ = self.log.begun.push(micros);
         Ok(0)
     }
 
     fn draw(&mut self, text: &[u8]) -> Result<(), Gone> {
+        self.log.marks.1 = self.log.marks.1.saturating_add(1);
+        let _ = self.log.drawn.extend_from_slice(text);
         self.exchange.wrote(text);
-        self.marks.drawn.fetch_add(1, Ordering::SeqCst);
         Ok(())
     }
 

@@ -1,6 +1,6 @@
 //! Two people, each at a console of their own, who play over the loopback.
 
-use crate::console::{Marks, Stroke, Written};
+use crate::console::{Log, Marks, Sent, Written};
 use c8_game::Player;
 use c8_net::{Asked, perform};
 use c8_play::{Live, Pace};
@@ -8,9 +8,8 @@ use std::fs;
 use std::fs::File;
 use std::net::{Ipv4Addr, Net, SocketAddr, UdpSocket};
 use std::rt::Files;
-use std::sync::Wait;
 use std::test::Fail;
-use std::thread::{Threads, join};
+use std::thread::join;
 use std::time::Clock;
 
 /// A game of two players and 60 frames. V0 counts the loops, V1 those in which key 5 is down, V3 those in which
@@ -21,9 +20,9 @@ const GAME: &str =
 const GAME_FILE: &str = "play_pair.game";
 
 /// Player 1 strikes key 5, player 2 key 13.
-static ONE: [Stroke; 3] = [(10, b'w'), (20, b'w'), (30, b'w')];
+static ONE: [Sent; 3] = [(10, b"w"), (20, b"w"), (30, b"w")];
 
-static TWO: [Stroke; 3] = [(15, b'r'), (25, b'r'), (35, b'r')];
+static TWO: [Sent; 3] = [(15, b"r"), (25, b"r"), (35, b"r")];
 
 /// The address of a socket that is no more, as text.
 fn free(rt: &HostRuntime) -> Result<String, Fail> {
@@ -31,19 +30,19 @@ fn free(rt: &HostRuntime) -> Result<String, Fail> {
     Ok(format!(in rt.alloc(); "{}", socket.local_addr()?)?)
 }
 
-/// What a player prints who plays at one address with one at another; nothing where it is refused.
+/// What a player prints who plays at one address with one at another, nothing where it is refused; and how often its
+/// console was used.
 fn printed<'x, R>(
     rt: &'x R,
     number: u8,
-    strokes: &'static [Stroke],
+    sent: &'static [Sent],
     journal: &'x str,
     local: &'x str,
     remote: &'x str,
     stop: Option<u64>,
-    marks: &'x Marks,
-) -> Vec<u8>
+) -> (Vec<u8>, Marks)
 where
-    R: Files<File = File> + Net + Clock + Threads + Wait + Sync + AllocGlobal,
+    R: Files<File = File> + Net + Clock + AllocGlobal,
 {
     let asked = Asked {
         game: GAME_FILE,
@@ -60,13 +59,14 @@ where
         progress: false,
         explain: false,
     };
+    let mut log = Log::new(rt.alloc());
     let live = Live {
-        console: Written::new(rt, strokes, marks),
+        console: Written::new(rt, sent, &mut log),
         pace: Pace { rate: 240, hold: 9 },
     };
     let (mut report, mut refused) = (Vec::new(rt.alloc()), Vec::new(rt.alloc()));
     let _ended = perform(rt, &asked, live, &mut report, &mut refused);
-    report
+    (report, log.marks)
 }
 
 /// What a register has in a report, one line of which has the registers: `v 00 3f ...`; 0 where none has.
@@ -91,39 +91,37 @@ fn is_of_some(report: &[u8], register: usize) -> bool {
     count > 0 && count < count_of(report, 0) / 2
 }
 
+/// Whether a console was made ready, written on, and given back.
+fn is_given_back(marks: Marks) -> bool {
+    marks.0 == 1 && marks.1 >= 2 && marks.2 == 1
+}
+
+/// Whether the game's file and all journals are there, which are removed.
+fn are_removed(rt: &HostRuntime) -> bool {
+    fs::remove_file(rt, GAME_FILE).is_ok()
+        && fs::remove_file(rt, "play_one.journal").is_ok()
+        && fs::remove_file(rt, "play_two.journal").is_ok()
+        && fs::remove_file(rt, "play_none.journal").is_ok()
+}
+
 #[test]
 fn two_at_consoles_print_one_report(rt: HostRuntime) -> Result<(), Fail> {
     fs::write(&rt, GAME_FILE, GAME)?;
     let (here, there) = (free(&rt)?, free(&rt)?);
     let (here, there) = (here.as_str(), there.as_str());
-    let marks = Marks::new();
-    let (one, two) = join(
+    let ((one, first), (two, second)) = join(
         &rt,
-        || printed(&rt, 1, &ONE, "play_one.journal", here, there, None, &marks),
-        || printed(&rt, 2, &TWO, "play_two.journal", there, here, None, &marks),
+        || printed(&rt, 1, &ONE, "play_one.journal", here, there, None),
+        || printed(&rt, 2, &TWO, "play_two.journal", there, here, None),
     );
     assert!(rt; one.starts_with(b"frames 60\n"));
     assert!(rt; one.as_slice() == two.as_slice());
     // the keys of both had their effect, for as long as strokes count
     assert!(rt; is_of_some(&one, 1) && is_of_some(&one, 3));
-    // both consoles were made ready, and given back
-    let (entered, drawn, left) = marks.take();
-    assert!(rt; entered == 2 && left == 2 && drawn >= 4);
+    assert!(rt; is_given_back(first) && is_given_back(second));
     // no frame is enough: nobody answers, and it ends at once
-    let stopped = printed(
-        &rt,
-        1,
-        &ONE,
-        "play_none.journal",
-        here,
-        there,
-        Some(0),
-        &marks,
-    );
+    let (stopped, _) = printed(&rt, 1, &ONE, "play_none.journal", here, there, Some(0));
     assert!(rt; stopped.starts_with(b"frames 0\n"));
-    fs::remove_file(&rt, "play_none.journal")?;
-    fs::remove_file(&rt, GAME_FILE)?;
-    fs::remove_file(&rt, "play_one.journal")?;
-    fs::remove_file(&rt, "play_two.journal")?;
+    assert!(rt; are_removed(&rt));
     Ok(())
 }

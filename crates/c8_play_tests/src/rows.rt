@@ -3,11 +3,13 @@
 use c8_game::Player;
 use c8_live::Standing;
 use c8_play::StatusRow;
-use std::test::Fail;
 use std::time::Duration;
 
 /// When, for whom it waits, and all that is written then.
 type Told = (u64, Option<u8>, &'static [u8]);
+
+/// The last row that is written.
+const LAST: &[u8] = b"\x1b[17;1H\x1b[K0/7  2: 1500 ms  back 0, longest 0";
 
 /// Seven frames are confirmed, and nothing else has happened.
 static ROWS: [Told; 8] = [
@@ -29,30 +31,35 @@ static ROWS: [Told; 8] = [
         Some(2),
         b"\x1b[17;1H\x1b[K0/7  waits for 2  2: 1500 ms  back 0, longest 0",
     ),
-    (
-        1_600,
-        None,
-        b"\x1b[17;1H\x1b[K0/7  2: 1500 ms  back 0, longest 0",
-    ),
+    (1_600, None, LAST),
     (2_400, None, b""),
 ];
 
-#[test]
-fn a_row_is_written_where_it_changes(rt: HostRuntime) -> Result<(), Fail> {
+fn rows() -> &'static [Told] {
+    &ROWS
+}
+
+/// Whether just this is written.
+fn is_row(status: &mut StatusRow, millis: u64, waits: Option<u8>, wanted: &[u8]) -> bool {
+    let waits = waits.and_then(Player::new);
+    status.row(Duration::from_millis(millis), 7, waits) == wanted
+}
+
+/// Whether a row is written where it changes, and again once the desk has forgotten it.
+fn are_rows() -> bool {
     let mut status = StatusRow::new(Duration::from_secs(0), Player::CHAIR, 2);
-    for (millis, waits, wanted) in &ROWS {
-        let row = status.row(
-            Duration::from_millis(*millis),
-            7,
-            waits.and_then(Player::new),
-        );
-        assert!(rt; row == *wanted);
+    for (millis, waits, wanted) in rows() {
+        if !is_row(&mut status, *millis, *waits, *wanted) {
+            return false;
+        }
     }
-    // what was forgotten is written again
     status.forget();
-    let again = status.row(Duration::from_millis(2_450), 7, None);
-    assert!(rt; again == ROWS[6].2);
-    Ok(())
+    is_row(&mut status, 2_450, None, LAST)
+}
+
+#[test]
+fn a_row_is_written_where_it_changes(rt: HostRuntime) {
+    assert!(rt; are_rows());
 }
 
 /// When, how the peer stands, for whom it waits, and all that is written then.
@@ -166,7 +173,7 @@ static OF_FOUR: [Look; 3] = [
     },
 ];
 
-/// Whether these are the rows of a player of a game of so many, which begins at 100 milliseconds.
+/// Whether these are the rows of a player of a game with this many players, which begins at 100 milliseconds.
 fn are_told(number: u8, players: u8, looks: &[Look]) -> bool {
     let me = Player::new(number).unwrap_or(Player::CHAIR);
     let mut status = StatusRow::new(Duration::from_millis(100), me, players);

@@ -4,7 +4,7 @@ use std::sync::atomic::{AtomicBool, AtomicU64, Ordering};
 use std::thread::sleep;
 use std::time::{Clock, Duration};
 
-/// Lets a worker make so many turns.
+/// Lets a worker make this many turns.
 #[derive(Drop)]
 pub(crate) struct Turns {
     pub(crate) most: u64,
@@ -18,24 +18,8 @@ impl Gate for Turns {
     fn after(&self, _: Worker, _: u64) {}
 }
 
-/// For how many microseconds a worker sleeps after a turn, or between two looks.
+/// For how many microseconds a worker sleeps between two looks.
 const PAUSE: u64 = 100;
-
-/// Lets a worker sleep after each turn, so that all come to theirs on few processors.
-#[derive(Drop)]
-pub(crate) struct Paced<'r, R> {
-    pub(crate) rt: &'r R,
-}
-
-impl<R: Clock> Gate for Paced<'_, R> {
-    fn before(&self, _: Worker, _: u64) -> bool {
-        true
-    }
-
-    fn after(&self, _: Worker, _: u64) {
-        sleep(self.rt, Duration::from_micros(PAUSE));
-    }
-}
 
 /// How often a worker looks whether the other one has made its first turn, with a sleep between looks:
 /// some seconds in all, for a machine whose processors are busy.

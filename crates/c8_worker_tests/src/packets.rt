@@ -1,133 +1,73 @@
-//! Packets that a net worker moves, and those that a relay loses.
-ghost use Rattle.std.specs.Prelude.{◌≡◌};
-
+//! Packets that a net worker moves, and those that find no place.
 use crate::gates::Turns;
-use crate::sides::game_of;
-use c8_disk::MemDisk;
-use c8_game::{Game, Player};
-use c8_inlet::{Packet, Putter, inlet};
-use c8_live::{Counters, LONGEST_PACKET, Relay, Traffic, Wire, WireFailed, net_worker};
-use c8_peer::{Kind, Peer};
+use crate::sides::relays;
+use c8_game::Player;
+use c8_live::{Counters, LONGEST_PACKET, Relay, Wire, net_worker};
 use c8_wire::{LONGEST_DATAGRAM, Seat};
-use std::alloc::Global;
+use std::alloc::{AllocError, Global};
+use std::sync::Wait;
 use std::test::Fail;
 
-pub(crate) const ONE: Player = Player { number: 1 };
+const TWO: Player = Player { number: 2 };
 
-pub(crate) const TWO: Player = Player { number: 2 };
+/// A HELLO of player 1 to player 2.
+const HELLO: &[u8] =
+    b"C8\x01\x01\x01\x02\x03\x04\x05\x06\x07\x08\x01\x02\x00\x00\x00\x00\x00\x01\x00\x00\x00\x00";
 
-/// A wire on which so many packets wait, each one byte, and which keeps whom it sent to.
-#[derive(Drop)]
-struct Counter {
-    waiting: u8,
-    sent_to_two: u32,
-    sent: u32,
-    traffic: Traffic,
+/// Whether a relay takes a packet, or loses it.
+fn is_sent(relay: &mut Relay, bytes: &[u8]) -> bool {
+    bytes.len() <= LONGEST_DATAGRAM && relay.send(Seat::from(TWO), bytes).is_ok()
 }
 
-impl Wire for Counter {
-    ghost sent = { λ wire. wire.traffic.sent.items };
-
-    ghost received = { λ wire. wire.traffic.received.items };
-
-    fn send(&mut self, to: Seat, datagram: &[u8]) -> Result<(), WireFailed> {
-        self.sent = self.sent.saturating_add(1);
-        if to.number == 2 {
-            self.sent_to_two = self.sent_to_two.saturating_add(1);
-        }
-        self.traffic.took(datagram);
-        Ok(())
-    }
-
-    fn receive(&mut self, packet: &mut [u8; LONGEST_PACKET]) -> Result<Option<usize>, WireFailed> {
-        if self.waiting == 0 {
-            return Ok(None);
-        }
-        packet[0] = self.waiting;
-        self.waiting -= 1;
-        self.traffic.gave(&packet[..1]);
-        Ok(Some(1))
-    }
-}
-
-/// What one player's peer says first to another.
-pub(crate) fn hello(alloc: Global, game: &Game, from: Player, to: Player) -> Result<Packet, Fail> {
-    let disk = MemDisk::new(alloc, 100_000, 4000)?;
-    match Peer::open(alloc, disk, game, from, 7) {
-        Ok(peer) => said(&peer, to),
-        Err((error, _disk)) => Err(Fail::new(error)),
-    }
-}
-
-fn said(peer: &Peer<'_, MemDisk>, to: Player) -> Result<Packet, Fail> {
-    let mut datagram = [0; LONGEST_DATAGRAM];
-    let size = peer.say(to, Kind::Hello, &mut datagram)?;
-    Ok(Packet::try_from(&datagram[..size])?)
-}
-
-/// Whether a packet of these bytes was taken.
-fn is_packet(taken: Option<Packet>, bytes: &[u8]) -> bool {
-    match taken {
-        Some(packet) => packet.as_bytes() == bytes,
-        None => false,
-    }
-}
-
-/// Puts a packet of one byte in. Whether there was a place for it.
-fn put(putter: &mut Putter, byte: u8) -> bool {
-    match Packet::try_from([byte].as_slice()) {
-        Ok(packet) => putter.put(packet).is_ok(),
+/// Whether the next packet that has come is this one; an empty one where none has.
+fn has_come(relay: &mut Relay, wanted: &[u8]) -> bool {
+    let mut packet = [0; LONGEST_PACKET];
+    match relay.receive(&mut packet) {
+        Ok(Some(size)) => &packet[..size] == wanted,
+        Ok(None) => wanted.is_empty(),
         Err(_) => false,
     }
 }
 
-#[test]
-fn a_net_worker_moves_packets(rt: HostRuntime) -> Result<(), Fail> {
-    let game = game_of(rt.alloc(), 2)?;
-    let (mut outbox, mut to_wire) = inlet(rt.alloc(), 3)?;
-    let (mut from_wire, mut inbox) = inlet(rt.alloc(), 2)?;
-    assert!(rt; outbox.put(hello(rt.alloc(), &game, ONE, TWO)?).is_ok());
-    assert!(rt; put(&mut outbox, 7));
-    let mut wire = Counter {
-        waiting: 3,
-        sent_to_two: 0,
-        sent: 0,
-        traffic: Traffic::new(),
-    };
+/// Whether a relay takes these packets, or loses them.
+fn are_sent(relay: &mut Relay, one: &[u8], two: &[u8], three: &[u8]) -> bool {
+    has_come(relay, b"") && is_sent(relay, one) && is_sent(relay, two) && is_sent(relay, three)
+}
+
+/// Whether just these packets have come, an empty one for none.
+fn have_come(relay: &mut Relay, one: &[u8], two: &[u8]) -> bool {
+    has_come(relay, one) && has_come(relay, two) && has_come(relay, b"")
+}
+
+/// Whether a net worker moves, in one turn, what waits in a relay of two places and on a wire of three. The game's
+/// third packet finds no place in its relay, the wire's third one none in the inbox, and a byte is no datagram.
+fn are_moved<R: Wait>(rt: &R, alloc: Global) -> Result<bool, AllocError> {
+    let (mut game, net) = relays(alloc, 2)?;
+    let (mut wire, mut world) = relays(alloc, 3)?;
+    let (mut inbox, mut outbox) = net.into_ends();
     let counters = Counters::new();
-    net_worker(
-        &rt,
+    let is_posted = are_sent(&mut game, HELLO, &[7], &[8])
+        && are_sent(&mut world, &[3], &[2], &[1]);
+    let moved = net_worker(
+        rt,
         &mut wire,
-        &mut to_wire,
-        &mut from_wire,
+        &mut outbox,
+        &mut inbox,
         &counters,
         &Turns { most: 1 },
-    )?;
-    // the third one that waited found no place, and a byte is no datagram
-    assert!(rt; counters.take().lost == 1);
-    assert!(rt; wire.sent == 1);
-    assert!(rt; wire.sent_to_two == 1);
-    assert!(rt; is_packet(inbox.take(), &[3]));
-    assert!(rt; is_packet(inbox.take(), &[2]));
-    assert!(rt; inbox.take().is_none());
-    assert!(rt; to_wire.take().is_none());
-    Ok(())
+    );
+    Ok(
+        is_posted
+            && moved.is_ok()
+            && game.lost() == 1
+            && counters.take().lost == 1
+            && have_come(&mut world, HELLO, b"")
+            && have_come(&mut game, &[3], &[2]),
+    )
 }
 
 #[test]
-fn a_relay_loses_what_finds_no_place(rt: HostRuntime) -> Result<(), Fail> {
-    let (to_two, mut from_one) = inlet(rt.alloc(), 1)?;
-    let (mut to_one, from_two) = inlet(rt.alloc(), 1)?;
-    let mut relay = Relay::new(to_two, from_two);
-    let mut buffer = [0; LONGEST_PACKET];
-    assert!(rt; relay.receive(&mut buffer) == Ok(None));
-    relay.send(Seat::from(TWO), &[1, 2, 3])?;
-    relay.send(Seat::from(TWO), &[4])?;
-    assert!(rt; relay.lost() == 1);
-    assert!(rt; is_packet(from_one.take(), &[1, 2, 3]));
-    assert!(rt; from_one.take().is_none());
-    assert!(rt; put(&mut to_one, 9));
-    assert!(rt; relay.receive(&mut buffer) == Ok(Some(1)));
-    assert!(rt; buffer[0] == 9);
+fn a_net_worker_moves_packets(rt: HostRuntime) -> Result<(), Fail> {
+    assert!(rt; are_moved(&rt, rt.alloc())?);
     Ok(())
 }

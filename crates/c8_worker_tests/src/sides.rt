@@ -14,15 +14,10 @@ use c8_live::{Counters, Gate, Relay, Session, Standing, Wire, game_worker, open_
 use c8_machine::Machine;
 use c8_peer::Peer;
 use std::alloc::{AllocError, Global};
-use std::test::Fail;
 
-/// The games of two, three and four players, of 20 frames. V0 counts the loops, V1 those in which key 5
-/// is down.
-const GAMES: [&str; 3] = [
-    "players 2\nipf 10\nframes 20\ndelay 0\nwindow 8\nseed 0\nmask1 ffff\nmask2 ffff\ncode 6205e2a1710170011202\n",
-    "players 3\nipf 10\nframes 20\ndelay 0\nwindow 8\nseed 0\nmask1 ffff\nmask2 ffff\nmask3 ffff\ncode 6205e2a1710170011202\n",
-    "players 4\nipf 10\nframes 20\ndelay 0\nwindow 8\nseed 0\nmask1 ffff\nmask2 ffff\nmask3 ffff\nmask4 ffff\ncode 6205e2a1710170011202\n",
-];
+/// A game of two players and 20 frames. V0 counts the loops, V1 those in which key 5 is down.
+pub(crate) const GAME: &str =
+    "players 2\nipf 10\nframes 20\ndelay 0\nwindow 8\nseed 0\nmask1 ffff\nmask2 ffff\ncode 6205e2a1710170011202\n";
 
 /// A session, its way to the others, and a board with its pen and a viewer.
 #[derive(Drop)]
@@ -41,62 +36,41 @@ pub(crate) struct Side<'g, W> {
 
 /// What a worker came to: how many turns it made if it did not fail, how many frames are confirmed
 /// at its peer, and with which machine, what its counters tell, and what its board shows.
-#[derive(Drop)]
-pub(crate) struct Outcome<W> {
+#[derive(Clone, Copy)]
+pub(crate) struct Outcome {
     pub(crate) made: Option<u64>,
-    pub(crate) wire: W,
     pub(crate) confirmed: u32,
     pub(crate) machine: Machine,
     pub(crate) counted: Standing,
     pub(crate) shown: Look,
 }
 
-impl<W: Drop> Outcome<W> {
-    pub(crate) fn without_wire(self) -> Outcome<()> {
-        Outcome {
-            made: self.made,
-            wire: (),
-            confirmed: self.confirmed,
-            machine: self.machine,
-            counted: self.counted,
-            shown: self.shown,
-        }
-    }
-}
-
-pub(crate) fn game_of(alloc: Global, players: u8) -> Result<Game, Fail> {
-    let text = match players {
-        2 => GAMES[0],
-        3 => GAMES[1],
-        _ => GAMES[2],
-    };
-    Ok(Game::read(alloc, text.as_bytes())?)
-}
-
-/// Two relays of so many places, each of which takes what the other one sends.
+/// Two relays with this many places, each of which takes what the other one sends.
 pub(crate) fn relays(alloc: Global, places: usize) -> Result<(Relay, Relay), AllocError> {
     let (to_two, from_one) = inlet(alloc, places)?;
     let (to_one, from_two) = inlet(alloc, places)?;
     Ok((Relay::new(to_two, from_two), Relay::new(to_one, from_one)))
 }
 
-/// A player's session on a new disk.
+/// A player's session on a new disk. The error stands for any fault.
 fn session_of<'g>(
     alloc: Global,
     game: &'g Game,
     number: u8,
     keys: &str,
-) -> Result<Session<'g, MemDisk>, Fail>
+) -> Result<Session<'g, MemDisk>, AllocError>
     ensures { IfOk result (λ session. session.peer.rules ≡ game.entry.now) }
 {
     let Some(me) = Player::new(number) else {
-        return Err(Fail::new("no player"));
+        return Err(AllocError);
     };
-    let keys = key_sets(alloc, keys.as_bytes())?;
+    let Ok(keys) = key_sets(alloc, keys.as_bytes()) else {
+        return Err(AllocError);
+    };
     let disk = MemDisk::new(alloc, 100_000, 4000)?;
     match Peer::open(alloc, disk, game, me, 7) {
         Ok(peer) => Ok(Session::new(peer, game, keys, None, 0)),
-        Err((error, _disk)) => Err(Fail::new(error)),
+        Err(_) => Err(AllocError),
     }
 }
 
@@ -105,7 +79,7 @@ fn opened(
     alloc: Global,
     game: &Game,
     peer: &Peer<'_, MemDisk>,
-) -> Result<(Board, Pen, Viewer), Fail>
+) -> Result<(Board, Pen, Viewer), AllocError>
     requires { game.now ≡ peer.now.rules }
     ensures pen { IfOk result (λ r. r.1 ≡ pen_at r.0 peer.now) }
     ensures shows { IfOk result (λ r. MayShow peer.now r.1) }
@@ -114,18 +88,19 @@ fn opened(
     let (board, pen, mut viewers) = open_board(alloc, game, peer, 1)?;
     match viewers.pop() {
         Some(viewer) => Ok((board, pen, viewer)),
-        None => Err(Fail::new("no viewer")),
+        None => Err(AllocError),
     }
 }
 
 impl<'g, W: Wire + Drop> Side<'g, W> {
+    /// A player's side of a game, in which it enters these key lines. The error stands for any fault.
     pub(crate) fn new(
         alloc: Global,
         game: &'g Game,
         number: u8,
         keys: &str,
         wire: W,
-    ) -> Result<Side<'g, W>, Fail> {
+    ) -> Result<Side<'g, W>, AllocError> {
         let session = session_of(alloc, game, number, keys)?;
         let (board, pen, viewer) = opened(alloc, game, session.peer())?;
         Ok(Side {
@@ -137,13 +112,13 @@ impl<'g, W: Wire + Drop> Side<'g, W> {
         })
     }
 
-    /// Its viewer asks for the end.
+    /// Its viewer asks it to stop.
     pub(crate) fn ask_stop(&mut self) {
         self.board.ask_stop(&mut self.viewer);
     }
 
-    /// Its worker runs, at most so many turns, while the gate lets it.
-    pub(crate) fn work<G: Gate>(self, turns: u64, gate: &G) -> Outcome<W> {
+    /// Its worker makes at most this many turns, while the gate lets it.
+    pub(crate) fn work<G: Gate>(self, turns: u64, gate: &G) -> Outcome {
         let Side {
             mut session,
             mut wire,
@@ -165,7 +140,6 @@ impl<'g, W: Wire + Drop> Side<'g, W> {
         let (confirmed, machine) = session.peer().base();
         Outcome {
             made: made.ok(),
-            wire,
             confirmed,
             machine: *machine,
             counted: counters.take(),

@@ -1,0 +1,34 @@
+//! A line that a person reads who waits.
+use c8_game::Player;
+use c8_live::{Progress, Standing};
+use std::alloc::Global;
+use std::time::Duration;
+
+/// All that a line can have, of player 3 of four: the longest rollback is that of two looks.
+const LINE: &[u8] = b"\
+    ticked 21, confirmed 19, rollbacks 4, longest 5, player 1 silent for 200 ms, \
+    player 2 silent for 1000 ms, player 4 silent for 0 ms, 7 packets lost, the machines differ\n";
+
+/// Whether two looks print that line.
+fn is_printed(alloc: Global) -> bool {
+    let mut standing = Standing {
+        ticked: 21,
+        rollbacks: 4,
+        longest: 5,
+        heard: [2, 0, 3, 1],
+        is_alarmed: true,
+        lost: 7,
+    };
+    let mut told = Vec::new(alloc);
+    let mut progress = Progress::new(Duration::from_millis(100), Player { number: 3 }, 4);
+    let first = progress.tell(&mut told, Duration::from_millis(900), 18, &standing);
+    standing.longest = 3;
+    standing.heard = [2, 0, 3, 2];
+    let second = progress.tell(&mut told, Duration::from_millis(1100), 19, &standing);
+    first.is_ok() && second.is_ok() && told.as_slice() == LINE
+}
+
+#[test]
+fn a_line_has_all_that_is_counted(rt: HostRuntime) {
+    assert!(rt; is_printed(rt.alloc()));
+}

@@ -1,0 +1,66 @@
+//! Games, and the peers and sessions of their players, on new disks.
+use crate::way::Way;
+use c8_disk::MemDisk;
+use c8_game::{Game, Keys, Player};
+use c8_live::Session;
+use c8_peer::Peer;
+use std::alloc::Global;
+
+/// The games of two, three and four players. V0 counts the loops, V1 those in which key 5 is down.
+pub(crate) const TWO: &str =
+    "players 2\nipf 10\nframes 20\ndelay 0\nwindow 8\nseed 0\nmask1 ffff\nmask2 ffff\ncode 6205e2a1710170011202\n";
+
+pub(crate) const THREE: &str =
+    "players 3\nipf 10\nframes 20\ndelay 0\nwindow 8\nseed 0\nmask1 ffff\nmask2 ffff\nmask3 ffff\ncode 6205e2a1710170011202\n";
+
+pub(crate) const FOUR: &str =
+    "players 4\nipf 10\nframes 20\ndelay 0\nwindow 8\nseed 0\nmask1 ffff\nmask2 ffff\nmask3 ffff\nmask4 ffff\ncode 6205e2a1710170011202\n";
+
+/// The room in which all play.
+const ROOM: u64 = 7;
+
+/// A player's peer over a disk, if it opens.
+pub(crate) fn opened<'g>(
+    alloc: Global,
+    disk: MemDisk,
+    game: &'g Game,
+    me: Player,
+) -> Option<Peer<'g, MemDisk>> {
+    match Peer::open(alloc, disk, game, me, ROOM) {
+        Ok(peer) => Some(peer),
+        Err(_) => None,
+    }
+}
+
+/// A player's peer over an empty disk with ample room.
+pub(crate) fn new_peer<'g>(alloc: Global, game: &'g Game, number: u8) -> Option<Peer<'g, MemDisk>> {
+    let me = Player::new(number)?;
+    let disk = MemDisk::new(alloc, 100_000, 4000).ok()?;
+    opened(alloc, disk, game, me)
+}
+
+/// The session of a player who enters these key sets. It makes no checkpoint.
+pub(crate) fn session_of<'g>(
+    alloc: Global,
+    game: &'g Game,
+    number: u8,
+    patience: Option<u64>,
+    keys: &[u16],
+) -> Option<Session<'g, MemDisk>> {
+    let peer = new_peer(alloc, game, number)?;
+    let sets = sets_of(alloc, keys);
+    Some(Session::new(peer, game, sets, patience, 0))
+}
+
+fn sets_of(alloc: Global, keys: &[u16]) -> Vec<Keys> {
+    let mut sets = Vec::new(alloc);
+    for set in keys {
+        let _kept = sets.push(Keys(*set));
+    }
+    sets
+}
+
+/// Whether a session makes a turn that does not fail.
+pub(crate) fn is_turn_made(session: &mut Session<'_, MemDisk>, way: &mut Way) -> bool {
+    session.turn(way).is_ok()
+}

@@ -1,0 +1,48 @@
+//! The steps of a script.
+
+pub(crate) const HELLO: u8 = 1;
+
+pub(crate) const WELCOME: u8 = 2;
+
+pub(crate) const DATA: u8 = 3;
+
+pub(crate) const FREEZE: u8 = 4;
+
+pub(crate) const FROZEN: u8 = 5;
+
+pub(crate) const CUT: u8 = 6;
+
+/// No byte of a datagram: none is this long.
+pub(crate) const WHOLE: usize = 1000;
+
+/// A step. Datagrams that the session sends are words: the addressee, the kind, and the leaver if there is one.
+#[derive(Clone, Copy)]
+pub(crate) enum Step {
+    /// A player sends a datagram of this kind, about this leaver if the kind has one; 0 is nobody. It waits for
+    /// the next turn.
+    Sends(u8, u8, u8),
+    /// A player says a datagram of this kind, which is kept.
+    Keeps(u8, u8),
+    /// The kept datagram waits for the next turn, with one bit of this byte changed.
+    Repeats(usize),
+    /// This many packets wait that are no datagrams.
+    Noise(u16),
+    /// A player enters a key set.
+    Enters(u8, u16),
+    /// A player's peer restarts over its journal.
+    Restarts(u8),
+    /// From now on the session shows the match to the watcher in this seat.
+    Shows(u8),
+    /// The session makes a turn, and sends just this.
+    Turn(&'static str),
+    /// The session listens between two turns, and sends just this.
+    Listens(&'static str),
+    /// The session plays a turn with this key set, or none; whether it takes it, and all that it sends.
+    Plays(Option<u16>, bool, &'static str),
+    /// A player has been silent for this many turns.
+    Silent(u8, u64),
+    /// This many frames are ticked, this many confirmed, and the last one shown has these keys.
+    Stands(u32, u32, u16),
+    /// 400 milliseconds later a person reads this line, or nothing.
+    Prints(&'static str),
+}
