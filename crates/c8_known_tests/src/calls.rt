@@ -91,6 +91,20 @@ pub fn come(known: &mut Known, player: Player, bytes: &[u8]) -> bool {
     }
 }
 
+/// Drops a player, and cuts its list where it ends. Whether that could be done.
+pub fn drop_player(known: &mut Known, player: Player) -> bool {
+    if player.number > known.players() || player.number == known.me().number {
+        return false;
+    }
+    known.leave(player);
+    if known.cut_of(player).is_some() || !known.frozen(player) {
+        return false;
+    }
+    let length = known.count(player);
+    known.cut(player, length);
+    true
+}
+
 pub fn count(known: &Known, player: Player) -> Option<u32> {
     if player.number > known.players() {
         return None;

@@ -1,4 +1,7 @@
 //! A roll that guessed wrong, beside a machine that is run from the first frame on.
+mod chance;
+mod slow;
+
 use crate::calls::{at_first, come, enter, game_of, is_summed_up};
 use c8_game::{Game, Keys, Player, Row};
 use c8_known::Known;
@@ -49,9 +52,9 @@ fn read(alloc: Global, code: &str) -> Result<Game, Fail> {
     game_of(alloc, text.as_bytes())
 }
 
-/// Player 1 makes a tick with no key down. Whether it could.
-fn tick(known: &mut Known, roll: &mut Roll<'_>) -> bool {
-    if enter(known, 0).is_none() || known.ticks() == 0 || known.ticks() - 1 != roll.ticks() {
+/// Player 1 makes a tick. Whether it could.
+fn tick(known: &mut Known, roll: &mut Roll<'_>, keys: u16) -> bool {
+    if enter(known, keys).is_none() || known.ticks() == 0 || known.ticks() - 1 != roll.ticks() {
         return false;
     }
     roll.advance(known);
@@ -61,7 +64,7 @@ fn tick(known: &mut Known, roll: &mut Roll<'_>) -> bool {
 /// Makes ticks. Whether each of them runs one frame.
 fn ticks(known: &mut Known, roll: &mut Roll<'_>, many: u32) -> bool {
     for _ in 0..many {
-        if !tick(known, roll) || roll.last_run() != 1 {
+        if !tick(known, roll, 0) || roll.last_run() != 1 {
             return false;
         }
     }

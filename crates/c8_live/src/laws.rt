@@ -7,7 +7,7 @@ ghost use Rattle.c8_game.specs.declared.row.Keys.{Keys};
 ghost use Rattle.c8_record.specs.Body.{records_of};
 ghost use Rattle.c8_peer.specs.Opened.{bodies_found, IsOpened};
 ghost use Rattle.c8_peer.specs.Runs.{TellsTruly};
-ghost use Rattle.c8_peer.specs.TrueChecks.{HasTrueChecks};
+ghost use Rattle.c8_peer.specs.TrueChecks.{HasTrueChecks, HasTrueLast};
 ghost use Rattle.c8_board.specs.Tokens.{Begins};
 ghost use Rattle.c8_digest.specs.Origin.{run_since};
 ghost use Rattle.c8_known.specs.Confirmed.{confirmed_rows};
@@ -157,13 +157,13 @@ pub fn machines_begin_where_they_did<D: Disk>()
     a_word_stands_from_any_journal::<D>();
 }
 
-/// What the journal of a peer says of checkpoints is true where that was so of what its opening found
-/// (`opened`), and stays true however the peer runs on (`stays`). While it is true the run on the
+/// The checkpoints of a peer's journal are true where the last one that its opening found was
+/// (`opened`), and they stay true however the peer runs on (`stays`). While they are, the run on the
 /// confirmed rows from where the machine began is the serial run (`serial`).
 pub fn true_checks_show_the_serial_run<D: Disk>()
     ensures opened { (disk : D) (rules : Rules) (room me : ℕ) (p : PeerValue D)
         → IsOpened D.Disk disk rules room me p
-        → HasTrueChecks rules me (records_of (bodies_found D.Disk disk))
+        → HasTrueLast rules me (records_of (bodies_found D.Disk disk))
         → TellsTruly p.rules p.me p.state }
     ensures stays { (old new : PeerValue D) → IsSound D.Disk old
         → TellsTruly old.rules old.me old.state → HasRunOn D.Disk old new

@@ -45,8 +45,8 @@ impl<D: Disk> fmt::Debug for Journal<D> {
 impl<D: Disk> Journal<D> {
     ghost use Rattle.c8_log.specs.Journal.{KeepsBodies, AllKeepBodies};
 
-    /// The journal of a log that is up, with the bodies that the log keeps. They are to be read
-    /// before, by [`Log::read`]: a journal lends none.
+    /// The journal of a log that is up, with the bodies that the log keeps. Read them before, by
+    /// [`Log::read_block`]: a journal lends none.
     pub fn over(log: Log<D>) -> Journal<D>
         requires { log.down ≡ false }
         ensures { result ≡ record {

@@ -56,7 +56,7 @@ const MARKED: [Marked; 7] = [
     Marked { code: "a206d00212048040", keys: "0000", mark: 0x31e67f502da328c2 },
 ];
 
-fn marked() -> &'static [Marked] {
+fn marks_of_states() -> &'static [Marked] {
     &MARKED
 }
 
@@ -77,7 +77,7 @@ fn mark_number(machine: &Machine) -> u64 {
 /// The marks were made by another implementation of the machine and of SHA-256.
 #[test]
 fn marks_states(rt: HostRuntime) -> Result<(), Fail> {
-    for row in marked() {
+    for row in marks_of_states() {
         let machine = play(rt.alloc(), 100, row.code, row.keys)?;
         let found = mark_number(&machine);
         assert!(rt; found == row.mark, "{row:?}: {found:016x}");

@@ -11,7 +11,7 @@ use Rattle.c8_refusals.specs.declared.error.OpenError.{OpenError}
 use Rattle.c8_peer.specs.Opened.{bodies_found, IsOpened, IsRefusedOpening}
 use Rattle.c8_peer.specs.Peer.{PeerValue, known_by, begun_by, IsSound}
 use Rattle.c8_peer.specs.Runs.{TellsTruly}
-use Rattle.c8_peer.specs.TrueChecks.{HasTrueChecks}
+use Rattle.c8_peer.specs.TrueChecks.{HasTrueChecks, HasTrueLast}
 use Rattle.c8_net.specs.declared.error.PeerError.TheVariants.{Open}
 use Rattle.c8_keys.specs.declared.lines.Played.{Played}
 use Rattle.c8_live.specs.declared.error.SessionError.{SessionError}
@@ -51,7 +51,7 @@ module _ {D : Type 0} (g : Ghosts D) (disk : D) (rules : Rules) (room me : ℕ) 
   BeginsThere = (old new : PeerValue D) → IsSound g old → HasRunOn g old new → begun_by new ≡ begun_by old
 
   abbrev pub TellsThere : Type 0
-  TellsThere = (disk : D) (rules : Rules) (room me : ℕ) (p : PeerValue D) → IsOpened g disk rules room me p → HasTrueChecks rules me (records_of (bodies_found g disk)) → TellsTruly p.rules p.me p.state
+  TellsThere = (disk : D) (rules : Rules) (room me : ℕ) (p : PeerValue D) → IsOpened g disk rules room me p → HasTrueLast rules me (records_of (bodies_found g disk)) → TellsTruly p.rules p.me p.state
 
   abbrev pub StaysTrue : Type 0
   StaysTrue = (old new : PeerValue D) → IsSound g old → TellsTruly old.rules old.me old.state → HasRunOn g old new → TellsTruly new.rules new.me new.state

@@ -13,7 +13,7 @@ use Rattle.c8_peer.specs.Opened.{bodies_found, IsOpened, IsRefusedOpening}
 use Rattle.c8_record.specs.Body.{records_of}
 use Rattle.c8_digest.specs.Origin.{run_since}
 use Rattle.c8_peer.specs.Peer.{PeerValue, known_by, begun_by}
-use Rattle.c8_peer.specs.TrueChecks.{HasTrueChecks}
+use Rattle.c8_peer.specs.TrueChecks.{HasTrueLast}
 use Rattle.c8_refusals.specs.declared.error.OpenError.{OpenError}
 use Rattle.c8_refusals.specs.declared.error.OpenError.TheVariants as opens
 use Rattle.c8_keys.specs.KeySets.{IsFaultOfSets}
@@ -73,7 +73,7 @@ module _ {D : Type 0} (g : Ghosts D) (disk : D) (rules : Rules) (room me : ℕ) 
     pub ran : HasRunOn g first last
     pub frames : played.frames ≡ confirmed (known_by last)
     pub machine : state played.machine ≡ run_since rules (begun_by first) (confirmed_rows (known_by last))
-    pub serial_is : HasTrueChecks rules me (records_of (bodies_found g disk)) → state played.machine ≡ serial rules (confirmed_rows (known_by last))
+    pub serial_is : HasTrueLast rules me (records_of (bodies_found g disk)) → state played.machine ≡ serial rules (confirmed_rows (known_by last))
 
   -- the journal was opened, and there is no memory for what else a match takes
   abbrev pub IsWithoutRoom : OpenError → Type 0

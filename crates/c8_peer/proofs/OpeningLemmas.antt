@@ -20,7 +20,7 @@ use Rattle.c8_record.specs.checked.JournalLaws.{epoch_more, checks_more, of_game
 use Rattle.c8_window.specs.Window.{first_window, acked_of}
 use Rattle.c8_peer.specs.State.{none_seen, seen_by, fresh_memory}
 use Rattle.c8_peer.specs.Opening.{last_epoch, second_form, opening_record}
-use Rattle.c8_peer.specs.TrueChecks.{HasTrueChecks}
+use Rattle.c8_peer.specs.TrueChecks.{HasTrueLast, HasTrueChecks}
 use Rattle.c8_peer.specs.Lawful.{IsSaving, IsMemory}
 use Rattle.c8_peer.specs.checked.TrueCheckLaws.{opening_true}
 use Rattle.c8_digest.specs.checked.DigestLaws.{digest_length, digest_bytes_fit}
@@ -70,9 +70,9 @@ opening_allowed rules me room (r ∷ rest) range from to low is few = record {
   dropped = λ other leaving. tt;
 }
 
--- with it what the journal says of checkpoints stays true
+-- with it the checkpoints are true, where the last one is
 pub opening_stays : (rules : Rules) (me room : ℕ) (found : List Record) → AreInRange rules → 1 ≤ me → me ≤ rules.players → room < 2 ^ 64
-    → IsJournal rules me room found → epoch found < last_epoch → HasTrueChecks rules me found → HasTrueChecks rules me (found ++ opening_record rules room me found ∷ [])
+    → IsJournal rules me room found → epoch found < last_epoch → HasTrueLast rules me found → HasTrueChecks rules me (found ++ opening_record rules room me found ∷ [])
 opening_stays rules me room found range from to low is few true_checks =
     opening_true rules me room found range from to is (opening_allowed rules me room found range from to low is few) true_checks
 

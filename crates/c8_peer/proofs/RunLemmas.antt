@@ -22,7 +22,7 @@ use Rattle.c8_peer.specs.State.{Mode, Open, Down, Away, State, Call, Reply, Said
 use Rattle.c8_peer.specs.State as states
 use Rattle.c8_peer.specs.Steps.{outcome, Luck, Works, Refuses, refused_by_disk, when_down, done, at_mode, step}
 use Rattle.c8_peer.specs.Opening.{last_epoch, found, opening_record, Opening, NoPlayer, Stands, NotWritten, NoMemory, NotRead, Unfit, Spent, away, opened, MayBecome}
-use Rattle.c8_peer.specs.Truth.{IsTrue}
+use Rattle.c8_peer.specs.Truth.{IsTrue, CarriesMark}
 use Rattle.c8_peer.specs.TrueChecks.{HasTrueChecks}
 use Rattle.c8_peer.specs.checked.TrueCheckLaws.{none_true}
 use Rattle.c8_peer.specs.checked.TruthLaws.{truth_stays, confirmed_counts, confirmed_stays}
@@ -315,7 +315,7 @@ step_checked rules room me s call luck game held are fits = mode_checked rules r
 
 opening_checked : (rules : Rules) (room me : ℕ) (journal : List Record) → IsMatch rules room me → IsJournal rules me room journal → epoch journal < last_epoch → HasTrueChecks rules me journal → HasTrueChecks rules me (journal ++ opening_record rules room me journal ∷ [])
 opening_checked rules room me journal game is few are =
-    opening_stays rules me room journal game.range game.from game.to game.low is few are
+    opening_stays rules me room journal game.range game.from game.to game.low is few are.last
 
 opened_checked : (rules : Rules) (room me : ℕ) (s : State) (journal : List Record) (opening : Opening) → IsMatch rules room me → AreChecked rules me s → IsJournal rules me room journal → HasTrueChecks rules me journal
     → MayBecome rules room me journal opening → AreChecked rules me (opened rules room me s journal opening).state
@@ -388,13 +388,13 @@ down_says_nothing (states.Leave leaver) packet = λ e. cc e
 down_says_nothing (states.Decide leaver) packet = λ e. cc e
 down_says_nothing states.Checkpoint packet = λ e. cc e
 
-done_says : (rules : Rules) (room me : ℕ) (s : State) (call : Call) (packet : Packet) (keeps : Option Record) (luck : Luck) → IsMatch rules room me → IsHeld rules room me s → AreChecked rules me s → s.mode ≡ Open → IsCall call
+done_says : (rules : Rules) (room me : ℕ) (s : State) (call : Call) (packet : Packet) (keeps : Option Record) (luck : Luck) → IsMatch rules room me → IsHeld rules room me s → (CarriesMark packet.message → AreChecked rules me s) → s.mode ≡ Open → IsCall call
     → (done s call (outcome rules (told_of rules me s.journal) (known_of rules me s.journal) s.memory call) keeps luck).reply ≡ Said (Ok packet) → IsTrue rules me s.journal packet
-done_says rules room me s call packet None luck game held are up fits said = said_true rules me room s.journal s.memory call packet game.range game.from game.to held.journal (held.memory up) fits are.journal said
-done_says rules room me s call packet (Some r) Works game held are up fits said = said_true rules me room s.journal s.memory call packet game.range game.from game.to held.journal (held.memory up) fits are.journal said
+done_says rules room me s call packet None luck game held are up fits said = said_true rules me room s.journal s.memory call packet game.range game.from game.to held.journal (held.memory up) fits (λ carries. (are carries).journal) said
+done_says rules room me s call packet (Some r) Works game held are up fits said = said_true rules me room s.journal s.memory call packet game.range game.from game.to held.journal (held.memory up) fits (λ carries. (are carries).journal) said
 done_says rules room me s call packet (Some r) (Refuses why) game held are up fits said = absurd (disk_says_nothing call why packet said)
 
-mode_says : (rules : Rules) (room me : ℕ) (s : State) (call : Call) (packet : Packet) (mode : Mode) (luck : Luck) → IsMatch rules room me → IsHeld rules room me s → AreChecked rules me s → s.mode ≡ mode → IsCall call
+mode_says : (rules : Rules) (room me : ℕ) (s : State) (call : Call) (packet : Packet) (mode : Mode) (luck : Luck) → IsMatch rules room me → IsHeld rules room me s → (CarriesMark packet.message → AreChecked rules me s) → s.mode ≡ mode → IsCall call
     → (at_mode s call (outcome rules (told_of rules me s.journal) (known_of rules me s.journal) s.memory call) mode luck).reply ≡ Said (Ok packet) → IsTrue rules me s.journal packet
 mode_says rules room me s call packet Open luck game held are up fits said =
     done_says rules room me s call packet (outcome rules (told_of rules me s.journal) (known_of rules me s.journal) s.memory call).keeps luck game held are up fits said
@@ -410,7 +410,7 @@ opened_says_nothing rules room me s journal (NotRead why) packet = λ e. cc e
 opened_says_nothing rules room me s journal (Unfit error) packet = λ e. cc e
 opened_says_nothing rules room me s journal Spent packet = λ e. cc e
 
-after_says : (rules : Rules) (room me : ℕ) (s : State) (deed : Deed) (packet : Packet) → IsMatch rules room me → IsHeld rules room me s → AreChecked rules me s → MayDo rules room me s deed
+after_says : (rules : Rules) (room me : ℕ) (s : State) (deed : Deed) (packet : Packet) → IsMatch rules room me → IsHeld rules room me s → (CarriesMark packet.message → AreChecked rules me s) → MayDo rules room me s deed
     → (after rules room me s deed).answer ≡ Some (Said (Ok packet)) → IsTrue rules me s.journal packet
 after_says rules room me s (Does call luck) packet game held are may said = mode_says rules room me s call packet s.mode luck game held are refl may cc
 after_says rules room me s (Opens finds opening) packet game held are may said = absurd (opened_says_nothing rules room me s (found s finds) opening packet cc)
@@ -424,7 +424,7 @@ stays_true rules room me s t packet game (rest, same) held is =
     subst (λ (journal : List Record). IsTrue rules me journal packet) (sym same)
     (truth_stays rules me room s.journal rest packet game.range game.from game.to (subst (IsJournal rules me room) same held.journal) is)
 
-run_says : (rules : Rules) (room me : ℕ) (s t : State) (deeds : List Deed) (answers : List (Option Reply)) (packet : Packet) (n : ℕ) → IsMatch rules room me → IsHeld rules room me s → AreChecked rules me s
+run_says : (rules : Rules) (room me : ℕ) (s t : State) (deeds : List Deed) (answers : List (Option Reply)) (packet : Packet) (n : ℕ) → IsMatch rules room me → IsHeld rules room me s → (CarriesMark packet.message → AreChecked rules me s)
     → IsRun rules room me s deeds answers t → slice_get answers n ≡ Some (Some (Said (Ok packet))) → IsTrue rules me t.journal packet
 run_says rules room me s t [] [] packet n game held are run there = absurd cc
 run_says rules room me s t [] (answer ∷ answers) packet n game held are none there = absurd none
@@ -435,12 +435,12 @@ run_says rules room me s t (deed ∷ deeds) (answer ∷ answers) packet zero gam
     let later : IsHeld rules room me t = run_held rules room me u t deeds answers game (done_deed_held rules room me s u deed answer game held is) run in
     stays_true rules room me s t packet game grows later (after_says rules room me s deed packet game held are is.may said)
 run_says rules room me s t (deed ∷ deeds) (answer ∷ answers) packet (suc n) game held are (u, is, run) there =
-    run_says rules room me u t deeds answers packet n game (done_deed_held rules room me s u deed answer game held is) (done_deed_checked rules room me s u deed answer game held are is) run there
+    run_says rules room me u t deeds answers packet n game (done_deed_held rules room me s u deed answer game held is) (λ carries. done_deed_checked rules room me s u deed answer game held (are carries) is) run there
 
 pub said_stands : (rules : Rules) (room me : ℕ) (s t : State) (deeds : List Deed) (answers : List (Option Reply)) (packet : Packet) → AreInRange rules → 1 ≤ me → me ≤ rules.players → room < 2 ^ 64
-    → IsLawful rules room me s → TellsTruly rules me s → IsRun rules room me s deeds answers t → IsAmong answers packet → IsTrue rules me t.journal packet
+    → IsLawful rules room me s → (CarriesMark packet.message → TellsTruly rules me s) → IsRun rules room me s deeds answers t → IsAmong answers packet → IsTrue rules me t.journal packet
 said_stands rules room me s t deeds answers packet range from to low lawful tells run (n, there) =
-    run_says rules room me s t deeds answers packet n (match_of rules room me range from to low) (held_of rules room me s lawful) (checked_of rules me s tells) run there
+    run_says rules room me s t deeds answers packet n (match_of rules room me range from to low) (held_of rules room me s lawful) (λ carries. checked_of rules me s (tells carries)) run there
 
 -- ---- what is confirmed stays
 

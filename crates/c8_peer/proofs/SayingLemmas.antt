@@ -29,7 +29,7 @@ use Rattle.c8_peer.specs.State.{Memory, Call, Tick, Deliver, Say, Show, Leave, D
 use Rattle.c8_peer.specs.Told.{Told, told_of}
 use Rattle.c8_peer.specs.Saying.{is_not_mine, lacks_record, lacks_link, run_from, newest_mark, cut_length, message, packet, say, rows_for, show_packet, show}
 use Rattle.c8_peer.specs.Steps.{outcome}
-use Rattle.c8_peer.specs.Truth.{IsTrueMark, IsFrozenAt, IsTrueMessage, IsTrue}
+use Rattle.c8_peer.specs.Truth.{IsTrueMark, IsFrozenAt, IsTrueMessage, IsTrue, CarriesMark}
 use Rattle.c8_peer.specs.TrueChecks.{HasTrueChecks}
 use Rattle.c8_peer.specs.checked.TruthLaws.{count_rises}
 use Rattle.c8_peer.specs.Lawful.{IsMemory, IsCall}
@@ -277,11 +277,11 @@ cut_true rules me journal m to leaver orderly known mine has =
       run_stands rules me leaver (owed m.chair k to leaver) journal plays (omega arith),
     )
 
-message_true : (rules : Rules) (me : ℕ) (journal : List Record) (m : Memory) (to : ℕ) (what : Saying) → HasTrueChecks rules me journal → IsOrderly (known_of rules me journal) → IsKnown (known_of rules me journal) → acked_of m.acks to ≤ count rules me journal
+message_true : (rules : Rules) (me : ℕ) (journal : List Record) (m : Memory) (to : ℕ) (what : Saying) → (CarriesMark (message rules (told_of rules me journal) (known_of rules me journal) m to what) → HasTrueChecks rules me journal) → IsOrderly (known_of rules me journal) → IsKnown (known_of rules me journal) → acked_of m.acks to ≤ count rules me journal
     → Plays (known_of rules me journal) to → is_not_mine (known_of rules me journal) to what ≡ false → lacks_record (known_of rules me journal) what ≡ false → TrueOf rules me journal m to what
 message_true rules me journal m to Hello true_checks orderly known acked plays mine has = tt
 message_true rules me journal m to Welcome true_checks orderly known acked plays mine has = welcome_true rules me journal m to plays
-message_true rules me journal m to Data true_checks orderly known acked plays mine has = data_true rules me journal m to true_checks known acked plays
+message_true rules me journal m to Data true_checks orderly known acked plays mine has = data_true rules me journal m to (true_checks tt) known acked plays
 message_true rules me journal m to (Freeze leaver) true_checks orderly known acked plays mine has = freeze_true rules me journal m to leaver orderly mine has
 message_true rules me journal m to (Frozen leaver) true_checks orderly known acked plays mine has = frozen_true rules me journal m to leaver orderly has
 message_true rules me journal m to (Cut leaver) true_checks orderly known acked plays mine has = cut_true rules me journal m to leaver orderly known mine has
@@ -300,7 +300,7 @@ show_true rules me room journal m watcher one is =
 pub said_true : (rules : Rules) (me room : ℕ) (journal : List Record) (m : Memory)
     (call : Call) (p : Packet)
     → AreInRange rules → 1 ≤ me → me ≤ rules.players → IsJournal rules me room journal
-    → IsMemory rules room me journal m → IsCall call → HasTrueChecks rules me journal
+    → IsMemory rules room me journal m → IsCall call → (CarriesMark p.message → HasTrueChecks rules me journal)
     → (outcome rules (told_of rules me journal) (known_of rules me journal) m call).reply ≡ Said (Ok p)
     → IsTrue rules me journal p
 said_true rules me room journal m call p range from to journal_is is fits true_checks said =
@@ -310,7 +310,7 @@ said_true rules me room journal m call p range from to journal_is is fits true_c
       | inl s ↦ subst (λ (one : Packet). IsTrue rules me journal one) (sym s.is) (record {
         from = is.player;
         epoch = is.epoch;
-        message = message_true rules me journal m s.to s.what true_checks (journal_orderly rules me room journal journal_is) known (is.acked s.to) s.plays s.mine s.has;
+        message = message_true rules me journal m s.to s.what (subst (λ (one : Packet). CarriesMark one.message → HasTrueChecks rules me journal) s.is true_checks) (journal_orderly rules me room journal journal_is) known (is.acked s.to) s.plays s.mine s.has;
       })
       | inr s ↦ subst (λ (one : Packet). IsTrue rules me journal one) (sym s.is) (record {
         from = is.player;

@@ -16,7 +16,7 @@ use Rattle.c8_peer.specs.State.{Memory, Open, Saying, Say, Said, Outcome, answer
 use Rattle.c8_peer.specs.Saying.{message, packet, say, rows_for, show_packet, show}
 use Rattle.c8_peer.specs.Told.{Told, told_of}
 use Rattle.c8_peer.specs.Steps.{outcome}
-use Rattle.c8_peer.specs.Truth.{IsTrue}
+use Rattle.c8_peer.specs.Truth.{IsTrue, CarriesMark}
 use Rattle.c8_peer.specs.TrueChecks.{HasTrueChecks}
 use Rattle.c8_refusals.specs.declared.error.Unsayable.TheVariants as unsayables
 use Rattle.c8_peer.specs.Peer.{PeerValue, known_by, told_by, IsStep, IsSaid}
@@ -93,14 +93,14 @@ module _ {D : Type 0} where
   is_said v rules room j k m to what bytes p seen is mode comes spells =
       let t : Told = told_in rules j k in
       let here : outcome v.rules (told_by v) (known_by v) v.state.memory (Say to what) ≡ answered v.state.memory (Said (Ok p)) = outcome_seen v rules room j k m is seen (Say to what) (λ noted. answered noted (Said (Ok p))) comes in
-      let sound : HasTrueChecks rules k.me (records_of j.bodies) → IsTrue rules k.me (records_of j.bodies) p = λ true_checks.
+      let sound : (CarriesMark p.message → HasTrueChecks rules k.me (records_of j.bodies)) → IsTrue rules k.me (records_of j.bodies) p = λ true_checks.
       said_true rules k.me room (records_of j.bodies) m (Say to what) p is.range is.from_one is.in_game is.bodies.journal is.memory tt true_checks
       (subst (λ (known : KnownValue). (outcome rules t known m (Say to what)).reply ≡ Said (Ok p)) is.known (ap (λ (o : Outcome). o.reply) comes)) in
       record {
         packet = p;
         spelled = spells;
         step = rw (mode, here) refl;
-        is_true = subst (λ (x : PeerValue D). HasTrueChecks x.rules x.me x.state.journal → IsTrue x.rules x.me x.state.journal p) seen sound;
+        is_true = subst (λ (x : PeerValue D). (CarriesMark p.message → HasTrueChecks x.rules x.me x.state.journal) → IsTrue x.rules x.me x.state.journal p) seen sound;
       }
 
   pub may_show : (rules : Rules) (room : ℕ) (j : JournalValue D) (k : KnownValue) (m : Memory) (watcher : ℕ) (head : HeadValue) (body : Message) → IsPeer rules room j k m → is_watcher watcher ≡ true → k.me ≡ 1
@@ -125,14 +125,14 @@ module _ {D : Type 0} where
       let p : Packet = show_packet k m watcher in
       let comes = shows k m watcher one in
       let here : outcome v.rules (told_by v) (known_by v) v.state.memory (Show watcher) ≡ answered v.state.memory (Said (Ok p)) = outcome_seen v rules room j k m is seen (Show watcher) (λ noted. answered noted (Said (Ok p))) comes in
-      let sound : HasTrueChecks rules k.me (records_of j.bodies) → IsTrue rules k.me (records_of j.bodies) p = λ true_checks.
+      let sound : (CarriesMark p.message → HasTrueChecks rules k.me (records_of j.bodies)) → IsTrue rules k.me (records_of j.bodies) p = λ true_checks.
       said_true rules k.me room (records_of j.bodies) m (Show watcher) p is.range is.from_one is.in_game is.bodies.journal is.memory watches true_checks
       (subst (λ (known : KnownValue). (show known m watcher).reply ≡ Said (Ok p)) is.known (ap (λ (o : Outcome). o.reply) comes)) in
       record {
         packet = p;
         spelled = spells;
         step = rw (mode, here) refl;
-        is_true = subst (λ (x : PeerValue D). HasTrueChecks x.rules x.me x.state.journal → IsTrue x.rules x.me x.state.journal p) seen sound;
+        is_true = subst (λ (x : PeerValue D). (CarriesMark p.message → HasTrueChecks x.rules x.me x.state.journal) → IsTrue x.rules x.me x.state.journal p) seen sound;
       }
 
   pub show_refused : {ran : ℕ} (v : PeerValue D) (rules : Rules) (room : ℕ) (j : JournalValue D) (k : KnownValue) (m : Memory) (watcher : ℕ) → view rules room k.me j m ran ≡ v → IsPeer rules room j k m → v.state.mode ≡ Open

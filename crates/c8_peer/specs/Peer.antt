@@ -29,7 +29,7 @@ use Rattle.c8_peer.specs.declared.check.Check.{Check}
 use Rattle.c8_peer.specs.State.{Memory, Mode, Open, Down, Away, State, Call, Tick, Deliver, Say, Show, Leave, Decide, Checkpoint, Reply, Opened, Ticked, Delivered, Said, Left, Decided, Checked}
 use Rattle.c8_wire.specs.Packet.{Packet}
 use Rattle.c8_wire.specs.Spelling.{Spells}
-use Rattle.c8_peer.specs.Truth.{IsTrue}
+use Rattle.c8_peer.specs.Truth.{IsTrue, CarriesMark}
 use Rattle.c8_peer.specs.TrueChecks.{HasTrueChecks}
 use Rattle.c8_peer.specs.Told.{Told, told_of}
 use Rattle.c8_peer.specs.Opening.{found}
@@ -262,10 +262,10 @@ pub record IsSound {D : Type 0} (disk : Ghosts D) (p : PeerValue D) : Type 0 whe
   pub leaves : LeavesJournal disk p
   pub still : LeavesOnly disk p.disk p.disk (KeepsWithOrWithout p.state.journal p.state.pending)
 
--- What is said: a packet that the bytes spell, which is the answer to the call, and true of the journal, where what that says of
--- checkpoints is true.
+-- What is said: a packet that the bytes spell, which is the answer to the call, and true of the journal. The mark that DATA carries is
+-- true where the journal's checkpoints are.
 pub record IsSaid {D : Type 0} (p : PeerValue D) (call : Call) (bytes : List ℕ) : Type 0 where
   pub packet : Packet
   pub spelled : Spells bytes packet
   pub step : IsStep p call (Said (Ok packet)) p
-  pub is_true : HasTrueChecks p.rules p.me p.state.journal → IsTrue p.rules p.me p.state.journal packet
+  pub is_true : (CarriesMark packet.message → HasTrueChecks p.rules p.me p.state.journal) → IsTrue p.rules p.me p.state.journal packet

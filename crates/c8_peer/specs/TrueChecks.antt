@@ -1,4 +1,4 @@
--- When what a journal says of checkpoints is true: a machine that begins at one goes on as the one that was never stopped.
+-- When the checkpoints of a journal are true: a machine that begins at one goes on as the one that was never stopped.
 use Rattle.std.specs.Prelude.{◌≡◌, ◌≤◌, ℕ, Bool, true, false, List, take, Some}
 use Rattle.std.specs.List.{list_all}
 use Rattle.c8_game.specs.Rules.{Rules}
@@ -34,8 +34,13 @@ is_no_check (Check player frames words) = false
 abbrev pub SaysNoCheck : List Record → Type 0
 SaysNoCheck journal = list_all is_no_check journal ≡ true
 
--- Where the machine began at the last opening, where it would begin at the next, and the pieces under way.
+-- The last checkpoint is true: the next opening begins there. Pieces without a CHECK mean nothing, since an opening discards them.
+abbrev pub HasTrueLast : Rules → ℕ → List Record → Type 0
+HasTrueLast rules me journal = (from : Origin) → (checks_of journal).last ≡ Some from → IsOnTheWay rules (known_of rules me journal) from
+
+-- What a peer keeps true of its own journal: where its machine began at the last opening, where it would begin at the next, and the
+-- pieces that it has recorded since.
 pub record HasTrueChecks (rules : Rules) (me : ℕ) (journal : List Record) : Type 0 where
   pub begun : IsOnTheWay rules (known_of rules me journal) (begun_at rules journal)
-  pub last : (from : Origin) → (checks_of journal).last ≡ Some from → IsOnTheWay rules (known_of rules me journal) from
+  pub last : HasTrueLast rules me journal
   pub under_way : (p : Pieces) → (checks_of journal).under_way ≡ Some p → AreTruePieces rules (known_of rules me journal) p

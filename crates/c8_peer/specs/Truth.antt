@@ -38,6 +38,17 @@ IsTrueMessage rules me to journal (packets.Cut c) = (me ≡ 1) × (cut_of c.leav
 IsTrueMessage rules me to journal (packets.Show m) = (me ≡ 1) × Stands m.start m.rows (confirmed_rows (known_of rules me journal))
 IsTrueMessage rules me to journal (packets.Seen ack) = ⊥
 
+-- DATA alone carries a mark, and so speaks of the machine.
+abbrev pub CarriesMark : Message → Type 0
+CarriesMark packets.Hello = ⊥
+CarriesMark (packets.Welcome ack) = ⊥
+CarriesMark (packets.Data d) = Unit {0}
+CarriesMark (packets.Freeze f) = ⊥
+CarriesMark (packets.Frozen f) = ⊥
+CarriesMark (packets.Cut c) = ⊥
+CarriesMark (packets.Show m) = ⊥
+CarriesMark (packets.Seen ack) = ⊥
+
 -- The datagram is from this player, in an epoch that the journal has had, and what it says is true.
 pub record IsTrue (rules : Rules) (me : ℕ) (journal : List Record) (p : Packet) : Type 0 where
   pub from : p.head.from ≡ me

@@ -18,8 +18,8 @@ ghost use Rattle.c8_peer.specs.Steps.{Luck, Works, outcome, step, IsPlainRefusal
 ghost use Rattle.c8_disk.specs.declared.error.DiskError.{DiskError};
 ghost use Rattle.c8_peer.specs.Opening.{Opening, NotWritten, Stands, opened, MayBecome, IsServed, last_epoch, opening_record, found};
 ghost use Rattle.c8_peer.specs.Replies.{mode_told};
-ghost use Rattle.c8_peer.specs.Truth.{IsTrue};
-ghost use Rattle.c8_peer.specs.TrueChecks.{SaysNoCheck, HasTrueChecks};
+ghost use Rattle.c8_peer.specs.Truth.{IsTrue, CarriesMark};
+ghost use Rattle.c8_peer.specs.TrueChecks.{SaysNoCheck, HasTrueChecks, HasTrueLast};
 ghost use Rattle.c8_peer.specs.Lawful.{IsMemory, IsCall};
 ghost use Rattle.c8_peer.specs.Peer.{PeerValue, IsSound, IsAnswered, IsSaid, IsStep, Keeps, MayLeave, luck_of};
 ghost use Rattle.c8_peer.specs.Runs.{Deed, Does, Opens, IsDone, IsRun, IsLawful, TellsTruly, IsReached, IsAmong, Tells, IsRefusedDeed, IsStoppedOpening, never_opened, known_at};
@@ -52,8 +52,9 @@ pub fn what_is_confirmed_stays()
         ≡ rows_below (known_of rules me journal) n }
 {}
 
-/// An opening adds a record that the rules allow, and begins with a memory that is in order. What the
-/// journal says of checkpoints stays true.
+/// An opening adds a record that the rules allow, and begins with a memory that is in order. Where the
+/// last checkpoint found is true, all that the peer rests on is true; pieces without a CHECK do not
+/// matter, since the opening discards them.
 pub fn openings_are_lawful()
     ensures keeps { (rules : Rules) (me room : ℕ) (found : List Record)
         → AreInRange rules → 1 ≤ me → me ≤ rules.players → room < 2 ^ 64
@@ -67,13 +68,13 @@ pub fn openings_are_lawful()
     ensures checks { (rules : Rules) (me room : ℕ) (found : List Record)
         → AreInRange rules → 1 ≤ me → me ≤ rules.players → room < 2 ^ 64
         → IsJournal rules me room found → epoch found < last_epoch
-        → HasTrueChecks rules me found
+        → HasTrueLast rules me found
         → HasTrueChecks rules me (found ++ opening_record rules room me found ∷ []) }
 {}
 
-/// What an open peer records is allowed by the rules, its memory stays in order, with that record
-/// too (`grows`), and what it says is true of its journal and has a spelling, where what the journal says of checkpoints is true,
-/// which stays so.
+/// The rules allow what an open peer records. Its memory stays in order, with that record too
+/// (`grows`). True checkpoints stay true. What it says has a spelling and is true of its journal; the
+/// mark that DATA carries is true where the checkpoints are.
 pub fn steps_are_lawful()
     ensures keeps { (rules : Rules) (me room : ℕ) (journal : List Record) (m : Memory)
         (call : Call) (r : Record)
@@ -102,7 +103,8 @@ pub fn steps_are_lawful()
     ensures says { (rules : Rules) (me room : ℕ) (journal : List Record) (m : Memory)
         (call : Call) (p : Packet)
         → AreInRange rules → 1 ≤ me → me ≤ rules.players → IsJournal rules me room journal
-        → IsMemory rules room me journal m → IsCall call → HasTrueChecks rules me journal
+        → IsMemory rules room me journal m → IsCall call
+        → (CarriesMark p.message → HasTrueChecks rules me journal)
         → (outcome rules (told_of rules me journal) (known_of rules me journal) m call).reply
         ≡ Said (Ok p) → IsTrue rules me journal p }
     ensures spelled { (rules : Rules) (me room : ℕ) (journal : List Record) (m : Memory)
@@ -209,8 +211,8 @@ pub fn a_word_stands_from_any_journal<D: Disk>()
     ensures said { (rules : Rules) (room me : ℕ) (s t : State) (deeds : List Deed)
         (answers : List (Option Reply)) (packet : Packet)
         → AreInRange rules → 1 ≤ me → me ≤ rules.players → room < 2 ^ 64
-        → IsLawful rules room me s → TellsTruly rules me s → IsRun rules room me s deeds answers t
-        → IsAmong answers packet → IsTrue rules me t.journal packet }
+        → IsLawful rules room me s → (CarriesMark packet.message → TellsTruly rules me s)
+        → IsRun rules room me s deeds answers t → IsAmong answers packet → IsTrue rules me t.journal packet }
     ensures checks { (rules : Rules) (room me : ℕ) (s t : State) (deeds : List Deed)
         (answers : List (Option Reply))
         → AreInRange rules → 1 ≤ me → me ≤ rules.players → room < 2 ^ 64

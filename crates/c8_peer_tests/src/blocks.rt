@@ -9,7 +9,7 @@ use c8_record::{ReplayError, replay, replay_bytes};
 use std::alloc::Global;
 use std::test::Fail;
 
-static COUNTS: [u32; 6] = [1, 31, 32, 33, 64, 65];
+const COUNTS: [u32; 6] = [1, 31, 32, 33, 64, 65];
 
 /// The answer of a reading, and what is known by it: the ticks, the confirmed frames and the last row
 /// of these.

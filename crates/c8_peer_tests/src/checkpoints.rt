@@ -40,7 +40,7 @@ const NINE_COUNTED: Answer = Answer::Registers([4, 0, 9, 0, 0, 0, 0, 0, 0, 0, 0,
 
 /// Eight frames are confirmed at player 1, by ten records; 37 calls make a checkpoint.
 #[rattlefmt::skip]
-static WHOLE: [Row; 42] = [
+const WHOLE: [Row; 42] = [
     (ONE, Deed::Meet, Answer::Done),
     (ONE, Deed::Ticks(0, 8), TICKED),
     (TWO, Deed::Tick(0x10), TICKED),
@@ -91,7 +91,7 @@ const FIRST_CALL: usize = 5;
 const LAST_CALL: usize = 41;
 
 /// The next call has nothing to record. An opening begins at the checkpoint and runs no frame.
-static BEGINS: [Row; 12] = [
+const BEGINS: [Row; 12] = [
     (ONE, Deed::Checks(1), NOTHING),
     (ONE, Deed::Look(Base), Answer::Is(8)),
     (ONE, Deed::Look(Registers), ONE_COUNTED),
@@ -113,7 +113,7 @@ fn an_opening_begins_at_a_checkpoint(rt: HostRuntime) -> Result<(), Fail> {
 
 /// Player 1 stops after piece 20. Pieces without their digest mean nothing: the next checkpoint begins with
 /// its first piece.
-static BEGINS_AGAIN: [Row; 4] = [
+const BEGINS_AGAIN: [Row; 4] = [
     (ONE, Deed::Crash(1), Answer::Done),
     (ONE, Deed::Open, OPENED_AGAIN),
     (ONE, Deed::Look(LastRun), Answer::Is(8)),
@@ -175,7 +175,7 @@ const BAD_CHECK: Answer = Answer::Opened(Err(OpenError::BadRecord(46)));
 
 /// The first byte of the machine and of its mark is changed, and then as it was. The pieces are slots 10
 /// to 45, and 46 is the digest.
-static CHANGED: [Row; 7] = [
+const CHANGED: [Row; 7] = [
     (ONE, Deed::Write(10, 13, b"\x01"), Answer::Done),
     (ONE, Deed::Open, BAD_CHECK),
     (ONE, Deed::Write(10, 13, b"\0"), Answer::Done),
@@ -197,7 +197,7 @@ const ROUNDS: &str =
 /// Both players hold 0012 down for 40 frames, which are confirmed. An opening there keeps the marks of
 /// frames 0 and 32: DATA has a frame and its mark from byte 28 on, and a changed mark is refused.
 #[rattlefmt::skip]
-static MARKS: [Row; 27] = [
+const MARKS: [Row; 27] = [
     (ONE, Deed::Meet, Answer::Done),
     (ONE, Deed::Ticks(0x12, 10), TICKED),
     (TWO, Deed::Ticks(0x12, 10), TICKED),
@@ -235,7 +235,7 @@ fn an_opening_keeps_the_marks(rt: HostRuntime) -> Result<(), Fail> {
 /// A journal of the first form, as the program wrote it before there were checkpoints: player 1 ticked
 /// twelve times, and ten frames are confirmed. games/first_form.journal.hex has the same bytes.
 #[rattlefmt::skip]
-static FIRST_FORM: [Row; 16] = [
+const FIRST_FORM: [Row; 16] = [
     (ONE, Deed::Disk(20000, 1000), Answer::Done),
     (ONE, Deed::Add(b"\xa5\x01\x01\0\0\0\x01\0\0\0\0\0\x14\x9c\xef\x5d\x2a\xd7\xb8\x84\xec\xdf\x6f\xdb\xa6\x8d\x02\x4b\x78\xe3\xc0\x12\xaa\x40\x02\x5a\x0e\x48\x3b\xa2\xac\xb4\x3a\xef\xb3\x01\x02\x03\x04\x05\x06\x07\x08"), Answer::Done),
     (ONE, Deed::Add(b"\xa5\x03\x01\0\0\0\0\0\0\0\0\0\x01\0\x01"), Answer::Done),
@@ -256,7 +256,7 @@ static FIRST_FORM: [Row; 16] = [
 
 /// It shows what it showed then, and the next EPOCH is of the second form.
 #[rattlefmt::skip]
-static GOES_ON: [Row; 19] = [
+const GOES_ON: [Row; 19] = [
     (ONE, Deed::Open, OPENED_AGAIN),
     (ONE, Deed::Look(Now), Answer::Is(12)),
     (ONE, Deed::Look(Confirmed), Answer::Is(10)),

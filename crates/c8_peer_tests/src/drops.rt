@@ -35,7 +35,7 @@ const YES: Answer = Answer::Tells(true);
 
 /// Each player ticks ten times. Player 1 holds 10 inputs of player 2 and 8 of player 3, player 2
 /// holds 10 of both.
-static TEN_TICKS: [Row; 13] = [
+const TEN_TICKS: [Row; 13] = [
     (ONE, Deed::Meet, Answer::Done),
     (ONE, Deed::Ticks(1, 10), TICKED),
     (TWO, Deed::Ticks(0x20, 10), TICKED),
@@ -54,7 +54,7 @@ static TEN_TICKS: [Row; 13] = [
 /// Player 2 answers that it holds 10 inputs, and brings those from place 8. The CUT has length 10, and
 /// brings none from place 10.
 #[rattlefmt::skip]
-static ROUND: [Row; 12] = [
+const ROUND: [Row; 12] = [
     (ONE, Deed::Leave(THREE), LEFT),
     (ONE, Deed::Say(TWO, Freeze(THREE)), Answer::Said(Ok(30))),
     (TWO, Deed::Hear(0), KEPT),
@@ -76,7 +76,7 @@ fn a_leaver_is_cut_where_all_hold_it(rt: HostRuntime) -> Result<(), Fail> {
 
 /// Player 2 stops right after its answer. What player 3 said to its first epoch is stale, and after a
 /// new handshake it takes nothing more from player 3.
-static RESTART: [Row; 16] = [
+const RESTART: [Row; 16] = [
     (ONE, Deed::Leave(THREE), LEFT),
     (ONE, Deed::Tell(TWO, Freeze(THREE)), KEPT),
     (THREE, Deed::Say(TWO, Data), Answer::Said(Ok(46))),
@@ -101,7 +101,7 @@ fn who_stays_is_opened_again_in_a_drop_round(rt: HostRuntime) -> Result<(), Fail
 }
 
 /// Player 3 says nothing, until it leaves too.
-static SILENT: [Row; 7] = [
+const SILENT: [Row; 7] = [
     (ONE, Deed::Meet, Answer::Done),
     (ONE, Deed::Leave(FOUR), LEFT),
     (ONE, Deed::Tell(TWO, Freeze(FOUR)), KEPT),
@@ -118,7 +118,7 @@ fn a_silent_player_is_waited_for(rt: HostRuntime) -> Result<(), Fail> {
 
 /// Player 3 enters one set more that reaches nobody, and hears the eleventh sets of the others: the
 /// rows differ at frame 10.
-static DIFFERS: [Row; 21] = [
+const DIFFERS: [Row; 21] = [
     (THREE, Deed::Tick(4), TICKED),
     (ONE, Deed::Tick(1), TICKED),
     (TWO, Deed::Tick(0x20), TICKED),

@@ -39,7 +39,7 @@ const DOWN: Answer = Answer::Ticked(Err(TickError::Down));
 const YES: Answer = Answer::Tells(true);
 
 /// The first slot is the HEAD; the second one has the input.
-static ONE_RECORD: [Row; 5] = [
+const ONE_RECORD: [Row; 5] = [
     (ONE, Deed::Disk(1000, 100), Answer::Done),
     (ONE, Deed::Open, OPENED),
     (ONE, Deed::Tick(0x20), TICKED),
@@ -53,7 +53,7 @@ fn a_tick_is_one_record(rt: HostRuntime) -> Result<(), Fail> {
 }
 
 /// There is room for the HEAD alone.
-static NO_ROOM: [Row; 4] = [
+const NO_ROOM: [Row; 4] = [
     (ONE, Deed::Disk(145, 100), Answer::Done),
     (ONE, Deed::Open, OPENED),
     (ONE, Deed::Tick(5), FULL),
@@ -74,7 +74,7 @@ const OPEN: &[u8] =
 
 /// Either way there is one record, and the next EPOCH takes the place of the torn slot. An opening in
 /// another game closes an open gate and changes nothing else.
-static TORN: [Row; 18] = [
+const TORN: [Row; 18] = [
     (ONE, Deed::Disk(1000, 100), Answer::Done),
     (ONE, Deed::Open, OPENED),
     (ONE, Deed::Write(1, 0, CLOSED), Answer::Done),
@@ -101,7 +101,7 @@ fn what_a_crash_left_of_a_slot_is_no_record(rt: HostRuntime) -> Result<(), Fail>
 }
 
 /// The journal of another game stays as it was, byte for byte.
-static OTHERS: [Row; 8] = [
+const OTHERS: [Row; 8] = [
     (ONE, Deed::Disk(1000, 100), Answer::Done),
     (ONE, Deed::Open, OPENED),
     (ONE, Deed::Tick(0x20), TICKED),

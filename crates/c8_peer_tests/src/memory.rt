@@ -7,14 +7,14 @@ use c8_table::{Answer, Deed, ONE, Row, Table};
 use std::test::Fail;
 
 /// The disk serves the seven calls that an opening of one record makes.
-static READY: [Row; 3] = [
+const READY: [Row; 3] = [
     (ONE, Deed::Disk(1000, 100), Answer::Done),
     (ONE, Deed::Add(HEAD_OF_SHORT), Answer::Done),
     (ONE, Deed::Arm(Arm::Stop(7)), Answer::Done),
 ];
 
 /// The bytes are as they were, and all seven calls are left.
-static UNTOUCHED: [Row; 4] = [
+const UNTOUCHED: [Row; 4] = [
     (ONE, Deed::Length, Answer::Is(145)),
     (ONE, Deed::Slot(0, HEAD_OF_SHORT), Answer::Tells(true)),
     (ONE, Deed::Slot(1, b"\0"), Answer::Tells(true)),

@@ -29,7 +29,7 @@ const ONE_COUNTED: Answer = Answer::Registers([4, 0, 1, 0, 0, 0, 0, 0, 0, 0, 0, 
 
 /// Player 1 runs eight frames and predicts that player 2 holds no key down, which is wrong in the first
 /// frame alone: all eight run again.
-static MISSED: [Row; 13] = [
+const MISSED: [Row; 13] = [
     (ONE, Deed::Meet, Answer::Done),
     (ONE, Deed::Ticks(0, 8), TICKED),
     (ONE, Deed::Look(Confirmed), Answer::Is(0)),
@@ -51,7 +51,7 @@ fn a_key_missed_in_the_first_frame_runs_all_again(rt: HostRuntime) -> Result<(),
 }
 
 /// The same where the prediction is wrong in the fourth frame alone: five frames run again.
-static LATE: [Row; 11] = [
+const LATE: [Row; 11] = [
     (ONE, Deed::Meet, Answer::Done),
     (ONE, Deed::Ticks(0, 8), TICKED),
     (ONE, Deed::Look(Registers), NONE_COUNTED),
@@ -73,7 +73,7 @@ fn a_late_key_is_run_again(rt: HostRuntime) -> Result<(), Fail> {
 const END: Answer = Answer::Ticked(Err(TickError::End));
 
 /// Once the frame is ticked the next tick is refused, before and after the frame is confirmed.
-static LAST: [Row; 7] = [
+const LAST: [Row; 7] = [
     (ONE, Deed::Meet, Answer::Done),
     (ONE, Deed::Tick(1), TICKED),
     (ONE, Deed::Tick(2), END),
@@ -93,7 +93,7 @@ const GAP: Answer = Answer::Delivered(Err(Refused::Known(KnownError::Gap)));
 /// Player 2 holds two inputs of player 1, who acknowledged one of its own. The DATA acknowledges a second
 /// one and brings an input from place 2; byte 43 is the last one of that place. With place 3 it leaves a
 /// gap: then the acknowledgement, the journal and the link stay as they were.
-static LEAVES_A_GAP: [Row; 16] = [
+const LEAVES_A_GAP: [Row; 16] = [
     (ONE, Deed::Meet, Answer::Done),
     (TWO, Deed::Tick(0x10), TICKED),
     (TWO, Deed::Tell(ONE, Data), KEPT),

@@ -138,7 +138,7 @@ const TICKED: Answer = Answer::Ticked(Ok(()));
 
 const KEPT: Answer = Answer::Delivered(Ok(Heard::Kept));
 
-static ALONE: [Row; 4] = [
+const ALONE: [Row; 4] = [
     (ONE, Deed::Disk(1000, 100), Answer::Done),
     (ONE, Deed::Open, Answer::Opened(Ok(1))),
     (ONE, Deed::Tick(0x20), TICKED),
@@ -169,7 +169,7 @@ const A_TICK_AFTER: Told = Told { epoch: 3, ..A_TICK };
 /// opening of an empty disk makes three before that: a sync, and the first closed gate with a sync. The
 /// opening of two records makes a sync and two reads before it.
 #[rattlefmt::skip]
-static ALONE_TRIALS: [Trial; 3] = [
+const ALONE_TRIALS: [Trial; 3] = [
     Trial { place: 1, gate: 6, bare: FIRST, kept: SECOND },
     Trial { place: 2, gate: 3, bare: SECOND, kept: A_TICK },
     Trial { place: 3, gate: 6, bare: A_TICK, kept: A_TICK_AFTER },
@@ -193,7 +193,7 @@ const OF_THREE: &str =
 /// Player 3 leaves, whose only input player 2 has and player 1 lacks. Player 1 hears DATA and FROZEN,
 /// player 2 FREEZE and CUT, and player 3 CUT.
 #[rattlefmt::skip]
-static ROUND: [Row; 17] = [
+const ROUND: [Row; 17] = [
     (ONE, Deed::Meet, Answer::Done),
     (TWO, Deed::Ticks(0x20, 2), TICKED),
     (THREE, Deed::Tick(0x300), TICKED),
@@ -266,7 +266,7 @@ const OUT: Told = Told {
 };
 
 #[rattlefmt::skip]
-static ROUND_TRIALS: [Trial; 7] = [
+const ROUND_TRIALS: [Trial; 7] = [
     Trial { place: 4, gate: 3, bare: SECOND, kept: HEARD },
     Trial { place: 7, gate: 3, bare: HEARD, kept: LEAVES },
     Trial { place: 9, gate: 3, bare: HOLDS, kept: FREEZES },

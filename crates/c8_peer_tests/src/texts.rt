@@ -23,7 +23,7 @@ enum Refusal {
 type Text = (Refusal, u8, &'static str, &'static str);
 
 #[rattlefmt::skip]
-static TEXTS: [Text; 45] = [
+const TEXTS: [Text; 45] = [
     (Refusal::Opening(OpenError::WrongGame), 1, "WrongGame", "a journal of another game or room"),
     (Refusal::Opening(OpenError::WrongPlayer), 2, "WrongPlayer", "no journal of this player, or no player of the game"),
     (Refusal::Opening(OpenError::BadRecord(12)), 3, "BadRecord", "body 12 is no record that may stand there"),

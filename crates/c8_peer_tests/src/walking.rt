@@ -7,12 +7,12 @@ use std::test::Fail;
 const GAME: &str =
     "players 2\nipf 10\nframes 100\ndelay 0\nwindow 8\nseed 0\nmask1 000f\nmask2 fff0\ncode 1200\n";
 
-static RIGHT: [Row; 2] = [
+const RIGHT: [Row; 2] = [
     (ONE, Deed::Meet, Answer::Done),
     (ONE, Deed::Look(Now), Answer::Is(0)),
 ];
 
-static WRONG: [Row; 3] = [
+const WRONG: [Row; 3] = [
     (ONE, Deed::Tick(7), Answer::Ticked(Ok(()))),
     (ONE, Deed::Look(Now), Answer::Is(2)),
     (TWO, Deed::Look(Now), Answer::Is(3)),

@@ -97,9 +97,11 @@ silent_part p (n ∷ log) e =
 pub nobody_said : (p : ℕ) (log notes : List NoteValue) (said : List (List ℕ)) → length said ≡ 0 → said ≡ said_by log → notes ≡ part_of p log → said_by notes ≡ []
 nobody_said p log notes said none is part = ap said_by part ∙ silent_part p log (sym is ∙ nothing said none)
 
--- what is copied to the front of a buffer is what stands at its number
-pub drawn : (said pool : List (List ℕ)) (number : ℕ) (bytes copied rest : List ℕ) → pool ≡ said → number < length pool → bytes ≡ slice_index_or pool number bytes → copied ≡ bytes
-    → slice_get said number ≡ Some (take (length bytes) (copied ++ rest))
-drawn said pool number bytes copied rest is within at same =
-    subst (λ (x : List (List ℕ)). slice_get x number ≡ Some (take (length bytes) (copied ++ rest))) is
-    (slice_get-get_or pool number bytes within ∙ ap (λ (x : List ℕ). Some x) (sym at ∙ sym (take-append_seam bytes rest) ∙ ap (λ (x : List ℕ). take (length bytes) (x ++ rest)) (sym same)))
+-- a copy of what stands at a place
+pub picked : (said pool : List (List ℕ)) (number : ℕ) (packet : List ℕ) → pool ≡ said → number < length pool → packet ≡ slice_index_or pool number packet → slice_get said number ≡ Some packet
+picked said pool number packet is within at =
+    subst (λ (x : List (List ℕ)). slice_get x number ≡ Some packet) is (slice_get-get_or pool number packet within ∙ ap (λ (x : List ℕ). Some x) (sym at))
+
+-- what is copied to the front of a buffer stands there
+pub copied : (bytes front rest : List ℕ) → front ≡ bytes → take (length bytes) (front ++ rest) ≡ bytes
+copied bytes front rest same = ap (λ (x : List ℕ). take (length bytes) (x ++ rest)) same ∙ take-append_seam bytes rest

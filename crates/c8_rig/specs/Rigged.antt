@@ -1,28 +1,44 @@
 -- A match whose players are threads.
-use Rattle.std.specs.Prelude.{◌≡◌, ◌+◌, ◌-◌, ℕ, List, ◌++◌, map, slice_index_or, Bool, true, Option, Some, IfSome, length}
+use Rattle.std.specs.Prelude.{◌≡◌, ◌+◌, ◌-◌, ◌*◌, ℕ, List, ◌++◌, map, slice_index_or, Bool, true, Option, Some, IfSome, length}
 use Rattle.std.specs.List.{slice_get}
 use Rattle.atomic_table.specs.Seated.{TableId}
 use Rattle.c8_game.specs.Rules.{Rules}
 use Rattle.c8_disk.specs.declared.mem_disk.MemDisk.{MemDisk}
+use Rattle.c8_disk.specs.contracts.mem_disk.MemDiskDisk.TheImpl.{ghosts}
+use Rattle.c8_disk.specs.Memory.{value_of, new_value}
 use Rattle.c8_peer.specs.State.{State}
 use Rattle.c8_peer.specs.Peer.{PeerValue}
+use Rattle.c8_peer.specs.TrueChecks.{HasTrueChecks}
 use Rattle.c8_world.specs.World.{never_opened}
-use Rattle.c8_rig.specs.Log.{NoteValue, IsLawful, Leads, IsWorld, AreMoments}
+use Rattle.c8_rig.specs.Log.{NoteValue, IsLawful, Leads, IsWorld, AreMoments, part_of}
 use Rattle.c8_rig.specs.Tokens.{EntryValue}
-use Rattle.c8_rig.specs.Players.{IsPeerOf}
+use Rattle.c8_rig.specs.Players.{IsPeerOf, HasPlayedOn}
 use Rattle.c8_rig.specs.Gathered.{HaveAgreedOrNot}
 use Rattle.c8_rig.specs.declared.gathering.Gathering.{Gathering}
 use Rattle.c8_rig.specs.declared.gathering.Gathering.TheVariants.{Gathered, Torn}
 
--- What a thread makes of an entry that has no notes, on an empty disk: if it comes back with a peer, the entry's notes lead to that.
-pub record HasWorked (rules : Rules) (before after : EntryValue) (peer : Option (PeerValue MemDisk)) : Type 0 where
+-- A player's disk for so many turns: new, with room for a record a turn and two more, and for the last gate; it serves four calls a turn
+-- and 16 more.
+abbrev pub IsDiskFor : ℕ → MemDisk → Type 0
+IsDiskFor turns disk = value_of disk ≡ new_value (144 * (turns + 2) + 1) (4 * turns + 16)
+
+-- What a thread makes of an entry that has no notes, on an empty disk: if it comes back with a peer, the entry's notes lead to that,
+-- and the peer made their calls on this disk.
+pub record HasWorked (rules : Rules) (disk : MemDisk) (before after : EntryValue) (peer : Option (PeerValue MemDisk)) : Type 0 where
   pub ether : after.ether ≡ before.ether
   pub player : after.player ≡ before.player
   pub plays : IfSome peer (λ q. IsPeerOf rules before.player q)
   pub led : IfSome peer (λ q. Leads rules 0 before.player never_opened after.notes q.state)
+  pub played : IfSome peer (λ q. HasPlayedOn ghosts rules before.player disk after.notes q)
 
--- Player i + 1 has come back with an entry and a peer that the entry's notes lead to.
-pub record IsPlayedAt (rules : Rules) (ether : TableId) (entries : List EntryValue) (peers : List (PeerValue MemDisk)) (i : ℕ) : Type 0 where
+-- These notes' calls made the peer, on a new disk.
+pub record IsMadeBy (rules : Rules) (turns player : ℕ) (notes : List NoteValue) (q : PeerValue MemDisk) : Type 0 where
+  pub disk : MemDisk
+  pub new_disk : IsDiskFor turns disk
+  pub played : HasPlayedOn ghosts rules player disk notes q
+
+-- Player i + 1 came back with an entry and a peer: the notes lead to the peer, and their calls made it on a new disk.
+pub record IsPlayedAt (rules : Rules) (turns : ℕ) (ether : TableId) (entries : List EntryValue) (peers : List (PeerValue MemDisk)) (i : ℕ) : Type 0 where
   pub entry : EntryValue
   pub there : slice_get entries i ≡ Some entry
   pub peer : PeerValue MemDisk
@@ -31,6 +47,7 @@ pub record IsPlayedAt (rules : Rules) (ether : TableId) (entries : List EntryVal
   pub player_is : entry.player ≡ i + 1
   pub plays : IsPeerOf rules (i + 1) peer
   pub led : Leads rules 0 (i + 1) never_opened entry.notes peer.state
+  pub made : IsMadeBy rules turns (i + 1) entry.notes peer
 
 -- the state of each player's peer, player 1's first
 abbrev pub states_of : List (PeerValue MemDisk) → ℕ → State
@@ -39,18 +56,23 @@ states_of peers p = slice_index_or (map (λ (q : PeerValue MemDisk). q.state) pe
 -- What a match in threads comes to.
 --
 -- - `size`, `plays`: there is a peer of each player of the game, player 1's first.
+-- - `made`: the calls of its part of the log made each of them, on a new disk for so many turns; a disk that is blamed in one has its
+--   cause. A call that changes nothing may stand beside them. How many turns there were is not said.
 -- - `lawful`, `world`: the log is that of a world, in which the peers are as these.
 -- - `moments`: any two moments of it agree.
+-- - `checks`: what a peer's journal says of checkpoints is true, so that its machine is the serial run of its confirmed rows.
 -- - `agrees`, `yes`: it is told whether the peers do, and they do.
-pub record IsRiggedLog (rules : Rules) (log : List NoteValue) (peers : List (PeerValue MemDisk)) (agree : Bool) : Type 0 where
+pub record IsRiggedLog (rules : Rules) (turns : ℕ) (log : List NoteValue) (peers : List (PeerValue MemDisk)) (agree : Bool) : Type 0 where
   pub size : length peers ≡ rules.players
   pub plays : (i : ℕ) (q : PeerValue MemDisk) → slice_get peers i ≡ Some q → IsPeerOf rules (i + 1) q
+  pub made : (i : ℕ) (q : PeerValue MemDisk) → slice_get peers i ≡ Some q → IsMadeBy rules turns (i + 1) (part_of (i + 1) log) q
   pub lawful : IsLawful rules.players log
   pub world : IsWorld rules 0 log (states_of peers)
   pub moments : (front between rest : List NoteValue) → log ≡ front ++ between ++ rest → AreMoments rules 0 front between rest (states_of peers)
+  pub checks : (i : ℕ) (q : PeerValue MemDisk) → slice_get peers i ≡ Some q → HasTrueChecks rules (i + 1) q.state.journal
   pub agrees : HaveAgreedOrNot peers agree
   pub yes : agree ≡ true
 
-abbrev pub IsRigged : Rules → Gathering → Type 0
-IsRigged rules (Gathered log peers agree) = IsRiggedLog rules log.items peers.items agree
-IsRigged rules Torn = ⊥
+abbrev pub IsRigged : Rules → ℕ → Gathering → Type 0
+IsRigged rules turns (Gathered log peers agree) = IsRiggedLog rules turns log.items peers.items agree
+IsRigged rules turns Torn = ⊥

@@ -155,23 +155,16 @@ impl<B: Room> Book<B> {
         is_part(&self.notes, entry.player, &entry.notes)
     }
 
-    /// Picks one of what was said, and copies its bytes to the front of `out`; answers its number and
-    /// length. None where nothing was said, so nothing by the player whose part it is.
-    fn pick(
-        &mut self,
-        tokens: &Tokens,
-        part: Part,
-        choice: u64,
-        out: &mut [u8; LONGEST_DATAGRAM],
-    ) -> (Part, Option<(u64, usize)>)
+    /// Picks one of what was said: its number, and a copy. None where nothing was said, so nothing by the
+    /// player whose part it is.
+    fn pick(&mut self, tokens: &Tokens, part: Part, choice: u64) -> (Part, Option<(u64, Packet)>)
         requires tokens { tokens.now ≡ B.ether }
         requires ether { part.ether ≡ B.ether }
         ensures part { result.0 ≡ part }
         ensures log { self.new ≡ self.old }
         ensures none { IfNone result.1 (said_by part.notes ≡ []) }
-        ensures some { IfSome result.1 (λ r.
-            slice_get (said_by self.old) r.0 ≡ Some (take r.1 out.new)) }
-        ensures fits { IfSome result.1 (λ r. r.1 ≤ LONGEST_DATAGRAM) }
+        ensures some { IfSome result.1 (λ r. slice_get (said_by self.old) r.0 ≡ Some r.1) }
+        ensures fits { IfSome result.1 (λ r. length r.1 ≤ LONGEST_DATAGRAM) }
     {
         // For the proof: what was said by the player is in the log.
         let part = tokens.compare(&mut self.keeper, part);
@@ -180,9 +173,10 @@ impl<B: Room> Book<B> {
             return (part, None);
         }
         let number = choice % count;
-        let bytes = self.said[number as usize].as_bytes();
-        out[..bytes.len()].copy_from_slice(bytes);
-        (part, Some((number, bytes.len())))
+        let Ok(packet) = self.said[number as usize].clone() else {
+            unreachable!();
+        };
+        (part, Some((number, packet)))
     }
 }
 
@@ -298,7 +292,7 @@ impl<B: Room> Ether<B> {
         self.enter(rt, entry, act, bytes)
     }
 
-    /// Notes what the player's peer is to do: an opening, a tick, a leave or a decision.
+    /// Notes what the player's peer is to do: an opening, a tick, a leave, a decision or a checkpoint.
     pub fn note<R: Wait>(&self, rt: &R, entry: &mut Entry, act: Act) -> Result<(), AllocError>
         requires ether { entry.old.ether ≡ B.ether }
         requires player { player_of (act_of act) ≡ entry.old.player }
@@ -310,8 +304,9 @@ impl<B: Room> Ether<B> {
     }
 
     /// Draws one of the datagrams that were said, by its choice, and notes that it is delivered to the
-    /// player: its bytes are at the front of `out`, and the answer is how many. None where nothing was
-    /// said, and then nothing is noted. Where memory is wanted `out` may have changed.
+    /// player. Copies its bytes to the front of `out` and answers how many; the rest of `out` stays. None
+    /// where nothing was said. The error is want of memory. At None and at an error nothing changes, `out`
+    /// included.
     pub fn draw<R: Wait>(
         &self,
         rt: &R,
@@ -323,28 +318,30 @@ impl<B: Room> Ether<B> {
         ensures some { IfOk result (λ drawn. IfSome drawn (λ size.
             IsDrawn entry.old (take size out.new) entry.new)) }
         ensures fits { IfOk result (λ drawn. IfSome drawn (λ size. size ≤ LONGEST_DATAGRAM)) }
-        ensures none { IfOk result (λ drawn. IfNone drawn (entry.new ≡ entry.old)) }
+        ensures behind { IfOk result (λ drawn. IfSome drawn (λ size.
+            drop size out.new ≡ drop size out.old)) }
+        ensures none { IfOk result (λ drawn. IfNone drawn
+            ((entry.new ≡ entry.old) × (out.new ≡ out.old))) }
         ensures unsaid { IfOk result (λ drawn. IfNone drawn (said_by entry.old.notes ≡ [])) }
-        ensures err { OnErr result (entry.new ≡ entry.old) }
+        ensures err { OnErr result ((entry.new ≡ entry.old) × (out.new ≡ out.old)) }
     {
         entry.notes.reserve(1)?;
         let Some(part) = entry.part.take() else {
             unreachable!();
         };
         let mut book = self.book.lock(rt);
-        let (part, picked) = book.pick(&self.tokens, part, choice, out);
-        let Some((number, size)) = picked else {
+        let (part, picked) = book.pick(&self.tokens, part, choice);
+        let Some((number, packet)) = picked else {
             entry.part = Some(part);
             return Ok(None);
         };
-        let bytes = &out[..size];
-        let Ok(packet) = Packet::try_from(bytes) else {
-            unreachable!();
-        };
         let act = Act::Give(number, entry.player);
+        let bytes = packet.as_bytes();
         match book.add(&self.tokens, part, act, bytes) {
             Ok(part) => {
                 entry.part = Some(part);
+                let size = bytes.len();
+                out[..size].copy_from_slice(bytes);
                 let _noted = entry.notes.push(Note { act, bytes: packet });
                 Ok(Some(size))
             }

@@ -2,6 +2,8 @@
 ghost use Rattle.std.specs.Prelude.{◌≡◌, ◌≤◌, ◌<◌, ◌+◌, ℕ, true, length, Some, IfOk};
 ghost use Rattle.std.specs.List.{slice_get};
 ghost use Rattle.c8_world.specs.Events.{act_of};
+ghost use Rattle.c8_disk.specs.declared.mem_disk.MemDisk.{MemDisk};
+ghost use Rattle.c8_peer.specs.Peer.{PeerValue};
 ghost use Rattle.c8_rig.specs.Log.{part_of};
 ghost use Rattle.c8_rig.specs.Tokens.{EntryValue};
 ghost use Rattle.c8_rig.specs.Gathered.{AreAll, HaveAgreedOrNot, IsGathering};
@@ -28,8 +30,8 @@ pub enum Gathering<'g> {
     Torn,
 }
 
-/// Brings together the entries of an ether and the peers of all its players, player 1's first. The error
-/// is want of memory.
+/// Brings together the entries of an ether and the peers of all its players, each at its place, player 1's
+/// first. The error is want of memory.
 pub fn gather<'g, B: Room>(
     alloc: Global,
     ether: Ether<B>,
@@ -39,6 +41,8 @@ pub fn gather<'g, B: Room>(
     requires entries { AreAll B.ether B.players entries.items }
     requires peers { length peers.items ≡ B.players }
     requires few { B.players ≤ 4 }
+    requires places { (i : ℕ) (q : PeerValue MemDisk) → slice_get peers.items i ≡ Some q
+        → q.me ≡ i + 1 }
     ensures { IfOk result (λ gathering.
         IsGathering B.players entries.items peers.entry.items gathering) }
 {

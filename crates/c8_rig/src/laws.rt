@@ -1,4 +1,4 @@
-//! What may be rested on of a log: it is a list of events of a world, so the peers that it leads to agree.
+//! What a caller may rely on: a log is a list of events of a world, so its peers agree.
 ghost use Rattle.std.specs.Prelude.{◌≡◌, ◌<◌, ◌^◌, ◌++◌, ℕ, List, []};
 ghost use Rattle.c8_game.specs.Rules.{Rules, AreInRange};
 ghost use Rattle.c8_peer.specs.State.{State};
@@ -18,7 +18,8 @@ use c8_wire::laws::what_is_spelled_is_read;
 use c8_world::laws::any_two_moments_agree;
 
 /// A lawful log, and for each player a state that its part of the log leads to: some world has these
-/// peers, to which the events of the log lead from the start.
+/// peers, to which the events of the log lead from the start. No part leads through an opening of a peer
+/// that is open, so the law does not speak of a log with one.
 pub fn a_log_is_a_world()
     ensures { (rules : Rules) (room : ℕ) (log : List NoteValue) (states : ℕ → State)
         → IsLawful rules.players log → AreLed rules room log states → IsWorld rules room log states }
@@ -40,30 +41,30 @@ pub fn moments_of_a_log_agree()
     any_two_moments_agree();
 }
 
-/// How a peer plays on, with a note of each of its calls: by none (`still`), by one of each kind, and by
-/// some after others (`joined`).
+/// How a peer plays on, with a note of each of its calls: by none (`still`), by one of each kind but a
+/// checkpoint, and by some after others (`joined`).
 pub fn peers_play_on<D: Disk>()
-    ensures still { (e : EntryValue) (p : PeerValue D) → HasPlayed e p e p }
+    ensures still { (e : EntryValue) (p : PeerValue D) → HasPlayed D.Disk e p e p }
     ensures ticks { (e : EntryValue) (old new : PeerValue D) (player keys : ℕ) (reply : Reply)
         → keys < 2 ^ 16 → IsAnswered D.Disk old (calls.Tick keys) reply new
-        → HasPlayed e old (with_note e (Tick player keys) []) new }
+        → HasPlayed D.Disk e old (with_note e (Tick player keys) []) new }
     ensures says { (e : EntryValue) (p : PeerValue D) (player to : ℕ) (what : Saying)
         (bytes : List ℕ)
         → IsSaid p (calls.Say to what) bytes
-        → HasPlayed e p (with_note e (Say player to what) bytes) p }
+        → HasPlayed D.Disk e p (with_note e (Say player to what) bytes) p }
     ensures hears { (e : EntryValue) (old new : PeerValue D) (number player : ℕ)
         (bytes : List ℕ) (reply : Reply)
         → AreBytes bytes → IsAnswered D.Disk old (calls.Deliver (read bytes)) reply new
-        → HasPlayed e old (with_note e (Give number player) bytes) new }
+        → HasPlayed D.Disk e old (with_note e (Give number player) bytes) new }
     ensures leaves { (e : EntryValue) (old new : PeerValue D) (leaver : ℕ) (reply : Reply)
         → IsAnswered D.Disk old (calls.Leave leaver) reply new
-        → HasPlayed e old (with_note e (Leave leaver) []) new }
+        → HasPlayed D.Disk e old (with_note e (Leave leaver) []) new }
     ensures decides { (e : EntryValue) (old new : PeerValue D) (leaver : ℕ) (reply : Reply)
         → IsAnswered D.Disk old (calls.Decide leaver) reply new
-        → HasPlayed e old (with_note e (Decide leaver) []) new }
+        → HasPlayed D.Disk e old (with_note e (Decide leaver) []) new }
     ensures joined { (first middle last : EntryValue) (old between new : PeerValue D)
-        → HasPlayed first old middle between → HasPlayed middle between last new
-        → HasPlayed first old last new }
+        → HasPlayed D.Disk first old middle between → HasPlayed D.Disk middle between last new
+        → HasPlayed D.Disk first old last new }
 {
     calls_are_deeds::<D>();
     deliveries_are_calls();

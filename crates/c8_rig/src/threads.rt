@@ -1,9 +1,8 @@
 //! A match whose players are threads.
 ghost use Rattle.std.specs.Prelude.{◌≡◌, ◌<◌, ◌≤◌, ℕ, [], length, map, Some, IfOk, IfSome};
 ghost use Rattle.std.specs.List.{All};
-ghost use Rattle.c8_disk.specs.Memory.{bytes_of};
 ghost use Rattle.c8_rig.specs.Tokens.{first_entries};
-ghost use Rattle.c8_rig.specs.Rigged.{HasWorked, IsPlayedAt, IsRigged};
+ghost use Rattle.c8_rig.specs.Rigged.{HasWorked, IsDiskFor, IsPlayedAt, IsRigged};
 
 use crate::ether::{Entry, Ether, Room, Unnamed};
 use crate::gathering::{Gathering, gather};
@@ -44,7 +43,7 @@ pub fn rig<'g, R: Threads + Wait + Sync, G: Watch + Sync>(
     turns: u16,
     gate: &G,
 ) -> Result<Gathering<'g>, AllocError>
-    ensures { IfOk result (λ gathering. IsRigged game.entry.now gathering) }
+    ensures { IfOk result (λ gathering. IsRigged game.entry.now turns gathering) }
 {
     game.in_range();
     let (ether, entries) = Unnamed::open(alloc, game)?;
@@ -67,31 +66,30 @@ fn rigged<'g, B: Room + Send + Sync, R: Threads + Wait + Sync, G: Watch + Sync>(
     requires few { B.players ≤ 4 }
     requires game { game.now.players ≡ B.players }
     requires entries { entries.items ≡ first_entries B.ether B.players }
-    ensures { IfOk result (λ gathering. IsRigged game.entry.now gathering) }
+    ensures { IfOk result (λ gathering. IsRigged game.entry.now turns gathering) }
 {
     let ether = ether.named::<B>(alloc);
     let jobs = jobs_of(alloc, entries, turns)?;
-    let turns = u64::from(turns);
     let work = |job: Job| -> Played<'_>
-        requires { (job.entry.ether ≡ B.ether) × (job.entry.notes ≡ []) × (bytes_of job.disk ≡ []) }
-        ensures { HasWorked game.entry.now job.entry result.entry result.peer }
+        requires { (job.entry.ether ≡ B.ether) × (job.entry.notes ≡ []) × IsDiskFor turns job.disk }
+        ensures { HasWorked game.entry.now job.disk job.entry result.entry result.peer }
     { work_at(rt, alloc, &ether, game, job, seed, turns, gate) };
     let played = map_vec(rt, jobs, &work)?;
     let Some((entries, peers)) = parted(alloc, played)? else {
         return Err(AllocError);
     };
-    together(alloc, game, ether, entries, peers)
+    together(alloc, game, turns, ether, entries, peers)
 }
 
-/// What each thread begins with: its entry, and an empty disk with room for a record a turn.
+/// What each thread begins with: its entry, and a new disk for so many turns.
 fn jobs_of(alloc: Global, entries: Vec<Entry>, turns: u16) -> Result<Vec<Job>, AllocError>
     ensures entries { IfOk result (λ jobs. map (λ job. job.entry) jobs.items ≡ entries.items) }
-    ensures disks { IfOk result (λ jobs. All (λ job. bytes_of job.disk ≡ []) jobs.items) }
+    ensures disks { IfOk result (λ jobs. All (λ job. IsDiskFor turns job.disk) jobs.items) }
 {
-    let turns = u32::from(turns);
+    let many = u32::from(turns);
     let mut jobs = Vec::with_capacity(alloc, entries.len())?;
     for entry in entries {
-        let disk = MemDisk::new(alloc, 144 * (turns + 2) + 1, 4 * turns + 16)?;
+        let disk = MemDisk::new(alloc, 144 * (many + 2) + 1, 4 * many + 16)?;
         jobs.push(Job { entry, disk })?;
     }
     Ok(jobs)
@@ -105,16 +103,26 @@ fn work_at<'g, B: Room, R: Wait, G: Watch>(
     game: &'g Game,
     job: Job,
     seed: u64,
-    turns: u64,
+    turns: u16,
     gate: &G,
 ) -> Played<'g>
     requires ether { job.entry.ether ≡ B.ether }
     requires unused { job.entry.notes ≡ [] }
-    requires empty { bytes_of job.disk ≡ [] }
-    ensures { HasWorked game.entry.now job.entry result.entry result.peer }
+    requires disk { IsDiskFor turns job.disk }
+    ensures { HasWorked game.entry.now job.disk job.entry result.entry result.peer }
 {
     let Job { entry, disk } = job;
-    let (entry, peer) = rig_worker(rt, alloc, ether, entry, game, disk, seed, turns, gate);
+    let (entry, peer) = rig_worker(
+        rt,
+        alloc,
+        ether,
+        entry,
+        game,
+        disk,
+        seed,
+        u64::from(turns),
+        gate,
+    );
     Played { entry, peer }
 }
 
@@ -145,6 +153,7 @@ fn parted<'g>(
 fn together<'g, B: Room>(
     alloc: Global,
     game: &Game,
+    turns: u16,
     ether: Ether<B>,
     entries: Vec<Entry>,
     peers: Vec<Peer<'g, MemDisk>>,
@@ -153,8 +162,8 @@ fn together<'g, B: Room>(
     requires entries { length entries.items ≡ B.players }
     requires peers { length peers.items ≡ B.players }
     requires played { (i : ℕ) → i < B.players
-        → IsPlayedAt game.now B.ether entries.items peers.items i }
-    ensures { IfOk result (λ gathering. IsRigged game.now gathering) }
+        → IsPlayedAt game.now turns B.ether entries.items peers.items i }
+    ensures { IfOk result (λ gathering. IsRigged game.now turns gathering) }
 {
     a_log_is_a_world();
     moments_of_a_log_agree();

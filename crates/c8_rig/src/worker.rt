@@ -5,7 +5,7 @@ ghost use Rattle.c8_record.specs.Body.{records_of};
 ghost use Rattle.c8_rig.specs.Log.{Leads};
 ghost use Rattle.c8_world.specs.World.{Give};
 ghost use Rattle.c8_rig.specs.Tokens.{EntryValue, with_note};
-ghost use Rattle.c8_rig.specs.Players.{HasPlayed, IsPeerOf, away_with};
+ghost use Rattle.c8_rig.specs.Players.{HasPlayed, HasPlayedOn, IsPeerOf, away_with};
 
 use crate::ether::{Entry, Ether, Room};
 use crate::laws::peers_play_on;
@@ -46,7 +46,7 @@ impl<'a, 'g, B: Room, R: Wait, D: Disk> Seat<'a, 'g, B, R, D> {
     /// Enters a key set. The error is want of memory for the note, and then nothing is done, as in the
     /// calls below.
     fn tick(&mut self, keys: Keys) -> Result<(), AllocError>
-        ensures { HasPlayed self.old.entry self.old.peer self.new.entry self.new.peer }
+        ensures { HasPlayed D.Disk self.old.entry self.old.peer self.new.entry self.new.peer }
     {
         peers_play_on::<D>();
         let act = Act::Tick(self.peer.me(), keys);
@@ -57,7 +57,7 @@ impl<'a, 'g, B: Room, R: Wait, D: Disk> Seat<'a, 'g, B, R, D> {
 
     /// Hears one of the datagrams that were said.
     fn hear(&mut self, choice: u64) -> Result<(), AllocError>
-        ensures { HasPlayed self.old.entry self.old.peer self.new.entry self.new.peer }
+        ensures { HasPlayed D.Disk self.old.entry self.old.peer self.new.entry self.new.peer }
     {
         peers_play_on::<D>();
         let mut datagram = [0; LONGEST_DATAGRAM];
@@ -72,7 +72,7 @@ impl<'a, 'g, B: Room, R: Wait, D: Disk> Seat<'a, 'g, B, R, D> {
 
     /// Says something to another player, if it can be said.
     fn say(&mut self, to: Player, kind: Kind) -> Result<(), AllocError>
-        ensures { HasPlayed self.old.entry self.old.peer self.new.entry self.new.peer }
+        ensures { HasPlayed D.Disk self.old.entry self.old.peer self.new.entry self.new.peer }
     {
         peers_play_on::<D>();
         let mut datagram = [0; LONGEST_DATAGRAM];
@@ -89,7 +89,7 @@ impl<'a, 'g, B: Room, R: Wait, D: Disk> Seat<'a, 'g, B, R, D> {
     /// As player one lets a player go.
     fn leave(&mut self, leaver: Player) -> Result<(), AllocError>
         requires { self.old.peer.me ≡ 1 }
-        ensures { HasPlayed self.old.entry self.old.peer self.new.entry self.new.peer }
+        ensures { HasPlayed D.Disk self.old.entry self.old.peer self.new.entry self.new.peer }
     {
         peers_play_on::<D>();
         self.ether
@@ -101,7 +101,7 @@ impl<'a, 'g, B: Room, R: Wait, D: Disk> Seat<'a, 'g, B, R, D> {
     /// As player one cuts a leaver's list.
     fn decide(&mut self, leaver: Player) -> Result<(), AllocError>
         requires { self.old.peer.me ≡ 1 }
-        ensures { HasPlayed self.old.entry self.old.peer self.new.entry self.new.peer }
+        ensures { HasPlayed D.Disk self.old.entry self.old.peer self.new.entry self.new.peer }
     {
         peers_play_on::<D>();
         self.ether
@@ -124,7 +124,7 @@ impl<'a, 'g, B: Room, R: Wait, D: Disk> Seat<'a, 'g, B, R, D> {
 
     /// Says this to one of the other players, whom the next word names.
     fn say_to_one(&mut self, kind: Kind) -> Result<(), AllocError>
-        ensures { HasPlayed self.old.entry self.old.peer self.new.entry self.new.peer }
+        ensures { HasPlayed D.Disk self.old.entry self.old.peer self.new.entry self.new.peer }
     {
         let place = self.word();
         let to = self.other(place);
@@ -133,7 +133,7 @@ impl<'a, 'g, B: Room, R: Wait, D: Disk> Seat<'a, 'g, B, R, D> {
 
     /// Its part in a drop round: player one lets go, cuts and tells of it, the others answer.
     fn drop_round(&mut self) -> Result<(), AllocError>
-        ensures { HasPlayed self.old.entry self.old.peer self.new.entry self.new.peer }
+        ensures { HasPlayed D.Disk self.old.entry self.old.peer self.new.entry self.new.peer }
     {
         let word = self.word();
         let others = u32::from(self.peer.players()).saturating_sub(1).max(1);
@@ -153,7 +153,7 @@ impl<'a, 'g, B: Room, R: Wait, D: Disk> Seat<'a, 'g, B, R, D> {
     /// One turn, as the next words of the generator have it: a tick, a delivery, a datagram, or a part
     /// in a drop round.
     fn turn(&mut self) -> Result<(), AllocError>
-        ensures { HasPlayed self.old.entry self.old.peer self.new.entry self.new.peer }
+        ensures { HasPlayed D.Disk self.old.entry self.old.peer self.new.entry self.new.peer }
     {
         match self.word() % 8 {
             0 | 1 => {
@@ -179,7 +179,7 @@ impl<'a, 'g, B: Room, R: Wait, D: Disk> Seat<'a, 'g, B, R, D> {
 
     /// So many turns, as long as the gate lets it and there is memory.
     fn play<G: Watch>(&mut self, turns: u64, gate: &G)
-        ensures { HasPlayed self.old.entry self.old.peer self.new.entry self.new.peer }
+        ensures { HasPlayed D.Disk self.old.entry self.old.peer self.new.entry self.new.peer }
     {
         peers_play_on::<D>();
         for turn in 0..turns {
@@ -194,8 +194,7 @@ impl<'a, 'g, B: Room, R: Wait, D: Disk> Seat<'a, 'g, B, R, D> {
 
 /// A player's part of a match in a thread of its own: notes that its peer is opened, opens it on the
 /// disk in room 0, and takes so many turns by a generator of the seed and the player's number, as long
-/// as the gate lets it. Each opening, tick, leave and decision is noted before the call, and what is
-/// said after it. Where there is no memory for a note, or the opening is refused, nothing more is done,
+/// as the gate lets it. Each call is noted before it is made, and a datagram after it is said. Where there is no memory for a note, or the opening is refused, nothing more is done,
 /// and the entry comes back with the peer, if there is one.
 pub fn rig_worker<'g, B: Room, R: Wait, D: Disk + Drop, G: Watch>(
     rt: &R,
@@ -214,6 +213,8 @@ pub fn rig_worker<'g, B: Room, R: Wait, D: Disk + Drop, G: Watch>(
     ensures peer { IfSome result.1 (λ peer. IsPeerOf game.entry.now entry.player peer) }
     ensures led { IfSome result.1 (λ peer. Leads game.entry.now 0 entry.player
         (away_with (records_of (kept (D.seen disk)))) result.0.notes peer.state) }
+    ensures played { IfSome result.1 (λ peer.
+        HasPlayedOn D.Disk game.entry.now entry.player disk result.0.notes peer) }
 {
     openings_are_deeds::<D>();
     let mut entry = entry;
@@ -251,7 +252,7 @@ fn player(number: u32) -> Player {
 /// Hears bytes of which an entry has a note.
 fn hear_noted<D: Disk>(peer: &mut Peer<'_, D>, bytes: &[u8])
     ensures { (e : EntryValue) (number player : ℕ)
-        → HasPlayed e peer.old (with_note e (Give number player) bytes.now) peer.new }
+        → HasPlayed D.Disk e peer.old (with_note e (Give number player) bytes.now) peer.new }
 {
     peers_play_on::<D>();
     let _heard = peer.deliver(bytes);

@@ -1,9 +1,11 @@
-//! An ether in one thread.
-ghost use Rattle.std.specs.Prelude.{◌≡◌};
+//! An ether in one thread. `rt try --test --fail-alloc N` refuses the Nth allocation: where a call fails, it
+//! has changed nothing, and succeeds when it is made again.
+ghost use Rattle.std.specs.Prelude.{◌≡◌, ◌≤◌, length};
+ghost use Rattle.c8_wire.specs.declared.sizes.TheConstants.{LONGEST_DATAGRAM};
 
-use c8_game::{Game, Player};
+use c8_game::{Game, Keys, Player};
 use c8_peer::Kind;
-use c8_rig::{Entry, Room, Unnamed};
+use c8_rig::{Entry, Ether, Room, Unnamed};
 use c8_wire::LONGEST_DATAGRAM;
 use c8_world::Act;
 use std::alloc::{AllocError, Global};
@@ -21,14 +23,68 @@ const NEXT: &[u8] = b"another one";
 /// What was drawn: how many bytes, and these, with zeros after them.
 type Drawn = (Option<usize>, [u8; LONGEST_DATAGRAM]);
 
+/// Draws by a choice; once more where memory was refused and nothing has changed.
+fn draw<B: Room, R: Wait>(
+    rt: &R,
+    ether: &Ether<B>,
+    entry: &mut Entry,
+    choice: u64,
+    drawn: &mut Drawn,
+) -> Result<(), AllocError>
+    requires { entry.old.ether ≡ B.ether }
+    ensures { entry.new.ether ≡ B.ether }
+{
+    let (notes, before) = (entry.notes().len(), drawn.1);
+    drawn.0 = match ether.draw(rt, entry, choice, &mut drawn.1) {
+        Ok(size) => size,
+        Err(error) if entry.notes().len() != notes || drawn.1 != before => return Err(error),
+        Err(_) => ether.draw(rt, entry, choice, &mut drawn.1)?,
+    };
+    Ok(())
+}
+
+/// Posts a HELLO of these bytes; once more where memory was refused and nothing has changed.
+fn post<B: Room, R: Wait>(
+    rt: &R,
+    ether: &Ether<B>,
+    entry: &mut Entry,
+    bytes: &[u8],
+) -> Result<(), AllocError>
+    requires ether { entry.old.ether ≡ B.ether }
+    requires few { length bytes.now ≤ LONGEST_DATAGRAM }
+    ensures { entry.new.ether ≡ B.ether }
+{
+    let notes = entry.notes().len();
+    let act = Act::Say(entry.player(), Player::CHAIR, Kind::Hello);
+    match ether.post(rt, entry, act, bytes) {
+        Ok(()) => Ok(()),
+        Err(error) if entry.notes().len() != notes => Err(error),
+        Err(_) => ether.post(rt, entry, act, bytes),
+    }
+}
+
+/// Notes a tick; once more where memory was refused and nothing has changed.
+fn note<B: Room, R: Wait>(rt: &R, ether: &Ether<B>, entry: &mut Entry) -> Result<(), AllocError>
+    requires { entry.old.ether ≡ B.ether }
+    ensures { entry.new.ether ≡ B.ether }
+{
+    let notes = entry.notes().len();
+    let act = Act::Tick(entry.player(), Keys(4));
+    match ether.note(rt, entry, act) {
+        Ok(()) => Ok(()),
+        Err(error) if entry.notes().len() != notes => Err(error),
+        Err(_) => ether.note(rt, entry, act),
+    }
+}
+
 /// What is drawn before anything was said, by the choice 5; after the first saying, by the choice 5; and
-/// after the next one, by the choices 5 and 6.
+/// after the next one, by the choices 5 and 6. Then how many notes there are.
 fn draws<B: Room, R: Wait>(
     rt: &R,
     alloc: Global,
     ether: Unnamed,
     entry: Entry,
-) -> Result<[Drawn; 4], AllocError>
+) -> Result<([Drawn; 4], usize), AllocError>
     requires ether { ether.ether ≡ B.ether }
     requires players { ether.players ≡ B.players }
     requires entry { entry.ether ≡ B.ether }
@@ -36,14 +92,14 @@ fn draws<B: Room, R: Wait>(
     let ether = ether.named::<B>(alloc);
     let mut entry = entry;
     let mut drawn = [(None, [0; LONGEST_DATAGRAM]); 4];
-    drawn[0].0 = ether.draw(rt, &mut entry, 5, &mut drawn[0].1)?;
-    let act = Act::Say(entry.player(), Player::CHAIR, Kind::Hello);
-    ether.post(rt, &mut entry, act, FIRST)?;
-    drawn[1].0 = ether.draw(rt, &mut entry, 5, &mut drawn[1].1)?;
-    ether.post(rt, &mut entry, act, NEXT)?;
-    drawn[2].0 = ether.draw(rt, &mut entry, 5, &mut drawn[2].1)?;
-    drawn[3].0 = ether.draw(rt, &mut entry, 6, &mut drawn[3].1)?;
-    Ok(drawn)
+    draw(rt, &ether, &mut entry, 5, &mut drawn[0])?;
+    post(rt, &ether, &mut entry, FIRST)?;
+    draw(rt, &ether, &mut entry, 5, &mut drawn[1])?;
+    note(rt, &ether, &mut entry)?;
+    post(rt, &ether, &mut entry, NEXT)?;
+    draw(rt, &ether, &mut entry, 5, &mut drawn[2])?;
+    draw(rt, &ether, &mut entry, 6, &mut drawn[3])?;
+    Ok((drawn, entry.notes().len()))
 }
 
 /// Whether these bytes were drawn, or none where there are none.
@@ -61,7 +117,8 @@ fn a_draw_gives_what_was_posted(rt: HostRuntime) -> Result<(), Fail> {
     let Some(entry) = entries.pop() else {
         return Err(Fail::new("no entry"));
     };
-    let drawn = draws::<Brand, _>(&rt, rt.alloc(), ether, entry)?;
+    let (drawn, notes) = draws::<Brand, _>(&rt, rt.alloc(), ether, entry)?;
+    assert!(rt; notes == 6);
     for (drawn, wanted) in drawn.iter().zip([b"".as_slice(), FIRST, NEXT, FIRST]) {
         assert!(rt; is_drawn(drawn, wanted));
     }

@@ -5,8 +5,8 @@
 //! whatever order the inputs came (`specs/Roll.antt`; `laws` has what follows). It keeps a snapshot
 //! of each frame that is not confirmed, up to a window and one, with the row that was run: a call
 //! goes back to the oldest frame whose best guess is not that row any more, and runs on from there
-//! (`specs/Rollback.antt`). So a call runs no confirmed frame again; only `open` and `over` run all.
-//! `Buffers::new` and `Roll::open` take memory, and no other call.
+//! (`specs/Rollback.antt`). So a call runs no confirmed frame again. `open` runs all frames, `open_at` and
+//! `over` those after a checkpoint. Only `Buffers::new`, `Roll::open` and `Roll::open_at` take memory.
 #![tactic(auto)]
 
 mod buffers;

@@ -85,8 +85,8 @@ where
 /// Plays a match of the game that a text spells: each player in a thread of its own, by generators of
 /// the seed that is asked for, so many turns. Writes the verdict to `out`, and before that, where
 /// there is a `script`, into that what happened; or writes the line of a refusal to
-/// `refused`, with the one that explains it where that is asked for. How the log grows is told to
-/// `refused` too. The error is that of a writer.
+/// `refused`, with the one that explains it where that is asked for. With `progress` it also writes
+/// there how the log grows. The error is that of a writer.
 pub fn rig<R, S, W, E>(
     rt: &R,
     asked: &Asked<'_>,
@@ -100,7 +100,7 @@ where
     S: Write,
     W: Write,
     E: Write + Send,
-    ensures ended { IfOk result (λ status. HasEnded game.entry.bytes.now status) }
+    ensures ended { IfOk result (λ status. HasEnded game.entry.bytes.now asked.now.turns status) }
     ensures yes { IfOk result (λ status. status ≡ statuses.Done
         → Appends (W.contents out.old) (W.contents out.new) (verdict_text (Some true))) }
 {
@@ -126,7 +126,7 @@ where
     R: Clock + Threads + Wait + Sync + AllocGlobal,
     S: Write,
     E: Write + Send,
-    ensures outcome { IsOutcome text.entry.bytes.now result }
+    ensures outcome { IsOutcome text.entry.bytes.now asked.now.turns result }
     ensures yes { IfOk result (λ verdict. verdict ≡ Some true) }
 {
     let game = Game::read(rt.alloc(), text.bytes).map_err(RigError::Game)?;
@@ -148,8 +148,8 @@ where
 
 /// Writes a log as a script.
 fn write_to<S: Write>(alloc: Global, script: &mut S, log: &[Note]) -> Result<(), RigError>
-    ensures { IfErr result (λ error. (text : List ℕ) → IsGame text
-        → IsOutcome text (Err error)) }
+    ensures { IfErr result (λ error. (text : List ℕ) (turns : ℕ) → IsGame text
+        → IsOutcome text turns (Err error)) }
 {
     let mut text = Vec::new(alloc);
     if write_script(&mut text, log).is_err() {
@@ -158,7 +158,7 @@ fn write_to<S: Write>(alloc: Global, script: &mut S, log: &[Note]) -> Result<(),
     script.write_all(&text).map_err(|_| RigError::Script)
 }
 
-/// The match, while which it is told how the log grows, where that is asked for.
+/// The match. Meanwhile tells how the log grows, where that is asked for.
 fn gathered<'g, R, E>(
     rt: &R,
     asked: &Asked<'_>,
@@ -168,14 +168,14 @@ fn gathered<'g, R, E>(
 where
     R: Clock + Threads + Wait + Sync + AllocGlobal,
     E: Write + Send,
-    ensures { IfOk result (λ gathering. IsRigged game.entry.now gathering) }
+    ensures { IfOk result (λ gathering. IsRigged game.entry.now asked.now.turns gathering) }
 {
     let counts = Counts::new();
     if !asked.progress {
         return play(rt, asked, game, &counts);
     }
     let players = || -> Result<Gathering<'_>, AllocError>
-        ensures { IfOk result (λ gathering. IsRigged game.entry.now gathering) }
+        ensures { IfOk result (λ gathering. IsRigged game.entry.now asked.entry.now.turns gathering) }
     { play(rt, asked, game, &counts) };
     let (_told, gathering) = thread::join(rt, || counts.tell(rt, progress), players);
     gathering
@@ -190,7 +190,7 @@ fn play<'g, R>(
 ) -> Result<Gathering<'g>, AllocError>
 where
     R: Threads + Wait + Sync + AllocGlobal,
-    ensures { IfOk result (λ gathering. IsRigged game.entry.now gathering) }
+    ensures { IfOk result (λ gathering. IsRigged game.entry.now asked.now.turns gathering) }
 {
     let gathering = c8_rig::rig(rt, rt.alloc(), game, asked.seed, asked.turns, counts);
     counts.end();

@@ -13,7 +13,7 @@ const GAME: &[u8] =
     b"players 2\nipf 10\nframes 100\ndelay 0\nwindow 1\nseed 0\nmask1 000f\nmask2 fff0\ncode 1200\n";
 
 #[rattlefmt::skip]
-static EVENTS: [Event; 24] = [
+const EVENTS: [Event; 24] = [
     Do(Open(ONE)),
     Do(Open(TWO)),
     Do(Say(ONE, TWO, Hello)),
@@ -39,10 +39,6 @@ static EVENTS: [Event; 24] = [
     Do(Give(7, ONE)),
     Do(Show(FIVE)),
 ];
-
-fn events() -> &'static [Event] {
-    &EVENTS
-}
 
 const FIRST_SHOW: &[u8] =
     b"C8\x01\x07\x6d\x05\x0b\xae\xdf\x4a\xbc\x06\x01\x05\0\x0e\0\0\0\x01\0\0\0\0\
@@ -70,7 +66,7 @@ fn is_said(world: &World<'_>, number: u64, bytes: &[u8]) -> bool {
 
 /// Whether the events happen, and no more was said than these datagrams.
 fn happen(alloc: Global, world: &mut World<'_>) -> bool {
-    world.run(alloc, events()).is_ok()
+    world.run(alloc, &EVENTS).is_ok()
         && is_said(world, 6, FIRST_SHOW)
         && is_said(world, 7, SEEN)
         && is_said(world, 8, SECOND_SHOW)

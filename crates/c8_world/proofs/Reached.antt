@@ -5,20 +5,24 @@ use Rattle.std.proofs.Math.Seq.{take-append_seam}
 use Rattle.c8_game.specs.Rules.{Rules, AreInRange}
 use Rattle.c8_game.specs.declared.row.Row.{Row}
 use Rattle.c8_machine.specs.Serial.{serial}
+use Rattle.c8_digest.specs.Origin.{Origin}
+use Rattle.c8_roll.specs.Roll.{RollValue, roll_since, roll_of, IsOnTheWay}
+use Rattle.c8_check.specs.Checks.{begun_at}
 use Rattle.c8_wire.specs.Packet.{Packet, IsPacket}
 use Rattle.c8_wire.specs.Spelling.{spelling, Spells}
 use Rattle.c8_hand.specs.Links.{link_to, LinkValue, LinksValue}
 use Rattle.c8_known.specs.Journal.{Record, held, had_epoch, has_freeze, has_leave}
 use Rattle.c8_known.specs.Known.{known_of}
-use Rattle.c8_known.specs.Confirmed.{confirmed, rows_below}
+use Rattle.c8_known.specs.Known.{KnownValue}
+use Rattle.c8_known.specs.Confirmed.{confirmed, rows_below, confirmed_rows}
 use Rattle.c8_known.specs.Growth.{Begins}
 use Rattle.c8_peer.specs.State.{State}
 use Rattle.c8_peer.specs.Opening.{found, away}
 use Rattle.c8_peer.specs.Truth.{IsTrue}
 use Rattle.c8_peer.specs.TrueChecks.{HasTrueChecks}
 use Rattle.c8_world.specs.checked.Below.{ArePeersLawful}
-use Rattle.c8_world.specs.World.{World, start, peer_of, journal_of, rows_of, with_peer, Event, Answer, Chain, IsReached}
-use Rattle.c8_world.specs.Agreement.{IsPlayer, NobodyLeaves, AreSameUpTo, AgreeUpTo, Agree, AreEntered, IsBounded, AreReports, HasFrozen, Reads, read_by, AgreeByReads, IsAmong, AreLinked, IsTrueSaid, IsTrueBy, HasTrueRows}
+use Rattle.c8_world.specs.World.{World, start, peer_of, journal_of, known_by, rows_of, with_peer, Event, Answer, Chain, IsReached}
+use Rattle.c8_world.specs.Agreement.{IsPlayer, IsUndropped, base_of, NobodyLeaves, AreSameUpTo, AgreeUpTo, Agree, AreEntered, IsBounded, AreReports, HasFrozen, Reads, read_by, AgreeByReads, IsAmong, AreLinked, IsTrueSaid, IsTrueBy, HasTrueRows}
 use Rattle.c8_world.proofs.Journals.{AreSound, has_freeze_at, player_one}
 use Rattle.c8_world.proofs.Moments.{bounded_at, rows_agree, same_up_to, moments_agree, confirmed_entered}
 use Rattle.c8_world.proofs.Worlds.{IsSound, peer_here, peer_there, crash_sound, chain_sound, start_sound}
@@ -108,6 +112,24 @@ pub peers_agree : (laws : ArePeersLawful) (rules : Rules) (room : ℕ) (w v : Wo
 peers_agree laws rules room w v events answers p r range few is chain p_plays r_plays p_stays r_stays n p_counts r_counts =
     let later = chain_sound laws rules room w v events answers range few (reached_sound laws rules room w range few is) chain in
     moments_agree rules room (journal_of w) (journal_of v) p r n range later.sound.journals later.grown p_plays r_plays p_stays r_stays p_counts r_counts
+
+-- ---- machines
+
+abbrev pub BeginsOnTheWay : Type 0
+BeginsOnTheWay = (rules : Rules) (k : KnownValue) (from : Origin) → IsOnTheWay rules k from → roll_since rules from k ≡ roll_of rules k
+
+pub base_serial : (laws : ArePeersLawful) → BeginsOnTheWay → (rules : Rules) (room : ℕ) (w : World) (p : ℕ) → AreInRange rules → room < 2 ^ 64 → IsReached rules room w → IsPlayer rules p
+    → base_of rules w p ≡ serial rules (confirmed_rows (known_by rules w p))
+unfolding roll_since roll_of
+base_serial laws way rules room w p range few is plays =
+    ap (λ (v : RollValue). v.base) (way rules (known_by rules w p) (begun_at rules (journal_of w p)) (checks_true laws rules room w p range few is plays).begun)
+
+pub one_machine : (laws : ArePeersLawful) → BeginsOnTheWay → (rules : Rules) (room : ℕ) (w : World) (p r : ℕ) → AreInRange rules → room < 2 ^ 64 → IsReached rules room w → IsPlayer rules p → IsPlayer rules r
+    → IsUndropped w p → IsUndropped w r → confirmed (known_by rules w p) ≡ confirmed (known_by rules w r) → base_of rules w p ≡ base_of rules w r
+one_machine laws way rules room w p r range few is plays others p_stays r_stays same =
+    let agree = peers_agree laws rules room w w [] [] p r range few is refl plays others p_stays r_stays (confirmed (known_by rules w p)) (omega arith) (omega (arith, same)) in
+    base_serial laws way rules room w p range few is plays ∙ agree.machine ∙ ap (λ (n : ℕ). serial rules (rows_below (known_by rules w r) n)) same
+    ∙ sym (base_serial laws way rules room w r range few is others)
 
 pub inputs_entered : (laws : ArePeersLawful) (rules : Rules) (room : ℕ) (w v : World) (events : List Event) (answers : List Answer) (p : ℕ) → AreInRange rules → room < 2 ^ 64 → IsReached rules room w → Chain rules room w events answers v
     → IsPlayer rules p → AreEntered rules w v p

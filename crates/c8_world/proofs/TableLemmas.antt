@@ -1,24 +1,27 @@
 -- What becomes of a table when one of its nodes, or its pool, changes.
 use Rattle.std.proofs.Common.{◌≡◌, ◌≢◌, inl, inr, ℕ, ◌+◌, ◌-◌, ◌<◌, ◌≤◌, ◌^◌, List, [], ◌∷◌, ◌++◌, length, map, Bool, false, cond, Option, Some, None, Ok, Err, refl, sym, ap, subst, ◌∙◌, arith, slice_set, slice_index_or}
 use Rattle.std.proofs.lemmas.Bool.{cases_eq, and_right, lt-leb}
-use Rattle.std.specs.Prelude.{nat_le}
+use Rattle.std.specs.Prelude.{nat_le, IfSome, MatchOption}
 use Rattle.std.proofs.lemmas.List.{append-nil, length-set, get_or-set_same, get_or-set_other, get_or_default}
-use Rattle.c8_game.specs.Rules.{Rules}
+use Rattle.c8_game.specs.Rules.{Rules, AreInRange}
+use Rattle.c8_disk.specs.declared.mem_disk.MemDisk.{MemDisk}
 use Rattle.c8_wire.specs.Packet.{Packet}
 use Rattle.c8_wire.specs.Spelling.{spelling}
 use Rattle.c8_peer.specs.State as states
 use Rattle.c8_peer.specs.State.{Mode, Down, Away, State, Call, Reply, Opened, Ticked, Delivered, Said, Left, Decided, Checked}
 use Rattle.c8_peer.specs.Steps.{Luck, Works, step}
 use Rattle.c8_peer.specs.Opening.{Stands, NoMemory}
-use Rattle.c8_peer.specs.Peer.{luck_of}
+use Rattle.c8_peer.specs.Peer.{PeerValue, luck_of}
+use Rattle.c8_peer.specs.TrueChecks.{HasTrueChecks}
 use Rattle.c8_world.specs.declared.answer.Answer as codes
 use Rattle.c8_world.specs.declared.answer.Answer.TheVariants as answers
 use Rattle.c8_world.specs.declared.answer.Counts.{Counts}
 use Rattle.c8_world.specs.declared.node.Node.{Node}
+use Rattle.c8_world.specs.declared.node.Node.TheVariants as nodes
 use Rattle.c8_world.specs.World.{World, never_opened, start, is_player, peer_of, Act, Tick, Leave, Decide, player_of, Event, Do, Happening, Answer, Told, IsDown, said_by, stepped, call_at_mode, call_at, acted, MayAct, CanHappen, Chain, IsReached, Check}
 use Rattle.c8_world.specs.Agreement.{IsPlayer}
-use Rattle.c8_world.specs.Nodes.{IsNode, IsCalled, IsAsked}
-use Rattle.c8_world.specs.Table.{TableValue, IsTaken, node_of, Holds, HadMemory, HasHappened, reported_reply, reported}
+use Rattle.c8_world.specs.Nodes.{IsNode, IsPeerOf, IsCalled, IsAsked}
+use Rattle.c8_world.specs.Table.{TableValue, IsTaken, IsNotHeld, node_of, Holds, HadMemory, HasHappened, reported_reply, reported}
 use Rattle.c8_world.proofs.Openings.{plays_so}
 
 -- ---- one event more
@@ -297,3 +300,17 @@ decide_call leaver rules room w = record { by = refl; is = λ h. refl; may = λ 
 pub check_call : (p : ℕ) → (rules : Rules) (room : ℕ) (w : World) → IsCallOf rules room w (Check p) p states.Checkpoint
 unfolding acted
 check_call p rules room w = record { by = refl; is = λ h. refl; may = λ h. tt }
+
+-- ---- a peer that is lent
+
+abbrev pub AreChecksTrue : Type 0
+AreChecksTrue = (rules : Rules) (room : ℕ) (w : World) (p : ℕ) → AreInRange rules → room < 2 ^ 64 → IsReached rules room w → IsPlayer rules p → HasTrueChecks rules p (peer_of w p).journal
+
+pub lent_checked : {R : Type 0} (now : R → PeerValue MemDisk) → AreChecksTrue → (t : TableValue) (w : World) (p : ℕ) (result : Option R) → AreInRange t.rules → t.room < 2 ^ 64 → 1 ≤ p → Holds t w
+    → IfSome result (λ r. p ≤ t.rules.players) → MatchOption result (IsNotHeld (node_of t p)) (λ r. node_of t p ≡ Some (nodes.Held (now r)))
+    → IfSome result (λ r. HasTrueChecks (now r).rules (now r).me (now r).state.journal)
+lent_checked now law t w p None range few from holds within held = tt
+lent_checked now law t w p (Some r) range few from holds within held =
+    let plays : IsPlayer t.rules p = record { from_one = from; in_game = within } in
+    let is : IsPeerOf t.rules t.room p (now r) (peer_of w p) = subst (λ (node : Option Node). IsTaken t.rules t.room p node (peer_of w p)) held (holds.peers p plays) in
+    subst (λ (x : Rules × ℕ × State). HasTrueChecks x.0 x.1 x.2.journal) (λ i. (sym is.rules_are i, sym is.me_is i, sym is.state_is i)) (law t.rules t.room w p range few holds.reached plays)

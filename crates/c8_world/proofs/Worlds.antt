@@ -288,7 +288,7 @@ call_owes laws rules room w p call range sound plays up is_call worldly =
       grows = λ r e. laws.memory_grows rules p room (J p) m call r range from to valid awake.lawful is_call e;
       says = λ packet among.
           let e = said_is (outcome rules (told_of rules p (J p)) (known_of rules p (J p)) m call).reply packet among in
-          let is_true = laws.said_true rules p room (J p) m call packet range from to valid awake.lawful is_call (sound.journals.checks p plays) e in
+          let is_true = laws.said_true rules p room (J p) m call packet range from to valid awake.lawful is_call (λ carries. sound.journals.checks p plays) e in
           let whose : p ≡ packet.head.from = sym is_true.from in
           record {
             told = told_by_player rules J packet p plays whose is_true;
@@ -456,7 +456,7 @@ may_open laws rules room w p journal range few sound plays is valid low =
     let checks = subst (HasTrueChecks rules p) is (sound.journals.checks p plays) in
     record {
       allowed = subst (λ (j : List Record). IsAllowed rules p room j r) (sym is) (laws.opening_allowed rules p room journal range plays.from_one plays.in_game few valid low);
-      checks = subst (λ (j : List Record). HasTrueChecks rules p (j ++ r ∷ [])) (sym is) (laws.opening_true rules p room journal range plays.from_one plays.in_game few valid low checks);
+      checks = subst (λ (j : List Record). HasTrueChecks rules p (j ++ r ∷ [])) (sym is) (laws.opening_true rules p room journal range plays.from_one plays.in_game few valid low checks.last);
     }
 
 -- an opening that finds a journal, from the world in which that journal is the peer's

@@ -3,6 +3,9 @@ use Rattle.std.specs.Prelude.{◌≡◌, ◌≢◌, ℕ, ◌<◌, ◌≤◌, ◌
 use Rattle.std.specs.List.{slice_get}
 use Rattle.c8_game.specs.Rules.{Rules}
 use Rattle.c8_machine.specs.Serial.{serial}
+use Rattle.c8_machine.specs.State.{State}
+use Rattle.c8_digest.specs.Origin.{run_since}
+use Rattle.c8_check.specs.Checks.{begun_at}
 use Rattle.c8_wire.specs.Packet.{Packet}
 use Rattle.c8_hand.specs.Links.{link_to}
 use Rattle.c8_known.specs.Journal.{Record, held, count, had_epoch, has_freeze, has_leave, cut_of}
@@ -73,6 +76,10 @@ AreReports rules w p = ((peer_of w 1).mode ≡ Away → ⊥) → (leaver n : ℕ
 -- where player one has cut a leaver's list, each other player who is undropped has frozen the leaver
 abbrev pub HasFrozen : World → ℕ → Type 0
 HasFrozen w p = IsUndropped w p → p ≢ 1 → (leaver K : ℕ) → cut_of leaver (journal_of w 1) ≡ Some K → has_freeze leaver (journal_of w p) ≡ true
+
+-- the machine of a peer's `base`: run from where it began on the rows that are confirmed
+abbrev pub base_of : Rules → World → ℕ → State
+base_of rules w p = run_since rules (begun_at rules (journal_of w p)) (confirmed_rows (known_by rules w p))
 
 -- ---- the same by what reads of the disks give
 

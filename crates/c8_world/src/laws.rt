@@ -6,9 +6,11 @@ ghost use Rattle.c8_spectator.specs.declared.error.NotTaken.TheVariants.{Watch};
 ghost use Rattle.c8_spectator.specs.declared.error.WatchError.TheVariants as watches;
 ghost use Rattle.std.specs.List.{slice_get};
 ghost use Rattle.c8_game.specs.Rules.{Rules, AreInRange, id_of};
+ghost use Rattle.c8_machine.specs.Serial.{serial};
 ghost use Rattle.c8_wire.specs.Packet.{Packet, AreBytes};
 ghost use Rattle.c8_wire.specs.Spelling.{spelling, Spells};
 ghost use Rattle.c8_known.specs.Journal.{held};
+ghost use Rattle.c8_known.specs.Confirmed.{confirmed, confirmed_rows};
 ghost use Rattle.c8_known.specs.Growth.{Begins};
 ghost use Rattle.c8_known.specs.declared.error.KnownError.TheVariants.{Differs};
 ghost use Rattle.c8_refusals.specs.declared.error.Refused.TheVariants.{BadAck, Desync, Known};
@@ -22,12 +24,13 @@ ghost use Rattle.c8_world.specs.declared.answer.Answer.TheVariants.{Down};
 ghost use Rattle.c8_world.specs.declared.event.Event as asked;
 ghost use Rattle.c8_world.specs.Run.{Runs};
 ghost use Rattle.c8_world.specs.Table.{reported};
-ghost use Rattle.c8_world.specs.World.{World, start, Act, Open, Give, Hear, player_of, Event, Do, Answer, Watched, IsDown, CanHappen, Chain, IsReached, peer_of, journal_of};
-ghost use Rattle.c8_world.specs.Agreement.{IsPlayer, IsUndropped, NobodyLeaves, AgreeUpTo, Agree, AreEntered, IsBounded, AreReports, HasFrozen, Reads, AgreeByReads, IsAmong, IsTrueSaid, HasTrueRows, AreLinked, refused_for, IsFit};
+ghost use Rattle.c8_world.specs.World.{World, start, Act, Open, Give, Hear, player_of, Event, Do, Answer, Watched, IsDown, CanHappen, Chain, IsReached, peer_of, journal_of, known_by};
+ghost use Rattle.c8_world.specs.Agreement.{IsPlayer, IsUndropped, NobodyLeaves, AgreeUpTo, Agree, AreEntered, IsBounded, AreReports, HasFrozen, Reads, AgreeByReads, IsAmong, IsTrueSaid, HasTrueRows, AreLinked, refused_for, IsFit, base_of};
 ghost use Rattle.c8_world.specs.Headline.{IsHeadline};
 ghost use Rattle.c8_world.specs.Matches.{two, three, four, GoesInTurn, StopsInTick, CutsWhereHeld, CutsAfterRestart, WaitsForSilent, DiffersWhenDropped, EndsAfterLastFrame, RefusesOther};
 
 use crate::below::peers_are_lawful;
+use c8_roll::laws::a_run_may_begin_on_the_way;
 
 /// What a peer holds of a player's inputs begins what that player entered.
 pub fn held_inputs_were_entered()
@@ -39,14 +42,31 @@ pub fn held_inputs_were_entered()
     peers_are_lawful();
 }
 
-/// What each player's journal says of checkpoints is true: a machine that begins at one, as `Peer::base` and
-/// `Peer::shown` of a peer that was opened again, is the serial run of all confirmed rows.
+/// The checkpoints of each player's journal are true. So a machine that begins at one goes on as if it
+/// had run from frame 0: `Peer::base` is the serial run of the confirmed rows, `Peer::shown` that of the
+/// best rows.
 pub fn checkpoints_are_true()
     ensures { (rules : Rules) (room : ℕ) (w : World) (p : ℕ)
         → AreInRange rules → room < 2 ^ 64 → IsReached rules room w → IsPlayer rules p
         → HasTrueChecks rules p (journal_of w p) }
 {
     peers_are_lawful();
+}
+
+/// Two undropped peers that have confirmed equally many frames have the same machine after them, that of
+/// `Peer::base`, wherever each machine began: the serial run of the confirmed rows.
+pub fn undropped_peers_have_one_machine()
+    ensures serial { (rules : Rules) (room : ℕ) (w : World) (p : ℕ)
+        → AreInRange rules → room < 2 ^ 64 → IsReached rules room w → IsPlayer rules p
+        → base_of rules w p ≡ serial rules (confirmed_rows (known_by rules w p)) }
+    ensures same { (rules : Rules) (room : ℕ) (w : World) (p r : ℕ)
+        → AreInRange rules → room < 2 ^ 64 → IsReached rules room w
+        → IsPlayer rules p → IsPlayer rules r → IsUndropped w p → IsUndropped w r
+        → confirmed (known_by rules w p) ≡ confirmed (known_by rules w r)
+        → base_of rules w p ≡ base_of rules w r }
+{
+    peers_are_lawful();
+    a_run_may_begin_on_the_way();
 }
 
 /// What a watcher has begins the rows that player one counts as confirmed, and its machine is the serial run on

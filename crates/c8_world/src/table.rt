@@ -1,5 +1,5 @@
 //! All nodes of a match and all that was said, and what an event makes of them.
-ghost use Rattle.std.specs.Prelude.{◌≡◌, ◌≤◌, ◌<◌, ◌+◌, ◌^◌, ℕ, [], ◌∷◌, Bool, true, is_some, Some, IfOk, IfErr, vec_len, length, MatchOption};
+ghost use Rattle.std.specs.Prelude.{◌≡◌, ◌≤◌, ◌<◌, ◌+◌, ◌^◌, ℕ, [], ◌∷◌, Bool, true, is_some, Some, IfOk, IfErr, IfSome, vec_len, length, MatchOption};
 ghost use Rattle.std.specs.List.{slice_get};
 ghost use Rattle.c8_game.specs.Rules.{Rules, AreInRange};
 ghost use Rattle.c8_record.specs.Allowed.{IsJournal};
@@ -560,7 +560,8 @@ impl<'g> Table<'g> {
 
     /// A player's peer, if one is held.
     pub(crate) fn peer(&self, player: Player) -> Option<&Peer<'g, MemDisk>>
-        ensures { MatchOption result (IsNotHeld (node_of self.now player.number))
+        ensures plays { IfSome result (λ _. player.number ≤ self.now.rules.players) }
+        ensures held { MatchOption result (IsNotHeld (node_of self.now player.number))
             (λ peer. node_of self.now player.number ≡ Some (Held peer.now)) }
     {
         if player.number > self.game.players() {

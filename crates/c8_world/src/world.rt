@@ -1,6 +1,7 @@
 //! All peers of one match, and what happens to them.
-ghost use Rattle.std.specs.Prelude.{◌≡◌, ◌≤◌, ◌<◌, ◌++◌, ◌∷◌, [], ℕ, length, vec_capacity, true, Some, IfOk, IfErr, OnOk, OnErr, MatchOption};
+ghost use Rattle.std.specs.Prelude.{◌≡◌, ◌≤◌, ◌<◌, ◌++◌, ◌∷◌, [], ℕ, length, vec_capacity, true, Some, IfOk, IfErr, IfSome, OnOk, OnErr, MatchOption};
 ghost use Rattle.std.specs.List.{slice_get};
+ghost use Rattle.c8_peer.specs.TrueChecks.{HasTrueChecks};
 ghost use Rattle.c8_world.specs.Events.{event_of};
 ghost use Rattle.c8_world.specs.World.{World as Moment, act_inside, start};
 ghost use Rattle.c8_world.specs.Table.{node_of, watch_in, IsNotHeld, Holds, IsSameMatch, HasHappened, HasNotHappened};
@@ -17,7 +18,7 @@ use crate::answer::{Answer, Report};
 use crate::ends::{Ends, all_agree, tallies};
 use crate::error::RunError;
 use crate::event::{Act, Event};
-use crate::laws::{any_two_moments_agree, what_disks_give_agrees};
+use crate::laws::{any_two_moments_agree, checkpoints_are_true, what_disks_give_agrees};
 use crate::table::Table;
 use c8_disk::{GhostList, MemDisk};
 use c8_game::{Game, Player};
@@ -173,12 +174,17 @@ impl<'g> World<'g> {
         Ok(())
     }
 
-    /// The peer of a player, if it is held: open, or down. There is none of one that was never
-    /// opened, was stopped, or was last refused its opening.
+    /// The peer of a player, if it is held: open, or down. None if it was never opened, was stopped, or
+    /// was last refused its opening. Its checkpoints are true, so [`Peer::base`] is CHIP-8's serial run
+    /// on its confirmed rows.
     pub fn peer(&self, player: Player) -> Option<&Peer<'g, MemDisk>>
-        ensures { MatchOption result (IsNotHeld (node_of self.now.table player.number))
+        ensures held { MatchOption result (IsNotHeld (node_of self.now.table player.number))
             (λ peer. node_of self.now.table player.number ≡ Some (Held peer.now)) }
+        ensures checks { IfSome result (λ peer.
+            HasTrueChecks peer.now.rules peer.now.me peer.now.state.journal) }
     {
+        checkpoints_are_true();
+        self.table.in_range();
         self.table.peer(player)
     }
 

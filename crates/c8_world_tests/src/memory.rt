@@ -25,7 +25,7 @@ const HELLO: Event = Event::Do(Act::Say(ONE, TWO, Kind::Hello));
 /// four datagrams, then for eight, then for sixteen: the one that is shown to a watcher, the fifth, and the one
 /// that a watcher says, the ninth, want more.
 #[rattlefmt::skip]
-static EVENTS: [Event; 23] = [
+const EVENTS: [Event; 23] = [
     Event::Do(Act::Open(ONE)),
     Event::Fail(Act::Open(TWO), 6),
     Event::Do(Act::Open(TWO)),
@@ -57,7 +57,7 @@ const NOT_TICKED: Answer = Answer::Ticked(Err(TickError::Disk(DiskError::Failed)
 
 /// The answers to them, place by place.
 #[rattlefmt::skip]
-static ANSWERS: [Answer; 23] = [
+const ANSWERS: [Answer; 23] = [
     Answer::Opened(Ok(1)),
     Answer::Opened(Err(OpenError::Disk(DiskError::Failed))),
     Answer::Opened(Ok(2)),

@@ -10,7 +10,7 @@ use std::alloc::Global;
 const KEYS: [u16; 6] = [0x0011, 0x0122, 0x1024, 0x0220, 0x2002, 0x0131];
 
 /// All players that a match can have.
-static PLAYERS: [Player; 4] = [ONE, TWO, Player { number: 3 }, Player { number: 4 }];
+const PLAYERS: [Player; 4] = [ONE, TWO, Player { number: 3 }, Player { number: 4 }];
 
 fn players() -> &'static [Player] {
     &PLAYERS

@@ -21,7 +21,7 @@ use Rattle.c8_roll.specs.checked.RollLaws.{first_on_the_way}
 use Rattle.c8_record.specs.Allowed.{IsAllowed, IsJournal}
 use Rattle.c8_record.specs.checked.JournalLaws.{journal_more, journal_grows, checks_more}
 use Rattle.c8_peer.specs.Opening.{second_form, opening_record}
-use Rattle.c8_peer.specs.TrueChecks.{serial_at, AreTruePieces, is_no_check, SaysNoCheck, HasTrueChecks}
+use Rattle.c8_peer.specs.TrueChecks.{serial_at, AreTruePieces, is_no_check, SaysNoCheck, HasTrueLast, HasTrueChecks}
 use Rattle.c8_peer.specs.checked.TruthLaws.{rows_same}
 use Rattle.c8_peer.specs.checked.Held.{is_play}
 
@@ -168,14 +168,14 @@ first_or_last rules k None ways = first_on_the_way rules k
 first_or_last rules k (Some from) ways = ways from refl
 
 pub opening_true : (rules : Rules) (me room : ℕ) (journal : List Record) → AreInRange rules → 1 ≤ me → me ≤ rules.players → IsJournal rules me room journal
-    → IsAllowed rules me room journal (opening_record rules room me journal) → HasTrueChecks rules me journal → HasTrueChecks rules me (journal ++ opening_record rules room me journal ∷ [])
+    → IsAllowed rules me room journal (opening_record rules room me journal) → HasTrueLast rules me journal → HasTrueChecks rules me (journal ++ opening_record rules room me journal ∷ [])
 opening_true rules me room journal range from to is may are =
     let new : Record = opening_record rules room me journal in
     let early : KnownValue = known_of rules me journal in
     let late : KnownValue = known_of rules me (journal ++ new ∷ []) in
     let still : IsStillKnown early late = journal_grows rules me room journal (new ∷ []) range from to (journal_more rules me room journal new is may) in
     let opening = opens rules room me journal in
-    let ways : (at : Origin) → (checks_of journal).last ≡ Some at → IsOnTheWay rules late at = λ at e. way_stays rules early late at still (are.last at e) in
+    let ways : (at : Origin) → (checks_of journal).last ≡ Some at → IsOnTheWay rules late at = λ at e. way_stays rules early late at still (are at e) in
     record {
       begun = subst (IsOnTheWay rules late) (sym opening.begins) (first_or_last rules late (checks_of journal).last ways);
       last = λ at e. ways at (sym opening.last ∙ e);

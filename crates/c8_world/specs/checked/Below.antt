@@ -11,8 +11,8 @@ use Rattle.c8_peer.specs.State.{Open as Up}
 use Rattle.c8_peer.specs.Steps.{Luck, outcome, step}
 use Rattle.c8_peer.specs.Opening.{Opening, opened, last_epoch, opening_record}
 use Rattle.c8_peer.specs.Replies.{mode_told}
-use Rattle.c8_peer.specs.Truth.{IsTrue}
-use Rattle.c8_peer.specs.TrueChecks.{HasTrueChecks}
+use Rattle.c8_peer.specs.Truth.{IsTrue, CarriesMark}
+use Rattle.c8_peer.specs.TrueChecks.{HasTrueLast, HasTrueChecks}
 use Rattle.c8_peer.specs.Told.{told_of}
 use Rattle.c8_peer.specs.Lawful.{IsMemory, IsCall}
 
@@ -32,7 +32,7 @@ pub record ArePeersLawful : Type 0 where
       → IsJournal rules me room journal → IsMemory rules room me journal m → IsCall call → HasTrueChecks rules me journal
       → (outcome rules (told_of rules me journal) (known_of rules me journal) m call).keeps ≡ Some r → HasTrueChecks rules me (journal ++ r ∷ [])
   pub opening_true : (rules : Rules) (me room : ℕ) (found : List Record) → AreInRange rules → 1 ≤ me → me ≤ rules.players → room < 2 ^ 64
-      → IsJournal rules me room found → epoch found < last_epoch → HasTrueChecks rules me found → HasTrueChecks rules me (found ++ opening_record rules room me found ∷ [])
+      → IsJournal rules me room found → epoch found < last_epoch → HasTrueLast rules me found → HasTrueChecks rules me (found ++ opening_record rules room me found ∷ [])
   pub memory_kept : (rules : Rules) (me room : ℕ) (journal : List Record) (m : Memory) (call : Call) → AreInRange rules → 1 ≤ me → me ≤ rules.players
       → IsJournal rules me room journal → IsMemory rules room me journal m → IsCall call
       → IsMemory rules room me journal (outcome rules (told_of rules me journal) (known_of rules me journal) m call).memory
@@ -42,7 +42,7 @@ pub record ArePeersLawful : Type 0 where
       → IsMemory rules room me (journal ++ r ∷ []) (outcome rules (told_of rules me journal) (known_of rules me journal) m call).memory
   pub said_true : (rules : Rules) (me room : ℕ) (journal : List Record) (m : Memory) (call : Call) (p : Packet) → AreInRange rules → 1 ≤ me → me ≤ rules.players
       → IsJournal rules me room journal → IsMemory rules room me journal m → IsCall call
-      → HasTrueChecks rules me journal → (outcome rules (told_of rules me journal) (known_of rules me journal) m call).reply ≡ Said (Ok p) → IsTrue rules me journal p
+      → (CarriesMark p.message → HasTrueChecks rules me journal) → (outcome rules (told_of rules me journal) (known_of rules me journal) m call).reply ≡ Said (Ok p) → IsTrue rules me journal p
   pub said_spelled : (rules : Rules) (me room : ℕ) (journal : List Record) (m : Memory) (call : Call) (p : Packet) → AreInRange rules → 1 ≤ me → me ≤ rules.players
       → IsJournal rules me room journal → IsMemory rules room me journal m → IsCall call
       → (outcome rules (told_of rules me journal) (known_of rules me journal) m call).reply ≡ Said (Ok p) → IsPacket p

@@ -9,7 +9,7 @@ pub returns-clause-grows : goal.returns-clause-grows
 returns-clause-grows c = run_grows
 
 pub returns-clause-said : goal.returns-clause-said
-returns-clause-said c = λ rules room me s deeds answers packet range from to low. said_stands rules room me never_opened s deeds answers packet range from to low (never_lawful rules room me) (never_tells rules me)
+returns-clause-said c = λ rules room me s deeds answers packet range from to low. said_stands rules room me never_opened s deeds answers packet range from to low (never_lawful rules room me) (λ carries. never_tells rules me)
 
 pub returns-clause-checks : goal.returns-clause-checks
 returns-clause-checks c = reached_tells

@@ -1,5 +1,6 @@
-use Rattle.std.proofs.Common.{ℕ, List, ap, subst, ◌∙◌}
+use Rattle.std.proofs.Common.{List, ap, subst, ◌∙◌}
 use Rattle.std.specs.Prelude.{IfSome}
+use Rattle.c8_disk.specs.Memory.{MemValue}
 use Rattle.c8_log.specs.Slots.{kept}
 use Rattle.c8_record.specs.Body.{records_of}
 use Rattle.c8_rig.specs.Log.{Leads}
@@ -16,5 +17,6 @@ returns g c =
       player = worked.entry.1;
       plays = worked.peer;
       led = subst (λ (journal : List Record). IfSome c.rig_worker-entry.result.1 (λ q. Leads c.args.game.now 0 c.args.job.entry.player (away_with journal) c.rig_worker-entry.result.0.notes q.state))
-          (ap (λ (bytes : List ℕ). records_of (kept bytes)) c.requires.empty ∙ kept_none) worked.led;
+          (ap (λ (v : MemValue). records_of (kept v.bytes)) c.requires.disk ∙ kept_none) worked.led;
+      played = worked.played;
     }

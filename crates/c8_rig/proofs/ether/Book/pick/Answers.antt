@@ -1,12 +1,7 @@
 use Rattle.std.proofs.Common.{rules, ◌<◌, ◌%◌, length}
-use Rattle.c8_rig.proofs.Growth.{nobody_said, drawn}
+use Rattle.c8_rig.proofs.Growth.{nobody_said, picked}
 use Rattle.c8_rig.proofs.ether.Book.pick.Goals as goal
 
 pub returns-then-count-eq0-clause-none : goal.returns-then-count-eq0-clause-none
 returns-then-count-eq0-clause-none g c =
     nobody_said c.args.part.player c.self.inside.notes.items c.args.part.notes c.self.inside.said.items (search rules) c.self.invariant.1 (search rules)
-
-pub returns-clause-some : goal.returns-clause-some
-returns-clause-some g c =
-    let within : c.args.choice % c.len-count.result < length c.self.inside.said.items = search rules in
-    drawn _ c.self.inside.said.items _ c.as_bytes-bytes.result.now _ _ (search rules) within (search rules) c.copy_from_slice.ensures.after

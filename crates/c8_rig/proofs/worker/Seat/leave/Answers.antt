@@ -3,4 +3,4 @@ use Rattle.c8_rig.proofs.Playing.{with_entry}
 use Rattle.c8_rig.proofs.worker.Seat.leave.Goals as goal
 
 pub returns : goal.returns
-returns g c = with_entry _ _ _ _ _ (search rules) (c.peers_play_on.ensures.leaves _ _ _ _ _ c.leave-left.ensures)
+returns g c = with_entry _ _ _ _ _ _ (search rules) (c.peers_play_on.ensures.leaves _ _ _ _ _ c.leave-left.ensures)
