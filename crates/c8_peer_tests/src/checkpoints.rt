@@ -4,9 +4,9 @@
 //! as it was before there were checkpoints.
 use crate::stops::{Stage, Trial};
 use c8_game::Game;
-use c8_peer::Kind::Data;
 use c8_peer::{Check, CheckError, Heard, OpenError, Refused};
 use c8_table::Look::{Base, Confirmed, Counter, LastRun, Now, Registers};
+use c8_table::What::Data;
 use c8_table::{Answer, Deed, ONE, OfPlayer, Row, TWO, Told, plays};
 use std::test::Fail;
 

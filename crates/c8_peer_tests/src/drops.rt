@@ -1,9 +1,9 @@
 //! Drop rounds.
 use c8_hand::HandError;
 use c8_known::KnownError;
-use c8_peer::Kind::{Cut, Data, Freeze, Frozen};
 use c8_peer::{DecideError, Heard, Refused, TickError};
 use c8_table::Look::{Confirmed, Dropped};
+use c8_table::What::{Cut, Data, Freeze, Frozen};
 use c8_table::{About, Answer, Deed, FOUR, ONE, Row, THREE, TWO, plays};
 use std::test::Fail;
 

@@ -1,8 +1,8 @@
 //! Ticks and deliveries of two peers.
 use c8_known::KnownError;
-use c8_peer::Kind::Data;
 use c8_peer::{Heard, Refused, TickError};
 use c8_table::Look::{Confirmed, Counter, LastRun, Registers};
+use c8_table::What::Data;
 use c8_table::{About, Answer, Deed, ONE, Row, TWO, plays};
 use std::test::Fail;
 

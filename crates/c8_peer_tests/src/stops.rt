@@ -2,8 +2,8 @@
 //! calls, or one of them fails, and the next opening finds the record or not.
 use c8_disk::{Arm, DiskError};
 use c8_game::Game;
-use c8_peer::Kind::{Cut, Data, Freeze, Frozen};
 use c8_peer::{CheckError, DecideError, Heard, LeaveError, OpenError, Refused, TickError};
+use c8_table::What::{Cut, Data, Freeze, Frozen};
 use c8_table::{Answer, Deed, ONE, OfPlayer, Row, THREE, TWO, Table, Told};
 use std::alloc::Global;
 use std::test::Fail;

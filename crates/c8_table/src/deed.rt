@@ -1,24 +1,23 @@
 //! A row of a table: which player's peer is asked, what it is asked, and what it answers.
 use c8_disk::Arm;
-use c8_game::Player;
 use c8_peer::{
-    Check, CheckError, DecideError, Heard, Kind, LeaveError, OpenError, Refused, TickError,
-    Unsayable,
+    Check, CheckError, DecideError, Heard, LeaveError, OpenError, Refused, TickError, Unsayable,
 };
 
 /// The room in which all tests play.
 pub(crate) const ROOM: u64 = 0x0102030405060708;
 
-pub const ONE: Player = Player { number: 1 };
+pub const ONE: u8 = 1;
 
-pub const TWO: Player = Player { number: 2 };
+pub const TWO: u8 = 2;
 
-pub const THREE: Player = Player { number: 3 };
+pub const THREE: u8 = 3;
 
-pub const FOUR: Player = Player { number: 4 };
+pub const FOUR: u8 = 4;
 
-/// Whose peer is asked, what, and what it answers.
-pub type Row = (Player, Deed, Answer);
+/// Whose peer is asked, what, and what it answers. Players stand by their numbers: a table can lend no
+/// `Player` beside bytes.
+pub type Row = (u8, Deed, Answer);
 
 /// What a player's peer, or its disk, is asked.
 #[derive(Clone, Copy)]
@@ -48,26 +47,37 @@ pub enum Deed {
     /// Enters a key set this many times.
     Ticks(u16, u32),
     /// Says something to a player. What this deed says is numbered from 0.
-    Say(Player, Kind),
+    Say(u8, What),
     /// Says something to a player, who hears it at once. The answer is that player's.
-    Tell(Player, Kind),
+    Tell(u8, What),
     /// Says HELLO to a player, and hears the WELCOME. The answer is to the WELCOME.
-    Link(Player),
+    Link(u8),
     /// Hears the datagram with this number.
     Hear(usize),
     /// The same with these bytes at a place.
     HearWith(usize, usize, &'static [u8]),
     /// Whether the datagram with this number has these bytes at a place.
     Spells(usize, usize, &'static [u8]),
-    Leave(Player),
-    Decide(Player),
+    Leave(u8),
+    Decide(u8),
     /// This many calls of `checkpoint`, until one is refused. The answer is the last one's.
     Checks(u32),
     Look(Look),
     /// Asks about a player.
-    Of(Player, About),
+    Of(u8, About),
     /// The row of a confirmed frame.
     Row(u32),
+}
+
+/// What a player says, some of it about a leaver.
+#[derive(Clone, Copy)]
+pub enum What {
+    Hello,
+    Welcome,
+    Data,
+    Freeze(u8),
+    Frozen(u8),
+    Cut(u8),
 }
 
 /// What a peer shows of itself.

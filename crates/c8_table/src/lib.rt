@@ -10,5 +10,5 @@ mod deed;
 mod node;
 mod table;
 
-pub use deed::{About, Answer, Deed, FOUR, Look, ONE, OfPlayer, Row, THREE, TWO, Told};
+pub use deed::{About, Answer, Deed, FOUR, Look, ONE, OfPlayer, Row, THREE, TWO, Told, What};
 pub use table::{Table, Wrong, plays, plays_beside};

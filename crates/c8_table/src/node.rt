@@ -1,5 +1,5 @@
 //! One player's peer, or its disk.
-use crate::deed::{About, Answer, Deed, FOUR, Look, ONE, OfPlayer, THREE, TWO, Told};
+use crate::deed::{About, Answer, Deed, FOUR, Look, ONE, OfPlayer, THREE, TWO, Told, What};
 use c8_disk::{Arm, Disk, LONGEST_WRITE, MemDisk};
 use c8_game::{Game, Keys, Player};
 use c8_log::SLOT_LENGTH;
@@ -140,8 +140,8 @@ impl<'g> Node<'g> {
         }
     }
 
-    pub(crate) fn say(&self, to: Player, kind: Kind) -> Result<Letter, Answer> {
-        let Some(peer) = &self.peer else {
+    pub(crate) fn say(&self, to: u8, what: What) -> Result<Letter, Answer> {
+        let (Some(peer), Some(to), Some(kind)) = (&self.peer, Player::new(to), kind_of(what)) else {
             return Err(Answer::Impossible);
         };
         let mut bytes = [0; LONGEST_DATAGRAM];
@@ -206,7 +206,22 @@ fn writes(disk: &mut MemDisk, place: u32, bytes: &[u8]) -> bool {
     disk.write_at(place, bytes).is_ok()
 }
 
-fn told_of(peer: &Peer<'_, MemDisk>, player: Player) -> OfPlayer {
+/// The kind, where its leaver is a player.
+fn kind_of(what: What) -> Option<Kind> {
+    match what {
+        What::Hello => Some(Kind::Hello),
+        What::Welcome => Some(Kind::Welcome),
+        What::Data => Some(Kind::Data),
+        What::Freeze(leaver) => Player::new(leaver).map(Kind::Freeze),
+        What::Frozen(leaver) => Player::new(leaver).map(Kind::Frozen),
+        What::Cut(leaver) => Player::new(leaver).map(Kind::Cut),
+    }
+}
+
+fn told_of(peer: &Peer<'_, MemDisk>, player: u8) -> OfPlayer {
+    let Some(player) = Player::new(player) else {
+        return (0, false, false, None);
+    };
     (
         peer.count(player),
         peer.frozen(player),
@@ -220,13 +235,27 @@ fn asked(peer: &mut Peer<'_, MemDisk>, deed: Deed) -> Answer {
     match deed {
         Deed::Tick(keys) => ticks(peer, keys, 1),
         Deed::Ticks(keys, times) => ticks(peer, keys, times),
-        Deed::Leave(leaver) => Answer::Left(peer.leave(leaver)),
-        Deed::Decide(leaver) => Answer::Decided(peer.decide(leaver)),
+        Deed::Leave(leaver) => leaves(peer, leaver),
+        Deed::Decide(leaver) => decides(peer, leaver),
         Deed::Checks(times) => checks(peer, times),
         Deed::Look(look) => looked(peer, look),
         Deed::Of(player, about) => looked_at(peer, player, about),
         Deed::Row(frame) => row(peer, frame),
         _ => Answer::Impossible,
+    }
+}
+
+fn leaves(peer: &mut Peer<'_, MemDisk>, leaver: u8) -> Answer {
+    match Player::new(leaver) {
+        Some(leaver) => Answer::Left(peer.leave(leaver)),
+        None => Answer::Impossible,
+    }
+}
+
+fn decides(peer: &mut Peer<'_, MemDisk>, leaver: u8) -> Answer {
+    match Player::new(leaver) {
+        Some(leaver) => Answer::Decided(peer.decide(leaver)),
+        None => Answer::Impossible,
     }
 }
 
@@ -265,7 +294,10 @@ fn looked(peer: &Peer<'_, MemDisk>, look: Look) -> Answer {
     }
 }
 
-fn looked_at(peer: &Peer<'_, MemDisk>, player: Player, about: About) -> Answer {
+fn looked_at(peer: &Peer<'_, MemDisk>, player: u8, about: About) -> Answer {
+    let Some(player) = Player::new(player) else {
+        return Answer::Impossible;
+    };
     match about {
         About::Count => Answer::Is(peer.count(player)),
         About::Acked => Answer::Is(peer.acked(player)),

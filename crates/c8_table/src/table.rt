@@ -1,13 +1,12 @@
 //! All players' peers, and one deed after the other.
-use crate::deed::{Answer, Deed, FOUR, ONE, ROOM, Row, THREE, TWO, Told};
+use crate::deed::{Answer, Deed, FOUR, ONE, ROOM, Row, THREE, TWO, Told, What};
 use crate::node::{Letter, Node};
 use c8_disk::MemDisk;
 use c8_game::{Game, Player};
-use c8_peer::Kind;
 use std::alloc::{AllocError, Global};
 use std::test::Fail;
 
-const ALL: [Player; 4] = [ONE, TWO, THREE, FOUR];
+const ALL: [u8; 4] = [ONE, TWO, THREE, FOUR];
 
 /// The nodes of all players, player 1 first, and what was said to be heard later.
 #[derive(Drop)]
@@ -78,14 +77,14 @@ impl<'g> Table<'g> {
     }
 
     /// What a deed answers.
-    pub fn does(&mut self, at: Player, deed: Deed) -> Answer {
+    pub fn does(&mut self, at: u8, deed: Deed) -> Answer {
         match deed {
             Deed::Meet => self.meet(),
             Deed::Open => self.open(at, false),
             Deed::OpenOther => self.open(at, true),
             Deed::Disk(capacity, calls) => self.put(at, capacity, calls),
-            Deed::Say(to, kind) => self.say(at, to, kind),
-            Deed::Tell(to, kind) => self.tell(at, to, kind),
+            Deed::Say(to, what) => self.say(at, to, what),
+            Deed::Tell(to, what) => self.tell(at, to, what),
             Deed::Link(to) => self.link(at, to),
             Deed::Hear(number) => self.hear(at, number, 0, &[]),
             Deed::HearWith(number, place, bytes) => self.hear(at, number, place, bytes),
@@ -98,15 +97,15 @@ impl<'g> Table<'g> {
     }
 
     /// What a player's peer shows of its journal; none where no peer is held.
-    pub fn told(&mut self, at: Player) -> Option<Told> {
+    pub fn told(&mut self, at: u8) -> Option<Told> {
         match self.node(at) {
             Some(node) => node.told(),
             None => None,
         }
     }
 
-    fn node(&mut self, at: Player) -> Option<&mut Node<'g>> {
-        self.nodes.get_mut(at.place())
+    fn node(&mut self, at: u8) -> Option<&mut Node<'g>> {
+        self.nodes.get_mut(usize::from(at.saturating_sub(1)))
     }
 
     /// Who is not a player of the game is refused, and stays away.
@@ -121,13 +120,13 @@ impl<'g> Table<'g> {
         Answer::Done
     }
 
-    fn link_to_all(&mut self, one: Player) {
+    fn link_to_all(&mut self, one: u8) {
         for other in &ALL {
             self.link(one, *other);
         }
     }
 
-    fn put(&mut self, at: Player, capacity: u32, calls: u32) -> Answer {
+    fn put(&mut self, at: u8, capacity: u32, calls: u32) -> Answer {
         let Ok(disk) = MemDisk::new(self.alloc, capacity, calls) else {
             return Answer::Impossible;
         };
@@ -141,24 +140,24 @@ impl<'g> Table<'g> {
     }
 
     /// Opens a player's peer in the table's game or in the other one.
-    fn open(&mut self, at: Player, in_other: bool) -> Answer {
+    fn open(&mut self, at: u8, in_other: bool) -> Answer {
         let (alloc, game) = (self.alloc, if in_other { self.other } else { self.game });
-        match self.node(at) {
-            Some(node) => node.open(alloc, game, at, ROOM),
-            None => Answer::Impossible,
+        match (self.node(at), Player::new(at)) {
+            (Some(node), Some(me)) => node.open(alloc, game, me, ROOM),
+            _ => Answer::Impossible,
         }
     }
 
     /// What a player says to another.
-    fn letter(&mut self, from: Player, to: Player, kind: Kind) -> Result<Letter, Answer> {
+    fn letter(&mut self, from: u8, to: u8, what: What) -> Result<Letter, Answer> {
         match self.node(from) {
-            Some(node) => node.say(to, kind),
+            Some(node) => node.say(to, what),
             None => Err(Answer::Impossible),
         }
     }
 
-    fn say(&mut self, from: Player, to: Player, kind: Kind) -> Answer {
-        match self.letter(from, to, kind) {
+    fn say(&mut self, from: u8, to: u8, what: What) -> Answer {
+        match self.letter(from, to, what) {
             Ok(letter) => {
                 let size = letter.bytes().len();
                 match self.letters.push(letter) {
@@ -170,19 +169,19 @@ impl<'g> Table<'g> {
         }
     }
 
-    fn tell(&mut self, from: Player, to: Player, kind: Kind) -> Answer {
-        match self.letter(from, to, kind) {
+    fn tell(&mut self, from: u8, to: u8, what: What) -> Answer {
+        match self.letter(from, to, what) {
             Ok(letter) => self.give(to, &letter),
             Err(answer) => answer,
         }
     }
 
-    fn link(&mut self, one: Player, other: Player) -> Answer {
-        self.tell(one, other, Kind::Hello);
-        self.tell(other, one, Kind::Welcome)
+    fn link(&mut self, one: u8, other: u8) -> Answer {
+        self.tell(one, other, What::Hello);
+        self.tell(other, one, What::Welcome)
     }
 
-    fn give(&mut self, to: Player, letter: &Letter) -> Answer {
+    fn give(&mut self, to: u8, letter: &Letter) -> Answer {
         match self.node(to) {
             Some(node) => node.hear(letter.bytes()),
             None => Answer::Impossible,
@@ -190,7 +189,7 @@ impl<'g> Table<'g> {
     }
 
     /// Hears what was said, with these bytes at a place.
-    fn hear(&mut self, to: Player, number: usize, place: usize, bytes: &[u8]) -> Answer {
+    fn hear(&mut self, to: u8, number: usize, place: usize, bytes: &[u8]) -> Answer {
         match self.letters.get(number).copied() {
             Some(letter) => self.give(to, &letter.with(place, bytes)),
             None => Answer::Impossible,

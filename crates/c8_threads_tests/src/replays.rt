@@ -134,7 +134,7 @@ const THREE: Player = Player { number: 3 };
 
 const FOUR: Player = Player { number: 4 };
 
-static ACTS: [Act; 11] = [
+const ACTS: [Act; 11] = [
     Act::Open(FOUR),
     Act::Tick(TWO, Keys(0x0a1f)),
     Act::Say(ONE, THREE, Kind::Hello),
@@ -147,10 +147,6 @@ static ACTS: [Act; 11] = [
     Act::Leave(TWO),
     Act::Decide(THREE),
 ];
-
-fn acts() -> &'static [Act] {
-    &ACTS
-}
 
 const LINES: &str = "open 4
 tick 2 0a1f
@@ -166,7 +162,7 @@ decide 3
 ";
 
 fn write_acts(out: &mut Vec<u8>) -> io::Result<()> {
-    for act in acts() {
+    for act in &ACTS {
         write_act(out, *act)?;
     }
     Ok(())

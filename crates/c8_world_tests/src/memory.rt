@@ -90,10 +90,6 @@ const ENDS: [Tally; 2] = [
     Tally { now: 2, confirmed: 0, held: [0, 2, 0, 0] },
 ];
 
-fn events() -> &'static [Event] {
-    &EVENTS
-}
-
 fn wanted() -> &'static [Answer] {
     &ANSWERS
 }
@@ -105,7 +101,7 @@ fn are_wanted(answers: &[Answer], from: usize) -> bool {
 
 /// How many events happened before memory was refused, each with its answer: all of them if it was not. None after another answer.
 fn run_all(alloc: Global, world: &mut World<'_>) -> Option<usize> {
-    let answers = match world.run(alloc, events()) {
+    let answers = match world.run(alloc, &EVENTS) {
         Ok(report) => report.answers,
         Err(RunError::Memory(report)) => report.answers,
     };
@@ -119,7 +115,7 @@ fn run_all(alloc: Global, world: &mut World<'_>) -> Option<usize> {
 /// Whether the events from a place on get their answers, and both players then stand where all events bring them: those before have
 /// happened, once, and the one at that place has left nothing.
 fn goes_on(alloc: Global, world: &mut World<'_>, from: usize) -> bool {
-    let Some(rest) = events().get(from..) else {
+    let Some(rest) = EVENTS.get(from..) else {
         return false;
     };
     match answers_to(alloc, world, rest) {
@@ -141,7 +137,7 @@ fn memory_is_refused_inside_a_run(rt: HostRuntime) -> Result<(), Fail> {
         return Err(Fail::new("another answer"));
     };
     assert!(rt; goes_on(alloc, &mut world, happened));
-    if happened < events().len() {
+    if happened < EVENTS.len() {
         return Err(Fail::new(STANDS));
     }
     Ok(())

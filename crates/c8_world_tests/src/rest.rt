@@ -12,10 +12,6 @@ const KEYS: [u16; 6] = [0x0011, 0x0122, 0x1024, 0x0220, 0x2002, 0x0131];
 /// All players that a match can have.
 const PLAYERS: [Player; 4] = [ONE, TWO, Player { number: 3 }, Player { number: 4 }];
 
-fn players() -> &'static [Player] {
-    &PLAYERS
-}
-
 /// Does something, whatever the answer is.
 fn does(alloc: Global, world: &mut World<'_>, act: Act) {
     let _answer = answer_to(alloc, world, Event::Do(act));
@@ -32,8 +28,8 @@ fn tell(alloc: Global, world: &mut World<'_>, from: Player, to: Player, kind: Ki
 
 /// Each player says it to each other one.
 fn all_tell(alloc: Global, world: &mut World<'_>, kind: Kind) {
-    for from in players() {
-        for to in players() {
+    for from in &PLAYERS {
+        for to in &PLAYERS {
             tell(alloc, world, *from, *to, kind);
         }
     }
@@ -41,12 +37,12 @@ fn all_tell(alloc: Global, world: &mut World<'_>, kind: Kind) {
 
 /// Ends the drop round of a leaver, if it has begun.
 fn end_round(alloc: Global, world: &mut World<'_>, leaver: Player) {
-    for player in players() {
+    for player in &PLAYERS {
         tell(alloc, world, ONE, *player, Kind::Freeze(leaver));
         tell(alloc, world, *player, ONE, Kind::Frozen(leaver));
     }
     does(alloc, world, Act::Decide(leaver));
-    for player in players() {
+    for player in &PLAYERS {
         tell(alloc, world, ONE, *player, Kind::Cut(leaver));
     }
 }
@@ -54,7 +50,7 @@ fn end_round(alloc: Global, world: &mut World<'_>, leaver: Player) {
 /// Each player enters the key sets that it has not entered yet.
 fn enter(alloc: Global, world: &mut World<'_>) {
     for (turn, keys) in KEYS.iter().enumerate() {
-        for player in players() {
+        for player in &PLAYERS {
             if ticks(world, *player) == Some(turn) {
                 does(alloc, world, Act::Tick(*player, Keys(*keys)));
             }
@@ -70,7 +66,7 @@ fn ticks(world: &World<'_>, player: Player) -> Option<usize> {
 
 /// The rest of a match in which one player may have been dropped.
 pub(crate) fn go_on(alloc: Global, world: &mut World<'_>, leaver: Player) {
-    for player in players() {
+    for player in &PLAYERS {
         does(alloc, world, Act::Open(*player));
     }
     all_tell(alloc, world, Kind::Hello);
