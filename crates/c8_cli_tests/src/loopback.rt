@@ -148,44 +148,36 @@ fn carry<R: Net + Clock + Wait>(rt: &R, far: Far, is_over: &AtomicBool) {
     }
 }
 
-/// Whether both players and both watchers print the report of the whole game.
-fn print_one_report<R>(rt: &R) -> bool
-where
-    R: Files<File = File> + Net + Clock + Threads + Wait + Sync + AllocGlobal,
-{
-    let watchers = [Some(FIVE.carrier), Some(SIX.carrier)];
-    let (over_five, over_six) = (AtomicBool::new(false), AtomicBool::new(false));
-    let ((one, two), ((five, ()), (six, ()))) = join(
-        rt,
-        || join(
-            rt,
-            || played(rt, 1, ONE, TWO, watchers),
-            || played(rt, 2, TWO, ONE, [None, None]),
-        ),
-        || join(
-            rt,
-            || join(
-                rt,
-                || watched(rt, FIVE, &over_five),
-                || carry(rt, FIVE, &over_five),
-            ),
-            || join(
-                rt,
-                || watched(rt, SIX, &over_six),
-                || carry(rt, SIX, &over_six),
-            ),
-        ),
-    );
-    one.starts_with(b"frames 30\n")
-        && two.as_slice() == one.as_slice()
-        && five.as_slice() == one.as_slice()
-        && six.as_slice() == one.as_slice()
-}
-
 #[test]
 fn players_and_watchers_print_one_report(rt: HostRuntime) -> Result<(), Fail> {
     fs::write(&rt, GAME_FILE, GAME)?;
-    assert!(rt; print_one_report(&rt));
+    let watchers = [Some(FIVE.carrier), Some(SIX.carrier)];
+    let (over_five, over_six) = (AtomicBool::new(false), AtomicBool::new(false));
+    let ((one, two), ((five, ()), (six, ()))) = join(
+        &rt,
+        || join(
+            &rt,
+            || played(&rt, 1, ONE, TWO, watchers),
+            || played(&rt, 2, TWO, ONE, [None, None]),
+        ),
+        || join(
+            &rt,
+            || join(
+                &rt,
+                || watched(&rt, FIVE, &over_five),
+                || carry(&rt, FIVE, &over_five),
+            ),
+            || join(
+                &rt,
+                || watched(&rt, SIX, &over_six),
+                || carry(&rt, SIX, &over_six),
+            ),
+        ),
+    );
+    assert!(rt; one.starts_with(b"frames 30\n"));
+    assert!(rt; two.as_slice() == one.as_slice());
+    assert!(rt; five.as_slice() == one.as_slice());
+    assert!(rt; six.as_slice() == one.as_slice());
     fs::remove_file(&rt, GAME_FILE)?;
     fs::remove_file(&rt, ONE_JOURNAL)?;
     fs::remove_file(&rt, TWO_JOURNAL)?;
