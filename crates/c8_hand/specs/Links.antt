@@ -96,15 +96,29 @@ refusal_by_kind kinds.Seen = refusal_of_watching
 abbrev pub is_mine : LinksValue → HeadValue → Bool
 is_mine l head = (head.to == l.me && not (head.from == l.me)) && (nat_le 1 head.from && nat_le head.from l.players)
 
--- the refusal of a datagram with this header, None where it is admitted
+-- the refusal of a player's datagram with this header, None where it is admitted
 unfoldable pub refusal : LinksValue → HeadValue → Option HandError
 refusal l head =
     if not (head.session == l.session) then Some errors.Session
     else (if is_mine l head then refusal_by_kind head.kind (link_to l head.from) l.epoch head.sender_epoch head.addressee_epoch else Some errors.NotMine)
 
--- the refusal of a SEEN with this header, None where player one takes it: a watcher has no epoch and no link
+-- the refusal of a SEEN with this header, None where it is admitted: a watcher has no epoch and no link
 unfoldable pub refusal_of_seen : LinksValue → HeadValue → Option HandError
 refusal_of_seen l head = if not (head.session == l.session) then Some errors.Session else (if head.to == l.me then None else Some errors.NotMine)
+
+-- the refusal of any datagram of that kind with this header, None where it is admitted
+abbrev pub refusal_as : DatagramKind → LinksValue → HeadValue → Option HandError
+refusal_as kinds.Hello = refusal
+refusal_as kinds.Welcome = refusal
+refusal_as kinds.Data = refusal
+refusal_as kinds.Freeze = refusal
+refusal_as kinds.Frozen = refusal
+refusal_as kinds.Cut = refusal
+refusal_as kinds.Show = refusal
+refusal_as kinds.Seen = refusal_of_seen
+
+abbrev pub admission : LinksValue → HeadValue → Option HandError
+admission l head = refusal_as head.kind l head
 
 -- the link to the sender of an admitted datagram: a HELLO of a later epoch closes it, a WELCOME opens it
 abbrev pub link_after : DatagramKind → LinkValue → ℕ → LinkValue

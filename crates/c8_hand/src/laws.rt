@@ -3,14 +3,18 @@
 ghost use Rattle.std.specs.Prelude.{◌≡◌, ◌≢◌, ℕ, ◌≤◌, None, true, false};
 ghost use Rattle.c8_wire.specs.declared.kinds.DatagramKind.TheVariants as kinds;
 ghost use Rattle.c8_wire.specs.Packet.{HeadValue};
-ghost use Rattle.c8_hand.specs.Links.{LinksValue, link_to, refusal, link_after, heard, IsForMe, NamesBoth, OpensByWelcome};
+ghost use Rattle.c8_hand.specs.Links.{LinksValue, link_to, refusal, refusal_of_seen, admission, link_after, heard, IsForMe, NamesBoth, OpensByWelcome};
 
-/// What is admitted belongs to this match, and comes from another player of it. But for HELLO it
-/// names the own epoch, and but for HELLO and WELCOME it names the epoch that is known of its
-/// sender, to whom the link is open.
+/// An admitted datagram of a player belongs to this match. Only a SEEN is not a player's. Except for
+/// HELLO it names the own epoch; except for HELLO and WELCOME it also names the known epoch of its
+/// sender, and the link to that player is open.
 pub fn what_is_admitted()
+    ensures player { (l : LinksValue) (head : HeadValue) → head.kind ≢ kinds.Seen
+        → admission l head ≡ refusal l head }
+    ensures watcher { (l : LinksValue) (head : HeadValue) → head.kind ≡ kinds.Seen
+        → admission l head ≡ refusal_of_seen l head }
     ensures mine { (l : LinksValue) (head : HeadValue) → refusal l head ≡ None
-        → IsForMe l head }
+        → IsForMe l head × (head.kind ≢ kinds.Seen) }
     ensures welcome { (l : LinksValue) (head : HeadValue) → refusal l head ≡ None
         → head.kind ≡ kinds.Welcome → head.addressee_epoch ≡ l.epoch }
     ensures both { (l : LinksValue) (head : HeadValue) → refusal l head ≡ None
@@ -31,12 +35,12 @@ pub fn hearing_changes_one_link()
 
 /// Only a WELCOME opens a link: one that names both epochs, of the player to whom the link is.
 pub fn only_a_welcome_opens()
-    ensures { (l : LinksValue) (head : HeadValue) → refusal l head ≡ None
+    ensures { (l : LinksValue) (head : HeadValue) → admission l head ≡ None
         → OpensByWelcome l head (heard l head) }
 {}
 
 /// No known epoch falls.
 pub fn known_epochs_never_fall()
-    ensures { (l : LinksValue) (head : HeadValue) (player : ℕ) → refusal l head ≡ None
+    ensures { (l : LinksValue) (head : HeadValue) (player : ℕ) → admission l head ≡ None
         → (link_to l player).known ≤ (link_to (heard l head) player).known }
 {}

@@ -1,9 +1,10 @@
 //! The links of one player to the others.
 ghost use Rattle.std.specs.Prelude.{◌≡◌, ◌≢◌, ℕ, ◌≤◌, true, false, Some, None, MatchOption, MatchResult, OnOk};
+ghost use Rattle.c8_wire.specs.declared.kinds.DatagramKind.TheVariants as kinds;
 ghost use Rattle.c8_wire.specs.Lent.{packet_of};
 ghost use Rattle.c8_wire.specs.Seats.{are_seats};
 ghost use Rattle.c8_wire.specs.Saying.{head_value};
-ghost use Rattle.c8_hand.specs.Links.{no_links, link_to, open_epoch, with_link, is_mine, refusal, refusal_by_kind, refusal_of_seen, link_after, heard, IsForMe, OpensByWelcome, head_to};
+ghost use Rattle.c8_hand.specs.Links.{no_links, link_to, open_epoch, with_link, is_mine, refusal, refusal_by_kind, refusal_of_seen, admission, link_after, heard, IsForMe, OpensByWelcome, head_to};
 
 use crate::error::HandError;
 use crate::link::Link;
@@ -85,17 +86,34 @@ impl Links {
         if link.is_open { Some(link.known) } else { None }
     }
 
-    /// Judges a datagram and changes nothing: first `Session`, then `NotMine`, then the epochs. Its version
-    /// is not judged here: who takes it does that before.
+    /// Judges a datagram of any kind: first `Session`, then `NotMine`, then the epochs. A watcher has no
+    /// epoch and no link, so a SEEN is judged by its session and its addressee alone. Of the version
+    /// nothing is judged: the caller does that before.
     pub fn admit(&self, datagram: &Datagram<'_>) -> Result<(), HandError>
         ensures judged { MatchResult result
-            (λ _. refusal self.now (packet_of datagram.now).head ≡ None)
-            (λ error. refusal self.now (packet_of datagram.now).head ≡ Some error) }
-        ensures mine { OnOk result (IsForMe self.now (packet_of datagram.now).head) }
+            (λ _. admission self.now (packet_of datagram.now).head ≡ None)
+            (λ error. admission self.now (packet_of datagram.now).head ≡ Some error) }
+        ensures mine { OnOk result ((packet_of datagram.now).head.kind ≢ kinds.Seen
+            → IsForMe self.now (packet_of datagram.now).head) }
     {
-        match self.refusal(&datagram.header().head()) {
+        match self.refusal_as(&datagram.header().head()) {
             Some(error) => Err(error),
             None => Ok(()),
+        }
+    }
+
+    fn refusal_as(&self, head: &Head) -> Option<HandError>
+        ensures { result ≡ admission self.now (head_value head.now) }
+    {
+        match head.kind {
+            DatagramKind::Seen => self.refusal_of_seen(head),
+            DatagramKind::Hello
+            | DatagramKind::Welcome
+            | DatagramKind::Data
+            | DatagramKind::Freeze
+            | DatagramKind::Frozen
+            | DatagramKind::Cut
+            | DatagramKind::Show => self.refusal(head),
         }
     }
 
@@ -140,29 +158,25 @@ impl Links {
         }
     }
 
-    /// Judges a SEEN, by its header, and changes nothing: first `Session`, then `NotMine`, where it is not for
-    /// this player. A watcher has no epoch and no link.
     #[tactic(auto, unfolding(crate::specs::Links::refusal_of_seen))]
-    pub fn admit_seen(&self, head: &Head) -> Result<(), HandError>
-        ensures { MatchResult result
-            (λ _. refusal_of_seen self.now (head_value head.now) ≡ None)
-            (λ error. refusal_of_seen self.now (head_value head.now) ≡ Some error) }
+    fn refusal_of_seen(&self, head: &Head) -> Option<HandError>
+        ensures { result ≡ refusal_of_seen self.now (head_value head.now) }
     {
         let (session, to) = (head.session, head.to.number);
         if session != self.session {
-            return Err(HandError::Session);
+            return Some(HandError::Session);
         }
         if to != self.me.number {
-            return Err(HandError::NotMine);
+            return Some(HandError::NotMine);
         }
-        Ok(())
+        None
     }
 
-    /// Takes what an admitted datagram tells: a HELLO of a later epoch closes the link to its
+    /// Takes the epoch of an admitted datagram: a HELLO of a later epoch closes the link to its
     /// sender, a WELCOME opens it, and the sender's epoch is then known. Other kinds change
     /// nothing.
     pub fn hear(&mut self, datagram: &Datagram<'_>)
-        requires { refusal self.old (packet_of datagram.now).head ≡ None }
+        requires { admission self.old (packet_of datagram.now).head ≡ None }
         ensures heard { self.new ≡ heard self.old (packet_of datagram.now).head }
         ensures sender { let head = (packet_of datagram.now).head in
             link_to self.new head.from

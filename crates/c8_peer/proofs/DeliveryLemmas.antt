@@ -1,21 +1,26 @@
 -- A delivery that the links admit.
-use Rattle.std.proofs.Common.{◌≡◌, ℕ, ◌≤◌, ◌<◌, ◌+◌, ◌*◌, ◌++◌, [], ◌∷◌, length, Some, None, false, Ok, Err, refl, ap, subst, ◌∙◌, arith}
+use Rattle.std.proofs.Common.{◌≡◌, ◌≢◌, ℕ, Option, ◌≤◌, ◌<◌, ◌+◌, ◌*◌, ◌++◌, [], ◌∷◌, length, Some, None, false, Ok, Err, refl, sym, ap, subst, ◌∙◌, arith}
 use Rattle.std.specs.Prelude.{IsErrOf}
 use Rattle.c8_disk.specs.declared.disk.Disk.{Ghosts}
 use Rattle.c8_disk.specs.declared.error.DiskError.{DiskError}
 use Rattle.c8_disk.specs.declared.error.DiskError.TheVariants as errors
 use Rattle.c8_log.specs.Slots.{slot_length}
 use Rattle.c8_wire.specs.Packet.{Message, HeadValue, Hello, Welcome, Data, Freeze, Frozen, Cut, Show, Seen, Packet, IsPacket, kind_of}
-use Rattle.c8_hand.specs.Links.{LinksValue, refusal}
-use Rattle.c8_hand.specs.checked.LinkLaws.{admitted_players}
+use Rattle.c8_game.specs.Rules.{Rules}
+use Rattle.c8_hand.specs.declared.error.HandError.{HandError}
+use Rattle.c8_hand.specs.Links.{LinksValue, refusal, refusal_of_seen, admission}
+use Rattle.c8_hand.specs.checked.LinkLaws.{admitted_players, of_player, of_watcher}
 use Rattle.c8_known.specs.Journal.{Record}
 use Rattle.c8_known.specs.Known.{KnownValue, player_in, count_in, known_of}
 use Rattle.c8_known.specs.Growth.{IsStillKnown}
 use Rattle.c8_known.specs.checked.BeginsLaws.{begins_length}
 use Rattle.c8_record.specs.Allowed.{IsAllowed}
 use Rattle.c8_record.specs.checked.JournalLaws.{journal_more, journal_grows}
-use Rattle.c8_peer.specs.State.{Deliver, Outcome}
-use Rattle.c8_peer.specs.Hearing.{is_of_other_wire, hear_message, seen_in, hear_from_watcher}
+use Rattle.c8_refusals.specs.declared.error.Refused.TheVariants as refusals
+use Rattle.c8_wire.specs.declared.kinds.DatagramKind.TheVariants as kinds
+use Rattle.c8_peer.specs.Told.{Told}
+use Rattle.c8_peer.specs.State.{Memory, Deliver, Outcome}
+use Rattle.c8_peer.specs.Hearing.{refused, unless_hand, is_of_other_wire, hear_message, hear_seen, seen_in, hear_from, hear_from_watcher}
 use Rattle.c8_peer.specs.Steps.{outcome}
 use Rattle.c8_peer.specs.Lawful.{IsMemory}
 use Rattle.c8_peer.specs.Peer.{PeerValue, known_by, told_by, IsSound, HasAppendCause}
@@ -52,6 +57,47 @@ no_seen l head (Frozen f) kind none = refl
 no_seen l head (Cut c) kind none = refl
 no_seen l head (Show m) kind none = refl
 no_seen l head (Seen ack) kind none = absurd ((admitted_players l head none).1 kind)
+
+-- a packet acknowledges rows to player one where it is a SEEN, and nowhere else
+kind_seen : (message : Message) (ack : ℕ) → seen_in message ≡ Some ack → kind_of message ≡ kinds.Seen
+kind_seen Hello ack seen = absurd cc
+kind_seen (Welcome n) ack seen = absurd cc
+kind_seen (Data d) ack seen = absurd cc
+kind_seen (Freeze f) ack seen = absurd cc
+kind_seen (Frozen f) ack seen = absurd cc
+kind_seen (Cut c) ack seen = absurd cc
+kind_seen (Show m) ack seen = absurd cc
+kind_seen (Seen n) ack seen = refl
+
+kind_apart : (message : Message) → seen_in message ≡ None → kind_of message ≢ kinds.Seen
+kind_apart Hello none same = cc same
+kind_apart (Welcome n) none same = cc same
+kind_apart (Data d) none same = cc same
+kind_apart (Freeze f) none same = cc same
+kind_apart (Frozen f) none same = cc same
+kind_apart (Cut c) none same = cc same
+kind_apart (Show m) none same = cc same
+kind_apart (Seen n) none same = cc none
+
+by_player : (l : LinksValue) (p : Packet) → IsPacket p → seen_in p.message ≡ None → admission l p.head ≡ refusal l p.head
+by_player l p is none = of_player l p.head (λ seen. kind_apart p.message none (sym is.kind ∙ seen))
+
+by_watcher : (l : LinksValue) (p : Packet) (ack : ℕ) → IsPacket p → seen_in p.message ≡ Some ack → admission l p.head ≡ refusal_of_seen l p.head
+by_watcher l p ack is seen = of_watcher l p.head (is.kind ∙ kind_seen p.message ack seen)
+
+pub player_passes : (l : LinksValue) (p : Packet) → IsPacket p → seen_in p.message ≡ None → admission l p.head ≡ None → refusal l p.head ≡ None
+player_passes l p is none admitted = sym (by_player l p is none) ∙ admitted
+
+pub watcher_passes : (l : LinksValue) (p : Packet) (ack : ℕ) → IsPacket p → seen_in p.message ≡ Some ack → admission l p.head ≡ None → refusal_of_seen l p.head ≡ None
+watcher_passes l p ack is seen admitted = sym (by_watcher l p ack is seen) ∙ admitted
+
+-- what the links do not admit comes to their refusal
+pub hand_refuses : (rules : Rules) (t : Told) (k : KnownValue) (m : Memory) (p : Packet) (error : HandError) (seen : Option ℕ) → IsPacket p → seen_in p.message ≡ seen → admission m.links p.head ≡ Some error
+    → hear_from rules t k m p seen ≡ refused m (refusals.Hand error)
+hand_refuses rules t k m p error (Some ack) is seen no =
+    ap (λ (why : Option HandError). unless_hand m why (hear_seen k m p.head ack)) (sym (by_watcher m.links p ack is seen) ∙ no)
+hand_refuses rules t k m p error None is seen no =
+    ap (λ (why : Option HandError). unless_hand m why (hear_message rules t k m p.head p.message)) (sym (by_player m.links p is seen) ∙ no)
 
 pub heard_later : (verdict found : Verdict) → IsLater found → found ≡ verdict → IsLater verdict
 heard_later verdict found later same = subst IsLater same later

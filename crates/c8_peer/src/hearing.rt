@@ -3,7 +3,6 @@ ghost use Rattle.std.specs.Prelude.{◌≡◌, ℕ, ◌+◌, ◌≤◌, ◌<◌,
 ghost use Rattle.c8_game.specs.Rules.{Rules};
 ghost use Rattle.c8_wire.specs.Packet.{HeadValue};
 ghost use Rattle.c8_wire.specs.Packet as packets;
-ghost use Rattle.c8_wire.specs.Saying.{head_value};
 ghost use Rattle.c8_wire.specs.Lent.{words, ack_of, data_of, freeze_of, frozen_of, cut_of, packet_of};
 ghost use Rattle.c8_known.specs.Known.{Plays, player_in, count_in};
 ghost use Rattle.c8_known.specs.Confirmed.{confirmed};
@@ -13,13 +12,12 @@ ghost use Rattle.c8_window.specs.Window.{acked_more};
 ghost use Rattle.c8_round.specs.Round.{with_report, with_have};
 ghost use Rattle.c8_peer.specs.Told.{Told};
 ghost use Rattle.c8_peer.specs.State.{Memory, Outcome, with_seen};
-ghost use Rattle.c8_peer.specs.Hearing.{refused, taken, hear_from_watcher, unless_misfit, got, differs_from, hear_data, hear_welcome, hear_freeze, hear_frozen, hear_end, hear_cut, cut_or_got, hear_message, seen_in};
+ghost use Rattle.c8_peer.specs.Hearing.{refused, taken, hear_seen, unless_misfit, got, differs_from, hear_data, hear_welcome, hear_freeze, hear_frozen, hear_end, hear_cut, cut_or_got, hear_message, seen_in};
 ghost use Rattle.c8_peer.specs.Steps.{Works};
 ghost use Rattle.c8_peer.specs.Peer.{luck_of_refusal};
 ghost use Rattle.c8_peer.specs.checked.Verdicts.{AcksWithin, IsLater, by_verdict, Judges, memory_after};
 
 use crate::heard::Heard;
-use crate::memory::Memory;
 use crate::verdict::Verdict;
 use c8_digest::{MARK_LENGTH, Marks};
 use c8_game::Player;
@@ -27,7 +25,7 @@ use c8_hand::HandError;
 use c8_known::{Known, KnownError};
 use c8_record::Record;
 use c8_refusals::Refused;
-use c8_wire::{Cut, Data, Datagram, Freeze, Frozen, Head, Run, Welcome};
+use c8_wire::{Cut, Data, Datagram, Freeze, Frozen, Run, Welcome};
 
 /// What a datagram of player q comes to.
 pub(crate) fn judge<'a>(
@@ -71,27 +69,16 @@ pub(crate) fn rows_seen(datagram: &Datagram<'_>) -> Option<u32>
     }
 }
 
-/// A watcher tells player one how many rows it has.
+/// Judges how many rows an admitted SEEN acknowledges: no more than are confirmed.
 #[tactic(auto, unfolding(crate::specs::Hearing::hear_seen))]
-pub(crate) fn judge_seen(
-    known: &Known,
-    memory: &Memory,
-    head: &Head,
-    rows: u32,
-) -> Result<(), Refused>
-    ensures judged { MatchResult result
-        (λ _. hear_from_watcher known.now memory.now (head_value head.now) rows
-        ≡ taken (record memory.now {
-          seen = with_seen memory.now.seen head.now.from.number rows;
-        }) Heard.Nothing)
-        (λ error. hear_from_watcher known.now memory.now (head_value head.now) rows
-        ≡ refused memory.now error) }
+pub(crate) fn judge_seen(known: &Known, rows: u32) -> Result<(), Refused>
+    ensures judged { (m : Memory) (head : HeadValue) → MatchResult result
+        (λ _. hear_seen known.now m head rows
+        ≡ taken (record m { seen = with_seen m.seen head.from rows }) Heard.Nothing)
+        (λ error. hear_seen known.now m head rows ≡ refused m error) }
     ensures plain { IfErr result (λ error. luck_of_refusal error ≡ Works) }
     ensures within { OnOk result (rows ≤ confirmed known.now) }
 {
-    if let Err(error) = memory.links.admit_seen(head) {
-        return Err(Refused::Hand(error));
-    }
     if rows > known.confirmed() {
         return Err(Refused::BadAck);
     }

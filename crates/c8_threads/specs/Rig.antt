@@ -1,5 +1,5 @@
 -- What `rig` comes to by the text of a game.
-use Rattle.std.specs.Prelude.{◌≡◌, ◌⊎◌, ℕ, List, Option, Some, None, Bool, Result, Ok, Err}
+use Rattle.std.specs.Prelude.{◌≡◌, ◌⊎◌, ℕ, List, Option, Some, None, Bool, true, Result, Ok, Err}
 use Rattle.c8_command.specs.Status.{status_of_outcome}
 use Rattle.c8_command.specs.declared.status.Status.{Status}
 use Rattle.c8_game.specs.GameFaults.{IsRefused}
@@ -29,14 +29,15 @@ pub record IsVerdict (text : List ℕ) (turns : ℕ) (verdict : Option Bool) : T
   pub rigged : IsRigged rules turns gathering
   pub verdict_is : verdict ≡ verdict_on gathering
 
--- Of a text that spells a game: the verdict on a match, or that there is no memory, or that the script cannot be written. Else the
--- text's first fault, or want of memory.
-abbrev pub IsOutcome : List ℕ → ℕ → Result (Option Bool) RigError → Type 0
-IsOutcome text turns (Ok verdict) = IsVerdict text turns verdict
-IsOutcome text turns (Err (Game error)) = (error ≡ games.Memory) ⊎ IsRefused text error
-IsOutcome text turns (Err Memory) = IsGame text
-IsOutcome text turns (Err Script) = IsGame text
+-- Of a text that spells a game: the verdict on a match, or that there is no memory, or, only where a script was asked for, that it
+-- cannot be written. Of another text: its first fault, or want of memory.
+abbrev pub IsOutcome : List ℕ → ℕ → Bool → Result (Option Bool) RigError → Type 0
+IsOutcome text turns has_script (Ok verdict) = IsVerdict text turns verdict
+IsOutcome text turns has_script (Err (Game error)) = (error ≡ games.Memory) ⊎ IsRefused text error
+IsOutcome text turns has_script (Err Memory) = IsGame text
+IsOutcome text turns has_script (Err Script) = IsGame text × (has_script ≡ true)
 
 -- it ends by such an outcome
-abbrev pub HasEnded : List ℕ → ℕ → Status → Type 0
-HasEnded text turns status = (outcome : Result (Option Bool) RigError) × IsOutcome text turns outcome × (status ≡ status_of_outcome rig_part outcome)
+abbrev pub HasEnded : List ℕ → ℕ → Bool → Status → Type 0
+HasEnded text turns has_script status =
+    (outcome : Result (Option Bool) RigError) × IsOutcome text turns has_script outcome × (status ≡ status_of_outcome rig_part outcome)

@@ -1,6 +1,6 @@
 //! `c8play rig`: all players of a game, each in a thread of its own.
 
-ghost use Rattle.std.specs.Prelude.{◌≡◌, ℕ, List, IfOk, OnOk, IfErr, true, Some, Err};
+ghost use Rattle.std.specs.Prelude.{◌≡◌, ◌≢◌, ℕ, List, IfOk, OnOk, IfErr, true, is_some, Some, Err};
 ghost use Rattle.std.specs.Io.KnownBytes.{Appends};
 ghost use Rattle.c8_command.specs.Status.{status_of};
 ghost use Rattle.c8_command.specs.declared.status.Status.TheVariants as statuses;
@@ -100,9 +100,12 @@ where
     S: Write,
     W: Write,
     E: Write + Send,
-    ensures ended { IfOk result (λ status. HasEnded game.entry.bytes.now asked.now.turns status) }
+    ensures ended { IfOk result (λ status.
+        HasEnded game.entry.bytes.now asked.now.turns (is_some script.entry) status) }
     ensures yes { IfOk result (λ status. status ≡ statuses.Done
         → Appends (W.contents out.old) (W.contents out.new) (verdict_text (Some true))) }
+    ensures quiet { IfOk result (λ status. status ≢ statuses.Done
+        → W.contents out.new ≡ W.contents out.old) }
 {
     let text = game;
     match played(rt, asked, text, script, refused) {
@@ -126,7 +129,7 @@ where
     R: Clock + Threads + Wait + Sync + AllocGlobal,
     S: Write,
     E: Write + Send,
-    ensures outcome { IsOutcome text.entry.bytes.now asked.now.turns result }
+    ensures outcome { IsOutcome text.entry.bytes.now asked.now.turns (is_some script.entry) result }
     ensures yes { IfOk result (λ verdict. verdict ≡ Some true) }
 {
     let game = Game::read(rt.alloc(), text.bytes).map_err(RigError::Game)?;
@@ -149,7 +152,7 @@ where
 /// Writes a log as a script.
 fn write_to<S: Write>(alloc: Global, script: &mut S, log: &[Note]) -> Result<(), RigError>
     ensures { IfErr result (λ error. (text : List ℕ) (turns : ℕ) → IsGame text
-        → IsOutcome text turns (Err error)) }
+        → IsOutcome text turns true (Err error)) }
 {
     let mut text = Vec::new(alloc);
     if write_script(&mut text, log).is_err() {

@@ -7,7 +7,7 @@ use Rattle.c8_wire.specs.declared.kinds.DatagramKind.{DatagramKind}
 use Rattle.c8_wire.specs.declared.kinds.DatagramKind.TheVariants as kinds
 use Rattle.c8_wire.specs.Packet.{HeadValue}
 use Rattle.c8_hand.specs.declared.error.HandError.TheVariants as errors
-use Rattle.c8_hand.specs.Links.{LinkValue, LinksValue, no_link, link_to, with_link, is_mine, refusal, refusal_of_seen, refusal_by_kind, refusal_of_welcome, refusal_of_others, link_after, heard, IsForMe, NamesBoth, IsWelcomeOf, OpensByWelcome}
+use Rattle.c8_hand.specs.Links.{LinkValue, LinksValue, no_link, link_to, with_link, is_mine, refusal, refusal_of_seen, refusal_as, admission, refusal_by_kind, refusal_of_welcome, refusal_of_others, link_after, heard, IsForMe, NamesBoth, IsWelcomeOf, OpensByWelcome}
 
 -- ---- one link is changed
 
@@ -18,6 +18,14 @@ link_with l (suc (suc zero)) link from to = refl
 link_with l (suc (suc (suc zero))) link from to = refl
 link_with l (suc (suc (suc (suc zero)))) link from to = refl
 link_with l (suc (suc (suc (suc (suc n))))) link from to = absurd (omega arith)
+
+own_link : (l : LinksValue) (from player : ℕ) → from ≤ 4 → player ≡ from → link_to (with_link l from (link_to l from)) player ≡ link_to l player
+own_link l zero player to same = rw (same) refl
+own_link l (suc zero) player to same = rw (same) refl
+own_link l (suc (suc zero)) player to same = rw (same) refl
+own_link l (suc (suc (suc zero))) player to same = rw (same) refl
+own_link l (suc (suc (suc (suc zero)))) player to same = rw (same) refl
+own_link l (suc (suc (suc (suc (suc n))))) player to same = absurd (omega arith)
 
 -- there is no link to a fifth player
 pub link_past : (l : LinksValue) (player : ℕ) → 4 < player → link_to l player ≡ no_link
@@ -109,7 +117,7 @@ linked_by_kind kinds.Cut link own theirs mine none hello welcome = linked link o
 linked_by_kind kinds.Show link own theirs mine none hello welcome = absurd cc
 linked_by_kind kinds.Seen link own theirs mine none hello welcome = absurd cc
 
--- SHOW and SEEN are never admitted as a player's
+-- no SHOW and no SEEN passes for a player's
 among_players : (kind : DatagramKind) (link : LinkValue) (own theirs mine : ℕ) → refusal_by_kind kind link own theirs mine ≡ None → (kind ≢ kinds.Show) × (kind ≢ kinds.Seen)
 among_players kind link own theirs mine none =
     (λ is. let never = ap (λ (k : DatagramKind). refusal_by_kind k link own theirs mine) (sym is) ∙ none in absurd cc, λ is. let never = ap (λ (k : DatagramKind). refusal_by_kind k link own theirs mine) (sym is) ∙ none in absurd cc)
@@ -134,12 +142,63 @@ names_both l head none hello welcome =
 pub comes_by_link : (l : LinksValue) (head : HeadValue) → refusal l head ≡ None → head.kind ≢ kinds.Hello → head.kind ≢ kinds.Welcome → (link_to l head.from).is_open ≡ true
 comes_by_link l head none hello welcome = (admitted_linked l head none hello welcome).is_open
 
+-- how each kind is judged
+as_player : (kind : DatagramKind) (l : LinksValue) (head : HeadValue) → kind ≢ kinds.Seen → refusal_as kind l head ≡ refusal l head
+as_player kinds.Hello l head other = refl
+as_player kinds.Welcome l head other = refl
+as_player kinds.Data l head other = refl
+as_player kinds.Freeze l head other = refl
+as_player kinds.Frozen l head other = refl
+as_player kinds.Cut l head other = refl
+as_player kinds.Show l head other = refl
+as_player kinds.Seen l head other = absurd (other refl)
+
+pub of_player : (l : LinksValue) (head : HeadValue) → head.kind ≢ kinds.Seen → admission l head ≡ refusal l head
+of_player l head other = as_player head.kind l head other
+
+pub of_watcher : (l : LinksValue) (head : HeadValue) → head.kind ≡ kinds.Seen → admission l head ≡ refusal_of_seen l head
+of_watcher l head seen = ap (λ (kind : DatagramKind). refusal_as kind l head) seen
+
+-- what passes for a player's is admitted
+pub player_admitted : (l : LinksValue) (head : HeadValue) → refusal l head ≡ None → admission l head ≡ None
+player_admitted l head none = of_player l head (admitted_players l head none).1 ∙ none
+
+-- what is admitted is a SEEN, or passes for a player's
+by_kinds : (kind : DatagramKind) (l : LinksValue) (head : HeadValue) → refusal_as kind l head ≡ None → (kind ≡ kinds.Seen) ⊎ (refusal l head ≡ None)
+by_kinds kinds.Hello l head none = inr none
+by_kinds kinds.Welcome l head none = inr none
+by_kinds kinds.Data l head none = inr none
+by_kinds kinds.Freeze l head none = inr none
+by_kinds kinds.Frozen l head none = inr none
+by_kinds kinds.Cut l head none = inr none
+by_kinds kinds.Show l head none = inr none
+by_kinds kinds.Seen l head none = inl refl
+
+pub seen_or_player : (l : LinksValue) (head : HeadValue) → admission l head ≡ None → (head.kind ≡ kinds.Seen) ⊎ (refusal l head ≡ None)
+seen_or_player l head none = by_kinds head.kind l head none
+
 -- a SEEN that is admitted is for this player
 pub admitted_seen : (l : LinksValue) (head : HeadValue) → refusal_of_seen l head ≡ None → head.to ≡ l.me
 unfolding refusal_of_seen
 admitted_seen l head none =
     let past = none_past (not (head.session == l.session)) errors.Session _ none in
     eqb-true head.to l.me (none_within (head.to == l.me) errors.NotMine None past.1).0
+
+-- a SEEN changes no link
+with_own : (l : LinksValue) (from player : ℕ) → link_to (with_link l from (link_to l from)) player ≡ link_to l player
+with_own l from player =
+    elim (cases_eq player from) [
+      | inl same ↦ elim (cases_lt 4 from) [
+        | inl past ↦ link_past (with_link l from (link_to l from)) player (omega arith) ∙ sym (link_past l player (omega arith))
+        | inr to ↦ own_link l from player to same
+      ]
+      | inr other ↦ link_other l from (link_to l from) player other
+    ]
+
+pub seen_changes_none : (l : LinksValue) (head : HeadValue) (player : ℕ) → head.kind ≡ kinds.Seen → link_to (heard l head) player ≡ link_to l player
+seen_changes_none l head player seen =
+    ap (λ (kind : DatagramKind). link_to (with_link l head.from (link_after kind (link_to l head.from) head.sender_epoch)) player) seen
+    ∙ with_own l head.from player
 
 -- ---- only a WELCOME opens a link
 
@@ -184,8 +243,8 @@ sender_opens l head none from to was =
       })
     ]
 
-pub opens_by_welcome : (l : LinksValue) (head : HeadValue) → refusal l head ≡ None → OpensByWelcome l head (heard l head)
-opens_by_welcome l head none player was =
+player_opens : (l : LinksValue) (head : HeadValue) → refusal l head ≡ None → OpensByWelcome l head (heard l head)
+player_opens l head none player was =
     elim (cases_eq player head.from) [
       | inl same ↦ elim (cases_lt 4 head.from) [
         | inl past ↦ inl (link_past (heard l head) player (omega arith) ∙ sym (link_past l player (omega arith)))
@@ -195,6 +254,13 @@ opens_by_welcome l head none player was =
             subst (λ (p : ℕ). (link_to (heard l head) p ≡ link_to l p) ⊎ IsWelcomeOf (heard l head) p head) (sym same) (sender_opens l head none from to here)
       ]
       | inr other ↦ inl (other_link l head player other)
+    ]
+
+pub opens_by_welcome : (l : LinksValue) (head : HeadValue) → admission l head ≡ None → OpensByWelcome l head (heard l head)
+opens_by_welcome l head none player was =
+    elim (seen_or_player l head none) [
+      | inl seen ↦ inl (seen_changes_none l head player seen)
+      | inr by_player ↦ player_opens l head by_player player was
     ]
 
 -- ---- no known epoch falls
@@ -213,8 +279,8 @@ not_below kinds.Cut link own theirs mine none = omega arith
 not_below kinds.Show link own theirs mine none = omega arith
 not_below kinds.Seen link own theirs mine none = omega arith
 
-pub known_rises : (l : LinksValue) (head : HeadValue) (player : ℕ) → refusal l head ≡ None → (link_to l player).known ≤ (link_to (heard l head) player).known
-known_rises l head player none =
+player_rises : (l : LinksValue) (head : HeadValue) (player : ℕ) → refusal l head ≡ None → (link_to l player).known ≤ (link_to (heard l head) player).known
+player_rises l head player none =
     elim (cases_eq player head.from) [
       | inl same ↦ elim (cases_lt 4 head.from) [
         | inl past ↦ omega (arith, ap (λ (link : LinkValue). link.known) (link_past (heard l head) player (omega arith)), ap (λ (link : LinkValue). link.known) (link_past l player (omega arith)))
@@ -224,4 +290,11 @@ known_rises l head player none =
             subst (λ (p : ℕ). (link_to l p).known ≤ (link_to (heard l head) p).known) (sym same) (omega (arith, new, rises))
       ]
       | inr other ↦ omega (arith, ap (λ (link : LinkValue). link.known) (other_link l head player other))
+    ]
+
+pub known_rises : (l : LinksValue) (head : HeadValue) (player : ℕ) → admission l head ≡ None → (link_to l player).known ≤ (link_to (heard l head) player).known
+known_rises l head player none =
+    elim (seen_or_player l head none) [
+      | inl seen ↦ omega (arith, ap (λ (link : LinkValue). link.known) (seen_changes_none l head player seen))
+      | inr by_player ↦ player_rises l head player by_player
     ]

@@ -3,7 +3,7 @@ ghost use Rattle.std.specs.Prelude.{◌≡◌, ◌≤◌, true, false, Some, Non
 ghost use Rattle.c8_wire.specs.Packet.{IsPacket};
 ghost use Rattle.c8_wire.specs.Lent.{packet_of};
 ghost use Rattle.c8_wire.specs.checked.Read.{read};
-ghost use Rattle.c8_hand.specs.Links.{refusal, IsForMe};
+ghost use Rattle.c8_hand.specs.Links.{refusal, refusal_of_seen, IsForMe};
 ghost use Rattle.c8_known.specs.Known.{Plays, player_in};
 ghost use Rattle.c8_known.specs.Confirmed.{confirmed};
 ghost use Rattle.c8_peer.specs.State.{Open, Deliver, Delivered, with_seen};
@@ -59,12 +59,12 @@ impl<'g, D: Disk> Peer<'g, D> {
         if self.is_of_other_wire(datagram) {
             return Err(Refused::OtherWire);
         }
+        if let Err(error) = self.memory.links.admit(datagram) {
+            return Err(Refused::Hand(error));
+        }
         match rows_seen(datagram) {
             Some(rows) => self.hear_seen(datagram, rows),
-            None => match self.memory.links.admit(datagram) {
-                Ok(()) => self.hear(datagram),
-                Err(error) => Err(Refused::Hand(error)),
-            },
+            None => self.hear(datagram),
         }
     }
 
@@ -171,16 +171,17 @@ impl<'g, D: Disk> Peer<'g, D> {
         requires packet { IsPacket (packet_of datagram.now) }
         requires wire { is_of_other_wire self.old.rules (packet_of datagram.now).head ≡ false }
         requires seen { seen_in (packet_of datagram.now).message ≡ Some rows }
+        requires admitted { refusal_of_seen self.old.state.memory.links
+            (packet_of datagram.now).head ≡ None }
         ensures { IsAnswered D.Disk self.old (Deliver (Ok (packet_of datagram.now)))
             (Delivered result) self.new }
     {
         // For the proof: what is so of every peer.
         let _down = self.is_down();
-        let head = datagram.header().head();
-        let Some(watcher) = head.from.watcher() else {
+        let Some(watcher) = datagram.header().from().watcher() else {
             unreachable!();
         };
-        match judge_seen(&self.known, &self.memory, &head, rows) {
+        match judge_seen(&self.known, rows) {
             Ok(()) => {
                 self.note_seen(watcher, rows);
                 Ok(Heard::Nothing)

@@ -1,8 +1,14 @@
-use Rattle.c8_hand.specs.checked.LinkLaws.{is_for_me, admitted_welcome, names_both, comes_by_link}
+use Rattle.c8_hand.specs.checked.LinkLaws.{is_for_me, admitted_players, of_player, of_watcher, admitted_welcome, names_both, comes_by_link}
 use Rattle.c8_hand.proofs.laws.what_is_admitted.Goals as goal
 
 pub returns-clause-mine : goal.returns-clause-mine
-returns-clause-mine c = is_for_me
+returns-clause-mine c = λ l head none. (is_for_me l head none, (admitted_players l head none).1)
+
+pub returns-clause-player : goal.returns-clause-player
+returns-clause-player c = of_player
+
+pub returns-clause-watcher : goal.returns-clause-watcher
+returns-clause-watcher c = of_watcher
 
 pub returns-clause-welcome : goal.returns-clause-welcome
 returns-clause-welcome c = admitted_welcome

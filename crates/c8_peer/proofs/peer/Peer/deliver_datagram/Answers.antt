@@ -1,6 +1,6 @@
 use Rattle.std.proofs.Common.{◌≡◌, ℕ, Ok, Err, Some, None, false, refl, sym, ap, ◌∙◌}
 use Rattle.c8_wire.specs.Lent.{packet_of}
-use Rattle.c8_hand.specs.Links.{refusal}
+use Rattle.c8_hand.specs.Links.{admission}
 use Rattle.c8_known.specs.Known.{player_in}
 use Rattle.c8_record.specs.Body.{records_of}
 use Rattle.c8_peer.specs.Told.{told_of}
@@ -11,6 +11,7 @@ use Rattle.c8_peer.specs.Steps.{outcome}
 use Rattle.c8_peer.specs.Hearing.{is_of_other_wire, seen_in}
 use Rattle.c8_peer.specs.Peer.{PeerValue, mode_of}
 use Rattle.c8_peer.proofs.AnswerLemmas.{answers, outcome_seen}
+use Rattle.c8_peer.proofs.DeliveryLemmas.{hand_refuses, player_passes, watcher_passes}
 use Rattle.c8_peer.proofs.peer.Peer.deliver_datagram.Goals as goal
 
 -- the links refuse it
@@ -23,16 +24,16 @@ returns-in-Err g c =
     let t = told_of c.self.inside.game.now k.me (records_of c.self.inside.journal.bodies) in
     -- the links were lent out of the peer: what was said of these parts is said of the peer's own
     let refused : (x : Inside g.row.D.Denot) → x ≡ c.self.inside → c.me.result.number ≡ x.known.me → c.leaving.result ≡ (player_in x.known c.me.result.number).leaving
-    → refusal x.memory.links head ≡ Some c.in-Err.error
+    → admission x.memory.links head ≡ Some c.in-Err.error
     → outcome c.self.inside.game.now t k m (Deliver (Ok packet)) ≡ answered m (Delivered (Err (refusals.Hand c.in-Err.error))) = λ x same own leaves judged.
     let mine : c.me.result.number ≡ k.me = own ∙ ap (λ (y : Inside g.row.D.Denot). y.known.me) same in
     let stays : (player_in k k.me).leaving ≡ false =
     ap (λ (q : ℕ). (player_in k q).leaving) (sym mine) ∙ sym (leaves ∙ ap (λ (y : Inside g.row.D.Denot). (player_in y.known c.me.result.number).leaving) same) ∙ c.if-leaving.false in
-    let no : refusal m.links head ≡ Some c.in-Err.error = ap (λ (y : Inside g.row.D.Denot). refusal y.memory.links head) (sym same) ∙ judged in
+    let no : admission m.links head ≡ Some c.in-Err.error = ap (λ (y : Inside g.row.D.Denot). admission y.memory.links head) (sym same) ∙ judged in
     let wire : is_of_other_wire c.self.inside.game.now head ≡ false =
     ap (λ (v : PeerValue g.row.D.Denot). is_of_other_wire v.rules head) c.self.view_is ∙ sym c.is_of_other_wire.ensures ∙ c.if-is_of_other_wire.false in
-    let player : seen_in packet.message ≡ None = sym c.rows_seen.ensures ∙ c.in-None.is in
-    rw (stays, wire, player, no) refl in
+    let comes = hand_refuses c.self.inside.game.now t k m packet c.in-Err.error (seen_in packet.message) c.requires refl no in
+    rw (stays, wire) comes in
     answers g.D.Disk c.args.self.now c.args.self.now.state.memory (Deliver (Ok packet)) (Delivered (Err (refusals.Hand c.in-Err.error))) c.is_down.ensures.sound
     (c.is_down.ensures.value ∙ ap mode_of c.if-is_down.false)
     (outcome_seen c.args.self.now c.self.inside.game.now c.self.inside.room c.self.inside.journal k m c.self.invariant.0 c.self.view_is (Deliver (Ok packet))
