@@ -94,10 +94,10 @@ watcher_passes l p ack is seen admitted = sym (by_watcher l p ack is seen) ∙ a
 -- what the links do not admit comes to their refusal
 pub hand_refuses : (rules : Rules) (t : Told) (k : KnownValue) (m : Memory) (p : Packet) (error : HandError) (seen : Option ℕ) → IsPacket p → seen_in p.message ≡ seen → admission m.links p.head ≡ Some error
     → hear_from rules t k m p seen ≡ refused m (refusals.Hand error)
-hand_refuses rules t k m p error (Some ack) is seen no =
-    ap (λ (why : Option HandError). unless_hand m why (hear_seen k m p.head ack)) (sym (by_watcher m.links p ack is seen) ∙ no)
-hand_refuses rules t k m p error None is seen no =
-    ap (λ (why : Option HandError). unless_hand m why (hear_message rules t k m p.head p.message)) (sym (by_player m.links p is seen) ∙ no)
+hand_refuses rules t k m p error (Some ack) is seen judged =
+    ap (λ (why : Option HandError). unless_hand m why (hear_seen k m p.head ack)) (sym (by_watcher m.links p ack is seen) ∙ judged)
+hand_refuses rules t k m p error None is seen judged =
+    ap (λ (why : Option HandError). unless_hand m why (hear_message rules t k m p.head p.message)) (sym (by_player m.links p is seen) ∙ judged)
 
 pub heard_later : (verdict found : Verdict) → IsLater found → found ≡ verdict → IsLater verdict
 heard_later verdict found later same = subst IsLater same later

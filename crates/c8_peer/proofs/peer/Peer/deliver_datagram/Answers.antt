@@ -1,6 +1,7 @@
 use Rattle.std.proofs.Common.{◌≡◌, ℕ, Ok, Err, Some, None, false, refl, sym, ap, ◌∙◌}
 use Rattle.c8_wire.specs.Lent.{packet_of}
-use Rattle.c8_hand.specs.Links.{admission}
+use Rattle.c8_hand.specs.Links.{LinksValue, admission}
+use Rattle.c8_hand.specs.checked.LinkLaws.{is_for_me}
 use Rattle.c8_known.specs.Known.{player_in}
 use Rattle.c8_record.specs.Body.{records_of}
 use Rattle.c8_peer.specs.Told.{told_of}
@@ -39,3 +40,34 @@ returns-in-Err g c =
     (outcome_seen c.args.self.now c.self.inside.game.now c.self.inside.room c.self.inside.journal k m c.self.invariant.0 c.self.view_is (Deliver (Ok packet))
     (λ (m : Memory). answered m (Delivered (Err (refusals.Hand c.in-Err.error))))
     (refused _ c.self-inside.view_is c.me.ensures.value c.leaving.ensures c.in-Err.ensures.judged)) refl
+
+-- what the links admit: a SEEN, or a player's datagram
+pub hear_seen-requires-clause-admitted : goal.hear_seen-requires-clause-admitted
+hear_seen-requires-clause-admitted g c =
+    let packet = packet_of c.args.datagram.now in
+    let links : LinksValue = c.args.self.now.state.memory.links in
+    let admitted : admission links packet.head ≡ None =
+    ap (λ (v : PeerValue g.row.D.Denot). admission v.state.memory.links packet.head) (sym c.self.view_is)
+    ∙ ap (λ (y : Inside g.row.D.Denot). admission y.memory.links packet.head) (sym c.self-inside.view_is)
+    ∙ c.in_default.ensures.judged in
+    watcher_passes links packet c.in-Some.rows c.requires (sym c.rows_seen.ensures ∙ c.in-Some.is) admitted
+
+pub hear-requires-clause-admitted : goal.hear-requires-clause-admitted
+hear-requires-clause-admitted g c =
+    let packet = packet_of c.args.datagram.now in
+    let links : LinksValue = c.args.self.now.state.memory.links in
+    let admitted : admission links packet.head ≡ None =
+    ap (λ (v : PeerValue g.row.D.Denot). admission v.state.memory.links packet.head) (sym c.self.view_is)
+    ∙ ap (λ (y : Inside g.row.D.Denot). admission y.memory.links packet.head) (sym c.self-inside.view_is)
+    ∙ c.in_default.ensures.judged in
+    player_passes links packet c.requires (sym c.rows_seen.ensures ∙ c.in-None.is) admitted
+
+pub hear-requires-clause-mine : goal.hear-requires-clause-mine
+hear-requires-clause-mine g c =
+    let packet = packet_of c.args.datagram.now in
+    let links : LinksValue = c.args.self.now.state.memory.links in
+    let admitted : admission links packet.head ≡ None =
+    ap (λ (v : PeerValue g.row.D.Denot). admission v.state.memory.links packet.head) (sym c.self.view_is)
+    ∙ ap (λ (y : Inside g.row.D.Denot). admission y.memory.links packet.head) (sym c.self-inside.view_is)
+    ∙ c.in_default.ensures.judged in
+    is_for_me links packet.head (player_passes links packet c.requires (sym c.rows_seen.ensures ∙ c.in-None.is) admitted)
