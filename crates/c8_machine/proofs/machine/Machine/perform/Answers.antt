@@ -1,4 +1,4 @@
--- Each instruction is done as its own method says, whatever the rules and the keys are.
+-- Each instruction is what its own method does, whatever the rules and the keys are.
 use Rattle.std.proofs.Common.{rules}
 use Rattle.c8_machine.proofs.machine.Machine.perform.Goals as goal
 
