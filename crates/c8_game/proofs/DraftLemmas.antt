@@ -29,7 +29,7 @@ numbers_more field items item = flat_map-append (number_in field) items (item �
 code_more : (items : List Item) (item : Item) → code_of (items ++ item ∷ []) ≡ code_of items ++ code_in item
 code_more items item = flat_map-append code_in items (item ∷ []) ∙ ap (λ more. code_of items ++ more) (append-nil (code_in item))
 
--- an item that is no number leaves the numbers
+-- an item that is not a number changes no numbers
 numbers_stay : (field : Field) (items : List Item) (item : Item) → number_in field item ≡ [] → numbers_for field (items ++ item ∷ []) ≡ numbers_for field items
 numbers_stay field items item none = numbers_more field items item ∙ ap (λ more. numbers_for field items ++ more) none ∙ append-nil (numbers_for field items)
 

@@ -35,9 +35,9 @@ enum Mode {
 ///
 /// Characters are mapped by their place on the left block of the keyboard to the keys of the keypad, and the arrows up,
 /// down, right and left to the keys 5, 8, 9 and 7. Most terminals report only key presses. A terminal with kitty's
-/// keyboard protocol also reports releases, once it is asked to. A terminal counts as exact after it answers that it
-/// reports event types, or after it names an event. Until then a key is reported as struck, since some terminals have
-/// only a part of the protocol.
+/// keyboard protocol also reports releases, once it is asked to. A terminal counts as exact once it answers that it
+/// reports event types, or names an event. Until then a key is reported as struck, since some terminals have only a
+/// part of the protocol.
 ///
 /// Unknown sequences are skipped. Any bytes are accepted, and no call takes memory.
 #[derive(Clone, Copy)]

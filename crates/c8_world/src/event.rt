@@ -41,7 +41,7 @@ pub enum Event {
     /// gives, any other as a seed. A watcher has no disk, and just acts.
     Stop(Act, u64, u64),
     /// The player's disk serves this many more calls, fails the next one, with no effect, and serves those after it.
-    /// The answer is the act's own. If the act does not make that many calls, nothing fails, then or later.
+    /// The answer is the act's own. If the act ends before that call, nothing fails, then or later.
     Fail(Act, u64),
 }
 

@@ -48,7 +48,7 @@ struct Counted {
     saved: u32,
     /// Matches in which some player confirmed more than 20 frames.
     far: u32,
-    /// Pairs of machines after more than 20 frames that were compared, one of which had begun at a checkpoint.
+    /// Compared pairs of machines after more than 20 frames, of peers with different last checkpoints.
     compared: u32,
     /// Peers that were asked for an alarm in a match in which nobody may be dropped.
     calm: u32,

@@ -132,7 +132,7 @@ fn all_played() -> &'static [Played] {
     &PLAYED
 }
 
-/// Returns what players 1 and 2 have after some ticks of player 1, of which nobody hears.
+/// Returns what players 1 and 2 have after some ticks of player 1, if no datagram is delivered.
 fn after(ticks: u32) -> [Tally; 2] {
     let held = ticks.saturating_add(2);
     [

@@ -1,4 +1,5 @@
--- Checked, not believed: how runs of a disk's calls join. Crates above may cite these, or call the laws in `src/laws.rt`.
+-- Checked, not believed: how runs of a disk's calls join. Crates above may cite these, or call the laws in
+-- `src/laws.rt`.
 use Rattle.std.proofs.Common.{inl, inr, ⊎_elim, ◌≤◌, ℕ, List, [], ◌∷◌, ◌++◌, subst, ◌∙◌, arith}
 use Rattle.c8_disk.specs.Disk.{DiskCall, Elapses}
 use Rattle.c8_disk.specs.Runs.{LeavesOnly, Leads, IsSameDisk, ReadsOnly}

@@ -95,6 +95,6 @@ returns-in-StoreRegisters c = rw c.in-StoreRegisters.is (c.store_registers.ensur
 pub returns-in-LoadRegisters : goal.returns-in-LoadRegisters
 returns-in-LoadRegisters c = rw c.in-LoadRegisters.is (c.load_registers.ensures c.args.game.now c.args.keys.0)
 
--- what is wrong here is refused at once
+-- with this answer a wrong body is refused at once
 pub returns-in-ReadTimer : goal.returns-in-ReadTimer
 returns-in-ReadTimer c = search rules
