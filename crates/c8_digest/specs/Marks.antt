@@ -3,7 +3,7 @@ use Rattle.std.specs.Prelude.{◌≡◌, ◌≢◌, ◌<◌, ℕ, ◌+◌, ◌-�
 use Rattle.std.specs.List.{slice_get, flat_map, list_all, range_with_len}
 use Rattle.c8_digest.specs.declared.marks.FrameMark.{FrameMark}
 
--- the frames from one mark to the next; the first mark is before the first frame
+-- the number of frames from one mark to the next; the first mark is before the first frame
 abbrev pub mark_step : ℕ
 mark_step = 32
 
@@ -39,7 +39,7 @@ marks_after frames = min most_marks (frames / mark_step + 1)
 abbrev pub forgotten_after : ℕ → ℕ
 forgotten_after frames = frames / mark_step + 1 - marks_after frames
 
--- the bytes of sixteen marks
+-- the size of sixteen marks in bytes
 abbrev pub marks_length : ℕ
 marks_length = 128
 

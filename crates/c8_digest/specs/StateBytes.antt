@@ -7,7 +7,7 @@ use Rattle.c8_screen.specs.Points.{Points, width, height}
 use Rattle.c8_machine.specs.declared.machine.Stop.{Stop}
 use Rattle.c8_machine.specs.State.{State, memory_size, stack_size, number_of}
 
--- the bytes of a state
+-- the size of a state in bytes
 abbrev pub state_length : ℕ
 state_length = 4419
 

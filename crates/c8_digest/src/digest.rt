@@ -12,10 +12,10 @@ use c8_machine::{MEMORY_SIZE, Machine, Stop};
 use c8_screen::{HEIGHT, Screen};
 use sha2::{Digest, Sha256};
 
-/// The bytes of a state.
+/// The size of a state in bytes.
 pub const STATE_LENGTH: usize = 4419;
 
-/// The bytes of a mark.
+/// The size of a mark in bytes.
 pub const MARK_LENGTH: usize = 8;
 
 /// Writes the state of a machine in bytes.

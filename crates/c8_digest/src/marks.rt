@@ -11,13 +11,13 @@ use std::alloc::{AllocError, Global};
 use std::fmt;
 use std::marker::Model;
 
-/// The frames from one mark to the next. The first mark is before the first frame.
+/// The number of frames from one mark to the next. The first mark is before the first frame.
 pub const MARK_STEP: u32 = 32;
 
 /// The most marks that are kept.
 const MOST_MARKS: usize = 16;
 
-/// The bytes of sixteen marks.
+/// The size of sixteen marks in bytes.
 pub const MARKS_LENGTH: usize = 128;
 
 /// A mark, and the number of frames after which the machine had it.

@@ -40,7 +40,7 @@ impl DiskError {
 /// Why a file was not opened as a disk. No byte of it was changed.
 #[derive(Clone, Copy, Debug, PartialEq, Eq, Hash, Error)]
 pub enum FileError {
-    /// A call of the system failed, or there is no file at the path that this process alone may read and write.
+    /// A call of the system failed, or the path is not a regular file that can be locked, read and written.
     #[error("the file cannot be used")]
     Failed,
     /// The file is longer than the capacity.

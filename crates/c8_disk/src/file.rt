@@ -21,9 +21,9 @@ pub use system::{OpenedFile, SystemFile};
 /// A disk in a file.
 ///
 /// The contents of the file are also kept in memory, and reads are served from there: the bytes at the opening, with
-/// all writes since. The file is locked, so no other process writes it. After a write or a sync failed, every call
-/// fails until the file is opened again. No call takes memory: the opening reserves the whole capacity as address
-/// space, and only as much becomes resident as the file is long.
+/// all writes since. The file is locked, so no other disk opens it. After a write or a sync failed, every call fails
+/// until the file is opened again. No call takes memory: the opening reserves the whole capacity as address space, and
+/// only as much becomes resident as the file is long.
 ///
 /// One premise is not proved: that a crash leaves in the file what the model of a disk says. So a device must not
 /// damage the other bytes of a sector in which one byte is written.

@@ -123,8 +123,8 @@ fn is_watcher(seat: u64) -> bool {
     seat == 5 || seat == 6
 }
 
-/// Returns whether sender and addressee are player 1 and a watcher in SHOW and SEEN, and else two different players; and
-/// whether the leaver can be dropped.
+/// Returns whether sender and addressee are player 1 and a watcher in SHOW and SEEN, and else two different players;
+/// and whether the leaver can be dropped.
 fn are_seats(bytes: &[u8]) -> bool {
     let (one, other, leaver) = (from(bytes), to(bytes), leaver(bytes));
     match kind(bytes) {

@@ -123,8 +123,8 @@ impl Known {
         &self.tables[player.place()].inputs[from as usize..to as usize]
     }
 
-    /// Returns whether the player is frozen: the journal has a FREEZE or a LEAVE of it, and no longer takes its inputs
-    /// from itself.
+    /// Returns whether the player is frozen: the journal has a FREEZE or a LEAVE of it. Then the player's own datagrams
+    /// no longer bring its inputs.
     pub fn frozen(&self, player: Player) -> bool
         requires { Plays self.now player.number }
         ensures { result ≡ is_frozen_in self.now player.number }

@@ -68,7 +68,7 @@ pub fn a_cut_is_a_run_and_an_end()
         ≡ with_record (with_record k (Got q start words)) (Cut q K later []) }
 {}
 
-/// The number of confirmed frames is the greatest number that counts as such, and no other number is.
+/// `confirmed` is the greatest number of frames in which all inputs are settled (`IsConfirmed`), and the only one.
 pub fn confirmed_is_greatest()
     ensures is { (k : KnownValue) → IsConfirmed k (confirmed k) }
     ensures only { (k : KnownValue) (n : ℕ) → IsConfirmed k n → n ≡ confirmed k }

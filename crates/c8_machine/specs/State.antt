@@ -6,7 +6,7 @@ use Rattle.c8_machine.specs.declared.machine.Machine.{Machine}
 use Rattle.c8_machine.specs.declared.machine.Stop.{Stop}
 use Rattle.c8_machine.specs.declared.machine.Stop.TheVariants.{UnknownInstruction, StackFull, StackEmpty}
 
--- the bytes of the memory; addresses are below it
+-- the size of the memory in bytes; addresses are below it
 abbrev pub memory_size : ℕ
 memory_size = 0x1000
 

@@ -17,7 +17,7 @@ mod steps;
 
 pub use parts::Parts;
 
-/// The bytes of a machine's memory. Every address is below it.
+/// The size of a machine's memory in bytes. Every address is below it.
 pub const MEMORY_SIZE: usize = 4096;
 
 /// The number of addresses; address arithmetic is modulo this number.

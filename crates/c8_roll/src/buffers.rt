@@ -9,8 +9,7 @@ use std::alloc::{AllocError, Global};
 use std::fmt;
 use std::marker::Model;
 
-/// All memory of a roll: for its marks, and for one snapshot more than its player may be frames ahead. Contracts see
-/// the number of snapshots that fit.
+/// All memory of a roll: for its marks, and for `window` + 1 snapshots. Contracts see the number of snapshots.
 #[derive(Drop)]
 pub struct Buffers {
     pub(crate) marks: Marks,

@@ -21,7 +21,7 @@ use std::alloc::{AllocError, Global};
 use std::fmt;
 use std::marker::Model;
 
-/// The bytes of a SEEN.
+/// The size of a SEEN in bytes.
 pub const SEEN_LENGTH: usize = 28;
 
 /// A watcher: the rows of a match from frame 0 on, and the machine after them. The memory for all rows of the game is

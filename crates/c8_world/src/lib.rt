@@ -1,9 +1,9 @@
 //! All peers of one match in one program, and the theorem that they agree.
 //!
 //! A [`World`] has each player's peer over a disk in memory, and every datagram that was sent. What happens to it is a
-//! list of [`Event`]s: acts of its players, and stops inside acts. `World::run` runs them. Its contract says that each
-//! is an event of the definitions (`specs/World.antt`) and that any two moments agree (`specs/Headline.antt`, by
-//! `specs/Agreement.antt`).
+//! list of [`Event`]s: acts of its players and watchers, and stops and failures inside acts. `World::run` runs them.
+//! Its contract says that each is an event of the definitions (`specs/World.antt`) and that any two moments agree
+//! (`specs/Headline.antt`, by `specs/Agreement.antt`).
 //!
 //! `specs/Nodes.antt` and `specs/Table.antt` relate a world of the definitions to real peers and disks,
 //! `specs/Run.antt` says what a run is, `specs/Turns.antt` what each event does to nodes and disks. `laws` has the

@@ -6,7 +6,7 @@ use c8_machine::Machine;
 use c8_roll::Roll;
 use std::alloc::{AllocError, Global};
 
-/// The frames from one mark to the next.
+/// The number of frames from one mark to the next.
 const STEP: u32 = 32;
 
 /// What a roll must show.
