@@ -1,4 +1,4 @@
--- Each step keeps the board's rule.
+-- Each step keeps the board's invariant.
 use Rattle.std.proofs.Common.{◌≡◌, ◌≢◌, ◌⊎◌, bit_or, ℕ, zero, suc, ◌+◌, List, [], ◌∷◌, ◌++◌, set, false, true≢false, refl, sym, ap, ◌∙◌, subst, inl, inr, ⊎_elim, append-nil, append_assoc}
 use Rattle.std.specs.Prelude.{slice_set, slice_index}
 use mathlib.Core.Option.{some, some-injective, some-ne-none}
@@ -21,11 +21,11 @@ begins_same rows = record { rest = []; is = sym (append-nil rows) }
 begins_more : (xs ys zs : List Row) → Begins xs ys → Begins ys zs → Begins xs zs
 begins_more xs ys zs a b = record { rest = a.rest ++ b.rest; is = b.is ∙ ap (λ (l : List Row). l ++ b.rest) a.is ∙ append_assoc xs a.rest b.rest }
 
--- a viewer fits when more is published
+-- a viewer still fits after more is published
 fits_more : (game : Rules) (from : StartValue) (old rows : List Row) (stop : ℕ) (w : Watch) → Begins old rows → FitsWatch game from old stop w → FitsWatch game from rows stop w
 fits_more game from old rows stop w later fits = record { game_is = fits.game_is; from_is = fits.from_is; begins = begins_more w.seen old rows fits.begins later; has_asked = fits.has_asked }
 
--- no other view than the pen's changes when it publishes
+-- no view but the pen's changes when it publishes
 others_fit : (game : Rules) (from : StartValue) (old rows : List Row) (stop seat : ℕ) (v : View) → Begins old rows → seat ≢ 0 → Fits game from old stop seat v → Fits game from rows stop seat v
 others_fit game from old rows stop seat (Blank g) later apart fits = absurd fits
 others_fit game from old rows stop seat (Alone g f r) later apart fits = absurd (apart fits.0)
@@ -69,7 +69,7 @@ or_one stop = ⊎_elim (λ e. ap (λ (n : ℕ). bit_or n 1) e) (λ e. ap (λ (n 
 unchanged : (ws : List ℕ) (a b : ℕ) → ws ≡ a ∷ b ∷ [] → slice_set ws 0 (slice_index ws 0) ≡ a ∷ b ∷ []
 unchanged ws a b is = ap (λ (l : List ℕ). slice_set l 0 (slice_index l 0)) is
 
--- whose view is not blank
+-- the view is not blank
 abbrev IsTold : View → Type 0
 IsTold (Blank game) = ⊥
 IsTold (Alone game from rows) = Unit
@@ -77,7 +77,7 @@ IsTold (Joined game from rows w) = Unit
 IsTold (Watching w) = Unit
 IsTold Spent = Unit
 
--- a board's only seat, while nothing is published
+-- the only seat of a board with nothing published
 only_blank : (game : Rules) (views : List View) (seat : ℕ) (v : View) → views ≡ Blank game ∷ [] → get_elem? views seat ≡ some v → (seat ≡ 0) × (Blank game ≡ v)
 only_blank game views zero v is at = (refl, some-injective _ _ (ap (λ (l : List View). get_elem? l 0) (sym is) ∙ at))
 only_blank game views (suc seat) v is at = absurd (some-ne-none v (sym at ∙ ap (λ (l : List View). get_elem? l (suc seat)) is))
@@ -86,11 +86,11 @@ word_is : (game g : Rules) (from f : StartValue) (rows : List Row) → g ≡ gam
 word_is game g from f rows same_game same_from = λ i. word (same_game i) (origin_from (same_from i)) rows
 
 module _ {S : Type 0} where
-  -- a seat that is not blank is one of a board on which something is published
+  -- a board with a seat that is not blank has something published
   shown : (s : State S View) (id : ℕ) (v : View) → Keeps s → get_elem? s.views id ≡ some v → IsTold v → Shows s
   shown s id v k at told = ⊎_elim (λ (b : IsBlank s). absurd (subst IsTold (sym (only_blank b.0 s.views id v b.3 at).1) told)) (λ (k : Shows s). k) k
 
-  -- a board begins blank
+  -- a board starts blank
   pub begins_blank : (game : Rules) (xs : List S) → Keeps (opening (0 ∷ 0 ∷ []) xs (Blank game))
   begins_blank game xs = inl (game, 0, refl, refl)
 
@@ -176,7 +176,7 @@ module _ {S : Type 0} where
         ),
       )
 
-  -- a new viewer is cut from the pen
+  -- a new viewer is split off the pen
   pub enlists : (id : ℕ) (game : Rules) (from : StartValue) (rows : List Row) → Splits {S = S} Keeps id (Alone game from rows) (Alone game from rows) (newcomer_of (Alone game from rows))
   enlists id game from rows s holds at =
       let k = shown s id (Alone game from rows) holds at tt in
@@ -195,7 +195,7 @@ module _ {S : Type 0} where
             (λ seat. new);
       })
 
-  -- the pen takes a viewer's view in
+  -- the pen takes a viewer's view
   pub joins : (id : ℕ) (game : Rules) (from : StartValue) (rows : List Row) (other : ℕ) (w : Watch) → Joins {S = S} Keeps id (Alone game from rows) other (Watching w) (Joined game from rows w) Spent
   joins id game from rows other w s holds at apart there =
       let k = shown s id (Alone game from rows) holds at tt in
@@ -216,7 +216,7 @@ module _ {S : Type 0} where
             tt;
       })
 
-  -- the joined pen looks
+  -- the pen with a viewer looks
   pub compares : (slots id : ℕ) (game : Rules) (from : StartValue) (rows : List Row) (w : Watch) → Allows {S = S} Keeps slots id (Joined game from rows w, []) 0 (λ n. n) (Compares (Joined game from rows w, []))
   compares slots id game from rows w s holds homes at room =
       let k = shown s id (Joined game from rows w) holds at tt in
@@ -244,7 +244,7 @@ module _ {S : Type 0} where
         ),
       )
 
-  -- the viewer that was joined is cut from the pen again
+  -- the viewer is split off the pen again
   pub parts : (id : ℕ) (game : Rules) (from : StartValue) (rows : List Row) (w : Watch) → Splits {S = S} Keeps id (Joined game from rows w) (Alone game from rows) (viewer_of (Joined game from rows w))
   parts id game from rows w s holds at =
       let k = shown s id (Joined game from rows w) holds at tt in
@@ -263,7 +263,7 @@ module _ {S : Type 0} where
             (λ seat. new);
       })
 
-  -- a viewer asks for the match's end
+  -- a viewer asks for the end of the match
   pub asks : (slots id : ℕ) (w : Watch) → Allows {S = S} Keeps slots id (Watching w, []) 1 (λ n. bit_or n 1) (λ _ after. after ≡ (ask_view (Watching w), []))
   asks slots id w s holds homes at room =
       let k = shown s id (Watching w) holds at tt in

@@ -1,4 +1,4 @@
--- The steps, for tokens whose views are known by their invariants.
+-- The steps for tokens whose views are known by their invariants.
 use Rattle.std.proofs.Common.{◌≡◌, bit_or, ℕ, ◌/◌, ◌%◌, ◌^◌, List, [], sym, ap, ◌∙◌, subst}
 use Rattle.atomic_table.specs.Table.{Me, Allows, Splits, Joins}
 use Rattle.atomic_table.specs.Seated.{TableId}
@@ -20,7 +20,7 @@ pub look_is : (game : Rules) (from : Origin) (rows : List Row) (found : ℕ) (lo
     → look ≡ look_of game from rows
 look_is game from rows found look is count bits = λ i. record { count = (count ∙ word_count game from rows found is) i; bits = (bits ∙ word_bits game from rows found is) i }
 
--- the seat is that of a pen with a viewer beside it
+-- the seat is that of a pen with a viewer
 abbrev pub IsJoined : {S : Type 0} → Me S View → Type 0
 IsJoined {S} me = (game : Rules) × (from : StartValue) × (rows : List Row) × (w : Watch) × (me ≡ (Joined game from rows w, []))
 
@@ -49,11 +49,11 @@ module _ {S : Type 0} where
   pub looks_as : (slots id : ℕ) (me : Me S View) → IsViewer me → Allows {S = S} Keeps slots id me 0 (λ n. n) (Looks me)
   looks_as slots id me v = subst (λ (m : Me S View). Allows {S = S} Keeps slots id m 0 (λ n. n) (Looks m)) (sym v.1) (looks slots id v.0)
 
-  -- a viewer is one still
+  -- a viewer stays a viewer
   pub still_viewer : (me after : Me S View) (found : ℕ) → IsViewer me → Looks me found after → IsViewer after
   still_viewer me after found v l = (l.0, l.1 ∙ ap (λ (m : Me S View). (Watching l.0, m.1)) v.1)
 
-  -- what a viewer's look says
+  -- what a viewer's look tells it
   pub sees : (board now : TableId) (me after : Me S View) (found : ℕ) (look : LookValue) (value : ViewerValue) → IsViewer me → viewer_value board me.0 ≡ value
       → Looks me found after → now ≡ board → look.count ≡ found / 2 ^ 40 → look.bits ≡ found % 2 ^ 40 → SeesMore value look (viewer_value now after.0)
   sees board now me after found look value v is l same count bits =
@@ -87,11 +87,11 @@ module _ {S : Type 0} where
   pub parts_as : (id : ℕ) (me : Me S View) → IsJoined me → Splits {S = S} Keeps id me.0 (pen_of me.0) (viewer_of me.0)
   parts_as id me j = subst (λ (m : Me S View). Splits {S = S} Keeps id m.0 (pen_of m.0) (viewer_of m.0)) (sym j.4) (parts id j.0 j.1 j.2 j.3)
 
-  -- what a look tells the joined pen
+  -- what a look tells the pen with a viewer
   pub told : (me after : Me S View) (found : ℕ) (j : IsJoined me) → Compares me found after → TellsPen (Joined j.0 j.1 j.2 j.3) found
   told me after found j c = subst (λ (m : Me S View). TellsPen m.0 found) j.4 c.1
 
-  -- a pen's look in terms of what clauses see of it
+  -- a pen's look, by what clauses see of it
   pub pen_is : (board : TableId) (me : Me S View) (value : PenValue) (p : IsPen me) → pen_value board me.0 ≡ value
       → look_of p.0 (origin_from p.1) p.2 ≡ look_of value.game (origin_from value.from) value.rows
   pen_is board me value p is = ap (λ (v : PenValue). look_of v.game (origin_from v.from) v.rows) (ap (λ (m : Me S View). pen_value board m.0) (sym p.3) ∙ is)

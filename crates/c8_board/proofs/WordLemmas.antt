@@ -1,4 +1,4 @@
--- The bits of a machine as its mark has them, and their range.
+-- The bits of a machine are the beginning of its mark, and their range.
 use Rattle.std.proofs.Common.{◌≡◌, ℕ, zero, suc, ◌+◌, ◌*◌, ◌/◌, ◌%◌, ◌^◌, ◌<◌, List, [], ◌∷◌, ◌++◌, length, take, get_or, sym, ap, ◌∙◌, arith}
 use Rattle.std.specs.Int.{from_be_bytes, to_be_bytes, w32, w64}
 use Rattle.std.specs.Prelude.{slice_index}
@@ -14,7 +14,7 @@ use Rattle.c8_board.specs.Words.{number_spelled, bits_of, word}
 abbrev pub padded : List ℕ → ℕ
 padded bs = from_be_bytes w64 (0 ∷ 0 ∷ 0 ∷ get_or bs 0 0 ∷ get_or bs 1 0 ∷ get_or bs 2 0 ∷ get_or bs 3 0 ∷ get_or bs 4 0 ∷ [])
 
--- of at least eight bytes the first eight tell the number of the first five
+-- the first eight of at least eight bytes give the number of the first five
 first_eight : (m : List ℕ) → length (take 8 m) ≡ 8 → padded (take 8 m) ≡ number_spelled (take 5 m)
 first_eight [] l = absurd (omega arith)
 first_eight (a ∷ []) l = absurd (omega arith)

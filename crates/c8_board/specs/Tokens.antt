@@ -6,20 +6,20 @@ use Rattle.c8_game.specs.declared.row.Row.{Row}
 use Rattle.c8_board.specs.Starts.{StartValue, origin_from}
 use Rattle.c8_board.specs.Words.{LookValue, look_of}
 
--- the later rows begin with the early ones
+-- the early rows are the beginning of the late ones
 pub record Begins (early late : List Row) : Type 0 where
   pub rest : List Row
   pub is : late ≡ early ++ rest
 
--- a pen: which board it is of, the game, where the run begins, and the rows that it published last
+-- a pen: its board, the game, where the run begins, and the rows that it published last
 pub record PenValue : Type 0 where
   pub board : TableId
   pub game : Rules
   pub from : StartValue
   pub rows : List Row
 
--- a viewer: which board it is of, the game, where the run begins, the rows that it saw last, whether it has asked for the match's
--- end, and how often it has loaded what the pen publishes
+-- a viewer: its board, the game, where the run begins, the rows that it saw last, whether it has asked for the end of
+-- the match, and how often it has loaded what the pen publishes
 pub record ViewerValue : Type 0 where
   pub board : TableId
   pub game : Rules
@@ -32,7 +32,7 @@ pub record ViewerValue : Type 0 where
 abbrev pub new_viewer : TableId → Rules → StartValue → List Row → ViewerValue
 new_viewer board game from rows = record { board = board; game = game; from = from; seen = rows; asked = false; loads = 0 }
 
--- One load by a viewer: it has seen rows that begin with all that it saw before, and the look is at these.
+-- One load by a viewer: it now has seen rows that begin with all that it saw before, and the look is at these rows.
 pub record SeesMore (old : ViewerValue) (found : LookValue) (new : ViewerValue) : Type 0 where
   pub begins : Begins old.seen new.seen
   pub finds : found ≡ look_of old.game (origin_from old.from) new.seen

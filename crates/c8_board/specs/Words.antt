@@ -15,7 +15,7 @@ number_spelled bytes = fold (λ n byte. n * 2 ^ 8 + byte) 0 bytes
 unfoldable pub bits_of : State → ℕ
 bits_of s = number_spelled (take 5 (sha256 (state_bytes s)))
 
--- the rows as one word: their number times 2 ^ 40, and the bits of the machine that they lead to from an origin
+-- the rows as one word: their number times 2 ^ 40, plus the bits of the machine that they lead to from an origin
 abbrev pub word : Rules → Origin → List Row → ℕ
 word game from rows = length rows * 2 ^ 40 + bits_of (run_since game from rows)
 
@@ -24,6 +24,6 @@ pub record LookValue : Type 0 where
   pub count : ℕ
   pub bits : ℕ
 
--- the look at the word of rows
+-- the look at the word of these rows
 abbrev pub look_of : Rules → Origin → List Row → LookValue
 look_of game from rows = record { count = length rows; bits = bits_of (run_since game from rows) }

@@ -1,4 +1,4 @@
-//! A board, its pen and its viewers.
+//! The board, its pen and its viewers.
 ghost use Rattle.std.specs.Prelude.{◌≡◌, ◌≤◌, ◌<◌, true, List, [], length, vec_len, IfOk};
 ghost use Rattle.std.specs.List.{All};
 ghost use Rattle.c8_game.specs.Rules.{most_frames};
@@ -18,10 +18,10 @@ use c8_machine::Machine;
 use std::alloc::{AllocError, Global};
 use std::marker::{Brand, Model};
 
-/// Which word has the count and the bits.
+/// The word with the count and the bits.
 const SHOWN: usize = 0;
 
-/// Which word is 1 once a viewer has asked for the match's end, and 0 before.
+/// The word that is 0, and 1 once a viewer has asked for the end of the match.
 const STOP: usize = 1;
 
 /// Two words that threads share. Contracts see which board it is.
@@ -43,8 +43,8 @@ impl Model for Board {
     ghost invariant = { λ b. b.table.shared.table_id.words ≡ 2 };
 }
 
-/// The right to publish on a board; it has one. Contracts see the game, where the run begins, and
-/// the rows that were published last.
+/// The right to publish on a board; each board has one. Contracts see the game, where the run begins, and the rows that
+/// were published last.
 #[derive(Drop)]
 pub struct Pen {
     seat: Seat<(), View>,
@@ -61,8 +61,8 @@ impl Model for Pen {
     ghost invariant = { λ p. IsPen p.seat.me };
 }
 
-/// The right to look at a board. Contracts see the game, where the run begins, the rows that the
-/// viewer saw last, whether it has asked for the end, and how often it has looked.
+/// The right to look at a board. Contracts see the game, where the run begins, the rows that the viewer saw last,
+/// whether it has asked for the end, and how often it has looked.
 #[derive(Drop)]
 pub struct Viewer {
     seat: Seat<(), View>,
@@ -80,10 +80,11 @@ impl Model for Viewer {
 }
 
 impl Board {
-    /// A board of a game, on which the machine after so many confirmed frames is published, with its
-    /// pen and 1 to 4 viewers. The start and the rows that led from it to this machine are the
-    /// caller's proof's to pick; the board keeps the start for good. The error is want of memory; no
-    /// other call takes any.
+    /// Makes a board for a game, with its pen and 1 to 4 viewers, and publishes the machine after `count` confirmed
+    /// frames.
+    ///
+    /// The caller's proof picks the start and the rows that led from it to this machine; the board keeps the start.
+    /// Fails only if memory is refused. No other call takes memory.
     pub fn open(
         alloc: Global,
         game: &Game,
@@ -114,7 +115,7 @@ impl Board {
         Ok((board, pen, seated))
     }
 
-    /// The pen of a board on which nothing was published: it stores the word of rows.
+    /// Makes the pen of a board with nothing published, and stores the word of the rows.
     fn begin<R: Run>(&self, mut seat: Seat<(), View>, _game: &Game, found: u64) -> Pen
         requires board { seat.table_id ≡ self.now }
         requires blank { seat.me ≡ (Blank _game.now, []) }
@@ -126,7 +127,7 @@ impl Board {
         Pen { seat }
     }
 
-    /// A viewer that has seen what the pen has published.
+    /// Makes a viewer that has seen what the pen has published.
     fn enlist(&self, pen: &mut Pen) -> Viewer
         requires board { pen.old.board ≡ self.now }
         ensures pen { pen.new ≡ pen.old }
@@ -138,9 +139,8 @@ impl Board {
         }
     }
 
-    /// Publishes the machine after so many confirmed frames: the run, from the board's start on, of
-    /// rows that begin with those that were published last. The rows are the caller's proof's to pick;
-    /// no run has them.
+    /// Publishes the machine after `count` confirmed frames: the run of rows from the board's start on, which begin
+    /// with the rows that were published last. The caller's proof picks the rows; they do not exist at run time.
     pub fn publish(&self, pen: &mut Pen, count: u32, confirmed: &Machine)
         ghost rows: { List Row }
         requires board { pen.old.board ≡ self.now }
@@ -154,7 +154,7 @@ impl Board {
         self.store::<Brand>(pen, word(count, confirmed));
     }
 
-    /// Stores the word of rows.
+    /// Stores the word of the rows.
     fn store<R: Rows>(&self, pen: &mut Pen, found: u64)
         requires board { pen.old.board ≡ self.now }
         requires later { Begins pen.old.rows R.rows }
@@ -166,7 +166,7 @@ impl Board {
             .store::<Publish<R>>(&mut pen.seat, SHOWN, found);
     }
 
-    /// Looks at the board: one load.
+    /// Looks at the board: one load, and no lock.
     pub fn look(&self, viewer: &mut Viewer) -> Look
         requires { viewer.old.board ≡ self.now }
         ensures { SeesMore viewer.old result viewer.new }
@@ -174,8 +174,8 @@ impl Board {
         Look::of(self.table.shared.load::<See>(&mut viewer.seat, SHOWN))
     }
 
-    /// Looks with the pen and a viewer in one hand: the look is at what the pen published, which
-    /// begins with all that the viewer saw, and which the viewer has seen from then on.
+    /// Looks while holding the pen and a viewer: the look shows exactly what the pen published, which begins with all
+    /// that the viewer saw. The viewer has seen it after the call.
     pub fn look_with(&self, pen: Pen, viewer: Viewer) -> (Look, Pen, Viewer)
         requires pen { pen.board ≡ self.now }
         requires viewer { viewer.board ≡ self.now }
@@ -205,7 +205,7 @@ impl Board {
         )
     }
 
-    /// Asks for the match's end. The wish stands for good.
+    /// Asks for the end of the match. This cannot be taken back.
     pub fn ask_stop(&self, viewer: &mut Viewer)
         requires { viewer.old.board ≡ self.now }
         ensures { viewer.new ≡ record viewer.old { asked = true } }
@@ -213,8 +213,8 @@ impl Board {
         let _found = self.table.shared.fetch_or::<Ask>(&mut viewer.seat, STOP, 1);
     }
 
-    /// Whether a viewer has asked for the match's end. No clause says what the answer is, since a
-    /// viewer may ask at any moment.
+    /// Returns whether a viewer has asked for the end of the match. No clause says which answer comes: a viewer may ask
+    /// at any moment.
     pub fn stop_asked(&self, pen: &mut Pen) -> bool
         requires { pen.old.board ≡ self.now }
         ensures { pen.new ≡ pen.old }

@@ -8,10 +8,10 @@ use c8_machine::Machine;
 use std::fmt;
 use std::marker::Model;
 
-/// The bits of a word stand below the count.
+/// The width of the bits in a word; the count is above them.
 const BITS: u32 = 40;
 
-/// How many frames are confirmed, and the first 40 bits of SHA-256 over the bytes of the machine
+/// How many frames are confirmed, and the first 40 bits of SHA-256 (FIPS 180-4) over the state bytes of the machine
 /// after them.
 #[derive(Clone, Copy, Debug, PartialEq, Eq)]
 pub struct Look {
@@ -30,7 +30,7 @@ impl Model for Look {
 }
 
 impl Look {
-    /// What a word of the board says.
+    /// Splits a word of the board.
     pub(crate) fn of(word: u64) -> Look
         ensures count { result.count ≡ word / 2 ^ 40 }
         ensures bits { result.bits ≡ word % 2 ^ 40 }
@@ -41,15 +41,15 @@ impl Look {
         }
     }
 
-    /// How many frames are confirmed.
+    /// Returns how many frames are confirmed.
     pub fn count(self) -> u32
         ensures { result ≡ self.count }
     {
         self.count
     }
 
-    /// The first 40 bits of SHA-256 over the bytes of the machine after these frames, as a number:
-    /// the first byte of the digest is the most significant of its five.
+    /// Returns the first 40 bits of SHA-256 over the state bytes of the machine after these frames, as a number with
+    /// the first byte of the digest as its most significant one.
     pub fn bits(self) -> u64
         ensures { result ≡ self.bits }
     {
@@ -57,14 +57,14 @@ impl Look {
     }
 }
 
-/// The count, and the bits as ten hexadecimal digits.
+/// Writes the count, and the bits as ten hexadecimal digits.
 impl fmt::Display for Look {
     fn fmt<W: fmt::Write>(&self, f: &mut fmt::Formatter<W>) -> fmt::Result {
         write!(f, "frames {}, mark {:010x}", self.count, self.bits)
     }
 }
 
-/// The word of a machine after so many frames.
+/// Returns the word of a machine after `count` frames.
 pub(crate) fn word(count: u32, machine: &Machine) -> u64
     requires { count < 2 ^ 24 }
     ensures { result ≡ count * 2 ^ 40 + bits_of (state machine.now) }
@@ -72,7 +72,7 @@ pub(crate) fn word(count: u32, machine: &Machine) -> u64
     (u64::from(count) << BITS) + bits(machine)
 }
 
-/// The first five bytes of the machine's mark, as a number.
+/// Returns the first five bytes of the machine's mark, as a number.
 fn bits(machine: &Machine) -> u64
     ensures value { result ≡ bits_of (state machine.now) }
     ensures few { result < 2 ^ 40 }

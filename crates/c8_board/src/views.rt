@@ -1,5 +1,4 @@
-//! What the pen and the viewers know, and the steps in which it changes. Proofs alone have values of
-//! these types.
+//! What the pen and the viewers know, and the steps that change it. Only proofs have values of these types.
 
 use atomic_table::{Join, Play, Split, TableRule};
 use c8_digest::FrameMark;
@@ -7,8 +6,7 @@ use c8_game::{Game, Row};
 use std::collections::LinkedList;
 use std::marker::{Brand, Model, PhantomData};
 
-/// Where a board's run begins: after how many frames, the bytes of the machine then, and the marks
-/// that are kept then.
+/// Where a board's run begins: after how many frames, the bytes of the machine then, and the marks kept then.
 pub struct Start {
     pub frames: u64,
     pub machine: LinkedList<u8>,
@@ -23,8 +21,8 @@ impl Model for Start {
     ghost view = { λ s. record { frames = s.frames; machine = s.machine; marks = s.marks } };
 }
 
-/// What a viewer knows: the game, where the run begins, the rows that it saw, whether it has asked
-/// for the match's end, and how often it has looked.
+/// What a viewer knows: the game, where the run begins, the rows that it saw, whether it has asked for the end, and how
+/// often it has looked.
 pub struct Watch {
     pub game: Game,
     pub from: Start,
@@ -35,19 +33,19 @@ pub struct Watch {
 
 /// What a token of a board knows.
 pub enum View {
-    /// The first seat, before anything is published: the game.
+    /// The first seat before anything is published: the game.
     Blank(Game),
     /// The pen: the game, where the run begins, and the rows that it published last.
     Alone(Game, Start, LinkedList<Row>),
-    /// The pen, with a viewer's view beside its own.
+    /// The pen, together with the view of a viewer.
     Joined(Game, Start, LinkedList<Row>, Watch),
     /// A viewer.
     Watching(Watch),
-    /// A viewer whose view went to the pen.
+    /// A viewer whose view is with the pen.
     Spent,
 }
 
-/// The rows of a step. The caller's proof picks them.
+/// The rows of a step, picked by the caller's proof.
 pub trait Rows {
     ghost use Rattle.std.specs.Prelude.{List};
     ghost use Rattle.c8_game.specs.declared.row.Row.{Row};
@@ -61,7 +59,7 @@ impl Rows for Brand {
     ghost rows = { [] };
 }
 
-/// The start and the rows of the first step. The caller's proof picks them.
+/// The start and the rows of the first step, picked by the caller's proof.
 pub trait Run {
     ghost use Rattle.std.specs.Prelude.{List};
     ghost use Rattle.c8_game.specs.declared.row.Row.{Row};
@@ -81,7 +79,7 @@ impl Run for Brand {
     ghost rows = { [] };
 }
 
-/// The rule of a board.
+/// The invariant of a board.
 pub struct Order;
 
 impl TableRule<(), View, Game> for Order {
@@ -123,7 +121,7 @@ impl Play<(), View> for See {
     ghost then = { λ step before found after. Looks before found after };
 }
 
-/// The joined pen loads its own word.
+/// The pen, with a viewer, loads its own word.
 pub struct Compare;
 
 impl Play<(), View> for Compare {
@@ -142,7 +140,7 @@ impl Play<(), View> for Ask {
     ghost then = { λ step before found after. after ≡ (ask_view before.0, before.1) };
 }
 
-/// The pen loads the stop word, which tells it nothing for sure.
+/// The pen loads the stop word, and learns nothing certain from it.
 pub struct Wish;
 
 impl Play<(), View> for Wish {
@@ -151,7 +149,7 @@ impl Play<(), View> for Wish {
     ghost then = { λ step before found after. after ≡ before };
 }
 
-/// A new viewer is cut from the pen.
+/// A new viewer is split off the pen.
 pub struct Enlist;
 
 impl Split<View> for Enlist {
@@ -162,7 +160,7 @@ impl Split<View> for Enlist {
     ghost right = { newcomer_of };
 }
 
-/// The pen takes a viewer's view in, or gives it back.
+/// The pen takes a viewer's view, or gives it back.
 pub struct Pair;
 
 impl Join<View> for Pair {

@@ -1,4 +1,4 @@
--- Idle rows begin more idle rows.
+-- Idle rows are the beginning of more idle rows.
 use Rattle.std.proofs.Common.{◌≡◌, ℕ, ◌-◌, ◌≤◌, List, ◌++◌, sym, ap, ◌∙◌, arith}
 use Rattle.std.proofs.lemmas.List.{replicate-append-replicate}
 use Rattle.c8_game.specs.declared.row.Row.{Row}

@@ -14,10 +14,10 @@ idle = record { sets = record { 0 = 0 } ∷ record { 0 = 0 } ∷ record { 0 = 0 
 abbrev pub idle_rows : ℕ → List Row
 idle_rows n = replicate n idle
 
--- before the first frame
+-- the start before the first frame
 abbrev pub first_start : Rules → StartValue
 first_start game = start_of (first_origin game)
 
--- the machine after so many idle rows
+-- the machine after this many idle rows
 abbrev pub IsIdleRun : Rules → Machine → ℕ → Type 0
 IsIdleRun game machine count = (state machine ≡ serial game (idle_rows count)) × (count ≤ most_frames)

@@ -1,5 +1,5 @@
-//! One thread with a pen and two viewers. Another implementation of SHA-256 gave the bits, over the
-//! bytes of a state that were written out by hand.
+//! One thread with a pen and two viewers. Another implementation of SHA-256 gave the bits, from state bytes that were
+//! written by hand.
 ghost use Rattle.std.specs.Prelude.{◌≡◌, [], IfOk};
 ghost use Rattle.c8_board.specs.Tokens.{new_viewer};
 ghost use Rattle.c8_board_tests.specs.Idle.{first_start};
@@ -12,7 +12,7 @@ use c8_machine::Machine;
 use std::alloc::Global;
 use std::test::Fail;
 
-/// A board on which no frame is confirmed, with its pen and two viewers.
+/// Makes a board with no confirmed frame, with its pen and two viewers.
 pub(crate) fn opened(alloc: Global, game: &Game) -> Result<(Board, Pen, Viewer, Viewer), Fail>
     ensures pen { IfOk result (λ r.
         r.1 ≡ record { board = r.0; game = game.now; from = first_start game.now; rows = [] }) }
@@ -31,7 +31,7 @@ pub(crate) fn opened(alloc: Global, game: &Game) -> Result<(Board, Pen, Viewer, 
     Ok((board, pen, one, two))
 }
 
-/// Whether a look prints a text.
+/// Returns whether a look prints this text.
 fn prints(alloc: Global, look: Look, text: &str) -> bool {
     match format!(in alloc; "{look}") {
         Ok(printed) => printed.as_str() == text,
@@ -39,7 +39,7 @@ fn prints(alloc: Global, look: Look, text: &str) -> bool {
     }
 }
 
-/// Whether a look shows a text where it is debugged.
+/// Returns whether a look's `Debug` text is this one.
 fn shows(alloc: Global, look: Look, text: &str) -> bool {
     match format!(in alloc; "{look:?}") {
         Ok(shown) => shown.as_str() == text,

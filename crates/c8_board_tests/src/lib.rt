@@ -1,6 +1,6 @@
 //! The tests of c8_board.
 //!
-//! `run` has a run of rows that hold no key, which a test publishes frame by frame.
+//! `run` has a run of rows without keys, which a test publishes frame by frame.
 #![tactic(auto)]
 
 #[cfg(test)]

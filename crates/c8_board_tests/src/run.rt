@@ -1,4 +1,4 @@
-//! A run of rows that hold no key, and its publishing.
+//! A run of rows without keys, and how it is published.
 ghost use Rattle.std.specs.Prelude.{◌≡◌, ◌≤◌, []};
 ghost use Rattle.c8_board_tests.specs.Idle.{IsIdleRun, first_start, idle_rows};
 
@@ -9,7 +9,7 @@ use c8_machine::Machine;
 use std::alloc::Global;
 use std::test::Fail;
 
-/// A machine after so many frames in which no key was down.
+/// A machine after `count` frames without a key down.
 #[derive(Drop)]
 pub(crate) struct Run<'g> {
     game: &'g Game,
@@ -30,7 +30,7 @@ impl<'g> Run<'g> {
         }
     }
 
-    /// One frame more; of a game that has ended, none.
+    /// Runs one more frame; none if the game has ended.
     pub(crate) fn step(&mut self)
         ensures game { self.new.game.now ≡ self.old.game.now }
         ensures count { self.old.count ≤ self.new.count }
@@ -69,7 +69,7 @@ impl<'g> Publisher<'g> {
         }
     }
 
-    /// Runs some frames more.
+    /// Runs some more frames.
     pub(crate) fn go_on(&mut self, frames: u32)
         ensures { self.new.pen ≡ self.old.pen }
     {
@@ -91,7 +91,7 @@ impl<'g> Publisher<'g> {
     }
 }
 
-/// A game whose machine does one instruction a frame: V0, V1 and V2 grow in turn.
+/// Makes a game whose machine does one instruction a frame: V0, V1 and V2 grow in turn.
 pub(crate) fn counting(alloc: Global) -> Result<Game, Fail> {
     let text =
         "players 2\nipf 1\nframes 262144\ndelay 0\nwindow 8\nseed 0\nmask1 000f\nmask2 fff0\ncode 7001710372051200\n";

@@ -26,7 +26,7 @@ fn publish_all(board: &Board, pen: Pen, game: &Game)
     }
 }
 
-/// Looks until all frames are published. Whether no count fell.
+/// Looks until all frames are published. Returns whether no count fell.
 fn look_all(board: &Board, mut viewer: Viewer) -> bool
     requires { viewer.board ≡ board.now }
 {

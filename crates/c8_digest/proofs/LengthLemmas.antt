@@ -1,4 +1,4 @@
--- How many bytes a state has.
+-- The number of bytes of a state.
 use Rattle.std.proofs.Common.{◌≡◌, ℕ, zero, suc, ◌+◌, ◌*◌, List, [], ◌∷◌, ◌++◌, length, map, refl, arith}
 use Rattle.std.specs.List.{flat_map, range_with_len}
 use Rattle.std.specs.Int.{to_be_bytes, w16, w64}
@@ -17,11 +17,11 @@ length_rows : (points : Points) (a n : ℕ) → length (flat_map (λ y. to_be_by
 length_rows points a zero = refl
 length_rows points a (suc n) = omega (arith, length_rows points (a + 1) n)
 
--- as many more
+-- the length of two lists joined
 more : (xs ys : List ℕ) (m n : ℕ) → length xs ≡ m → length ys ≡ n → length (xs ++ ys) ≡ m + n
 more xs ys m n first second = omega (arith, length-append xs ys, first, second)
 
--- how many bytes stand before each part
+-- the number of bytes before each part
 pub record Fronts (s : State) : Type 0 where
   pub memory : length (map s.memory (range_with_len 0 4096)) ≡ 4096
   pub registers : length (map s.memory (range_with_len 0 4096) ++ s.registers) ≡ 4112

@@ -1,4 +1,4 @@
--- Marks as bytes, one mark more.
+-- Marks as bytes, with one more mark.
 use Rattle.std.proofs.Common.{◌≡◌, inl, inr, ℕ, zero, suc, ◌+◌, ◌-◌, ◌*◌, ◌/◌, ◌≤◌, ◌<◌, List, [], ◌∷◌, ◌++◌, length, map, get_or, take, drop, true, Some, refl, sym, ap, ◌∙◌, append_assoc, arith}
 use Rattle.std.specs.Prelude.{replicate, ◌==◌}
 use Rattle.std.specs.List.{slice_get, flat_map, range_with_len, list_all}
@@ -40,7 +40,7 @@ last_kept put m =
     ap (drop (length (drop gone put ++ m ∷ []) - 16)) (sym (drop-append-le gone put (m ∷ []) (omega arith)))
     ∙ drop-drop (length (drop gone put ++ m ∷ []) - 16) gone (put ++ m ∷ []) ∙ ap (λ (n : ℕ). drop n (put ++ m ∷ [])) twice
 
--- so many of the marks were put
+-- the first k of the marks were put
 pub record ArePut (before now marks : List FrameMark) (k : ℕ) : Type 0 where
   pub none : k ≡ 0 → now ≡ before
   pub some : 1 ≤ k → now ≡ kept (before ++ take k marks)

@@ -1,4 +1,4 @@
--- The mark that was put last for a frame, with one mark more.
+-- The last mark for a frame, with one more mark.
 use Rattle.std.proofs.Common.{◌≡◌, ◌≢◌, ◌⊎◌, inl, inr, ⊎_elim, ℕ, zero, suc, ◌+◌, ◌-◌, ◌≤◌, List, [], ◌∷◌, ◌++◌, length, take, drop, Bool, true, false, Option, Some, None, refl, sym, ap, ◌∙◌, arith}
 use Rattle.std.specs.List.{slice_get}
 use Rattle.std.proofs.lemmas.List.{take_more, length-append, length-drop, drop-append-le}
@@ -43,7 +43,7 @@ newest put m =
     let gone : ℕ = length (put ++ m ∷ []) - 16 in
     ap newest_of (drop-append-le gone put (m ∷ []) (omega (arith, length-append put (m ∷ [])))) ∙ newest_here (drop gone put) m
 
--- a mark that is found is that of the first item, or was found before
+-- a mark that is found is the first item's, or was found before
 found_first : (test : Bool) (frame : ℕ) (mark : List ℕ) (before : Option (List ℕ)) (m : FrameMark) → (m.frame == frame) ≡ test → (if test then Some m.mark else before) ≡ Some mark
     → (before ≡ Some mark) ⊎ (m ≡ record { frame = frame; mark = mark })
 found_first true frame mark before m same is =
@@ -67,7 +67,7 @@ pub found : (marks : List FrameMark) (frame : ℕ) (mark : List ℕ) → mark_at
 unfolding mark_at
 found marks frame mark is = ⊎_elim (λ none. absurd cc) (λ place. place) (found_in frame mark None marks is)
 
--- in a list without a mark of the frame none is found anew
+-- a list without a mark of the frame changes nothing of what was found
 found_before : (frame : ℕ) (before : Option (List ℕ)) (marks : List FrameMark) → ((place : ℕ) (m : FrameMark) → slice_get marks place ≡ Some m → m.frame ≢ frame)
     → fold (λ (found : Option (List ℕ)) (m : FrameMark). if m.frame == frame then Some m.mark else found) before marks ≡ before
 found_before frame before [] none = refl

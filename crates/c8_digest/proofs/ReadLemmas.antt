@@ -1,4 +1,4 @@
--- The parts that stand in the bytes of a state are those of the state.
+-- The parts read from the bytes of a state are those of the state.
 use Rattle.std.proofs.Common.{◌≡◌, inl, inr, ℕ, zero, suc, ◌+◌, ◌-◌, ◌*◌, ◌/◌, ◌%◌, ◌^◌, ◌<◌, ◌≤◌, List, [], ◌∷◌, ◌++◌, length, take, drop, map, Bool, true, false, cond, Option, Some, None, refl, sym, ap, ◌∙◌, arith, length-append}
 use Rattle.std.specs.Prelude.{◌==◌, ◌&&◌, nat_lt, slice_index, slice_set, IfSome}
 use Rattle.std.specs.List.{flat_map, range_with_len}
@@ -23,7 +23,7 @@ use Rattle.c8_digest.proofs.StackLemmas.{padded, sixteen}
 use Rattle.c8_digest.proofs.LengthLemmas.{fronts}
 use Rattle.c8_digest.proofs.SameLemmas.{columns_lt, off}
 
--- one element more of a list that a function gives
+-- one more element of a list is set to the function's value
 pub set_next : (f : ℕ → ℕ) (xs : List ℕ) (n v : ℕ) → n < length xs → ((k : ℕ) → k < n → slice_index xs k ≡ f k) → v ≡ f n → (k : ℕ) → k < n + 1 → slice_index (slice_set xs n v) k ≡ f k
 set_next f xs n v within before is k below = elim (cases_eq k n) [
   | inl here ↦ get_or-set_at xs n k v 0 here within ∙ is ∙ ap f (sym here)
@@ -122,7 +122,7 @@ all_addresses (x ∷ xs) low = rw (lt-ltb x 4096 (low 0)) (all_addresses xs (λ 
 
 -- ---- the state
 
--- where each part of a state stands in its bytes
+-- where the bytes of a state have each part
 record Stand (s : State) : Type 0 where
   memory : part_at 0 4096 (state_bytes s) ≡ map s.memory (range_with_len 0 4096)
   registers : part_at 4096 16 (state_bytes s) ≡ s.registers

@@ -1,4 +1,4 @@
--- States that have the same bytes are the same.
+-- States with the same bytes are equal.
 use Rattle.std.proofs.Common.{◌≡◌, inl, inr, ⊎_elim, ℕ, zero, suc, ◌+◌, ◌-◌, ◌*◌, ◌^◌, ◌<◌, ◌≤◌, List, [], ◌∷◌, ◌++◌, length, take, drop, map, Bool, true, false, Option, Some, None, refl, sym, ap, ◌∙◌, arith}
 use Rattle.std.specs.Prelude.{slice_index, replicate, if◌then◌else◌, IfSome}
 use Rattle.std.specs.List.{flat_map, range_with_len}
@@ -16,7 +16,7 @@ use Rattle.c8_digest.specs.StateBytes.{columns, screen_bytes, places, waits_byte
 use Rattle.c8_digest.proofs.StackLemmas.{sixteen, padded}
 use Rattle.c8_digest.proofs.LengthLemmas.{fronts}
 
--- two lists that are joined of us long parts
+-- if two joined lists are equal and their first parts have the same length, both parts are equal
 split : (us bs xs ys : List ℕ) → length us ≡ length bs → us ++ xs ≡ bs ++ ys → (us ≡ bs) × (xs ≡ ys)
 split [] [] xs ys long same = (refl, same)
 split [] (b ∷ bs) xs ys long same = absurd (omega (arith, long))
@@ -144,7 +144,7 @@ some_low None low x same = absurd cc
 
 -- ---- the state
 
--- the parts of two states that have the same bytes
+-- the parts of two states with the same bytes
 record SameParts (s t : State) : Type 0 where
   memory : map s.memory (range_with_len 0 4096) ≡ map t.memory (range_with_len 0 4096)
   registers : s.registers ≡ t.registers
@@ -169,7 +169,7 @@ parts_same s t is at same =
     let e0 = split _ _ s.registers t.registers (a.memory ∙ sym b.memory) e1.0 in
     record { memory = e0.0; registers = e0.1; address = e1.1; counter = e2.1; depth = e3.1; stack = e4.1; screen = e5.1; rest = e6.1 }
 
--- what stands after the screen
+-- the parts after the screen
 record SameRest (s t : State) : Type 0 where
   timer : s.timer ≡ t.timer
   tone : s.tone ≡ t.tone

@@ -14,14 +14,14 @@ one_digit zero low = refl
 one_digit (suc zero) low = refl
 one_digit (suc (suc d)) low = absurd (omega (arith, low))
 
--- one digit more
+-- one more digit
 digit : (q : ℕ) → 2 * (q / 2) + (if q % 2 == 1 then 1 else 0) ≡ q
 digit q = let low : q % 2 < 2 = omega arith in omega (arith, one_digit (q % 2) low)
 
 half : (w k : ℕ) → w / 2 ^ suc k ≡ w / 2 ^ k / 2
 half w k = ap (λ (m : ℕ). w / m) (pow-suc 2 k) ∙ sym (div-div-eq-div-mul w (2 ^ k) 2)
 
--- the columns before one are the row's digits down to it
+-- the columns before one are the upper digits of the row
 columns_down : (points : Points) (y w n rest : ℕ) → n + rest ≡ 64 → w < 2 ^ 64 → ((x : ℕ) → x < 64 → row_has w x ≡ points x y) → columns points y n ≡ w / 2 ^ rest
 unfolding columns
 columns_down points y w zero rest all low same = let whole : rest ≡ 64 = omega (arith, all) in sym (div-eq_of_lt (rw whole low))
@@ -46,7 +46,7 @@ range_next n =
     let same : 0 + n ≡ n = omega arith in
     ap (range_with_len 0) one ∙ range_suc 0 n ∙ ap (λ (m : ℕ). range_with_len 0 n ++ m ∷ []) same
 
--- the rows before one, and the next
+-- the rows before one, and that one
 pub rows_more : (points : Points) (before : List ℕ) (y w : ℕ) → w < 2 ^ 64 → ((x : ℕ) → x < 64 → row_has w x ≡ points x y)
     → (before ++ flat_map (λ k. to_be_bytes w64 (columns points k 64)) (range_with_len 0 y)) ++ to_be_bytes w64 w
     ≡ before ++ flat_map (λ k. to_be_bytes w64 (columns points k 64)) (range_with_len 0 (y + 1))

@@ -1,4 +1,4 @@
--- The places of the stack, and those that are not in use.
+-- The return addresses, and 0 for those not in use.
 use Rattle.std.proofs.Common.{◌≡◌, ℕ, zero, suc, ◌+◌, ◌-◌, ◌<◌, ◌≤◌, List, [], ◌∷◌, ◌++◌, length, take, refl, sym, ap, ◌∙◌, arith}
 use Rattle.std.specs.Prelude.{slice_index, replicate}
 use Rattle.std.specs.List.{flat_map}
@@ -20,7 +20,7 @@ padded (x ∷ xs) m (suc n) = padded xs m n
 pub sixteen : (stack : List ℕ) → length stack ≤ 16 → length (places stack) ≡ 16
 sixteen stack few = omega (arith, length-append stack (replicate (16 - length stack) 0), length-replicate {A = ℕ} (16 - length stack) 0, few)
 
--- the places before one, and the next
+-- the places before one, and that one
 places_more : (before : List ℕ) (stack : List ℕ) (n place : ℕ) → length stack ≤ 16 → n < 16 → place ≡ slice_index stack n
     → (before ++ flat_map (to_be_bytes w16) (take n (places stack))) ++ to_be_bytes w16 place ≡ before ++ flat_map (to_be_bytes w16) (take (n + 1) (places stack))
 places_more before stack n place few within is =

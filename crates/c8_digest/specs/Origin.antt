@@ -1,4 +1,4 @@
--- Where a run of the machine begins: after so many frames, with the machine then and the marks that are kept then.
+-- Where a run of the machine begins: after some number of frames, with the machine and the marks kept then.
 use Rattle.std.specs.Prelude.{ℕ, List, [], ◌∷◌, drop, fold}
 use Rattle.c8_game.specs.Rules.{Rules, joined}
 use Rattle.c8_game.specs.declared.row.Row.{Row}
@@ -18,15 +18,15 @@ pub record Origin : Type 0 where
 abbrev pub first_origin : Rules → Origin
 first_origin rules = record { frames = 0; machine = first_state rules; marks = record { frame = 0; mark = mark_of (first_state rules) } ∷ [] }
 
--- one that a machine can have come to
+-- an origin whose machine and marks can occur
 pub record IsOrigin (from : Origin) : Type 0 where
   pub machine_is : IsState from.machine
   pub marks_are : AreMarksAfter from.frames from.marks
 
--- where a checkpoint lets a run begin
+-- the origin of a checkpoint
 abbrev pub origin_of : Checkpoint → Origin
 origin_of c = record { frames = c.frames; machine = state c.machine; marks = marks_in c.frames c.marks }
 
--- the machine that rows lead to from an origin: one frame for each row from the origin's on
+-- the machine after rows from an origin: one frame for each row from the origin's number of frames on
 abbrev pub run_since : Rules → Origin → List Row → State
 run_since rules from rows = fold (λ s row. frame_of rules (joined rules row) s) from.machine (drop from.frames rows)

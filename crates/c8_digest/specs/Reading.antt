@@ -1,4 +1,4 @@
--- The state that bytes spell, each part read where it stands.
+-- The state that bytes spell, each part read at its place.
 use Rattle.std.specs.Prelude.{ℕ, ◌+◌, ◌*◌, ◌==◌, ◌&&◌, false, nat_lt, List, map, take, drop, slice_index, Option, Some, None, if◌then◌else◌}
 use Rattle.std.specs.List.{range_with_len}
 use Rattle.std.specs.Int.{from_be_bytes, w16, w64}
@@ -7,7 +7,7 @@ use Rattle.c8_machine.specs.declared.machine.Stop.{Stop}
 use Rattle.c8_machine.specs.declared.machine.Stop.TheVariants.{UnknownInstruction, StackFull, StackEmpty}
 use Rattle.c8_machine.specs.State.{State}
 
--- so many bytes from a place on
+-- n bytes from a place on
 abbrev pub part_at : ℕ → ℕ → List ℕ → List ℕ
 part_at place n bytes = take n (drop place bytes)
 
@@ -18,7 +18,7 @@ place_at bytes k = from_be_bytes w16 (part_at (4117 + 2 * k) 2 bytes)
 unfoldable pub row_at : List ℕ → ℕ → ℕ
 row_at bytes y = from_be_bytes w64 (part_at (4149 + 8 * y) 8 bytes)
 
--- a register waited for, any byte but FF (hexadecimal), and a stop, any byte but 1 to 3 being none
+-- the register that waits: any byte but FF (hexadecimal); the stop: 1 to 3, any other byte is none
 abbrev pub waits_in : ℕ → Option ℕ
 waits_in byte = if byte == 0xFF then None else Some byte
 
@@ -28,7 +28,8 @@ stop_in byte = if byte == 1 then Some UnknownInstruction else (if byte == 2 then
 abbrev pub screen_in : List ℕ → Points
 screen_in bytes x y = if nat_lt x width && nat_lt y height then row_has (row_at bytes y) x else false
 
--- What the bytes of a state were spelled from (`states_are_read_again` of `src/laws.rt`); of other bytes this says nothing.
+-- The state from which these bytes were written (`states_are_read_again` of `src/laws.rt`). For other bytes it means
+-- nothing.
 unfoldable pub state_in : List ℕ → State
 state_in bytes = record {
   memory = slice_index (part_at 0 4096 bytes);

@@ -7,7 +7,7 @@ use Rattle.c8_screen.specs.Points.{Points, width, height}
 use Rattle.c8_machine.specs.declared.machine.Stop.{Stop}
 use Rattle.c8_machine.specs.State.{State, memory_size, stack_size, number_of}
 
--- how many bytes a state has
+-- the size of a state in bytes
 abbrev pub state_length : ℕ
 state_length = 4419
 
@@ -20,11 +20,11 @@ columns points y (suc x) = 2 * columns points y x + (if points x y then 1 else 0
 abbrev pub screen_bytes : Points → List ℕ
 screen_bytes points = flat_map (λ y. to_be_bytes w64 (columns points y width)) (range_with_len 0 height)
 
--- the places to return to, oldest first, and 0 for each that is not in use
+-- the return addresses, oldest first, and 0 for each that is not in use
 abbrev pub places : List ℕ → List ℕ
 places stack = stack ++ replicate (stack_size - length stack) 0
 
--- a register that is waited for, or FF (hexadecimal)
+-- the register that waits, or FF (hexadecimal)
 abbrev pub waits_byte : Option ℕ → ℕ
 waits_byte None = 0xFF
 waits_byte (Some x) = x
@@ -34,11 +34,11 @@ abbrev pub stop_byte : Option Stop → ℕ
 stop_byte None = 0
 stop_byte (Some stop) = number_of stop
 
--- timer and tone, the remembered keys, the register waited for, the draws and the stop
+-- the timer, the tone, the remembered keys, the register that waits, the draws and the stop
 abbrev pub rest_bytes : State → List ℕ
 rest_bytes s = s.timer ∷ s.tone ∷ (to_be_bytes w16 s.keys ++ (waits_byte s.waits ∷ (to_be_bytes w64 s.draws ++ (stop_byte s.stop ∷ []))))
 
--- The state, part after part, each number with its most significant byte first.
+-- The parts of the state in order, each number with its most significant byte first.
 unfoldable pub state_bytes : State → List ℕ
 state_bytes s =
     map s.memory (range_with_len 0 memory_size) ++ s.registers ++ to_be_bytes w16 s.address ++ to_be_bytes w16 s.counter

@@ -1,4 +1,4 @@
-//! Where a run of the machine may begin, but at the first frame.
+//! Where a run of the machine begins: at the first frame, or at a checkpoint.
 ghost use Rattle.std.specs.Prelude.{◌≡◌, take};
 ghost use Rattle.c8_digest.specs.Origin.{origin_of, first_origin};
 
@@ -7,8 +7,7 @@ use crate::marks::MARKS_LENGTH;
 use c8_game::Game;
 use c8_machine::Machine;
 
-/// The machine after so many frames, and the bytes of the marks that are kept then
-/// ([`Marks::bytes`](crate::Marks::bytes)).
+/// The machine after `frames` frames, and the bytes of the marks kept then ([`Marks::bytes`](crate::Marks::bytes)).
 #[derive(Clone, Copy, Debug, PartialEq, Eq)]
 pub struct Checkpoint {
     pub frames: u32,
@@ -17,7 +16,7 @@ pub struct Checkpoint {
 }
 
 impl Checkpoint {
-    /// Before the first frame.
+    /// Makes the checkpoint before the first frame.
     pub fn start(game: &Game) -> Self
         ensures { origin_of result ≡ first_origin game.now }
     {
@@ -30,7 +29,7 @@ impl Checkpoint {
     }
 }
 
-/// The bytes of a single mark.
+/// Returns the bytes of a single mark.
 fn alone(mark: &[u8; MARK_LENGTH]) -> [u8; MARKS_LENGTH]
     ensures { take 8 result ≡ mark.now }
 {

@@ -1,4 +1,4 @@
-//! The bytes of a machine's state, and their mark.
+//! The bytes of a machine's state, and its mark.
 ghost use Rattle.std.specs.Prelude.{◌≡◌, ◌+◌, ◌^◌, ◌<◌, ◌≤◌, [], ◌∷◌, ◌++◌, length, map, slice_index};
 ghost use Rattle.std.specs.List.{flat_map, range_with_len};
 ghost use Rattle.std.specs.Int.{to_be_bytes, w16, w64};
@@ -12,24 +12,25 @@ use c8_machine::{MEMORY_SIZE, Machine, Stop};
 use c8_screen::{HEIGHT, Screen};
 use sha2::{Digest, Sha256};
 
-/// How many bytes a state has.
+/// The size of a state in bytes.
 pub const STATE_LENGTH: usize = 4419;
 
-/// How many bytes a mark has.
+/// The size of a mark in bytes.
 pub const MARK_LENGTH: usize = 8;
 
-/// Spells the state of a machine, part after part: memory, V0 to VF, I, the program counter, how many
-/// places of the stack are in use, its 16 places (oldest first, 0 where not in use), the rows of the
-/// screen (the leftmost point is the highest bit), timer, tone, remembered keys, the register waited
-/// for or FF, the number of draws, and the stop's number or 0. Each number has its most significant
-/// byte first.
+/// Writes the state of a machine in bytes.
+///
+/// The parts are the memory, V0 to VF, I, the program counter, the number of return addresses in use, 16 return
+/// addresses (oldest first, 0 if not in use), the rows of the screen (the leftmost point is the highest bit), the
+/// timer, the tone, the remembered keys, the register that waits or FF, the number of draws, and the number of the stop
+/// or 0. Each number has its most significant byte first.
 pub fn state_bytes(machine: &Machine, out: &mut [u8; STATE_LENGTH])
     ensures { out.new ≡ state_bytes (state machine.now) }
 {
     out.copy_from_slice(spelled(machine).as_slice());
 }
 
-/// The mark of a machine: the first 8 bytes of SHA-256 (FIPS 180-4) over the bytes of its state.
+/// Returns the mark of a machine: the first 8 bytes of SHA-256 (FIPS 180-4) over the bytes of its state.
 pub fn mark(machine: &Machine) -> [u8; MARK_LENGTH]
     ensures { result ≡ mark_of (state machine.now) }
 {
@@ -56,7 +57,7 @@ pub(crate) fn spelled(machine: &Machine) -> ArrayVec<u8, STATE_LENGTH>
     bytes
 }
 
-/// Appends what comes after the screen.
+/// Appends the parts after the screen.
 fn put_rest(machine: &Machine, out: &mut ArrayVec<u8, STATE_LENGTH>)
     requires { array_vec_len out.old + 14 ≤ STATE_LENGTH }
     ensures bytes { out.new.items ≡ out.old.items ++ rest_bytes (state machine.now) }
@@ -85,7 +86,7 @@ fn put_memory(memory: &[u8; MEMORY_SIZE], out: &mut ArrayVec<u8, STATE_LENGTH>)
     put(memory, out);
 }
 
-/// Appends how many places are in use, and 16 places.
+/// Appends the number of return addresses in use, and 16 return addresses.
 fn put_stack(stack: &[u16], out: &mut ArrayVec<u8, STATE_LENGTH>)
     requires depth { length stack.now ≤ 16 }
     requires room { array_vec_len out.old + 33 ≤ STATE_LENGTH }
@@ -110,7 +111,7 @@ fn put_screen(screen: &Screen, out: &mut ArrayVec<u8, STATE_LENGTH>)
     }
 }
 
-/// A place of the stack, 0 where it is not in use.
+/// Returns a return address, 0 if it is not in use.
 fn place_at(stack: &[u16], n: usize) -> u16
     ensures { result ≡ slice_index stack.now n }
 {

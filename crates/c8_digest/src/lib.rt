@@ -1,8 +1,9 @@
-//! A few bytes of a machine, by which two peers notice that theirs differ; equal ones prove nothing.
+//! Marks: a few bytes of a machine's state, by which two peers notice that their machines differ. Equal marks prove
+//! nothing.
 //!
-//! `state_bytes` spells a machine's state and `read_state` reads it again; `mark` is the beginning of the digest of that, and
-//! `Marks` keeps the last sixteen marks with their frames. The definitions are in
-//! `specs/StateBytes.antt` and `specs/Marks.antt`. Only `Marks::new` takes memory.
+//! `state_bytes` writes a machine's state and `read_state` reads it back. `mark` is the beginning of the digest of
+//! these bytes. `Marks` keeps the last sixteen marks with their frames. The definitions are in `specs/StateBytes.antt`
+//! and `specs/Marks.antt`. Only `Marks::new` takes memory.
 #![tactic(auto)]
 
 mod checkpoint;

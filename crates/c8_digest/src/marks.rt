@@ -11,23 +11,23 @@ use std::alloc::{AllocError, Global};
 use std::fmt;
 use std::marker::Model;
 
-/// A mark stands at each multiple of this many frames, 0 included.
+/// The number of frames from one mark to the next. The first mark is before the first frame.
 pub const MARK_STEP: u32 = 32;
 
-/// How many marks are kept.
+/// The most marks that are kept.
 const MOST_MARKS: usize = 16;
 
-/// How many bytes all kept marks have.
+/// The size of sixteen marks in bytes.
 pub const MARKS_LENGTH: usize = 128;
 
-/// A mark, and after how many frames the machine had it.
+/// A mark, and the number of frames after which the machine had it.
 #[derive(Clone, Copy, Debug, PartialEq, Eq, Hash)]
 pub struct FrameMark {
     pub frame: u32,
     pub mark: [u8; MARK_LENGTH],
 }
 
-/// The last sixteen marks that were put. Contracts see the list of them, oldest first.
+/// The last sixteen marks that were put. Contracts see them as a list, oldest first.
 #[derive(Drop)]
 pub struct Marks {
     ring: HeapCircularBuffer<FrameMark>,
@@ -45,7 +45,7 @@ impl Model for Marks {
     ghost invariant = { λ marks. marks.ring.capacity ≡ most_marks };
 }
 
-/// How many there are, and none of them.
+/// Prints how many marks there are, not the marks.
 impl fmt::Debug for Marks {
     fn fmt<W: fmt::Write>(&self, f: &mut fmt::Formatter<W>) -> fmt::Result {
         let count = self.ring.len();
@@ -54,7 +54,7 @@ impl fmt::Debug for Marks {
 }
 
 impl Marks {
-    /// None yet. Their room is reserved here, and nothing else takes memory.
+    /// Makes an empty list of marks. It reserves the memory for all sixteen; no other call takes memory.
     pub fn new(alloc: Global) -> Result<Marks, AllocError>
         ensures { IfOk result (λ marks. marks ≡ []) }
     {
@@ -63,8 +63,7 @@ impl Marks {
         })
     }
 
-    /// Notes the mark of the machine after `frame` frames. Where sixteen are kept, the one that was
-    /// put first is forgotten.
+    /// Adds the mark of the machine after `frame` frames. If sixteen are kept, it drops the oldest.
     pub fn put(&mut self, frame: u32, mark: [u8; MARK_LENGTH])
         ensures { self.new
             ≡ kept (self.old ++ (record { frame = frame; mark = mark }) ∷ []) }
@@ -72,7 +71,7 @@ impl Marks {
         let _forgotten = self.ring.push_back(FrameMark { frame, mark });
     }
 
-    /// The mark that was put last for a frame, if it is kept.
+    /// Returns the newest mark for a frame, if one is kept.
     pub fn get(&self, frame: u32) -> Option<[u8; MARK_LENGTH]>
         ensures { result ≡ mark_at frame self.now }
     {
@@ -86,7 +85,7 @@ impl Marks {
         found
     }
 
-    /// Spells the marks one after the other, 8 bytes each, oldest first, and zeros behind them.
+    /// Writes the marks one after the other, 8 bytes each, oldest first, and zeros after them.
     pub fn bytes(&self, out: &mut [u8; MARKS_LENGTH])
         ensures { out.new ≡ marks_bytes self.now }
     {
@@ -109,8 +108,8 @@ impl Marks {
         bytes
     }
 
-    /// Puts the marks that are kept after so many frames, whose bytes these are: at the last multiples of
-    /// 32 up to it, sixteen at most.
+    /// Adds the marks with these bytes, as they are kept after `frames` frames: those of the last multiples of 32 up to
+    /// `frames`, at most sixteen.
     pub fn read(&mut self, frames: u32, bytes: &[u8; MARKS_LENGTH])
         ensures { self.new ≡ kept (self.old ++ marks_in frames bytes.now) }
     {
@@ -121,8 +120,8 @@ impl Marks {
         }
     }
 
-    /// The mark that was put last, with its frame; none before the first. Where frames are put in
-    /// rising order it is that of the greatest.
+    /// Returns the newest mark with its frame; `None` if there is none. If frames are put in rising order, it is the
+    /// mark of the greatest frame.
     pub fn newest(&self) -> Option<FrameMark>
         ensures { result ≡ newest_of self.now }
     {
@@ -130,8 +129,8 @@ impl Marks {
     }
 }
 
-/// Whether bytes can be those of the marks that are kept after so many frames: behind these there are
-/// zeros.
+/// Returns whether these can be the bytes of the marks kept after `frames` frames: whether all bytes after the marks
+/// are 0.
 pub fn are_marks(frames: u32, bytes: &[u8; MARKS_LENGTH]) -> bool
     ensures { result ≡ are_marks frames bytes.now }
 {
@@ -145,7 +144,7 @@ fn are_zeros(bytes: &[u8]) -> bool
     bytes.iter().all(|byte| *byte == 0)
 }
 
-/// How many marks are kept after so many frames.
+/// Returns how many marks are kept after this many frames.
 fn marks_after(frames: u32) -> u32
     ensures value { result ≡ marks_after frames }
     ensures few { result ≤ 16 }
@@ -163,7 +162,7 @@ fn mark_in(bytes: &[u8; MARKS_LENGTH], place: usize) -> [u8; MARK_LENGTH]
     }
 }
 
-/// What was found for a frame, with one mark more.
+/// Returns the mark found for a frame after one more kept mark.
 fn later(found: Option<[u8; MARK_LENGTH]>, kept: FrameMark, frame: u32) -> Option<[u8; MARK_LENGTH]>
     ensures { result ≡ (if kept.frame == frame then Some kept.mark else found) }
 {

@@ -1,4 +1,4 @@
-//! The machine that has given bytes.
+//! Reads a machine from the bytes of its state.
 ghost use Rattle.std.specs.Prelude.{◌≡◌, ◌≢◌, ℕ, ◌+◌, ◌*◌, ◌<◌, ◌≤◌, IfSome, None, take, drop, slice_index};
 ghost use Rattle.std.specs.Int.{from_be_bytes, w16, w64};
 ghost use Rattle.c8_machine.specs.State.{State, IsState, state};
@@ -11,7 +11,7 @@ use c8_game::Keys;
 use c8_machine::{Machine, Parts, Stop};
 use c8_screen::Screen;
 
-// Where each part stands (`state_bytes`); the memory comes first.
+// Where each part begins (`state_bytes`); the memory comes first.
 const REGISTERS_AT: usize = 4096;
 
 const ADDRESS_AT: usize = 4112;
@@ -36,10 +36,10 @@ const DRAWS_AT: usize = 4410;
 
 const STOP_AT: usize = 4418;
 
-/// The machine whose state has these bytes, as [`state_bytes`](crate::state_bytes) spells it: what was
-/// spelled is read again. `None` exactly where no machine has them: an address above 4095, more than 16
-/// places in use, a place not in use that is not 0, a register waited for that is none of 0 to F and not
-/// FF, or a stop above 3.
+/// Returns the machine whose state has these bytes ([`state_bytes`](crate::state_bytes)).
+///
+/// `None` exactly if no machine has them: an address is above 4095, more than 16 return addresses are in use, one that
+/// is not in use is not 0, the register that waits is neither 0 to F nor FF, or the stop is above 3.
 pub fn read_state(bytes: &[u8; STATE_LENGTH]) -> Option<Machine>
     ensures found { IfSome result (λ machine. state_bytes (state machine) ≡ bytes.now) }
     ensures state { IfSome result (λ machine. state machine ≡ state_in bytes.now) }
@@ -47,9 +47,9 @@ pub fn read_state(bytes: &[u8; STATE_LENGTH]) -> Option<Machine>
     ensures none { result ≡ None → (s : State) → IsState s → state_bytes s ≢ bytes.now }
 {
     let machine = Machine::of_parts(&parts_in(bytes))?;
-    // For the proof: the state is one that a machine can have.
+    // For the proof: a machine can have this state.
     machine.in_range();
-    // What stands where nothing is in use, or is no register or stop, was not looked at.
+    // `parts_in` ignores return addresses not in use, and reads stops above 3 as none.
     if spelled(&machine).as_slice() == bytes.as_slice() {
         Some(machine)
     } else {
@@ -57,7 +57,7 @@ pub fn read_state(bytes: &[u8; STATE_LENGTH]) -> Option<Machine>
     }
 }
 
-/// Each part, from where it stands.
+/// Reads each part at its place.
 fn parts_in(bytes: &[u8; STATE_LENGTH]) -> Parts
     ensures { AreRead bytes.now result }
 {
@@ -78,7 +78,7 @@ fn parts_in(bytes: &[u8; STATE_LENGTH]) -> Parts
     }
 }
 
-/// So many bytes from a place on.
+/// Returns `N` bytes from a place on.
 fn part_at<const N: usize>(bytes: &[u8; STATE_LENGTH], place: usize) -> [u8; N]
     requires { place + N ≤ STATE_LENGTH }
     ensures { result ≡ take N (drop place bytes.now) }

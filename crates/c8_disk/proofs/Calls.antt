@@ -9,7 +9,7 @@ use Rattle.c8_disk.specs.checked.TornLaws.{untouched}
 use Rattle.c8_disk.specs.declared.call.Call.{Call}
 use Rattle.c8_disk.specs.declared.call.Call.TheVariants.{Write, Sync}
 
--- what is left of a list at a call
+-- the list from a call on
 pub rest : (calls : List Call) (i : ℕ) (call : Call) → i < length calls → get_or calls i (Write 0 0 []) ≡ call → drop i calls ≡ call ∷ drop (i + 1) calls
 rest calls i call lt is = drop_more calls i (Write 0 0 []) lt ∙ ap (λ (c : Call). c ∷ drop (i + 1) calls) is
 
@@ -29,7 +29,7 @@ pub torn_cons : (call : Call) (calls : List Call) (old mid new : List ℕ) → T
 torn_cons (Write at count written) calls old mid new one others = (one.0, one.1, subst (λ (l : List ℕ). TornBy calls l new) one.2 others)
 torn_cons Sync calls old mid new one others = subst (λ (l : List ℕ). TornBy calls l new) one others
 
--- how many calls there were up to the last sync, with one call more
+-- how many calls there are up to the last sync, with one more call
 synced_count-write : (calls : List Call) (at count : ℕ) (written : List ℕ) → synced_count (calls ++ Write at count written ∷ []) ≡ synced_count calls
 synced_count-write [] at count written = refl
 synced_count-write (Write a n w ∷ calls) at count written = ap (λ (k : ℕ). if nat_lt 0 k then suc k else 0) (synced_count-write calls at count written)

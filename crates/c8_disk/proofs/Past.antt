@@ -1,4 +1,4 @@
--- One call more.
+-- One more call.
 use Rattle.std.proofs.Common.{◌≡◌, inl, inr, ◌≤◌, ℕ, ◌+◌, nat_le, ◌&&◌, true, List, [], ◌∷◌, ◌++◌, length, take, refl, sym, ◌∙◌, ap, subst, arith, length-take}
 use Rattle.std.proofs.lemmas.Bool.{cases_lt, and_parts, and_from, le-leb}
 use Rattle.std.proofs.lemmas.List.{take_all, take-append-le, length_push}
@@ -35,7 +35,7 @@ elapses_push first calls call = record {
     size = length_push calls call
 
 module _ (first : List ℕ) (calls : List Call) where
-  -- one write more
+  -- one more write
   module _ (at : ℕ) (bytes : List ℕ) (call : Call) (is : IsWriteOf at bytes call) where
     pub content_write : content first (calls ++ call ∷ []) ≡ overwritten (content first calls) at bytes
     content_write = content-append first calls (call ∷ []) ∙ written (content first calls) call is
@@ -77,7 +77,7 @@ module _ (first : List ℕ) (calls : List Call) where
             and_from _ _ (and_from _ _ (le-leb _ _ few) (le-leb _ _ ends)) refl
         one Sync so = absurd so
 
-  -- one sync more
+  -- one more sync
   pub content_sync : content first (calls ++ Sync ∷ []) ≡ content first calls
   content_sync = content-append first calls (Sync ∷ [])
 

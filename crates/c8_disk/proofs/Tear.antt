@@ -4,7 +4,7 @@ use Rattle.std.proofs.lemmas.List.{take-take}
 use Rattle.c8_disk.specs.Disk.{Torn}
 use Rattle.c8_disk.specs.checked.TornLaws.{torn_wider}
 
--- one byte more
+-- one more byte
 pub torn_more : (at count : ℕ) (old mid new : List ℕ) → Torn at count old mid → Torn (at + count) 1 mid new → Torn at (count + 1) old new
 torn_more at count old mid new first second =
     let wider = torn_wider at count (count + 1) old mid (omega arith) first in

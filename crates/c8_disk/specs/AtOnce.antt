@@ -1,5 +1,5 @@
--- What a crash may leave between two syncs, said at once. `Past.antt` says it call by call; the law `images_at_once` ties
--- the two.
+-- What a crash may leave between two syncs, without going call by call. `Past.antt` goes call by call; the law
+-- `images_at_once` shows that both say the same.
 use Rattle.std.specs.Prelude.{◌≡◌, ◌≤◌, ◌<◌, ℕ, ◌+◌, nat_le, nat_lt, ◌&&◌, ◌||◌, Bool, false, List, [], ◌∷◌, length, drop, slice_index}
 use Rattle.c8_disk.specs.declared.call.Call.{Call}
 use Rattle.c8_disk.specs.declared.call.Call.TheVariants.{Write, Sync}
@@ -19,8 +19,8 @@ is_touched (Sync ∷ calls) i = is_touched calls i
 abbrev pub unsynced : List Call → List Call
 unsynced calls = drop (synced_count calls) calls
 
--- The length is any from that of the last sync to the greatest written, which is that of what a read gives; each byte
--- outside the written ranges is that of the last sync.
+-- The length is any from that at the last sync to the greatest written, which is the length that a read sees. Each byte
+-- outside the written ranges is as it was at the last sync.
 pub record IsBetweenSyncs (first : List ℕ) (calls : List Call) (image : List ℕ) : Type 0 where
   pub no_shorter : length (synced first calls) ≤ length image
   pub no_longer : length image ≤ length (content first calls)

@@ -9,8 +9,8 @@ use Rattle.c8_disk.specs.declared.error.DiskError.TheVariants.{Failed}
 use Rattle.c8_disk.specs.Disk.{DiskCall, Reading, Writing, Syncing}
 use Rattle.c8_disk.specs.Past.{IsImage, LeftSince}
 
--- Of what it is known to hold: the images that a crash now may leave; the moment, which is how many writes and syncs are
--- noted; and the images that a crash at some moment since may have left.
+-- The images that a crash may leave now; the moment, which is how many writes and syncs are noted; and the images that
+-- a crash at some moment since may have left.
 abbrev pub images : Held → List ℕ → Type 0
 images held = IsImage held.first.value.items held.calls.items
 
@@ -25,7 +25,7 @@ module _ {S : Type 0} where
   abbrev pub file_bytes : FileDisk S → List ℕ
   file_bytes disk = disk.held.bytes.items
 
-  -- what it held when it was opened, and each call that wrote or synced since: all that a crash is told from
+  -- what it held when it was opened, and each noted call since: all that determines what a crash may leave
   abbrev pub file_first : FileDisk S → List ℕ
   file_first disk = disk.held.first.value.items
 
@@ -51,16 +51,16 @@ module _ {S : Type 0} where
   abbrev pub file_failures : FileDisk S → ℕ
   file_failures disk = length disk.health.failures.items
 
-  -- how many calls were to write or sync since it was opened, with those that were refused
+  -- how many calls were to write or sync since it was opened, refused ones too
   abbrev pub file_changes : FileDisk S → ℕ
   file_changes disk = length disk.asked.items
 
-  -- what `arm` was told, the oldest first
+  -- the values given to `arm`, oldest first
   abbrev pub file_arms : FileDisk S → List Arm
   file_arms disk = disk.arms.items
 
-  -- after a call that is answered so: it is still the file that was opened, and it is down where the call failed, and only
-  -- there; a read takes no disk down
+  -- after a call with this answer: it is still the file that was opened, and it is down exactly if the call failed; a
+  -- read takes no disk down
   abbrev pub IsFileAfter : FileDisk S → Result (Unit {0}) DiskError → FileDisk S → Type 0
   IsFileAfter old result new = (file_first new ≡ file_first old) × (IsErrOf result Failed ↔ (file_is_down new ≡ true))
 
@@ -69,7 +69,7 @@ module _ {S : Type 0} where
   IsFileCall old (Writing at bytes result) new = IsFileAfter old result new
   IsFileCall old (Syncing result) new = IsFileAfter old result new
 
-  -- told when to fail, which it only notes
+  -- after `arm`, which only notes the value
   abbrev pub IsFileTold : FileDisk S → Arm → FileDisk S → Type 0
   IsFileTold old arm new =
       (file_bytes new ≡ file_bytes old) × (file_first new ≡ file_first old) × (file_calls new ≡ file_calls old) × (file_is_down new ≡ file_is_down old) × (file_arms new ≡ file_arms old ++ arm ∷ [])

@@ -1,4 +1,4 @@
--- What a disk in memory shows, and what its calls make of that.
+-- What a disk in memory shows, and what its calls do to that.
 use Rattle.std.specs.Prelude.{◌≡◌, ◌<◌, ◌≤◌, ◌↔◌, ℕ, ◌+◌, ◌-◌, ◌==◌, ◌||◌, Bool, true, false, List, [], ◌∷◌, ◌++◌, length, Result, Ok, Err, IsErrOf}
 use Rattle.c8_disk.specs.Disk.{DiskCall, Reading, Writing, Syncing, longest_write, overwritten}
 use Rattle.c8_disk.specs.declared.error.DiskError.{DiskError}
@@ -15,19 +15,19 @@ use Rattle.c8_disk.specs.Budget.{fails_now, refuses_call, stepped, after_failure
 abbrev pub bytes_of : MemDisk → List ℕ
 bytes_of disk = disk.bytes.items
 
--- what it held at first, and each call that wrote or synced since: all that a crash is told from
+-- what it held at first, and each call that wrote or synced since: all that determines what a crash may leave
 abbrev pub first_of : MemDisk → List ℕ
 first_of disk = disk.first.items
 
 abbrev pub calls_of : MemDisk → List Call
 calls_of disk = disk.calls.items
 
--- the images that a crash now may leave
+-- the images that a crash may leave now
 abbrev pub images_of : MemDisk → List ℕ → Type 0
 images_of disk = IsImage disk.first.items disk.calls.items
 
--- the moment: how many writes and syncs it served since it was made or since the last crash (`changes_of` counts otherwise);
--- and the images that a crash at some moment since may have left
+-- the moment: how many writes and syncs it served since it was made or since the last crash (`changes_of` counts
+-- differently); and the images that a crash at some moment since may have left
 abbrev pub moment_of : MemDisk → ℕ
 moment_of disk = length disk.calls.items
 
@@ -51,18 +51,18 @@ calls_allowed disk = disk.allowed
 abbrev pub arm_of : MemDisk → Arm
 arm_of disk = disk.budget.arm
 
--- what `arm` and `stop_after` were told, the oldest first
+-- the values given to `arm` and `stop_after`, oldest first
 abbrev pub arms_of : MemDisk → List Arm
 arms_of disk = disk.arms.items
 
 abbrev pub failures_of : MemDisk → ℕ
 failures_of disk = length disk.budget.failures.items
 
--- how many calls were to write or sync since it was made, over crashes and with those that were refused
+-- how many calls were to write or sync since it was made, across crashes and with refused ones
 abbrev pub changes_of : MemDisk → ℕ
 changes_of disk = length disk.asked.items
 
--- its calls are spent, or it was told to fail now
+-- its calls are spent, or a failure is armed for the next call
 abbrev pub refuses_next : MemDisk → Bool
 refuses_next disk = refuses_call disk.budget
 
@@ -93,19 +93,19 @@ value_of disk = record {
   changes = changes_of disk;
 }
 
--- an empty one
+-- an empty disk
 abbrev pub new_value : ℕ → ℕ → MemValue
 new_value capacity calls =
     record { bytes = []; first = []; calls = []; room = capacity; left = calls; allowed = calls; arm = Off; arms = []; failures = 0; changes = 0 }
 
--- after a call that was served, and after one that failed
+-- after a served call, and after a failed one
 abbrev pub served : MemValue → MemValue
 served v = record v { left = v.left - 1; arm = stepped v.arm }
 
 abbrev pub failed : MemValue → MemValue
 failed v = record v { failures = v.failures + 1; arm = after_failure v.arm }
 
--- one call more that was to write or sync
+-- one more call that was to write or sync
 abbrev pub asked : MemValue → MemValue
 asked v = record v { changes = v.changes + 1 }
 
@@ -124,11 +124,11 @@ after_sync (Ok _) v = record (served (asked v)) { calls = v.calls ++ Sync ∷ []
 after_sync (Err Failed) v = failed (asked v)
 after_sync (Err Full) v = asked v
 
--- the next call is refused, by its value
+-- the next call is refused, by the disk's value
 abbrev pub is_refusing : MemValue → Bool
 is_refusing v = v.left == 0 || fails_now v.arm
 
--- What a call makes of it. It fails where the disk refuses the next call, and only there; elsewhere a write that has no room is
+-- What a call does to the disk. It fails exactly if the disk refuses the next call; otherwise a write without room is
 -- refused as full.
 abbrev pub IsMemoryCall : MemValue → DiskCall → MemValue → Type 0
 IsMemoryCall v (Reading at count result) w = (IsErrOf result Failed ↔ (is_refusing v ≡ true)) × (IsErrOf result Full → ⊥) × (w ≡ after_read result v)
@@ -137,6 +137,6 @@ IsMemoryCall v (Writing at bytes result) w =
     × (IsErrOf result Failed ↔ (is_refusing v ≡ true)) × (IsErrOf result Full ↔ ((is_refusing v ≡ false) × (v.room < at + length bytes))) × IsWritten at bytes result v w
 IsMemoryCall v (Syncing result) w = (IsErrOf result Failed ↔ (is_refusing v ≡ true)) × (IsErrOf result Full → ⊥) × (w ≡ after_sync result v)
 
--- told when its calls fail from now on
+-- after `arm`
 abbrev pub with_arm : Arm → MemValue → MemValue
 with_arm arm v = record v { arm = arm; arms = v.arms ++ arm ∷ [] }

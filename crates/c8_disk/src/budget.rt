@@ -1,10 +1,10 @@
-//! How long a disk in memory serves.
+//! How many calls a disk in memory serves.
 ghost use Rattle.std.specs.Prelude.{◌≡◌, ◌+◌, ◌-◌, true, false, length};
 
 use crate::Arm;
 use crate::ghost_list::GhostList;
 
-/// The calls that it still serves, and when it fails before that.
+/// How many calls the disk still serves, and which calls fail before that.
 #[derive(Drop)]
 pub(crate) struct Budget {
     pub(crate) calls: u32,
@@ -15,8 +15,8 @@ pub(crate) struct Budget {
 impl Budget {
     ghost use Rattle.c8_disk.specs.Budget.{refuses_call, stepped, after_failure};
 
-    /// Whether this call is refused. A refused call counts as a failure; where one call alone was to
-    /// fail, none is to after it.
+    /// Returns whether this call is refused, and counts the failure if it is. If only one call was to fail, later ones
+    /// do not.
     pub(crate) fn refuses(&mut self) -> bool
         ensures refused { result ≡ refuses_call self.old }
         ensures yes { result ≡ true
@@ -35,7 +35,7 @@ impl Budget {
         true
     }
 
-    /// Counts a call that is served.
+    /// Counts a served call.
     pub(crate) fn spend(&mut self)
         requires { refuses_call self.old ≡ false }
         ensures calls { self.new.calls ≡ self.old.calls - 1 }

@@ -1,11 +1,11 @@
-//! Writes to bytes in memory, whole or torn, in room that was reserved.
+//! Writes to bytes in memory, whole or torn, in reserved room.
 ghost use Rattle.std.specs.Prelude.{◌≡◌, ◌≤◌, ◌<◌, ◌+◌, ◌++◌, length, vec_len, vec_capacity};
 ghost use Rattle.c8_disk.specs.Disk.{overwritten, Torn};
 
 use rand_pcg::Pcg32;
 use rand_pcg::rand_core::utils::NextWord;
 
-/// Adds bytes at the end.
+/// Appends bytes.
 fn extend_reserved(file: &mut Vec<u8>, bytes: &[u8])
     requires { vec_len file.old + length bytes.now ≤ vec_capacity file.old }
     ensures items { file.new.items ≡ file.old.items ++ bytes.now }
@@ -14,7 +14,7 @@ fn extend_reserved(file: &mut Vec<u8>, bytes: &[u8])
     let _extended = file.extend_from_slice(bytes);
 }
 
-/// Puts other bytes in the place of all that is there.
+/// Replaces all bytes.
 pub(crate) fn replace(file: &mut Vec<u8>, bytes: &[u8])
     requires { length bytes.now ≤ vec_capacity file.old }
     ensures items { file.new.items ≡ bytes.now }
@@ -24,7 +24,7 @@ pub(crate) fn replace(file: &mut Vec<u8>, bytes: &[u8])
     extend_reserved(file, bytes);
 }
 
-/// Writes over what is there, and past the end.
+/// Writes over the bytes from `at` on, and past their end.
 pub(crate) fn overwrite(file: &mut Vec<u8>, at: usize, bytes: &[u8])
     requires place { at ≤ vec_len file.old }
     requires room { at + length bytes.now ≤ vec_capacity file.old }
@@ -37,7 +37,7 @@ pub(crate) fn overwrite(file: &mut Vec<u8>, at: usize, bytes: &[u8])
     extend_reserved(file, past);
 }
 
-/// Writes one byte over what is there, or at the end.
+/// Writes one byte over another, or at the end.
 fn put(file: &mut Vec<u8>, at: usize, byte: u8)
     requires place { at ≤ vec_len file.old }
     requires room { at < vec_capacity file.old }
@@ -52,8 +52,8 @@ fn put(file: &mut Vec<u8>, at: usize, byte: u8)
     }
 }
 
-/// Writes as a crash may leave it: the first of the bytes, as many as it chooses, each as it was to
-/// be or as any other.
+/// Tears a write, as a crash may: writes the first of the bytes, as many as `choices` draws, each as given or as any
+/// other byte.
 pub(crate) fn tear(file: &mut Vec<u8>, at: usize, bytes: &[u8], choices: &mut Pcg32)
     requires { at + length bytes.now ≤ vec_capacity file.old }
     ensures torn { Torn at (length bytes.now) file.old.items file.new.items }

@@ -1,4 +1,4 @@
-//! The calls that change a disk, kept so that its images can be told from them.
+//! The calls that changed a disk, kept to find the images that a crash may leave.
 ghost use Rattle.std.specs.Prelude.{◌≡◌, ◌≤◌, [], ◌∷◌, length, vec_capacity, true};
 ghost use Rattle.c8_disk.specs.Disk.{longest_write};
 ghost use Rattle.c8_disk.specs.Past.{content, synced_count, are_lawful, fit, IsWriteOf, TornBy};
@@ -10,7 +10,7 @@ use rand_pcg::Pcg32;
 /// A call that wrote or synced.
 #[derive(Clone, Copy)]
 pub enum Call {
-    /// The first `length` of these bytes were written at this place.
+    /// The first `length` of these bytes were written at place `at`.
     Write {
         at: u32,
         length: u32,
@@ -32,7 +32,7 @@ pub(crate) fn write_call(at: u32, bytes: &[u8]) -> Call
     }
 }
 
-/// How many calls there were up to the last sync.
+/// Returns how many calls there are up to the last sync.
 pub(crate) fn count_synced(calls: &[Call]) -> usize
     ensures { result ≡ synced_count calls.now }
 {
@@ -45,7 +45,7 @@ pub(crate) fn count_synced(calls: &[Call]) -> usize
     synced
 }
 
-/// Makes a call again.
+/// Repeats a call.
 fn repeat(file: &mut Vec<u8>, call: &Call)
     requires lawful { are_lawful file.old.items (call.now ∷ []) ≡ true }
     requires fits { fit (vec_capacity file.old) (call.now ∷ []) ≡ true }
@@ -57,7 +57,7 @@ fn repeat(file: &mut Vec<u8>, call: &Call)
     }
 }
 
-/// Makes the calls again.
+/// Repeats the calls.
 pub(crate) fn replay(file: &mut Vec<u8>, calls: &[Call])
     requires lawful { are_lawful file.old.items calls.now ≡ true }
     requires fits { fit (vec_capacity file.old) calls.now ≡ true }

@@ -5,24 +5,24 @@ ghost use Rattle.c8_disk.specs.Disk.{DiskCall, Reading, Writing, Syncing, AddsNo
 
 use crate::DiskError;
 
-/// The most bytes that one write may have.
+/// The most bytes of one write.
 pub const LONGEST_WRITE: usize = 144;
 
-/// When the calls of a disk are to fail. A [`crate::MemDisk`] fails then; a [`crate::FileDisk`]
-/// only notes what it was told, and fails when it fails.
+/// When the calls of a disk are to fail. A [`crate::MemDisk`] fails then. A [`crate::FileDisk`] only notes the value,
+/// and fails when the system does.
 #[derive(Clone, Copy, Debug, PartialEq, Eq, Hash)]
 pub enum Arm {
     /// No call is to fail.
     Off,
-    /// Once this many more calls that read, write or sync are served: each one from then on fails,
-    /// with no effect. A call that is refused is not served, and doesn't count.
+    /// After this many more served calls that read, write or sync, each call fails, with no effect. A refused call is
+    /// not served and does not count.
     Stop(u64),
-    /// After this many more calls that were served the next one fails, with no effect; those after it
-    /// are served. A call that is refused as full isn't counted.
+    /// After this many more served calls, the next one fails, with no effect; later calls are served. A call that is
+    /// refused as full does not count.
     Once(u64),
 }
 
-/// A row of bytes that grows by writes, and that a crash may tear.
+/// A list of bytes that grows by writes, and that a crash may tear.
 pub trait Disk {
     /// The bytes that a read gives.
     ghost seen: { Self → List ℕ };
@@ -30,51 +30,46 @@ pub trait Disk {
     /// The images that a crash at this moment may leave.
     ghost may_leave: { Self → List ℕ → Type 0 };
 
-    /// The moment, as a number that doesn't fall. It is no count of calls: one that leaves the
-    /// images as they are may leave the moment too.
+    /// The moment, a number that never falls. It does not count calls: one that changes no image may leave it as it is.
     ghost moment: { Self → ℕ };
 
-    /// The images that a crash at some moment from that one on may have left, inside a call or
-    /// between two.
+    /// The images that a crash at some moment from that one on may have left, inside a call or between two.
     ghost left_since: { Self → ℕ → List ℕ → Type 0 };
 
     /// How often the disk has failed.
     ghost failures: { Self → ℕ };
 
-    /// How many calls that write or sync there were, the refused ones too: a count of what was
-    /// asked for, and no measure of time or of what changed.
+    /// How many calls asked to write or sync, refused ones too. It measures neither time nor changes.
     ghost changes: { Self → ℕ };
 
-    /// How many bytes there is room for.
+    /// How many bytes fit.
     ghost capacity: { Self → ℕ };
 
-    /// What `arm` was told, the oldest first.
+    /// The values given to `arm`, oldest first.
     ghost arms: { Self → List Arm };
 
-    /// What a call that reads, writes or syncs makes of it, by what it answers: what one who knows
-    /// the kind of disk rests on.
+    /// What a call that reads, writes or syncs does to the disk, by its answer. For callers that know the kind of disk.
     ghost does: { Self → DiskCall → Self → Type 0 };
 
-    /// What `arm` makes of it, for one who knows the kind.
+    /// What `arm` does to the disk. For callers that know the kind of disk.
     ghost told: { Self → Arm → Self → Type 0 };
 
-    /// How many bytes there are.
+    /// Returns how many bytes there are.
     fn len(&self) -> u32
         ensures { result ≡ length (seen self.now) };
 
-    /// How many bytes there is room for. It stays the same over every call.
+    /// Returns how many bytes fit. No call changes it.
     fn capacity(&self) -> u32
         ensures { result ≡ capacity self.now };
 
-    /// The bytes that a read gives, lent in place: by a disk that holds them all in memory, and
-    /// `None` of one that doesn't. It asks nothing of the disk: it is no read, never fails, and
-    /// counts for no `arm`. So it doesn't tell whether a read would fail, and where one has to be
-    /// made it is made beside it.
+    /// Lends the bytes that a read gives, if the disk holds them all in memory; otherwise `None`.
+    ///
+    /// This is not a read: it asks nothing of the disk, never fails, and does not count for `arm`. So it does not show
+    /// whether a read would fail; a caller that has to know makes the read as well.
     fn held(&self) -> Option<&[u8]>
         ensures { IfSome result (λ bytes. bytes.now ≡ seen self.now) };
 
-    /// Reads as many bytes as `buffer` has, from the place `at` on. At an error `buffer` may hold
-    /// anything.
+    /// Reads as many bytes as `buffer` has, from place `at` on. After an error `buffer` may hold anything.
     fn read_at(&mut self, at: u32, buffer: &mut [u8]) -> Result<(), DiskError>
         requires { at + length buffer.old ≤ length (seen self.old) }
         ensures read { OnOk result
@@ -90,9 +85,9 @@ pub trait Disk {
         ensures arms { arms self.new ≡ arms self.old }
         ensures does { does self.old (Reading at (length buffer.old) result) self.new };
 
-    /// Writes over what is there, and past the end. Until a sync that answers `Ok`, a crash may
-    /// leave any bytes in the range. A write that answers `Failed` may have done any part of its
-    /// work; one that answers `Full` did none.
+    /// Writes bytes over those from place `at` on, and past their end. Until a sync answers `Ok`, a crash may leave any
+    /// bytes in this range. A write that answers `Failed` may have done any part of its work; one that answers `Full`
+    /// did none.
     fn write_at(&mut self, at: u32, bytes: &[u8]) -> Result<(), DiskError>
         requires place { at ≤ length (seen self.old) }
         requires short { length bytes.now ≤ longest_write }
@@ -108,7 +103,7 @@ pub trait Disk {
         ensures arms { arms self.new ≡ arms self.old }
         ensures does { does self.old (Writing at bytes.now result) self.new };
 
-    /// After an `Ok`, a crash leaves what a read gives.
+    /// Makes all writes durable. After an `Ok` a crash leaves what a read gives.
     fn sync(&mut self) -> Result<(), DiskError>
         ensures durable { OnOk result (Only (seen self.old) (may_leave self.new)) }
         ensures seen { seen self.new ≡ seen self.old }
@@ -122,7 +117,7 @@ pub trait Disk {
         ensures arms { arms self.new ≡ arms self.old }
         ensures does { does self.old (Syncing result) self.new };
 
-    /// Says when calls fail from now on. It changes nothing that a read or a crash gives.
+    /// Sets when calls fail from now on. It changes nothing that a read or a crash gives.
     fn arm(&mut self, arm: Arm)
         ensures seen { seen self.new ≡ seen self.old }
         ensures crash { AddsNone (may_leave self.old) (may_leave self.new) }
@@ -138,11 +133,11 @@ pub trait Disk {
     /// What a read gives is one of the images.
     ghost reads_now: { (disk : Self) → may_leave disk (seen disk) };
 
-    /// This moment is one of those since an earlier one.
+    /// The present moment is among those since an earlier one.
     ghost counts_now: { (disk : Self) (t : ℕ) (image : List ℕ) → t ≤ moment disk
         → may_leave disk image → left_since disk t image };
 
-    /// Since this moment there is no other.
+    /// Since the present moment there is no other.
     ghost only_now: { (disk : Self) (image : List ℕ)
         → left_since disk (moment disk) image → may_leave disk image };
 }

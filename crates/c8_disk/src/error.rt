@@ -1,4 +1,4 @@
-//! Why a call of a disk, or the opening of a file as one, is refused.
+//! Why a call of a disk is refused, or why a file is not opened as a disk.
 ghost use Rattle.std.specs.Prelude.{◌≡◌};
 ghost use Rattle.c8_disk.specs.Errors.{disk_number_of, file_number_of};
 ghost use Rattle.c8_disk.specs.declared.error.FileError.TheVariants.{Failed, Memory};
@@ -13,13 +13,13 @@ pub enum DiskError {
     /// The disk failed in this call.
     #[error("the disk failed")]
     Failed,
-    /// The write would end past the disk's capacity. Nothing was written.
+    /// The write would go beyond the disk's capacity. Nothing was written.
     #[error("the disk is full")]
     Full,
 }
 
 impl DiskError {
-    /// The number that stands for it in what a program prints.
+    /// Returns the number of the error, as programs print it.
     pub fn number(self) -> u8
         ensures { result ≡ disk_number_of self }
     {
@@ -37,23 +37,22 @@ impl DiskError {
     }
 }
 
-/// Why a file was not opened as a disk. None of its bytes was changed.
+/// Why a file was not opened as a disk. No byte of it was changed.
 #[derive(Clone, Copy, Debug, PartialEq, Eq, Hash, Error)]
 pub enum FileError {
-    /// A call of the system failed, or what stands at the path is no file that this process alone
-    /// may read and write.
+    /// A call of the system failed, or the path is not a regular file that can be locked, read and written.
     #[error("the file cannot be used")]
     Failed,
     /// The file is longer than the capacity.
     #[error("the file is longer than the disk's capacity")]
     Full,
-    /// The system refused the memory for the capacity.
+    /// The memory for the capacity was refused.
     #[error("out of memory")]
     Memory,
 }
 
 impl FileError {
-    /// The number that stands for it in what a program prints.
+    /// Returns the number of the error, as programs print it.
     pub fn number(self) -> u8
         ensures { result ≡ file_number_of self }
     {

@@ -18,14 +18,15 @@ use std::fs::File;
 use std::rt::Files;
 pub use system::{OpenedFile, SystemFile};
 
-/// A disk in a file. What the file holds is kept in memory too, and a read is of that: what the file
-/// held when it was opened, with what was written since. Nobody else writes it meanwhile, since it is
-/// locked. After a write or a sync that failed every call fails, until the file is opened anew. No
-/// call takes memory: room for the whole capacity is reserved at the opening, as address space, of
-/// which as much becomes resident as the file is long.
+/// A disk in a file.
 ///
-/// That a crash leaves in the file what the model of a disk says is a premise. So the device has to
-/// spare the other bytes of a sector of which one byte is written.
+/// The contents of the file are also kept in memory, and reads are served from there: the bytes at the opening, with
+/// all writes since. The file is locked, so no other disk opens it. After a write or a sync failed, every call fails
+/// until the file is opened again. No call takes memory: the opening reserves the whole capacity as address space, and
+/// only as much becomes resident as the file is long.
+///
+/// One premise is not proved: that a crash leaves in the file what the model of a disk says. So a device must not
+/// damage the other bytes of a sector in which one byte is written.
 #[derive(Drop)]
 pub struct FileDisk<S = OpenedFile> {
     file: S,
@@ -35,7 +36,7 @@ pub struct FileDisk<S = OpenedFile> {
     arms: GhostList<Arm>,
 }
 
-/// Its length and its capacity, and whether it is down.
+/// Prints the length, the capacity and whether the disk is down.
 impl<S> fmt::Debug for FileDisk<S> {
     fn fmt<W: fmt::Write>(&self, f: &mut fmt::Formatter<W>) -> fmt::Result {
         let length = self.held.bytes.len();
@@ -48,7 +49,7 @@ impl<S> fmt::Debug for FileDisk<S> {
     }
 }
 
-/// Reserves room for all that a disk may hold.
+/// Reserves the memory for all that a disk may hold.
 fn reserve(alloc: Global, capacity: u32) -> Result<Vec<u8>, FileError>
     ensures room { IfOk result (λ bytes. capacity ≤ vec_capacity bytes) }
     ensures memory { IfErr result (λ error. error ≡ FileError.Memory) }
@@ -56,8 +57,7 @@ fn reserve(alloc: Global, capacity: u32) -> Result<Vec<u8>, FileError>
     Ok(Vec::with_capacity(alloc, capacity as usize)?)
 }
 
-/// Locks a file, makes what it holds durable, and reads it once, from the device and not from the
-/// system's memory.
+/// Locks a file, makes its contents durable, and reads it once, from the device and not from the system's cache.
 fn read_durable<S: SystemFile>(
     file: &S,
     bytes: &mut Vec<u8>,
@@ -83,14 +83,13 @@ fn read_durable<S: SystemFile>(
 impl FileDisk {
     ghost use Rattle.c8_disk.specs.File.{file_bytes, file_first, file_calls, file_images, file_room, file_is_down};
 
-    /// Opens the file at this path as a disk with room for `capacity` bytes, and makes the file if
-    /// there is none. The file is locked as long as the disk lives, made durable with its name, and
-    /// read once, from the device.
+    /// Opens the file at this path as a disk with room for `capacity` bytes, and makes the file if there is none. The
+    /// file stays locked as long as the disk lives. Its contents and its name are made durable, and it is read once,
+    /// from the device.
     ///
-    /// `Failed`: it can't be opened to read and to write, is no regular file, is open as a disk
-    /// elsewhere, or a call of the system failed. `Full`: it is longer than `capacity`. `Memory`:
-    /// the system refuses the room, and no file was made. None of its bytes is changed by any of
-    /// these.
+    /// `Failed`: it cannot be opened to read and write, is not a regular file, is open as a disk elsewhere, or a call
+    /// of the system failed. `Full`: it is longer than `capacity`. `Memory`: the memory was refused, and no file was
+    /// made. None of these changes a byte of the file.
     pub fn open<R: Files<File = File> + AllocGlobal>(
         rt: &R,
         path: &str,
@@ -111,12 +110,11 @@ impl FileDisk {
 impl<S: SystemFile> FileDisk<S> {
     ghost use Rattle.c8_disk.specs.File.{file_bytes, file_first, file_calls, file_images, file_room, file_is_down};
 
-    /// The disk in a file that is open, for one who has a file layer of its own: with room in
-    /// `bytes` for all that it may hold, whatever they are. Locks the file, makes what it holds
-    /// durable with its name, and reads it once; takes no memory.
+    /// Makes a disk of a file that is open, for callers with a file layer of their own. `bytes` gives the memory for
+    /// all that the disk may hold; its contents do not matter. Locks the file, makes its contents and its name durable,
+    /// and reads it once. It takes no memory.
     ///
-    /// `Failed`: a call of the file failed. `Full`: it is longer than `capacity`. None of its bytes
-    /// is changed by either.
+    /// `Failed`: a call of the file failed. `Full`: it is longer than `capacity`. Neither changes a byte of the file.
     pub fn over(file: S, bytes: Vec<u8>, capacity: u32) -> Result<FileDisk<S>, FileError>
         requires { capacity ≤ vec_capacity bytes }
         ensures room { IfOk result (λ disk. file_room disk ≡ capacity) }
@@ -140,7 +138,7 @@ impl<S: SystemFile> FileDisk<S> {
         })
     }
 
-    /// Whether a call has failed, so that each one fails until the file is opened anew.
+    /// Returns whether the disk is down: a write or a sync failed, and each call fails until the file is opened again.
     pub fn is_down(&self) -> bool
         ensures { result ≡ file_is_down self.now }
     {
@@ -186,7 +184,7 @@ impl<S: SystemFile> Disk for FileDisk<S> {
         self.held.room
     }
 
-    /// All of them, also of a disk that is down.
+    /// Lends all bytes, even if the disk is down.
     fn held(&self) -> Option<&[u8]>
         ensures bytes { IfSome result (λ bytes. bytes.now ≡ file_bytes self.now) }
         ensures there { IsSome result }
@@ -209,7 +207,7 @@ impl<S: SystemFile> Disk for FileDisk<S> {
         ensures arms { file_arms self.new ≡ file_arms self.old }
         ensures does { IsFileCall self.old (Reading at (length buffer.old) result) self.new }
 
-        // A disk that is down fails each read, and one that is up none.
+        // A read fails exactly if the disk is down.
         ensures down { IsErrOf result DiskError.Failed ↔ (file_is_down self.old ≡ true) }
         ensures stays { file_is_down self.new ≡ file_is_down self.old }
         ensures first { file_first self.new ≡ file_first self.old }
@@ -245,7 +243,7 @@ impl<S: SystemFile> Disk for FileDisk<S> {
         ensures stays_down { file_is_down self.old ≡ true → IsErrOf result DiskError.Failed }
         ensures first { file_first self.new ≡ file_first self.old }
 
-        // A write that fails is noted too, since it may be torn. One that is not tried is not.
+        // A failed write is noted too, since it may be torn, but not one that was not tried.
         ensures noted { OnOk result
             (AddsWrite at bytes.now (file_calls self.old) (file_calls self.new)) }
         ensures noted_failed { IsErrOf result DiskError.Failed → file_is_down self.old ≡ false
@@ -284,8 +282,7 @@ impl<S: SystemFile> Disk for FileDisk<S> {
         ensures arms { file_arms self.new ≡ file_arms self.old }
         ensures does { IsFileCall self.old (Syncing result) self.new }
 
-        // A call that fails takes the disk down, and a disk that is down fails each call. A sync
-        // that fails is not noted.
+        // A call that fails takes the disk down, and a disk that is down fails each call. A failed sync is not noted.
         ensures down { IsErrOf result DiskError.Failed ↔ (file_is_down self.new ≡ true) }
         ensures stays_down { file_is_down self.old ≡ true → IsErrOf result DiskError.Failed }
         ensures first { file_first self.new ≡ file_first self.old }
@@ -301,7 +298,7 @@ impl<S: SystemFile> Disk for FileDisk<S> {
         Ok(())
     }
 
-    /// Changes nothing else: a file fails when it fails.
+    /// Notes the value and changes nothing else: a file fails when the system does.
     fn arm(&mut self, arm: Arm)
         ensures seen { file_bytes self.new ≡ file_bytes self.old }
         ensures crash { AddsNone (file_images self.old) (file_images self.new) }

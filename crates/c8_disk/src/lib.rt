@@ -1,10 +1,9 @@
 //! A disk that may stop, fail or crash at any moment, inside any call.
 //!
-//! [`Disk`] is a trait whose contract is the model of a disk: what a read gives, and what a crash
-//! may leave. Its words stand in `specs/Disk.antt`. [`MemDisk`] is such a disk in memory, which can
-//! be stopped and crashed, and [`FileDisk`] one in a file: the operating system's, or any that makes
-//! the calls of [`SystemFile`]. Both tell their images from what they held at first and each call
-//! since, by `specs/Past.antt`.
+//! [`Disk`] is a trait whose contract is the model of a disk: what a read gives, and what a crash may leave. Its terms
+//! are defined in `specs/Disk.antt`. [`MemDisk`] is such a disk in memory, which can be stopped and crashed.
+//! [`FileDisk`] is one in a file: the operating system's, or any with the calls of [`SystemFile`]. The images of both
+//! follow from what they held at first and each call since (`specs/Past.antt`).
 #![tactic(auto)]
 
 mod budget;

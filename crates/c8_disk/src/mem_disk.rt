@@ -15,9 +15,9 @@ use rand_pcg::rand_core::SeedableRng;
 use std::alloc::{AllocError, Global};
 use std::fmt;
 
-/// A disk in memory. It serves a number of calls that read, write or sync, and then fails; it keeps
-/// what it held at first and each call that changed it, so that a crash may leave whatever the
-/// model allows. All its room is reserved when it is made.
+/// A disk in memory. It serves a number of calls that read, write or sync, and then fails. It keeps what it held at
+/// first and each call that changed it, so that a crash can leave whatever the model allows. All its memory is reserved
+/// when it is made.
 #[derive(Drop)]
 pub struct MemDisk {
     first: Vec<u8>,
@@ -40,7 +40,7 @@ pub struct MemDisk {
     ghost calls_room: { allowed ≤ vec_capacity calls },
 }
 
-/// Its length and its capacity, and no byte of it.
+/// Prints the length and the capacity, not the bytes.
 impl fmt::Debug for MemDisk {
     fn fmt<W: fmt::Write>(&self, f: &mut fmt::Formatter<W>) -> fmt::Result {
         let length = self.bytes.len();
@@ -49,7 +49,7 @@ impl fmt::Debug for MemDisk {
     }
 }
 
-/// Notes a call, in room that was reserved.
+/// Notes a call, in reserved room.
 fn note(calls: &mut Vec<Call>, call: Call)
     requires { vec_len calls.old < vec_capacity calls.old }
     ensures items { calls.new.items ≡ calls.old.items ++ call ∷ [] }
@@ -61,7 +61,7 @@ fn note(calls: &mut Vec<Call>, call: Call)
 impl MemDisk {
     ghost use Rattle.c8_disk.specs.Memory.{bytes_of, first_of, calls_of, images_of, moment_of, left_since, synced_of, calls_allowed, value_of, new_value, with_arm};
 
-    /// An empty disk with room for `capacity` bytes, which serves `calls` calls.
+    /// Makes an empty disk with room for `capacity` bytes, which serves `calls` calls.
     pub fn new(alloc: Global, capacity: u32, calls: u32) -> Result<MemDisk, AllocError>
         ensures value { IfOk result (λ disk. value_of disk ≡ new_value capacity calls) }
         ensures settled { IfOk result (λ disk. Only (bytes_of disk) (images_of disk)) }
@@ -82,7 +82,7 @@ impl MemDisk {
         })
     }
 
-    /// Serves `calls` more calls that read, write or sync, and fails each one after them.
+    /// Serves `calls` more calls that read, write or sync; each call after them fails.
     pub fn stop_after(&mut self, calls: u64)
         ensures value { value_of self.new ≡ with_arm (Arm.Stop calls) (value_of self.old) }
         ensures crash { AddsNone (images_of self.old) (images_of self.new) }
@@ -94,16 +94,16 @@ impl MemDisk {
         self.arms = self.arms.and(&Arm::Stop(calls));
     }
 
-    /// What a read gives.
+    /// Returns what a read gives.
     pub fn bytes(&self) -> &[u8]
         ensures { result.now ≡ bytes_of self.now }
     {
         &self.bytes
     }
 
-    /// A disk that holds an image which a crash at this moment may leave. It serves all its calls
-    /// anew, and none is to fail. Pick 0 is what was last synced, pick 1 what a read gives, and any
-    /// other pick is chosen by a generator seeded with it.
+    /// Crashes: returns a disk that holds an image that a crash at this moment may leave. It serves as many calls as a
+    /// new one, and no failure is armed. Pick 0 is what was last synced, pick 1 is what a read gives, any other pick
+    /// seeds a generator that chooses.
     pub fn crash(self, pick: u64) -> MemDisk
         ensures image { images_of self (bytes_of result) }
         ensures between_syncs { IsBetweenSyncs (first_of self) (calls_of self) (bytes_of result) }
@@ -149,8 +149,7 @@ impl MemDisk {
     }
 }
 
-/// Puts an image that a crash may leave in the place of what a read gives. The first bytes are used
-/// up.
+/// Replaces what a read gives by an image that a crash may leave. The first bytes are used up.
 fn leave_image(first: &mut Vec<u8>, bytes: &mut Vec<u8>, calls: &[Call], pick: u64)
     requires lawful { are_lawful first.old.items calls.now ≡ true }
     requires replayed { bytes.old.items ≡ content first.old.items calls.now }
@@ -212,7 +211,7 @@ impl Disk for MemDisk {
         self.room
     }
 
-    /// All of them, also where the next read is to fail.
+    /// Lends all bytes, even if the next read is to fail.
     fn held(&self) -> Option<&[u8]>
         ensures bytes { IfSome result (λ bytes. bytes.now ≡ bytes_of self.now) }
         ensures there { IsSome result }
@@ -234,8 +233,7 @@ impl Disk for MemDisk {
         ensures capacity { room_of self.new ≡ room_of self.old }
         ensures arms { arms_of self.new ≡ arms_of self.old }
 
-        // It fails where its calls are spent or it was told to fail, and only there. A call that
-        // was refused is not served.
+        // It fails exactly if its calls are spent or a failure is armed. A refused call is not served.
         ensures failed { IsErrOf result DiskError.Failed ↔ (refuses_next self.old ≡ true) }
         ensures value { value_of self.new ≡ after_read result (value_of self.old) }
         ensures does { IsMemoryCall (value_of self.old) (Reading at (length buffer.old) result) (value_of self.new) }
@@ -264,8 +262,7 @@ impl Disk for MemDisk {
         ensures capacity { room_of self.new ≡ room_of self.old }
         ensures arms { arms_of self.new ≡ arms_of self.old }
 
-        // It fails where its calls are spent or it was told to fail, and only there. A call that
-        // was refused is not served.
+        // It fails exactly if its calls are spent or a failure is armed. A refused call is not served.
         ensures failed { IsErrOf result DiskError.Failed ↔ (refuses_next self.old ≡ true) }
         ensures value { IsWritten at bytes.now result (value_of self.old) (value_of self.new) }
         ensures does { IsMemoryCall (value_of self.old) (Writing at bytes.now result) (value_of self.new) }
@@ -295,8 +292,7 @@ impl Disk for MemDisk {
         ensures capacity { room_of self.new ≡ room_of self.old }
         ensures arms { arms_of self.new ≡ arms_of self.old }
 
-        // It fails where its calls are spent or it was told to fail, and only there. A call that
-        // was refused is not served.
+        // It fails exactly if its calls are spent or a failure is armed. A refused call is not served.
         ensures failed { IsErrOf result DiskError.Failed ↔ (refuses_next self.old ≡ true) }
         ensures value { value_of self.new ≡ after_sync result (value_of self.old) }
         ensures does { IsMemoryCall (value_of self.old) (Syncing result) (value_of self.new) }

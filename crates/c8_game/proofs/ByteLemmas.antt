@@ -1,4 +1,4 @@
--- What is read of joined bytes, and of decoded ones, is a byte.
+-- Joined bytes and decoded bytes are bytes.
 use Rattle.std.proofs.Common.{◌≡◌, ℕ, ◌-◌, ◌<◌, ◌^◌, Bool, true, false, cond, List, ◌++◌, length, slice_index, Ok, inl, inr}
 use Rattle.std.proofs.lemmas.Bool.{cases_lt}
 use Rattle.std.proofs.Math.ListN.{get_or-append}

@@ -1,4 +1,4 @@
--- What one more line changes of what a draft holds.
+-- How one more line changes a draft.
 use Rattle.std.proofs.Common.{◌≡◌, ℕ, ◌⊎◌, Bool, true, false, not, cond, length, List, [], ◌∷◌, ◌++◌, Option, Some, None, Result, Ok, Err, refl, ap, sym, ◌∙◌, inl, inr, ◌&&◌, ◌||◌, ◌==◌, ◌<◌, ◌≤◌, nat_lt, get_or, arith}
 use Rattle.std.specs.Prelude.{slice_set, codes, MatchResult, OnOk, IfErr, is_ok, is_some, is_none, nat_le, slice_index, unwrap_or}
 use Rattle.std.specs.List.{list_any, AllZip}
@@ -29,7 +29,7 @@ numbers_more field items item = flat_map-append (number_in field) items (item �
 code_more : (items : List Item) (item : Item) → code_of (items ++ item ∷ []) ≡ code_of items ++ code_in item
 code_more items item = flat_map-append code_in items (item ∷ []) ∙ ap (λ more. code_of items ++ more) (append-nil (code_in item))
 
--- an item that is no number leaves the numbers
+-- an item that is not a number changes no numbers
 numbers_stay : (field : Field) (items : List Item) (item : Item) → number_in field item ≡ [] → numbers_for field (items ++ item ∷ []) ≡ numbers_for field items
 numbers_stay field items item none = numbers_more field items item ∙ ap (λ more. numbers_for field items ++ more) none ∙ append-nil (numbers_for field items)
 
@@ -81,7 +81,7 @@ none_listed : (value : Option ℕ) → is_some value ≡ false → listed value 
 none_listed None none = refl
 none_listed (Some number) none = absurd (cc)
 
--- the field of a line was named before exactly where the draft has a number for it
+-- an earlier line names the field exactly if the draft has a number for it
 named_before : (draft : Draft) (field : Field) (before : List (List ℕ)) (items : List Item) → AllZip Says before items → Holds draft items → list_any (names field) before ≡ is_some (number_at draft.values field)
 named_before draft field before items says holds = named_told field before items says ∙ ap (λ numbers. nat_lt 0 (length numbers)) (holds.numbers field) ∙ sym (some_listed (number_at draft.values field))
 
@@ -90,7 +90,7 @@ fault_of_field : (draft : Draft) (before : List (List ℕ)) (items : List Item) 
 fault_of_field draft before items line field says holds said shaped uncoded named =
     fault_named before line said shaped uncoded ∙ ap (λ found. named_fault before found (value_in line)) named ∙ ap (λ again. field_fault field again (value_in line)) (named_before draft field before items says holds)
 
--- a field that had no number has this one now, and the others have theirs
+-- the field has its first number now, and the others keep theirs
 number_more : (old new : Draft) (items : List Item) (field : Field) (number : ℕ) → length old.values ≡ 11 → Holds old items → is_some (number_at old.values field) ≡ false
     → new.values ≡ slice_set old.values (index_of field) (Some number) → new.program.items ≡ old.program.items → Holds new (items ++ Number field number ∷ [])
 number_more old new items field number size holds fresh set same = record {
@@ -197,7 +197,7 @@ finds_none draft items players lacks strays holds told is none some fits stray s
 
 -- ---- from the first number for each field to the rules of a game
 
--- no field is told twice
+-- no field has two numbers
 abbrev pub AreOnce : List Item → Type 0
 AreOnce items = (field : Field) → length (numbers_for field items) ≤ 1
 
@@ -228,7 +228,7 @@ listed_at Mask2 = refl
 listed_at Mask3 = refl
 listed_at Mask4 = refl
 
--- a test that no field passes
+-- if no field passes a test, each field fails it
 pub fails_each : (p : Field → Bool) → list_any p fields ≡ false → (field : Field) → p field ≡ false
 fails_each p none field =
     false_from_ne_true (p field) (λ passes.

@@ -1,4 +1,4 @@
--- A list of numbers by field, after one of them is set.
+-- Numbers by field, after one of them is set.
 use Rattle.std.proofs.Common.{◌≡◌, ◌≢◌, ℕ, ◌<◌, nat_eq, cond, length, Bool, true, false, List, [], ◌∷◌, Option, Some, None, refl, ap, sym, ◌∙◌, arith, get_or-set_same, get_or-set_other, inl, inr}
 use Rattle.std.proofs.lemmas.Bool.{cases_Bool, cases_eq, cond-true, cond-false, false_from_ne_true}
 use Rattle.std.proofs.lemmas.Option.{same_Some}
@@ -46,14 +46,14 @@ index_of-small Mask2 = omega arith
 index_of-small Mask3 = omega arith
 index_of-small Mask4 = omega arith
 
--- one field's number was set, and the others stay
+-- the field has the number that was set, and the others keep theirs
 pub number_at-set_same : (values : List (Option ℕ)) (field : Field) (number : ℕ) → length values ≡ 11 → number_at (slice_set values (index_of field) (Some number)) field ≡ Some number
 number_at-set_same values field number size = let within : index_of field < length values = omega (arith, index_of-small field) in get_or-set_same values (index_of field) (Some number) None within
 
 pub number_at-set_other : (values : List (Option ℕ)) (field other : Field) (number : ℕ) → index_of other ≢ index_of field → number_at (slice_set values (index_of field) (Some number)) other ≡ number_at values other
 number_at-set_other values field other number apart = get_or-set_other values (index_of field) (index_of other) (Some number) None apart
 
--- the numbers stay in their ranges
+-- all numbers stay in their ranges
 pub ranges_kept : (values : List (Option ℕ)) (field : Field) (number : ℕ) → length values ≡ 11 → ((f : Field) (n : ℕ) → number_at values f ≡ Some n → IsWithin f n) → IsWithin field number → (f : Field) (n : ℕ) → number_at (slice_set values (index_of field) (Some number)) f ≡ Some n → IsWithin f n
 ranges_kept values field number size kept within f n has =
     elim (cases_eq (index_of f) (index_of field)) [

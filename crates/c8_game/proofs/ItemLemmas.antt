@@ -1,4 +1,4 @@
--- What a line says, against the name and the value that are read off it.
+-- What a line says, compared with the name and the value that are read from it.
 use Rattle.std.proofs.Common.{◌≡◌, ℕ, ◌+◌, ◌<◌, Bool, true, false, not, cond, length, List, [], ◌∷◌, ◌++◌, ◌&&◌, ◌||◌, Some, None, Ok, refl, ap, sym, ◌∙◌, arith, add_comm, add-one, take, drop, get_or, length-append}
 use Rattle.std.specs.Prelude.{codes, is_some, nat_lt, nat_le, position}
 use Rattle.std.specs.Char.{is_ascii_digit}
@@ -233,7 +233,7 @@ some_joined : (one other : List ℕ) → (nat_lt 0 (length one) || nat_lt 0 (len
 some_joined [] other = refl
 some_joined (first ∷ more) other = or_left (nat_lt 0 (length (first ∷ more))) (nat_lt 0 (length other)) (lt-ltb 0 (length (first ∷ more)) (omega arith)) ∙ sym (lt-ltb 0 (length (first ∷ (more ++ other))) (omega arith))
 
--- a line names a field exactly where an item tells its number
+-- a line names a field exactly if an item has a number for it
 pub named_told : (field : Field) (text_lines : List (List ℕ)) (items : List Item) → AllZip Says text_lines items → list_any (names field) text_lines ≡ is_told items field
 named_told field [] [] says = refl
 named_told field [] (item ∷ items) says = absurd says

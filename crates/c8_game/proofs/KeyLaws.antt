@@ -26,7 +26,7 @@ in_both one other key has = (omega (arith, bit_at_and one other key, bit_at-lt o
 from_both : (one other key : ℕ) → HasKey one key → HasKey other key → HasKey (bit_and one other) key
 from_both one other key first second = omega (arith, bit_at_and one other key)
 
--- a mask that has a key is that of a player of the game
+-- a key in the masked set of a place is held by a player of the game, and that player's mask has it
 held_at : (rules : Rules) (row : Row) (key place : ℕ) → AreInRange rules → HasKey (masked rules row place) key → IsHeld rules row key
 held_at rules row key place ranges has =
     let both = in_both (set_at row place) (slice_index rules.masks place) key has in

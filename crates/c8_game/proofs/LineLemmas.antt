@@ -1,4 +1,4 @@
--- The first line of a text, by the place of its first line feed; and the line that follows others.
+-- The first line of a text, by the place of its first line feed; and the line at a later place.
 use Rattle.std.proofs.Common.{◌≡◌, ℕ, ◌<◌, ◌≤◌, zero, suc, Bool, nat_eq, length, List, [], ◌∷◌, Option, None, Some, Bor, MatchOption, refl, sym, ap, ◌∙◌, arith, rules, inl, inr}
 use Rattle.std.specs.Iterator.{Yields, YieldsFirstRef}
 use Rattle.std.specs.List.{slice_get, position, position_or_len, before_first, after_first, slice_split}
@@ -11,7 +11,7 @@ use Rattle.std.proofs.lemmas.Option.{slice_get_past}
 use Rattle.c8_game.specs.Lines.{lines_left}
 use Rattle.c8_game.specs.declared.text.lines.Lines.{Lines}
 
--- a place is found exactly where one lies within the list
+-- a place that is found lies within the list
 pub within_if_some : {X : Type 0} (p : X → Bool) (xs : List X) → IsSome (position p xs) → position_or_len p xs < length xs
 within_if_some p xs some = elim (cases_lt (position_or_len p xs) (length xs)) [ inl within ↦ within | inr past ↦ search (rules, some) ]
 
@@ -42,7 +42,7 @@ one_less : (line : Option (Bor (List ℕ))) (passed place : ℕ) → MatchOption
 one_less None passed place few = omega (arith, few)
 one_less (Some line) passed place same = omega (arith, same)
 
--- where calls passed over as many lines as a place says, or over all there were, the next one gives the line at that place
+-- after calls that passed as many lines as a place says, or all lines, the next call gives the line at that place
 pub line_after : (first last left : Lines) (passed : List (Bor (List ℕ))) (line : Option (Bor (List ℕ))) (place : ℕ) → Yields (YieldsFirstRef lines_left) first passed last → YieldsFirstRef lines_left last line left
     → MatchOption line (length passed ≤ place) (λ _. length passed ≡ place) → option_map (λ l. l.now) line ≡ slice_get (lines_left first) place
 line_after first last left [] None place same step few = rw (same, step.0) (sym (slice_get_past [] place (omega arith)))

@@ -1,4 +1,4 @@
--- What was read of a text, line after line.
+-- What has been read of a text, line by line.
 use Rattle.std.proofs.Common.{◌≡◌, ℕ, ◌⊎◌, ◌+◌, ◌≤◌, List, [], ◌∷◌, ◌++◌, length, Result, Ok, Err, refl, ap, sym, ◌∙◌, inl, inr, append_assoc, length-append, arith}
 use Rattle.std.specs.Prelude.{MatchResult, IfOk, IfErr}
 use Rattle.std.specs.List.{AllZip}
@@ -16,7 +16,7 @@ use Rattle.c8_game.specs.GameFaults.{line_fault, IsRefused}
 use Rattle.c8_game.specs.Rules.{Rules}
 use Rattle.c8_game.proofs.DraftLemmas.{holds_once, gives_rules}
 
--- the draft holds the lines so far, and they had no fault; the place of the next line is their number
+-- the draft holds the lines so far, and they have no fault; the next line's place is the number of lines read
 pub record HasRead (draft : Draft) (text_lines left : List (List ℕ)) (place : ℕ) : Type 0 where
   pub seen : List (List ℕ)
   pub items : List Item
@@ -35,7 +35,7 @@ says_more (first ∷ seen) (one ∷ items) line item all says = (all.0, says_mor
 pub nothing_read : (draft : Draft) (text_lines left : List (List ℕ)) → left ≡ text_lines → Holds draft [] → HasRead draft text_lines left 0
 nothing_read draft text_lines left same holds = record { seen = []; items = []; says = tt; holds = holds; cut = sym same; faultless = faultless_none line_fault; here = refl }
 
--- there is room to count one more
+-- the counter of lines does not overflow
 pub has_room : (draft : Draft) (text : List ℕ) (rest left : List (List ℕ)) (line : List ℕ) (place : ℕ) → rest ≡ line ∷ left → HasRead draft (lines text) rest place → place ≤ length text
 has_room draft text rest left line place step read =
     let cut : lines text ≡ read.seen ++ line ∷ left = read.cut ∙ ap (λ more. read.seen ++ more) step in
@@ -73,14 +73,14 @@ all_read draft text rest place done read =
     let same = all_seen draft (lines text) rest place done read in
     record { faultless = rw same read.faultless; items = read.items; says = rw same read.says; holds = read.holds }
 
--- what becomes of a text whose lines have no fault
+-- a text without a fault in its lines becomes a game, or is refused after its last line
 pub finished : (draft : Draft) (text : List ℕ) (result : Result Rules GameError) → IsDraftOf text draft → Finishes draft result → MatchResult result (λ rules. Spells text rules) (λ fault. IsRefused text fault)
 finished draft text (Ok rules) of ends =
     let end = ends of.items of.holds in
     (of.items, of.says, gives_rules of.items rules (holds_once draft of.items of.holds) end.0 end.1)
 finished draft text (Err fault) of ends = inr (record { faultless = of.faultless; items = of.items; says = of.says; at_end = ends of.items of.holds })
 
--- what a line at fault makes of the text
+-- a line at fault refuses the text
 pub refused_at : (text : List ℕ) (fault : GameError) (place : ℕ) → (fault ≡ Memory) ⊎ IsFirstFaultAt line_fault (lines text) fault place → (fault ≡ Memory) ⊎ IsRefused text fault
 refused_at text fault place (inl memory) = inl memory
 refused_at text fault place (inr first) = inr (inl first.0)

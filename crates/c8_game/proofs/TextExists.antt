@@ -1,4 +1,4 @@
--- Rules in range have a text that spells them: one line a field and one of code, each ended by a line feed.
+-- Rules in range have a text that spells them: one line for each field and one line of code, each with a line feed.
 use Rattle.std.proofs.Common.{◌≡◌, ℕ, zero, suc, ◌+◌, ◌-◌, ◌*◌, ◌/◌, ◌%◌, ◌^◌, ◌<◌, ◌≤◌, Bool, true, false, cond, length, List, [], ◌∷◌, ◌++◌, get_or, refl, ap, sym, ◌∙◌, inl, inr, arith, nat_lt, ◌&&◌, ◌==◌}
 use Rattle.std.specs.Prelude.{codes, nat_le, flat_map, map, slice_index}
 use Rattle.std.specs.Char.{is_ascii_digit}
@@ -25,7 +25,7 @@ use Rattle.c8_game.specs.Wire.{version_number}
 use Rattle.c8_game.proofs.LineLemmas.{part_and_more}
 use Rattle.c8_game.proofs.WireLemmas.{version_within}
 
--- ---- a decimal of so many digits
+-- ---- a decimal with a given number of digits
 
 padded : ℕ → ℕ → List ℕ
 padded zero number = []
@@ -125,7 +125,7 @@ code_said bytes some each = (encode_lower bytes, refl, decode_of-encode_lower by
 
 -- ---- lines joined to a text
 
--- every byte of such a line is above the two that end lines
+-- each byte of such a line is above the two that end lines
 abbrev is_inner : ℕ → Bool
 is_inner byte = nat_lt 13 byte
 

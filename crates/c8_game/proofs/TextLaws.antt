@@ -1,4 +1,4 @@
--- A text spells one game at most, and it spells one exactly where nothing refuses it.
+-- A text spells at most one game, and it spells one exactly if nothing refuses it.
 use Rattle.std.proofs.Common.{◌≡◌, ℕ, ◌<◌, ◌≤◌, ◌⊎◌, true, false, not, cond, length, List, [], ◌∷◌, ◌++◌, Some, None, Ok, refl, ap, sym, ◌∙◌, inl, inr, append_assoc, length-append, arith, nat_lt, ◌==◌, ◌&&◌, get_or}
 use Rattle.std.specs.Prelude.{codes, is_ok, is_none, nat_le, slice_index}
 use Rattle.std.specs.List.{AllZip, list_any}
@@ -28,7 +28,7 @@ use Rattle.c8_game.proofs.ItemLemmas.{word_said, word_spaceless, word_uncoded, n
 use Rattle.c8_game.proofs.ReadLemmas.{says_more}
 use Rattle.c8_game.proofs.WireLemmas.{one_version, version_for, version_again}
 
--- ---- a line says one thing
+-- ---- a line says at most one thing
 
 one_pair : (name value other more : List ℕ) → list_any is_space name ≡ false → list_any is_space other ≡ false → name ++ 32 ∷ value ≡ other ++ 32 ∷ more → (name ≡ other) × (value ≡ more)
 one_pair name value other more plain bare same = (
@@ -76,19 +76,19 @@ same_items (line ∷ more) [] others all each = absurd all
 same_items (line ∷ more) (item ∷ items) [] all each = absurd each
 same_items (line ∷ more) (item ∷ items) (other ∷ others) all each = rw (one_item line item other all.0 each.0, same_items more items others all.1 each.1) refl
 
--- ---- items give one game
+-- ---- items give at most one game
 
 same_single : (one other : ℕ) → one ∷ [] ≡ other ∷ [] → one ≡ other
 same_single one other same = ap (λ numbers. slice_index numbers 0) same
 
--- the numbers of a field tell one number
+-- the numbers for a field give it at most one number
 one_told : (numbers : List ℕ) (field : Field) (one other : ℕ) → Tell numbers field one → Tell numbers field other → one ≡ other
 one_told numbers field one other (inl here) (inl there) = same_single one other (sym here ∙ there)
 one_told numbers field one other (inl here) (inr absent) = let none : one ∷ [] ≡ [] = sym here ∙ absent.0 in absurd (cc)
 one_told numbers field one other (inr absent) (inl there) = let none : other ∷ [] ≡ [] = sym there ∙ absent.0 in absurd (cc)
 one_told numbers field one other (inr absent) (inr none) = let same : Some one ≡ Some other = sym absent.1 ∙ none.1 in cc
 
--- a field without a default stands
+-- a field without a default has exactly one number
 told_alone : (numbers : List ℕ) (field : Field) (number : ℕ) → is_none (default_of field) ≡ true → Tell numbers field number → numbers ≡ number ∷ []
 told_alone numbers field number needed (inl here) = here
 told_alone numbers field number needed (inr absent) = let found : is_none (Some number) ≡ true = ap is_none (sym absent.1) ∙ needed in absurd (cc)
@@ -160,7 +160,7 @@ once_number items field number once fresh f =
       | inr apart ↦ rw (numbers_more f items (Number field number), apart, append-nil (numbers_for f items)) (once f)
     ]
 
--- what a line without a fault says
+-- what a line without a fault says: an item whose field no earlier item has
 data Meant (seen : List (List ℕ)) (items : List Item) (line : List ℕ) : Type 0 where
   means : (item : Item) → Says line item → AreOnce (items ++ item ∷ []) → Meant seen items line
 
@@ -198,7 +198,7 @@ meant_lines seen items (line ∷ left) says once fine =
       | means item said more ↦ rw (← append_assoc seen (line ∷ []) left) (meant_lines (seen ++ line ∷ []) (items ++ item ∷ []) left (says_more seen items line item says said) more (rw (append_assoc seen (line ∷ []) left) fine))
     ]
 
--- the first number that the lines say lies in its range
+-- the first number of the lines is in its range
 first_within : (field : Field) (untold : ℕ) (text_lines : List (List ℕ)) (items : List Item) → IsWithin field untold → AllZip Says text_lines items → IsWithin field (get_or (numbers_for field items) 0 untold)
 first_within field untold [] [] lies says = lies
 first_within field untold [] (item ∷ items) lies says = absurd says
@@ -211,7 +211,7 @@ first_within field untold (line ∷ more) (Number named number ∷ items) lies (
       | inr apart ↦ rw apart (first_within field untold more items lies says)
     ]
 
--- the game of the first number for each field
+-- the game that takes the first number for each field
 first_rules : List Item → Rules
 first_rules items = record {
   players = first_for items Players;
@@ -253,7 +253,7 @@ spelled_or_refused text =
       | inr first ↦ inr (first.0, inl first.1)
     ]
 
--- ---- what is spelled is not refused
+-- ---- a text that spells a game is not refused
 
 gives_once : (items : List Item) (rules : Rules) → Give items rules → AreOnce items
 gives_once items rules gives field =

@@ -1,4 +1,4 @@
--- One digit more of a decimal.
+-- A decimal with one more digit.
 use Rattle.std.proofs.Common.{◌≡◌, ℕ, true, nat_lt, ◌&&◌, ◌+◌, ◌-◌, ◌*◌, ◌^◌, ◌<◌, List, [], ◌∷◌, ◌++◌, length, take, get_or, refl, arith, length-append, add-one}
 use Rattle.std.proofs.Math.Seq.{take-suc}
 use Rattle.std.specs.Bool.{IsTrue}

@@ -1,4 +1,4 @@
--- The versions by their numbers.
+-- The wire versions and their numbers.
 use Rattle.std.proofs.Common.{◌≡◌, ℕ, cond, ◌==◌, refl, inl, inr, arith}
 use Rattle.std.proofs.lemmas.Bool.{cases_eq, ne_eqb}
 use Rattle.c8_game.specs.declared.text.field.Field.TheVariants.{Wire}

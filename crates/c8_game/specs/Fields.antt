@@ -1,5 +1,4 @@
--- The fields of a game text, which are all its names but `code`: each has a word, a range, and a number that
--- its value spells.
+-- The fields of a game text: all names but `code`. Each has a name, a range, and a number that its value spells.
 use Rattle.std.specs.Prelude.{ℕ, ◌≤◌, ◌+◌, ◌-◌, ◌*◌, ◌^◌, ◌&&◌, Bool, nat_lt, nat_le, List, [], ◌∷◌, length, codes, Option, Some, None, if◌then◌else◌}
 use Rattle.std.specs.List.{find, list_all}
 use Rattle.std.specs.Char.{is_ascii_digit}
@@ -24,7 +23,7 @@ word_of Mask2 = codes "mask2"
 word_of Mask3 = codes "mask3"
 word_of Mask4 = codes "mask4"
 
--- the player whose mask the field is; 0 for a field that is no mask
+-- the player whose mask the field is; 0 if it is not a mask
 abbrev pub owner_of : Field → ℕ
 owner_of Players = 0
 owner_of Ipf = 0
@@ -68,7 +67,7 @@ greatest_of Mask2 = 65535
 greatest_of Mask3 = 65535
 greatest_of Mask4 = 65535
 
--- the number of a field that no line names, if a text may lack it
+-- the default of a field that a text may leave out
 abbrev pub default_of : Field → Option ℕ
 default_of Players = None
 default_of Ipf = None
@@ -82,31 +81,31 @@ default_of Mask2 = None
 default_of Mask3 = None
 default_of Mask4 = None
 
--- the number lies in the field's range
+-- the number is in the field's range
 abbrev pub IsWithin : Field → ℕ → Type 0
 IsWithin field number = (least_of field ≤ number) × (number ≤ greatest_of field)
 
--- the field that a word names
+-- the field with this name
 abbrev pub field_named : List ℕ → Option Field
 field_named word = find (λ field. bytes_eq (word_of field) word) fields
 
--- the words of two fields are the same
+-- two fields have the same name
 abbrev pub is_same : Field → Field → Bool
 is_same one other = bytes_eq (word_of one) (word_of other)
 
--- a decimal has 1 to 20 digits, and zeros may lead
+-- a decimal has 1 to 20 digits; leading zeros are allowed
 abbrev pub is_decimal : List ℕ → Bool
 is_decimal text = nat_lt 0 (length text) && nat_le (length text) 20 && list_all is_ascii_digit text
 
--- a digit counts as often as ten to the number of digits after it
+-- the number that a decimal spells: each digit times ten to the number of digits after it
 abbrev pub decimal_number : List ℕ → ℕ
 decimal_number [] = 0
 decimal_number (digit ∷ more) = (digit - 48) * 10 ^ length more + decimal_number more
 
--- the value of a mask is a key set of four digits, all other values are decimals
+-- the value of a mask is four hexadecimal digits, all other values are decimals
 abbrev pub is_number : Field → List ℕ → Bool
 is_number field value = if is_mask field then is_keys_text value else is_decimal value
 
--- the number that it spells
+-- the number that a value spells
 abbrev pub number_of : Field → List ℕ → ℕ
 number_of field value = if is_mask field then keys_number value else decimal_number value

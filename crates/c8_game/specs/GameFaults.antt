@@ -1,4 +1,5 @@
--- Which fault refuses a text that spells no game: that of the least line at fault, else what shows after the last line.
+-- Which fault refuses a text that spells no game: that of the first line at fault, else what is found after the last
+-- line.
 use Rattle.std.specs.Prelude.{◌≡◌, ℕ, ◌==◌, ◌&&◌, ◌||◌, ◌⊎◌, Bool, not, nat_lt, nat_le, List, length, codes, Option, Some, None, is_some, is_none, is_ok, position, slice_index, if◌then◌else◌}
 use Rattle.std.specs.List.{before_first, after_first, list_any, AllZip}
 use Rattle.std.specs.Str.{bytes_eq}
@@ -16,26 +17,26 @@ use Rattle.c8_game.specs.Rules.{most_program}
 abbrev pub is_space : ℕ → Bool
 is_space byte = byte == 32
 
--- a line's name and value stand before and after its first space
+-- the name of a line is before its first space, the value after it
 abbrev pub name_in : List ℕ → List ℕ
 name_in line = before_first is_space line
 
 abbrev pub value_in : List ℕ → List ℕ
 value_in line = after_first is_space line
 
--- there is a space, and the value is not empty and has none
+-- the line has a space, and its value is not empty and has no space
 abbrev pub is_name_and_value : List ℕ → Bool
 is_name_and_value line = is_some (position is_space line) && nat_lt 0 (length (value_in line)) && not (list_any is_space (value_in line))
 
--- a line names the field
+-- the line names the field
 abbrev pub names : Field → List ℕ → Bool
 names field line = bytes_eq (word_of field) (name_in line)
 
 abbrev pub is_within : Field → ℕ → Bool
 is_within field number = nat_le (least_of field) number && nat_le number (greatest_of field)
 
--- Line for a decimal that is none, Twice for a field that was named before, Hex for a mask that is none, Range for a
--- number outside its range: the first of these that applies
+-- the first of these that applies: Line for a decimal that is none, Twice for a field that an earlier line names, Hex
+-- for a mask that is none, Range for a number outside its range
 abbrev pub field_fault : Field → Bool → List ℕ → Option GameError
 field_fault field named_before value =
     if not (is_mask field) && not (is_number field value) then Some Line
@@ -44,7 +45,7 @@ field_fault field named_before value =
     else if not (is_within field (number_of field value)) then Some Range
     else None
 
--- Line for a name that is no field's
+-- Line for an unknown name
 abbrev pub named_fault : List (List ℕ) → Option Field → List ℕ → Option GameError
 named_fault before None value = Some Line
 named_fault before (Some field) value = field_fault field (list_any (names field) before) value
@@ -53,7 +54,7 @@ named_fault before (Some field) value = field_fault field (list_any (names field
 abbrev pub code_fault : List ℕ → Option GameError
 code_fault value = if is_ok (decode_of value) then None else Some Hex
 
--- the fault of a line that follows these lines, if it has one
+-- the fault of a line after these lines, if it has one
 abbrev pub line_fault : List (List ℕ) → List ℕ → Option GameError
 line_fault before line =
     if is_skipped line then None
@@ -61,29 +62,30 @@ line_fault before line =
     else if bytes_eq (name_in line) (codes "code") then code_fault (value_in line)
     else named_fault before (field_named (name_in line)) (value_in line)
 
--- how many players the items tell of
+-- the number of players that the items give
 abbrev pub players_in : List Item → ℕ
 players_in items = slice_index (numbers_for Players items) 0
 
 abbrev pub is_told : List Item → Field → Bool
 is_told items field = nat_lt 0 (length (numbers_for field items))
 
--- every game has all fields but those with a default and the masks of players who are not in it: whether one is not told
+-- the field is missing: the items do not have it, it has no default, and it is not the mask of a player who is not in
+-- the game
 abbrev pub is_lacking : List Item → Field → Bool
 is_lacking items field = nat_le (owner_of field) (players_in items) && is_none (default_of field) && not (is_told items field)
 
--- whether the mask of a player who is not in the game is told
+-- the items have the mask of a player who is not in the game
 abbrev pub is_stray : List Item → Field → Bool
 is_stray items field = nat_lt (players_in items) (owner_of field) && is_told items field
 
--- the fault that shows after the last line, if there is one
+-- the fault that is found after the last line, if there is one
 abbrev pub end_fault : List Item → Option GameError
 end_fault items =
     if list_any (is_lacking items) fields || length (code_of items) == 0 then Some Missing
     else if nat_lt most_program (length (code_of items)) || list_any (is_stray items) fields then Some Range
     else None
 
--- no line has a fault, and this one shows after the last
+-- no line has a fault, and this one is found after the last
 pub record IsFaultyAtEnd (text : List ℕ) (fault : GameError) : Type 0 where
   pub faultless : AreFaultless line_fault (lines text)
   pub items : List Item

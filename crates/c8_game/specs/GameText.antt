@@ -1,4 +1,4 @@
--- Which text spells which game, said of the text as a whole: by the items that its lines say.
+-- Which text spells which game, by the items of its lines.
 use Rattle.std.specs.Prelude.{◌≡◌, ℕ, ◌<◌, ◌≤◌, ◌==◌, ◌⊎◌, Bool, true, List, [], ◌∷◌, ◌++◌, length, codes, flat_map, slice_index, Some, Ok, if◌then◌else◌}
 use Rattle.std.specs.List.{AllZip}
 use Rattle.std.specs.Str.Lines.{lines}
@@ -20,7 +20,7 @@ abbrev pub is_skipped : List ℕ → Bool
 is_skipped [] = true
 is_skipped (first ∷ more) = first == 35
 
--- the line says the item: a word, one space and a value, unless it is skipped
+-- the line says the item: it is skipped, or a name, one space and a value
 abbrev pub Says : List ℕ → Item → Type 0
 Says line Blank = is_skipped line ≡ true
 Says line (Number field number) = (value : List ℕ) × (line ≡ word_of field ++ 32 ∷ value) × (is_number field value ≡ true) × (number_of field value ≡ number) × IsWithin field number
@@ -44,7 +44,7 @@ code_in (Code bytes) = bytes
 abbrev pub code_of : List Item → List ℕ
 code_of items = flat_map code_in items
 
--- the number of the rules for a field
+-- the number that the rules have for a field
 abbrev pub rule_of : Field → Rules → ℕ
 rule_of Players rules = rules.players
 rule_of Ipf rules = rules.ipf
@@ -58,12 +58,12 @@ rule_of Mask2 rules = slice_index rules.masks 1
 rule_of Mask3 rules = slice_index rules.masks 2
 rule_of Mask4 rules = slice_index rules.masks 3
 
--- the numbers that stand for a field are this one alone; or none stands, and this is the field's default
+-- a field has this number: it is the only one given, or none is given and it is the default
 abbrev pub Tell : List ℕ → Field → ℕ → Type 0
 Tell numbers field number = (numbers ≡ number ∷ []) ⊎ ((numbers ≡ []) × (default_of field ≡ Some number))
 
--- the items give the rules: each field of the game stands once, unless its default is meant, and a mask of a player who is
--- not there nowhere
+-- the items give the rules: each field of the game has one number, or its default if it has one; a mask of a player who
+-- is not in the game does not occur
 pub record Give (items : List Item) (rules : Rules) : Type 0 where
   pub once : (field : Field) → owner_of field ≤ rules.players → Tell (numbers_for field items) field (rule_of field rules)
   pub nowhere : (field : Field) → rules.players < owner_of field → (numbers_for field items ≡ []) × (rule_of field rules ≡ 0)

@@ -1,4 +1,4 @@
--- The lines of a text that are still to come.
+-- The lines of a text that are still to be read.
 use Rattle.std.specs.Prelude.{ℕ, List}
 use Rattle.std.specs.Str.Lines.{lines}
 use Rattle.c8_game.specs.declared.text.lines.Lines.{Lines}

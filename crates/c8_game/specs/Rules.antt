@@ -1,4 +1,4 @@
--- What a game is, apart from its text and from how the code keeps it.
+-- A game, apart from its text and from how the code stores it.
 use Rattle.std.specs.Prelude.{ℕ, ◌+◌, ◌^◌, ◌≡◌, ◌<◌, ◌≤◌, List, ◌++◌, length, bit_and, bit_or, slice_index, slice_index_or, take}
 use Rattle.std.specs.Int.{bit_at, from_be_bytes, to_be_bytes, w8, w16, w32, w64}
 use Rattle.sha2.specs.Sha256.{sha256}
@@ -6,7 +6,7 @@ use Rattle.c8_game.specs.declared.row.Row.{Row}
 use Rattle.c8_game.specs.declared.wire.WireVersion.{WireVersion}
 use Rattle.c8_game.specs.Wire.{version_bytes}
 
--- the rules of a game: a mask for each of four players, 0 for one who is not in the game
+-- the rules of a game: a mask for each of four players, 0 for a player who is not in the game
 pub record Rules : Type 0 where
   pub players : ℕ
   pub ipf : ℕ
@@ -18,7 +18,7 @@ pub record Rules : Type 0 where
   pub masks : List ℕ
   pub program : List ℕ
 
--- the most bytes of a program, which a machine has from address 200 (hexadecimal) on
+-- the most bytes of a program; the machine holds it from address 200 (hexadecimal) on
 abbrev pub most_program : ℕ
 most_program = 3584
 
@@ -48,15 +48,15 @@ pub record AreInRange (rules : Rules) : Type 0 where
   pub program : length rules.program ≤ most_program
   pub bytes : (place : ℕ) → slice_index rules.program place < 2 ^ 8
 
--- the set that the player at a place of a row holds down, player 1 at place 0
+-- the key set of the player at a place of a row; player 1 is at place 0
 abbrev pub set_at : Row → ℕ → ℕ
 set_at row place = (slice_index_or row.sets place (record { 0 = 0 })).0
 
--- that set less the keys that the player's mask lacks
+-- that set without the keys that the player's mask lacks
 abbrev pub masked : Rules → Row → ℕ → ℕ
 masked rules row place = bit_and (set_at row place) (slice_index rules.masks place)
 
--- the keys of a frame: the union over the players; the mask of one who is not in the game is 0
+-- the keys of a frame: the union over the players; the mask of a player who is not in the game is 0
 abbrev pub joined : Rules → Row → ℕ
 joined rules row = bit_or (masked rules row 0) (bit_or (masked rules row 1) (bit_or (masked rules row 2) (masked rules row 3)))
 
@@ -64,7 +64,7 @@ joined rules row = bit_or (masked rules row 0) (bit_or (masked rules row 1) (bit
 abbrev pub HasKey : ℕ → ℕ → Type 0
 HasKey keys key = bit_at keys key ≡ 1
 
--- a player of the game holds a key down, and the player's mask has it
+-- a player of the game holds a key, and the player's mask has it
 pub record IsHeld (rules : Rules) (row : Row) (key : ℕ) : Type 0 where
   pub place : ℕ
   pub in_game : place < rules.players
@@ -82,7 +82,7 @@ number_bytes rules =
     ++ to_be_bytes w64 rules.seed ++ to_be_bytes w16 (slice_index rules.masks 0) ++ to_be_bytes w16 (slice_index rules.masks 1)
     ++ to_be_bytes w16 (slice_index rules.masks 2) ++ to_be_bytes w16 (slice_index rules.masks 3) ++ to_be_bytes w16 (length rules.program)
 
--- the numbers, the program, and what the wire version adds
+-- the bytes that the id is the digest of: the numbers, the program, and what the wire version adds
 abbrev pub id_bytes : Rules → List ℕ
 id_bytes rules = number_bytes rules ++ rules.program ++ version_bytes rules.wire
 

@@ -1,4 +1,4 @@
-//! Why a text is no game.
+//! Why a text is not a game.
 ghost use Rattle.std.specs.Prelude.{◌≡◌};
 ghost use Rattle.c8_game.specs.Errors.{number_of};
 ghost use Rattle.c8_game.specs.declared.error.GameError.TheVariants.{Memory};
@@ -6,33 +6,33 @@ ghost use Rattle.c8_game.specs.declared.error.GameError.TheVariants.{Memory};
 use std::alloc::AllocError;
 use thiserror::Error;
 
-/// Why a text is no game: its first fault.
+/// Why a text is not a game: its first fault, in the order that `Game::read` gives.
 #[derive(Clone, Copy, Debug, PartialEq, Eq, Hash, Error)]
 pub enum GameError {
-    /// A line that is no name, space and value: an unknown name, no space, an empty value or one
-    /// with a space, or a decimal that is none.
+    /// A line is not a name, one space and a value: the name is unknown, there is no space, the value is empty or has a
+    /// space, or it should be a decimal number and is not.
     #[error("a line that is no name, space and value")]
     Line,
-    /// A number outside its range, a program of more than 3584 bytes, or a mask of a player who is
-    /// not in the game.
+    /// A number is outside its range, the program has more than 3584 bytes, or a mask is of a player who is not in the
+    /// game.
     #[error("a number out of range")]
     Range,
-    /// No line has a name that a game must have. This is judged after the last line.
+    /// A name that the game needs is missing. This is judged after the last line.
     #[error("a name is missing")]
     Missing,
-    /// A name other than `code` for the second time.
+    /// A name other than `code` occurs a second time.
     #[error("a name stands twice")]
     Twice,
-    /// A mask that is not four hexadecimal digits, or code that is not pairs of them.
+    /// A mask is not four hexadecimal digits, or code is not pairs of them.
     #[error("not the hexadecimal digits that are wanted")]
     Hex,
-    /// There was no memory for the program.
+    /// The memory for the program was refused.
     #[error("out of memory")]
     Memory,
 }
 
 impl GameError {
-    /// The number that stands for it in what a program prints.
+    /// Returns the number of the error, as programs print it.
     pub fn number(self) -> u8
         ensures { result ≡ number_of self }
     {

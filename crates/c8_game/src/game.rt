@@ -1,4 +1,4 @@
-//! A game: the program that is played, and the numbers that all its players agree on.
+//! A game: a program, and the numbers on which all its players agree.
 ghost use Rattle.std.specs.Prelude.{◌≡◌, ◌<◌, ◌≤◌, ◌-◌, ◌++◌, ◌⊎◌, IfOk, IfErr, MatchOption, MatchResult, Some, length, slice_get};
 ghost use Rattle.std.specs.Str.Lines.{lines};
 ghost use Rattle.sha2.specs.Sha256.{sha256};
@@ -20,7 +20,7 @@ use std::alloc::{AllocError, Global};
 use std::fmt;
 use std::marker::Model;
 
-/// A game, as its text gives it. Contracts see it as its `Rules` (`specs/Rules.antt`).
+/// A game, read from its text. Contracts see it as its `Rules` (`specs/Rules.antt`).
 #[derive(Drop)]
 pub struct Game {
     pub(crate) players: u8,
@@ -65,7 +65,7 @@ impl Model for Game {
     }) };
 }
 
-/// Its numbers, and how long its program is.
+/// Prints the numbers and the length of the program, not its bytes.
 impl fmt::Debug for Game {
     fn fmt<W: fmt::Write>(&self, f: &mut fmt::Formatter<W>) -> fmt::Result {
         let (players, ipf, frames) = (self.players, self.ipf, self.frames);
@@ -82,14 +82,14 @@ impl fmt::Debug for Game {
 }
 
 impl Game {
-    /// The game that a text spells. Lines end at a line feed, which the last one may lack, and one
-    /// carriage return before it is dropped; empty lines and lines that begin with `#` say nothing;
-    /// every other line is a name, one space and a value.
+    /// Reads a game from its text.
     ///
-    /// Lines are judged in order, within a line first for `Line`, then `Twice`, then `Hex` or
-    /// `Range`; after the last line come `Missing`, then `Range` for the program's length and for a
-    /// mask of a player who is not in the game. `Memory` comes only where the memory for the
-    /// program was refused.
+    /// Each line ends with a line feed; the last line may lack it. One carriage return before a line feed is dropped.
+    /// Empty lines and lines that begin with `#` are skipped. Every other line is a name, one space and a value.
+    ///
+    /// Lines are judged in order, each first for `Line`, then `Twice`, then `Hex` or `Range`. After the last line come
+    /// `Missing`, then `Range` for the length of the program and for the mask of a player who is not in the game.
+    /// `Memory` comes only if the memory for the program was refused.
     pub fn read(alloc: Global, text: &[u8]) -> Result<Game, GameError>
         ensures game { IfOk result (λ game. Spells text.now game) }
         ensures ranges { IfOk result AreInRange }
@@ -101,8 +101,8 @@ impl Game {
         }
     }
 
-    /// The place of the first line that has a fault, 0 for the text's first line. None where no line
-    /// has one: what `read` refuses then shows after the last line. The error is want of memory.
+    /// Returns the place of the first line with a fault, counted from 0. None if no line has one; then `read` can still
+    /// refuse the text after its last line. Fails only if memory was refused.
     pub fn faulty_line(alloc: Global, text: &[u8]) -> Result<Option<usize>, AllocError>
         ensures { IfOk result (λ found. MatchOption found
             (AreFaultless line_fault (lines text.now))
@@ -117,15 +117,14 @@ impl Game {
         }
     }
 
-    /// Tells a caller's proof that the rules of every game are in range; at run time it does
-    /// nothing.
+    /// Ghost call: tells the caller's proof that the rules are in range. It does nothing at run time.
     pub fn in_range(&self)
         ensures { AreInRange self.now }
     {
         let _ = &self.players;
     }
 
-    /// How many players there are, 2 to 4.
+    /// Returns the number of players, 2 to 4.
     pub fn players(&self) -> u8
         ensures value { result ≡ self.now.players }
         ensures least { 2 ≤ result }
@@ -134,7 +133,7 @@ impl Game {
         self.players
     }
 
-    /// How many instructions a frame has at most, 1 to 100.
+    /// Returns the most instructions of a frame, 1 to 100.
     pub fn ipf(&self) -> u8
         ensures value { result ≡ self.now.ipf }
         ensures least { 1 ≤ result }
@@ -143,7 +142,7 @@ impl Game {
         self.ipf
     }
 
-    /// The number of frames, 1 to 262144.
+    /// Returns the number of frames, 1 to 262144.
     pub fn frames(&self) -> u32
         ensures value { result ≡ self.now.frames }
         ensures least { 1 ≤ result }
@@ -152,7 +151,7 @@ impl Game {
         self.frames
     }
 
-    /// How many empty sets begin each player's inputs, 0 to 4.
+    /// Returns how many empty key sets begin each player's inputs, 0 to 4.
     pub fn delay(&self) -> u8
         ensures value { result ≡ self.now.delay }
         ensures greatest { result ≤ 4 }
@@ -160,7 +159,7 @@ impl Game {
         self.delay
     }
 
-    /// How many frames a peer may run ahead of the confirmed ones, 1 to 12.
+    /// Returns how many frames a peer may run ahead of the confirmed ones, 1 to 12.
     pub fn window(&self) -> u8
         ensures value { result ≡ self.now.window }
         ensures least { 1 ≤ result }
@@ -169,21 +168,21 @@ impl Game {
         self.window
     }
 
-    /// What the machine's random bytes are drawn from.
+    /// Returns the seed of the machine's random bytes.
     pub fn seed(&self) -> u64
         ensures { result ≡ self.now.seed }
     {
         self.seed
     }
 
-    /// How its peers write to each other, version 1 if the text doesn't say.
+    /// Returns the version of the datagrams; default 1.
     pub fn wire(&self) -> WireVersion
         ensures { result ≡ self.now.wire }
     {
         self.wire
     }
 
-    /// The keys of a player that count, none for a player who is not in the game.
+    /// Returns the keys of a player that count; none for a player who is not in the game.
     pub fn mask(&self, player: Player) -> Keys
         ensures value { slice_get self.now.masks (player.number - 1) ≡ Some result.0 }
         ensures absent { self.now.players < player.number → result.0 ≡ 0 }
@@ -191,7 +190,7 @@ impl Game {
         Keys(self.masks[player.place()])
     }
 
-    /// The program, 1 to 3584 bytes, which a machine has from address 200 (hexadecimal) on.
+    /// Returns the program, 1 to 3584 bytes. The machine holds it from address 200 (hexadecimal) on.
     pub fn program(&self) -> &[u8]
         ensures value { result.now ≡ self.now.program }
         ensures least { 1 ≤ length result.now }
@@ -200,7 +199,7 @@ impl Game {
         &self.program
     }
 
-    /// The greatest length of a player's list of inputs: `frames` and `delay`.
+    /// Returns the greatest length of a player's list of inputs: `frames` plus `delay`.
     pub fn limit(&self) -> u32
         ensures value { result ≡ limit_of self.now }
         ensures greatest { result ≤ MOST_INPUTS }
@@ -208,7 +207,7 @@ impl Game {
         self.frames + u32::from(self.delay)
     }
 
-    /// The keys of a frame: the union over the players of set and mask.
+    /// Returns the keys of a frame: each player's key set less what the mask lacks, joined.
     pub fn joined(&self, row: &Row) -> Keys
         ensures { result.0 ≡ joined self.now row.now }
     {
@@ -220,9 +219,9 @@ impl Game {
         )
     }
 
-    /// SHA-256 (FIPS 180-4) over the rules: players (1 byte), ipf (1), frames (4), delay (1),
-    /// window (1), seed (8), the four masks (2 each), the program's length (2), the program, and for
-    /// wire version 2 one byte 02. Each number has its most significant byte first.
+    /// Returns the game's id: SHA-256 (FIPS 180-4) over players (1 byte), ipf (1), frames (4), delay (1), window (1),
+    /// seed (8), the four masks (2 each), the length of the program (2), the program, and for wire version 2 one byte
+    /// 02. Each number has its most significant byte first.
     pub fn id(&self) -> [u8; 32]
         ensures { result ≡ id_of self.now }
     {
@@ -252,8 +251,8 @@ impl Game {
         ]
     }
 
-    /// What tells one match of this game from another: the first 8 bytes of SHA-256 over the id and
-    /// the room (8 bytes), as a number.
+    /// Returns the number that tells this match from others: the first 8 bytes of SHA-256 over the id and the match id
+    /// `room` (8 bytes). Both numbers have the most significant byte first.
     pub fn session(&self, room: u64) -> u64
         ensures { result ≡ session_of self.now room }
     {
@@ -278,7 +277,7 @@ fn drafted(alloc: Global, text: &[u8]) -> Result<Draft, (GameError, usize)>
     Ok(draft)
 }
 
-/// The digest of two pieces taken as one message.
+/// Hashes two pieces as one message.
 fn digest_of_both(first: &[u8], second: &[u8]) -> [u8; 32]
     ensures { result ≡ sha256 (first.now ++ second.now) }
 {

@@ -1,4 +1,4 @@
-//! Laws of the definitions, each the contract of a function that does nothing.
+//! Laws of the definitions. Each is the contract of a function that does nothing.
 ghost use Rattle.std.specs.Prelude.{◌≡◌, ◌↔◌, ℕ, List};
 ghost use Rattle.c8_game.specs.declared.error.GameError.{GameError};
 ghost use Rattle.c8_game.specs.declared.row.Row.{Row};
@@ -6,13 +6,13 @@ ghost use Rattle.c8_game.specs.GameText.{Spells};
 ghost use Rattle.c8_game.specs.GameFaults.{IsRefused};
 ghost use Rattle.c8_game.specs.Rules.{Rules, AreInRange, HasKey, IsHeld, joined};
 
-/// A text spells a game exactly where no fault refuses it.
+/// A text spells a game exactly if no fault refuses it.
 pub fn spelled_or_refused()
     ensures { (text : List ℕ) → ((rules : Rules) × Spells text rules)
         ↔ ((fault : GameError) → IsRefused text fault → ⊥) }
 {}
 
-/// A text spells one game at most, and has one first fault at most.
+/// A text spells at most one game, and has at most one first fault.
 pub fn one_outcome()
     ensures game { (text : List ℕ) (one other : Rules)
         → Spells text one → Spells text other → one ≡ other }
@@ -20,13 +20,12 @@ pub fn one_outcome()
         → IsRefused text one → IsRefused text other → one ≡ other }
 {}
 
-/// Every game whose rules are in range has a text that spells it.
+/// Each game whose rules are in range has a text that spells it.
 pub fn every_game_has_a_text()
     ensures { (rules : Rules) → AreInRange rules → (text : List ℕ) × Spells text rules }
 {}
 
-/// A key is among the joined keys exactly where a player of the game holds it and the player's mask
-/// has it.
+/// A key is among the joined keys exactly if a player of the game holds it and that player's mask has it.
 pub fn joined_is_a_union()
     ensures { (rules : Rules) (row : Row) (key : ℕ) → AreInRange rules
         → HasKey (joined rules row) key ↔ IsHeld rules row key }

@@ -1,9 +1,9 @@
-//! What is played: key sets and players, and the game that its text describes.
+//! Players, key sets, and the game that a text describes.
 //!
-//! `Game::read` reads a game from its text; only it and `Game::faulty_line` take memory. Contracts see a game as
-//! its `Rules` (`specs/Rules.antt`). `specs/GameText.antt` says which text spells which rules,
-//! `specs/GameFaults.antt` which fault refuses every other text, by the least line at fault
-//! (`specs/Faults.antt`). `laws` has what follows from them.
+//! `Game::read` reads a game from its text. Only it and `Game::faulty_line` take memory. Contracts see a game as its
+//! `Rules` (`specs/Rules.antt`). `specs/GameText.antt` says which text spells which rules, `specs/GameFaults.antt`
+//! which fault refuses every other text: that of the first line at fault (`specs/Faults.antt`). `laws` has what
+//! follows.
 #![tactic(auto)]
 
 mod bounds;

@@ -1,19 +1,18 @@
-//! Key sets, players, and a row of one key set a player.
+//! Key sets, players, and rows: one key set for each player.
 ghost use Rattle.std.specs.Prelude.{◌≡◌, ◌≤◌, ◌<◌, ◌+◌, ◌-◌, ◌==◌, ◌⊎◌, ◌↔◌, true, false, MatchOption, IfOk, IfErr, IfNone, IfSome};
 
 use crate::bounds::MOST_PLAYERS;
 use std::fmt;
 use thiserror::Error;
 
-/// A set of the sixteen keys: key `k` is in it exactly if bit `k` is 1.
+/// A set of the sixteen keys: it has key `k` exactly if bit `k` is 1.
 #[derive(Clone, Copy, Debug, Default, PartialEq, Eq, Hash)]
 pub struct Keys(pub u16);
 
 impl Keys {
     ghost use Rattle.c8_game.specs.KeysText.{is_keys_text, keys_number};
 
-    /// The set that four hexadecimal digits of either case spell, the most significant first; none
-    /// for any other text.
+    /// Reads a set from four hexadecimal digits of either case, the most significant first. None for any other text.
     pub fn from_hex(text: &[u8]) -> Option<Self>
         ensures { MatchOption result (is_keys_text text.now ≡ false)
             (λ keys. (is_keys_text text.now ≡ true) × (keys.0 ≡ keys_number text.now)) }
@@ -26,14 +25,14 @@ impl Keys {
     }
 }
 
-/// Four hexadecimal digits, as a game text has them.
+/// Writes four hexadecimal digits in lower case, as in a game text.
 impl fmt::Display for Keys {
     fn fmt<W: fmt::Write>(&self, f: &mut fmt::Formatter<W>) -> fmt::Result {
         write!(f, "{:04x}", self.0)
     }
 }
 
-/// One of the players 1 to 4, in order of their numbers.
+/// One of the players 1 to 4, ordered by number.
 #[derive(Clone, Copy, Debug, PartialEq, Eq, PartialOrd, Ord, Hash)]
 pub struct Player {
     pub number: u8,
@@ -42,10 +41,10 @@ pub struct Player {
 }
 
 impl Player {
-    /// Player 1, who alone lets players go.
+    /// Player 1, the only one who can drop a player.
     pub const CHAIR: Player = Player { number: 1 };
 
-    /// The player with a number from 1 to 4, none for any other number.
+    /// Makes the player with this number. None unless it is 1 to 4.
     pub fn new(number: u8) -> Option<Self>
         ensures some { IfSome result (λ player. player.number ≡ number) }
         ensures none { IfNone result ((number < 1) ⊎ (4 < number)) }
@@ -57,7 +56,7 @@ impl Player {
         }
     }
 
-    /// Its place among all players, player 1 at place 0.
+    /// Returns the player's place in a list of all players; player 1 has place 0.
     pub fn place(self) -> usize
         ensures value { result ≡ self.number - 1 }
         ensures next { result + 1 ≡ self.number }
@@ -66,7 +65,7 @@ impl Player {
         usize::from(self.number - 1)
     }
 
-    /// Whether it is player 1, who alone lets players go.
+    /// Returns whether this is player 1, the only one who can drop a player.
     pub fn is_chair(self) -> bool
         ensures { result ≡ (self.number == 1) }
     {
@@ -74,7 +73,7 @@ impl Player {
     }
 }
 
-/// A number that no player has.
+/// The error of a number that is not a player's.
 #[derive(Clone, Copy, Debug, PartialEq, Eq, Error)]
 #[error("a player's number is 1 to 4")]
 pub struct NoPlayer;
@@ -101,21 +100,21 @@ impl From<Player> for u8 {
     }
 }
 
-/// The player's number.
+/// Writes the player's number.
 impl fmt::Display for Player {
     fn fmt<W: fmt::Write>(&self, f: &mut fmt::Formatter<W>) -> fmt::Result {
         write!(f, "{}", self.number)
     }
 }
 
-/// What each of four players holds down in one frame, as entered: player 1's set comes first.
+/// The key sets of four players for one frame, as entered. Player 1's comes first.
 #[derive(Clone, Copy, Debug, Default, PartialEq, Eq, Hash)]
 pub struct Row {
     pub sets: [Keys; MOST_PLAYERS],
 }
 
 impl Row {
-    /// Whether both rows hold the same sets, as `==` says it, with a contract.
+    /// Returns whether both rows hold the same sets: `==`, with a contract.
     pub fn is_same(&self, other: &Row) -> bool
         ensures { (result ≡ true) ↔ (self.now ≡ other.now) }
     {

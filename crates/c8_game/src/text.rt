@@ -1,4 +1,4 @@
-//! How a game is read from its text.
+//! Reads a game from its text.
 
 pub mod draft;
 pub mod field;

@@ -1,4 +1,4 @@
--- The numbers of the refusals, as a program prints them.
+-- The numbers of the errors, as programs print them.
 use Rattle.std.specs.Prelude.{ℕ}
 use Rattle.c8_hand.specs.declared.error.HandError.{HandError}
 use Rattle.c8_hand.specs.declared.error.HandError.TheVariants as errors

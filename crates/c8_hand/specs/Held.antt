@@ -1,4 +1,4 @@
--- How the links that the code keeps are seen.
+-- What the links of the code stand for.
 use Rattle.std.specs.Prelude.{ℕ, false, List, slice_index_or}
 use Rattle.c8_game.specs.declared.wire.WireVersion.{WireVersion}
 use Rattle.c8_hand.specs.declared.link.Link.{Link}
@@ -7,7 +7,7 @@ use Rattle.c8_hand.specs.Links.{LinkValue, LinksValue}
 abbrev pub link_value : Link → LinkValue
 link_value link = record { known = link.known; is_open = link.is_open }
 
--- the link at a place of a list of links, player 1's being the first
+-- the link at a place of a list of links; player 1's is the first
 abbrev pub link_at : List Link → ℕ → LinkValue
 link_at links place = link_value (slice_index_or links place (record { known = 0; is_open = false }))
 

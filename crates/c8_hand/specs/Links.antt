@@ -8,7 +8,7 @@ use Rattle.c8_wire.specs.Packet.{HeadValue}
 use Rattle.c8_hand.specs.declared.error.HandError.{HandError}
 use Rattle.c8_hand.specs.declared.error.HandError.TheVariants as errors
 
--- what is known of a player: its newest epoch, 0 if none is, and whether it is known to know ours
+-- what is known of a player: its newest known epoch, 0 if none, and whether it is known to know ours
 pub record LinkValue : Type 0 where
   pub known : ℕ
   pub is_open : Bool
@@ -17,7 +17,8 @@ pub record LinkValue : Type 0 where
 abbrev pub no_link : LinkValue
 no_link = record { known = 0; is_open = false }
 
--- the links of a player: its own number and epoch, the match and the version of its datagrams, and the link to each of four players
+-- the links of a player: its number and epoch, the match and the version of its datagrams, and the link to each of four
+-- players
 pub record LinksValue : Type 0 where
   pub me : ℕ
   pub players : ℕ
@@ -34,7 +35,7 @@ link_to l player =
     if player == 1 then l.one
     else (if player == 2 then l.two else (if player == 3 then l.three else (if player == 4 then l.four else no_link)))
 
--- the same links, but for that to one player
+-- the same links except for that to one player
 abbrev pub with_link : LinksValue → ℕ → LinkValue → LinksValue
 with_link l player link = record l {
   one = if player == 1 then link else l.one;
@@ -43,11 +44,11 @@ with_link l player link = record l {
   four = if player == 4 then link else l.four;
 }
 
--- the epoch that is known of a player to whom the link is open
+-- the known epoch of a player, if the link to it is open
 abbrev pub open_epoch : LinksValue → ℕ → Option ℕ
 open_epoch l player = if (link_to l player).is_open then Some (link_to l player).known else None
 
--- nobody's epoch is known at first, and no link is open
+-- at first no epoch is known, and no link is open
 abbrev pub no_links : Rules → ℕ → ℕ → ℕ → LinksValue
 no_links rules me room epoch = record {
   me = me;
@@ -61,8 +62,8 @@ no_links rules me room epoch = record {
   four = no_link;
 }
 
--- Of a datagram with the epochs theirs (the sender's) and mine (the addressee's): the refusal of a
--- HELLO, of a WELCOME, and of the kinds that want an open link.
+-- Why a HELLO, a WELCOME, and the kinds that need an open link are refused, by the sender's epoch (theirs) and the
+-- addressee's (mine).
 abbrev pub refusal_of_hello : LinkValue → ℕ → ℕ → ℕ → Option HandError
 refusal_of_hello link own theirs mine =
     if theirs == 0 || nat_lt theirs link.known then Some errors.Stale
@@ -78,7 +79,7 @@ refusal_of_others link own theirs mine =
     if nat_lt theirs link.known || nat_lt mine own then Some errors.Stale
     else (if nat_lt link.known theirs || nat_lt own mine then Some errors.Ahead else (if link.is_open then None else Some errors.NotOpen))
 
--- SHOW and SEEN are no player's to a player.
+-- SHOW and SEEN are never from a player to a player.
 abbrev pub refusal_of_watching : LinkValue → ℕ → ℕ → ℕ → Option HandError
 refusal_of_watching link own theirs mine = Some errors.NotMine
 
@@ -92,21 +93,21 @@ refusal_by_kind kinds.Cut = refusal_of_others
 refusal_by_kind kinds.Show = refusal_of_watching
 refusal_by_kind kinds.Seen = refusal_of_watching
 
--- Whether a datagram is from another player of the game, to this one.
+-- Whether a datagram is from another player of the game to this one.
 abbrev pub is_mine : LinksValue → HeadValue → Bool
 is_mine l head = (head.to == l.me && not (head.from == l.me)) && (nat_le 1 head.from && nat_le head.from l.players)
 
--- the refusal of a player's datagram with this header, None where it is admitted
+-- why a player's datagram with this header is refused; None if it is admitted
 unfoldable pub refusal : LinksValue → HeadValue → Option HandError
 refusal l head =
     if not (head.session == l.session) then Some errors.Session
     else (if is_mine l head then refusal_by_kind head.kind (link_to l head.from) l.epoch head.sender_epoch head.addressee_epoch else Some errors.NotMine)
 
--- the refusal of a SEEN with this header, None where it is admitted: a watcher has no epoch and no link
+-- why a SEEN with this header is refused; None if it is admitted. A watcher has no epoch and no link
 unfoldable pub refusal_of_seen : LinksValue → HeadValue → Option HandError
 refusal_of_seen l head = if not (head.session == l.session) then Some errors.Session else (if head.to == l.me then None else Some errors.NotMine)
 
--- the refusal of any datagram of that kind with this header, None where it is admitted
+-- why a datagram of any kind with this header is refused; None if it is admitted
 abbrev pub refusal_as : DatagramKind → LinksValue → HeadValue → Option HandError
 refusal_as kinds.Hello = refusal
 refusal_as kinds.Welcome = refusal
@@ -134,9 +135,9 @@ link_after kinds.Seen link theirs = link
 abbrev pub heard : LinksValue → HeadValue → LinksValue
 heard l head = with_link l head.from (link_after head.kind (link_to l head.from) head.sender_epoch)
 
--- ---- what follows is said of these in clauses and laws
+-- ---- what clauses and laws say of these
 
--- the datagram belongs to this match, and is from another player of it to this one
+-- the datagram is of this match, and from another player of it to this one
 pub record IsForMe (l : LinksValue) (head : HeadValue) : Type 0 where
   pub session : head.session ≡ l.session
   pub to : head.to ≡ l.me
@@ -144,12 +145,12 @@ pub record IsForMe (l : LinksValue) (head : HeadValue) : Type 0 where
   pub from_one : 1 ≤ head.from
   pub plays : head.from ≤ l.players
 
--- the datagram names both epochs: the one that is known of its sender, and the own one
+-- the datagram names both epochs: the known one of its sender, and the own one
 pub record NamesBoth (l : LinksValue) (head : HeadValue) : Type 0 where
   pub theirs : head.sender_epoch ≡ (link_to l head.from).known
   pub mine : head.addressee_epoch ≡ l.epoch
 
--- the datagram is a WELCOME of this player to the own one, which names both epochs
+-- the datagram is a WELCOME from this player to the own one, and names both epochs
 pub record IsWelcomeOf (l : LinksValue) (player : ℕ) (head : HeadValue) : Type 0 where
   pub kind : head.kind ≡ kinds.Welcome
   pub session : head.session ≡ l.session
@@ -158,12 +159,12 @@ pub record IsWelcomeOf (l : LinksValue) (player : ℕ) (head : HeadValue) : Type
   pub theirs : head.sender_epoch ≡ (link_to l player).known
   pub mine : head.addressee_epoch ≡ l.epoch
 
--- a link that is open now was so before with the same epoch, or this datagram is that player's WELCOME
+-- a link that is open now was open before with the same epoch, or this datagram is that player's WELCOME
 abbrev pub OpensByWelcome : LinksValue → HeadValue → LinksValue → Type 0
 OpensByWelcome old head new = (player : ℕ) → (link_to new player).is_open ≡ true
     → (link_to new player ≡ link_to old player) ⊎ IsWelcomeOf new player head
 
--- the header of a datagram to a player, or to a watcher, of whom no epoch is known
+-- the header of a datagram to a player, or to a watcher, whose epoch is never known
 abbrev pub head_to : LinksValue → ℕ → DatagramKind → HeadValue
 head_to l player kind = record {
   kind = kind;

@@ -10,24 +10,24 @@ pub enum HandError {
     /// The link to the sender is not open.
     #[error("no link to the sender is open")]
     NotOpen,
-    /// It is from an older epoch of the sender than the known one, or (but for HELLO) for an older
-    /// epoch of this peer; or it is a HELLO or WELCOME of epoch 0.
+    /// It is from an epoch of the sender below the known one, or (except HELLO) for an epoch of this peer below its
+    /// own; or it is a HELLO or WELCOME from epoch 0.
     #[error("from or for an older epoch, or from none")]
     Stale,
-    /// It is for a later epoch of this peer; or, but for HELLO and WELCOME, from a later epoch of
-    /// the sender than the known one.
+    /// It is for a later epoch of this peer than its own; or, except HELLO and WELCOME, from a later epoch of the
+    /// sender than the known one.
     #[error("from or for a later epoch than is known")]
     Ahead,
-    /// It is not addressed to this player, or its sender is this player or none of the game.
+    /// It is not addressed to this player, or its sender is this player or not a player of the game.
     #[error("not for this player, or from none of the others")]
     NotMine,
-    /// It belongs to another match.
+    /// It is of another match.
     #[error("from another match")]
     Session,
 }
 
 impl HandError {
-    /// The number that stands for it in what a program prints.
+    /// Returns the number of the error, as programs print it.
     pub fn number(self) -> u8
         ensures { result ≡ number_of self }
     {

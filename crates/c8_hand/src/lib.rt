@@ -1,8 +1,8 @@
-//! The handshake: which epoch of each other player is known, and to whom a link is open.
+//! The handshake: the known epoch of each other player, and which links are open.
 //!
-//! Each opening of a peer has an epoch. A link is open once the other player named both epochs in a
-//! WELCOME, so a datagram of an older opening is never taken for one of the newest. The definitions
-//! are in `specs/Links.antt`, and `laws` has what follows from them. Nothing here takes memory.
+//! Each opening of a peer has an epoch. A link is open after the other player has named both epochs in a WELCOME. So a
+//! datagram of an earlier opening is never taken for one of the present opening. The definitions are in
+//! `specs/Links.antt`; `laws` has what follows. Nothing here takes memory.
 #![tactic(auto)]
 
 mod error;

@@ -1,10 +1,10 @@
-//! What is known of one other player.
+//! The link to one other player.
 ghost use Rattle.std.specs.Prelude.{true, false, ◌≡◌};
 
 use crate::error::HandError;
 use c8_wire::Head;
 
-/// The newest epoch known of a player, 0 if none, and whether it is known to know ours.
+/// The newest known epoch of a player, 0 if none is known, and whether that player is known to know ours.
 #[derive(Clone, Copy, Debug)]
 pub(crate) struct Link {
     pub(crate) known: u32,
@@ -16,7 +16,7 @@ impl Link {
     ghost use Rattle.c8_hand.specs.Links.{refusal_of_hello, refusal_of_welcome, refusal_of_others};
     ghost use Rattle.c8_hand.specs.Held.{link_value};
 
-    /// A closed link to a player of this epoch, 0 if none is known.
+    /// Makes a closed link to a player of this epoch, 0 if none is known.
     pub(crate) fn closed(known: u32) -> Link
         ensures { result ≡ record { known = known; is_open = false } }
     {
@@ -26,7 +26,7 @@ impl Link {
         }
     }
 
-    /// An open link to a player of this epoch.
+    /// Makes an open link to a player of this epoch.
     pub(crate) fn opened(known: u32) -> Link
         ensures { result ≡ record { known = known; is_open = true } }
     {
@@ -36,7 +36,7 @@ impl Link {
         }
     }
 
-    /// The refusal of a HELLO to a player whose epoch is `own`.
+    /// Returns why a HELLO to a player of epoch `own` is refused, if it is.
     pub(crate) fn refusal_of_hello(&self, own: u32, head: &Head) -> Option<HandError>
         ensures { result ≡ refusal_of_hello (link_value self.now) own
             head.now.sender_epoch head.now.addressee_epoch }
@@ -50,7 +50,7 @@ impl Link {
         }
     }
 
-    /// The refusal of a WELCOME to a player whose epoch is `own`.
+    /// Returns why a WELCOME to a player of epoch `own` is refused, if it is.
     pub(crate) fn refusal_of_welcome(&self, own: u32, head: &Head) -> Option<HandError>
         ensures { result ≡ refusal_of_welcome (link_value self.now) own
             head.now.sender_epoch head.now.addressee_epoch }
@@ -64,7 +64,7 @@ impl Link {
         }
     }
 
-    /// The refusal of the kinds that want an open link, to a player whose epoch is `own`.
+    /// Returns why a datagram that needs an open link is refused, to a player of epoch `own`, if it is.
     pub(crate) fn refusal_of_others(&self, own: u32, head: &Head) -> Option<HandError>
         ensures { result ≡ refusal_of_others (link_value self.now) own
             head.now.sender_epoch head.now.addressee_epoch }

@@ -12,7 +12,7 @@ use c8_game::{Game, MOST_PLAYERS, Player, WireVersion};
 use c8_wire::{Datagram, DatagramKind, Head, Seat};
 use std::marker::Model;
 
-/// For each other player the newest epoch that is known of it, and whether the link to it is open.
+/// The newest known epoch of each other player, and whether the link to it is open.
 #[derive(Debug, Drop)]
 pub struct Links {
     me: Player,
@@ -34,7 +34,8 @@ impl Model for Links {
 }
 
 impl Links {
-    /// Closed links of player `me` in a match, whose own epoch is `epoch`; no other epoch is known.
+    /// Makes the links of player `me` in a match, whose own epoch is `epoch`: all are closed, and no other epoch is
+    /// known.
     pub fn new(me: Player, game: &Game, room: u64, epoch: u32) -> Links
         ensures { result ≡ no_links game.now me.number room epoch }
     {
@@ -50,35 +51,35 @@ impl Links {
         }
     }
 
-    /// Whose links they are.
+    /// Returns the player whose links these are.
     pub fn me(&self) -> Player
         ensures { result.number ≡ self.now.me }
     {
         self.me
     }
 
-    /// The version of the datagrams of the match.
+    /// Returns the version of the datagrams of the match.
     pub fn version(&self) -> WireVersion
         ensures { result ≡ self.now.version }
     {
         self.version
     }
 
-    /// The own epoch.
+    /// Returns the own epoch.
     pub fn epoch(&self) -> u32
         ensures { result ≡ self.now.epoch }
     {
         self.epoch
     }
 
-    /// The epoch that is known of a player, 0 if none is.
+    /// Returns the known epoch of a player, 0 if none is known.
     pub fn known(&self, player: Player) -> u32
         ensures { result ≡ (link_to self.now player.number).known }
     {
         self.links[player.place()].known
     }
 
-    /// The epoch that is known of a player to whom the link is open.
+    /// Returns the known epoch of a player, if the link to it is open.
     pub fn open(&self, player: Player) -> Option<u32>
         ensures { result ≡ open_epoch self.now player.number }
     {
@@ -86,9 +87,9 @@ impl Links {
         if link.is_open { Some(link.known) } else { None }
     }
 
-    /// Judges a datagram of any kind: first `Session`, then `NotMine`, then the epochs. A watcher has no
-    /// epoch and no link, so a SEEN is judged by its session and its addressee alone. Of the version
-    /// nothing is judged: the caller does that before.
+    /// Judges a datagram of any kind: first `Session`, then `NotMine`, then the epochs. It changes nothing. A watcher
+    /// has no epoch and no link, so `Session` and `NotMine` are all that a SEEN is judged by. The caller has to judge
+    /// the version of the datagram before.
     pub fn admit(&self, datagram: &Datagram<'_>) -> Result<(), HandError>
         ensures judged { MatchResult result
             (λ _. admission self.now (packet_of datagram.now).head ≡ None)
@@ -130,7 +131,7 @@ impl Links {
         }
     }
 
-    /// The sender of a datagram from another player of the game to this one.
+    /// Returns the sender of a datagram, if it is from another player of the game to this one.
     fn sender_of(&self, head: &Head) -> Option<Player>
         ensures { MatchOption result
             (is_mine self.now (head_value head.now) ≡ false)
@@ -172,9 +173,8 @@ impl Links {
         None
     }
 
-    /// Takes the epoch of an admitted datagram: a HELLO of a later epoch closes the link to its
-    /// sender, a WELCOME opens it, and the sender's epoch is then known. Other kinds change
-    /// nothing.
+    /// Takes the epochs of an admitted datagram. A HELLO of a later epoch closes the link to its sender, a WELCOME
+    /// opens it, and both make the sender's epoch known. Other kinds change nothing.
     pub fn hear(&mut self, datagram: &Datagram<'_>)
         requires { admission self.old (packet_of datagram.now).head ≡ None }
         ensures heard { self.new ≡ heard self.old (packet_of datagram.now).head }
@@ -214,8 +214,8 @@ impl Links {
         }
     }
 
-    /// The header of a datagram of this kind to a player or a watcher, in the version of the match: it names
-    /// the own epoch, and the one that is known of a player, 0 for a watcher.
+    /// Makes the header of a datagram of this kind to a player or a watcher, in the version of the match. It names the
+    /// own epoch, and the known one of the addressee; 0 for a watcher.
     pub fn head(&self, to: Seat, kind: DatagramKind) -> Head
         requires { are_seats kind self.now.me to.number ≡ true }
         ensures { head_value result ≡ head_to self.now to.number kind }

@@ -1,7 +1,7 @@
-//! Each call of an open peer, in a match of three, and what it answers.
+//! Each call of an open peer, in a match of three, and its answer.
 //!
-//! None of them takes memory. `rt try --test --fail-alloc N` refuses the Nth allocation: up to that of the last opening the test ends
-//! without peers, and from the next one on it goes as it does with ample memory.
+//! No call takes memory. `rt try --test --fail-alloc N` refuses the Nth allocation. Up to the last opening's allocation
+//! the test ends without peers; with any later one it runs as it does with ample memory.
 use c8_disk::{Arm, MemDisk};
 use c8_game::{Game, Keys, Player};
 use c8_peer::{Check, Heard, Kind, Peer, Refused};
@@ -28,7 +28,7 @@ fn opened(alloc: Global, game: &Game, number: u8) -> Option<Peer<'_, MemDisk>> {
     Peer::open(alloc, disk, game, Player::new(number)?, 7).ok()
 }
 
-/// What a peer answers to what another one says to it. None if that may not be said.
+/// Sends something from one peer to another. Returns the answer; `None` if it may not be sent.
 fn tells(
     from: &Peer<'_, MemDisk>,
     to: &mut Peer<'_, MemDisk>,
@@ -41,7 +41,7 @@ fn tells(
     }
 }
 
-/// Two peers make a link, the other one enters a key set, and each hears of the other's.
+/// Links two peers. The other one enters a key set, and each gets the other's inputs.
 fn meet(one: &mut Peer<'_, MemDisk>, other: &mut Peer<'_, MemDisk>) -> bool {
     tells(one, other, Kind::Hello) == NOTHING
         && tells(other, one, Kind::Welcome) == NOTHING
@@ -61,7 +61,7 @@ fn play(
     one.tick(Keys(0x0001)) == Ok(()) && meet(one, two) && meet(one, three)
 }
 
-/// Player 1 makes a checkpoint after its one confirmed frame, and shows a watcher this frame.
+/// Player 1 makes a checkpoint after its one confirmed frame, and shows this frame to a watcher.
 fn saves_and_shows(one: &mut Peer<'_, MemDisk>) -> bool {
     for piece in 0..37 {
         let wanted = if piece < 36 {
@@ -77,7 +77,7 @@ fn saves_and_shows(one: &mut Peer<'_, MemDisk>) -> bool {
     one.say_show(Watcher { number: 5 }, &mut datagram) == Ok(38)
 }
 
-/// Player 1 drops player 3, of whom player 2 has heard nothing.
+/// Player 1 drops player 3, of whom player 2 has no inputs.
 fn drops(
     one: &mut Peer<'_, MemDisk>,
     two: &mut Peer<'_, MemDisk>,

@@ -1,12 +1,12 @@
-//! What the peer of a scene answers to bytes, by the tables of docs/FORMATS.md and docs/PROTOCOL.md alone, line by line. Slow, and over
-//! the bytes as they are.
+//! What the peer of a scene answers to bytes, by the tables of docs/FORMATS.md and docs/PROTOCOL.md alone, line by
+//! line. It is slow, and works on the bytes in place.
 use crate::scene::{EPOCH, KNOWN, LIMIT, MARK, PLAYERS, Scene, Version, keys};
 use c8_hand::HandError;
 use c8_known::KnownError;
 use c8_peer::{Heard, Refused};
 use c8_wire::WireError;
 
-/// The number that some bytes at a place spell, the most significant first.
+/// Returns the number that some bytes at a place spell, the most significant first.
 fn number(bytes: &[u8], at: usize, size: usize) -> u64 {
     let mut number: u64 = 0;
     for byte in bytes.iter().skip(at).take(size) {
@@ -15,7 +15,7 @@ fn number(bytes: &[u8], at: usize, size: usize) -> u64 {
     number
 }
 
-/// The version that byte 2 names.
+/// Returns the version in byte 2.
 fn wire_of(bytes: &[u8]) -> u64 {
     number(bytes, 2, 1)
 }
@@ -36,12 +36,12 @@ fn leaver(bytes: &[u8]) -> u64 {
     number(bytes, 24, 1)
 }
 
-/// The number that a FREEZE, a FROZEN or a CUT says: how many inputs are held, or the length.
+/// Returns the number in a FREEZE, a FROZEN or a CUT: how many inputs are held, or the length.
 fn bound(bytes: &[u8]) -> u64 {
     number(bytes, 26, 4)
 }
 
-/// The answer to bytes.
+/// Returns the answer to bytes.
 pub(crate) fn judge(version: &Version, scene: &Scene, bytes: &[u8]) -> Result<Heard, Refused> {
     if let Some(error) = wire(bytes) {
         return Err(Refused::Wire(error));
@@ -67,7 +67,7 @@ pub(crate) fn judge(version: &Version, scene: &Scene, bytes: &[u8]) -> Result<He
     }
 }
 
-/// The table of what spells no datagram.
+/// The table of bytes that are no datagram.
 fn wire(bytes: &[u8]) -> Option<WireError> {
     let size = bytes.len();
     if size < 24 {
@@ -114,7 +114,7 @@ fn wire(bytes: &[u8]) -> Option<WireError> {
     None
 }
 
-/// Whether the body begins with a player who leaves.
+/// Returns whether the body begins with a leaver.
 fn has_leaver(bytes: &[u8]) -> bool {
     kind(bytes) >= 4 && kind(bytes) <= 6
 }
@@ -123,8 +123,8 @@ fn is_watcher(seat: u64) -> bool {
     seat == 5 || seat == 6
 }
 
-/// From and to are player one and a watcher where one watches; else players, and not one, and the leaver
-/// is one who can leave.
+/// Returns whether sender and addressee are player 1 and a watcher in SHOW and SEEN, and else two different players;
+/// and whether the leaver can be dropped.
 fn are_seats(bytes: &[u8]) -> bool {
     let (one, other, leaver) = (from(bytes), to(bytes), leaver(bytes));
     match kind(bytes) {
@@ -138,7 +138,7 @@ fn are_seats(bytes: &[u8]) -> bool {
     !has_leaver(bytes) || (leaver >= 2 && leaver <= 4)
 }
 
-/// The start and the count of a run, or of rows.
+/// Returns the start and the count of a run, or of rows.
 fn run(bytes: &[u8]) -> (u64, u64) {
     let (start, count) = match kind(bytes) {
         3 => (40, 44),
@@ -148,19 +148,19 @@ fn run(bytes: &[u8]) -> (u64, u64) {
     (number(bytes, start, 4), number(bytes, count, 2))
 }
 
-/// The frame after the last one of a run, or of rows.
+/// Returns the frame after the last one of a run, or of rows.
 fn end(bytes: &[u8]) -> u64 {
     let (start, count) = run(bytes);
     start.wrapping_add(count)
 }
 
-/// The bytes of a run.
+/// Returns the bytes of a run.
 fn run_bytes(bytes: &[u8]) -> &[u8] {
     let place = if kind(bytes) == 3 { 46 } else { 36 };
     bytes.get(place..).unwrap_or(&[])
 }
 
-/// Whether a run or rows are not too many, and have as many bytes as they may have.
+/// Returns whether a run or rows are not too many, and have an allowed number of bytes.
 fn is_counted(bytes: &[u8], size: u64) -> bool {
     let (_, count) = run(bytes);
     if kind(bytes) == 7 {
@@ -175,7 +175,8 @@ fn is_counted(bytes: &[u8], size: u64) -> bool {
     size % 3 == 0 && size <= 126
 }
 
-/// Whether each pair has inputs and another key set than the one before, and all pairs have as many inputs as the run.
+/// Returns whether each pair has inputs and another key set than the one before, and all pairs together have as many
+/// inputs as the run.
 fn are_pairs(bytes: &[u8]) -> bool {
     let (_, count) = run(bytes);
     let (mut sum, mut last) = (0, None);
@@ -203,7 +204,7 @@ fn is_beyond(bytes: &[u8]) -> bool {
     }
 }
 
-/// The tables of what the links do not admit. Of a SEEN neither who says it nor the epochs are judged.
+/// The tables of what the links do not admit. For a SEEN neither its sender nor the epochs are judged.
 fn hand(version: &Version, scene: &Scene, bytes: &[u8]) -> Option<HandError> {
     let me = u64::from(scene.me);
     if number(bytes, 4, 8) != version.session {
@@ -263,7 +264,7 @@ fn of_data(scene: &Scene, bytes: &[u8]) -> Option<Refused> {
     None
 }
 
-/// Why the run of inputs of a player does not fit what is held.
+/// Returns why the run of inputs of a player does not fit what is held.
 fn misfit(scene: &Scene, bytes: &[u8], player: u64) -> Option<KnownError> {
     let (start, _) = run(bytes);
     let held = scene.held(player);
@@ -281,7 +282,7 @@ fn misfit(scene: &Scene, bytes: &[u8], player: u64) -> Option<KnownError> {
     None
 }
 
-/// The input at a place of a run.
+/// Returns the input at a place of a run.
 fn input(bytes: &[u8], place: u64) -> u64 {
     let run = run_bytes(bytes);
     if wire_of(bytes) == 1 {
@@ -349,7 +350,7 @@ fn of_cut(scene: &Scene, bytes: &[u8]) -> Option<Refused> {
     }
 }
 
-/// The answer to a datagram that is not refused.
+/// Returns the answer to a datagram that is not refused.
 fn heard(scene: &Scene, bytes: &[u8]) -> Heard {
     if kind(bytes) == 6 && leaver(bytes) == u64::from(scene.me) {
         return Heard::Out;
@@ -361,7 +362,7 @@ fn heard(scene: &Scene, bytes: &[u8]) -> Heard {
     }
 }
 
-/// Whether it brings new inputs, or is the first FREEZE of its leaver, or a CUT of a list that is whole.
+/// Returns whether it brings new inputs, or is the first FREEZE of its leaver, or a CUT of a list that is complete.
 fn is_kept(scene: &Scene, bytes: &[u8]) -> bool {
     let held = scene.held(leaver(bytes));
     match kind(bytes) {

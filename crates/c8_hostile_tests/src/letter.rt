@@ -1,13 +1,13 @@
-//! Datagrams that are spelled as hexadecimal text.
+//! Datagrams written as hexadecimal text.
 
-/// Bytes in the place of a datagram, zeros after them.
+/// A buffer with a datagram, and zeros after it.
 #[derive(Clone, Copy)]
 pub(crate) struct Letter {
     bytes: [u8; 64],
     size: usize,
 }
 
-/// The value of a hexadecimal digit, which is lower-case.
+/// Returns the value of a lower-case hexadecimal digit.
 fn digit(text: u8) -> u8 {
     if text < b'a' {
         text.wrapping_sub(b'0')
@@ -17,7 +17,7 @@ fn digit(text: u8) -> u8 {
 }
 
 impl Letter {
-    /// The bytes that a text of hexadecimal digits spells.
+    /// Reads bytes from hexadecimal text.
     pub(crate) fn of(text: &str) -> Letter {
         let mut letter = Letter {
             bytes: [0; 64],
@@ -37,7 +37,7 @@ impl Letter {
         self.first(self.size)
     }
 
-    /// The first bytes: zeros follow the datagram.
+    /// Returns the first `size` bytes; zeros follow the datagram.
     pub(crate) fn first(&self, size: usize) -> &[u8] {
         self.bytes.get(..size).unwrap_or(&[])
     }

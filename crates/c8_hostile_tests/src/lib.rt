@@ -1,5 +1,5 @@
-//! The tests of what a peer gets from outside: datagrams that were cut short, made longer or changed in one byte (`play`), each judged
-//! by the documents alone (`judge`); and that no call of an open peer takes memory (`calls`).
+//! The tests of what a peer gets from outside: datagrams that were cut short, made longer or changed in one byte
+//! (`play`), each judged by the documents alone (`judge`); and that no call of an open peer takes memory (`calls`).
 #![tactic(auto)]
 
 #[cfg(test)]

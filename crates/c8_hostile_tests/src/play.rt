@@ -1,4 +1,4 @@
-//! A scene is played: its datagram is changed in each way, and each change is heard.
+//! Plays a scene: changes its datagram in each way, and delivers each change.
 use crate::judge::judge;
 use crate::letter::Letter;
 use crate::scene::{ROOM, Scene, Step, Text, Version, versions};
@@ -19,7 +19,7 @@ struct Stage<'a> {
     scene: &'a Scene,
 }
 
-/// What the peer tells before the datagram and after it, if no other one comes, and its disk then.
+/// What the peer shows before the datagram and after it, if no other datagram comes, and its disk then.
 #[derive(Drop)]
 struct Course {
     begin: Tells,
@@ -27,20 +27,20 @@ struct Course {
     disk: MemDisk,
 }
 
-/// What a peer answers to bytes: what plays a scene is proved of any answer.
+/// Delivers bytes. It has no contract, so what plays a scene is proved for any answer.
 fn hear(peer: &mut Peer<'_, MemDisk>, bytes: &[u8]) -> Result<Heard, Refused> {
     peer.deliver(bytes)
 }
 
 impl<'a> Stage<'a> {
-    /// The peer on an empty disk.
+    /// Opens the peer on an empty disk.
     fn opened(self) -> Option<Peer<'a, MemDisk>> {
         let disk = MemDisk::new(self.alloc, 5_000, 400).ok()?;
         let me = Player::new(self.scene.me)?;
         Peer::open(self.alloc, disk, self.game, me, ROOM).ok()
     }
 
-    /// The peer before the datagram comes.
+    /// Makes the peer as it is before the datagram comes.
     fn ready(self) -> Option<Peer<'a, MemDisk>> {
         let mut peer = self.opened()?;
         for step in steps(self.scene.before) {
@@ -63,7 +63,7 @@ impl<'a> Stage<'a> {
         }
     }
 
-    /// The datagram in the version that is played.
+    /// Returns the datagram in the version that is played.
     fn letter(self, text: Text) -> Letter {
         let (first, second) = text;
         if self.version.wire == 1 {
@@ -73,7 +73,8 @@ impl<'a> Stage<'a> {
         }
     }
 
-    /// None if the peer is not as the scene says, or gives another answer to the datagram.
+    /// Plays the scene without changes. `None` if the peer is not as the scene says, or answers the datagram
+    /// differently.
     fn course(self) -> Option<Course> {
         let mut peer = self.ready()?;
         let begin = telling(&peer);
@@ -86,7 +87,7 @@ impl<'a> Stage<'a> {
         Some(Course { begin, end, disk })
     }
 
-    /// Whether the peer is as the scene says.
+    /// Returns whether the peer is as the scene says.
     fn is_set(self, tells: &Tells) -> bool {
         for (of_player, wanted) in tells.players.iter().zip(&self.scene.players) {
             if (u64::from(of_player.held), of_player.is_linked) != *wanted {
@@ -96,8 +97,8 @@ impl<'a> Stage<'a> {
         u64::from(tells.confirmed) == self.scene.confirmed
     }
 
-    /// Whether bytes get the answer that is judged. A peer that refuses them tells what it told before, but for the alarm after
-    /// Desync. Bytes that are not refused go to a peer of their own.
+    /// Returns whether bytes get the answer of `judge`. If they are refused, the peer must show what it showed before,
+    /// except for the alarm after Desync. Otherwise they are delivered to a peer of their own.
     fn holds(self, peer: &mut Peer<'_, MemDisk>, tells: &mut Tells, bytes: &[u8]) -> bool {
         match judge(self.version, self.scene, bytes) {
             Ok(heard) => match self.ready() {
@@ -113,7 +114,7 @@ impl<'a> Stage<'a> {
         }
     }
 
-    /// Each other value of a byte.
+    /// Tries each other value of a byte.
     fn holds_changes(self, peer: &mut Peer<'_, MemDisk>, tells: &mut Tells, place: usize) -> bool {
         let mut letter = self.letter(self.scene.said);
         let value = letter.byte(place);
@@ -126,7 +127,7 @@ impl<'a> Stage<'a> {
         true
     }
 
-    /// Each front, and one byte more.
+    /// Tries each shorter length, and one more byte.
     fn holds_lengths(self, peer: &mut Peer<'_, MemDisk>, tells: &mut Tells) -> bool {
         let letter = self.letter(self.scene.said);
         for size in 0..letter.len() {
@@ -137,8 +138,9 @@ impl<'a> Stage<'a> {
         self.holds(peer, tells, letter.first(letter.len().saturating_add(1)))
     }
 
-    /// Whether each other value of a byte gets the answer that is judged, or at the place after the last one each other length; and
-    /// whether the datagram as it is then does what it does alone, to the last byte of the disk.
+    /// Returns whether each other value of a byte, or at the place after the last byte each other length, gets the
+    /// answer of `judge`; and whether the unchanged datagram then does what it does alone, to the last byte of the
+    /// disk.
     fn holds_at(self, course: &Course, place: usize) -> bool {
         let Some(mut peer) = self.ready() else {
             return false;
@@ -161,7 +163,7 @@ impl<'a> Stage<'a> {
             && peer.close().bytes() == course.disk.bytes()
     }
 
-    /// The first place at which a change gets another answer; 1000 if the scene itself goes otherwise.
+    /// Returns the first place at which a change gets another answer; 1000 if the scene itself goes wrong.
     fn fault(self) -> Option<usize> {
         let Some(course) = self.course() else {
             return Some(1000);
@@ -175,7 +177,7 @@ impl<'a> Stage<'a> {
     }
 }
 
-/// The first scene that goes otherwise, and its fault.
+/// Returns the first scene that goes wrong, and its fault.
 fn fault_in(alloc: Global, game: &Game, version: &Version) -> Option<(usize, usize)> {
     for (number, scene) in scenes().iter().enumerate() {
         let stage = Stage {

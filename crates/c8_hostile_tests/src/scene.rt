@@ -1,10 +1,11 @@
-//! What stands before a datagram comes: whose peer hears it, what the peer did before, and what it then holds.
+//! The state before a datagram comes: whose peer gets it, what the peer did before, and what it then holds.
 //!
-//! All is of one game of three players in both versions of the datagrams, with two frames of delay. For each later frame n player p
-//! enters the key set 256p + n / 3, rounded down, so up to three frames in a row have the same.
+//! All scenes are of one game of three players in both versions of the datagrams, with two frames of delay. For each
+//! frame n after the delay, player p enters the key set 256p + n / 3, rounded down, so up to three frames in a row have
+//! the same.
 use c8_peer::{Heard, Refused};
 
-/// A version of the datagrams: a game that has it, and the session of its room, which another program computed.
+/// A version of the datagrams: a game that has it, and the session of its room, computed by another program.
 pub(crate) struct Version {
     pub(crate) wire: u64,
     pub(crate) game: &'static str,
@@ -32,13 +33,13 @@ pub(crate) const ROOM: u64 = 0x0102030405060708;
 
 pub(crate) const PLAYERS: u64 = 3;
 
-/// Frames and delay together.
+/// The frames plus the delay.
 pub(crate) const LIMIT: u64 = 302;
 
-/// The mark of frame 0, by another program. Nobody keeps another one before frame 32 is confirmed.
+/// The mark of frame 0, computed by another program. No peer keeps another mark before frame 32 is confirmed.
 pub(crate) const MARK: u64 = 0x040d1a00552be44e;
 
-/// The epoch of the peer that hears a datagram, and the one that it knows of each other player.
+/// The epoch of the peer that gets a datagram, and the epoch that it knows of each other player.
 pub(crate) const EPOCH: u64 = 1;
 
 pub(crate) const KNOWN: u64 = 5;
@@ -46,7 +47,7 @@ pub(crate) const KNOWN: u64 = 5;
 /// A datagram in version 1 and in version 2, as hexadecimal text.
 pub(crate) type Text = (&'static str, &'static str);
 
-/// What a peer does.
+/// An action of a peer.
 #[derive(Clone, Copy)]
 pub(crate) enum Step {
     Hear(Text),
@@ -55,7 +56,8 @@ pub(crate) enum Step {
     Leave,
 }
 
-/// What happened before the datagram comes: player 2 met player 1, or heard too that player 1 drops player 3; or player 1 drops it.
+/// What happened before the datagram comes: player 2 met player 1; or it also got the FREEZE of player 3; or player 1
+/// drops player 3.
 #[derive(Clone, Copy)]
 pub(crate) enum Before {
     Met,
@@ -65,21 +67,21 @@ pub(crate) enum Before {
 
 #[derive(Clone, Copy)]
 pub(crate) struct Scene {
-    /// Whose peer it is.
+    /// The player whose peer it is.
     pub(crate) me: u8,
     pub(crate) before: Before,
-    /// Of each player how many inputs the peer holds, and whether the link is open.
+    /// For each player, how many inputs the peer holds, and whether the link is open.
     pub(crate) players: [(u64, bool); 3],
-    /// How many frames it confirmed.
+    /// How many frames it has confirmed.
     pub(crate) confirmed: u64,
-    /// The player who has a FREEZE or a LEAVE in its journal; 0 if nobody.
+    /// The player with a FREEZE or a LEAVE in its journal; 0 if there is none.
     pub(crate) frozen: u64,
-    /// The datagram, and what it is answered as it is.
+    /// The datagram, and the answer to it without a change.
     pub(crate) said: Text,
     pub(crate) answer: Result<Heard, Refused>,
 }
 
-/// The key set that a player enters for a frame after the delay.
+/// Returns the key set that a player enters for a frame; empty in the frames of the delay.
 pub(crate) fn keys(player: u64, frame: u64) -> u64 {
     if frame < 2 {
         0
@@ -89,7 +91,7 @@ pub(crate) fn keys(player: u64, frame: u64) -> u64 {
 }
 
 impl Scene {
-    /// How many inputs the peer holds of a player.
+    /// Returns how many inputs of a player the peer holds.
     pub(crate) fn held(&self, player: u64) -> u64 {
         self.of_player(player).0
     }

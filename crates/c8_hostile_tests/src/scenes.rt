@@ -1,11 +1,11 @@
-//! The scenes: a datagram of each kind at a peer that takes it, and some that are refused. The bytes are those of another program, by
-//! docs/FORMATS.md.
+//! The scenes: a datagram of each kind at a peer that takes it, and some that are refused. Another program made the
+//! bytes, by docs/FORMATS.md.
 use crate::scene::{Before, Scene, Step, Text};
 use c8_hand::HandError;
 use c8_known::KnownError;
 use c8_peer::{Heard, Refused};
 
-/// WELCOME of player 1 to player 2, whose two inputs of the delay it acknowledges.
+/// WELCOME of player 1 to player 2. It acknowledges the two inputs of the delay.
 #[rattlefmt::skip]
 const WELCOME_OF_ONE: Text = (
     "43380102104023b9c4743fd701020004000000050000000100000002",
@@ -40,7 +40,7 @@ const DATA_OF_THREE: Text = (
     "43380203627827b6fff308130302001c00000005000000010000000200000000040d1a00552be44e000000020003010300020301",
 );
 
-/// FREEZE of player 3, by player 1 to player 2.
+/// FREEZE of player 3, from player 1 to player 2.
 #[rattlefmt::skip]
 const FREEZE: Text = (
     "43380104104023b9c4743fd7010200060000000500000001030000000004",
@@ -85,7 +85,7 @@ static MET: [Step; 6] = [
     Step::Tick,
 ];
 
-/// It holds five of player 3 too, whom player 1 drops.
+/// Player 2 holds five inputs of player 3 too, whom player 1 drops.
 static FROZE: [Step; 8] = [
     Step::Hear(WELCOME_OF_ONE),
     Step::Hear(WELCOME_OF_THREE),
@@ -137,21 +137,21 @@ const DATA_OF_LEAVER: Text = (
     "43380203627827b6fff308130302001c00000005000000010000000400000000040d1a00552be44e000000040004020301020302",
 );
 
-/// FROZEN of player 3, by player 2 to player 1: frames 4 to 6 of seven.
+/// FROZEN of player 3, from player 2 to player 1: frames 4 to 6 of seven.
 #[rattlefmt::skip]
 const FROZEN: Text = (
     "43380105104023b9c4743fd7020100120000000500000001030000000007000000040003030103010302",
     "43380205627827b6fff30813020100120000000500000001030000000007000000040003020301010302",
 );
 
-/// CUT of player 3 at seven inputs, by player 1 to player 2: frames 4 to 6.
+/// CUT of player 3 at seven inputs, from player 1 to player 2: frames 4 to 6.
 #[rattlefmt::skip]
 const CUT: Text = (
     "43380106104023b9c4743fd7010200120000000500000001030000000007000000040003030103010302",
     "43380206627827b6fff30813010200120000000500000001030000000007000000040003020301010302",
 );
 
-/// CUT of player 2 at five inputs, by player 1 to player 2.
+/// CUT of player 2 at five inputs, from player 1 to player 2.
 #[rattlefmt::skip]
 const CUT_OF_TWO: Text = (
     "43380106104023b9c4743fd70102000e00000005000000010200000000050000000400010201",
@@ -172,7 +172,7 @@ const SEEN: Text = (
     "43380208627827b6fff3081305010004000000000000000000000002",
 );
 
-/// What the peer of a scene does before the datagram comes.
+/// Returns what the peer of a scene does before the datagram comes.
 pub(crate) fn steps(before: Before) -> &'static [Step] {
     match before {
         Before::Met => &MET,
@@ -234,7 +234,7 @@ static SCENES: [Scene; 10] = [
     ONE,
 ];
 
-/// All of them, lent: what walks them is proved of any scenes.
+/// Lends all scenes. It has no contract, so what walks them is proved for any scenes.
 pub(crate) fn scenes() -> &'static [Scene] {
     &SCENES
 }

@@ -1,9 +1,9 @@
-//! What a peer tells of its journal, its counts and its links, as one value.
+//! What a peer shows of its journal, its counts and its links, as one value.
 use c8_disk::MemDisk;
 use c8_game::Player;
 use c8_peer::Peer;
 
-/// What a peer tells of a player.
+/// What a peer shows of one player.
 #[derive(Clone, Copy, PartialEq, Eq)]
 pub(crate) struct OfPlayer {
     /// How many inputs it holds.
@@ -16,7 +16,7 @@ pub(crate) struct OfPlayer {
     cut: Option<u32>,
 }
 
-/// What a peer tells.
+/// What a peer shows.
 #[derive(Clone, Copy, PartialEq, Eq)]
 pub(crate) struct Tells {
     pub(crate) confirmed: u32,

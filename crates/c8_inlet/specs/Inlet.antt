@@ -3,8 +3,7 @@ use Rattle.std.specs.Prelude.{ℕ, List}
 use Rattle.std.specs.Global.{Global}
 use denote.RawPtr.{Ptr}
 
--- which inlet it is: how many places for packets it has, and what tells it from others. The ends that
--- are made together have the same
+-- which inlet it is: how many packets it has room for, and what tells it from others; both ends have the same
 pub record InletId : Type 0 where
   pub places : ℕ
   pub marks : ℕ × ℕ
@@ -12,15 +11,14 @@ pub record InletId : Type 0 where
   pub slots : Ptr
   pub heap : Global
 
--- the end that puts: its inlet, each packet that was put, the first one first, and how many places it
--- knows to be free
+-- the end that puts: its inlet, each packet that was put, oldest first, and how many places it knows to be free
 pub record PutterValue : Type 0 where
   pub inlet : InletId
   pub put : List (List ℕ)
   pub free : ℕ
 
--- the end that takes: its inlet, each packet that was taken, the first one first, and those that it has
--- seen inside, the next one to be taken first
+-- the end that takes: its inlet, each packet that was taken, oldest first, and the packets that it has seen inside, the
+-- next one to be taken first
 pub record TakerValue : Type 0 where
   pub inlet : InletId
   pub taken : List (List ℕ)

@@ -1,4 +1,4 @@
--- How the ends that the code keeps are seen.
+-- How the ends of the code stand for their values.
 use Rattle.std.specs.Prelude.{ℕ, List}
 use Rattle.std.specs.Global.{Global}
 use Rattle.rtrb.specs.Ring.{sent, known_free, received, known_items, all_sent}
@@ -9,7 +9,7 @@ use Rattle.rtrb.specs.declared.consumer.Consumer.{Consumer}
 use Rattle.rtrb.specs.declared.finished.Finished.{Finished}
 use Rattle.c8_inlet.specs.Inlet.{InletId, PutterValue, TakerValue, EndedValue}
 
--- rtrb has no word for which ring an end is of, so it is read off the end
+-- rtrb has no name for the ring of an end, so the parts of the end give it
 abbrev pub inlet_of : End (List ℕ) Global AnyItems → InletId
 inlet_of e = record {
   places = e.names.0;

@@ -37,8 +37,7 @@ impl Model for Taker {
     ghost view = { λ t. taker_seen t.consumer };
 }
 
-/// What a putter that has finished leaves: it knows all that was ever put. It can move to the taker's
-/// thread.
+/// What a finished putter leaves: it knows all packets that were ever put. It can move to the taker's thread.
 #[derive(Drop)]
 pub struct Ended {
     finished: Finished<Packet>,
@@ -53,8 +52,7 @@ impl Model for Ended {
     ghost view = { λ e. ended_seen e.finished };
 }
 
-/// The two ends of a new inlet, which has so many places, each for one packet. An error where there
-/// is no memory for them.
+/// Makes an inlet with room for `places` packets, and returns its two ends. Fails only if memory is refused.
 pub fn inlet(alloc: Global, places: usize) -> Result<(Putter, Taker), AllocError>
     ensures pair { IfOk result (λ ends. ends.0.inlet ≡ ends.1.inlet) }
     ensures places { IfOk result (λ ends. ends.0.inlet.places ≡ places) }
@@ -66,7 +64,7 @@ pub fn inlet(alloc: Global, places: usize) -> Result<(Putter, Taker), AllocError
 }
 
 impl Putter {
-    /// Puts a packet in. Where it finds no free place it hands the packet back, and nothing is put.
+    /// Puts a packet in. Without a free place it gives the packet back, and nothing is put.
     pub fn put(&mut self, packet: Packet) -> Result<(), Packet>
         ensures inlet { self.new.inlet ≡ self.old.inlet }
         ensures ok { OnOk result (self.new.put ≡ self.old.put ++ packet ∷ []) }
@@ -81,7 +79,7 @@ impl Putter {
         }
     }
 
-    /// Puts no more, and leaves what knows all that was put. `None` if the taker was dropped before.
+    /// Ends putting, and returns an end that knows all packets that were put. `None` if the taker was dropped before.
     pub fn finish(self) -> Option<Ended>
         ensures pair { IfSome result (λ ended. ended.inlet ≡ self.inlet) }
         ensures sent { IfSome result (λ ended. ended.put ≡ self.put) }
@@ -92,8 +90,7 @@ impl Putter {
 }
 
 impl Taker {
-    /// Takes out the packet that was put first of those inside. `None` if it sees none, and then
-    /// nothing is taken.
+    /// Takes the oldest packet out. `None` if it sees no packet; then nothing is taken.
     pub fn take(&mut self) -> Option<Packet>
         ensures inlet { self.new.inlet ≡ self.old.inlet }
         ensures some { IfSome result (λ packet. self.new.taken ≡ self.old.taken ++ packet ∷ []) }
@@ -101,7 +98,7 @@ impl Taker {
         ensures oldest { 0 < length self.old.seen
             → IsSomeAnd result (λ packet. self.old.seen ≡ packet ∷ self.new.seen) }
     {
-        // `pop` does not promise to look only where no packet was seen before.
+        // The contract of `pop` does not say that it looks for new packets only when none was seen before.
         if self.consumer.cached_slots() == 0 && self.consumer.slots() == 0 {
             return None;
         }
@@ -109,9 +106,8 @@ impl Taker {
     }
 }
 
-/// How many packets are inside, for who has both ends of one inlet. Nothing is put or taken. What was
-/// taken, and then what is inside, is what was put; each place with no packet in it is known to be
-/// free.
+/// Returns how many packets are inside, for a caller that has both ends. It puts and takes nothing. All that was put is
+/// what was taken, then what is inside; each other place is known to be free.
 pub fn beside(putter: &mut Putter, taker: &mut Taker) -> usize
     requires { putter.old.inlet ≡ taker.old.inlet }
     ensures putter { (putter.new.inlet ≡ putter.old.inlet) × (putter.new.put ≡ putter.old.put) }
@@ -126,8 +122,8 @@ pub fn beside(putter: &mut Putter, taker: &mut Taker) -> usize
     taker.consumer.slots_beside(&mut putter.producer)
 }
 
-/// How many packets are inside, for who has the taker of an inlet and what its putter left. Nothing
-/// is taken. What was taken, and then what is inside, is all that was ever put.
+/// Returns how many packets are inside, for a caller with the taker and what the putter left. It takes nothing. All
+/// that was ever put is what was taken, then what is inside.
 pub fn after(ended: &mut Ended, taker: &mut Taker) -> usize
     requires { ended.old.inlet ≡ taker.old.inlet }
     ensures ended { ended.new ≡ ended.old }

@@ -1,10 +1,9 @@
-//! An inlet takes packets from one thread to another, each once and in order, without a lock.
+//! An inlet: a bounded lock-free queue of packets from one thread to another. Each packet arrives once, and in order.
 //!
-//! [`inlet`] makes its two ends: a [`Putter`] puts packets in, a [`Taker`] takes them out. Each may
-//! move to a thread of its own, and neither ever waits for the other. What was put and what was taken
-//! is compared by [`beside`], where one thread has both ends, or by [`after`], once the putter has
-//! finished. What the ends stand for is in `specs/Inlet.antt`, and how the code is seen so in
-//! `specs/Seen.antt`; what follows from the contracts is in [`laws`]. Only [`inlet`] takes memory.
+//! [`inlet`] makes its two ends: a [`Putter`] puts packets in, a [`Taker`] takes them out. Each may move to a thread of
+//! its own, and neither waits for the other. [`beside`] compares what was put and taken in a thread that has both ends,
+//! [`after`] does so once the putter has finished. `specs/Inlet.antt` says what the ends stand for, `specs/Seen.antt`
+//! how the code stands for that, and [`laws`] what follows from the contracts. Only [`inlet`] takes memory.
 #![tactic(auto)]
 
 mod ends;

@@ -1,4 +1,4 @@
-//! What goes through an inlet.
+//! What an inlet carries.
 ghost use Rattle.std.specs.Prelude.{◌≡◌, ◌≤◌, ◌<◌, length, MatchResult};
 ghost use Rattle.c8_inlet.specs.declared.packet.TheConstants.{LONGEST_PACKET};
 
@@ -7,10 +7,10 @@ use arrayvec::ArrayVec;
 use std::alloc::AllocError;
 use std::marker::Model;
 
-/// The most bytes that a packet has.
+/// The most bytes of a packet.
 pub const LONGEST_PACKET: usize = 175;
 
-/// At most [`LONGEST_PACKET`] bytes, which lie in the value itself.
+/// At most [`LONGEST_PACKET`] bytes, stored in the value itself.
 #[derive(Debug, Drop, PartialEq, Eq)]
 pub struct Packet {
     bytes: ArrayVec<u8, LONGEST_PACKET>,
@@ -27,7 +27,7 @@ impl Model for Packet {
 }
 
 impl Packet {
-    /// Its bytes.
+    /// Returns the bytes.
     pub fn as_bytes(&self) -> &[u8]
         ensures value { result.now ≡ self.now }
         ensures most { length result.now ≤ LONGEST_PACKET }
@@ -36,7 +36,7 @@ impl Packet {
     }
 }
 
-/// A packet of these bytes; an error where there are more than [`LONGEST_PACKET`].
+/// Makes a packet of these bytes. Fails if they are more than [`LONGEST_PACKET`].
 impl TryFrom<&[u8]> for Packet {
     type Error = TooLong;
 
@@ -52,7 +52,7 @@ impl TryFrom<&[u8]> for Packet {
     }
 }
 
-/// A copy, which takes no memory and always succeeds.
+/// Copies the packet. It takes no memory and always succeeds.
 impl Clone for Packet {
     ghost is_clone = { λ packet copy. copy ≡ packet };
 

@@ -4,8 +4,8 @@ use std::alloc::{AllocError, Global};
 use std::fmt::{Debug, Display};
 use std::test::Fail;
 
-/// A packet of so many bytes, which count up from a first one. Two such packets differ in each byte,
-/// or in length.
+/// Makes a packet of `length` bytes, which count up from the first one. Two such packets differ in each byte, or in
+/// length.
 fn packet(first: u8, length: usize) -> Result<Packet, TooLong> {
     let mut bytes = [0; LONGEST_PACKET + 1];
     let mut next = first;
@@ -16,7 +16,7 @@ fn packet(first: u8, length: usize) -> Result<Packet, TooLong> {
     Packet::try_from(&bytes[..length.min(bytes.len())])
 }
 
-/// Whether a value prints a text.
+/// Returns whether a value prints this text.
 fn prints<T: Display + Drop>(alloc: Global, value: T, text: &str) -> bool {
     match format!(in alloc; "{value}") {
         Ok(printed) => printed.as_str() == text,
@@ -24,7 +24,7 @@ fn prints<T: Display + Drop>(alloc: Global, value: T, text: &str) -> bool {
     }
 }
 
-/// Whether a value shows a text where it is debugged.
+/// Returns whether a value's `Debug` text is this one.
 fn shows<T: Debug + Drop>(alloc: Global, value: T, text: &str) -> bool {
     match format!(in alloc; "{value:?}") {
         Ok(shown) => shown.as_str() == text,
@@ -40,7 +40,7 @@ fn texts(rt: HostRuntime) -> Result<(), Fail> {
     Ok(())
 }
 
-/// A call, and its answer. A packet stands as its first byte and its length.
+/// A call and its answer. A packet is given by its first byte and its length.
 #[derive(Clone, Copy)]
 enum Step {
     Put(u8, usize),
@@ -78,7 +78,7 @@ fn inlets() -> &'static [Inlet] {
     &INLETS
 }
 
-/// Puts a packet. What is handed back.
+/// Puts a packet. Returns it if it comes back.
 fn put(putter: &mut Putter, first: u8, length: usize) -> Option<Packet> {
     match packet(first, length) {
         Ok(packet) => putter.put(packet).err(),
@@ -86,7 +86,7 @@ fn put(putter: &mut Putter, first: u8, length: usize) -> Option<Packet> {
     }
 }
 
-/// Whether a call has the answer that its step names.
+/// Returns whether a call has the answer of its step.
 fn holds(putter: &mut Putter, taker: &mut Taker, step: Step) -> bool {
     match step {
         Put(first, length) => put(putter, first, length).is_none(),
@@ -96,7 +96,7 @@ fn holds(putter: &mut Putter, taker: &mut Taker, step: Step) -> bool {
     }
 }
 
-/// How many steps hold, from the first one on.
+/// Returns how many steps hold, from the first one on.
 fn held(putter: &mut Putter, taker: &mut Taker, steps: &[Step]) -> usize {
     for (number, step) in steps.iter().enumerate() {
         if !holds(putter, taker, *step) {

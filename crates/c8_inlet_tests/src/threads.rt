@@ -1,4 +1,4 @@
-//! The two ends in threads of their own.
+//! Each end in a thread of its own.
 use c8_inlet::{LONGEST_PACKET, Packet, Putter, Taker, TooLong, inlet};
 use std::sync::Wait;
 use std::test::Fail;
@@ -7,7 +7,7 @@ use std::thread::{self, join};
 /// How many packets are put.
 const PACKETS: u32 = 10_000;
 
-/// A packet of 4 to 175 bytes that no other number has.
+/// Makes a packet of 4 to 175 bytes that no other number has.
 fn numbered(number: u32) -> Result<Packet, TooLong> {
     let mut bytes = [(number % 251) as u8; LONGEST_PACKET];
     bytes[..4].copy_from_slice(&number.to_be_bytes());
@@ -37,7 +37,7 @@ fn take(rt: &impl Wait, taker: &mut Taker) -> Option<Packet> {
     None
 }
 
-/// Puts all packets. Whether the putter finishes while the taker lives.
+/// Puts all packets. Returns whether the putter finishes while the taker lives.
 fn put_all(rt: &impl Wait, mut putter: Putter) -> bool {
     for number in 0..PACKETS {
         if let Ok(packet) = numbered(number) {
@@ -47,8 +47,8 @@ fn put_all(rt: &impl Wait, mut putter: Putter) -> bool {
     putter.finish().is_some()
 }
 
-/// Takes as many packets. The taker, which has to live until the putter finishes, and whether each
-/// packet was the next one.
+/// Takes as many packets. Returns the taker, which must live until the putter finishes, and whether each packet was the
+/// next one.
 fn take_all(rt: &impl Wait, mut taker: Taker) -> (Taker, bool) {
     let mut are_so = true;
     for number in 0..PACKETS {

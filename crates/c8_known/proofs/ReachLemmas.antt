@@ -1,4 +1,4 @@
--- The least reach of all players is how many frames are confirmed.
+-- The least reach of all players is the number of confirmed frames.
 use Rattle.std.proofs.Common.{◌≡◌, ℕ, zero, suc, ◌+◌, ◌-◌, ◌<◌, ◌≤◌, ◌⊎◌, List, [], ◌∷◌, length, map, min, take, fold, true, false, Option, Some, None, refl, sym, ap, subst, ◌∙◌, inl, inr, arith, slice_index_or}
 use Rattle.std.specs.List.{slice_get}
 use Rattle.std.proofs.Math.Nat.{min-le_left, min-le_right}
@@ -55,7 +55,7 @@ stops (Some K) p bound is below =
       | inr long ↦ absurd (let all : reach_to (Some K) (length p.held) bound ≡ bound = rw (le-leb K (length p.held) long) refl in omega (arith, below, all))
     ]
 
--- ---- the least of all
+-- ---- the least reach of all players
 
 least_le : (players : List PlayerValue) (bound from : ℕ) → fold (λ least p. min least (reach_of p bound)) from players ≤ from
 least_le [] bound from = omega arith

@@ -1,4 +1,4 @@
--- What is known before a journal says anything.
+-- What is known before a journal has a record.
 use Rattle.std.proofs.Common.{◌≡◌, ℕ, zero, suc, ◌+◌, List, [], map, refl, sym, ap, ◌∙◌, replicate}
 use Rattle.std.specs.List.{range_with_len}
 use Rattle.c8_game.specs.Rules.{Rules, limit_of}

@@ -1,4 +1,4 @@
--- What one changed table makes of what is known.
+-- How one changed table changes what is known.
 use Rattle.std.proofs.Common.{◌≡◌, ◌≢◌, ℕ, ◌+◌, ◌-◌, ◌<◌, ◌≤◌, ◌^◌, List, [], ◌∷◌, ◌++◌, length, map, true, Option, Some, None, refl, sym, ap, subst, ◌∙◌, arith, slice_set, slice_index_or, vec_capacity, All}
 use Rattle.std.proofs.lemmas.List.{map-set, get_or-map, get_or_past, append-nil, length-map}
 use Rattle.std.proofs.lemmas.List.Elements.{All-set}
@@ -10,7 +10,7 @@ use Rattle.c8_known.specs.declared.known.Known.TheInside.{Inside}
 use Rattle.c8_known.specs.Tables.{table_value, seen, HasRoom}
 use Rattle.c8_known.specs.checked.KnownLaws.{changed, own_known, own_still, got_known, got_still, freeze_known, freeze_still, leave_known, leave_still, cut_known, cut_still}
 
--- a table of the code, and the player of whom it is
+-- a table of the code, and its player
 pub record IsTableOf (k : KnownValue) (tables : List Table) (place q : ℕ) (table : Table) : Type 0 where
   pub players : k.players ≡ map table_value tables
   pub at : place ≡ q - 1
@@ -36,7 +36,7 @@ table_changed k tables place q old t table ticks p is =
 pub room_at : (limit : ℕ) (tables : List Table) (place : ℕ) (table : Table) → HasRoom limit tables → place < length tables → table ≡ slice_index_or tables place table → limit ≤ vec_capacity table.inputs
 room_at limit tables place table room within is = subst (λ (t : Table). limit ≤ vec_capacity t.inputs) (sym is) (room place table within)
 
--- what a call makes of what is known, where a record says it
+-- a call changes what is known as its record says
 pub record Changes (old new : KnownValue) (r : Record) : Type 0 where
   pub value : new ≡ with_record old r
   pub known : IsKnown new
@@ -94,7 +94,7 @@ was_cut k tables place q K start table new known t is other leaves uncut all =
 abbrev seen_of : Inside → KnownValue
 seen_of i = seen i.me.number i.delay i.limit i.ticks i.tables.items
 
--- what a call finds
+-- before the call
 pub record IsCall (i : Inside) (self : KnownValue) (place q : ℕ) (old : Table) : Type 0 where
   pub view : seen_of i ≡ self
   pub known : IsKnown (seen_of i)
@@ -103,7 +103,7 @@ pub record IsCall (i : Inside) (self : KnownValue) (place q : ℕ) (old : Table)
   pub plays : Plays self q
   pub is : old ≡ slice_index_or i.tables.items place old
 
--- what it leaves
+-- after the call
 pub record IsDone (i : Inside) (self : KnownValue) (ticks : ℕ) (tables : List Table) (r : Record) : Type 0 where
   pub value : seen i.me.number i.delay i.limit ticks tables ≡ with_record self r
   pub known : IsKnown (seen i.me.number i.delay i.limit ticks tables)
@@ -177,14 +177,14 @@ own_call i self place word old new call more room =
     (owned (seen_of i) i.tables.items place (count_in self self.me) word old new call.known (subst (λ (q : ℕ). IsTableOf (seen_of i) i.tables.items place q old) (sym me) table)
     (holds_value old new (word ∷ []) more) (subst (λ (k : KnownValue). count_in k k.me < k.limit) (sym call.view) room)))
 
--- ---- a place past all tables
+-- ---- a place beyond all tables
 
 pub nobody_there : (i : Inside) (self : KnownValue) (place : ℕ) → seen_of i ≡ self → length i.tables.items ≤ place → player_in self (place + 1) ≡ nobody
 nobody_there i self place view past =
     subst (λ (k : KnownValue). player_in k (place + 1) ≡ nobody) view
     (get_or_past (map table_value i.tables.items) (place + 1 - 1) nobody (omega (arith, past, length-map i.tables.items table_value)))
 
--- no list is longer than a number of 32 bits can say
+-- the length of a list fits 32 bits
 pub all_within : (i : Inside) → IsKnown (seen_of i) → All (λ (table : Table). length (table_value table).held < 2 ^ 32) i.tables.items
 all_within i known place d within =
     let at : place + 1 - 1 ≡ place = omega arith in

@@ -1,4 +1,4 @@
--- Which inputs are settled, which frames are confirmed, and what stands for the inputs that are not known yet.
+-- Which inputs are settled, which frames are confirmed, and which inputs stand in for those that are not known yet.
 use Rattle.std.specs.Prelude.{ℕ, zero, suc, ◌-◌, ◌≡◌, ◌<◌, ◌≤◌, List, [], ◌∷◌, length, map, slice_index, Bool, true, false, nat_le, Option, Some, None, if◌then◌else◌}
 use Rattle.std.specs.List.{slice_get, range_with_len, list_all}
 use Rattle.c8_game.specs.declared.row.Row.{Row}
@@ -16,7 +16,7 @@ abbrev pub unless_held : Option ℕ → Option ℕ → Option ℕ
 unless_held (Some input) past = Some input
 unless_held None past = past
 
--- A player's settled input at a frame: what is held of it, or the empty set from its cut on.
+-- A player's settled input in a frame: the held one, or the empty set from its cut on.
 unfoldable pub input_of : PlayerValue → ℕ → Option ℕ
 input_of p frame = unless_held (slice_get p.held frame) (past_cut p.cut frame)
 
@@ -29,20 +29,20 @@ is_settled_of p frame = has_value (input_of p frame)
 
 -- ---- confirmed frames
 
--- every player's input is settled at a frame
+-- every player's input in a frame is settled
 abbrev pub is_settled : KnownValue → ℕ → Bool
 is_settled k frame = list_all (λ p. is_settled_of p frame) k.players
 
--- every player's input is settled at all frames below a number
+-- every player's input is settled in all frames below a number
 abbrev pub are_settled_below : KnownValue → ℕ → Bool
 are_settled_below k n = list_all (is_settled k) (range_with_len 0 n)
 
--- How many frames are confirmed: the greatest number, at most that of the own player's ticks, below which every player's
--- input is settled at all frames.
+-- How many frames are confirmed: the greatest number, at most the own player's ticks, below which every player's input
+-- is settled in all frames.
 unfoldable pub confirmed : KnownValue → ℕ
 confirmed k = greatest (are_settled_below k) k.ticks
 
--- the same as a fact: it is such a number, and no greater one is
+-- the same as a proposition: it is such a number, and no greater number is
 abbrev pub AreSettledBelow : KnownValue → ℕ → Type 0
 AreSettledBelow k n = (frame q : ℕ) → frame < n → Plays k q → is_settled_of (player_in k q) frame ≡ true
 
@@ -57,27 +57,26 @@ abbrev pub or_empty : Option ℕ → ℕ
 or_empty (Some input) = input
 or_empty None = 0
 
--- A row: for each of four players what a function gives of it. A player who is not in the game counts as one of whom
--- nothing is known.
+-- A row: an input for each of four players. A player who is not in the game counts as one of whom nothing is known.
 abbrev pub row_of : (PlayerValue → ℕ) → KnownValue → Row
 row_of input k = record { sets = map (λ q. record { 0 = input (player_in k q) }) (1 ∷ 2 ∷ 3 ∷ 4 ∷ []) }
 
--- the settled inputs of a frame, the empty set where a player has none
+-- the settled inputs of a frame, and the empty set for a player without one
 abbrev pub row : KnownValue → ℕ → Row
 row k frame = row_of (λ p. or_empty (input_of p frame)) k
 
--- the rows of the first frames, and of those that are confirmed
+-- the rows of the first frames, and of the confirmed ones
 abbrev pub rows_below : KnownValue → ℕ → List Row
 rows_below k n = map (row k) (range_with_len 0 n)
 
 abbrev pub confirmed_rows : KnownValue → List Row
 confirmed_rows k = rows_below k (confirmed k)
 
--- the player's last input that is held, the empty set if none is
+-- the player's last held input, the empty set if there is none
 abbrev pub last_held : PlayerValue → ℕ
 last_held p = slice_index p.held (length p.held - 1)
 
--- The best guess at a player's input: the settled one, else the last one that is held.
+-- The best guess at a player's input: the settled one, else the last held one.
 abbrev pub or_last : Option ℕ → PlayerValue → ℕ
 or_last (Some input) p = input
 or_last None p = last_held p
@@ -88,7 +87,7 @@ best_input p frame = or_last (input_of p frame) p
 abbrev pub best_row : KnownValue → ℕ → Row
 best_row k frame = row_of (λ p. best_input p frame) k
 
--- the best rows of the first frames, and of those below the own player's ticks
+-- the best rows of the first frames, and of the frames that the own player has ticked
 abbrev pub best_rows_below : KnownValue → ℕ → List Row
 best_rows_below k n = map (best_row k) (range_with_len 0 n)
 

@@ -4,17 +4,17 @@ use Rattle.c8_known.specs.Known.{KnownValue, player_in, count_in, is_frozen_in}
 use Rattle.c8_known.specs.declared.error.KnownError.{KnownError}
 use Rattle.c8_known.specs.declared.error.KnownError.TheVariants as errors
 
--- two lists differ at some place where both have an input
+-- two lists differ at a place where both have an input
 unfoldable pub differ : List ℕ → List ℕ → Bool
 differ [] others = false
 differ (input ∷ inputs) [] = false
 differ (input ∷ inputs) (other ∷ others) = not (input == other) || differ inputs others
 
--- a player tells its own inputs, and these are no longer taken from itself
+-- a frozen player says its own inputs, which are no longer taken from itself
 abbrev pub is_from_leaver : KnownValue → ℕ → ℕ → Bool
 is_from_leaver k player teller = teller == player && is_frozen_in k player
 
--- Of a player's inputs from a start on: why they cannot be held, None where they can.
+-- Why a player's inputs from a start on cannot be held; None if they can.
 abbrev pub misfit : KnownValue → ℕ → ℕ → List ℕ → Option KnownError
 misfit k player start words =
     if nat_lt k.limit (start + length words) then Some errors.Full
@@ -22,7 +22,7 @@ misfit k player start words =
     else (if differ (drop start (player_in k player).held) words then Some errors.Differs
     else None))
 
--- the same of inputs that a player tells
+-- why inputs that a player says are refused; None if they are not
 unfoldable pub refusal : KnownValue → ℕ → ℕ → ℕ → List ℕ → Option KnownError
 refusal k player teller start words = if is_from_leaver k player teller then Some errors.FromLeaver else misfit k player start words
 

@@ -2,17 +2,17 @@
 use Rattle.std.specs.Prelude.{ℕ, ◌≡◌, ◌+◌, ◌≤◌, List, ◌++◌, length, drop, true, Some}
 use Rattle.c8_known.specs.Known.{PlayerValue, KnownValue, player_in}
 
--- one list begins another
+-- one list is the beginning of another
 pub record Begins {X : Type 0} (early late : List X) : Type 0 where
   pub rest : List X
   pub is : late ≡ early ++ rest
 
--- A part stands in a list at a start: the list reaches to its end, and has these items there.
+-- A part is in a list at a start: the list is long enough, and has these items there.
 pub record Stands {X : Type 0} (start : ℕ) (part list : List X) : Type 0 where
   pub within : start + length part ≤ length list
   pub is : Begins part (drop start list)
 
--- of one player: nothing that was held is taken back, and a cut and the list that it ends stay as they are
+-- for one player: the held inputs are kept, and a cut and the list that it ends do not change
 pub record IsStillKnownOf (old new : PlayerValue) : Type 0 where
   pub held : Begins old.held new.held
   pub frozen : old.frozen ≡ true → new.frozen ≡ true

@@ -1,34 +1,34 @@
--- What a journal says. A journal is the list of its records, oldest first; what it says is read off the whole list.
+-- What a journal says. A journal is the list of its records, oldest first; what it says depends on the whole list.
 use Rattle.std.specs.Prelude.{ℕ, List, [], ◌∷◌, ◌++◌, length, Bool, true, false, ◌==◌, if◌then◌else◌, Option, ◌-◌, slice_index, replicate}
 use Rattle.std.specs.List.{count_by, flat_map, list_any, slice_get}
 use Rattle.c8_game.specs.Rules.{Rules}
 
--- A record, with all that its spelling says. Head, Epoch, Own, State and Check are of the player whose journal it is, the
--- others of the player whom they name. A start is the place in the player's list of inputs where the record's inputs stand.
--- A form is 0 or 2: that of the records from there on, of which the second has State and Check too.
+-- A record, with all that its bytes say. Head, Epoch, Own, State and Check name the player whose journal it is, the
+-- others the player whom they are about. A start is the place of the record's inputs in that player's list. A form is 0
+-- or 2, that of the records from there on: form 2 also has State and Check.
 pub data Record : Type 0 where
-  -- whose journal this is, and of which match: the game's id in 32 bytes, and the room
+  -- the player whose journal this is, and the match: the game's id in 32 bytes, and the room
   Head : (player : ℕ) → (form : ℕ) → (id : List ℕ) → (room : ℕ) → Record
-  -- the peer was opened again
+  -- the peer opened its journal again
   Epoch : (player : ℕ) → (number : ℕ) → (form : ℕ) → Record
   -- the own player entered a key set
   Own : (player : ℕ) → (start : ℕ) → (word : ℕ) → Record
   -- key sets of another player came
   Got : (player : ℕ) → (start : ℕ) → (words : List ℕ) → Record
-  -- the player's inputs are taken from player one alone from here on
+  -- from here on the player's inputs are taken from player 1 alone
   Freeze : (player : ℕ) → Record
-  -- player one lets the player go; in another player's journal, that player itself has been dropped
+  -- player 1 dropped the player; in another player's journal: this player itself was dropped
   Leave : (player : ℕ) → Record
-  -- the player's list of inputs ends at a length, and these are the last of them
+  -- the player's list of inputs ends at a length, and these are its last inputs
   Cut : (player : ℕ) → (length : ℕ) → (start : ℕ) → (words : List ℕ) → Record
-  -- a piece of a checkpoint: of the bytes of the machine after so many confirmed frames, and of its marks
+  -- a piece of a checkpoint: bytes of the machine after a number of confirmed frames, and of its marks
   State : (player : ℕ) → (frames : ℕ) → (piece : ℕ) → (words : List ℕ) → Record
-  -- all pieces of a checkpoint stand, and this is their digest
+  -- all pieces of a checkpoint are in the journal, and this is their digest
   Check : (player : ℕ) → (frames : ℕ) → (words : List ℕ) → Record
 
 -- ---- what one record says
 
--- of whom it is
+-- the player whom it names
 abbrev pub player_of : Record → ℕ
 player_of (Head player form id room) = player
 player_of (Epoch player number form) = player
@@ -97,7 +97,7 @@ lets_go q (Cut player length start words) = false
 lets_go q (State player frames piece words) = false
 lets_go q (Check player frames words) = false
 
--- the length at which it cuts a player's list
+-- the length at which it cuts a player's list, if it does
 abbrev pub cuts_of : ℕ → Record → List ℕ
 cuts_of q (Head player form id room) = []
 cuts_of q (Epoch player number form) = []
@@ -111,18 +111,18 @@ cuts_of q (Check player frames words) = []
 
 -- ---- what a journal says
 
--- A player's inputs, as far as they are held: an empty set for each frame of the delay, then what the records add.
+-- A player's held inputs: an empty set for each frame of the delay, then what the records add.
 unfoldable pub held : Rules → ℕ → List Record → List ℕ
 held rules q journal = replicate rules.delay 0 ++ flat_map (words_of q) journal
 
 abbrev pub count : Rules → ℕ → List Record → ℕ
 count rules q journal = length (held rules q journal)
 
--- how many ticks the own player has made: each enters one key set
+-- how many ticks the own player has made; each enters one key set
 unfoldable pub ticks : List Record → ℕ
 ticks journal = count_by is_own journal
 
--- the epochs in order, the last of them, 0 before the first, and whether one was among them
+-- the epochs in order, the last of them or 0, and whether one was among them
 unfoldable pub epochs : List Record → List ℕ
 epochs journal = flat_map epochs_of journal
 

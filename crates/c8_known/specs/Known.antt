@@ -5,16 +5,16 @@ use Rattle.c8_game.specs.Rules.{Rules, limit_of, most_inputs}
 use Rattle.c8_known.specs.Journal as journals
 use Rattle.c8_known.specs.Journal.{Record, Head, Epoch, Own, Got, Freeze, Leave, Cut, State, Check, player_of}
 
--- what is known of one player: its inputs as far as they are held, whether a FREEZE and whether a LEAVE of it stands,
--- and the length at which its list is cut, if it is
+-- what is known of one player: its held inputs, whether there is a FREEZE and whether a LEAVE of it, and the length at
+-- which its list is cut, if it is
 pub record PlayerValue : Type 0 where
   pub held : List ℕ
   pub frozen : Bool
   pub leaving : Bool
   pub cut : Option ℕ
 
--- what is known, by whom: the delay and the greatest length of a list in its game, how many ticks the own player has
--- made, and what is known of each player, player 1 first
+-- what a player knows: the delay and the greatest length of a list in its game, how many ticks it has made, and what it
+-- knows of each player, player 1 first
 pub record KnownValue : Type 0 where
   pub me : ℕ
   pub delay : ℕ
@@ -26,14 +26,14 @@ pub record KnownValue : Type 0 where
 abbrev pub nobody : PlayerValue
 nobody = record { held = []; frozen = false; leaving = false; cut = None }
 
--- what is known of a player (players are numbered from 1 on: nobody asks for player 0, whom this takes for player 1)
+-- what is known of a player (players are numbered from 1; player 0, which nobody asks for, would be player 1)
 abbrev pub player_in : KnownValue → ℕ → PlayerValue
 player_in k q = slice_index_or k.players (q - 1) nobody
 
 abbrev pub count_in : KnownValue → ℕ → ℕ
 count_in k q = length (player_in k q).held
 
--- a FREEZE or a LEAVE of the player stands: its inputs are no longer taken from itself
+-- the journal has a FREEZE or a LEAVE of the player: its inputs are no longer taken from itself
 abbrev pub is_frozen_of : PlayerValue → Bool
 is_frozen_of p = p.frozen || p.leaving
 
@@ -60,16 +60,16 @@ known_of rules me journal = record {
   players = map (λ place. said_of rules (place + 1) journal) (range_with_len 0 rules.players);
 }
 
--- ---- what is known with one record more
+-- ---- what is known with one more record
 
--- the same, but for one player
+-- the same except for one player
 abbrev pub with_player : KnownValue → ℕ → PlayerValue → KnownValue
 with_player k q p = record k { players = slice_set k.players (q - 1) p }
 
 abbrev pub with_words : PlayerValue → List ℕ → PlayerValue
 with_words p words = record p { held = p.held ++ words }
 
--- the first cut of a list stands
+-- only the first cut of a list counts
 abbrev pub cut_at : Option ℕ → ℕ → Option ℕ
 cut_at (Some first) length = Some first
 cut_at None length = Some length
@@ -88,9 +88,9 @@ with_record k (Cut player length start words) = with_player k player (with_cut (
 with_record k (State player frames piece words) = k
 with_record k (Check player frames words) = k
 
--- ---- what is true of all that a peer can know
+-- ---- the invariant of all that a peer can know
 
--- the number is that of a player of the game, as a test and as a fact
+-- the number is that of a player of the game, as a test and as a proposition
 abbrev pub is_player : KnownValue → ℕ → Bool
 is_player k q = nat_le 1 q && nat_le q (length k.players)
 
@@ -98,7 +98,7 @@ pub record Plays (k : KnownValue) (q : ℕ) : Type 0 where
   pub from_one : 1 ≤ q
   pub in_game : q ≤ length k.players
 
--- A list that is cut is that of a player who leaves, and ends where it is cut.
+-- A list that is cut belongs to a player who is frozen, and ends at the cut.
 pub record EndsAtCut (p : PlayerValue) (K : ℕ) : Type 0 where
   pub leaves : is_frozen_of p ≡ true
   pub count : length p.held ≡ K
@@ -113,14 +113,14 @@ pub record IsKnown (k : KnownValue) : Type 0 where
   pub own_uncut : (player_in k k.me).cut ≡ None
   pub cuts : (q K : ℕ) → (player_in k q).cut ≡ Some K → EndsAtCut (player_in k q) K
 
--- the players, the delay and the limit are those of a game, and the own player is the one given
+-- the players, the delay and the limit are those of the game, and the own player is the given one
 pub record IsOfGame (rules : Rules) (me : ℕ) (k : KnownValue) : Type 0 where
   pub players : length k.players ≡ rules.players
   pub delay : k.delay ≡ rules.delay
   pub limit : k.limit ≡ limit_of rules
   pub player : k.me ≡ me
 
--- the player of a record is one of the game
+-- the player whom the record names is in the game
 pub record NamesPlayer (rules : Rules) (r : Record) : Type 0 where
   pub from_one : 1 ≤ player_of r
   pub in_game : player_of r ≤ rules.players

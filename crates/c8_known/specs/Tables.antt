@@ -1,4 +1,4 @@
--- How the tables that the code keeps are seen.
+-- What the tables of the code stand for.
 use Rattle.std.specs.Prelude.{ℕ, ◌≤◌, List, length, map, fold, min, All, vec_capacity, nat_le, Option, Some, None, if◌then◌else◌}
 use Rattle.c8_known.specs.declared.table.Table.{Table}
 use Rattle.c8_known.specs.Known.{PlayerValue, KnownValue}
@@ -15,11 +15,11 @@ seen me delay limit ticks tables = record {
   players = map table_value tables;
 }
 
--- each list has room for the longest that it may become
+-- each table has room for the longest list
 abbrev pub HasRoom : ℕ → List Table → Type 0
 HasRoom limit tables = All (λ (table : Table). limit ≤ vec_capacity table.inputs) tables
 
--- the least frame of which a player's input is not settled, or a bound where each is
+-- the least frame in which a player's input is not settled, or a bound if every input is
 abbrev pub reach_to : Option ℕ → ℕ → ℕ → ℕ
 reach_to None count bound = count
 reach_to (Some K) count bound = if nat_le K count then bound else count

@@ -10,10 +10,10 @@ pub enum KnownError {
     /// It starts after the inputs that are held.
     #[error("inputs before these are missing")]
     Gap,
-    /// It comes from the player itself, whose inputs are taken from player one alone by now.
+    /// It comes from the player itself, which is frozen: its inputs are taken from player 1 alone.
     #[error("from a player who leaves")]
     FromLeaver,
-    /// An input of it differs from one that is held.
+    /// It has an input that differs from the held one.
     #[error("an input differs from the one that is held")]
     Differs,
     /// It ends after the last input that the game can have.
@@ -22,7 +22,7 @@ pub enum KnownError {
 }
 
 impl KnownError {
-    /// The number that stands for it in what a program prints.
+    /// Returns the number of the error, as programs print it.
     pub fn number(self) -> u8
         ensures { result ≡ number_of self }
     {

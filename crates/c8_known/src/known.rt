@@ -1,4 +1,4 @@
-//! What is known of every player, by whom.
+//! What one player knows of the inputs of all players.
 ghost use Rattle.std.specs.Prelude.{◌≡◌, ◌≢◌, ℕ, ◌≤◌, ◌<◌, ◌+◌, ◌-◌, [], ◌∷◌, true, false, None, Some, length, drop, take, ◌==◌, min, IfOk, MatchResult, OnOk};
 ghost use Rattle.c8_game.specs.Rules.{limit_of};
 ghost use Rattle.c8_wire.specs.Lent.{words, IsSliceFrom};
@@ -16,7 +16,7 @@ use std::alloc::{AllocError, Global};
 use std::fmt;
 use std::marker::Model;
 
-/// What one player knows of the inputs of all. Room for a whole game is reserved when it is made.
+/// What one player knows of the inputs of all players. The memory for a whole game is reserved when it is made.
 #[derive(Drop)]
 pub struct Known {
     me: Player,
@@ -38,7 +38,7 @@ impl Model for Known {
         × HasRoom k.limit k.tables.items };
 }
 
-/// Whose it is, of how many players and after how many ticks, and none of the inputs.
+/// Prints the player, the number of players and the ticks, not the inputs.
 impl fmt::Debug for Known {
     fn fmt<W: fmt::Write>(&self, f: &mut fmt::Formatter<W>) -> fmt::Result {
         let (me, players, ticks) = (self.me, self.tables.len(), self.ticks);
@@ -50,7 +50,7 @@ impl fmt::Debug for Known {
 }
 
 impl Known {
-    /// What player `me` knows before its journal says anything: the empty sets of the delay.
+    /// Makes what player `me` knows before its journal has a record: the empty sets of the delay.
     pub fn new(alloc: Global, game: &Game, me: Player) -> Result<Known, AllocError>
         requires { me.number ≤ game.now.players }
         ensures value { IfOk result (λ known. known ≡ known_of game.now me.number []) }
@@ -66,7 +66,7 @@ impl Known {
         })
     }
 
-    /// Whose knowledge it is.
+    /// Returns the player who knows this.
     pub fn me(&self) -> Player
         ensures value { result.number ≡ self.now.me }
         ensures known { IsKnown self.now }
@@ -74,7 +74,7 @@ impl Known {
         self.me
     }
 
-    /// How many players the game has.
+    /// Returns the number of players of the game.
     pub fn players(&self) -> u8
         ensures value { result ≡ length self.now.players }
         ensures known { IsKnown self.now }
@@ -82,28 +82,28 @@ impl Known {
         self.tables.len() as u8
     }
 
-    /// The greatest length of a player's list of inputs in this game.
+    /// Returns the greatest length of a player's list of inputs.
     pub fn limit(&self) -> u32
         ensures { result ≡ self.now.limit }
     {
         self.limit
     }
 
-    /// How many empty sets begin each player's list.
+    /// Returns how many empty sets begin each player's list.
     pub fn delay(&self) -> u8
         ensures { result ≡ self.now.delay }
     {
         self.delay
     }
 
-    /// How many ticks the own player has made: each enters one key set.
+    /// Returns how many ticks the own player has made. Each tick enters one key set.
     pub fn ticks(&self) -> u32
         ensures { result ≡ self.now.ticks }
     {
         self.ticks
     }
 
-    /// How many inputs are held of a player, those of the delay included.
+    /// Returns how many inputs of a player are held, with those of the delay.
     pub fn count(&self, player: Player) -> u32
         requires { Plays self.now player.number }
         ensures value { result ≡ count_in self.now player.number }
@@ -112,7 +112,7 @@ impl Known {
         self.tables[player.place()].inputs.len() as u32
     }
 
-    /// The inputs of a player from one place of its list to another, lent.
+    /// Lends a player's inputs from place `from` up to place `to` of its list.
     pub fn inputs(&self, player: Player, from: u32, to: u32) -> &[u16]
         requires plays { Plays self.now player.number }
         requires order { from ≤ to }
@@ -123,7 +123,8 @@ impl Known {
         &self.tables[player.place()].inputs[from as usize..to as usize]
     }
 
-    /// Whether a FREEZE or a LEAVE of the player stands: its inputs are no longer taken from it.
+    /// Returns whether the player is frozen: the journal has a FREEZE or a LEAVE of it. Then the player's own datagrams
+    /// no longer bring its inputs.
     pub fn frozen(&self, player: Player) -> bool
         requires { Plays self.now player.number }
         ensures { result ≡ is_frozen_in self.now player.number }
@@ -132,7 +133,7 @@ impl Known {
         table.frozen || table.leaving
     }
 
-    /// Whether a FREEZE of the player stands.
+    /// Returns whether the journal has a FREEZE of the player.
     pub fn has_freeze(&self, player: Player) -> bool
         requires { Plays self.now player.number }
         ensures { result ≡ (player_in self.now player.number).frozen }
@@ -140,7 +141,7 @@ impl Known {
         self.tables[player.place()].frozen
     }
 
-    /// Whether a LEAVE of the player stands.
+    /// Returns whether the journal has a LEAVE of the player.
     pub fn leaving(&self, player: Player) -> bool
         requires { Plays self.now player.number }
         ensures { result ≡ (player_in self.now player.number).leaving }
@@ -148,7 +149,7 @@ impl Known {
         self.tables[player.place()].leaving
     }
 
-    /// The length at which the player's list is cut.
+    /// Returns the length at which the player's list is cut, if it is.
     pub fn cut_of(&self, player: Player) -> Option<u32>
         requires { Plays self.now player.number }
         ensures { result ≡ (player_in self.now player.number).cut }
@@ -156,9 +157,8 @@ impl Known {
         self.tables[player.place()].cut
     }
 
-    /// How many frames are confirmed: the greatest number, at most that of the own player's ticks,
-    /// below which every player's input is settled at all frames. It costs what the number of
-    /// players is.
+    /// Returns how many frames are confirmed: the greatest number, at most the own player's ticks, below which every
+    /// player's input is settled in all frames. O(players), whatever the length of the match.
     pub fn confirmed(&self) -> u32
         ensures value { result ≡ confirmed self.now }
         ensures greatest { IsConfirmed self.now result }
@@ -166,7 +166,7 @@ impl Known {
         least_reach(&self.tables, self.ticks)
     }
 
-    /// The inputs of a confirmed frame.
+    /// Returns the inputs of a confirmed frame.
     pub fn row(&self, frame: u32) -> Row
         requires { frame < confirmed self.now }
         ensures { result ≡ row self.now frame }
@@ -190,8 +190,7 @@ impl Known {
         }
     }
 
-    /// The best guess at the inputs of a frame: each player's settled input, else the last one that
-    /// is held of it.
+    /// Returns the best guess at the inputs of a frame: each player's settled input, else its last held one.
     pub fn best(&self, frame: u32) -> Row
         ensures value { result ≡ best_row self.now frame }
     {
@@ -214,9 +213,8 @@ impl Known {
         }
     }
 
-    /// Judges inputs of a player from a start on, as a player tells them, and lends those of them
-    /// that are not held yet. Checked in this order: `FromLeaver`, `Full`, `Gap`, `Differs`. It
-    /// changes nothing.
+    /// Judges a run of a player's inputs from `start` on, said by player `teller`, and lends the part that is not held
+    /// yet. It changes nothing. The errors are checked in this order: `FromLeaver`, `Full`, `Gap`, `Differs`.
     #[tactic(auto, unfolding(crate::specs::Fresh::refusal))]
     pub fn fresh<'a>(
         &self,
@@ -256,7 +254,7 @@ impl Known {
         Ok(run.from_place(run.len().min(count - start)))
     }
 
-    /// Notes a key set that the own player entered.
+    /// Adds a key set that the own player entered, and counts the tick.
     pub fn own(&mut self, keys: Keys)
         requires { count_in self.old self.old.me < self.old.limit }
         ensures value { self.new
@@ -268,7 +266,7 @@ impl Known {
         self.ticks += 1;
     }
 
-    /// Notes inputs of another player that follow those that are held.
+    /// Adds inputs of another player after those that are held.
     pub fn take(&mut self, player: Player, run: Run<'_>)
         requires plays { Plays self.old player.number }
         requires other { player.number ≢ self.old.me }
@@ -282,7 +280,7 @@ impl Known {
         hold_run(&mut self.tables[player.place()].inputs, run);
     }
 
-    /// Notes that the player's inputs are taken from player one alone from here on.
+    /// Freezes the player: from here on its inputs are taken from player 1 alone.
     pub fn freeze(&mut self, player: Player)
         requires { Plays self.old player.number }
         ensures value { self.new ≡ with_record self.old (Freeze player.number) }
@@ -292,7 +290,7 @@ impl Known {
         self.tables[player.place()].frozen = true;
     }
 
-    /// Notes that player one lets the player go or, at the player itself, that it has been dropped.
+    /// Notes that player 1 dropped the player; in another player's journal, that this player itself was dropped.
     pub fn leave(&mut self, player: Player)
         requires { Plays self.old player.number }
         ensures value { self.new ≡ with_record self.old (Leave player.number) }
@@ -302,7 +300,7 @@ impl Known {
         self.tables[player.place()].leaving = true;
     }
 
-    /// Notes that the list of another player, who leaves, ends where it ends now.
+    /// Cuts the list of another player, who is frozen, at its present length.
     pub fn cut(&mut self, player: Player, length: u32)
         requires plays { Plays self.old player.number }
         requires other { player.number ≢ self.old.me }

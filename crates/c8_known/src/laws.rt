@@ -1,5 +1,5 @@
-//! What callers may rest on that is no single call's: laws of journals and of what is known by
-//! them, each the contract of a function that does nothing.
+//! Facts for callers that belong to no single call: laws of journals, and of what a player knows by its journal. Each
+//! is the contract of a function that does nothing.
 ghost use Rattle.std.specs.Prelude.{◌≡◌, ◌≢◌, ℕ, ◌+◌, ◌<◌, ◌≤◌, ◌++◌, ◌∷◌, [], List, length, take, drop, Some, None, true};
 ghost use Rattle.c8_game.specs.Rules.{Rules, AreInRange};
 ghost use Rattle.c8_known.specs.Journal.{Record, Own, Got, Freeze, Leave, Cut};
@@ -8,7 +8,7 @@ ghost use Rattle.c8_known.specs.Confirmed.{input_of, confirmed, IsConfirmed, row
 ghost use Rattle.c8_known.specs.Growth.{Begins, IsStillKnown};
 ghost use Rattle.c8_known.specs.Fresh.{refusal, fresh_words};
 
-/// What is known by a journal with one record more, for each kind of record.
+/// How one more record changes what is known, for each kind of record.
 pub fn one_record_more()
     ensures { (rules : Rules) (me : ℕ) (journal : List Record) (r : Record) → NamesPlayer rules r
         → known_of rules me (journal ++ r ∷ []) ≡ with_record (known_of rules me journal) r }
@@ -20,14 +20,13 @@ pub fn known_is_what_the_journal_says()
         → player_in (known_of rules me journal) q ≡ said_of rules q journal }
 {}
 
-/// What was known and is still known later is still known later again.
+/// "Still known" is reflexive and transitive.
 pub fn what_is_still_known_chains()
     ensures same { (k : KnownValue) → IsStillKnown k k }
     ensures more { (a b c : KnownValue) → IsStillKnown a b → IsStillKnown b c → IsStillKnown a c }
 {}
 
-/// A record of a player of the game takes nothing back, unless it adds inputs to a list that is
-/// cut.
+/// A record of a player of the game takes nothing back, unless it adds inputs to a list that is cut.
 pub fn a_record_takes_nothing_back()
     ensures own { (k : KnownValue) (start word : ℕ) → IsKnown k
         → IsStillKnown k (with_record k (Own k.me start word)) }
@@ -41,8 +40,8 @@ pub fn a_record_takes_nothing_back()
         → (player_in k q).cut ≡ None → IsStillKnown k (with_record k (Cut q K start words)) }
 {}
 
-/// What is true of all that a peer can know is true before its journal says anything, and each
-/// record that the calls of `Known` allow keeps it.
+/// The invariant of all that a peer can know holds before its journal has a record, and each record that a call of
+/// `Known` adds keeps it.
 pub fn what_is_known_stays_sound()
     ensures start { (rules : Rules) (me : ℕ) → AreInRange rules → 1 ≤ me → me ≤ rules.players
         → IsKnown (known_of rules me []) }
@@ -61,22 +60,21 @@ pub fn what_is_known_stays_sound()
         → IsKnown (with_record k (Cut q K start words)) }
 {}
 
-/// A record that cuts a list and brings the last inputs of it says what two records say: one that
-/// brings them, and one that only cuts.
+/// A record that cuts a list and adds its last inputs says what two records say: one that adds them, and one that only
+/// cuts.
 pub fn a_cut_is_a_run_and_an_end()
     ensures { (k : KnownValue) (q K start later : ℕ) (words : List ℕ) → Plays k q
         → with_record k (Cut q K start words)
         ≡ with_record (with_record k (Got q start words)) (Cut q K later []) }
 {}
 
-/// The number of confirmed frames is such a greatest number, and the only one.
+/// `confirmed` is the greatest number of frames in which all inputs are settled (`IsConfirmed`), and the only one.
 pub fn confirmed_is_greatest()
     ensures is { (k : KnownValue) → IsConfirmed k (confirmed k) }
     ensures only { (k : KnownValue) (n : ℕ) → IsConfirmed k n → n ≡ confirmed k }
 {}
 
-/// What is settled stays so with its value, what is confirmed stays confirmed, and the confirmed
-/// rows begin those of later.
+/// A settled input keeps its value, a confirmed frame stays confirmed, and the confirmed rows begin all later ones.
 pub fn confirmed_rows_stay()
     ensures inputs { (old new : KnownValue) → IsStillKnown old new → (q frame w : ℕ)
         → input_of (player_in old q) frame ≡ Some w → input_of (player_in new q) frame ≡ Some w }
@@ -87,13 +85,13 @@ pub fn confirmed_rows_stay()
         → Begins (confirmed_rows old) (confirmed_rows new) }
 {}
 
-/// Of a confirmed frame the best guess is no guess.
+/// The best row of a confirmed frame is its row, not a guess.
 pub fn what_is_confirmed_is_not_guessed()
     ensures { (k : KnownValue) (frame : ℕ) → frame < confirmed k
         → best_row k frame ≡ row k frame }
 {}
 
-/// A run that is not refused stands in the player's list, once its fresh part is added.
+/// A run that is not refused is in the player's list after its fresh part is added.
 pub fn what_is_taken_stands()
     ensures { (k : KnownValue) (player teller start : ℕ) (words : List ℕ)
         → refusal k player teller start words ≡ None

@@ -1,11 +1,9 @@
-//! What a peer knows of every player's inputs, and how far the game is confirmed.
+//! What a peer knows of every player's inputs, and which frames are confirmed.
 //!
-//! A peer's journal says which inputs it holds of whom, who leaves, and where a list was cut.
-//! `Known` is what the journal says, laid out by player, so that no call of it costs what the match
-//! is long. A frame is confirmed once every player's input of it and of all frames before is
-//! settled. The definitions are in `specs/` (a journal's records in `Journal.antt`, what is known
-//! in `Known.antt`, what is confirmed in `Confirmed.antt`), and `laws` has what follows from them.
-//! Only `Known::new` takes memory.
+//! A peer's journal says which inputs of each player it holds, who was dropped, and where lists were cut. `Known` has
+//! this by player, so no call takes longer in a longer match. A frame is confirmed when every player's inputs up to it
+//! are settled. The definitions are in `specs/`: a journal's records in `Journal.antt`, what is known in `Known.antt`,
+//! what is confirmed in `Confirmed.antt`. `laws` has what follows. Only `Known::new` takes memory.
 #![tactic(auto)]
 
 mod error;

@@ -9,7 +9,7 @@ ghost use Rattle.c8_known.specs.Tables.{table_value, HasRoom, reach_of, least_of
 use c8_wire::{Inputs, Run};
 use std::alloc::{AllocError, Global};
 
-/// The inputs that are held of a player, whether it leaves, and where its list is cut.
+/// The held inputs of a player, whether it is frozen or dropped, and where its list is cut.
 #[derive(Drop)]
 pub(crate) struct Table {
     pub(crate) inputs: Vec<u16>,
@@ -19,7 +19,7 @@ pub(crate) struct Table {
 }
 
 impl Table {
-    /// A table that holds the empty sets of the delay, with room for `limit` inputs.
+    /// Makes a table with the empty sets of the delay and room for `limit` inputs.
     pub(crate) fn new(alloc: Global, delay: u8, limit: u32) -> Result<Table, AllocError>
         requires { delay ≤ limit }
         ensures value { IfOk result (λ table. table_value table
@@ -38,7 +38,7 @@ impl Table {
         })
     }
 
-    /// The settled input of a frame.
+    /// Returns the settled input of a frame, if there is one.
     #[tactic(auto, unfolding(crate::specs::Confirmed::input_of))]
     pub(crate) fn input(&self, frame: u32) -> Option<u16>
         ensures { result ≡ input_of (table_value self.now) frame }
@@ -50,7 +50,7 @@ impl Table {
         }
     }
 
-    /// The least frame whose input is not settled, or `ticks` where each is.
+    /// Returns the least frame whose input is not settled, or `ticks` if every input is.
     pub(crate) fn reach(&self, ticks: u32) -> u32
         requires { length (table_value self.now).held < 2 ^ 32 }
         ensures { result ≡ reach_of (table_value self.now) ticks }
@@ -62,7 +62,7 @@ impl Table {
         }
     }
 
-    /// The settled input of a frame, else the last one that is held.
+    /// Returns the settled input of a frame, else the last held one.
     #[tactic(auto, unfolding(crate::specs::Confirmed::best_input))]
     pub(crate) fn best(&self, frame: u32) -> u16
         ensures { result ≡ best_input (table_value self.now) frame }
@@ -75,7 +75,7 @@ impl Table {
     }
 }
 
-/// A table for each of a number of players.
+/// Makes a table for each player.
 pub(crate) fn tables_of(
     alloc: Global,
     players: u8,
@@ -95,7 +95,7 @@ pub(crate) fn tables_of(
     Ok(tables)
 }
 
-/// The least frame of which some player's input is not settled, or `ticks` where that is less.
+/// Returns the least frame in which some player's input is not settled, or `ticks` if that is less.
 pub(crate) fn least_reach(tables: &[Table], ticks: u32) -> u32
     requires { All (λ (table : Table). length (table_value table).held < 2 ^ 32) tables.now }
     ensures { result ≡ least_of (map table_value tables.now) ticks }
@@ -107,7 +107,7 @@ pub(crate) fn least_reach(tables: &[Table], ticks: u32) -> u32
     least
 }
 
-/// Adds an input, in room that was reserved.
+/// Adds an input, in reserved room.
 pub(crate) fn hold(inputs: &mut Vec<u16>, input: u16)
     requires { vec_len inputs.old < vec_capacity inputs.old }
     ensures items { inputs.new.items ≡ inputs.old.items ++ input ∷ [] }
@@ -116,7 +116,7 @@ pub(crate) fn hold(inputs: &mut Vec<u16>, input: u16)
     let _held = inputs.push(input);
 }
 
-/// Adds the inputs of a run, in room that was reserved.
+/// Adds the inputs of a run, in reserved room.
 pub(crate) fn hold_run(inputs: &mut Vec<u16>, run: Run<'_>)
     requires { vec_len inputs.old + length (words run) ≤ vec_capacity inputs.old }
     ensures items { inputs.new.items ≡ inputs.old.items ++ words run.entry }
@@ -127,14 +127,14 @@ pub(crate) fn hold_run(inputs: &mut Vec<u16>, run: Run<'_>)
     }
 }
 
-/// Whether some input of a run differs from the one that is held at its place.
+/// Returns whether some input of a run differs from the held one at its place.
 pub(crate) fn differ(held: &[u16], run: Run<'_>) -> bool
     ensures { result ≡ differ held.now (words run.entry) }
 {
     differ_from(held, run.iter())
 }
 
-/// Whether some input that is left differs from the one that is held at its place.
+/// Returns whether some remaining input differs from the held one at its place.
 #[tactic(auto, unfolding(crate::specs::Fresh::differ))]
 fn differ_from(held: &[u16], mut inputs: Inputs<'_>) -> bool
     ensures { result ≡ differ held.now (words_left inputs.entry) }

@@ -1,6 +1,5 @@
-//! The calls, each in a function of its own that asks what the call wants and says nothing: so a
-//! test that makes many of them is proved of any answers. Each gives none or false where the call
-//! doesn't apply.
+//! Each call in a function of its own, which checks what the call requires and has no contract. So a test that makes
+//! many calls is proved for any answers. Each returns `None` or false if the call does not apply.
 use c8_game::{Game, Keys, Player};
 use c8_known::{Known, KnownError};
 use c8_wire::{Datagram, Run, view};
@@ -12,7 +11,7 @@ pub fn game_of(alloc: Global, text: &[u8]) -> Result<Game, Fail> {
     Ok(Game::read(alloc, text)?)
 }
 
-/// What a player knows at first.
+/// Makes what a player knows at the start.
 pub fn at_first(alloc: Global, game: &Game, me: u8) -> Result<Known, Fail> {
     game.in_range();
     let Some(me) = Player::new(me) else {
@@ -24,7 +23,7 @@ pub fn at_first(alloc: Global, game: &Game, me: u8) -> Result<Known, Fail> {
     Ok(Known::new(alloc, game, me)?)
 }
 
-/// The own player enters a key set. How many ticks it has then made.
+/// Enters a key set of the own player. Returns how many ticks it has then made.
 pub fn enter(known: &mut Known, keys: u16) -> Option<u32> {
     let me = known.me();
     if known.count(me) >= known.limit() {
@@ -34,7 +33,7 @@ pub fn enter(known: &mut Known, keys: u16) -> Option<u32> {
     Some(known.ticks())
 }
 
-/// Inputs of a player come from itself. How many of them were new, or the refusal.
+/// Takes inputs of a player, sent by itself. Returns how many of them were new, or why they were refused.
 pub fn hear(
     known: &mut Known,
     player: Player,
@@ -56,10 +55,10 @@ pub fn hear(
     Some(Ok(new))
 }
 
-/// What is lent of a run: how many inputs, how many of its first pair come before them, and the bytes.
+/// A lent part of a run: how many inputs, how many inputs of its first pair come before them, and the bytes.
 pub type Part<'a> = (usize, usize, &'a [u8]);
 
-/// Inputs of a player come in a DATA of its own. What was lent of them, or the refusal.
+/// Takes inputs of a player in a DATA of its own. Returns the part of them that was lent, or why they were refused.
 pub fn hear_data<'a>(
     known: &mut Known,
     player: Player,
@@ -83,7 +82,7 @@ pub fn hear_data<'a>(
     Some(Ok(lent))
 }
 
-/// Inputs of a player come that follow those that are held. Whether they were taken.
+/// Takes inputs of a player after those that are held. Returns whether they were taken.
 pub fn come(known: &mut Known, player: Player, bytes: &[u8]) -> bool {
     match count(known, player) {
         Some(start) => matches!(hear(known, player, start, bytes), Some(Ok(_))),
@@ -91,7 +90,7 @@ pub fn come(known: &mut Known, player: Player, bytes: &[u8]) -> bool {
     }
 }
 
-/// Drops a player, and cuts its list where it ends. Whether that could be done.
+/// Drops a player, and cuts its list where it ends. Returns whether that was possible.
 pub fn drop_player(known: &mut Known, player: Player) -> bool {
     if player.number > known.players() || player.number == known.me().number {
         return false;
@@ -112,7 +111,7 @@ pub fn count(known: &Known, player: Player) -> Option<u32> {
     Some(known.count(player))
 }
 
-/// Whether an error prints a text.
+/// Returns whether an error prints this text.
 pub fn prints<E: Display + Drop>(alloc: Global, error: E, text: &str) -> bool {
     match format!(in alloc; "{error}") {
         Ok(told) => told.as_str() == text,
@@ -120,7 +119,7 @@ pub fn prints<E: Display + Drop>(alloc: Global, error: E, text: &str) -> bool {
     }
 }
 
-/// Whether a value is summed up by a text.
+/// Returns whether a value's `Debug` text is this one.
 pub fn is_summed_up<T: Debug>(alloc: Global, value: &T, text: &str) -> bool {
     match format!(in alloc; "{value:?}") {
         Ok(told) => told.as_str() == text,

@@ -1,4 +1,4 @@
-//! Inputs of player 2 that come: what is lent of them, or why they are refused.
+//! Inputs of player 2 that come: the part of them that is lent, or why they are refused.
 use crate::calls::{Part, at_first, come, count, game_of, hear, hear_data, prints};
 use c8_game::Player;
 use c8_known::{Known, KnownError};
@@ -12,13 +12,13 @@ const GAME: &[u8] =
 
 const TWO: Player = Player { number: 2 };
 
-/// What player 1 knows at first.
+/// Makes what player 1 knows at the start.
 fn begin(alloc: Global) -> Result<Known, Fail> {
     let game = game_of(alloc, GAME)?;
     at_first(alloc, &game, 1)
 }
 
-/// Two inputs are held, and one comes at place 3.
+/// Player 1 holds two inputs, and one comes at place 3.
 fn refuses_a_gap(known: &mut Known) -> bool {
     come(known, TWO, b"\0\x04\0\x08")
         && hear(known, TWO, 3, b"\0\x10") == Some(Err(KnownError::Gap))
@@ -32,12 +32,12 @@ fn inputs_after_a_gap_are_refused(rt: HostRuntime) -> Result<(), Fail> {
     Ok(())
 }
 
-/// A DATA in version 2 of three inputs 0020 from place 0 on, which are one pair.
+/// A DATA in version 2 with three inputs 0020 from place 0 on, in one pair.
 const PAIR: &[u8] = b"C8\x02\x03\x01\x02\x03\x04\x05\x06\x07\x08\x02\x01\0\x19\
     \0\0\0\x09\0\0\0\x0a\0\0\0\x0b\0\0\0\x20\x11\x12\x13\x14\x15\x16\x17\x18\
     \0\0\0\0\0\x03\x03\0\x20";
 
-/// Whether this part of it is lent.
+/// Returns whether this part of it is lent.
 fn lends_of_the_pair(known: &mut Known, wanted: Part<'_>) -> bool {
     match hear_data(known, TWO, PAIR) {
         Some(Ok(lent)) => lent == wanted,
@@ -45,7 +45,7 @@ fn lends_of_the_pair(known: &mut Known, wanted: Part<'_>) -> bool {
     }
 }
 
-/// The first of its inputs is held, and then the pair comes.
+/// The first of its inputs is held already when the pair comes.
 fn lends_a_begun_pair(known: &mut Known) -> bool {
     come(known, TWO, b"\0\x20")
         && lends_of_the_pair(known, (2, 1, b"\x03\0\x20".as_slice()))
@@ -59,7 +59,7 @@ fn the_rest_of_a_pair_is_lent_with_the_whole_pair(rt: HostRuntime) -> Result<(),
     Ok(())
 }
 
-/// Whether a refusal has this number, this name and this text.
+/// Returns whether an error has this number, this name and this text.
 fn tells(alloc: Global, error: KnownError, number: u8, name: &str, text: &str) -> bool {
     error.number() == number && error.name() == name && prints(alloc, error, text)
 }

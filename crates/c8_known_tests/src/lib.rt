@@ -1,5 +1,5 @@
-//! The tests of c8_known, c8_window and c8_roll: the worked rows, and what no contract says. What
-//! c8_round answers stands in rows of c8_peer's tests and in scripts.
+//! The tests of c8_known, c8_window and c8_roll: examples worked out by hand, and what no contract says. c8_round is
+//! tested by rows of c8_peer's tests and by scripts.
 #![tactic(auto)]
 
 #[cfg(test)]

@@ -1,4 +1,4 @@
-//! A roll that guessed wrong, beside a machine that is run from the first frame on.
+//! A roll with wrong guesses, compared with a machine that runs from the first frame.
 mod chance;
 mod slow;
 
@@ -13,15 +13,14 @@ use std::test::Fail;
 /// Counts in V2 the frames with player 2's key down.
 const COUNTS: &str = "6004e09e120272011202";
 
-/// The same, and draws a random byte in every frame: into V3 after a frame with the key down, else
-/// into V1.
+/// The same, and draws a random byte in each frame: into V3 after a frame with the key down, else into V1.
 const DRAWS: &str = "6004c1ffe09e12027201c3ff1202";
 
-/// What is seen of a machine: V1, V2, V3, the counter, and how many random bytes were drawn.
+/// The tested parts of a machine: V1, V2, V3, the counter, and how many random bytes were drawn.
 type Seen = [u64; 5];
 
-/// Player 1 makes eight ticks with no key down and without inputs of player 2, which then come: `#`
-/// for a frame with its key down, `.` for one without.
+/// Player 1 makes eight ticks with no key down and without inputs of player 2. Then these come: `#` for a frame with
+/// its key down, `.` for one without.
 struct Guess {
     code: &'static str,
     guessed: Seen,
@@ -44,7 +43,7 @@ fn guesses() -> &'static [Guess] {
     &GUESSES
 }
 
-/// A game of two players without delay, at a window of 8 frames.
+/// Makes a game of two players without delay and with a window of 8 frames.
 fn read(alloc: Global, code: &str) -> Result<Game, Fail> {
     let text = format!(in alloc;
         "players 2\nipf 3\nframes 100\ndelay 0\nwindow 8\nseed 0\nmask1 000f\nmask2 fff0\ncode {code}\n"
@@ -52,7 +51,7 @@ fn read(alloc: Global, code: &str) -> Result<Game, Fail> {
     game_of(alloc, text.as_bytes())
 }
 
-/// Player 1 makes a tick. Whether it could.
+/// Makes a tick of player 1. Returns whether it could.
 fn tick(known: &mut Known, roll: &mut Roll<'_>, keys: u16) -> bool {
     if enter(known, keys).is_none() || known.ticks() == 0 || known.ticks() - 1 != roll.ticks() {
         return false;
@@ -61,7 +60,7 @@ fn tick(known: &mut Known, roll: &mut Roll<'_>, keys: u16) -> bool {
     true
 }
 
-/// Makes ticks. Whether each of them runs one frame.
+/// Makes ticks. Returns whether each of them runs one frame.
 fn ticks(known: &mut Known, roll: &mut Roll<'_>, many: u32) -> bool {
     for _ in 0..many {
         if !tick(known, roll, 0) || roll.last_run() != 1 {
@@ -71,7 +70,7 @@ fn ticks(known: &mut Known, roll: &mut Roll<'_>, many: u32) -> bool {
     true
 }
 
-/// What the roll answers to all that is known now. None where it has not seen the last tick.
+/// Settles the roll with all that is known now. `None` if the roll has not seen the last tick.
 fn settle(known: &Known, roll: &mut Roll<'_>) -> Option<Option<u32>> {
     if known.ticks() != roll.ticks() {
         return None;
@@ -79,7 +78,7 @@ fn settle(known: &Known, roll: &mut Roll<'_>) -> Option<Option<u32>> {
     Some(roll.settle(known))
 }
 
-/// Inputs of player 2 come. What the roll answers to them, and none where they are refused.
+/// Takes inputs of player 2. Returns the roll's answer, `None` if they are refused.
 fn hear(known: &mut Known, roll: &mut Roll<'_>, bytes: &[u8]) -> Option<Option<u32>> {
     let two = Player { number: 2 };
     if !come(known, two, bytes) {
@@ -88,7 +87,7 @@ fn hear(known: &mut Known, roll: &mut Roll<'_>, bytes: &[u8]) -> Option<Option<u
     settle(known, roll)
 }
 
-/// The bytes of the inputs that a text draws.
+/// Returns the bytes of the inputs that a text draws.
 fn drawn(text: &str) -> [u8; 16] {
     let mut bytes = [0; 16];
     for (place, letter) in text.bytes().enumerate() {
@@ -99,7 +98,7 @@ fn drawn(text: &str) -> [u8; 16] {
     bytes
 }
 
-/// What the roll answers to the inputs of player 2 that a text draws.
+/// Takes the inputs of player 2 that a text draws. Returns the roll's answer.
 fn hear_drawn(known: &mut Known, roll: &mut Roll<'_>, text: &str) -> Option<Option<u32>> {
     let bytes = drawn(text);
     match bytes.get(..text.len().saturating_mul(2)) {
@@ -108,7 +107,7 @@ fn hear_drawn(known: &mut Known, roll: &mut Roll<'_>, text: &str) -> Option<Opti
     }
 }
 
-/// How many frames are confirmed, how many the last call ran, and how many ticks there are.
+/// Returns how many frames are confirmed, how many the last call ran, and how many ticks there are.
 fn counts(roll: &Roll<'_>) -> (u32, u32, u32) {
     (roll.base().0, roll.last_run(), roll.ticks())
 }
@@ -124,7 +123,7 @@ fn look(machine: &Machine) -> Seen {
     ]
 }
 
-/// The machine after the frames of player 2 that a text draws, without a key of player 1.
+/// Runs the frames of player 2 that a text draws, without a key of player 1. Returns the machine.
 fn run_of(game: &Game, text: &str) -> Machine {
     let mut machine = Machine::start(game);
     for letter in text.bytes() {
@@ -137,13 +136,13 @@ fn run_of(game: &Game, text: &str) -> Machine {
     machine
 }
 
-/// Whether the eight ticks show what a row says.
+/// Returns whether the eight ticks show what a row says.
 fn is_guessed(known: &mut Known, roll: &mut Roll<'_>, row: &Guess) -> bool {
     ticks(known, roll, 8) && counts(roll) == (0, 1, 8) && look(roll.shown()) == row.guessed
 }
 
-/// Whether the roll answers the inputs that come and shows what a row says, and whether all of it is
-/// then confirmed.
+/// Returns whether the roll answers the inputs that come and shows what a row says, and whether all frames are then
+/// confirmed.
 fn is_taken_back(game: &Game, known: &mut Known, roll: &mut Roll<'_>, row: &Guess) -> bool {
     hear_drawn(known, roll, row.heard) == Some(Some(row.oldest))
         && counts(roll) == (8, row.ran, 8)
@@ -168,7 +167,7 @@ fn a_wrong_guess_is_taken_back(rt: HostRuntime) -> Result<(), Fail> {
     Ok(())
 }
 
-/// Whether the room of a roll is summed up by a text.
+/// Returns whether this is the `Debug` text of a roll's memory.
 fn sums_up_room(alloc: Global, game: &Game, text: &str) -> Result<bool, Fail> {
     let buffers = Buffers::new(alloc, game)?;
     Ok(is_summed_up(alloc, &buffers, text))

@@ -1,4 +1,4 @@
--- Chains of steps: one step more.
+-- Chains with one more step.
 use Rattle.std.proofs.Common.{◌≡◌, ℕ, ◌+◌, ◌<◌, true, false, List, [], ◌∷◌, ◌++◌, replicate, subst, inr, refl}
 use Rattle.std.proofs.lemmas.List.{replicate_more}
 use Rattle.c8_game.specs.Rules.{Rules}
@@ -19,13 +19,13 @@ went Waits goes = cc
 went Stopped goes = cc
 went Held goes = cc
 
--- a step that goes on, after n that went
+-- a step that goes on, after n that answered Went
 pub one_more : (rules : Rules) (keys : ℕ) (s mid t : State) (n : ℕ) (step : Step) → IsChain rules keys s (replicate n Went) mid → IsStep rules keys mid t step → goes_on step ≡ true → IsChain rules keys s (replicate (n + 1) Went) t
 one_more rules keys s mid t n step chain next goes =
     let steps : replicate n Went ++ step ∷ [] ≡ replicate (n + 1) Went = rw (went step goes) (replicate_more n Went) in
     rw steps at (IsChain-push rules keys s mid t (replicate n Went) step chain next)
 
--- a step that ends the frame, after fewer than `ipf` that went
+-- a step that ends the frame, after fewer than `ipf` that answered Went
 pub ends_early : (rules : Rules) (keys : ℕ) (s mid t : State) (n : ℕ) (step : Step) → IsChain rules keys s (replicate n Went) mid → IsStep rules keys mid t step → goes_on step ≡ false → n < rules.ipf → Runs rules keys s t
 ends_early rules keys s mid t n step chain next ends fewer = record {
   steps = replicate n Went ++ step ∷ [];

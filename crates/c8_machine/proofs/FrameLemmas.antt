@@ -1,4 +1,4 @@
--- A machine has one frame for the keys that are down, and no other.
+-- A machine has exactly one frame for the keys that are down.
 use Rattle.std.proofs.Common.{Bool, MatchBool, length, nat_lt, ◌≡◌, ℕ, zero, suc, ◌<◌, true, false, Option, Some, None, MatchOption, List, [], ◌∷◌, ◌++◌, replicate, ap, sym, ◌∙◌, subst, inl, inr, refl, arith}
 use Rattle.std.proofs.lemmas.Bool.{true≢false, cases_Bool}
 use Rattle.c8_game.specs.Rules.{Rules}
@@ -23,7 +23,7 @@ by_test : (test : Bool) (v w : State) (when_true when_false : Step) (t u : State
 by_test true v w when_true when_false t u step other (a, b) (c, d) = record { machine = b ∙ sym d; what = a ∙ sym c }
 by_test false v w when_true when_false t u step other (a, b) (c, d) = record { machine = b ∙ sym d; what = a ∙ sym c }
 
--- an instruction makes one thing of a machine
+-- an instruction takes a machine to one machine only
 does_once : (rules : Rules) (keys : ℕ) (i : Instruction) (s t u : State) (step other : Step) → Does rules keys i s t step → Does rules keys i s u other → Same t u step other
 does_once rules keys Return s t u step other a b = by_test (nat_lt 0 (length s.stack)) _ _ _ _ t u step other a b
 does_once rules keys (Call to) s t u step other a b = by_test (nat_lt (length s.stack) 16) _ _ _ _ t u step other a b
@@ -36,17 +36,17 @@ executes_once rules keys None s t u step other (a, b) (c, d) = record { machine 
 at_its_code : (rules : Rules) (keys : ℕ) (s t : State) (step : Step) → IsStep rules keys s t step → Executes rules keys (instruction_of (code_at s)) s t step
 at_its_code rules keys s t step is = rw (only_instruction (code_at s) is.instruction is.is) at is.does
 
--- a machine makes one step
+-- a machine has one step only
 steps_once : (rules : Rules) (keys : ℕ) (s t u : State) (step other : Step) → IsStep rules keys s t step → IsStep rules keys s u other → Same t u step other
 steps_once rules keys s t u step other a b =
     executes_once rules keys (instruction_of (code_at s)) s t u step other (at_its_code rules keys s t step a) (at_its_code rules keys s u other b)
 
--- steps that fill a frame of none are none
+-- a frame of at most 0 steps has none
 fills_none : (steps : List Step) → FillsFrame 0 steps → steps ≡ []
 fills_none steps (inl all) = all
 fills_none steps (inr early) = absurd (omega (arith, early.fewer))
 
--- the steps of a frame of one more: the first went and the others fill a frame, or it is the only one
+-- the steps of a frame of at most n + 1: the first answers Went and the others fill a frame of n, or it is the only one
 record First (n : ℕ) (steps : List Step) : Type 0 where
   first : Step
   rest : List Step
@@ -67,7 +67,7 @@ first n steps (inr early) = by_first early.before early.last early.fewer early.e
     else_none = λ e. absurd (true≢false e);
   }
 
--- two chains that fill a frame end alike
+-- two chains that fill a frame end in the same machine
 chains_agree : (rules : Rules) (keys n : ℕ) (s t u : State) (xs ys : List Step) → FillsFrame n xs → FillsFrame n ys → IsChain rules keys s xs t → IsChain rules keys s ys u → t ≡ u
 chains_agree rules keys zero s t u xs ys fills also chain other =
     let same : t ≡ s = rw (fills_none xs fills) at chain in
@@ -103,7 +103,7 @@ is_frame rules keys s = (framed rules keys s).1
 pub frame_once : (rules : Rules) (keys : ℕ) (s t : State) → IsFrame rules keys s t → t ≡ frame_of rules keys s
 frame_once rules keys s t frame = frame_once_by rules keys s t (frame_of rules keys s) s.stop frame (is_frame rules keys s)
 
--- what is done for the instruction that was found at the counter is a step
+-- performing the instruction of the code at the counter is a step
 pub step_at_code : (rules : Rules) (keys : ℕ) (s t : State) (code : ℕ) (i : Option Instruction) (step : Step) → code ≡ code_at s → i ≡ instruction_of code → Executes rules keys i s t step → IsStep rules keys s t step
 step_at_code rules keys s t code i step here found done =
     let is : i ≡ instruction_of (code_at s) = found ∙ ap instruction_of here in

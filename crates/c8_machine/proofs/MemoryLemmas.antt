@@ -1,4 +1,4 @@
--- The memory before the first frame, from what was written where.
+-- The memory before the first frame, by what was written where.
 use Rattle.std.proofs.Common.{◌≡◌, ℕ, ◌+◌, ◌-◌, ◌%◌, ◌<◌, ◌≤◌, List, map, take, length, get_or, false, cond, ◌&&◌, nat_eq, nat_le, nat_lt, ap, replicate, sym, ◌∙◌, inl, inr, arith}
 use Rattle.std.proofs.Math.Path.{fun_ext}
 use Rattle.std.proofs.lemmas.Bool.{cases_lt, cases_Bool, and_parts, leb-true, ltb-true, cond-true, cond-false, le-leb, lt-leb}
@@ -12,7 +12,7 @@ use Rattle.c8_machine.specs.State.{first_memory, digit_patterns}
 zeros : (n k : ℕ) → get_or {A = ℕ} (replicate n 0) k 0 ≡ 0
 zeros n k = elim (cases_lt k n) [ inl within ↦ get_or-replicate n k 0 0 within | inr past ↦ get_or_past {X = ℕ} (replicate n 0) k 0 (simp length-replicate past) ]
 
--- the bytes written from an address on, and nothing else
+-- the bytes were written from an address on, and nothing else changed
 pub record Places (from : ℕ) (bytes old new : List ℕ) : Type 0 where
   pub placed : (k : ℕ) → k < length bytes → get_or new (from + k) 0 ≡ get_or bytes k 0
   pub before : (k : ℕ) → k < from → get_or new k 0 ≡ get_or old k 0
@@ -44,9 +44,9 @@ module _ (program patterned full : List ℕ) (patterns : Places 0x50 digit_patte
     ])
   ])
 
--- ---- bytes stored from an address on, round the last address
+-- ---- bytes stored from an address on, with address 0 after the last
 
--- the first k of the bytes are stored
+-- the first k bytes are stored
 pub record IsStored (bytes old new : List ℕ) (from k : ℕ) : Type 0 where
   pub size : length new ≡ 0x1000
   pub there : (at : ℕ) → at < 0x1000 → (at + 0x1000 - from) % 0x1000 < k → get_or new at 0 ≡ get_or bytes ((at + 0x1000 - from) % 0x1000) 0
@@ -66,7 +66,7 @@ sprites_agree n f g left top same = fun_ext (λ x. fun_ext (λ y.
       | inr outside ↦ cond-false _ _ _ outside ∙ sym (cond-false _ _ _ outside)
     ]))
 
--- the first n of the bytes that were loaded are drawn as those in memory
+-- drawing the first n loaded bytes is drawing those in memory
 pub sprite_loaded : (f : ℕ → ℕ) (bytes : List ℕ) (m n left top : ℕ) → m ≡ n → n < 16 → bytes ≡ map f (range_with_len 0 15) → sprite (length (take m bytes)) (λ k. get_or (take m bytes) k 0) left top ≡ sprite n f left top
 sprite_loaded f bytes m n left top same few loaded =
     let size : length bytes ≡ 15 = ap length loaded ∙ length-map-range_with_len f 0 15 in

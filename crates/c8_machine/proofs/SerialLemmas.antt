@@ -1,4 +1,4 @@
--- The serial run of one row more.
+-- The serial run of one more row.
 use Rattle.std.proofs.Common.{◌≡◌, ℕ, List, [], ◌∷◌, ◌++◌, ap, sym, ◌∙◌}
 use Rattle.std.proofs.lemmas.List.Sums.{fold-append}
 use Rattle.c8_game.specs.Rules.{Rules, joined}

@@ -1,6 +1,5 @@
--- The instructions, and the code of two bytes that each is written as, read off Weisbecker's table. In
--- a code X is the second digit, Y the third and N the last one, KK stands for the last two and MMM for
--- the last three.
+-- The instructions, each with its code of two bytes, from Weisbecker's table. X is the second digit of a code, Y the
+-- third, N the last; KK are the last two digits, MMM the last three.
 use Rattle.std.specs.Prelude.{◌≡◌, ◌≢◌, ℕ, ◌+◌, ◌*◌, ◌<◌, Option, Some, None}
 
 pub data Instruction : Type 0 where
@@ -85,7 +84,7 @@ with_byte a x value = a * 0x1000 + x * 0x100 + value
 abbrev pub with_address : ℕ → ℕ → ℕ
 with_address a to = a * 0x1000 + to
 
--- the code that an instruction is written as
+-- the code of an instruction
 abbrev pub code_of : Instruction → ℕ
 code_of Clear = 0x00E0
 code_of Return = 0x00EE
@@ -168,7 +167,7 @@ IsInRange (StoreDigits x) = IsDigit x
 IsInRange (StoreRegisters x) = IsDigit x
 IsInRange (LoadRegisters x) = IsDigit x
 
--- the instruction of a code is the one that is written so; a code that none is written as has none
+-- the instruction with this code; None if no instruction has it
 abbrev pub IsInstructionOf : ℕ → Option Instruction → Type 0
 IsInstructionOf code (Some i) = IsInRange i × (code_of i ≡ code)
 IsInstructionOf code None = (i : Instruction) → IsInRange i → code_of i ≢ code

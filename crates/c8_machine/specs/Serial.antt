@@ -6,8 +6,8 @@ use Rattle.c8_machine.specs.State.{State, first_state}
 use Rattle.c8_machine.specs.Frames.{IsFrame}
 use Rattle.c8_machine.specs.checked.FrameExists.{framed}
 
--- the machine after a frame: every machine has one (`framed`), and no other (the law
--- `frame_is_determined` of `src/laws.rt`)
+-- the machine after a frame: each machine has one (`framed`), and no other (the law `frame_is_determined` of
+-- `src/laws.rt`)
 abbrev pub frame_of : Rules → ℕ → State → State
 frame_of rules keys s = (framed rules keys s).0
 
@@ -15,7 +15,7 @@ frame_of rules keys s = (framed rules keys s).0
 abbrev pub serial : Rules → List Row → State
 serial rules rows = fold (λ s row. frame_of rules (joined rules row) s) (first_state rules) rows
 
--- a machine has one frame for the keys that are down, and no other
+-- a machine has exactly one frame for the keys that are down
 pub record FrameIsDetermined (rules : Rules) (keys : ℕ) (s : State) : Type 0 where
   pub is_one : IsFrame rules keys s (frame_of rules keys s)
   pub is_only : (t : State) → IsFrame rules keys s t → t ≡ frame_of rules keys s

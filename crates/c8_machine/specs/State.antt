@@ -1,4 +1,4 @@
--- The state of a machine, apart from how the code keeps it.
+-- The state of a machine, apart from how the code stores it.
 use Rattle.std.specs.Prelude.{◌≡◌, ℕ, ◌-◌, ◌^◌, ◌<◌, ◌≤◌, Option, None, IfSome, List, [], ◌∷◌, length, nat_le, replicate, slice_index, take, if◌then◌else◌}
 use Rattle.c8_screen.specs.Points.{Points, no_points, points_of, AreOnScreen}
 use Rattle.c8_game.specs.Rules.{Rules}
@@ -6,18 +6,18 @@ use Rattle.c8_machine.specs.declared.machine.Machine.{Machine}
 use Rattle.c8_machine.specs.declared.machine.Stop.{Stop}
 use Rattle.c8_machine.specs.declared.machine.Stop.TheVariants.{UnknownInstruction, StackFull, StackEmpty}
 
--- how many bytes of memory there are; addresses are below it
+-- the size of the memory in bytes; addresses are below it
 abbrev pub memory_size : ℕ
 memory_size = 0x1000
 
 abbrev pub register_count : ℕ
 register_count = 16
 
--- how many places to return to there is room for
+-- the most return addresses
 abbrev pub stack_size : ℕ
 stack_size = 16
 
--- where the program stands in memory, and where the patterns of the digits do
+-- the address of the program, and of the digit patterns
 abbrev pub program_at : ℕ
 program_at = 0x200
 
@@ -34,22 +34,22 @@ pub record State : Type 0 where
   pub registers : List ℕ
   -- I
   pub address : ℕ
-  -- where the next instruction stands
+  -- the address of the next instruction
   pub counter : ℕ
-  -- the places to return to, at most 16, oldest first
+  -- the return addresses, at most 16, oldest first
   pub stack : List ℕ
   pub screen : Points
   pub timer : ℕ
   pub tone : ℕ
-  -- the remembered keys: those of the last frame that found the machine not stopped
+  -- the remembered keys: those of the last frame at whose start the machine had not stopped
   pub keys : ℕ
-  -- the register whose key is waited for
+  -- the register that waits for a key
   pub waits : Option ℕ
   -- how many random bytes were drawn, modulo 2 ^ 64
   pub draws : ℕ
   pub stop : Option Stop
 
--- the states that a machine can have: the size and the range of each part
+-- the states that a machine can have, by the size and range of each part
 pub record IsState (s : State) : Type 0 where
   pub bytes : (at : ℕ) → s.memory at < 2 ^ 8
   pub no_more_bytes : (at : ℕ) → memory_size ≤ at → s.memory at ≡ 0
@@ -66,7 +66,7 @@ pub record IsState (s : State) : Type 0 where
   pub waits : IfSome s.waits (λ x. x < register_count)
   pub draws : s.draws < 2 ^ 64
 
--- the state that a machine is in
+-- the state of a machine of the code
 abbrev pub state : Machine → State
 state machine = record {
   memory = slice_index machine.memory;
@@ -109,8 +109,8 @@ digit_patterns =
     0xF0 ∷ 0x80 ∷ 0xF0 ∷ 0x80 ∷ 0xF0 ∷
     0xF0 ∷ 0x80 ∷ 0xF0 ∷ 0x80 ∷ 0x80 ∷ []
 
--- the memory before the first frame: the patterns from address 50 on (hexadecimal), the program from
--- 200 on, and 0 elsewhere, as `slice_index` gives it past the end of either
+-- the memory before the first frame: the digit patterns from address 50 (hexadecimal) on, the program from 200 on, and
+-- 0 elsewhere; `slice_index` is 0 beyond the end of either
 abbrev pub first_memory : List ℕ → Memory
 first_memory program at =
     if nat_le program_at at then slice_index program (at - program_at) else if nat_le patterns_at at then slice_index digit_patterns (at - patterns_at) else 0

@@ -1,5 +1,5 @@
--- What one instruction does: a relation between the machine before and after it, one case for each
--- row of the instruction table of docs/MACHINE.md, under the code that it is written as.
+-- What one instruction does: a relation between the machine before and after it. It has one case for each row of the
+-- instruction table of docs/MACHINE.md, under its code.
 use Rattle.std.specs.Prelude.{◌≡◌, ℕ, ◌+◌, ◌-◌, ◌*◌, ◌/◌, ◌%◌, ◌^◌, ◌==◌, ◌&&◌, Bool, not, MatchBool, Option, Some, None, List, [], ◌∷◌, ◌++◌, length, take, drop, map, nat_le, nat_lt, bit_and, bit_or, bit_xor, slice_index, slice_set, if◌then◌else◌}
 use Rattle.std.specs.Int.{bit_at, to_be_bytes, w64}
 use Rattle.std.specs.List.{range_with_len}
@@ -19,7 +19,7 @@ use Rattle.c8_machine.specs.State.{State, Memory, memory_size, stack_size, patte
 abbrev pub code_at : State → ℕ
 code_at s = s.memory s.counter * 0x100 + s.memory ((s.counter + 1) % memory_size)
 
--- the byte k places past I
+-- the byte k places after I
 abbrev pub byte_at : State → ℕ → ℕ
 byte_at s k = s.memory ((s.address + k) % memory_size)
 
@@ -43,25 +43,25 @@ is_down keys key = bit_at keys key == 1
 abbrev pub next : State → ℕ
 next s = (s.counter + 2) % memory_size
 
--- the counter stands at the next instruction
+-- the counter moved to the next instruction
 abbrev pub passed : State → State
 passed s = record s { counter = next s }
 
--- the counter stands at the next instruction, or at the one after it
+-- the counter moved to the next instruction, or to the one after it
 abbrev pub skipped_if : Bool → State → State
 skipped_if test s = record s { counter = if test then (s.counter + 4) % memory_size else next s }
 
--- the counter stays at the instruction, which changed nothing else
+-- the machine stopped at the instruction, and nothing else changed
 abbrev pub stopped : Stop → State → State
 stopped why s = record s { stop = Some why }
 
--- the memory with bytes stored from an address on; after the last address comes the first
+-- the memory with bytes stored from an address on; address 0 follows the last address
 abbrev pub stored : List ℕ → ℕ → Memory → Memory
 stored bytes from memory at =
     let place = (at + memory_size - from) % memory_size in
     if nat_lt at memory_size && nat_lt place (length bytes) then slice_index bytes place else memory at
 
--- random byte number n of a game
+-- random byte number n of a game with this seed
 unfoldable pub random_byte : ℕ → ℕ → ℕ
 random_byte seed n = slice_index (sha256 (to_be_bytes w64 seed ++ to_be_bytes w64 n)) 0
 
@@ -71,8 +71,7 @@ drawing s left top rows = clipped (sprite rows (byte_at s) (left % 64) (top % 32
 
 -- ---- the table
 
--- what an instruction makes of the machine s, with the game's rules and the keys of the frame: the
--- machine t, and the answer of the step
+-- an instruction takes machine s to machine t with this answer, under the game's rules and the keys of the frame
 abbrev pub Does : Rules → ℕ → Instruction → State → State → Step → Type 0
 -- 00E0
 Does rules keys Clear s t step = (step ≡ Went) × (t ≡ record (passed s) { screen = no_points })
@@ -160,17 +159,17 @@ Does rules keys (StoreRegisters x) s t step =
 Does rules keys (LoadRegisters x) s t step =
     (step ≡ Went) × (t ≡ record (passed s) { registers = map (byte_at s) (range_with_len 0 (x + 1)) ++ drop (x + 1) s.registers; address = (s.address + x + 1) % memory_size })
 
--- an instruction that goes by no rule of the game and no key
+-- an instruction that depends on no rule of the game and on no key
 abbrev pub Performs : Instruction → State → State → Step → Type 0
 Performs instruction s t step = (rules : Rules) (keys : ℕ) → Does rules keys instruction s t step
 
--- what a machine does at a code: what its instruction does, or stop 1 where it has none
+-- what a machine does at a code: its instruction; without one it stops as at an unknown instruction
 abbrev pub Executes : Rules → ℕ → Option Instruction → State → State → Step → Type 0
 Executes rules keys (Some i) s t step = Does rules keys i s t step
 Executes rules keys None s t step = (step ≡ Stopped) × (t ≡ stopped UnknownInstruction s)
 
--- One step of a machine: what the instruction of the code at its counter makes of it. The table asks nothing of waits
--- and stops: `Machine::step` answers `Held` to a machine that waits or has stopped, and a frame takes no step of one.
+-- One step of a machine: the instruction with the code at its counter. Waits and stops do not matter here:
+-- `Machine::step` answers `Held` to a machine that waits or has stopped, and a frame takes no step then.
 pub record IsStep (rules : Rules) (keys : ℕ) (s t : State) (step : Step) : Type 0 where
   pub instruction : Option Instruction
   pub is : IsInstructionOf (code_at s) instruction

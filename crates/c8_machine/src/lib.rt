@@ -1,11 +1,10 @@
 //! The CHIP-8 machine: its instructions and its frame.
 //!
-//! Contracts see a machine as its `State` (`specs/State.antt`). One step is `IsStep`
-//! (`specs/Steps.antt`), one case for each row of the instruction table; one frame is `IsFrame`
-//! (`specs/Frames.antt`), a relation over chains of steps. `serial` (`specs/Serial.antt`) is the
-//! run of many rows. `Machine::of_parts` makes a machine of what was read elsewhere
-//! (`specs/Parts.antt`). `laws` has what callers chain, and `Machine::in_range` says that every
-//! machine's state is in range (`IsState`). Nothing here takes memory.
+//! Contracts see a machine as its `State` (`specs/State.antt`). One step is `IsStep` (`specs/Steps.antt`), with one
+//! case for each row of the instruction table. One frame is `IsFrame` (`specs/Frames.antt`), a relation over chains of
+//! steps. `serial` (`specs/Serial.antt`) is the run of many rows. `Machine::of_parts` makes a machine from given parts
+//! (`specs/Parts.antt`). `laws` has the facts that callers chain. `Machine::in_range` gives a caller's proof that the
+//! state of a machine is in range (`IsState`). Nothing here takes memory.
 #![tactic(auto)]
 
 pub mod laws;

@@ -17,28 +17,27 @@ mod steps;
 
 pub use parts::Parts;
 
-/// How many bytes of memory a machine has. Every address is below it.
+/// The size of a machine's memory in bytes. Every address is below it.
 pub const MEMORY_SIZE: usize = 4096;
 
-/// As many addresses there are, and each is modulo their number.
+/// The number of addresses; address arithmetic is modulo this number.
 const ADDRESSES: u16 = 4096;
 
-/// Why a machine has stopped for good.
+/// Why a machine has stopped. It stays stopped.
 #[derive(Clone, Copy, Debug, PartialEq, Eq, Hash)]
 pub enum Stop {
-    /// A code that is no instruction, or a call of machine language.
+    /// The code is not an instruction, or calls machine language.
     UnknownInstruction,
-    /// A seventeenth nested call.
+    /// A call found all 16 places of the stack in use.
     StackFull,
-    /// A return with no place to return to.
+    /// A return found no place on the stack.
     StackEmpty,
 }
 
 impl Stop {
     ghost use Rattle.c8_machine.specs.State.{number_of};
 
-    /// The number that the program prints: 1 for an unknown instruction, 2 for a full stack, 3 for
-    /// an empty one.
+    /// Returns the number that programs print: 1 for an unknown instruction, 2 for a full stack, 3 for an empty one.
     pub fn number(self) -> u8
         ensures { result ≡ number_of self }
     {
@@ -50,18 +49,18 @@ impl Stop {
     }
 }
 
-/// What became of one step.
+/// The result of one step.
 #[derive(Clone, Copy, Debug, PartialEq, Eq, Hash)]
 pub enum Step {
-    /// The instruction was done, and another one of the frame may follow.
+    /// The instruction was performed; the frame can go on with another.
     Went,
-    /// The instruction drew on the screen, which ends the frame's instructions.
+    /// The instruction drew on the screen, which ends the instructions of the frame.
     Drew,
-    /// The machine waits for a key from now on.
+    /// The instruction waits for a key, which ends the instructions of the frame.
     Waits,
     /// The machine stopped at the instruction, which changed nothing else.
     Stopped,
-    /// The machine waits or had stopped: nothing was done.
+    /// The machine was waiting or stopped; nothing changed.
     Held,
 }
 
@@ -79,17 +78,17 @@ impl Step {
     }
 }
 
-/// A machine of 4096 bytes of memory, 16 registers and a stack of 16 places. It is a plain value: a
-/// copy of it is a snapshot.
+/// A machine with 4096 bytes of memory, 16 registers and a stack of 16 places. It is a plain value: a copy of it is a
+/// snapshot.
 #[derive(Clone, Copy, Debug, PartialEq, Eq)]
 pub struct Machine {
     memory: [u8; MEMORY_SIZE],
     registers: [u8; 16],
     address: u16,
     counter: u16,
-    /// The places to return to, oldest first; those that are not in use are 0.
+    /// The return addresses, oldest first; those not in use are 0.
     places: [u16; 16],
-    /// How many of the places are in use.
+    /// The number of return addresses in use.
     depth: u8,
     screen: Screen,
     timer: u8,
@@ -110,8 +109,8 @@ impl Machine {
     ghost use Rattle.c8_screen.specs.Points.{points_of};
     ghost use Rattle.c8_machine.specs.State.{state, first_state};
 
-    /// The machine before its first frame: the patterns of the digits and the program in its
-    /// memory, the counter at the program's first byte, and all else 0.
+    /// Makes the machine before its first frame. Its memory has the digit patterns and the program, the counter is at
+    /// the program's first byte, everything else is 0.
     pub fn start(game: &Game) -> Self
         ensures { state result ≡ first_state game.now }
     {
@@ -132,21 +131,21 @@ impl Machine {
         }
     }
 
-    /// The byte at each address.
+    /// Returns the memory, a byte for each address.
     pub fn memory(&self) -> &[u8; MEMORY_SIZE]
         ensures { slice_index result.now ≡ (state self.now).memory }
     {
         &self.memory
     }
 
-    /// The registers V0 to VF.
+    /// Returns the registers V0 to VF.
     pub fn registers(&self) -> &[u8; 16]
         ensures { result.now ≡ (state self.now).registers }
     {
         &self.registers
     }
 
-    /// The register I, an address below 4096.
+    /// Returns the register I, an address below 4096.
     pub fn address(&self) -> u16
         ensures value { result ≡ (state self.now).address }
         ensures range { result < MEMORY_SIZE }
@@ -154,7 +153,7 @@ impl Machine {
         self.address
     }
 
-    /// The program counter, an address below 4096.
+    /// Returns the program counter, an address below 4096.
     pub fn counter(&self) -> u16
         ensures value { result ≡ (state self.now).counter }
         ensures range { result < MEMORY_SIZE }
@@ -162,7 +161,7 @@ impl Machine {
         self.counter
     }
 
-    /// The places to return to, at most 16, oldest first.
+    /// Returns the return addresses, at most 16, oldest first.
     pub fn stack(&self) -> &[u16]
         ensures value { result.now ≡ (state self.now).stack }
         ensures length { length result.now ≤ 16 }
@@ -170,35 +169,35 @@ impl Machine {
         &self.places[..usize::from(self.depth)]
     }
 
-    /// What is seen.
+    /// Returns the screen.
     pub fn screen(&self) -> &Screen
         ensures { points_of result.now ≡ (state self.now).screen }
     {
         &self.screen
     }
 
-    /// The timer, in frames left.
+    /// Returns the timer, in frames left.
     pub fn timer(&self) -> u8
         ensures { result ≡ (state self.now).timer }
     {
         self.timer
     }
 
-    /// The tone, in frames left.
+    /// Returns the tone, in frames left.
     pub fn tone(&self) -> u8
         ensures { result ≡ (state self.now).tone }
     {
         self.tone
     }
 
-    /// The remembered keys: those of the last frame that found the machine not stopped.
+    /// Returns the remembered keys: those of the last frame at whose start the machine had not stopped.
     pub fn keys(&self) -> Keys
         ensures { result.0 ≡ (state self.now).keys }
     {
         self.keys
     }
 
-    /// The register that a key is waited for, 0 to 15, or `None` where the machine doesn't wait.
+    /// Returns the register that waits for a key, 0 to 15; `None` if the machine does not wait.
     pub fn waits(&self) -> Option<u8>
         ensures value { result ≡ (state self.now).waits }
         ensures range { IfSome result (λ x. x < 16) }
@@ -206,14 +205,14 @@ impl Machine {
         self.waits
     }
 
-    /// How many random bytes were drawn, modulo 2 to the 64.
+    /// Returns how many random bytes were drawn, modulo 2 to the 64.
     pub fn draws(&self) -> u64
         ensures { result ≡ (state self.now).draws }
     {
         self.draws
     }
 
-    /// Why the machine has stopped, or `None` where it has not.
+    /// Returns why the machine stopped; `None` if it has not.
     pub fn stopped(&self) -> Option<Stop>
         ensures { result ≡ (state self.now).stop }
     {

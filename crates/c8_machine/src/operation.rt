@@ -1,72 +1,72 @@
-//! Codes, read as what the machine has to do.
+//! Decodes codes of two bytes.
 ghost use Rattle.std.specs.Prelude.{◌≡◌, ◌/◌, ◌%◌, MatchOption};
 ghost use Rattle.c8_machine.specs.Instructions.{IsInRange};
 ghost use Rattle.c8_machine.specs.checked.Decoding.{meaning, instruction_of, system_instruction, arithmetic_instruction, key_instruction, register_instruction};
 
-/// What a code of two bytes means: X and Y are numbers of registers, 0 to 15.
+/// What a code of two bytes means. X and Y are registers, 0 to 15.
 #[derive(Clone, Copy)]
 pub enum Operation {
-    /// 00E0: puts out every point.
+    /// 00E0: turns every point off.
     Clear,
-    /// 00EE: goes back to the last place of the stack.
+    /// 00EE: returns from a call.
     Return,
-    /// 1MMM: goes on at an address.
+    /// 1MMM: jumps to an address.
     Jump { to: u16 },
-    /// 2MMM: goes on at an address, and puts the place to return to on the stack.
+    /// 2MMM: calls the code at an address.
     Call { to: u16 },
     /// 3XKK: skips if VX is the value.
     SkipIfValue { x: u8, value: u8 },
     /// 4XKK: skips if VX is not the value.
     SkipUnlessValue { x: u8, value: u8 },
-    /// 5XY0: skips if VX and VY are the same.
+    /// 5XY0: skips if VX and VY are equal.
     SkipIfSame { x: u8, y: u8 },
-    /// 6XKK: VX is the value.
+    /// 6XKK: sets VX to the value.
     SetValue { x: u8, value: u8 },
     /// 7XKK: adds the value to VX, without a flag.
     AddValue { x: u8, value: u8 },
-    /// 8XY0: VX is VY.
+    /// 8XY0: sets VX to VY.
     Set { x: u8, y: u8 },
-    /// 8XY1: VX or VY, bit by bit; then VF is 0.
+    /// 8XY1: sets VX to the bitwise or of VX and VY, then VF to 0.
     Or { x: u8, y: u8 },
-    /// 8XY2: VX and VY, bit by bit; then VF is 0.
+    /// 8XY2: sets VX to the bitwise and of VX and VY, then VF to 0.
     And { x: u8, y: u8 },
-    /// 8XY3: VX or VY but not both, bit by bit; then VF is 0.
+    /// 8XY3: sets VX to the bitwise exclusive or of VX and VY, then VF to 0.
     ExclusiveOr { x: u8, y: u8 },
     /// 8XY4: adds VY to VX; the flag is the carry.
     Add { x: u8, y: u8 },
-    /// 8XY5: takes VY from VX; the flag says that nothing was borrowed.
+    /// 8XY5: subtracts VY from VX; the flag is 1 if nothing was borrowed.
     Subtract { x: u8, y: u8 },
-    /// 8XY6: VX is VY shifted right; the flag is the bit that fell out.
+    /// 8XY6: sets VX to VY shifted right; the flag is the bit shifted out.
     ShiftRight { x: u8, y: u8 },
-    /// 8XY7: VX is VY less VX; the flag says that nothing was borrowed.
+    /// 8XY7: sets VX to VY minus VX; the flag is 1 if nothing was borrowed.
     SubtractFrom { x: u8, y: u8 },
-    /// 8XYE: VX is VY shifted left; the flag is the bit that fell out.
+    /// 8XYE: sets VX to VY shifted left; the flag is the bit shifted out.
     ShiftLeft { x: u8, y: u8 },
     /// 9XY0: skips if VX and VY differ.
     SkipUnlessSame { x: u8, y: u8 },
-    /// AMMM: I is an address.
+    /// AMMM: sets I to an address.
     SetAddress { to: u16 },
-    /// BMMM: goes to the address that is V0 past another one.
+    /// BMMM: jumps to an address plus V0.
     JumpFrom { to: u16 },
-    /// CXKK: VX is a random byte, cut by a mask.
+    /// CXKK: sets VX to the bitwise and of a random byte and the value.
     Random { x: u8, value: u8 },
-    /// DXYN: draws the bytes from I on.
+    /// DXYN: draws `rows` bytes from I on.
     Draw { x: u8, y: u8, rows: u8 },
     /// EX9E: skips if the key that VX names is down.
     SkipIfDown { x: u8 },
     /// EXA1: skips if the key that VX names is up.
     SkipIfUp { x: u8 },
-    /// FX07: VX is the timer.
+    /// FX07: sets VX to the timer.
     ReadTimer { x: u8 },
-    /// FX0A: waits for a key's release; VX gets the key.
+    /// FX0A: waits until a key is released; VX gets the key.
     AwaitKey { x: u8 },
-    /// FX15: the timer is VX.
+    /// FX15: sets the timer to VX.
     SetTimer { x: u8 },
-    /// FX18: the tone is VX.
+    /// FX18: sets the tone to VX.
     SetTone { x: u8 },
     /// FX1E: adds VX to I.
     AddAddress { x: u8 },
-    /// FX29: I is the address of the pattern of VX's low digit.
+    /// FX29: sets I to the address of the pattern of VX's low digit.
     PointAtDigit { x: u8 },
     /// FX33: stores the three decimal digits of VX.
     StoreDigits { x: u8 },
@@ -78,7 +78,7 @@ pub enum Operation {
     Unknown,
 }
 
-/// The instruction that a code means.
+/// Returns the instruction with this code.
 #[inline(always)]
 #[tactic(auto, unfolding(crate::specs::checked::Decoding::instruction_by))]
 pub fn decode(code: u16) -> Operation

@@ -1,13 +1,13 @@
-//! What a machine's memory has before the first frame.
+//! A machine's memory before the first frame.
 ghost use Rattle.std.specs.Prelude.{◌≡◌, ℕ, ◌+◌, ◌<◌, ◌≤◌, length, slice_index};
 ghost use Rattle.c8_machine.specs.State.{first_memory};
 
 use crate::machine::MEMORY_SIZE;
 
-/// Where the program stands in memory.
+/// The address of the program.
 pub const PROGRAM_AT: usize = 0x200;
 
-/// Where the patterns of the digits stand in memory.
+/// The address of the digit patterns.
 const PATTERNS_AT: usize = 0x50;
 
 /// The patterns of the digits 0 to F, five bytes each.
@@ -30,8 +30,8 @@ const DIGIT_PATTERNS: [u8; 80] = [
     0xf0, 0x80, 0xf0, 0x80, 0x80, // F
 ];
 
-/// The patterns of the digits from `PATTERNS_AT` on, the program from `PROGRAM_AT` on, and 0
-/// elsewhere.
+/// Returns the memory before the first frame: the digit patterns from `PATTERNS_AT` on, the program from `PROGRAM_AT`
+/// on, and 0 elsewhere.
 pub fn first_memory(program: &[u8]) -> [u8; MEMORY_SIZE]
     requires { length program.now ≤ 3584 }
     ensures { slice_index result ≡ first_memory program.now }

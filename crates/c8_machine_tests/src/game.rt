@@ -1,14 +1,14 @@
-//! The ids and sessions of games. The digests were made by another implementation of SHA-256.
+//! The ids and sessions of games. Another implementation of SHA-256 gave the digests.
 use c8_game::Game;
 use std::alloc::Global;
 use std::test::Fail;
 
-/// Two players, and a program that goes to itself.
+/// A game of two players; its program jumps to itself.
 const WORKED: &str =
     "players 2\nipf 10\nframes 100\ndelay 0\nwindow 8\nseed 0\nmask1 000f\nmask2 fff0\ncode 1200\n";
 
-/// A part of the worked text and what stands in its place; then the wire version of the game, its
-/// sessions in rooms 0 and 7, and its id.
+/// A part of the text above and its replacement; then the wire version of the game, its sessions in rooms 0 and 7, and
+/// its id.
 #[derive(Clone, Copy, Debug)]
 struct Change {
     old: &'static str,
@@ -19,7 +19,7 @@ struct Change {
 #[rattlefmt::skip]
 const CHANGES: [Change; 5] = [
     Change { old: "seed 0", new: "seed 0", told: "1 61756fcc0d931c81 0e954bfabe7a0a62 d42825e773e78e46625a945ec405dedb99460949e233a3f3c7300a32213f522c" },
-    // a text that names version 1 is the same game as one that names none
+    // a text with version 1 is the same game as one without a version
     Change { old: "seed 0", new: "seed 0\nwire 1", told: "1 61756fcc0d931c81 0e954bfabe7a0a62 d42825e773e78e46625a945ec405dedb99460949e233a3f3c7300a32213f522c" },
     Change { old: "seed 0", new: "seed 0\nwire 2", told: "2 71c002e1f01e27c1 d076c6be1ae480db 426df38ccfb6dbdf24cf3e37c08c9d8620576722e0fcfdd39b305ceffec179c0" },
     // a program that ends with a byte 02

@@ -1,4 +1,4 @@
-//! What became of a step, and the marks of states.
+//! The answers of steps, and the marks of states.
 use crate::play::{game_of, play};
 use c8_digest::{STATE_LENGTH, mark, read_state, state_bytes};
 use c8_game::{Game, Keys};
@@ -16,7 +16,7 @@ fn takes_steps(game: &Game, steps: &[Step]) -> bool {
     true
 }
 
-/// Whether the first steps of a program are these.
+/// Returns whether these are the first steps of a program.
 fn begins_with(alloc: Global, code: &str, steps: &[Step]) -> Result<bool, Fail> {
     let game = game_of(alloc, 10, code)?;
     Ok(takes_steps(&game, steps))
@@ -31,8 +31,8 @@ fn tells_what_became_of_a_step(rt: HostRuntime) -> Result<(), Fail> {
     Ok(())
 }
 
-/// A program, the keys of its frames of 100 instructions, and the mark of the state then: eight bytes
-/// of a digest of all 4419.
+/// A program, the keys of its frames of 100 instructions, and the mark of the state after them: eight bytes of a digest
+/// of all 4419.
 #[derive(Clone, Copy, Debug)]
 struct Marked {
     code: &'static str,
@@ -74,7 +74,7 @@ fn mark_number(machine: &Machine) -> u64 {
     u64::from_be_bytes(mark(machine))
 }
 
-/// The marks were made by another implementation of the machine and of SHA-256.
+/// Another implementation of the machine and of SHA-256 gave the marks.
 #[test]
 fn marks_states(rt: HostRuntime) -> Result<(), Fail> {
     for row in marks_of_states() {

@@ -1,10 +1,10 @@
-//! A machine after some frames of a program.
+//! Runs some frames of a program.
 use c8_game::{Game, Keys};
 use c8_machine::Machine;
 use std::alloc::Global;
 use std::test::Fail;
 
-/// A game of two players that runs a program, `ipf` instructions a frame.
+/// Makes a game of two players that runs a program, `ipf` instructions a frame.
 pub(crate) fn game_of(alloc: Global, ipf: u8, code: &str) -> Result<Game, Fail> {
     let text = format!(in alloc;
         "players 2\nipf {ipf}\nframes 100\ndelay 0\nwindow 8\nseed 0\nmask1 000f\nmask2 fff0\ncode {code}\n"
@@ -12,7 +12,7 @@ pub(crate) fn game_of(alloc: Global, ipf: u8, code: &str) -> Result<Game, Fail> 
     Ok(Game::read(alloc, text.as_bytes())?)
 }
 
-/// The machine after one frame for each key set: four digits each, one space between two.
+/// Returns the machine after one frame for each key set: four digits each, with one space between two.
 pub(crate) fn play(alloc: Global, ipf: u8, code: &str, keys: &str) -> Result<Machine, Fail> {
     let game = game_of(alloc, ipf, code)?;
     match played(&game, keys) {

@@ -1,11 +1,11 @@
-//! What faults, players and key sets are called, and how values with much inside are summed up.
+//! The texts of errors, players and key sets, and the `Debug` texts of large values.
 use c8_digest::Marks;
 use c8_game::{Game, GameError, Keys, Lines, NoPlayer, Player};
 use std::alloc::Global;
 use std::fmt::{Debug, Display};
 use std::test::Fail;
 
-/// Whether a value prints a text.
+/// Returns whether a value prints this text.
 fn prints<T: Display + Drop>(alloc: Global, value: T, text: &str) -> bool {
     match format!(in alloc; "{value}") {
         Ok(told) => told.as_str() == text,
@@ -13,7 +13,7 @@ fn prints<T: Display + Drop>(alloc: Global, value: T, text: &str) -> bool {
     }
 }
 
-/// Whether a value is summed up by a text.
+/// Returns whether a value's `Debug` text is this one.
 fn is_summed_up<T: Debug>(alloc: Global, value: &T, text: &str) -> bool {
     match format!(in alloc; "{value:?}") {
         Ok(told) => told.as_str() == text,
@@ -21,7 +21,7 @@ fn is_summed_up<T: Debug>(alloc: Global, value: &T, text: &str) -> bool {
     }
 }
 
-/// Whether a fault has this number, this name and this text.
+/// Returns whether an error has this number, this name and this text.
 fn tells(alloc: Global, fault: GameError, number: u8, name: &str, text: &str) -> bool {
     fault.number() == number && fault.name() == name && prints(alloc, fault, text)
 }
@@ -51,13 +51,13 @@ fn prints_players_and_key_sets(rt: HostRuntime) {
 const GAME: &[u8] =
     b"players 2\nipf 10\nframes 100\ndelay 0\nwindow 8\nseed 0\nmask1 000f\nmask2 fff0\ncode 1200\n";
 
-/// Whether the game above is summed up by a text.
+/// Returns whether this is the `Debug` text of the game above.
 fn sums_up_game(alloc: Global, text: &str) -> Result<bool, Fail> {
     let game = Game::read(alloc, GAME)?;
     Ok(is_summed_up(alloc, &game, text))
 }
 
-/// Whether three marks are summed up by a text.
+/// Returns whether this is the `Debug` text of three marks.
 fn sums_up_marks(alloc: Global, text: &str) -> Result<bool, Fail> {
     let mut marks = Marks::new(alloc)?;
     for frame in 0..3u32 {

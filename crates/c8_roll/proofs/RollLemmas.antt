@@ -1,4 +1,4 @@
--- Frames that are run one after another, and what is still the same once more is known.
+-- Frames that are run one after another, and what stays the same when more is known.
 use Rattle.std.proofs.Common.{◌≡◌, ◌≢◌, ℕ, ◌+◌, ◌*◌, ◌/◌, ◌%◌, ◌-◌, ◌≤◌, List, [], ◌∷◌, ◌++◌, map, sym, ap, ◌∙◌, append_assoc, arith}
 use Rattle.std.specs.List.{range_with_len}
 use Rattle.std.proofs.lemmas.List.{append-nil}
@@ -46,13 +46,13 @@ next_mark law rules from k n starts here =
     ∙ ap kept (sym (append_assoc from.marks (later_marks rules from k count) (mark_since rules from k (n + 1) ∷ [])))
     ∙ sym (law (from.marks ++ later_marks rules from k count) (mark_since rules from k (n + 1)))
 
--- at the origin's frames the marks are the origin's
+-- at the origin's number of frames the marks are the origin's
 pub first_marks : (rules : Rules) (from : Origin) (k : KnownValue) → kept from.marks ≡ marks_since rules from k from.frames
 first_marks rules from k =
     let none : from.frames / 32 - from.frames / 32 ≡ 0 = omega arith in
     ap kept (sym (append-nil from.marks)) ∙ ap (λ (count : ℕ). kept (from.marks ++ later_marks rules from k count)) (sym none)
 
--- ---- once more is known
+-- ---- when more is known
 
 pub rows_same : (old new : KnownValue) → IsStillKnown old new → (n : ℕ) → n ≤ confirmed old → rows_below new n ≡ rows_below old n
 rows_same old new still n within = map_same (row new) (row old) 0 n (λ i to. row_stays old new still i (omega (arith, to, within)))
@@ -70,7 +70,7 @@ best_sure k n sure = map_same (best_row k) (row k) 0 n (λ i to. best_of_confirm
 
 -- ---- rolls
 
--- what was rolled before is so still
+-- what was run before is still right
 pub record IsStill (rules : Rules) (from : Origin) (now : KnownValue) (old : RollValue) : Type 0 where
   pub starts : from.frames ≤ old.confirmed
   pub order : old.confirmed ≤ confirmed now

@@ -1,4 +1,4 @@
--- What a roll is after a call, how far it went back, and what it keeps.
+-- The roll after a call, how far it went back, and what it keeps.
 use Rattle.std.proofs.Common.{◌≡◌, ◌≢◌, inl, inr, ⊎_elim, ℕ, ◌+◌, ◌<◌, ◌≤◌, ◌-◌, List, length, map, Option, Some, None, refl, sym, ap, subst, ◌∙◌, arith}
 use Rattle.std.specs.Prelude.{unwrap_or, option_map, MatchOption, IfSome, fold}
 use Rattle.std.specs.List.{slice_get}
@@ -46,7 +46,7 @@ new_run rules from k t new = record {
   rows = λ i s within kept. let none : length t.snapshots ≡ 0 = ap length new.snapshots in absurd (omega (arith, within, none));
 }
 
--- what was run before, as far as it is the best guess still
+-- what was run before, as far as it still is the best guess
 pub back_of : (rules : Rules) (from : Origin) (k : KnownValue) (old new : TimelineValue) (marks : List FrameMark) → old.rules ≡ rules → IsStill rules from k (seen_of old marks) → new ≡ back_at old (length new.snapshots)
     → length new.snapshots ≤ length old.snapshots → AreBest old k (length new.snapshots) → IsRunOf from k new
 back_of rules from k old new marks same still back fits best =
@@ -120,7 +120,7 @@ oldest old new k None all back fits best is wrong =
 oldest old new k (Some frame) all back fits best is wrong =
     ⊎_elim (oldest_at old new k frame back fits best is) (λ last. let later = last.2 in absurd (omega (arith, all, later))) wrong
 
--- ---- where the rows of the newest frames are not kept
+-- ---- if the rows of the newest frames are not kept
 
 pub oldest_or_last : (old new : TimelineValue) (k : KnownValue) (answer : Option ℕ) → old.first + length old.snapshots < old.ticks → new ≡ back_at old (length new.snapshots)
     → length new.snapshots ≤ length old.snapshots → AreBest old k (length new.snapshots)
@@ -137,7 +137,7 @@ oldest_or_last old new k (Some frame) lacks back fits best is wrong =
     inr (subst (AreAsRun (map (λ (s : Snapshot). s.row) old.snapshots) old.first k) (sym many) (as_run old k (length old.snapshots) (omega arith) last.0), omega (arith, at, end, ticks, many)))
     wrong
 
--- ---- the answer, of what was known before
+-- ---- the answer, for what was known before
 
 still_best : (before now : KnownValue) (rows : List Row) (n : ℕ) → ((i : ℕ) → i < n → slice_get rows i ≡ Some (best_row before (confirmed before + i)))
     → AreAsRun rows (confirmed before) now n → AreStillBest before now (confirmed before + n)
@@ -181,9 +181,9 @@ runs_from old rows before now answer ran from was keeps few is all =
       all = subst (λ (n : ℕ). ran + run_from n answer ≡ now.ticks) ticks all;
     }
 
--- ---- there is one oldest change
+-- ---- there is only one oldest change
 
--- where the guesses at the first frames are as they were run, none of these changed
+-- if the guesses at the first n frames are as they were run, the oldest change is not among them
 unchanged : (rows : List Row) (first : ℕ) (k : KnownValue) (n frame : ℕ) → AreAsRun rows first k n → (o : IsOldest rows first k frame) → n ≤ o.place
 unchanged rows first k n frame same o =
     ⊎_elim (λ (within : o.place < n). absurd (o.differs (ap (best_row k) o.at ∙ same o.place o.row within o.run))) (λ (past : n ≤ o.place). past) (cases_lt o.place n)

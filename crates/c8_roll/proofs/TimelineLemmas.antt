@@ -1,4 +1,4 @@
--- What going back, confirming and running on make of a timeline.
+-- How rolling back, confirming and running change a timeline.
 use Rattle.std.proofs.Common.{◌≡◌, ◌≢◌, ◌⊎◌, inl, inr, ⊎_elim, ℕ, zero, suc, ◌+◌, ◌-◌, ◌<◌, ◌≤◌, List, [], ◌∷◌, ◌++◌, length, take, drop, Option, Some, None, sym, ap, ◌∙◌, arith}
 use Rattle.std.specs.List.{slice_get}
 use Rattle.std.specs.Prelude.{unwrap_or, fold}
@@ -22,7 +22,7 @@ use Rattle.c8_roll.proofs.RollLemmas.{best_next, best_sure}
 
 -- ---- runs
 
--- the run of one best row more
+-- the run of one more best row
 pub next_run : (rules : Rules) (from : Origin) (k : KnownValue) (n : ℕ) → from.frames ≤ n → run_since rules from (best_rows_below k (n + 1)) ≡ frame_of rules (joined rules (best_row k n)) (run_since rules from (best_rows_below k n))
 next_run rules from k n starts =
     let many : length (best_rows_below k n) ≡ n = length-map-range_with_len (best_row k) 0 n in
@@ -30,7 +30,7 @@ next_run rules from k n starts =
     ∙ ap (fold (λ s row. frame_of rules (joined rules row) s) from.machine) (drop-append-le from.frames (best_rows_below k n) (best_row k n ∷ []) (omega (arith, starts, many)))
     ∙ fold-append (λ s row. frame_of rules (joined rules row) s) from.machine (drop from.frames (best_rows_below k n)) (best_row k n ∷ [])
 
--- each machine that is kept is the serial run of the best rows before it
+-- each kept machine is the serial run of the best rows before it
 pub run_at : (from : Origin) (k : KnownValue) (t : TimelineValue) → IsTimeline t → IsRunOf from k t → (i : ℕ) → (i < length t.snapshots) ⊎ (IsAll t × (i ≤ length t.snapshots))
     → state_at t i ≡ run_since t.rules from (best_rows_below k (t.first + i))
 run_at from k t is run zero within =
@@ -110,11 +110,11 @@ back_run from k t n fits starts base best = record {
 
 -- ---- a frame is confirmed
 
--- the one that was run first
+-- one that was run before
 abbrev pub dropped : TimelineValue → TimelineValue
 dropped t = record t { first = t.first + 1; snapshots = drop 1 t.snapshots }
 
--- and one that is run only now
+-- one that is run only now
 abbrev pub extended : TimelineValue → Machine → TimelineValue
 extended t machine = record t { first = t.first + 1; ticks = t.ticks + 1; shown = machine; last_run = t.last_run + 1 }
 
@@ -185,7 +185,7 @@ snapped t row machine = record t { ticks = t.ticks + 1; shown = machine; snapsho
 abbrev pub passed : TimelineValue → Machine → TimelineValue
 passed t machine = record t { ticks = t.ticks + 1; shown = machine; last_run = t.last_run + 1 }
 
--- the one that is shown stands after the last snapshot
+-- the shown machine is the one after the last snapshot
 shown_last : (t : TimelineValue) → machine_at t (length t.snapshots) ≡ t.shown
 shown_last t = ap (machine_or t.shown) (slice_get_past t.snapshots (length t.snapshots) (omega arith))
 
@@ -200,7 +200,7 @@ snapped_machine t row machine i within =
     ap (machine_or machine) (slice_get-last t.snapshots (record { row = row; machine = t.shown }) i same) ∙ ap (machine_or t.shown) (sym o.1))
     (slice_get_cases t.snapshots i).1
 
--- a snapshot then is one of before, or the new one
+-- a snapshot after that is an old one, or the new one
 snapped_kept : (t : TimelineValue) (row : Row) (i : ℕ) (s : Snapshot) → slice_get (t.snapshots ++ (record { row = row; machine = t.shown }) ∷ []) i ≡ Some s
     → ((i < length t.snapshots) × (slice_get t.snapshots i ≡ Some s)) ⊎ ((i ≡ length t.snapshots) × (s ≡ record { row = row; machine = t.shown }))
 snapped_kept t row i s kept =
@@ -278,7 +278,7 @@ passed_run from k t machine is full run =
     let room = is.room in
     record { starts = run.starts; base = ap state (passed_machine t machine 0 (omega (arith, room, full))) ∙ run.base; rows = run.rows }
 
--- ---- of a ring
+-- ---- the ring
 
 pub last_but_one : {X : Type 0} (xs : List X) (n : ℕ) → n ≡ length xs → length xs ≢ 0 → keep_last (n - 1) xs ≡ drop 1 xs
 last_but_one xs n all some =

@@ -17,10 +17,10 @@ value_of roll = record {
   marks = roll.marks;
 }
 
--- the rows that the frames from the confirmed ones on were run with, as far as they are kept
+-- the kept rows with which the frames from the first unconfirmed one on were run
 abbrev pub rows_run : Roll → List Row
 rows_run roll = map (λ (s : Snapshot). s.row) roll.timeline.snapshots
 
--- how many frames the last call has run
+-- how many frames the last call ran
 abbrev pub last_run_of : Roll → ℕ
 last_run_of roll = roll.timeline.last_run

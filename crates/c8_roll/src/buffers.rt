@@ -1,4 +1,4 @@
-//! The room of a roll.
+//! The memory of a roll.
 ghost use Rattle.std.specs.Prelude.{◌≡◌, ◌+◌, IfOk};
 
 use crate::timeline::Snapshot;
@@ -9,8 +9,7 @@ use std::alloc::{AllocError, Global};
 use std::fmt;
 use std::marker::Model;
 
-/// All the memory that a roll takes: for its marks, and for a snapshot of each frame that its player
-/// may run ahead. Contracts see how many snapshots there is room for.
+/// All memory of a roll: for its marks, and for `window` + 1 snapshots. Contracts see the number of snapshots.
 #[derive(Drop)]
 pub struct Buffers {
     pub(crate) marks: Marks,
@@ -27,7 +26,7 @@ impl Model for Buffers {
     ghost invariant = { λ buffers. (buffers.marks ≡ []) × (buffers.snapshots.items ≡ []) };
 }
 
-/// For how many snapshots there is room.
+/// Prints the number of snapshots that fit.
 impl fmt::Debug for Buffers {
     fn fmt<W: fmt::Write>(&self, f: &mut fmt::Formatter<W>) -> fmt::Result {
         let room = self.snapshots.capacity();
@@ -36,7 +35,7 @@ impl fmt::Debug for Buffers {
 }
 
 impl Buffers {
-    /// The room of a roll over a game: its window and one snapshot more.
+    /// Reserves the memory of a roll: for `window` + 1 snapshots, and the marks.
     pub fn new(alloc: Global, game: &Game) -> Result<Buffers, AllocError>
         ensures { IfOk result (λ buffers. buffers ≡ game.now.window + 1) }
     {

@@ -1,5 +1,4 @@
-//! What callers may rest on that is no single call's, each the contract of a function that does
-//! nothing.
+//! Facts for callers that belong to no single call. Each is the contract of a function that does nothing.
 ghost use Rattle.std.specs.Prelude.{◌≡◌, ℕ, ◌+◌, ◌*◌, ◌/◌, ◌≤◌, List, Option, Some};
 ghost use Rattle.c8_game.specs.Rules.{Rules};
 ghost use Rattle.c8_digest.specs.Marks.{mark_step, newest_of};
@@ -20,16 +19,16 @@ pub fn the_newest_mark_is_at_the_last_step()
         ≡ Some (mark_after rules k (mark_step * (confirmed k / mark_step))) }
 {}
 
-/// Where the confirmed rows lead to an origin, the roll that is run from there is the one that is run from
-/// the first frame on; before the first frame there is such an origin.
+/// If the confirmed rows lead to an origin, the roll that is run from there is the roll that is run from the first
+/// frame. The origin before the first frame is such an origin.
 pub fn a_run_may_begin_on_the_way()
     ensures roll { (rules : Rules) (k : KnownValue) (from : Origin) → IsOnTheWay rules k from
         → roll_since rules from k ≡ roll_of rules k }
     ensures first { (rules : Rules) (k : KnownValue) → IsOnTheWay rules k (first_origin rules) }
 {}
 
-/// Of a player who is at most a window and one frame ahead: where the rows that were run are kept
-/// (`KeepsRows`), the answer of `settle` is the oldest frame whose best guess has changed.
+/// For a player at most `window` + 1 frames ahead, if the rows that were run are kept (`KeepsRows`): the answer of
+/// `settle` is the oldest frame whose best guess changed.
 pub fn the_answer_is_the_oldest_wrong_guess()
     ensures { (window : ℕ) (before now : KnownValue) (rows : List Row) (answer : Option ℕ)
         → KeepsRows window before rows → before.ticks ≤ confirmed before + window + 1

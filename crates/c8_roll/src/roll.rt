@@ -1,4 +1,4 @@
-//! A roll over a game.
+//! The roll of a game.
 ghost use Rattle.std.specs.Prelude.{◌≡◌, ◌+◌, ◌<◌, ◌≤◌, ℕ, Option, IfOk};
 ghost use Rattle.c8_machine.specs.State.{state};
 ghost use Rattle.c8_digest.specs.Origin.{origin_of};
@@ -15,14 +15,14 @@ use c8_machine::Machine;
 use std::alloc::{AllocError, Global};
 use std::fmt;
 
-/// What a player sees and what is certain, of one game.
+/// What a player sees of a game, and what is confirmed.
 #[derive(Drop)]
 pub struct Roll<'g> {
     timeline: Timeline<'g>,
     marks: Marks,
 }
 
-/// How many frames are confirmed and how many were run, and no machine.
+/// Prints how many frames are confirmed and how many were run, not the machines.
 impl<'g> fmt::Debug for Roll<'g> {
     fn fmt<W: fmt::Write>(&self, f: &mut fmt::Formatter<W>) -> fmt::Result {
         let (confirmed, ticks) = (self.timeline.first(), self.timeline.ticks());
@@ -33,7 +33,7 @@ impl<'g> fmt::Debug for Roll<'g> {
 impl<'g> Roll<'g> {
     ghost use Rattle.c8_roll.specs.Seen.{value_of, rows_run, last_run_of};
 
-    /// The roll of what is known. All frames are run. All its room is reserved here.
+    /// Makes the roll of what is known. It runs all frames, and reserves all its memory.
     pub fn open(alloc: Global, game: &'g Game, known: &Known) -> Result<Roll<'g>, AllocError>
         ensures roll { IfOk result (λ roll. value_of roll ≡ roll_of game.entry.now known.now) }
         ensures ticks { IfOk result (λ roll. (value_of roll).ticks ≡ known.now.ticks) }
@@ -44,9 +44,9 @@ impl<'g> Roll<'g> {
         Roll::open_at(alloc, game, known, &Checkpoint::start(game))
     }
 
-    /// The roll of what is known, run from a checkpoint on. Where that is on the way (`IsOnTheWay`: its
-    /// machine is the run of the confirmed rows, its marks are those of the run) it is the roll that
-    /// `open` makes. All its room is reserved here.
+    /// Makes the roll of what is known, and runs it from a checkpoint on. If the checkpoint is on the way
+    /// (`IsOnTheWay`: its machine and marks are those of the run of the confirmed rows), this is the roll that `open`
+    /// makes. It reserves all its memory.
     pub fn open_at(
         alloc: Global,
         game: &'g Game,
@@ -66,8 +66,8 @@ impl<'g> Roll<'g> {
         Ok(Roll::over(game, known, from, Buffers::new(alloc, game)?))
     }
 
-    /// The roll of what is known, run from a checkpoint on, in room that was reserved before; this takes
-    /// none.
+    /// Makes the roll of what is known in memory that is already reserved, and runs it from a checkpoint on. It takes
+    /// no memory.
     pub fn over(game: &'g Game, known: &Known, from: &Checkpoint, buffers: Buffers) -> Roll<'g>
         requires room { buffers ≡ game.now.window + 1 }
         requires confirmed { from.now.frames ≤ confirmed known.now }
@@ -85,8 +85,8 @@ impl<'g> Roll<'g> {
         Roll { timeline, marks }
     }
 
-    /// Goes on by one tick of the own player. Of the frames that were run before, those from the
-    /// oldest one whose best guess has changed are run again.
+    /// Goes on by one tick of the own player: runs the new frame, and resimulates from the oldest frame whose best
+    /// guess changed.
     pub fn advance(&mut self, known: &Known)
         requires { known.now.ticks ≡ (value_of self.old).ticks + 1 }
         ensures grows { GrowsTo (value_of self.old) (value_of self.new) known.now }
@@ -106,10 +106,11 @@ impl<'g> Roll<'g> {
         let _ = self.run(known);
     }
 
-    /// Takes what else is known now, where the own player made no tick. Answers the oldest frame
-    /// whose best guess is not the row that it was run with; from there on frames are run again.
-    /// Of a player who is further ahead than a window and one frame, the rows of the newest frames
-    /// are not kept: where no kept row differs, the answer is the last frame whose row is kept.
+    /// Takes inputs that came without a tick of the own player. Returns the oldest frame whose best guess is no longer
+    /// the row that was run, and resimulates from there.
+    ///
+    /// If the player is more than `window` + 1 frames ahead, the rows of the newest frames are not kept. Then, if no
+    /// kept row differs, it returns the last frame whose row is kept.
     pub fn settle(&mut self, known: &Known) -> Option<u32>
         requires { known.now.ticks ≡ (value_of self.old).ticks }
         ensures grows { GrowsTo (value_of self.old) (value_of self.new) known.now }
@@ -154,28 +155,28 @@ impl<'g> Roll<'g> {
         oldest
     }
 
-    /// How many ticks the own player has made.
+    /// Returns how many ticks the own player has made.
     pub fn ticks(&self) -> u32
         ensures { result ≡ (value_of self.now).ticks }
     {
         self.timeline.ticks()
     }
 
-    /// How many frames the last call has run: `open` or `over`, `advance` or `settle`.
+    /// Returns how many frames the last call ran: `open`, `open_at`, `over`, `advance` or `settle`.
     pub fn last_run(&self) -> u32
         ensures { result ≡ last_run_of self.now }
     {
         self.timeline.last_run()
     }
 
-    /// The machine that the player sees.
+    /// Returns the machine that the player sees.
     pub fn shown(&self) -> &Machine
         ensures { state result.now ≡ (value_of self.now).shown }
     {
         self.timeline.shown()
     }
 
-    /// How many frames are confirmed, and the machine after them.
+    /// Returns how many frames are confirmed, and the machine after them.
     pub fn base(&self) -> (u32, &Machine)
         ensures confirmed { result.0 ≡ (value_of self.now).confirmed }
         ensures machine { state result.1.now ≡ (value_of self.now).base }
@@ -183,7 +184,7 @@ impl<'g> Roll<'g> {
         (self.timeline.first(), self.timeline.base())
     }
 
-    /// The marks of the confirmed machine, at the last sixteen multiples of 32 frames.
+    /// Returns the marks of the confirmed machine at the last sixteen multiples of 32 frames.
     pub fn marks(&self) -> &Marks
         ensures { result.now ≡ (value_of self.now).marks }
     {

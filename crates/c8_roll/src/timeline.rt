@@ -1,4 +1,4 @@
-//! The frames that were run, and the machines to go back to.
+//! The frames that were run, and the snapshots to roll back to.
 ghost use Rattle.std.specs.Prelude.{◌≡◌, ◌+◌, ◌<◌, ◌≤◌, ◌^◌, ℕ, [], length, MatchOption, IfSome};
 ghost use Rattle.circular_buffer.specs.Buffer.{buffer};
 ghost use Rattle.c8_game.specs.Rules.{joined};
@@ -20,14 +20,16 @@ use std::marker::Model;
 /// The machine before a frame, and the row that was run from it.
 #[derive(Clone, Copy)]
 pub(crate) struct Snapshot {
-    // First, so that it is copied once, straight into its place in the ring.
+    // The machine is first, so that it is copied once, directly into its place in the ring.
     machine: Machine,
     row: Row,
 }
 
-/// The frames that were run on the best guess: the machine after the last, and a snapshot of each
-/// that is not confirmed. The first snapshot is the confirmed machine; where there is none, the
-/// machine after the last frame is. Of frames further ahead than there is room for, none is kept.
+/// The frames that were run on the best guess: the machine after the last one, and a snapshot for each unconfirmed
+/// frame.
+///
+/// The first snapshot is the confirmed machine; without snapshots, the machine after the last frame is. Frames for
+/// which the ring has no room have no snapshot.
 #[derive(Drop)]
 pub(crate) struct Timeline<'g> {
     game: &'g Game,
@@ -66,7 +68,7 @@ impl<'g> Model for Timeline<'g> {
 }
 
 impl<'g> Timeline<'g> {
-    /// No frame has been run since the checkpoint.
+    /// Makes the timeline at a checkpoint, with no frame run after it.
     pub(crate) fn new(
         game: &'g Game,
         from: &Checkpoint,
@@ -85,35 +87,35 @@ impl<'g> Timeline<'g> {
         }
     }
 
-    /// How many frames are confirmed.
+    /// Returns how many frames are confirmed.
     pub(crate) fn first(&self) -> u32
         ensures { result ≡ self.now.first }
     {
         self.first
     }
 
-    /// How many frames were run.
+    /// Returns how many frames were run.
     pub(crate) fn ticks(&self) -> u32
         ensures { result ≡ self.now.ticks }
     {
         self.ticks
     }
 
-    /// How many frames were run in the last call.
+    /// Returns how many frames the last call ran.
     pub(crate) fn last_run(&self) -> u32
         ensures { result ≡ self.now.last_run }
     {
         self.last_run
     }
 
-    /// The machine after the last frame.
+    /// Returns the machine after the last frame.
     pub(crate) fn shown(&self) -> &Machine
         ensures { state result.now ≡ state self.now.shown }
     {
         &self.shown
     }
 
-    /// The machine after the confirmed frames.
+    /// Returns the machine after the confirmed frames.
     pub(crate) fn base(&self) -> &Machine
         ensures { state result.now ≡ state_at self.now 0 }
     {
@@ -123,8 +125,8 @@ impl<'g> Timeline<'g> {
         }
     }
 
-    /// The place of the first snapshot whose row is not the best guess any more. If there is none,
-    /// but frames were run of which none is kept, the place of the last snapshot.
+    /// Returns the place of the first snapshot whose row is no longer the best guess. If there is none, but frames
+    /// without a snapshot were run, returns the place of the last snapshot.
     fn change(&self, known: &Known) -> Option<u32>
         ensures none { MatchOption result
             (IsAll self.now × AreBest self.now known.now (length self.now.snapshots))
@@ -146,8 +148,8 @@ impl<'g> Timeline<'g> {
 }
 
 impl<'g> Timeline<'g> {
-    /// Goes back to the oldest frame whose best guess is not the row that was run, if there is one
-    /// (`change`), and forgets what was run from there on.
+    /// Rolls back to the oldest frame whose best guess is no longer the row that was run (`change`), and drops what was
+    /// run from there on. Returns that frame, or `None` if there is none.
     pub(crate) fn go_back(&mut self, known: &Known) -> Option<u32>
         ensures was { IsTimeline self.old }
         ensures back { self.new ≡ back_at self.old (length self.new.snapshots) }
@@ -169,7 +171,7 @@ impl<'g> Timeline<'g> {
         Some(self.ticks)
     }
 
-    /// One frame more is confirmed. If it has not been run, it is run now, and no snapshot kept.
+    /// Confirms one more frame. If it was not run yet, it is run now, without a snapshot.
     fn confirm(&mut self, row: &Row)
         requires all { IsAll self.old }
         requires few { self.old.first + 1 < 2 ^ 32 }
@@ -193,7 +195,7 @@ impl<'g> Timeline<'g> {
         self.first += 1;
     }
 
-    /// One frame more is run, and a snapshot kept if there is room.
+    /// Runs one more frame, and keeps a snapshot if there is room.
     fn run(&mut self, row: Row)
         requires few { self.old.ticks + 1 < 2 ^ 32 }
         ensures is { IsTimeline self.new }
@@ -215,7 +217,7 @@ impl<'g> Timeline<'g> {
         self.last_run += 1;
     }
 
-    /// Confirms the frames that are confirmed now, and notes the marks on the way.
+    /// Confirms the frames that are confirmed now, and adds their marks.
     pub(crate) fn confirm_all(&mut self, known: &Known, marks: &mut Marks)
         requires { IsAll self.old }
         ensures all { IsAll self.new }
@@ -242,7 +244,7 @@ impl<'g> Timeline<'g> {
         }
     }
 
-    /// Runs the frames up to the own player's last tick on the best guess.
+    /// Runs the frames up to the own player's last tick, on the best guess.
     pub(crate) fn run_on(&mut self, known: &Known)
         requires { IsAll self.old }
         ensures is { IsTimeline self.new }

@@ -1,4 +1,4 @@
--- What it means that a leaver may be cut, and what a report changes.
+-- When a leaver may be cut, and what an answer changes.
 use Rattle.std.proofs.Common.{◌≡◌, ◌≢◌, ℕ, ◌+◌, ◌-◌, ◌≤◌, ◌⊎◌, inl, inr, List, [], length, Bool, true, false, not, ◌&&◌, ◌||◌, Option, Some, None, refl, sym, ap, ◌∙◌, subst, arith, slice_index_or, slice_set}
 use Rattle.std.specs.Prelude.{max}
 use Rattle.std.specs.List.{range_with_len, list_all, AllPass}
@@ -57,7 +57,7 @@ raised_is (Some before) held n e =
       | inr new ↦ inr (cc (new, e))
     ]
 
--- an entry of a table that was set at a place
+-- an entry of a table after one was set
 set_is : {X : Type 0} (xs : List X) (place other : ℕ) (x d : X) → (slice_index_or (slice_set xs place x) other d ≡ slice_index_or xs other d)
     ⊎ ((other ≡ place) × (slice_index_or (slice_set xs place x) other d ≡ x))
 set_is xs place other x d =
@@ -88,7 +88,7 @@ report_is c leaver stayer held l s n e =
           ]
     ]
 
--- a test that fails at one number of a range
+-- a test that fails for one number of a range fails for the range
 pub fails_at : (test : ℕ → Bool) (n m : ℕ) → 1 ≤ m → m ≤ n → test m ≡ false → list_all test (range_with_len 1 n) ≡ false
 fails_at test n m from to fails =
     false_from_ne_true (list_all test (range_with_len 1 n)) (λ all.

@@ -1,4 +1,4 @@
-//! What player one keeps of a drop round.
+//! Player 1's part in a drop round.
 ghost use Rattle.std.specs.Prelude.{◌≡◌, ◌||◌, not, length, Some};
 ghost use Rattle.std.specs.List.{list_all, range_with_len};
 ghost use Rattle.c8_known.specs.Known.{count_in, Plays};
@@ -8,7 +8,7 @@ use c8_game::{MOST_PLAYERS, Player};
 use c8_known::Known;
 use std::marker::Model;
 
-/// What each player has answered of each leaver: how many of its inputs it holds.
+/// The answers of each player for each leaver: how many of the leaver's inputs the player holds.
 #[derive(Debug, Drop)]
 pub struct Chair {
     reports: [[Option<u32>; MOST_PLAYERS]; MOST_PLAYERS],
@@ -23,7 +23,7 @@ impl Model for Chair {
 }
 
 impl Chair {
-    /// Nobody has answered.
+    /// Makes the state without answers.
     pub fn new() -> Chair
         ensures { result ≡ no_reports }
     {
@@ -32,7 +32,7 @@ impl Chair {
         }
     }
 
-    /// Takes a player's answer that it holds so many of a leaver's inputs. The greatest counts.
+    /// Takes a player's answer that it holds `held` of a leaver's inputs. The greatest answer counts.
     pub fn report(&mut self, stayer: Player, leaver: Player, held: u32)
         ensures { self.new ≡ with_report self.old leaver.number stayer.number held }
     {
@@ -41,9 +41,8 @@ impl Chair {
         *answer = Some(raised(*answer, held));
     }
 
-    /// Whether the leaver may be cut: a LEAVE of it stands, and each player other than player one
-    /// of whom no LEAVE stands has answered with no more inputs than player one holds. Silence is
-    /// no answer.
+    /// Returns whether the leaver may be cut: player 1 has a LEAVE of it, and each other player without a LEAVE has
+    /// answered with at most as many inputs as player 1 holds. A player that has not answered is waited for.
     #[tactic(auto, unfolding(crate::specs::Round::is_ready))]
     pub fn ready(&self, leaver: Player, known: &Known) -> bool
         requires { Plays known.now leaver.number }
@@ -66,7 +65,7 @@ impl Chair {
         true
     }
 
-    /// Whether nothing is to be waited for from a player.
+    /// Returns whether the round waits for nothing from a player.
     fn is_settled(&self, player: Player, leaver: Player, known: &Known) -> bool
         requires leaver { Plays known.now leaver.number }
         requires player { Plays known.now player.number }
@@ -83,7 +82,7 @@ impl Chair {
         }
     }
 
-    /// Where the inputs start that a CUT brings to a player: after those that it answered to hold.
+    /// Returns the start of the inputs that a CUT brings to a player: after those that it answered to hold.
     pub fn owed(&self, stayer: Player, leaver: Player, known: &Known) -> u32
         requires { Plays known.now leaver.number }
         ensures { result ≡ owed self.now known.now stayer.number leaver.number }
@@ -97,7 +96,7 @@ impl Chair {
     }
 }
 
-/// The greater number, where there was one.
+/// Returns the greater number, or `number` if there was none.
 pub(crate) fn raised(before: Option<u32>, number: u32) -> u32
     ensures { raised before number ≡ Some result }
 {

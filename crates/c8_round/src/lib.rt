@@ -1,10 +1,9 @@
-//! The drop round: how player one lets a player go, so that all who stay keep the same inputs of it.
+//! The drop round: after player 1 drops a player, it makes all who stay keep the same inputs of that player.
 //!
-//! Player one lets a player go; each who stays answers how many of the leaver's inputs it holds;
-//! once player one holds as many as each of them, it cuts the leaver's list there. `Chair` is what
-//! player one keeps of it, `Stayer` what each other player does; both are in memory alone and begin
-//! anew with each opening. The definitions are in `specs/Round.antt`, and `laws` has what follows
-//! from them. Nothing here takes memory.
+//! Each player that stays answers how many of the leaver's inputs it holds. Once player 1 holds as many as each of
+//! them, it cuts the leaver's list there. `Chair` is player 1's part, `Stayer` the part of each other player. Both are
+//! in memory only, and each opening starts with empty ones. The definitions are in `specs/Round.antt`; `laws` has what
+//! follows. Nothing here takes memory.
 #![tactic(auto)]
 
 mod chair;

@@ -1,4 +1,4 @@
-//! What a player who stays keeps of a drop round.
+//! The part in a drop round of a player that stays.
 ghost use Rattle.std.specs.Prelude.{◌≡◌};
 ghost use Rattle.c8_known.specs.Known.{Plays};
 ghost use Rattle.c8_round.specs.Round.{no_haves, with_have, answer_from};
@@ -8,7 +8,7 @@ use c8_game::{MOST_PLAYERS, Player};
 use c8_known::Known;
 use std::marker::Model;
 
-/// How many of each leaver's inputs player one said to hold.
+/// How many of each leaver's inputs player 1 said that it holds.
 #[derive(Debug, Drop)]
 pub struct Stayer {
     haves: [Option<u32>; MOST_PLAYERS],
@@ -23,7 +23,7 @@ impl Model for Stayer {
 }
 
 impl Stayer {
-    /// Player one has said nothing.
+    /// Makes the state before player 1 has said anything.
     pub fn new() -> Stayer
         ensures { result ≡ no_haves }
     {
@@ -32,7 +32,7 @@ impl Stayer {
         }
     }
 
-    /// Player one said to hold so many of a leaver's inputs. The greatest counts.
+    /// Notes that player 1 said that it holds `have` of a leaver's inputs. The greatest number counts.
     pub fn told(&mut self, leaver: Player, have: u32)
         ensures { self.new ≡ with_have self.old leaver.number have }
     {
@@ -40,8 +40,7 @@ impl Stayer {
         *known = Some(raised(*known, have));
     }
 
-    /// Where the inputs start that an answer brings to player one: after those that it said to
-    /// hold.
+    /// Returns the start of the inputs that an answer brings to player 1: after those that it said it holds.
     pub fn from(&self, leaver: Player, known: &Known) -> u32
         requires { Plays known.now leaver.number }
         ensures { result ≡ answer_from self.now known.now leaver.number }

@@ -1,4 +1,4 @@
--- What drawing does to the set of lit points, by the rows that it changes.
+-- How drawing changes the set of lit points, row by row.
 use Rattle.std.proofs.Common.{◌≡◌, ℕ, zero, suc, ◌+◌, ◌-◌, ◌*◌, ◌%◌, ◌^◌, ◌<◌, ◌≤◌, ◌&&◌, Bool, true, false, not, cond, min, nat_eq, nat_lt, nat_le, List, length, get_or, bit_and, bit_xor, refl, sym, ap, ◌∙◌, inl, inr, arith, add-zero}
 use Rattle.std.proofs.Math.Path.{fun_ext}
 use Rattle.std.proofs.lemmas.Bool.{cases_lt, cases_Bool, or_cases, or_left, or_right, not-true, not-false, eqb-false, ltb-true, cond-true, cond-false, le-leb, lt-leb, lt-ltb, le-ltb, eqb-true, eq-eqb, and_parts, and_from, and_left, and_right, false_from_ne_true, true≢false}
@@ -9,7 +9,7 @@ use Rattle.std.specs.Int.{w64, bit_at, trailing_zeros}
 use Rattle.c8_screen.specs.Points.{Points, row_has, points_of, sprite, clipped, exclusive_or, meets}
 use Rattle.c8_screen.specs.checked.Strip.{strip}
 
--- ---- a strip's points
+-- ---- the points of a strip
 
 -- the points of a byte whose leftmost one is in column `left`
 abbrev has : ℕ → ℕ → ℕ → Bool
@@ -88,7 +88,7 @@ have_both a b x left right none =
     let one : min (bit_at a (63 - x)) (bit_at b (63 - x)) ≡ 0 = sym (bit_at_and a b (63 - x)) ∙ ap (λ n. bit_at n (63 - x)) zero_and ∙ bit_at-zero (63 - x) in
     omega (arith, one, eqb-true _ _ left, eqb-true _ _ right)
 
--- ---- whether a number of a range passes a test
+-- ---- whether a number in a range passes a test
 
 any_at : (p : ℕ → Bool) (from n k : ℕ) → from ≤ k → k < from + n → p k ≡ true → list_any p (range_with_len from n) ≡ true
 any_at p from zero k low high passes = absurd (omega arith)
@@ -130,7 +130,7 @@ pub record IsDrawn (initial rows bytes : List ℕ) (left top k : ℕ) (met : Boo
   pub some : met ≡ true → Common initial bytes left top k
   pub none : met ≡ false → (j : ℕ) → j < k → common initial bytes left top j ≡ false
 
--- ---- the points after all of them
+-- ---- the points after all bytes
 
 and_true : (c d : Bool) → d ≡ true → (c && d) ≡ c
 and_true true d e = e

@@ -1,4 +1,4 @@
--- What the points of a screen are, by its rows.
+-- The points of a screen, by its rows.
 use Rattle.std.proofs.Common.{◌≡◌, ℕ, ◌-◌, ◌&&◌, Bool, true, false, nat_eq, nat_lt, cond, get_or, refl, ap, ◌∙◌, inl, inr}
 use Rattle.std.proofs.Math.ListN.{replicate}
 use Rattle.std.proofs.Math.Path.{fun_ext}
@@ -7,7 +7,7 @@ use Rattle.std.proofs.lemmas.Bool.{cases_lt}
 use Rattle.std.proofs.lemmas.Nat.Bits.{bit_at-zero}
 use Rattle.c8_screen.specs.Points.{points_of, no_points, row_has}
 
--- each of 32 rows of nothing is nothing, and so is what lies past them
+-- each of 32 zero rows is zero, and so is every row beyond them
 zero_row : (y : ℕ) → get_or {A = ℕ} (replicate 32 0) y 0 ≡ 0
 zero_row y = elim (cases_lt y 32) [ inl within ↦ get_or-replicate 32 y 0 0 within | inr past ↦ get_or_past (replicate 32 0) y 0 past ]
 

@@ -4,18 +4,18 @@ use Rattle.std.specs.List.{list_any, range_with_len}
 use Rattle.std.specs.Int.{bit_at}
 use Rattle.c8_screen.specs.declared.Screen.{Screen}
 
--- how many points a row has, and how many rows a screen has
+-- the number of points in a row, and of rows on a screen
 abbrev pub width : ℕ
 width = 64
 
 abbrev pub height : ℕ
 height = 32
 
--- a set of points: whether it has the point in column x of row y, both counted from the upper left
+-- a set of points: whether it has the point in column x of row y, counted from the upper left
 abbrev pub Points : Type 0
 Points = ℕ → ℕ → Bool
 
--- the set that has no point
+-- the empty set of points
 abbrev pub no_points : Points
 no_points x y = false
 
@@ -23,7 +23,7 @@ no_points x y = false
 abbrev pub row_has : ℕ → ℕ → Bool
 row_has row x = bit_at row (63 - x) == 1
 
--- the points that rows have within 64 columns and 32 rows
+-- the points of these rows, within 64 columns and 32 rows
 abbrev pub points_in : List ℕ → Points
 points_in rows x y = if nat_lt x width && nat_lt y height then row_has (slice_index rows y) x else false
 
@@ -31,8 +31,8 @@ points_in rows x y = if nat_lt x width && nat_lt y height then row_has (slice_in
 abbrev pub points_of : Screen → Points
 points_of screen = points_in screen.rows
 
--- the points of a sprite of n rows of 8 points each, a byte a row with its highest bit leftmost, whose
--- upper left point is in column `left` of row `top`
+-- the points of a sprite of n rows of 8 points, whose upper left point is in column `left` of row `top`; a row is a
+-- byte, its highest bit leftmost
 abbrev pub sprite : ℕ → (ℕ → ℕ) → ℕ → ℕ → Points
 sprite n bytes left top x y =
     if (nat_le left x && nat_lt x (left + 8)) && (nat_le top y && nat_lt y (top + n)) then bit_at (bytes (y - top)) (7 - (x - left)) == 1 else false
@@ -41,11 +41,11 @@ sprite n bytes left top x y =
 abbrev pub clipped : Points → Points
 clipped points x y = if nat_lt x width && nat_lt y height then points x y else false
 
--- the points of a set all lie on the screen
+-- all points of the set lie on the screen
 abbrev pub AreOnScreen : Points → Type 0
 AreOnScreen points = (x y : ℕ) → points x y ≡ true → (x < width) × (y < height)
 
--- the points that are in one set or the other, and not in both
+-- the points that are in exactly one of two sets
 abbrev pub exclusive_or : Points → Points → Points
 exclusive_or a b x y = if b x y then not (a x y) else a x y
 

@@ -10,7 +10,7 @@ use Rattle.c8_game.specs.declared.row.Row.{Row}
 use Rattle.c8_spectator.specs.Watching.{WatchValue, is_of_game, are_of_game, are_same, differ, taken_of, with_rows}
 use Rattle.c8_spectator.specs.declared.taken.Taken.TheVariants as answers
 
--- the item at a place comes first of those from the place on
+-- the item at a place, and those after it
 pub drop_one : {X : Type 0} (n : ℕ) (xs : List X) (x : X) → slice_get xs n ≡ Some x → drop n xs ≡ x ∷ drop (n + 1) xs
 drop_one {X = X} n xs x is = drop_more xs n x (slice_get_within xs n x is) ∙ ap (λ (y : X). y ∷ drop (n + 1) xs) (get_or_from_slice_get xs n x x is)
 
@@ -79,7 +79,7 @@ differ_past n rows others past =
 pub with_one_more : (w : WatchValue) (row : Row) (rows : List Row) → with_rows (with_rows w (row ∷ [])) rows ≡ with_rows w (row ∷ rows)
 with_one_more w row rows = ap (λ (all : List Row). record w { rows = all }) (append_assoc w.rows (row ∷ []) rows)
 
--- where all that are left have room, the next has
+-- if all remaining rows have room, the next one has
 pub has_room : (now first : WatchValue) (left all : List Row) → with_rows now left ≡ with_rows first all → 0 < length left → length first.rows + length all ≤ first.rules.frames
     → length now.rows < now.rules.frames
 has_room now first left all same some fits =

@@ -1,4 +1,4 @@
--- The numbers of the refusals, as a program prints them.
+-- The numbers of the errors, as programs print them.
 use Rattle.std.specs.Prelude.{ℕ}
 use Rattle.c8_spectator.specs.declared.error.WatchError.{WatchError}
 use Rattle.c8_spectator.specs.declared.error.WatchError.TheVariants as errors

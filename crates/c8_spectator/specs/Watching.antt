@@ -1,4 +1,4 @@
--- What a watcher has of a match, and what it makes of the datagrams that it hears.
+-- What a watcher has of a match, and what it does with datagrams.
 use Rattle.std.specs.Prelude.{ℕ, ◌+◌, ◌-◌, ◌==◌, ◌||◌, List, [], ◌∷◌, ◌++◌, length, drop, Bool, false, not, nat_lt, Option, Some, None, Result, Ok, Err, if◌then◌else◌}
 use Rattle.std.specs.List.{list_all}
 use Rattle.c8_game.specs.Rules.{Rules, session_of, set_at}
@@ -15,42 +15,42 @@ use Rattle.c8_spectator.specs.declared.error.NotTaken.TheVariants as refusals
 use Rattle.c8_spectator.specs.declared.taken.Taken.{Taken}
 use Rattle.c8_spectator.specs.declared.taken.Taken.TheVariants as answers
 
--- the match that is watched from a seat, 5 or 6, and the rows that were taken, from frame 0 on
+-- the match, the seat (5 or 6), and the rows that were taken, from frame 0 on
 pub record WatchValue : Type 0 where
   pub rules : Rules
   pub room : ℕ
   pub seat : ℕ
   pub rows : List Row
 
--- a watcher begins with no rows
+-- a watcher starts without rows
 abbrev pub first_watch : Rules → ℕ → ℕ → WatchValue
 first_watch rules room seat = record { rules = rules; room = room; seat = seat; rows = [] }
 
--- ---- what is refused, in the order in which it is judged
+-- ---- refusals, in the order of judging
 
--- a datagram of another match, or in another version of the format than the game's
+-- a datagram of another match, or in another version than the game's
 abbrev pub is_of_other_match : WatchValue → HeadValue → Bool
 is_of_other_match w head = not (head.session == session_of w.rules w.room) || not (version_number head.version == version_number w.rules.wire)
 
--- a player who is not in the game holds no keys
+-- players who are not in the game hold no keys
 abbrev pub is_of_game : Rules → Row → Bool
 is_of_game rules row = list_all (λ place. nat_lt place rules.players || set_at row place == 0) (0 ∷ 1 ∷ 2 ∷ 3 ∷ [])
 
 abbrev pub are_of_game : Rules → List Row → Bool
 are_of_game rules rows = list_all (is_of_game rules) rows
 
--- the four key sets of two rows are the same
+-- two rows have the same four key sets
 abbrev pub are_same : Row → Row → Bool
 are_same a b = list_all (λ place. set_at a place == set_at b place) (0 ∷ 1 ∷ 2 ∷ 3 ∷ [])
 
--- two lists of rows differ where both have a row
+-- two lists of rows differ at a place where both have a row
 unfoldable pub differ : List Row → List Row → Bool
 differ [] others = false
 differ (row ∷ rows) [] = false
 differ (row ∷ rows) (other ∷ others) = not (are_same row other) || differ rows others
 
--- of rows from a start on: one has keys of a player who is not in the game; they go past the last frame; there is a gap
--- before them; or one is not the row that was taken
+-- why rows are refused: one has keys of a player who is not in the game; they go beyond the last frame; there is a gap
+-- before them; or one differs from the row that was taken
 unfoldable pub refusal_of_rows : WatchValue → ShowMessage → Option WatchError
 refusal_of_rows w m =
     if not (are_of_game w.rules m.rows) then Some errors.Absent
@@ -58,7 +58,7 @@ refusal_of_rows w m =
     else (if nat_lt (length w.rows) m.start then Some errors.Gap
     else (if differ (drop m.start w.rows) m.rows then Some errors.Differs else None)))
 
--- what is no SHOW to this seat is not the watcher's
+-- only a SHOW to this seat is for the watcher
 abbrev pub refusal_of_message : WatchValue → HeadValue → Message → Option WatchError
 refusal_of_message w head packets.Hello = Some errors.NotMine
 refusal_of_message w head (packets.Welcome ack) = Some errors.NotMine
@@ -72,13 +72,13 @@ refusal_of_message w head (packets.Seen ack) = Some errors.NotMine
 abbrev pub refusal : WatchValue → Packet → Option WatchError
 refusal w p = if is_of_other_match w p.head then Some errors.Session else refusal_of_message w p.head p.message
 
--- ---- what is taken
+-- ---- what a watcher takes
 
--- those of the rows from a start on that come after what the watcher has
+-- the rows that come after those that the watcher has
 abbrev pub fresh_rows : WatchValue → ShowMessage → List Row
 fresh_rows w m = drop (length w.rows - m.start) m.rows
 
--- the new rows that a message brings: none but those of a SHOW
+-- the new rows of a message: only a SHOW has some
 abbrev pub rows_in : WatchValue → Message → List Row
 rows_in w packets.Hello = []
 rows_in w (packets.Welcome ack) = []
@@ -92,7 +92,7 @@ rows_in w (packets.Seen ack) = []
 abbrev pub with_rows : WatchValue → List Row → WatchValue
 with_rows w rows = record w { rows = w.rows ++ rows }
 
--- an answer, and what the watcher has after it
+-- an answer, and the watcher after it
 pub record Watched : Type 0 where
   pub answer : Result Taken NotTaken
   pub watch : WatchValue
@@ -105,14 +105,14 @@ abbrev pub unless_refused : WatchValue → Message → Option WatchError → Wat
 unless_refused w message (Some error) = record { answer = Err (refusals.Watch error); watch = w }
 unless_refused w message None = record { answer = Ok (taken_of (rows_in w message)); watch = with_rows w (rows_in w message) }
 
--- what bytes say is heard: a packet, or the wire's refusal
+-- a watcher takes a packet, or bytes that the wire refuses
 abbrev pub hear : WatchValue → Result Packet WireError → Watched
 hear w (Err error) = record { answer = Err (refusals.Wire error); watch = w }
 hear w (Ok p) = unless_refused w p.message (refusal w p)
 
--- ---- what is said
+-- ---- what a watcher says
 
--- a watcher tells player one how many rows it has; neither has an epoch here
+-- a watcher acknowledges to player 1 how many rows it has; both epochs are 0
 abbrev pub seen : WatchValue → Packet
 seen w = record {
   head = record {

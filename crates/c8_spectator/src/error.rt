@@ -5,31 +5,31 @@ ghost use Rattle.c8_spectator.specs.Errors.{number_of};
 use c8_wire::WireError;
 use thiserror::Error;
 
-/// The first reason, in this order, why a watcher does not take a datagram.
+/// Why a watcher does not take a datagram: the first of these that applies, in this order.
 #[derive(Clone, Copy, Debug, PartialEq, Eq, Hash, Error)]
 pub enum WatchError {
-    /// It belongs to another match, or is in another version of the format than the game's.
+    /// It is of another match, or in another version of the format than the game's.
     #[error("from another match, or in another version of the format")]
     Session,
-    /// It is no SHOW, or not for this seat.
+    /// It is not a SHOW, or not for this seat.
     #[error("no rows for this watcher")]
     NotMine,
     /// A row has keys of a player who is not in the game.
     #[error("keys of a player who is not in the game")]
     Absent,
-    /// The rows go past the last frame of the game.
+    /// The rows go beyond the last frame of the game.
     #[error("rows past the last frame")]
     Full,
     /// Rows are missing between those that the watcher has and these.
     #[error("rows are missing before these")]
     Gap,
-    /// A row is not the one that the watcher has of that frame.
+    /// A row differs from the one that the watcher has of that frame.
     #[error("a row that differs from the one that was taken")]
     Differs,
 }
 
 impl WatchError {
-    /// The number that stands for it in what a program prints.
+    /// Returns the number of the error, as programs print it.
     pub fn number(self) -> u8
         ensures { result ≡ number_of self }
     {
@@ -55,7 +55,7 @@ impl WatchError {
     }
 }
 
-/// Why bytes are not taken: they are no datagram, or none that the watcher takes.
+/// Why bytes are not taken: they are not a datagram, or the watcher refuses it.
 #[derive(Clone, Copy, Debug, PartialEq, Eq, Hash, Error)]
 pub enum NotTaken {
     #[error("{0}")]

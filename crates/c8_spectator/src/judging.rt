@@ -1,4 +1,4 @@
-//! Whether shown rows may be taken. They are read where they lie.
+//! Judges the rows of a SHOW, in the buffer of the datagram.
 ghost use Rattle.std.specs.Prelude.{◌≡◌, ◌==◌, ◌||◌, nat_lt};
 ghost use Rattle.c8_wire.specs.Lent.{shown};
 ghost use Rattle.c8_spectator.specs.Watching.{is_of_game, are_of_game, are_same, differ};
@@ -6,7 +6,7 @@ ghost use Rattle.c8_spectator.specs.Watching.{is_of_game, are_of_game, are_same,
 use c8_game::{Game, Keys, Row};
 use c8_wire::ShownRows;
 
-/// Whether no shown row has keys of a player who is not in the game.
+/// Returns whether no row has keys of a player who is not in the game.
 pub(crate) fn are_of_game(game: &Game, rows: ShownRows<'_>) -> bool
     ensures { result ≡ are_of_game game.now (shown rows.entry) }
 {
@@ -18,7 +18,7 @@ pub(crate) fn are_of_game(game: &Game, rows: ShownRows<'_>) -> bool
     true
 }
 
-/// Whether a row has no keys of a player who is not in the game.
+/// Returns whether a row has no keys of a player who is not in the game.
 fn is_of_game(game: &Game, row: &Row) -> bool
     ensures { result ≡ is_of_game game.now row.now }
 {
@@ -30,15 +30,14 @@ fn is_of_game(game: &Game, row: &Row) -> bool
         && may_hold(players, 3, four)
 }
 
-/// Whether the keys at a place are those of a player of the game, or none.
+/// Returns whether these are the keys of a player of the game, or none.
 fn may_hold(players: u8, place: u8, keys: Keys) -> bool
     ensures { result ≡ (nat_lt place players || keys.0 == 0) }
 {
     place < players || keys.0 == 0
 }
 
-/// Whether some shown row is not the one that was taken of its frame: the first of them is of the frame
-/// of the first of those.
+/// Returns whether some row of a SHOW differs from the row taken for its frame. Both lists start at the same frame.
 pub(crate) fn differ(taken: &[Row], rows: ShownRows<'_>) -> bool
     ensures { result ≡ differ taken.now (shown rows.entry) }
 {
@@ -50,7 +49,7 @@ pub(crate) fn differ(taken: &[Row], rows: ShownRows<'_>) -> bool
     false
 }
 
-/// Whether the four key sets of two rows are the same.
+/// Returns whether two rows have the same four key sets.
 fn are_same(row: &Row, other: &Row) -> bool
     ensures { result ≡ are_same row.now other.now }
 {

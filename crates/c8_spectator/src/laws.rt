@@ -1,5 +1,5 @@
-//! What callers may rest on that is no single call's: laws of watching, each the contract of a function
-//! that does nothing.
+//! Facts for callers that belong to no single call: laws of watching. Each is the contract of a function that does
+//! nothing.
 ghost use Rattle.std.specs.Prelude.{◌≡◌, ◌≢◌, ◌+◌, ◌<◌, ◌≤◌, ◌++◌, List, length, Ok, Err, Result};
 ghost use Rattle.c8_game.specs.declared.row.Row.{Row};
 ghost use Rattle.c8_known.specs.Growth.{Begins, Stands};
@@ -13,21 +13,21 @@ ghost use Rattle.c8_spectator.specs.declared.taken.Taken.TheVariants as answers;
 ghost use Rattle.c8_spectator.specs.Watching.{WatchValue, fresh_rows, taken_of, hear};
 ghost use Rattle.c8_spectator.specs.Growth.{IsStillWatched, IsTaken, ShowsRowsOf};
 
-/// Whatever is heard, no row is taken back, and the same match is watched from the same seat.
+/// No datagram takes a row back, or changes the match or the seat.
 pub fn what_is_heard_takes_nothing_back()
     ensures { (w : WatchValue) (told : Result Packet WireError)
         → IsStillWatched w (hear w told).watch }
 {}
 
-/// What was watched and is still watched later is still watched later again.
+/// "Still watched" is reflexive and transitive.
 pub fn what_is_still_watched_chains()
     ensures same { (w : WatchValue) → IsStillWatched w w }
     ensures more { (a b c : WatchValue) → IsStillWatched a b → IsStillWatched b c
         → IsStillWatched a c }
 {}
 
-/// A packet is taken exactly if it is a SHOW of the match to this seat, of rows of the game that leave no
-/// gap and differ from none that is there. Those of its rows that are new are then there, up to its last.
+/// A packet is taken exactly if it is a SHOW of the match to this seat, with rows of the game that leave no gap and
+/// differ from none that the watcher has. The watcher then has all its rows.
 pub fn what_is_taken()
     ensures is { (w : WatchValue) (p : Packet) (taken : Taken)
         → (hear w (Ok p)).answer ≡ Ok taken → IsTaken w p }
@@ -39,7 +39,7 @@ pub fn what_is_taken()
         → is.shown.start + length is.shown.rows ≤ length (hear w (Ok p)).watch.rows }
 {}
 
-/// Where the answer is that rows were kept there are more than before, and else nothing changes.
+/// If the answer is `Kept` the watcher has more rows than before; else nothing changes.
 pub fn only_new_rows_are_kept()
     ensures more { (w : WatchValue) (told : Result Packet WireError)
         → (hear w told).answer ≡ Ok answers.Kept
@@ -48,15 +48,15 @@ pub fn only_new_rows_are_kept()
         → (hear w told).answer ≢ Ok answers.Kept → (hear w told).watch ≡ w }
 {}
 
-/// There are never more rows than the game has frames.
+/// A watcher never has more rows than the game has frames.
 pub fn rows_stay_within_the_game()
     ensures { (w : WatchValue) (told : Result Packet WireError)
         → length w.rows ≤ w.rules.frames
         → length (hear w told).watch.rows ≤ (hear w told).watch.rules.frames }
 {}
 
-/// Where only rows of one list are shown to a watcher, each at its frame, what it has begins that list, and
-/// no packet is refused because a row differs. Of a packet that is no SHOW nothing is asked.
+/// If a watcher is shown only rows of one list, each at its frame, its rows are the beginning of that list, and no
+/// packet is refused because a row differs. Packets that are not a SHOW may say anything.
 pub fn what_is_shown_of_one_list_begins_it()
     ensures shown { (truth : List Row) (w : WatchValue) (p : Packet) (m : ShowMessage)
         → p.message ≡ packets.Show m → Begins w.rows truth → Stands m.start m.rows truth

@@ -1,4 +1,4 @@
-//! One who watches a match.
+//! A watcher of a match.
 ghost use Rattle.std.specs.Prelude.{◌≡◌, ◌<◌, ◌≤◌, ◌+◌, [], ◌∷◌, length, take, drop, IfOk, IfNone};
 ghost use Rattle.c8_machine.specs.State.{state};
 ghost use Rattle.c8_machine.specs.Serial.{serial};
@@ -21,16 +21,16 @@ use std::alloc::{AllocError, Global};
 use std::fmt;
 use std::marker::Model;
 
-/// How many bytes a SEEN has.
+/// The size of a SEEN in bytes.
 pub const SEEN_LENGTH: usize = 28;
 
-/// What one who watches a match has of it: its rows from frame 0 on, and the machine that was run on
-/// them. Room for all rows of the game is reserved when it is made.
+/// A watcher: the rows of a match from frame 0 on, and the machine after them. The memory for all rows of the game is
+/// reserved when it is made.
 #[derive(Drop)]
 pub struct Spectator<'g> {
     game: &'g Game,
     room: u64,
-    /// That of the game and the room, which every datagram of the match names.
+    /// The session of the game and the room, which every datagram of the match has.
     session: u64,
     seat: Watcher,
     rows: Vec<Row>,
@@ -60,7 +60,7 @@ impl<'g> Model for Spectator<'g> {
     }) s.session (vec_capacity s.rows) (state s.shown) };
 }
 
-/// From which seat, and how many rows there are, and no machine.
+/// Prints the seat and the number of rows, not the machine.
 impl<'g> fmt::Debug for Spectator<'g> {
     fn fmt<W: fmt::Write>(&self, f: &mut fmt::Formatter<W>) -> fmt::Result {
         let (seat, rows) = (self.seat, self.rows.len());
@@ -69,8 +69,8 @@ impl<'g> fmt::Debug for Spectator<'g> {
 }
 
 impl<'g> Spectator<'g> {
-    /// One who watches a match of a game from a seat and has no rows. The room for all rows of the game
-    /// is reserved here; the error is want of memory.
+    /// Makes a watcher without rows. It reserves the memory for all rows of the game; it fails only if memory is
+    /// refused.
     pub fn open(
         alloc: Global,
         game: &'g Game,
@@ -90,21 +90,21 @@ impl<'g> Spectator<'g> {
         })
     }
 
-    /// The game that is played in the match.
+    /// Returns the game of the match.
     pub fn game(&self) -> &'g Game
         ensures { result.now ≡ self.now.rules }
     {
         self.game
     }
 
-    /// From which seat the match is watched.
+    /// Returns the watcher's seat.
     pub fn seat(&self) -> Watcher
         ensures { result.number ≡ self.now.seat }
     {
         self.seat
     }
 
-    /// The rows that were taken, that of frame 0 first.
+    /// Returns the rows that were taken, that of frame 0 first.
     pub fn rows(&self) -> &[Row]
         ensures rows { result.now ≡ self.now.rows }
         ensures within { length result.now ≤ self.now.rules.frames }
@@ -112,7 +112,7 @@ impl<'g> Spectator<'g> {
         &self.rows
     }
 
-    /// How many rows were taken.
+    /// Returns how many rows were taken.
     pub fn count(&self) -> u32
         ensures count { result ≡ length self.now.rows }
         ensures within { result ≤ self.now.rules.frames }
@@ -121,14 +121,14 @@ impl<'g> Spectator<'g> {
         self.rows.len() as u32
     }
 
-    /// The machine after the rows that were taken.
+    /// Returns the machine after the rows that were taken.
     pub fn shown(&self) -> &Machine
         ensures { state result.now ≡ serial self.now.rules self.now.rows }
     {
         &self.shown
     }
 
-    /// Has no rows again, in the room that was reserved for them, and the machine before its first frame.
+    /// Starts over: drops all rows, keeps the reserved memory, and puts the machine before its first frame.
     pub fn begin_again(&mut self)
         ensures { self.new ≡ first_watch self.old.rules self.old.room self.old.seat }
     {
@@ -136,9 +136,8 @@ impl<'g> Spectator<'g> {
         self.shown = Machine::start(self.game);
     }
 
-    /// Takes what came over the network: any bytes, of any length. They are read where they are. What
-    /// they say is judged in the order of `WatchError`, after the wire's own refusals; what is refused
-    /// changes nothing.
+    /// Takes a datagram: any bytes, of any length. They are read in place. The errors of the wire come first, then
+    /// those of `WatchError` in its order. A refused datagram changes nothing.
     pub fn hear(&mut self, bytes: &[u8]) -> Result<Taken, NotTaken>
         ensures answer { result ≡ (hear self.old (read bytes.now)).answer }
         ensures watch { self.new ≡ (hear self.old (read bytes.now)).watch }
@@ -165,14 +164,14 @@ impl<'g> Spectator<'g> {
         }
     }
 
-    /// Whether a datagram is of another match, or in another version than the one that the game names.
+    /// Returns whether a datagram is of another match, or in another version than the game's.
     fn is_of_other_match(&self, head: &Head) -> bool
         ensures { result ≡ is_of_other_match self.now (head_value head.now) }
     {
         head.session != self.session || head.version.number() != self.game.wire().number()
     }
 
-    /// Takes the rows that are shown to this seat, or refuses them.
+    /// Takes the rows of a SHOW to this seat, or refuses them.
     fn hear_show(&mut self, show: &Show<'_>) -> Result<Taken, NotTaken>
         ensures answer { result ≡ (unless_refused self.old (packets.Show (show_of show.now))
             (refusal_of_rows self.old (show_of show.now))).answer }
@@ -209,7 +208,7 @@ impl<'g> Spectator<'g> {
         None
     }
 
-    /// Takes those of the shown rows that come after the ones that there are.
+    /// Takes the rows that come after those that the watcher has.
     fn take(&mut self, show: &Show<'_>) -> Taken
         requires after { (show_of show.now).start ≤ length self.old.rows }
         requires within { (show_of show.now).start + length (show_of show.now).rows
@@ -229,7 +228,7 @@ impl<'g> Spectator<'g> {
         }
     }
 
-    /// Takes one row more, and runs the machine on it.
+    /// Takes one more row, and runs the machine on it.
     fn add(&mut self, row: Row)
         requires { length self.old.rows < self.old.rules.frames }
         ensures { self.new ≡ with_rows self.old (row ∷ []) }
@@ -238,8 +237,8 @@ impl<'g> Spectator<'g> {
         let _kept = self.rows.push(row);
     }
 
-    /// Writes to player one how many rows there are, to the front of `out`, and answers the length of what
-    /// it wrote. The bytes after it stay.
+    /// Writes a SEEN to player 1, which says how many rows the watcher has, to the beginning of `out`. Returns its
+    /// length; the bytes after it do not change.
     pub fn seen(&self, out: &mut [u8; LONGEST_DATAGRAM]) -> usize
         ensures spelled { Spells (take result out.new) (seen self.now) }
         ensures length { result ≡ SEEN_LENGTH }

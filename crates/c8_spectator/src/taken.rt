@@ -1,10 +1,10 @@
-//! What a SHOW brought.
+//! The result of a SHOW that was taken.
 
-/// What a SHOW that was taken brought.
+/// The result of a SHOW that was taken.
 #[derive(Clone, Copy, Debug, PartialEq, Eq, Hash)]
 pub enum Taken {
-    /// No row that the watcher had not.
+    /// It had no new row.
     Nothing,
-    /// New rows, which the watcher has now.
+    /// It had new rows, and the watcher has them now.
     Kept,
 }

@@ -1,4 +1,4 @@
--- What a terminal shows once it has read a row of text.
+-- What a terminal shows after it has read a row of text.
 use Rattle.std.proofs.Common.{◌≡◌, ◌≢◌, ◌⊎◌, ℕ, zero, suc, ◌+◌, ◌*◌, ◌<◌, ◌&&◌, nat_eq, List, [], ◌++◌, refl, sym, ap, subst, ◌∙◌, inl, inr, arith}
 use Rattle.std.specs.List.{flat_map, range_with_len}
 use Rattle.std.proofs.lemmas.Bool.{cases_lt, cond-true, cond-false, and_from, and_left, and_right, eq-eqb, ne_eqb}
@@ -19,7 +19,7 @@ printed_elsewhere : (n row column : ℕ) (t : Terminal) → (row ≢ t.row) ⊎ 
 printed_elsewhere n row column t (inl r) = cond-false (nat_eq row t.row && nat_eq column t.column) n (t.cells row column) (and_left _ _ (ne_eqb row t.row r))
 printed_elsewhere n row column t (inr c) = cond-false (nat_eq row t.row && nat_eq column t.column) n (t.cells row column) (and_right _ _ (ne_eqb column t.column c))
 
--- u is t once the first n cells of a row of text were printed
+-- u is t after the first n cells of a row of text were printed
 record HasCells (points : Points) (y n : ℕ) (t u : Terminal) : Type 0 where
   mode : u.mode ≡ Ready
   row : u.row ≡ y + 1
@@ -70,7 +70,7 @@ first_cells points y (suc n) cells =
     subst (λ (m : ℕ). HasCells points y m (ready (y + 1) 1 cells) (after (flat_map (cell_at points y) (range_with_len 0 m)) (ready (y + 1) 1 cells))) one
     (cells_more points y n (ready (y + 1) 1 cells) (first_cells points y n cells))
 
--- u is t once a row of text was read
+-- u is t after a row of text was read
 pub record HasLine (points : Points) (y : ℕ) (t u : Terminal) : Type 0 where
   pub mode : u.mode ≡ Ready
   pub shown : (x : ℕ) → x < 64 → u.cells (y + 1) (x + 1) ≡ character_at points y x

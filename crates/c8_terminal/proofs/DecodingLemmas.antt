@@ -1,4 +1,4 @@
--- What a decoder tells is of the keypad.
+-- The keys of a decoder's signals are keys of the keypad.
 use Rattle.std.proofs.Common.{rules, sym, subst, ◌≡◌, ℕ, ◌<◌, Bool, true, false, cond, Option, Some, None}
 use Rattle.std.specs.Prelude.{◌==◌, nat_lt, IfSome}
 use Rattle.c8_terminal.specs.declared.signal.Signal.{Signal}
@@ -64,6 +64,6 @@ step_fine (Answer flags) b exact =
     (either_step (is_text b) (reads (answer_with b flags) exact) (alone b exact) tt (alone_fine b exact))
 step_fine Foreign b exact = either_step (is_last b) (tells None exact) _ tt (either_step (is_text b) (reads Foreign exact) (alone b exact) tt (alone_fine b exact))
 
--- what is told in a step is of the keypad
+-- the key of a step's signal is a key of the keypad
 pub of_keypad_in : (reading : Reading) (b : ℕ) (exact : Bool) (told : Option Signal) → told ≡ (step_in reading b exact).told → IfSome told IsOfKeypad
 of_keypad_in reading b exact told is = subst Fine (sym is) (step_fine reading b exact)

@@ -1,4 +1,4 @@
--- A set of keys that grows by one key at a time, and keys of which one is changed.
+-- A set of keys that grows by one key at a time, and keys when one of them changes.
 use Rattle.std.proofs.Common.{◌≡◌, ℕ, ◌+◌, ◌*◌, ◌%◌, ◌^◌, ◌<◌, ◌≤◌, ◌≢◌, Bool, true, false, cond, List, length, sym, ap, subst, ◌∙◌, inl, inr, arith, bit_or, w16, slice_index_or, slice_set}
 use Rattle.std.specs.Int.{bit_at}
 use Rattle.std.specs.Prelude.{◌==◌}
@@ -10,7 +10,7 @@ use Rattle.c8_terminal.specs.declared.press.Press.{Press}
 use Rattle.c8_terminal.specs.Held.{press_of}
 use Rattle.c8_terminal.specs.Strokes as strokes
 
--- of the keys below n a set has those that pass, and no other key
+-- of the keys below n the set has those that pass, and it has no others
 pub record KeysBelow (passes : ℕ → Bool) (n keys : ℕ) : Type 0 where
   pub has : (k : ℕ) → k < n → bit_at keys k ≡ cond (passes k) 1 0
   pub rest : (k : ℕ) → n ≤ k → bit_at keys k ≡ 0

@@ -1,4 +1,4 @@
--- How long a row of text is.
+-- The length of a row of text.
 use Rattle.std.proofs.Common.{◌≤◌, Bool, true, false, length, arith}
 use Rattle.c8_terminal.specs.Painting.{cell}
 

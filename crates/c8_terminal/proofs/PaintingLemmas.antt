@@ -35,7 +35,7 @@ row_due known points n e = one_row (line points) (is_due known points) n true e
 pub row_not_due : (known : Option Points) (points : Points) (n : ℕ) → is_due known points n ≡ false → rows_before known points n ≡ rows_before known points (n + 1)
 row_not_due known points n e = sym (append-nil (rows_before known points n)) ∙ one_row (line points) (is_due known points) n false e
 
--- u is t once the first n rows of text are as they should be
+-- u is t after the first n rows of text were painted
 record HasRows (points : Points) (n : ℕ) (t u : Terminal) : Type 0 where
   mode : u.mode ≡ Ready
   shown : (x y : ℕ) → x < 64 → y < n → u.cells (y + 1) (x + 1) ≡ character_at points y x

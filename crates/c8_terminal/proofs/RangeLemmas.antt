@@ -1,4 +1,4 @@
--- The numbers from one on, one more, and a test of each of them.
+-- Ranges of numbers with one more number, and a test of each number.
 use Rattle.std.proofs.Common.{◌≡◌, ℕ, zero, suc, ◌+◌, ◌<◌, ◌≤◌, Bool, true, List, [], ◌∷◌, ◌++◌, refl, sym, ap, ◌∙◌, inl, inr, arith}
 use Rattle.std.specs.List.{list_all, flat_map, range_with_len}
 use Rattle.std.proofs.lemmas.Grind.{flat_map-append}
@@ -17,7 +17,7 @@ range_more n =
     let same : 0 + n ≡ n = omega arith in
     ap (range_with_len 0) one ∙ range_suc 0 n ∙ ap (λ (m : ℕ). range_with_len 0 n ++ m ∷ []) same
 
--- what numbers spell, and the next
+-- what the numbers spell, and what the next one spells
 pub spelled_more : (f : ℕ → List ℕ) (before : List ℕ) (n : ℕ) → (before ++ flat_map f (range_with_len 0 n)) ++ f n ≡ before ++ flat_map f (range_with_len 0 (n + 1))
 spelled_more f before n =
     append_assoc before (flat_map f (range_with_len 0 n)) (f n)

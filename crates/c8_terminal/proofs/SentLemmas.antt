@@ -1,4 +1,4 @@
--- What a terminal sends is read.
+-- The bytes that a terminal sends are decoded.
 use Rattle.std.proofs.Common.{◌≡◌, ℕ, ◌+◌, ◌/◌, ◌%◌, ◌<◌, ◌≤◌, Bool, true, false, cond, List, [], ◌∷◌, ◌++◌, Option, None, refl, sym, ap, subst, ◌∙◌, arith}
 use Rattle.std.specs.Prelude.{◌==◌, ◌&&◌, ◌||◌, nat_lt, nat_le}
 use Rattle.std.specs.Fmt.{decimal}
@@ -12,7 +12,7 @@ use Rattle.c8_terminal.specs.Sent.{AreOne, AreSent, Arrow, ArrowEvent, Direction
 abbrev in_mode : Reading → Bool → Decoding
 in_mode reading exact = record { reading = reading; exact = exact }
 
--- bytes that lead from one mode to another, and tell nothing
+-- bytes that lead from one reading to another, without a signal
 Leads : List ℕ → Reading → Bool → Reading → Type 0
 Leads [] from exact to = from ≡ to
 Leads (b ∷ bs) from exact to = (between : Reading) × (step_in from b exact ≡ reads between exact) × Leads bs between exact to
@@ -55,7 +55,7 @@ digit_step n v exact h = rw (digit_is_not_last v h, digit_is_text v h, digit_is_
 answer_step : (flags v : ℕ) (exact : Bool) → v < 10 → step_in (Answer flags) (48 + v) exact ≡ reads (Answer (with_digit flags (48 + v))) exact
 answer_step flags v exact h = rw (digit_is_not_last v h, digit_is_text v h, digit_is_digit v h)
 
--- a place for a number: put v has the number v there, and a digit there is one more of it
+-- a place for a number: `put v` puts the number v there, and one more digit makes it v with that digit
 abbrev IsPlace : (ℕ → Numbers) → Type 0
 IsPlace put = (b v : ℕ) → with_number b (put v) ≡ put (with_digit v b)
 
@@ -64,7 +64,7 @@ unfolding Leads
 one_digit put place exact v d w small is =
     (Control (put w), digit_step (put v) d exact small ∙ ap (λ (n : Numbers). reads (Control n) exact) (place (48 + d) v ∙ ap put (sym is)), refl)
 
--- a number in decimal is read there
+-- a decimal number is read at that place
 number_leads : (put : ℕ → Numbers) → IsPlace put → (exact : Bool) (n : ℕ) → Fits n → Leads (decimal n) (Control (put 0)) exact (Control (put (capped n)))
 number_leads put place exact n fits =
     decimal_by_steps (λ m ds. Leads ds (Control (put 0)) exact (Control (put (capped m))))
@@ -122,7 +122,7 @@ tail_read code base modifiers event last exact end fits fits_too is =
     (led (decimal event) (last ∷ []) (Control (with_event code base m 0)) (Control (with_event code base m (capped event))) exact end
     (number_leads (with_event code base m) (λ b v. refl) exact event fits_too) is))
 
--- the last byte of a press that names no event, and of an event that is named
+-- the last byte of a press that names no event, and of a named event
 press_u : (n : Numbers) (exact : Bool) → names_event n ≡ false → step_in (Control n) 0x75 exact ≡ tells (key_event n exact) exact
 press_u n true none = refl
 press_u n false none = ap (λ (e : Bool). tells (key_event n e) e) none
@@ -251,7 +251,7 @@ sent_is_read (Flags flags) fits exact =
     led (0x1B ∷ 0x5B ∷ 0x3F ∷ []) (decimal flags ++ 0x75 ∷ []) Nothing (Answer 0) exact end (by_question exact)
     (led (decimal flags) (0x75 ∷ []) (Answer 0) (Answer (capped flags)) exact end (answer_leads exact flags fits) (flags_read (capped flags) exact))
 
--- what is told of one that is sent, and what follows
+-- the signal of one action, and those of what follows
 one_told : (bs rest : List ℕ) (d : Decoding) (end : Step) → AreOne bs d end → told_by (bs ++ rest) d ≡ with_told end.told (told_by rest end.next)
 one_told [] rest d end h = absurd h
 one_told (b ∷ []) rest d end h = ap (λ (s : Step). with_told s.told (told_by rest s.next)) h

@@ -1,4 +1,4 @@
--- For how many frames a key counts as held.
+-- How many frames a key counts as held.
 use Rattle.std.proofs.Common.{◌≡◌, ℕ, zero, suc, ◌-◌, ◌≤◌, Bool, true, false, cond, max, refl, ap, ◌∙◌, inl, inr, arith}
 use Rattle.std.specs.Prelude.{◌||◌, nat_lt, nat_le}
 use Rattle.std.proofs.lemmas.Bool.{cases_Bool}
@@ -12,7 +12,7 @@ counted : (n : ℕ) (p : Press) → is_held (after_frames n p) ≡ (p.down || na
 counted zero p = refl
 counted (suc n) p = counted n (after_frame p) ∙ ap (λ (b : Bool). p.down || b) (one_fewer n p.left)
 
--- a key that is not down counts for what is left
+-- a key that is not down is held for the frames that are left
 when_up : (n : ℕ) (p : Press) → p.down ≡ false → is_held (after_frames n p) ≡ nat_lt n p.left
 when_up n p up = counted n p ∙ ap (λ (b : Bool). b || nat_lt n p.left) up
 

@@ -1,4 +1,4 @@
--- What a caller knows of a decoder, and of what it tells.
+-- What a caller knows of a decoder, and of its signals.
 use Rattle.std.specs.Prelude.{◌<◌}
 use Rattle.c8_terminal.specs.declared.signal.Signal.{Signal}
 use Rattle.c8_terminal.specs.declared.signal.Signal.TheVariants.{Struck, Down, Up, LetGo, Quit, Repaint}
@@ -8,7 +8,7 @@ use Rattle.c8_terminal.specs.declared.decoder.Mode.TheVariants as modes
 use Rattle.c8_terminal.specs.declared.decoder.Decoder.{Decoder}
 use Rattle.c8_terminal.specs.Decoding as decoding
 
--- a signal of a key is of one of the sixteen
+-- the key of a signal is one of the sixteen
 abbrev pub IsOfKeypad : Signal → Type 0
 IsOfKeypad (Struck key) = key < 16
 IsOfKeypad (Down key) = key < 16
@@ -28,6 +28,6 @@ reading_of (modes.Control numbers) = decoding.Control (numbers_of numbers)
 reading_of (modes.Answer flags) = decoding.Answer flags
 reading_of modes.Foreign = decoding.Foreign
 
--- what a decoder has read
+-- the state of a decoder
 abbrev pub read_by : Decoder → decoding.Decoding
 read_by decoder = record { reading = reading_of decoder.mode; exact = decoder.exact }

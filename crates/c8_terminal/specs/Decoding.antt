@@ -1,25 +1,25 @@
--- What a decoder has read, and what one byte more makes of it.
+-- The state of a decoder, and what one more byte does to it.
 use Rattle.std.specs.Prelude.{ℕ, ◌+◌, ◌-◌, ◌*◌, ◌/◌, ◌%◌, ◌==◌, ◌&&◌, ◌||◌, Bool, false, min, nat_lt, nat_le, Option, Some, None, if◌then◌else◌}
 use Rattle.c8_terminal.specs.declared.signal.Signal.{Signal}
 use Rattle.c8_terminal.specs.declared.signal.Signal.TheVariants.{Struck, Down, Up, LetGo, Quit, Repaint}
 use Rattle.c8_terminal.specs.Keyboard.{key_of, arrow_key, small}
 
--- The numbers of a control sequence so far. They stand in fields, which ; separates, and these in parts,
--- which : separates; both are counted from 0. A number that has not come is 0
+-- The numbers of a control sequence so far. `;` separates its fields, `:` the parts of a field; both are counted from
+-- 0. A number that has not come is 0.
 pub record Numbers : Type 0 where
   -- where the next digit belongs
   pub field : ℕ
   pub part : ℕ
-  -- field 0: the character of a key, and, in part 2, that of an English keyboard in its place
+  -- field 0: the character of a key, and in part 2 the one at its place on an English keyboard
   pub code : ℕ
   pub base : ℕ
-  -- field 1: one more than the sum of the modifiers, of which control is 4; and, in part 1, the event
+  -- field 1: one more than the sum of the modifiers (control is 4), and in part 1 the event
   pub modifiers : ℕ
   pub event : ℕ
 
--- what a decoder has read of a sequence that is not complete
+-- the part of a sequence that has been read
 pub data Reading : Type 0 where
-  -- nothing: the last one is complete
+  -- nothing: the last sequence is complete
   Nothing : Reading
   -- ESC
   Escape : Reading
@@ -27,12 +27,12 @@ pub data Reading : Type 0 where
   Single : Reading
   -- ESC [ and numbers
   Control : Numbers → Reading
-  -- ESC [ ? and the number so far, the beginning of what a terminal answers
+  -- ESC [ ? and the number so far: the beginning of a terminal's answer
   Answer : ℕ → Reading
-  -- ESC [ and something else
+  -- ESC [ and something that is ignored
   Foreign : Reading
 
--- a decoder: what it has read, and whether the terminal is known to tell when a key is let go
+-- a decoder: the part of a sequence that it has read, and whether the terminal is known to report releases
 pub record Decoding : Type 0 where
   pub reading : Reading
   pub exact : Bool
@@ -41,7 +41,7 @@ pub record Decoding : Type 0 where
 abbrev pub nothing_read : Decoding
 nothing_read = record { reading = Nothing; exact = false }
 
--- what one byte tells, and the decoder after it
+-- the signal of one byte, and the decoder after it
 pub record Step : Type 0 where
   pub told : Option Signal
   pub next : Decoding
@@ -57,15 +57,14 @@ tells signal exact = record { told = signal; next = record { reading = Nothing; 
 abbrev pub is_digit : ℕ → Bool
 is_digit b = nat_le 0x30 b && nat_le b 0x39
 
--- a byte that may stand in a sequence, and one that ends a control sequence
+-- a byte that a sequence may have, and one that ends a control sequence
 abbrev pub is_text : ℕ → Bool
 is_text b = nat_le 0x20 b && nat_le b 0x7E
 
 abbrev pub is_last : ℕ → Bool
 is_last b = nat_le 0x40 b && nat_le b 0x7E
 
--- what is told of a key of the keypad, with the event that the terminal names: 1 pressed, 2 repeated, 3 let
--- go, and 0 where it names none
+-- the signal of a key of the keypad and an event: 1 pressed, 2 repeated, 3 released, 0 if the terminal names none
 abbrev pub told_of : ℕ → Bool → ℕ → Option Signal
 told_of event exact key =
     if event == 3 then Some (Up key)
@@ -73,27 +72,26 @@ told_of event exact key =
     else if exact then Some (Down key)
     else Some (Struck key)
 
--- the same, where there is such a key
+-- the same, if there is such a key
 abbrev pub told_of_any : Option ℕ → ℕ → Bool → Option Signal
 told_of_any None event exact = None
 told_of_any (Some key) event exact = told_of event exact key
 
--- a byte that stands alone: control-C, control-L, or a character
+-- a byte that is a character: control-C, control-L, or another
 abbrev pub character : ℕ → Option Signal
 character b =
     if b == 0x03 then Some Quit
     else if b == 0x0C then Some Repaint
     else told_of_any (key_of b) 0 false
 
--- a byte that begins anew, whatever was read: an ESC, or a byte that stands alone
+-- a byte that starts over, whatever was read: an ESC, or a character
 abbrev pub alone : ℕ → Bool → Step
 alone b exact = if b == 0x1B then reads Escape exact else tells (character b) exact
 
 abbrev pub no_numbers : Numbers
 no_numbers = record { field = 0; part = 0; code = 0; base = 0; modifiers = 0; event = 0 }
 
--- after ESC: another one, so that the first was the key of that name; the beginning of a sequence; or
--- a character with alt
+-- after ESC: another ESC, so that the first was the escape key; the beginning of a sequence; or a character with alt
 abbrev pub escaped : ℕ → Bool → Step
 escaped b exact =
     if b == 0x1B then record { told = Some Quit; next = record { reading = Escape; exact = exact } }
@@ -101,18 +99,18 @@ escaped b exact =
     else if b == 0x4F then reads Single exact
     else tells None exact
 
--- what the last byte tells of an arrow
+-- the signal of an arrow, by the last byte of the sequence
 abbrev pub arrow : ℕ → ℕ → Bool → Option Signal
 arrow b event exact = told_of_any (arrow_key b) event exact
 
--- a number with one more digit; what is greater than 65535 stays there
+-- a number with one more digit; numbers above 65535 become 65535
 abbrev pub with_digit : ℕ → ℕ → ℕ
 with_digit n b = min (10 * n + (b - 0x30)) 65535
 
 abbrev pub stands_at : ℕ → ℕ → Numbers → Bool
 stands_at field part n = n.field == field && n.part == part
 
--- numbers with one more digit, of a number that matters or of another one
+-- the numbers with one more digit, which may belong to a number that is ignored
 abbrev pub with_number : ℕ → Numbers → Numbers
 with_number b n =
     record n {
@@ -126,8 +124,7 @@ with_number b n =
 abbrev pub is_blank : Numbers → Bool
 is_blank n = stands_at 0 0 n && n.code == 0
 
--- what follows is the next part, or the next field. All parts from the fourth on are as one, and all
--- fields from the third on
+-- the next part, or the next field, starts; all parts from the fourth on count as one, and all fields from the third on
 abbrev pub next_part : Numbers → Numbers
 next_part n = record n { part = min (n.part + 1) 3 }
 
@@ -147,14 +144,14 @@ control_with b n =
 abbrev pub answer_with : ℕ → ℕ → Reading
 answer_with b flags = if is_digit b then Answer (with_digit flags b) else Foreign
 
--- the key of the keypad that a key of the keyboard stands for: by its place, if that is told
+-- the key of the keypad, by the place of the key that was used, if the terminal gives it
 abbrev pub key_at : Numbers → Option ℕ
 key_at n = if n.base == 0 then key_of n.code else key_of n.base
 
 abbrev pub has_control : Numbers → Bool
 has_control n = ((n.modifiers - 1) / 4) % 2 == 1
 
--- whether a key is that of a letter, on this keyboard or by its place
+-- the key is this letter, by its character or by its place
 abbrev pub is_letter : ℕ → Numbers → Bool
 is_letter letter n = small n.code == letter || small n.base == letter
 
@@ -162,8 +159,8 @@ is_letter letter n = small n.code == letter || small n.base == letter
 abbrev pub with_control : Numbers → Option Signal
 with_control n = if is_letter 0x63 n then Some Quit else if is_letter 0x6C n then Some Repaint else None
 
--- an event of a key. What is let go is let go, whatever else is held; a press of escape ends, and one
--- with control is none of the keypad
+-- the signal of an event of a key: a release counts whatever else is held; a press of escape ends; a press with control
+-- is no key of the keypad
 abbrev pub key_event : Numbers → Bool → Option Signal
 key_event n exact =
     if nat_lt 2 n.event then told_of_any (key_at n) n.event exact
@@ -171,7 +168,7 @@ key_event n exact =
     else if has_control n then with_control n
     else told_of_any (key_at n) n.event exact
 
--- what a control sequence tells: u an event of a key, O that the window has no focus, A to D an arrow
+-- the signal of a control sequence: u is an event of a key, O the loss of the focus, A to D an arrow
 abbrev pub meaning : ℕ → Numbers → Bool → Option Signal
 meaning b n exact =
     if b == 0x75 then key_event n exact
@@ -185,8 +182,8 @@ names_event n = nat_lt 0 n.event
 abbrev pub reports_events : ℕ → Bool
 reports_events flags = (flags / 2) % 2 == 1
 
--- a terminal that answers that it reports event types, or names an event, is exact: it tells when a key is
--- let go. A u alone does not say so, and no other answer changes it
+-- a terminal is exact, that is, reports releases, once it answers that it reports event types, or names an event; a u
+-- alone is not enough, and no other answer changes it
 abbrev pub exact_after : Numbers → Bool → Bool
 exact_after n exact = exact || names_event n
 
@@ -196,7 +193,7 @@ exact_after_answer b flags exact = exact || (b == 0x75 && reports_events flags)
 abbrev pub control_ended : ℕ → Numbers → Bool → Step
 control_ended b n exact = tells (meaning b n (exact_after n exact)) (exact_after n exact)
 
--- what one byte makes of what was read
+-- what one byte does to a decoder
 abbrev pub step_in : Reading → ℕ → Bool → Step
 step_in Nothing b exact = alone b exact
 step_in Escape b exact = escaped b exact
@@ -217,7 +214,7 @@ step_in Foreign b exact =
 abbrev pub step : ℕ → Decoding → Step
 step b d = step_in d.reading b d.exact
 
--- where nothing comes for now: an ESC was the key of that name
+-- no byte follows for now: a lone ESC was the escape key
 abbrev pub pause_in : Reading → Bool → Step
 pause_in Nothing exact = reads Nothing exact
 pause_in Escape exact = tells (Some Quit) exact

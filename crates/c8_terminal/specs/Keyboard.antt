@@ -1,7 +1,7 @@
--- Which key of the keypad a key of a keyboard stands for.
+-- Which key of the keypad a key of the keyboard means.
 use Rattle.std.specs.Prelude.{ℕ, ◌+◌, ◌&&◌, ◌==◌, nat_le, List, [], ◌∷◌, Option, Some, None, if◌then◌else◌}
 
--- a character, and the key of the keypad that has its place
+-- a character, and the key of the keypad at its place
 pub record Place : Type 0 where
   pub character : ℕ
   pub key : ℕ
@@ -22,20 +22,20 @@ places =
     ∷ at 0x7A 0xA ∷ at 0x78 0x0 ∷ at 0x63 0xB ∷ at 0x76 0xF
     ∷ []
 
--- the key of the first place that has a character
+-- the key of the first place with this character
 abbrev pub key_in : List Place → ℕ → Option ℕ
 key_in [] character = None
 key_in (place ∷ rest) character = if place.character == character then Some place.key else key_in rest character
 
--- a capital letter of ASCII as a small one
+-- a capital ASCII letter as a small one
 abbrev pub small : ℕ → ℕ
 small character = if nat_le 0x41 character && nat_le character 0x5A then character + 0x20 else character
 
--- the key that a character stands for
+-- the key that a character means
 unfoldable pub key_of : ℕ → Option ℕ
 key_of character = key_in places (small character)
 
--- the key that an arrow stands for, by the last byte of what is sent for it: A up, B down, C right, D left
+-- the key that an arrow means, by the last byte of its sequence: A up, B down, C right, D left
 abbrev pub arrow_key : ℕ → Option ℕ
 arrow_key last =
     if last == 0x41 then Some 0x5

@@ -8,7 +8,7 @@ abbrev pub seen : Option Screen → Option Points
 seen None = None
 seen (Some screen) = Some (points_of screen)
 
--- the points that the painter takes a terminal to show, if it knows
+-- the points that the terminal shows, as far as the painter knows
 abbrev pub known_to : Painter → Option Points
 known_to painter = seen painter.shown
 

@@ -3,7 +3,7 @@ use Rattle.std.specs.Prelude.{ℕ, ◌+◌, ◌*◌, ◌/◌, ◌%◌, ◌&&◌,
 use Rattle.std.specs.List.{flat_map, filter, list_all, range_with_len}
 use Rattle.c8_screen.specs.Points.{Points}
 
--- the UTF-8 of a character of two points, one above the other
+-- the UTF-8 of the character of two points, one above the other
 abbrev pub cell : Bool → Bool → List ℕ
 cell false false = 0x20 ∷ []
 cell true false = 0xE2 ∷ 0x96 ∷ 0x80 ∷ []
@@ -34,7 +34,7 @@ alike false b = not b
 unfoldable pub same_row : Points → Points → ℕ → Bool
 same_row a b y = list_all (λ x. alike (a x y) (b x y)) (range_with_len 0 64)
 
--- whether a row of text differs from what is known to be shown
+-- a row of text differs from what is known to be shown
 abbrev pub is_due : Option Points → Points → ℕ → Bool
 is_due None points y = true
 is_due (Some known) points y = not (same_row known points (2 * y) && same_row known points (2 * y + 1))

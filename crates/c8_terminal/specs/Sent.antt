@@ -1,5 +1,4 @@
--- What a terminal sends for what a person does, and what that tells: a grammar, of which a decoder knows
--- nothing.
+-- What a terminal sends for what a person does, and the signals that this gives: a grammar, independent of the decoder.
 use Rattle.std.specs.Prelude.{◌≡◌, ℕ, ◌<◌, ◌≤◌, ◌^◌, ◌||◌, Bool, true, min, List, [], ◌∷◌, ◌++◌, Option, Some, None}
 use Rattle.std.specs.Fmt.{decimal}
 use Rattle.std.specs.List.{flat_map}
@@ -13,12 +12,12 @@ pub data Direction : Type 0 where
   Rightward : Direction
   Leftward : Direction
 
--- what a terminal sends at once. A number of modifiers is one more than their sum; an event is 1 where a
--- key is pressed, 2 where it repeats, and 3 where it is let go
+-- what a terminal sends for one action. The number of modifiers is one more than their sum. An event is 1 for a press,
+-- 2 for a repeat, 3 for a release.
 pub data Sent : Type 0 where
   -- a character of ASCII, or a character with control
   Typed : (byte : ℕ) → Sent
-  -- an arrow, in the form that most terminals send, and in the other one
+  -- an arrow, in the form that most terminals send, and in the other form
   Arrow : Direction → Sent
   SingleArrow : Direction → Sent
   -- an event of an arrow
@@ -26,15 +25,14 @@ pub data Sent : Type 0 where
   -- a press of a key: its character, with modifiers or with none
   KeyPress : (code : ℕ) → Sent
   ModifiedKeyPress : (code modifiers : ℕ) → Sent
-  -- an event of a key: its character; or that, its character with shift, and the one that has its place
-  -- on an English keyboard
+  -- an event of a key: its character; or that, its character with shift, and the character at its place on an English
+  -- keyboard
   KeyEvent : (code modifiers event : ℕ) → Sent
   PlacedKeyEvent : (code shifted base modifiers event : ℕ) → Sent
-  -- the window lost the focus, or has it again
+  -- the window lost the focus, or got it
   FocusLost : Sent
   FocusCame : Sent
-  -- the answer of a terminal that has the protocol, or a part of it: flags, of which 2 is that it reports
-  -- event types
+  -- the answer of a terminal with the protocol, or a part of it: flags; flag 2 says that it reports event types
   Flags : (flags : ℕ) → Sent
 
 abbrev pub letter : Direction → ℕ
@@ -47,7 +45,7 @@ letter Leftward = 0x44
 abbrev pub control : List ℕ → List ℕ
 control rest = 0x1B ∷ 0x5B ∷ rest
 
--- numbers in decimal; ; is 3B, : is 3A, and u 75, hexadecimal
+-- numbers are decimal; ; is 3B, : is 3A, u is 75 (hexadecimal)
 abbrev pub bytes_of : Sent → List ℕ
 bytes_of (Typed byte) = byte ∷ []
 bytes_of (Arrow direction) = control (letter direction ∷ [])
@@ -62,7 +60,7 @@ bytes_of FocusLost = control (0x4F ∷ [])
 bytes_of FocusCame = control (0x49 ∷ [])
 bytes_of (Flags flags) = control (0x3F ∷ (decimal flags ++ 0x75 ∷ []))
 
--- a number, of which no more than 65535 counts
+-- a number, at most 65535
 abbrev pub capped : ℕ → ℕ
 capped n = min n 65535
 
@@ -76,7 +74,7 @@ arrow_key Downward = 0x8
 arrow_key Rightward = 0x9
 arrow_key Leftward = 0x7
 
--- what is told, where the terminal is known to tell when a key is let go or not
+-- the signal, by whether the terminal is known to report releases
 abbrev pub told : Sent → Bool → Option Signal
 told (Typed byte) exact = character byte
 told (Arrow direction) exact = told_of 0 exact (arrow_key direction)
@@ -90,8 +88,8 @@ told FocusLost exact = Some LetGo
 told FocusCame exact = None
 told (Flags flags) exact = None
 
--- whether the terminal is known to tell when a key is let go after that: a terminal that answers that it
--- reports event types, or names an event, is exact
+-- whether the terminal is known to report releases after that: once it answers that it reports event types, or names an
+-- event
 abbrev pub exact_after : Sent → Bool → Bool
 exact_after (Typed byte) exact = exact
 exact_after (Arrow direction) exact = exact
@@ -109,7 +107,7 @@ exact_after (Flags flags) exact = exact || reports_events (capped flags)
 abbrev pub Fits : ℕ → Type 0
 Fits n = n < 2 ^ 64
 
--- a byte that is typed is no ESC, an event of an arrow is one of the three, and one of a key is named
+-- a typed byte is not ESC, an event of an arrow is one of the three, and an event of a key is named
 abbrev pub IsSent : Sent → Type 0
 IsSent (Typed byte) = (byte ≡ 0x1B → ⊥)
 IsSent (Arrow direction) = Unit {0}
@@ -123,31 +121,31 @@ IsSent FocusLost = Unit {0}
 IsSent FocusCame = Unit {0}
 IsSent (Flags flags) = Fits flags
 
--- the last of some bytes makes this step, and nothing is told before
+-- the last of the bytes makes this step, and the bytes before it give no signal
 abbrev pub AreOne : List ℕ → Decoding → Step → Type 0
 AreOne [] d last = ⊥
 AreOne (b ∷ []) d last = step b d ≡ last
 AreOne (b ∷ c ∷ more) d last = ((step b d).told ≡ None) × AreOne (c ∷ more) (step b d).next last
 
--- a decoder that has read nothing of a sequence
+-- a decoder between two sequences
 abbrev pub ready : Bool → Decoding
 ready exact = record { reading = Nothing; exact = exact }
 
--- what is sent is told at its last byte, and then the decoder is ready again
+-- the bytes give the signal at the last byte, and then the decoder is ready again
 abbrev pub IsRead : Sent → Type 0
 IsRead sent = (exact : Bool) → AreOne (bytes_of sent) (ready exact) (tells (told sent exact) (exact_after sent exact))
 
--- what is told, if anything, and what is told later
+-- a signal, if there is one, and later ones
 abbrev pub with_told : Option Signal → List Signal → List Signal
 with_told None later = later
 with_told (Some signal) later = signal ∷ later
 
--- all that a decoder tells of some bytes
+-- all signals of some bytes
 abbrev pub told_by : List ℕ → Decoding → List Signal
 told_by [] d = []
 told_by (b ∷ bs) d = with_told (step b d).told (told_by bs (step b d).next)
 
--- all that is told of what is sent
+-- all signals of what is sent
 abbrev pub told_of_all : List Sent → Bool → List Signal
 told_of_all [] exact = []
 told_of_all (sent ∷ rest) exact = with_told (told sent exact) (told_of_all rest (exact_after sent exact))

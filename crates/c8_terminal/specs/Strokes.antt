@@ -1,24 +1,24 @@
--- Which keys count as held down in a frame, by what a keyboard told before it.
+-- Which keys count as held in a frame, by the signals before it.
 use Rattle.std.specs.Prelude.{ℕ, zero, suc, ◌+◌, ◌-◌, ◌==◌, ◌||◌, Bool, true, false, min, max, nat_lt, nat_le, if◌then◌else◌}
 use Rattle.c8_terminal.specs.declared.signal.Signal.{Signal}
 use Rattle.c8_terminal.specs.declared.signal.Signal.TheVariants.{Struck, Down, Up, LetGo, Quit, Repaint}
 
--- what is known of a key between two frames
+-- the state of a key between two frames
 pub record Press : Type 0 where
-  -- it was told to be down, and not to be up since
+  -- a signal said that the key is down, and none since that it is up
   pub down : Bool
-  -- that was told since the last frame began, or it was struck since then: no frame has seen it
+  -- the key went down, or was struck, since the last frame began: no frame has seen it
   pub unseen : Bool
-  -- for how many frames it counts as held, the next one first, whether it is down or not
+  -- for how many more frames the key counts as held, whether or not it is down
   pub left : ℕ
-  -- how many frames began since it was last struck. 46 stands for more, and for a key that was not
+  -- how many frames began since its last stroke; 46 stands for more, and for none
   pub since : ℕ
 
 abbrev pub no_press : Press
 no_press = record { down = false; unseen = false; left = 0; since = 46 }
 
--- struck: for as long as a stroke counts, or for 6 frames where the one before is 45 frames ago at most,
--- and not shorter than it would be held without
+-- struck: held as long as a stroke holds, or for 6 frames if the last stroke was at most 45 frames ago; never for fewer
+-- than before
 abbrev pub struck : ℕ → Press → Press
 struck hold p =
     record {
@@ -28,15 +28,15 @@ struck hold p =
       since = 0;
     }
 
--- held down from now on, and for one frame at least; if it is down already, that is told again
+-- pressed: held until it is released, and for at least one frame; nothing changes if it is down
 abbrev pub pressed : Press → Press
 pressed p = if p.down then p else record { down = true; unseen = true; left = max p.left 1; since = p.since }
 
--- let go: held no longer, but for one frame where no frame has seen it
+-- released: held for one more frame if no frame has seen it, else for none
 abbrev pub released : Press → Press
 released p = record { down = false; unseen = p.unseen; left = if p.unseen then 1 else 0; since = p.since }
 
--- what a signal makes of a key's press, where a stroke counts for so many frames
+-- what a signal does to a key, if a stroke holds for this many frames
 abbrev pub noted : ℕ → Signal → ℕ → Press → Press
 noted hold (Struck other) key p = if other == key then struck hold p else p
 noted hold (Down other) key p = if other == key then pressed p else p
@@ -45,15 +45,15 @@ noted hold LetGo key p = no_press
 noted hold Quit key p = p
 noted hold Repaint key p = p
 
--- whether a key counts as held in the frame that begins
+-- the key counts as held in the next frame
 abbrev pub is_held : Press → Bool
 is_held p = p.down || nat_lt 0 p.left
 
--- what is known of a key after a frame began
+-- the key after a frame began
 abbrev pub after_frame : Press → Press
 after_frame p = record { down = p.down; unseen = false; left = p.left - 1; since = min (p.since + 1) 46 }
 
--- what is known of a key after some frames, of which nothing was told
+-- the key after some frames without a signal of it
 abbrev pub after_frames : ℕ → Press → Press
 after_frames zero p = p
 after_frames (suc n) p = after_frames n (after_frame p)

@@ -1,10 +1,9 @@
--- A small terminal: what it shows, and what it does with the bytes that it reads. It knows the
--- printable characters of ASCII, those of UTF-8 from U+1000 to U+CFFF, which have three bytes and are
--- taken to be one cell wide, and the command that moves the cursor. Its window has room for whatever
--- is printed, so nothing is wrapped or scrolled.
+-- A small terminal: what it shows, and what it does with the bytes that it reads. It knows the printable characters of
+-- ASCII, those of UTF-8 from U+1000 to U+CFFF (three bytes, taken as one cell wide), and the command that moves the
+-- cursor. Its window has room for everything that is printed, so nothing is wrapped or scrolled.
 use Rattle.std.specs.Prelude.{ℕ, ◌+◌, ◌-◌, ◌*◌, ◌%◌, ◌==◌, ◌&&◌, Bool, max, nat_le, List, [], ◌∷◌, if◌then◌else◌}
 
--- what a terminal has read of a character or a command that is not complete
+-- the part of a character or command that a terminal has read
 pub data Mode : Type 0 where
   -- nothing: the last one is complete
   Ready : Mode
@@ -12,14 +11,14 @@ pub data Mode : Type 0 where
   Character : (bits missing : ℕ) → Mode
   -- ESC
   Escape : Mode
-  -- ESC [ and digits of a row's number
+  -- ESC [ and digits of the row's number
   Row : (row : ℕ) → Mode
-  -- ESC [, the number of a row, ; and digits of a column's number
+  -- ESC [, the row's number, ; and digits of the column's number
   Column : (row column : ℕ) → Mode
   -- something that it does not know
   Lost : Mode
 
--- Rows and columns are counted from 1. A cell has the number of its character in Unicode
+-- Rows and columns are counted from 1. A cell holds the number of its character in Unicode.
 pub record Terminal : Type 0 where
   pub mode : Mode
   pub row : ℕ
@@ -39,7 +38,7 @@ printed character t =
       cells = λ row column. if row == t.row && column == t.column then character else t.cells row column;
     }
 
--- the cursor moves there; 0 stands for 1
+-- the cursor moves there; 0 means 1
 abbrev pub moved : ℕ → ℕ → Terminal → Terminal
 moved row column t = record { mode = Ready; row = max 1 row; column = max 1 column; cells = t.cells }
 
@@ -50,7 +49,7 @@ is_digit b = nat_le 48 b && nat_le b 57
 abbrev pub with_digit : ℕ → ℕ → ℕ
 with_digit n b = 10 * n + (b - 48)
 
--- one of the missing bytes of a character has come, the last or another
+-- one of the missing bytes of a character, the last or another
 abbrev pub with_bits : ℕ → ℕ → Terminal → Terminal
 with_bits bits missing t = if missing == 1 then printed bits t else in_mode (Character bits (missing - 1)) t
 
@@ -74,7 +73,7 @@ after_byte (Column row column) b t =
     else in_mode Lost t
 after_byte Lost b t = t
 
--- what a terminal does with bytes, one after the other
+-- what a terminal does with bytes in order
 unfoldable pub after : List ℕ → Terminal → Terminal
 after [] t = t
 after (b ∷ bytes) t = after bytes (after_byte t.mode b t)

@@ -1,4 +1,4 @@
-//! A decoder of what a terminal sends.
+//! Decodes the bytes that a terminal sends.
 ghost use Rattle.std.specs.Prelude.{◌≡◌, ◌<◌, ◌≤◌, true, false, Some, None, IfSome};
 ghost use Rattle.c8_terminal.specs.Decoder.{IsOfKeypad, numbers_of, reading_of, read_by};
 ghost use Rattle.c8_terminal.specs.Decoding as decoding;
@@ -14,10 +14,10 @@ const CONTROL_C: u8 = 0x03;
 
 const CONTROL_L: u8 = 0x0c;
 
-/// What was read of a sequence that is not complete.
+/// The part of a sequence that has been read.
 #[derive(Clone, Copy)]
 enum Mode {
-    /// Nothing: the last one is complete.
+    /// Nothing: the last sequence is complete.
     Ready,
     /// `ESC`
     Escape,
@@ -25,21 +25,21 @@ enum Mode {
     Single,
     /// `ESC [` and numbers.
     Control(Numbers),
-    /// `ESC [ ?` and the number so far, the beginning of what a terminal answers.
+    /// `ESC [ ?` and the number so far: the beginning of a terminal's answer.
     Answer(u16),
-    /// `ESC [` and something else.
+    /// `ESC [` and something that is ignored.
     Foreign,
 }
 
-/// Reads what a terminal sends, a byte at a time, and tells what a person does at the keyboard.
+/// Decodes the bytes that a terminal sends, one at a time, into what a person does at the keyboard.
 ///
-/// A character stands for the key of the keypad that has its place on the left block of the keyboard,
-/// and the arrows up, down, right and left for the keys 5, 8, 9 and 7. Most terminals tell only that
-/// a key is struck. One that has kitty's keyboard protocol, and is asked for it, tells too when a key
-/// is let go. A terminal that answers that it reports event types, or names an event, is exact. In any
-/// other a sequence tells only that a key is struck, since some have only a part of the protocol.
+/// Characters are mapped by their place on the left block of the keyboard to the keys of the keypad, and the arrows up,
+/// down, right and left to the keys 5, 8, 9 and 7. Most terminals report only key presses. A terminal with kitty's
+/// keyboard protocol also reports releases, once it is asked to. A terminal counts as exact once it answers that it
+/// reports event types, or names an event. Until then a key is reported as struck, since some terminals have only a
+/// part of the protocol.
 ///
-/// What it does not know it reads over. No bytes break it, and it takes no memory.
+/// Unknown sequences are skipped. Any bytes are accepted, and no call takes memory.
 #[derive(Clone, Copy)]
 pub struct Decoder {
     mode: Mode,
@@ -47,7 +47,7 @@ pub struct Decoder {
 }
 
 impl Decoder {
-    /// A decoder that has read nothing, of a terminal that is not known to tell when a key is let go.
+    /// Makes a decoder that has read nothing, for a terminal that is not known to report releases.
     pub fn new() -> Self
         ensures { read_by result ≡ decoding.nothing_read }
     {
@@ -57,7 +57,7 @@ impl Decoder {
         }
     }
 
-    /// Reads a byte. The answer is what is told by the character or the sequence that ends with it.
+    /// Decodes one byte. Returns the signal of the character or sequence that ends with it.
     pub fn take(&mut self, byte: u8) -> Option<Signal>
         ensures told { result ≡ (decoding.step byte (read_by self.old)).told }
         ensures next { read_by self.new ≡ (decoding.step byte (read_by self.old)).next }
@@ -73,8 +73,8 @@ impl Decoder {
         }
     }
 
-    /// Tells that nothing comes after the last byte for now: an escape that stands alone was the key of
-    /// that name. In another sequence nothing changes, since a read may cut one.
+    /// Tells the decoder that no byte follows for now. A lone ESC was the escape key then. Other incomplete sequences
+    /// are kept, since a read may cut one.
     pub fn pause(&mut self) -> Option<Signal>
         ensures told { result ≡ (decoding.pause (read_by self.old)).told }
         ensures next { read_by self.new ≡ (decoding.pause (read_by self.old)).next }
@@ -165,7 +165,7 @@ impl Decoder {
         }
     }
 
-    /// A sequence goes on.
+    /// Keeps an incomplete sequence.
     fn read(&mut self, mode: Mode) -> Option<Signal>
         ensures told { result ≡ None }
         ensures next { read_by self.new ≡ (decoding.reads (reading_of mode) self.old.exact).next }
@@ -174,7 +174,7 @@ impl Decoder {
         None
     }
 
-    /// A sequence is complete.
+    /// Completes a sequence.
     fn tell(&mut self, signal: Option<Signal>) -> Option<Signal>
         ensures told { result ≡ signal }
         ensures next { read_by self.new ≡ (decoding.tells signal self.old.exact).next }
@@ -192,7 +192,7 @@ impl Default for Decoder {
     }
 }
 
-/// What a byte tells that stands alone.
+/// Returns the signal of a byte that is a character.
 fn character(byte: u8) -> Option<Signal>
     ensures { result ≡ character byte }
 {
@@ -203,7 +203,7 @@ fn character(byte: u8) -> Option<Signal>
     }
 }
 
-/// What is read of a control sequence after a byte that is not its last.
+/// Returns the mode after a byte of a control sequence that does not end it.
 fn control_with(numbers: Numbers, byte: u8) -> Mode
     ensures { reading_of result ≡ control_with byte (numbers_of numbers) }
 {
@@ -216,7 +216,7 @@ fn control_with(numbers: Numbers, byte: u8) -> Mode
     }
 }
 
-/// What is read of an answer after a byte that is not its last.
+/// Returns the mode after a byte of an answer that does not end it.
 fn answer_with(flags: u16, byte: u8) -> Mode
     ensures { reading_of result ≡ answer_with byte flags }
 {
@@ -226,22 +226,21 @@ fn answer_with(flags: u16, byte: u8) -> Mode
     }
 }
 
-/// Whether a terminal that answers these flags reports event types, so that it tells when a key is let
-/// go. That is the flag 2.
+/// Returns whether a terminal that answers these flags reports event types, and so releases: flag 2.
 fn reports_events(flags: u16) -> bool
     ensures { result ≡ reports_events flags }
 {
     flags / 2 % 2 == 1
 }
 
-/// Whether a byte may stand in a sequence.
+/// Returns whether a sequence may have this byte.
 fn is_text(byte: u8) -> bool
     ensures { result ≡ is_text byte }
 {
     byte >= b' ' && byte <= b'~'
 }
 
-/// Whether a byte ends a control sequence.
+/// Returns whether the byte ends a control sequence.
 fn is_last(byte: u8) -> bool
     ensures { result ≡ is_last byte }
 {

@@ -1,4 +1,4 @@
-//! The keys that are held in a frame.
+//! The keys that are held in each frame.
 ghost use Rattle.std.specs.Prelude.{◌≡◌, ◌<◌, ◌↔◌, ℕ, IsTrue};
 ghost use Rattle.c8_game.specs.Rules.{HasKey};
 ghost use Rattle.c8_terminal.specs.Decoder.{IsOfKeypad};
@@ -9,14 +9,14 @@ use crate::press::Press;
 use crate::signal::Signal;
 use c8_game::Keys;
 
-/// The keys of the keypad, 0 to 15.
+/// The number of keys of the keypad, 0 to 15.
 const KEYS: usize = 16;
 
-/// Keeps which keys are held down, by what a keyboard tells, and counts the frames.
+/// Turns the signals of a keyboard into the keys held in each frame.
 ///
-/// A key that is told to be down is held until it is told to be up, and for one frame at least. A key
-/// that is struck, and of which nothing more is told, counts as held for some frames: a number of the
-/// caller's, or 6 where it was struck no more than 45 frames before, so that the keyboard repeats it.
+/// A key that is down is held until it is up, and for at least one frame. A struck key, whose release is not reported,
+/// counts as held for a number of frames that the caller sets, or for 6 frames if its last stroke was at most 45 frames
+/// ago: then the keyboard repeats it.
 #[derive(Clone, Copy)]
 pub struct Held {
     hold: u8,
@@ -24,7 +24,7 @@ pub struct Held {
 }
 
 impl Held {
-    /// No key is held. A stroke counts for `hold` frames, 1 to 255, the first of which is the next one.
+    /// Makes the state with no key held. A stroke holds its key for `hold` frames, 1 to 255, from the next frame on.
     pub fn new(hold: u8) -> Self
         requires { 0 < hold }
         ensures hold { hold_of result ≡ hold }
@@ -36,8 +36,7 @@ impl Held {
         }
     }
 
-    /// Notes what a keyboard tells, of a key from 0 to 15. [`Signal::Quit`] and [`Signal::Repaint`]
-    /// change nothing.
+    /// Takes a signal. Its key is 0 to 15. [`Signal::Quit`] and [`Signal::Repaint`] change nothing.
     pub fn note(&mut self, signal: Signal)
         requires { IsOfKeypad signal }
         ensures hold { hold_of self.new ≡ hold_of self.old }
@@ -62,7 +61,7 @@ impl Held {
         }
     }
 
-    /// The keys that are held in the frame that begins now, which is counted.
+    /// Starts a frame, and returns the keys held in it.
     pub fn frame(&mut self) -> Keys
         ensures keys { (key : ℕ) → key < 16
             → HasKey result.0 key ↔ IsTrue (is_held (press_at self.old key)) }
@@ -75,7 +74,7 @@ impl Held {
         keys
     }
 
-    /// The keys that are held.
+    /// Returns the keys that are held.
     fn keys(&self) -> Keys
         ensures { (key : ℕ) → key < 16
             → HasKey result.0 key ↔ IsTrue (is_held (press_at self.now key)) }
@@ -89,7 +88,7 @@ impl Held {
         Keys(keys)
     }
 
-    /// A frame began.
+    /// Counts a frame for each key.
     fn count_frame(&mut self)
         ensures hold { hold_of self.new ≡ hold_of self.old }
         ensures presses { (key : ℕ) → key < 16

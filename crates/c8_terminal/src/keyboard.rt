@@ -1,8 +1,8 @@
-//! Which key of the keypad a key of the keyboard stands for.
+//! Maps keys of the keyboard to keys of the keypad.
 ghost use Rattle.std.specs.Prelude.{◌≡◌, ◌<◌};
 ghost use Rattle.c8_terminal.specs.Keyboard.{key_in, places, small, key_of, arrow_key};
 
-/// The key that a character stands for, by its place on the left block of the keyboard.
+/// Returns the key of a character, by its place on the left block of the keyboard.
 pub(crate) fn key_of(character: u16) -> Option<u8>
     ensures { result ≡ key_of character }
 {
@@ -12,7 +12,7 @@ pub(crate) fn key_of(character: u16) -> Option<u8>
     }
 }
 
-/// The key that has the place of a character, which is no capital letter.
+/// Returns the key at the place of a character that is not a capital letter.
 fn key_at(character: u8) -> Option<u8>
     ensures { result ≡ key_in places character }
 {
@@ -37,7 +37,7 @@ fn key_at(character: u8) -> Option<u8>
     }
 }
 
-/// A capital letter as a small one, and any other character as it is.
+/// Turns a capital letter into a small one; other characters stay.
 pub(crate) fn small(character: u16) -> u16
     ensures { result ≡ small character }
 {
@@ -48,7 +48,7 @@ pub(crate) fn small(character: u16) -> u16
     }
 }
 
-/// The key that an arrow stands for, by the last byte of what is sent for it.
+/// Returns the key of an arrow, by the last byte of its sequence.
 pub(crate) fn arrow_key(last: u8) -> Option<u8>
     ensures { result ≡ arrow_key last }
 {

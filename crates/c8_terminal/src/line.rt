@@ -1,4 +1,4 @@
-//! One row of text: the bytes that move the cursor to it, and 64 cells.
+//! One row of text: the bytes that move the cursor there, and 64 cells.
 ghost use Rattle.std.specs.Prelude.{◌≡◌, ◌+◌, ◌<◌, ◌≤◌, ◌++◌, length};
 ghost use Rattle.arrayvec.specs.ArrayVec.{array_vec_len};
 ghost use Rattle.c8_screen.specs.Points.{points_of};
@@ -7,13 +7,13 @@ ghost use Rattle.c8_terminal.specs.Painting.{cell, move, line};
 use arrayvec::ArrayVec;
 use c8_screen::{Screen, WIDTH};
 
-/// How many rows of text show a screen.
+/// The number of text rows of a screen.
 pub const TEXT_ROWS: u8 = 16;
 
-/// How many bytes a row of text has at most: 7 that move the cursor to it, and 3 a cell.
+/// The most bytes of a row of text: 7 to move the cursor, and 3 for each cell.
 pub const LONGEST_LINE: usize = 199;
 
-/// How many bytes a painting has at most.
+/// The most bytes of a painting.
 pub const LONGEST_PAINTING: usize = 3184;
 
 const BLANK: [u8; 1] = [b' '];
@@ -37,7 +37,7 @@ pub(crate) fn put_line(screen: &Screen, y: u8, out: &mut ArrayVec<u8, LONGEST_PA
     }
 }
 
-/// Appends what moves the cursor to the first column of a row, counted from 1.
+/// Appends the bytes that move the cursor to the first column of a row, counted from 1.
 fn put_move(row: u8, out: &mut ArrayVec<u8, LONGEST_PAINTING>)
     requires row { row < 100 }
     requires room { array_vec_len out.old + 7 ≤ LONGEST_PAINTING }
@@ -62,7 +62,7 @@ fn put_move(row: u8, out: &mut ArrayVec<u8, LONGEST_PAINTING>)
     }
 }
 
-/// The character of two points, one above the other.
+/// Returns the character of two points, one above the other.
 fn cell(upper: bool, lower: bool) -> &'static [u8]
     ensures { result.now ≡ cell upper lower }
 {

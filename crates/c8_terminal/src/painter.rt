@@ -1,4 +1,4 @@
-//! A painter of screens, which writes what has changed.
+//! Paints screens: writes what changed.
 ghost use Rattle.std.specs.Prelude.{◌≡◌, ◌<◌, ◌≤◌, [], length, Some, None};
 ghost use Rattle.arrayvec.specs.ArrayVec.{array_vec_len};
 ghost use Rattle.c8_screen.specs.Points.{points_of};
@@ -10,8 +10,8 @@ use crate::line::{LONGEST_PAINTING, TEXT_ROWS, put_line};
 use arrayvec::ArrayVec;
 use c8_screen::{HEIGHT, Screen};
 
-/// Makes the bytes that turn what a terminal shows into a screen. It remembers the screen that it
-/// painted last, and has room for the bytes of a whole one: no call takes memory.
+/// Makes the bytes that turn what a terminal shows into a screen. It keeps the screen that it painted last. It has room
+/// for the bytes of a whole screen: no call takes memory.
 #[derive(Drop)]
 pub struct Painter {
     shown: Option<Screen>,
@@ -19,8 +19,7 @@ pub struct Painter {
 }
 
 impl Painter {
-    /// A painter that knows nothing of what its terminal shows, so its first painting is of all 16
-    /// rows of text.
+    /// Makes a painter that does not know what its terminal shows. Its first painting is of all 16 rows of text.
     pub fn new() -> Self
         ensures known { known_to result ≡ None }
         ensures bytes { painted_by result ≡ [] }
@@ -31,8 +30,8 @@ impl Painter {
         }
     }
 
-    /// Forgets what the terminal shows, where something else may have been written there: the next
-    /// painting is of all 16 rows of text. The bytes of the last one stay.
+    /// Forgets what the terminal shows. Call it if something else may have been written there: the next painting is of
+    /// all 16 rows of text. [`Painter::bytes`] does not change.
     pub fn forget(&mut self)
         ensures known { known_to self.new ≡ None }
         ensures bytes { painted_by self.new ≡ painted_by self.old }
@@ -40,10 +39,12 @@ impl Painter {
         self.shown = None;
     }
 
-    /// Paints a screen: a terminal that shows what was painted last shows this screen once it has
-    /// read all of [`Painter::bytes`]. They are the rows of text that differ, each `ESC [ row ; 1 H`
-    /// and 64 cells, in UTF-8: a space, `▀`, `▄` or `█`. The terminal has at least 64 columns and 16
-    /// rows, in which nothing else was written. Where writing fails, [`Painter::forget`].
+    /// Paints a screen. A terminal that shows the last painting shows this screen after it has read all of
+    /// [`Painter::bytes`].
+    ///
+    /// The bytes are the text rows that differ, each `ESC [ row ; 1 H` and 64 cells in UTF-8: a space, `▀`, `▄` or `█`.
+    /// The terminal needs at least 64 columns and 16 rows, and nothing else may be written there. If the write fails,
+    /// call [`Painter::forget`].
     pub fn paint(&mut self, screen: &Screen)
         ensures shows { Repaints (known_to self.old) (painted_by self.new) (points_of screen.now) }
         ensures known { known_to self.new ≡ Some (points_of screen.now) }
@@ -59,8 +60,8 @@ impl Painter {
         self.shown = Some(*screen);
     }
 
-    /// The bytes of the last painting, at most 3,184. They are to be written in one call, so that no
-    /// half picture is seen. There are none before the first painting, and none where nothing changed.
+    /// Returns the bytes of the last painting, at most 3,184. Write them in one call, so that no half picture is seen.
+    /// They are empty before the first painting, and after one that changes nothing.
     pub fn bytes(&self) -> &[u8]
         ensures bytes { result.now ≡ painted_by self.now }
         ensures fits { length result.now ≤ LONGEST_PAINTING }
@@ -77,7 +78,7 @@ impl Default for Painter {
     }
 }
 
-/// Whether text row `y` of a screen differs from what is shown, if that is known.
+/// Returns whether text row `y` of a screen differs from what is shown; true if that is not known.
 fn is_due(shown: &Option<Screen>, screen: &Screen, y: u8) -> bool
     requires { y < TEXT_ROWS }
     ensures { result ≡ is_due (seen shown.now) (points_of screen.now) y }
@@ -88,7 +89,7 @@ fn is_due(shown: &Option<Screen>, screen: &Screen, y: u8) -> bool
     }
 }
 
-/// Whether two screens have the same points in row `y`.
+/// Returns whether two screens have the same points in row `y`.
 fn same_row(a: &Screen, b: &Screen, y: u8) -> bool
     requires { y < HEIGHT }
     ensures { result ≡ same_row (points_of a.now) (points_of b.now) y }

@@ -1,32 +1,32 @@
-//! What is known of a key between two frames.
+//! The state of a key between two frames.
 ghost use Rattle.std.specs.Prelude.{◌≡◌};
 ghost use Rattle.c8_terminal.specs.Held.{press_of};
 ghost use Rattle.c8_terminal.specs.Strokes as strokes;
 
-/// For how many frames a repeated stroke counts.
+/// How many frames a repeated stroke holds its key.
 const REPEAT: u8 = 6;
 
-/// A stroke is a repeat where the one before is so many frames ago at most.
+/// A stroke is a repeat if the last one was at most this many frames ago.
 const LATEST_REPEAT: u8 = 45;
 
-/// Longer ago than a stroke that may be repeated.
+/// The count for a stroke too long ago to be repeated.
 const LONG_AGO: u8 = 46;
 
-/// What is known of a key between two frames.
+/// The state of a key between two frames.
 #[derive(Clone, Copy)]
 pub(crate) struct Press {
-    /// It was told to be down, and not to be up since.
+    /// A signal said that the key is down, and none since that it is up.
     down: bool,
-    /// That was told since the last frame began, or it was struck since then.
+    /// The key went down, or was struck, since the last frame began.
     unseen: bool,
-    /// For how many frames it counts as held, the next one first, whether it is down or not.
+    /// For how many more frames the key counts as held, whether or not it is down.
     left: u8,
-    /// How many frames began since it was last struck, [`LONG_AGO`] for more.
+    /// How many frames began since its last stroke; [`LONG_AGO`] for more.
     since: u8,
 }
 
 impl Press {
-    /// A key that nothing was told of.
+    /// A key without any signal.
     pub(crate) const NONE: Press = Press {
         down: false,
         unseen: false,
@@ -34,7 +34,7 @@ impl Press {
         since: LONG_AGO,
     };
 
-    /// Struck: for `hold` frames, or for 6 where that is a repeat; not shorter than without it.
+    /// Strikes the key: holds it for `hold` frames, or for 6 if this is a repeat; never for fewer than before.
     pub(crate) fn struck(self, hold: u8) -> Self
         ensures { press_of result ≡ strokes.struck hold (press_of self) }
     {
@@ -51,7 +51,7 @@ impl Press {
         }
     }
 
-    /// Held down from now on, and for one frame at least; if it is down already, that is told again.
+    /// Presses the key: holds it until it is released, and for at least one frame. Changes nothing if it is down.
     pub(crate) fn pressed(self) -> Self
         ensures { press_of result ≡ strokes.pressed (press_of self) }
     {
@@ -67,7 +67,7 @@ impl Press {
         }
     }
 
-    /// Let go: held no longer, but for one frame where no frame has seen it.
+    /// Releases the key: holds it for one more frame if no frame has seen it, else for none.
     pub(crate) fn released(self) -> Self
         ensures { press_of result ≡ strokes.released (press_of self) }
     {
@@ -79,14 +79,14 @@ impl Press {
         }
     }
 
-    /// Whether the key counts as held in the frame that begins.
+    /// Returns whether the key counts as held in the next frame.
     pub(crate) fn is_held(self) -> bool
         ensures { result ≡ strokes.is_held (press_of self) }
     {
         self.down || self.left > 0
     }
 
-    /// What is known of the key after a frame began.
+    /// Returns the key's state after a frame began.
     pub(crate) fn after_frame(self) -> Self
         ensures { press_of result ≡ strokes.after_frame (press_of self) }
     {

@@ -1,4 +1,4 @@
-//! The numbers of a control sequence, and what it tells of keys.
+//! The numbers of a control sequence, and the signal that it gives.
 ghost use Rattle.std.specs.Prelude.{◌≡◌, ◌<◌, ◌≤◌, ◌+◌, true, false};
 ghost use Rattle.c8_terminal.specs.Decoder.{numbers_of};
 ghost use Rattle.c8_terminal.specs.Decoding as decoding;
@@ -7,14 +7,14 @@ ghost use Rattle.c8_terminal.specs.Decoding.{arrow, has_control, is_blank, is_le
 use crate::keyboard::{arrow_key, key_of, small};
 use crate::signal::Signal;
 
-/// The number of a key that was let go, as a terminal tells it. Those below are of a key that is down.
+/// The event number of a release. Lower numbers are of a key that is down.
 const LET_GO: u16 = 3;
 
-/// The character of escape.
+/// The character of the escape key.
 const ESCAPE: u16 = 27;
 
-/// The numbers of a control sequence so far. They stand in fields, which `;` separates, and these in
-/// parts, which `:` separates; both are counted from 0. A number that has not come is 0.
+/// The numbers of a control sequence so far. `;` separates its fields, `:` the parts of a field; both are counted from
+/// 0. A number that has not come is 0.
 #[derive(Clone, Copy)]
 pub(crate) struct Numbers {
     field: u8,
@@ -26,7 +26,7 @@ pub(crate) struct Numbers {
 }
 
 impl Numbers {
-    /// No number has come.
+    /// Makes the numbers before the first byte.
     pub(crate) fn new() -> Self
         ensures { numbers_of result ≡ decoding.no_numbers }
     {
@@ -40,7 +40,7 @@ impl Numbers {
         }
     }
 
-    /// The numbers with one more digit, given as its character.
+    /// Adds a digit, given as its character.
     pub(crate) fn with_number(mut self, digit: u8) -> Self
         requires from { 0x30 ≤ digit }
         requires to { digit ≤ 0x39 }
@@ -56,7 +56,7 @@ impl Numbers {
         self
     }
 
-    /// What follows is the next part of a field. All parts from the fourth on are as one.
+    /// Starts the next part of a field. All parts from the fourth on count as one.
     pub(crate) fn next_part(self) -> Self
         ensures { numbers_of result ≡ decoding.next_part (numbers_of self) }
     {
@@ -64,7 +64,7 @@ impl Numbers {
         Numbers { part, ..self }
     }
 
-    /// What follows is the next field. All fields from the third on are as one.
+    /// Starts the next field. All fields from the third on count as one.
     pub(crate) fn next_field(self) -> Self
         ensures { numbers_of result ≡ decoding.next_field (numbers_of self) }
     {
@@ -76,21 +76,21 @@ impl Numbers {
         }
     }
 
-    /// Whether nothing but zeros has come.
+    /// Returns whether nothing but zeros has come.
     pub(crate) fn is_blank(self) -> bool
         ensures { result ≡ is_blank (numbers_of self) }
     {
         self.field == 0 && self.part == 0 && self.code == 0
     }
 
-    /// Whether an event is named, so that the terminal tells when a key is let go.
+    /// Returns whether the sequence names an event, which shows that the terminal reports releases.
     pub(crate) fn names_event(self) -> bool
         ensures { result ≡ decoding.names_event (numbers_of self) }
     {
         self.event > 0
     }
 
-    /// What the sequence tells that ends with a byte.
+    /// Returns the signal of a sequence that ends with this byte.
     pub(crate) fn meaning(self, last: u8, exact: bool) -> Option<Signal>
         ensures { result ≡ meaning last (numbers_of self) exact }
     {
@@ -101,7 +101,7 @@ impl Numbers {
         }
     }
 
-    /// What an event of a key tells.
+    /// Returns the signal of an event of a key.
     fn key_event(self, exact: bool) -> Option<Signal>
         ensures { result ≡ key_event (numbers_of self) exact }
     {
@@ -116,7 +116,7 @@ impl Numbers {
         }
     }
 
-    /// What a letter with control tells.
+    /// Returns the signal of a letter with control.
     fn with_control(self) -> Option<Signal>
         ensures { result ≡ with_control (numbers_of self) }
     {
@@ -129,21 +129,21 @@ impl Numbers {
         }
     }
 
-    /// The key of the keypad, by the place of the key that was used, if that is told.
+    /// Returns the key of the keypad, by the place of the key that was used, if the terminal gives it.
     fn key(self) -> Option<u8>
         ensures { result ≡ decoding.key_at (numbers_of self) }
     {
         key_of(if self.base == 0 { self.code } else { self.base })
     }
 
-    /// Whether control is held.
+    /// Returns whether control is held.
     fn has_control(self) -> bool
         ensures { result ≡ has_control (numbers_of self) }
     {
         self.modifiers.saturating_sub(1) / 4 % 2 == 1
     }
 
-    /// Whether the key is that of a letter, on this keyboard or by its place.
+    /// Returns whether the key is this letter, by its character or by its place.
     fn is_letter(self, letter: u8) -> bool
         ensures { result ≡ is_letter letter (numbers_of self) }
     {
@@ -151,7 +151,7 @@ impl Numbers {
     }
 }
 
-/// A number with one more digit, given as its character. What is greater than 65535 stays there.
+/// Appends a digit, given as its character, to a number. Numbers above 65535 become 65535.
 pub(crate) fn with_digit(number: u16, digit: u8) -> u16
     requires from { 0x30 ≤ digit }
     requires to { digit ≤ 0x39 }
@@ -162,15 +162,15 @@ pub(crate) fn with_digit(number: u16, digit: u8) -> u16
         .saturating_add(u16::from(digit - b'0'))
 }
 
-/// What the last byte of a sequence tells of an arrow, with the event that it names.
+/// Returns the signal of an arrow, by the last byte of the sequence and the event.
 pub(crate) fn arrow(last: u8, event: u16, exact: bool) -> Option<Signal>
     ensures { result ≡ arrow last event exact }
 {
     told_of(arrow_key(last), event, exact)
 }
 
-/// What an event of a key of the keypad tells. Where none is named the key is held until it is let go,
-/// if the terminal tells that.
+/// Returns the signal of an event of a key of the keypad. If no event is named, an exact terminal holds the key until
+/// its release; for another the key is struck.
 pub(crate) fn told_of(key: Option<u8>, event: u16, exact: bool) -> Option<Signal>
     ensures { result ≡ decoding.told_of_any key event exact }
 {

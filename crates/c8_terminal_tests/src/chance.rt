@@ -1,5 +1,5 @@
-//! 10,000 screens by chance, each painted over the one before: the terminal shows each as it is, and
-//! is written to only where a row of text differs.
+//! Paints 10,000 random screens, one over the other: the terminal shows each of them, and only rows of text that differ
+//! are written.
 use crate::terminal::Terminal;
 use c8_screen::Screen;
 use c8_terminal::Painter;
@@ -9,7 +9,7 @@ use rand_pcg::rand_core::utils::{NextWord, next_u64_via_u32};
 
 const SCREENS: u32 = 10_000;
 
-/// How often what came.
+/// How often each kind of change came.
 #[derive(Clone, Copy)]
 struct Counted {
     same: u32,
@@ -18,7 +18,7 @@ struct Counted {
     forgotten: u32,
 }
 
-/// Changes nothing, one point, a row, or all of them.
+/// Changes nothing, one point, one row, or all rows.
 fn change(numbers: &mut Pcg32, rows: &mut [u64; 32]) {
     let row = (numbers.next_word() % 32) as usize;
     match numbers.next_word() % 8 {
@@ -34,7 +34,7 @@ fn change(numbers: &mut Pcg32, rows: &mut [u64; 32]) {
     }
 }
 
-/// How many rows of text differ.
+/// Returns how many rows of text differ.
 fn differing(before: &[u64; 32], rows: &[u64; 32]) -> usize {
     let mut count: usize = 0;
     for y in 0..16usize {
@@ -45,12 +45,12 @@ fn differing(before: &[u64; 32], rows: &[u64; 32]) -> usize {
     count
 }
 
-/// How many rows of text are written.
+/// Returns how many rows of text are written.
 fn written(bytes: &[u8]) -> usize {
     bytes.iter().filter(|byte| **byte == 0x1b).count()
 }
 
-/// What was counted, or the number of the first screen that is not shown as it should be.
+/// Returns the counts, or the number of the first screen that is not shown right.
 fn painted(seed: u64) -> Result<Counted, u32> {
     let mut numbers = Pcg32::seed_from_u64(seed);
     let mut counted = Counted {

@@ -1,5 +1,4 @@
-//! The tests of c8_terminal: exact bytes, 10,000 screens by chance on a terminal of their own, and the
-//! bytes of a keyboard.
+//! The tests of c8_terminal: exact bytes, 10,000 random screens on a test terminal, and the bytes of a keyboard.
 #![tactic(auto)]
 
 #[cfg(test)]

@@ -1,4 +1,4 @@
-//! Exact bytes.
+//! The exact bytes of paintings.
 use c8_screen::Screen;
 use c8_terminal::{ENTER, LEAVE, LONGEST_PAINTING, Painter};
 

@@ -1,5 +1,5 @@
-//! A terminal of 17 rows of 64 cells, which knows characters and one command. It takes the characters
-//! from the standard library, and refuses whatever else comes.
+//! A test terminal of 17 rows of 64 cells, which knows characters and one command. The standard library decodes the
+//! characters. It refuses everything else.
 use c8_screen::Screen;
 
 const ROWS: usize = 17;
@@ -8,7 +8,7 @@ const COLUMNS: usize = 64;
 
 const CELLS: usize = 1088;
 
-/// What has been read of a command.
+/// The part of a command that has been read.
 #[derive(Clone, Copy)]
 enum Command {
     None,
@@ -17,7 +17,7 @@ enum Command {
     Column(u32, u32),
 }
 
-/// Rows and columns are counted from 0.
+/// A terminal. Rows and columns are counted from 0.
 #[derive(Drop)]
 pub(crate) struct Terminal {
     row: usize,
@@ -26,7 +26,7 @@ pub(crate) struct Terminal {
 }
 
 impl Terminal {
-    /// A terminal that shows one character everywhere.
+    /// Makes a terminal that shows one character everywhere.
     pub(crate) fn filled(filler: char) -> Terminal {
         Terminal {
             row: 5,
@@ -35,7 +35,7 @@ impl Terminal {
         }
     }
 
-    /// Reads bytes. The answer is whether they are whole characters and commands that it knows.
+    /// Reads bytes. Returns whether they are whole characters and commands that it knows.
     pub(crate) fn read(&mut self, bytes: &[u8]) -> bool {
         let Ok(text) = str::from_utf8(bytes) else {
             return false;
@@ -50,7 +50,7 @@ impl Terminal {
         matches!(command, Command::None)
     }
 
-    /// Whether the upper 16 rows show a screen, and the last is full of one character.
+    /// Returns whether the upper 16 rows show a screen, and the last row one character.
     pub(crate) fn shows(&self, screen: &Screen, filler: char) -> bool {
         self.cells == picture(screen, filler)
     }
@@ -84,12 +84,12 @@ impl Terminal {
     }
 }
 
-/// A number with one more digit.
+/// Appends a digit to a number.
 fn with_digit(number: u32, c: char) -> Option<u32> {
     number.checked_mul(10)?.checked_add(c.to_digit(10)?)
 }
 
-/// The cells of a terminal that shows a screen, above a row full of one character.
+/// Returns the cells of a terminal that shows a screen, above a row of one character.
 fn picture(screen: &Screen, filler: char) -> [char; CELLS] {
     let mut cells = [filler; CELLS];
     for y in 0..16u8 {

@@ -1,4 +1,4 @@
--- How many of the own inputs each player acknowledges, and which are still to be sent to it.
+-- How many of the own inputs each player has acknowledged, and which are still to be sent to it.
 use Rattle.std.specs.Prelude.{ℕ, ◌==◌, ◌≤◌, List, take, drop, max, slice_index, if◌then◌else◌}
 use Rattle.c8_wire.specs.Sizes.{longest_run}
 use Rattle.c8_known.specs.Known.{KnownValue, player_in}
@@ -13,7 +13,7 @@ pub record WindowValue : Type 0 where
 abbrev pub acked_of : WindowValue → ℕ → ℕ
 acked_of w q = if q == 1 then w.one else (if q == 2 then w.two else (if q == 3 then w.three else (if q == 4 then w.four else 0)))
 
--- the same, but for one player
+-- the same except for one player
 abbrev pub with_acked : WindowValue → ℕ → ℕ → WindowValue
 with_acked w q count = record {
   one = if q == 1 then count else w.one;
@@ -22,11 +22,11 @@ with_acked w q count = record {
   four = if q == 4 then count else w.four;
 }
 
--- the empty sets of the delay need not be sent: everybody has them
+-- the empty sets of the delay need not be sent: every player has them
 abbrev pub first_window : ℕ → WindowValue
 first_window delay = record { one = delay; two = delay; three = delay; four = delay }
 
--- An acknowledgement takes nothing back: the greatest counts.
+-- An acknowledgement is never taken back: the greatest count is kept.
 abbrev pub acked_more : WindowValue → ℕ → ℕ → WindowValue
 acked_more w q count = with_acked w q (max (acked_of w q) count)
 
@@ -34,6 +34,6 @@ acked_more w q count = with_acked w q (max (acked_of w q) count)
 abbrev pub pending_of : WindowValue → KnownValue → ℕ → List ℕ
 pending_of w k q = take longest_run (drop (acked_of w q) (player_in k k.me).held)
 
--- how the counts that the code keeps are seen
+-- what the counts of the code stand for
 abbrev pub seen : List ℕ → WindowValue
 seen acked = record { one = slice_index acked 0; two = slice_index acked 1; three = slice_index acked 2; four = slice_index acked 3 }

@@ -1,8 +1,7 @@
-//! Which of the own inputs are still to be sent to whom.
+//! Which own inputs are still to be sent to each player.
 //!
-//! Each other player acknowledges how many of the own inputs it holds. What it has not acknowledged
-//! is sent to it again and again, at most 64 inputs at a time. The definitions are in
-//! `specs/Window.antt`. Nothing here takes memory.
+//! Each other player acknowledges how many of the own inputs it holds. The rest is retransmitted to it until it is
+//! acknowledged, at most 64 inputs at a time. The definitions are in `specs/Window.antt`. Nothing here takes memory.
 #![tactic(auto)]
 
 mod error;

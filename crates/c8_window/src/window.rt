@@ -1,4 +1,4 @@
-//! What each player has acknowledged of the own inputs.
+//! Which own inputs each player has acknowledged.
 ghost use Rattle.std.specs.Prelude.{◌≡◌, ◌≢◌, ℕ, ◌≤◌, ◌<◌, length, MatchResult};
 ghost use Rattle.c8_known.specs.Known.{count_in};
 ghost use Rattle.c8_window.specs.Window.{acked_of, first_window, acked_more, pending_of};
@@ -24,7 +24,7 @@ impl Model for Window {
 }
 
 impl Window {
-    /// Nothing is acknowledged but the empty sets of the delay.
+    /// Makes the window at the start: only the empty sets of the delay are acknowledged.
     pub fn new(game: &Game) -> Window
         ensures { result ≡ first_window game.now.delay }
     {
@@ -33,15 +33,15 @@ impl Window {
         }
     }
 
-    /// How many of the own inputs a player has acknowledged.
+    /// Returns how many of the own inputs a player has acknowledged.
     pub fn acked(&self, player: Player) -> u32
         ensures { result ≡ acked_of self.now player.number }
     {
         self.acked[player.place()]
     }
 
-    /// Takes an acknowledgement of `count` of the own inputs. One of more inputs than there are is
-    /// refused and changes nothing; one of fewer than before changes nothing.
+    /// Takes a player's acknowledgement of the first `count` own inputs. It is refused, and changes nothing, if there
+    /// are fewer own inputs. A count below an earlier one changes nothing.
     pub fn ack(&mut self, player: Player, count: u32, known: &Known) -> Result<(), BadAck>
         ensures judged { MatchResult result
             (λ _. count ≤ count_in known.now known.now.me)
@@ -61,8 +61,7 @@ impl Window {
         Ok(())
     }
 
-    /// The own inputs that a player has not acknowledged, at most 64 of them, lent from what is
-    /// known.
+    /// Lends the own inputs that a player has not acknowledged, at most the first 64 of them.
     pub fn pending<'a>(&self, player: Player, known: &'a Known) -> &'a [u16]
         ensures pending { result.now ≡ pending_of self.now known.entry.now player.number }
         ensures most { length result.now ≤ LONGEST_RUN }

@@ -1,4 +1,4 @@
--- What no event is ever answered.
+-- Answers that no event ever has.
 use Rattle.c8_spectator.specs.Growth.{ShowsRowsOf}
 use Rattle.std.proofs.Common.{◌≡◌, ◌≢◌, ◌⊎◌, inl, inr, ⊎_elim, ℕ, ◌<◌, ◌^◌, List, Option, Some, None, Ok, refl, sym, ap, subst, ◌∙◌, Err}
 use Rattle.std.specs.List.{slice_get}
@@ -31,7 +31,7 @@ use Rattle.c8_known.specs.Confirmed.{confirmed_rows}
 
 -- ---- a call
 
--- a disk that refuses a record is another answer
+-- the answer to a disk that refuses a record is another one
 calm_by_disk : (J : ℕ → List Record) (p q : ℕ) (call : Call) (why : DiskError) → AnswersCalmly J p q (refused_by_disk call why)
 calm_by_disk J p q (states.Tick keys) why = unrefused J p q _ (λ x e. cc e)
 calm_by_disk J p q (states.Deliver told) why = calm_other J p q _ (λ e. cc e) (λ e. cc e) (λ e. cc e)
@@ -46,7 +46,7 @@ calm_done J p q s call o None luck calm = calm
 calm_done J p q s call o (Some r) Works calm = calm
 calm_done J p q s call o (Some r) (Refuses why) calm = calm_by_disk J p q call why
 
--- the same of an answer
+-- the same for an answer
 abbrev IsCalmAnswer : (ℕ → List Record) → ℕ → ℕ → Answer → Type 0
 IsCalmAnswer J p q answer = (why : Refused) → answer ≡ refused_for why → IsCalm J p q why
 
@@ -72,7 +72,7 @@ calm_call_at rules room w p call luck range sound worldly =
 
 -- ---- a delivery
 
--- a refusal of what was said: somebody said it
+-- why a datagram that was sent is refused: some player sent it
 record IsRefusalOf (w : World) (p : ℕ) (o : Option Packet) (why : Refused) : Type 0 where
   packet : Packet
   is : o ≡ Some packet
@@ -121,7 +121,7 @@ opens_otherwise rules room w p h states.Open why = λ e. cc e
 opens_otherwise rules room w p h Down why = opened_otherwise rules room p (peer_of w p) (found (peer_of w p) h.finds) h.opening why
 opens_otherwise rules room w p h Away why = opened_otherwise rules room p (peer_of w p) (found (peer_of w p) h.finds) h.opening why
 
--- a watcher's answer is no peer's
+-- a watcher's answer is not a peer's
 watched_otherwise : (rules : Rules) (room : ℕ) (w : World) (watcher : ℕ) (o : Option Packet) (why : Refused) → (hear_at rules room w watcher o).answer ≢ refused_for why
 watched_otherwise rules room w watcher None why = λ e. cc e
 watched_otherwise rules room w watcher (Some packet) why = λ e. cc e
@@ -165,9 +165,9 @@ unfolding acted
 never_differs_watched laws rules room w v watcher number answer range few reached can e =
     hear_agrees rules room w watcher number (slice_get w.said number) (reached_sound laws rules room w range few reached) refl (ap (λ (a : After). a.answer) can.is ∙ e)
 
--- ---- while nobody leaves
+-- ---- while no player is dropped
 
--- of a number that is not there nothing is delivered
+-- a number without a datagram delivers nothing
 none_given : (rules : Rules) (w : World) (p : ℕ) (luck : Luck) (o : Option Packet) (answer : Answer) (v : World) → o ≡ None → give_to rules w p luck o ≡ record { answer = answer; world = v } → answer ≢ refused_for Desync
 none_given rules w p luck None answer v none is e = let same : NoSuch ≡ answer = ap (λ (a : After). a.answer) is in absurd (cc (same, e))
 none_given rules w p luck (Some packet) answer v none is e = absurd cc

@@ -1,4 +1,4 @@
--- Why no open peer answers BadAck to what was said, and why an undropped one answers neither Differs nor Desync.
+-- Why no open peer answers a datagram that was sent with BadAck, and no undropped one with Differs or Desync.
 use Rattle.c8_known.specs.Growth.{Stands}
 use Rattle.std.proofs.Common.{◌≡◌, ◌≢◌, ℕ, zero, suc, ◌+◌, ◌-◌, ◌*◌, ◌/◌, ◌<◌, ◌≤◌, List, [], ◌∷◌, length, drop, map, Bool, true, false, cond, Option, Some, None, refl, sym, ap, subst, ◌∙◌, arith}
 use Rattle.std.specs.Prelude.{◌==◌, nat_lt, fold, if◌then◌else◌}
@@ -32,7 +32,7 @@ use Rattle.c8_world.proofs.Records.{said_known, count_known, me_is}
 
 -- ---- acknowledgements
 
--- nobody holds more of a player's inputs than that player
+-- no peer holds more of a player's inputs than that player
 pub holds_no_more : (rules : Rules) (room : ℕ) (J : ℕ → List Record) (p q : ℕ) → AreSound rules room J → IsPlayer rules p → IsPlayer rules q → count rules p (J q) ≤ count rules p (J p)
 holds_no_more rules room J p q sound plays q_plays = begins_length (held rules p (J q)) (held rules p (J p)) (sound.begins q p q_plays plays)
 
@@ -49,7 +49,7 @@ no_bad_ack rules room J p q ack sound plays q_plays few is =
 
 -- ---- runs
 
--- a run that stands in what a player entered differs nowhere from what another one holds of it
+-- a run that is in what a player entered does not differ from what another one holds of it
 pub no_difference : (rules : Rules) (room : ℕ) (J : ℕ → List Record) (p q start : ℕ) (words : List ℕ) → AreSound rules room J → IsPlayer rules p → IsPlayer rules q
     → Stands start words (held rules q (J q)) → differ (drop start (player_in (known_of rules p (J p)) q).held) words ≡ false
 no_difference rules room J p q start words sound plays q_plays stands =
@@ -61,7 +61,7 @@ some_past : (test : Bool) (x error : KnownError) (others : Option KnownError) �
 some_past true x error others e apart rest = λ same. let here : x ≡ error = cc in apart (here ∙ same)
 some_past false x error others e apart rest = rest e
 
--- where nothing differs, that is not why inputs cannot be held
+-- inputs that do not differ are not refused because they differ
 pub not_differs : (k : KnownValue) (q start : ℕ) (words : List ℕ) (error : KnownError) → differ (drop start (player_in k q).held) words ≡ false → misfit k q start words ≡ Some error → error ≢ knowns.Differs
 not_differs k q start words error same e =
     some_past (nat_lt k.limit (start + length words)) knowns.Full error _ e (λ x. cc x) (λ gap.
@@ -84,7 +84,7 @@ each_of : {X : Type 0} (P : X → Type 0) (f : ℕ → X) (from n : ℕ) → ((i
 each_of P f from zero holds = tt
 each_of P f from (suc n) holds = (holds from (omega arith), each_of P f (from + 1) n (λ i below. holds i (omega (arith, below))))
 
--- what holds of each mark of a frame holds of the one that is found
+-- a property of all marks of a frame holds for the mark that is found
 abbrev HoldsIf : (List ℕ → Type 0) → Option (List ℕ) → Type 0
 HoldsIf Q None = Unit {0}
 HoldsIf Q (Some mark) = Q mark
@@ -100,7 +100,7 @@ found_among Q frame (m ∷ marks) start first each =
     found_among Q frame marks (if m.frame == frame then Some m.mark else start)
     (found_if Q (m.frame == frame) m.mark start (λ is. each.0 (eqb-true m.frame frame is)) first) each.1
 
--- a mark that is kept of a frame is that of the machine after so many confirmed rows
+-- a kept mark of a frame is that of the machine after this many confirmed rows
 abbrev IsMarkOf : Rules → KnownValue → ℕ → List ℕ → Type 0
 IsMarkOf rules k frame mark = (frame ≤ confirmed k) × (mark ≡ mark_of (serial rules (rows_below k frame)))
 
@@ -119,7 +119,6 @@ same_mark Q None mark holds same = refl
 same_mark Q (Some own) mark holds same =
     subst (λ (other : List ℕ). differ own other ≡ false) (same own holds) (begin_one own own own (begins_same own) (begins_same own))
 
--- two undropped players have the same mark of a frame
 -- the own marks are those of the serial run
 own_marks : (rules : Rules) (p : ℕ) (journal : List Record) → HasTrueChecks rules p journal → (told_of rules p journal).marks ≡ marks_up_to rules (known_of rules p journal) (confirmed (known_of rules p journal))
 unfolding told_of

@@ -1,4 +1,4 @@
--- What the disks were told in many events, one event more at a time.
+-- How the disks were armed in a list of events, one more event at a time.
 use Rattle.std.proofs.Common.{◌≡◌, inl, inr, ℕ, ◌<◌, Bool, true, false, nat_eq, List, [], ◌∷◌, ◌++◌, length, take, drop, ◌+◌, slice_index_or, refl, sym, ap, ◌∙◌}
 use Rattle.std.specs.Prelude.{if◌then◌else◌}
 use Rattle.std.proofs.lemmas.List.{append_assoc, append-nil}
@@ -27,7 +27,7 @@ pub arms_more : (events : List asked.Event) (event : asked.Event) (p : ℕ) → 
 arms_more [] event p = append-nil (arms_by event p)
 arms_more (first ∷ events) event p = ap (λ (xs : List Arm). arms_by first p ++ xs) (arms_more events event p) ∙ sym (append_assoc (arms_by first p) (arms_in events p) (arms_by event p))
 
--- one disk is told something, an act keeps what all were told, and then that disk is told something else
+-- one disk is armed, an act arms none, and then that disk is armed again
 told_both : (a b : Arm) (x : Bool) → (if x then a ∷ [] else []) ++ (if x then b ∷ [] else []) ≡ (if x then a ∷ b ∷ [] else [])
 told_both a b true = refl
 told_both a b false = refl
@@ -41,14 +41,14 @@ are_armed_round old mid acted new player a b first last begins keeps ends p play
     ∙ armed_twice (for_player player (a ∷ []) p) (for_player player (b ∷ []) p) (setting_at old p)
     ∙ ap (λ (xs : List Arm). armed xs (setting_at old p)) (told_both a b (nat_eq p player))
 
--- one event more of those that are run
+-- one more event of those that are run
 pub are_armed_next : (old mid new : TableValue) (events : List asked.Event) (i : ℕ) (event : asked.Event) → i < length events → event ≡ slice_index_or events i event → IsSameMatch old mid
     → AreArmed (arms_in (take i events)) old mid → AreArmed (arms_by event) mid new → AreArmed (arms_in (take (i + 1) events)) old new
 are_armed_next old mid new events i event within is same first last p plays =
     are_armed_more old mid new (arms_in (take i events)) (arms_by event) same first last p plays
     ∙ ap (λ (xs : List Arm). armed xs (setting_at old p)) (sym (arms_more (take i events) event p) ∙ ap (λ (xs : List asked.Event). arms_in xs p) (sym (one_more events i event within is)))
 
--- memory is refused at an event
+-- memory was refused at an event
 pub are_armed_out : (old mid new : TableValue) (events : List asked.Event) (i : ℕ) (event : asked.Event) → i < length events → event ≡ slice_index_or events i event → IsSameMatch old mid
     → AreArmed (arms_in (take i events)) old mid → AreArmed (arms_taken_back event) mid new → AreArmedOut events old new
 are_armed_out old mid new events i event within is same first last = record {
@@ -58,6 +58,6 @@ are_armed_out old mid new events i event within is same first last = record {
   armed = inr (event, drop (i + 1) events, refl, are_armed_more old mid new (arms_in (take i events)) (arms_taken_back event) same first last);
 }
 
--- the room for the report is refused
+-- memory was refused for the report
 pub are_armed_out_first : (t : TableValue) (events : List asked.Event) → AreArmedOut events t t
 are_armed_out_first t events = record { before = []; after = events; at = refl; armed = inl (are_armed_none t) }

@@ -1,4 +1,4 @@
--- Why the ends of a world are told as they stand.
+-- Why the ends of a world are what its definition says.
 use Rattle.std.proofs.Common.{◌≡◌, ℕ, suc, ◌+◌, ◌-◌, ◌<◌, ◌≤◌, ◌⊎◌, inl, inr, List, [], ◌∷◌, ◌++◌, length, map, slice_index_or, Bool, true, false, Option, Some, Result, Ok, Err, refl, sym, ap, subst, ◌∙◌, arith}
 use Rattle.std.specs.List.{slice_get, range_with_len}
 use Rattle.std.specs.Prelude.{◌↔◌, IfOk}
@@ -48,7 +48,7 @@ same_row_of a b frame same within =
 
 -- ---- a read of a disk
 
--- a replay of what a disk keeps makes known what the journal says, with the pending record or without
+-- a replay of what a disk keeps gives what the journal says, with the pending record or without
 pub replayed_known : (rules : Rules) (room p : ℕ) (s : State) (disk : MemDisk) (result : Result ℕ ReplayError) (known : KnownValue) (checks : ChecksValue) → Tells s disk
     → ((finds : Bool) → IsJournal rules p room (found s finds))
     → ((journal : List Record) → IsJournal rules p room journal → records_of (map body_of journal) ≡ journal)
@@ -81,7 +81,7 @@ standing_at t self place p x node result view at within plays here is journals =
 
 -- ---- all players
 
--- what is so of the standings so far, and of one more, is so of all of them
+-- what holds for the standings so far, and for one more, holds for all of them
 pub standings_more : (t : TableValue) (w : World) (standings now : List Standing) (standing : Standing) (number : ℕ) → length standings + 1 ≡ number → now ≡ standings ++ standing ∷ []
     → ((p : ℕ) (other : Standing) → 1 ≤ p → p < number → IsStanding t.rules p (peer_of w p) (node_of t p) (slice_index_or standings (p - 1) other))
     → IsStanding t.rules number (peer_of w number) (node_of t number) standing
@@ -101,7 +101,7 @@ standings_more t w standings now standing number count is before one p other fro
 
 -- ---- the reads
 
--- one read for each player, where each has one
+-- one read for each player, since each has one
 module _ (n : ℕ) (Q : ℕ → Bool → Type 0) (each : (p : ℕ) → 0 < p → p ≤ n → (finds : Bool) × Q p finds) where
   pick : (p : ℕ) → (0 < p) ⊎ (p ≤ 0) → (n < p) ⊎ (p ≤ n) → Bool
   pick p (inl from) (inr to) = (each p from to).0
@@ -117,7 +117,7 @@ module _ (n : ℕ) (Q : ℕ → Bool → Type 0) (each : (p : ℕ) → 0 < p →
   all_picked : (reads : ℕ → Bool) × ((p : ℕ) → 0 < p → p ≤ n → Q p (reads p))
   all_picked = (λ p. pick p (cases_lt 0 p) (cases_lt n p), λ p from to. picked p from to (cases_lt 0 p) (cases_lt n p))
 
--- ---- where all stand
+-- ---- what all players have
 
 first_of : (standings : List Standing) → 0 < length standings → Standing
 first_of [] some = absurd (omega (arith, some))
@@ -134,7 +134,7 @@ tallies_from (standing ∷ standings) from known each =
     each (suc i) d (omega (arith, within)) ∙ ap known there) in
     rw (first, rest) refl
 
--- what player one's journal says of a leave is what is known by it
+-- what player 1's journal says of a LEAVE is what player 1 knows by it
 leave_known : (rules : Rules) (journal : List Record) (p : ℕ) → IsPlayer rules p → (player_in (known_of rules 1 journal) p).leaving ≡ has_leave p journal
 leave_known rules journal p plays = ap (λ (x : PlayerValue). x.leaving) (player_known rules 1 p journal plays.from_one plays.in_game)
 
@@ -162,7 +162,7 @@ module _ (t : TableValue) (w : World) (standings : List Standing) (reads : Reads
       sym (leave_known t.rules (read_by w reads 1) (i + 1) (player_at i within)) ∙ sym (ap (λ (k : KnownValue). (player_in k (i + 1)).leaving) (known_here 0 (slice_index_or standings 0 d) many at))
       ∙ stays (slice_index_or standings 0 d) at
 
-  -- any two who stayed, by their numbers
+  -- any two undropped players, by their numbers
   abbrev Agreed : Type 0
   Agreed = (p r : ℕ) → IsPlayer t.rules p → IsPlayer t.rules r → HasStayed t.rules w reads p → HasStayed t.rules w reads r → AreSameRows (known_read t.rules w reads p) (known_read t.rules w reads r)
 
@@ -214,7 +214,7 @@ are_ends t w standings players agree some stand players_are agreed =
       },
     )
 
--- whatever the reads find, those who were not let go agree
+-- whatever the reads find, undropped players agree
 pub ends_agree : (t : TableValue) (w : World) (reads : Reads) (players : List Tally) (agree : Bool) → AreEnds t w reads players agree
     → ((p r : ℕ) → IsPlayer t.rules p → IsPlayer t.rules r → AgreeByReads t.rules w reads p r) → agree ≡ true
 ends_agree t w reads players agree ends law =

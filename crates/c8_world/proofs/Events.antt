@@ -36,9 +36,9 @@ use Rattle.c8_world.specs.Agreement.{IsPlayer, IsAmong, Names}
 use Rattle.c8_world.proofs.Journals.{AreSound, MayAdd, Fits}
 use Rattle.c8_world.proofs.Records.{count_known, freeze_known_by, leave_known_by, me_is, names_player, one_unfrozen, stands_entered, fits_own, fits_got, fits_freeze, fits_leave, fits_cut, fits_decision, fits_state, fits_check}
 
--- ---- what holds of what is kept in memory
+-- ---- what holds for the memory
 
--- what player one heard of a leaver: so many inputs, or fewer, held the stayer when it froze it
+-- an answer that player 1 heard of a leaver: the stayer held at most that many inputs when it froze the leaver
 abbrev pub AreReported : Rules → (ℕ → List Record) → ℕ → ChairValue → Type 0
 AreReported rules J p c = p ≡ 1 → (L s n : ℕ) → IsPlayer rules s → report_of c L s ≡ Some n → IsFrozenAt rules L n (J s)
 
@@ -51,17 +51,17 @@ pub record IsAwake (rules : Rules) (room : ℕ) (J : ℕ → List Record) (said 
   pub chair : AreReported rules J p m.chair
   pub links : AreNamed said p m.links
 
--- a datagram of a player is true of its journal; of a watcher's SEEN player one counts as many frames as confirmed
+-- a player's datagram is true by its journal, a watcher's SEEN by how many frames player 1 counts as confirmed
 abbrev pub IsTold : Rules → (ℕ → List Record) → Packet → Option ℕ → Type 0
 IsTold rules J packet None = IsPlayer rules packet.head.from × IsTrue rules packet.head.from (J packet.head.from) packet
 IsTold rules J packet (Some rows) = rows ≤ confirmed (known_of rules 1 (J 1))
 
--- each datagram that was said is true, and can be spelled
+-- each datagram that was sent is true, and can be spelled
 pub record IsSaid (rules : Rules) (J : ℕ → List Record) (packet : Packet) : Type 0 where
   pub told : IsTold rules J packet (seen_in packet.message)
   pub spelled : IsPacket packet
 
--- ---- what a call owes
+-- ---- what must hold after a call
 
 pub record IsGood (rules : Rules) (room : ℕ) (J : ℕ → List Record) (said : List Packet) (p : ℕ) (o : Outcome) : Type 0 where
   pub keeps : (r : Record) → o.keeps ≡ Some r → MayAdd rules room J p r → Fits rules room J p r
@@ -100,7 +100,7 @@ none_past : (test : Bool) (x : KnownError) (others : Option KnownError) → cond
 none_past true x others e = absurd cc
 none_past false x others e = (refl, e)
 
--- what is judged of a run that can be held
+-- what is known of a run that can be held
 pub record IsFit (k : KnownValue) (q start : ℕ) (words : List ℕ) : Type 0 where
   pub room : start + length words ≤ k.limit
   pub no_gap : start ≤ count_in k q
@@ -121,7 +121,7 @@ unless_hand_by : (P : Outcome → Type 0) (m : Memory) (o : Option HandError) (x
 unless_hand_by P m None x refuses admits = admits refl
 unless_hand_by P m (Some error) x refuses admits = refuses error
 
--- ---- a tick, a leave, a decision
+-- ---- ticks, leaves and decisions
 
 good_tick : (rules : Rules) (room : ℕ) (J : ℕ → List Record) (said : List Packet) (p : ℕ) (m : Memory) (keys : ℕ) → AreSound rules room J → IsPlayer rules p → IsAwake rules room J said p m
     → IsGood rules room J said p (tick rules (known_of rules p (J p)) m keys)
@@ -184,7 +184,7 @@ good_decide laws rules room J said p m leaver sound plays awake =
 
 -- ---- deliveries
 
--- new inputs of a player, of a run that stands in what it entered
+-- new inputs of a player, from a run that is in what it entered
 good_got : (rules : Rules) (room : ℕ) (J : ℕ → List Record) (said : List Packet) (p : ℕ) (m : Memory) (q start : ℕ) (words fresh : List ℕ) → AreSound rules room J → IsPlayer rules p → IsPlayer rules q
     → AreReported rules J p m.chair → AreNamed said p m.links
     → fresh ≡ drop (count rules q (J p) - start) words → start ≤ count rules q (J p) → Stands start words (held rules q (J q))
@@ -213,7 +213,7 @@ and_off false b is e = absurd cc
 from_off : (k : KnownValue) (q : ℕ) → is_from_leaver k q q ≡ false → (player_in k q).frozen ≡ false
 from_off k q e = frozen_off (player_in k q) (and_off (q == q) (is_frozen_of (player_in k q)) (eq-eqb q q refl) e)
 
--- the datagram that is delivered: said by a player, true of its journal, and spelled
+-- a DATA of player q, whose inputs are in what q entered
 good_data : (rules : Rules) (room : ℕ) (J : ℕ → List Record) (said : List Packet) (p q : ℕ) (m : Memory) (d : DataMessage) → AreSound rules room J → IsPlayer rules p → IsPlayer rules q → IsAwake rules room J said p m
     → Stands d.start d.words (held rules q (J q)) → IsGood rules room J said p (hear_data (told_of rules p (J p)) (known_of rules p (J p)) m q d)
 unfolding hear_data
@@ -243,7 +243,7 @@ good_freeze rules room J said p q m f sound plays awake =
     branch P (player_in k f.leaver).frozen _ _ (λ is. good_answered rules room J said p _ _ awake.chair awake.links) (λ first.
     good_recorded rules room J said p (record m { stayer = with_have m.stayer f.leaver f.have }) _ (records.Freeze f.leaver) awake.chair awake.links (fits_freeze rules room J p f.leaver sound plays))))
 
--- a report that is true is sound
+-- a true answer keeps the answers sound
 reported_more : (laws : ArePeersLawful) (rules : Rules) (J : ℕ → List Record) (p L q n : ℕ) (c : ChairValue) → IsPlayer rules q → 2 ≤ L → AreReported rules J p c → IsFrozenAt rules L n (J q) → AreReported rules J p (with_report c L q n)
 reported_more laws rules J p L q n c q_plays least reports at first l s m s_plays told =
     ⊎_elim
@@ -279,7 +279,7 @@ good_frozen laws rules room J said p q m f sound plays q_plays awake least at st
     (stands_entered rules room J q f.leaver f.start f.words sound q_plays leaver stands)
     (λ is. absurd (both_ways (has_freeze f.leaver (J p)) (one_unfrozen rules room J p f.leaver sound plays leaver (is_one rules p (J p) one)) is))))))))
 
--- with the new inputs of a run that ends within the cut the list stays within it
+-- a list within the cut stays within it with the new inputs of a run that ends within it
 fresh_within : (held start K : ℕ) (words : List ℕ) → held ≤ K → start + length words ≤ K → held + length (drop (held - start) words) ≤ K
 fresh_within held start K words few within =
     let many : length (drop (held - start) words) ≡ length words - (held - start) = length-drop (held - start) words in
@@ -383,7 +383,7 @@ good_seen rules room J said p m head ack awake =
 pub sender_apart : (rules : Rules) (room p : ℕ) (journal : List Record) (m : Memory) (head : HeadValue) → IsMemory rules room p journal m → links.refusal m.links head ≡ None → head.from ≢ p
 sender_apart rules room p journal m head lawful admitted e = (is_for_me m.links head admitted).apart (e ∙ sym lawful.player)
 
--- what is not refused before its sender is looked at
+-- a datagram that is not refused before its sender matters
 good_from : (laws : ArePeersLawful) (rules : Rules) (room : ℕ) (J : ℕ → List Record) (said : List Packet) (p : ℕ) (m : Memory) (packet : Packet) (heard_rows : Option ℕ) → AreSound rules room J → IsPlayer rules p → IsAwake rules room J said p m → IsAmong said packet
     → IsTold rules J packet heard_rows → IsPacket packet → IsGood rules room J said p (hear_from rules (told_of rules p (J p)) (known_of rules p (J p)) m packet heard_rows)
 good_from laws rules room J said p m packet (Some ack) sound plays awake among told spelled =
@@ -440,7 +440,7 @@ good_checkpoint rules room J said p m sound plays awake =
     branch (IsGood rules room J said p) (player_in k k.me).leaving _ _ (λ is. good_answered rules room J said p m _ awake.chair awake.links)
     (λ stays. good_piece rules room J said p m (told_of rules p (J p)).checks.under_way sound plays awake)
 
--- ---- any call of an open peer in a world: what is delivered was said
+-- ---- any call of an open peer in a world: each datagram that is delivered was sent
 
 abbrev pub IsWorldly : Rules → (ℕ → List Record) → List Packet → Call → Type 0
 IsWorldly rules J said (Tick keys) = Unit {0}

@@ -1,4 +1,4 @@
--- What holds of all journals together, and why a record that fits keeps it.
+-- The invariant of all journals together, and why a record that fits keeps it.
 use Rattle.std.proofs.Common.{◌≡◌, ◌≢◌, ℕ, ◌+◌, ◌≤◌, ◌⊎◌, inl, inr, ⊎_elim, List, [], ◌∷◌, ◌++◌, length, Bool, true, false, Some, refl, sym, ap, subst, ◌∙◌, length-append, arith}
 use Rattle.std.specs.Prelude.{◌||◌}
 use Rattle.std.specs.List.{slice_get, list_any}
@@ -15,15 +15,15 @@ use Rattle.c8_peer.specs.TrueChecks.{HasTrueChecks}
 use Rattle.c8_peer.specs.checked.TruthLaws.{frozen_stays}
 use Rattle.c8_world.specs.Agreement.{IsPlayer}
 
--- ---- what holds
+-- ---- the invariant
 
--- a stayer holds no more inputs of a leaver than so many, or than player one's cut
+-- a stayer holds no more inputs of a leaver than n, or than player 1's cut
 abbrev pub HoldsNoMore : Rules → (ℕ → List Record) → ℕ → ℕ → ℕ → Type 0
 HoldsNoMore rules J s L n = (count rules L (J s) ≤ n) ⊎ ((K : ℕ) × (cut_of L (J 1) ≡ Some K) × (count rules L (J s) ≤ K))
 
--- J has each player's journal. The rules allow it; what it holds of a player begins what that player entered; a cut stands
--- at player one; where one does, each who stays froze the leaver with no more inputs; and a FREEZE keeps a count as it was
--- until a cut stands.
+-- J has each player's journal. The rules allow it. What it holds of a player is the beginning of what that player
+-- entered. Each cut is player 1's too. If player 1 has a cut, each who stays froze the leaver with no more inputs. A
+-- FREEZE keeps a count as it was until there is a cut.
 pub record AreSound (rules : Rules) (room : ℕ) (J : ℕ → List Record) : Type 0 where
   pub valid : (p : ℕ) → IsPlayer rules p → IsJournal rules p room (J p)
   pub begins : (p q : ℕ) → IsPlayer rules p → IsPlayer rules q → Begins (held rules q (J p)) (held rules q (J q))
@@ -32,12 +32,12 @@ pub record AreSound (rules : Rules) (room : ℕ) (J : ℕ → List Record) : Typ
   pub frozen : (s L : ℕ) (before rest : List Record) → IsPlayer rules s → J s ≡ before ++ Freeze L ∷ rest → HoldsNoMore rules J s L (count rules L before)
   pub checks : (p : ℕ) → IsPlayer rules p → HasTrueChecks rules p (J p)
 
--- The rules allow the record in a player's journal, and what that says of checkpoints stays true with it.
+-- The rules allow the record in a player's journal, and with it the journal's checkpoints stay true.
 pub record MayAdd (rules : Rules) (room : ℕ) (J : ℕ → List Record) (p : ℕ) (r : Record) : Type 0 where
   pub allowed : IsAllowed rules p room (J p) r
   pub checks : HasTrueChecks rules p (J p ++ r ∷ [])
 
--- What a record of a player has to do with the others' journals, so that all stays sound with it.
+-- How a record of a player must fit the others' journals, so that all stay sound with it.
 pub record Fits (rules : Rules) (room : ℕ) (J : ℕ → List Record) (p : ℕ) (r : Record) : Type 0 where
   pub may : MayAdd rules room J p r
   pub adds : (q : ℕ) → IsPlayer rules q → q ≢ p → Begins (held rules q (J p) ++ words_of q r) (held rules q (J q))
@@ -47,11 +47,11 @@ pub record Fits (rules : Rules) (room : ℕ) (J : ℕ → List Record) (p : ℕ)
 
 -- ---- journals that grow
 
--- each journal begins the later one
+-- each journal is the beginning of the later one
 abbrev pub Grown : Rules → (ℕ → List Record) → (ℕ → List Record) → Type 0
 Grown rules J J' = (q : ℕ) → IsPlayer rules q → Begins (J q) (J' q)
 
--- one player's journal has one record more, and the others' are the same
+-- one player's journal has one more record, and the others' do not change
 pub record HasMore (rules : Rules) (J J' : ℕ → List Record) (p : ℕ) (r : Record) : Type 0 where
   pub here : J' p ≡ J p ++ r ∷ []
   pub there : (q : ℕ) → IsPlayer rules q → q ≢ p → J' q ≡ J q
@@ -66,7 +66,7 @@ more_grown rules J J' p r more q plays =
       | inr other ↦ rw (more.there q plays other) (begins_same (J q))
     ]
 
--- what a journal says stays with a longer one
+-- what a journal says stays in a longer one
 pub held_grown : (rules : Rules) (q : ℕ) (early late : List Record) → Begins early late → Begins (held rules q early) (held rules q late)
 held_grown rules q early late begins = subst (λ (all : List Record). Begins (held rules q early) (held rules q all)) (sym begins.is) (held_begins rules q early begins.rest)
 
@@ -81,7 +81,7 @@ frozen_grown rules L n early late begins at = subst (λ (all : List Record). IsF
 
 -- ---- a record that fits
 
--- a list with one item more, cut at an item: the item is the last one, or stands before
+-- a list with one more item, split at an item: that is the last item, or an earlier one
 pub split_push : {X : Type 0} (xs : List X) (x : X) (before : List X) (y : X) (rest : List X) → xs ++ x ∷ [] ≡ before ++ y ∷ rest
     → ((before ≡ xs) × (y ≡ x)) ⊎ ((early : List X) × (xs ≡ before ++ y ∷ early))
 split_push [] x [] y rest e = inl (refl, cc)
@@ -128,7 +128,7 @@ new_frozen rules room J J' p r range sound plays fits more L before rest e =
     (fits.frozen L (ap (has_freeze L) inner.1 ∙ has_freeze_at L before inner.0)))
     (split_push (J p) r before (Freeze L) rest (sym more.here ∙ e))
 
--- all stays sound with a record that fits
+-- all journals stay sound with a record that fits
 pub sound_more : (rules : Rules) (room : ℕ) (J J' : ℕ → List Record) (p : ℕ) (r : Record) → AreInRange rules → AreSound rules room J → IsPlayer rules p → Fits rules room J p r → HasMore rules J J' p r → AreSound rules room J'
 sound_more rules room J J' p r range sound plays fits more =
     let one = player_one rules range in
@@ -186,7 +186,7 @@ sound_more rules room J J' p r range sound plays fits more =
       ];
     }
 
--- What fits goes on to fit while the others' journals grow.
+-- A record that fits still fits while the others' journals grow.
 pub fits_later : (rules : Rules) (room : ℕ) (J J' : ℕ → List Record) (p : ℕ) (r : Record) → AreInRange rules → Fits rules room J p r → J' p ≡ J p → Grown rules J J' → Fits rules room J' p r
 fits_later rules room J J' p r range fits same grown =
     let one = player_one rules range in

@@ -1,4 +1,4 @@
--- What a world has lived, one event more at a time, and what is so of its moments.
+-- A world's life, one more event at a time, and what holds at its moments.
 use Rattle.std.proofs.Common.{◌≡◌, ◌≢◌, inl, inr, ⊎_elim, ℕ, ◌<◌, ◌^◌, List, [], ◌∷◌, ◌++◌, map, length, take, drop, ◌+◌, ◌-◌, slice_index_or, Option, None, Err, refl, sym, ap, subst, ◌∙◌, arith}
 use Rattle.std.proofs.lemmas.List.{length-replicate, append_assoc, append-nil, take_more, drop_more, take-append-drop}
 use Rattle.c8_game.specs.declared.row.Player.{Player}
@@ -135,7 +135,7 @@ pub run_out_here : (old mid new : TableValue) (w : World) (events : List asked.E
 run_out_here old mid new w events i told event within is ran happens =
     run_out old mid new w events (take i events) (drop (i + 1) events) told event ran happens (here_split events i event within is)
 
--- one more of a list, and of those that it follows
+-- one more item of a list, and of a list that ends with it
 pub lists_more : {X : Type 0} (before now : List X) (xs later : List X) (x : X) → now ≡ before ++ xs → later ≡ xs ++ x ∷ [] → now ++ x ∷ [] ≡ before ++ later
 lists_more before now xs later x is also = ap (λ ys. ys ++ x ∷ []) is ∙ append_assoc before xs (x ∷ []) ∙ ap (λ ys. before ++ ys) (sym also)
 
@@ -155,7 +155,7 @@ other_act (act_ofs.Hear number watcher) p other e = cc e
 other_act (act_ofs.Seen watcher) p other e = cc e
 other_act (act_ofs.Fresh watcher) p other e = cc e
 
--- what a run that ran out has lived: the events so far, and then what the event adds
+-- what a run that ran out of memory has lived: the events so far, and what the last event adds
 pub lived_on : (old mid new : WorldValue) (events : List asked.Event) (i : ℕ) (event : asked.Event) (told : List codes.Answer) → i < length events → event ≡ slice_index_or events i event
     → mid.events ≡ old.events ++ take i events → mid.answers ≡ old.answers ++ told → IsRefusedMemory event mid new → HasLivedOn old events told new
 lived_on old mid new events i event told within is events_are answers_are refused = record {
@@ -182,7 +182,7 @@ lived_none w events told none = record {
   answers_are = sym (append-nil (w.answers ++ told) ∙ ap (λ (xs : List codes.Answer). w.answers ++ xs) none ∙ append-nil w.answers);
 }
 
--- the room for the report is refused before anything happens
+-- memory is refused for the report before anything happens
 pub run_out_first : (t : TableValue) (w : World) (events : List asked.Event) (told : List codes.Answer) → (length events ≡ 0 → ⊥) → told ≡ [] → Holds t w → HasRunOut t w events told t
 run_out_first t w [] told some none holds = absurd (some refl)
 run_out_first t w (event ∷ events) told some none holds =
@@ -190,7 +190,7 @@ run_out_first t w (event ∷ events) told some none holds =
 
 -- ---- moments
 
--- what is so of any two moments is so of these
+-- what holds for any two moments holds for these
 pub moments_agree : (w : WorldValue) (earlier later : World) → (P : World → World → Type 0)
     → ((x y : World) (events : List Event) (replies : List Answer) → IsReached w.table.rules w.table.room x → Chain w.table.rules w.table.room x events replies y → P x y)
     → AreMoments w earlier later → P earlier later
@@ -198,7 +198,7 @@ moments_agree w earlier later P law m =
     let chain = runs_chain w.table.rules w.table.room earlier later m.between m.told_between m.to_later in
     law earlier later (map event_of m.between) chain.0 (runs_reached w.table.rules w.table.room earlier m.first m.told_first m.to_earlier) chain.1
 
--- all that is so of any two moments, of a world whose match has stayed
+-- all that holds for any two moments, for a world whose match did not change
 pub headline_of : (old : TableValue) (w : WorldValue)
     → ((rules : Rules) (room : ℕ) (x y : World) (events : List Event) (replies : List Answer) → AreInRange rules → room < 2 ^ 64 → IsReached rules room x → Chain rules room x events replies y → IsHeadline rules room x y)
     → AreInRange old.rules → old.room < 2 ^ 64 → IsSameMatch old w.table → (earlier later : World) → AreMoments w earlier later → IsHeadline w.table.rules w.table.room earlier later
@@ -235,7 +235,7 @@ opening_refused inside self event player new view opens_it events_are told_are =
     subst (λ (w : WorldValue). IsRefusedMemory event w new) view
     (record { more = happenings.Do (act_ofs.Open player) ∷ []; told = answers.Opened (Err opens.Memory) ∷ []; added = inr (player, opens_it, refl, refl); events_are = events_are; answers_are = told_are })
 
--- another act adds nothing
+-- any other act adds nothing
 pub nothing_refused : (inside self : WorldValue) (event : asked.Event) (new : WorldValue) → inside ≡ self → ((p : ℕ) → act_inside (event_of event) ≢ Open p) → new.events ≡ inside.events → new.answers ≡ inside.answers
     → IsRefusedMemory event self new
 nothing_refused inside self event new view other events_are told_are =

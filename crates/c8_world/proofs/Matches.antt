@@ -1,4 +1,4 @@
--- The worked matches, worked out.
+-- The worked matches, computed.
 use Rattle.std.proofs.Common.{◌≡◌, ◌≢◌, ◌⊎◌, ℕ, zero, suc, ◌<◌, ◌≤◌, ◌^◌, List, [], ◌∷◌, ◌++◌, length, slice_index_or, Bool, true, false, refl, inl, ap, arith}
 use Rattle.std.specs.Prelude.{slice_index}
 use Rattle.std.proofs.lemmas.Bool.{leb-true}
@@ -277,7 +277,7 @@ told_worked : ArePeersLawful → IsWorked three eleven told out
 unfolding acted tick leave decide say hear_welcome hear_freeze hear_frozen hear_cut known_of told_of opened_since checks_of has_leave held ticks cut_of has_freeze epochs confirmed greatest input_of differ mark_at is_ready fits_in
 told_worked laws = worked laws three eleven told three_range (eleven_worked laws).sound refl refl refl
 
--- player three's set in a row
+-- player 3's set in a row
 abbrev third : Row → ℕ
 third r = set_at r 2
 
@@ -328,7 +328,7 @@ pub cuts_after_restart : ArePeersLawful → CutsAfterRestart
 unfolding acted tick leave decide say hear_welcome hear_freeze hear_frozen hear_cut known_of told_of opened_since checks_of has_leave held ticks cut_of has_freeze epochs confirmed greatest input_of differ mark_at is_ready fits_in
 cuts_after_restart laws = record { end = again; leads = (again_worked laws).leads; ends = refl }
 
--- ---- a silent player
+-- ---- a player that has not answered
 
 abbrev quiet : World
 quiet = (course four 0 (start four) silent).world

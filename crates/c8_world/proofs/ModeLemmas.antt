@@ -1,4 +1,4 @@
--- What was answered tells how each peer stands.
+-- The answers tell whether each peer is open, down or away.
 use Rattle.std.proofs.Common.{◌≡◌, ◌≢◌, ℕ, ◌<◌, ◌^◌, inl, inr, List, [], ◌∷◌, length, Bool, true, false, Option, Some, None, Ok, Err, refl, sym, ap, subst, ◌∙◌, slice_index_or, ◌-◌}
 use Rattle.std.specs.Prelude.{◌==◌, if◌then◌else◌}
 use Rattle.std.specs.List.{slice_get}
@@ -28,7 +28,7 @@ if_same true x = refl
 if_same false x = refl
 
 module _ (laws : ArePeersLawful) (rules : Rules) (room p : ℕ) (plays : IsPlayer rules p) where
-  -- what comes of an act of player q tells how p's peer stands then
+  -- the answer to an act of player q tells p's mode after it
   Tells : World → ℕ → After → Type 0
   Tells w q a = (peer_of a.world p).mode ≡ (if q == p then mode_answered (peer_of w p).mode a.answer else (peer_of w p).mode)
 
@@ -69,7 +69,7 @@ module _ (laws : ArePeersLawful) (rules : Rules) (room p : ℕ) (plays : IsPlaye
   open_mode_tells w q h Away nodes q_plays =
       goes_on w q (opened rules room q (peer_of w q) (found (peer_of w q) h.finds) h.opening) nodes q_plays (laws.openings_tell rules room q (peer_of w q) (found (peer_of w q) h.finds) h.opening)
 
-  -- a stranger is another player
+  -- a player who is not in the game is not p
   stranger : (q : ℕ) → is_player rules q ≡ false → (q == p) ≡ false
   stranger q absent = ne_eqb q p (λ same. let in_game : is_player rules q ≡ true = rw same (plays_so rules p plays) in let never : true ≡ false = sym in_game ∙ absent in absurd cc)
 
@@ -84,7 +84,7 @@ module _ (laws : ArePeersLawful) (rules : Rules) (room p : ℕ) (plays : IsPlaye
   give_tells w q luck None nodes = stays w q NoSuch (λ mode. refl)
   give_tells w q luck (Some packet) nodes = call_tells w q (states.Deliver (Ok packet)) luck nodes
 
-  -- what a watcher does changes no peer
+  -- an act of a watcher changes no peer
   watcher_tells : (w u : World) (q : ℕ) (answer : Answer) → u.peers ≡ w.peers → ((mode : Mode) → mode_answered mode answer ≡ mode) → Tells w q (record { answer = answer; world = u })
   unfolding Tells
   watcher_tells w u q answer peers same = ap (λ (xs : List State). (slice_index_or xs (p - 1) never_opened).mode) peers ∙ stays w q answer same
@@ -107,7 +107,7 @@ module _ (laws : ArePeersLawful) (rules : Rules) (room p : ℕ) (plays : IsPlaye
   acted_tells w (Seen watcher) h nodes = watcher_tells w _ watcher (Spoken (seen_by_watcher rules room w watcher)) refl (λ mode. refl)
   acted_tells w (Fresh watcher) h nodes = watcher_tells w (with_rows w watcher []) watcher Anew refl (λ mode. refl)
 
-  -- a stop takes its player away, and no other
+  -- a stop makes its player's peer away, and no other
   crash_tells : (w u : World) (q : ℕ) (leaves : Bool) (answer : Answer) → length u.peers ≡ rules.players → Tells w q (record { answer = answer; world = u })
       → Tells w q (record { answer = Stopped; world = crashed rules u q leaves })
   unfolding Tells
@@ -148,7 +148,7 @@ module _ (laws : ArePeersLawful) (rules : Rules) (room p : ℕ) (plays : IsPlaye
         chain_tells chain.0 v events answers (event_sound laws rules room w chain.0 event answer range few sound chain.1).sound chain.2
         ∙ ap (λ (mode : Mode). mode_by p mode events answers) (event_tells w chain.0 event answer sound chain.1)
 
--- ---- as it is reported
+-- ---- the reported answers
 
 reported_mode : (rules : Rules) (q : ℕ) (u : World) (mode : Mode) (told : Answer) → mode_answered mode told ≡ mode_reported mode (reported rules q u told)
 reported_mode rules q u mode (Told (Opened result)) = refl
@@ -208,7 +208,7 @@ modes_told laws rules room v events answers p range few chain plays =
     chain_tells laws rules room p plays range few (start rules) v events answers (start_sound rules room range) chain
     ∙ ap (λ (s : State). mode_by p s.mode events answers) (peer_at_start rules p)
 
--- ---- who is not open is told so, and no other
+-- ---- only a peer that is not open answers Down
 
 told_not_down : (answer : Answer) (reply : Reply) → answer ≡ Told reply → answer ≡ IsDown → ⊥
 told_not_down answer reply told down = let never : Told reply ≡ IsDown = sym told ∙ down in absurd cc

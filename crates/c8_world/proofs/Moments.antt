@@ -1,4 +1,4 @@
--- What sound journals have in common: bounds of cuts, agreement, and inputs that were entered.
+-- What sound journals have in common: bounds by cuts, agreement, and inputs that were entered.
 use Rattle.std.proofs.Common.{◌≡◌, ℕ, zero, suc, ◌<◌, ◌≤◌, ◌⊎◌, inl, inr, ⊎_elim, List, [], ◌∷◌, ◌++◌, length, Bool, true, false, Option, Some, None, refl, sym, ap, subst, ◌∙◌, arith}
 use Rattle.std.specs.Prelude.{nat_le, if◌then◌else◌}
 use Rattle.std.specs.List.{slice_get}
@@ -48,7 +48,7 @@ bounded_at rules room J p L K range sound plays leaver stays cut =
 
 -- ---- one input
 
--- an input is held, or empty past a cut
+-- an input is not held, but empty after a cut
 pub record IsPastCut (p : PlayerValue) (frame word : ℕ) : Type 0 where
   pub cut : ℕ
   pub stands : p.cut ≡ Some cut
@@ -71,7 +71,7 @@ unfolding input_of
 input_is p frame word e =
     ⊎_elim (λ here. inl here) (λ past. inr (record { cut = past.0; stands = past.1; past = past.2; empty = past.3; unheld = past.4 })) (held_or_cut (slice_get p.held frame) p.cut frame word e)
 
--- past the end of a list there is nothing
+-- there is nothing beyond the end of a list
 none_long : {X : Type 0} (xs : List X) (i : ℕ) → slice_get xs i ≡ None → length xs ≤ i
 none_long [] i e = omega arith
 none_long (x ∷ xs) zero e = absurd cc
@@ -109,7 +109,7 @@ inputs_agree rules room J p r q frame a b range sound p_plays r_plays q_plays p_
 
 -- ---- rows
 
--- the settled input of a player at a confirmed frame
+-- a player's settled input in a confirmed frame
 confirmed_input : (rules : Rules) (p : ℕ) (journal : List Record) (q frame : ℕ) → IsPlayer rules q → frame < confirmed (known_of rules p journal)
     → (word : ℕ) × (input_of (player_in (known_of rules p journal) q) frame ≡ Some word)
 confirmed_input rules p journal q frame plays below =

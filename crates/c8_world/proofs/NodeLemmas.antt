@@ -1,4 +1,4 @@
--- What the disk of a peer that is not open tells an opening.
+-- What an opening finds on the disk of a peer that is not open.
 use Rattle.std.proofs.Common.{◌≡◌, ℕ, List, [], Bool, false, Option, Some, None, Ok, Err, refl, sym, subst, ◌∙◌}
 use Rattle.c8_game.specs.Rules.{Rules}
 use Rattle.c8_disk.specs.declared.mem_disk.MemDisk.{MemDisk}
@@ -44,7 +44,7 @@ refused_away rules room p s journal (NotRead why) error is = refl
 refused_away rules room p s journal (Unfit why) error is = refl
 refused_away rules room p s journal Spent error is = refl
 
--- an empty disk tells a peer that was never opened
+-- an empty disk belongs to a peer that was never opened
 pub new_tells : (disk : MemDisk) → bytes_of disk ≡ [] → Only (bytes_of disk) (images_of disk) → Tells never_opened disk
 unfolding kept kept_count
 new_tells disk empty only image left = (false, subst (λ (bytes : List ℕ). kept bytes ≡ []) (sym (only image left ∙ empty)) refl)

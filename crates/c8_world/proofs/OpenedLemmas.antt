@@ -1,4 +1,4 @@
--- What an opening makes of a table.
+-- What an opening does to a table.
 use Rattle.std.proofs.Common.{◌≡◌, ◌≢◌, inl, inr, ℕ, ◌+◌, ◌-◌, ◌<◌, ◌≤◌, List, [], length, map, Bool, false, cond, Option, Some, None, Result, Ok, Err, refl, sym, ap, subst, ◌∙◌, slice_set, slice_index_or}
 use Rattle.std.specs.Prelude.{IfOk, IfErr}
 use Rattle.std.proofs.lemmas.List.{append-nil, set-get_or}
@@ -31,7 +31,7 @@ with_opening finds opening = record { finds = finds; opening = opening; luck = W
 unread_is_memory : NotRead Failed ≢ NoMemory
 unread_is_memory e = cc e
 
--- ---- who is not in the game
+-- ---- players who are not in the game
 
 pub stranger_happens : (t self : TableValue) (p : ℕ) → t ≡ self → t.rules.players < p → (w : World) → Holds self w → HasHappened self w (Do (Open p)) (answers.Opened (Err opens.WrongPlayer)) self
 unfolding acted
@@ -52,7 +52,7 @@ stranger_happens t self p view absent =
 result_of : {x y : Result ℕ OpenError} → Opened x ≡ Opened y → x ≡ y
 result_of e = cc e
 
--- ---- who is
+-- ---- players who are in the game
 
 open_here : (rules : Rules) (room : ℕ) (w : World) (p : ℕ) (h : Happening) (mode : Mode) → mode ≡ states.Open → open_at_mode rules room w p h mode ≡ record { answer = IsUp; world = w }
 open_here rules room w p h mode is = rw is refl
@@ -75,7 +75,7 @@ up_can rules room w p plays up = (
   unread_is_memory,
 )
 
--- the world after a reply of an opening, which says nothing
+-- the world after a reply of an opening, which sends nothing
 abbrev said_placed : World → ℕ → State → Reply → After
 said_placed w p s reply = record { answer = Told reply; world = placed w p s (said_by reply) }
 
@@ -117,7 +117,7 @@ module _ (t : TableValue) (place p : ℕ) (node : Node) (at : place + 1 ≡ p) (
     };
   }
 
-  -- an opening that was not refused for want of memory had it
+  -- an opening that was not answered with Memory had memory
   had_memory : (s : State) (journal : List Record) (opening : Opening) (result : Result ℕ OpenError) → (opened t.rules t.room p s journal opening).reply ≡ Opened result → result ≢ Err opens.Memory → opening ≢ NoMemory
   had_memory s journal opening result replies other e = other (result_of (sym replies ∙ ap (λ (o : Opening). (opened t.rules t.room p s journal o).reply) e))
 
@@ -130,7 +130,7 @@ module _ (t : TableValue) (place p : ℕ) (node : Node) (at : place + 1 ≡ p) (
       (holds.said ∙ ap (λ (xs : List Packet). map spelling xs) (sym (append-nil w.said))) (refl, refl)
       (λ v here said. refl)
 
-  -- want of memory is told by one opening alone, which leaves what there was
+  -- an opening that is answered with Memory changes only the mode
   unread_state : (s : State) (journal : List Record) (opening : Opening) → (opened t.rules t.room p s journal opening).reply ≡ Opened (Err opens.Memory)
       → (opened t.rules t.room p s journal opening).state ≡ away s s.journal s.pending
   unread_state s journal NoPlayer is = refl
@@ -144,7 +144,7 @@ module _ (t : TableValue) (place p : ℕ) (node : Node) (at : place + 1 ≡ p) (
   unread_state s journal (Unfit (replays.Disk why)) is = absurd (cc is)
   unread_state s journal Spent is = absurd (cc is)
 
-  -- a peer that was away is as it was, and one that was down is away
+  -- a peer that was away does not change, and one that was down is away
   away_still : (s : State) → s.mode ≡ Away → away s s.journal s.pending ≡ s
   away_still s is = ap (λ (mode : Mode). record s { mode = mode }) (sym is)
 

@@ -1,4 +1,4 @@
--- What a reading finds of a player's disk is a journal, so that no opening refuses it.
+-- What a read of a player's disk finds is a journal, so no opening refuses it.
 use Rattle.std.proofs.Common.{arith, ◌≡◌, ℕ, ◌^◌, ◌<◌, List, ◌++◌, Bool, true, false, cond, Option, Some, None, sym, subst, refl}
 use Rattle.std.specs.Prelude.{if◌then◌else◌, option_to_list}
 use Rattle.std.proofs.lemmas.Bool.{le-leb, both_ways}
@@ -24,7 +24,7 @@ found_by rules room w p true None sound plays e = subst (λ (journal : List Reco
 found_by rules room w p true (Some r) sound plays e =
     journal_more rules p room (journal_of w p) r (sound.journals.valid p plays) (((sound.peers p plays).pending r e).1).may.allowed
 
--- whatever is found of a pending record
+-- whether or not the pending record is found
 found_valid : (rules : Rules) (room : ℕ) (w : World) (p : ℕ) (finds : Bool) → IsSound rules room w → IsPlayer rules p → IsJournal rules p room (found (peer_of w p) finds)
 found_valid rules room w p finds sound plays = found_by rules room w p finds (peer_of w p).pending sound plays refl
 
@@ -47,7 +47,7 @@ mode_fit rules room w p h Away sound plays may = opened_fit rules room p (peer_o
 pub plays_so : (rules : Rules) (p : ℕ) → IsPlayer rules p → is_player rules p ≡ true
 plays_so rules p plays = rw (le-leb 1 p plays.from_one, le-leb p rules.players plays.in_game) refl
 
--- a test decides what comes of it
+-- a test decides what happens
 pub after_if : (P : After → Type 0) (b : Bool) (x y : After) → (b ≡ true → P x) → (b ≡ false → P y) → P (cond b x y)
 after_if P true x y when unless = when refl
 after_if P false x y when unless = unless refl

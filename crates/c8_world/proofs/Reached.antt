@@ -1,4 +1,4 @@
--- What holds of every world that some list of events leads to.
+-- What holds for each world to which some list of events leads.
 use Rattle.std.proofs.Common.{◌≡◌, ◌≢◌, ℕ, zero, suc, ◌<◌, ◌≤◌, ◌^◌, inl, inr, ⊎_elim, List, [], ◌∷◌, ◌++◌, length, take, true, false, None, refl, sym, ap, subst, ◌∙◌, arith, Option, Some}
 use Rattle.std.proofs.lemmas.Bool.{cases_eq, leb-true, and_parts, both_ways}
 use Rattle.std.proofs.Math.Seq.{take-append_seam}
@@ -44,11 +44,11 @@ holds_by : (rules : Rules) (w : World) (packet : Packet) (heard : Option ℕ) �
 holds_by rules w packet None told = told.1
 holds_by rules w packet (Some rows) told = told
 
--- what a journal says of checkpoints is true
+-- the checkpoints of a journal are true
 pub checks_true : (laws : ArePeersLawful) (rules : Rules) (room : ℕ) (w : World) (p : ℕ) → AreInRange rules → room < 2 ^ 64 → IsReached rules room w → IsPlayer rules p → HasTrueChecks rules p (journal_of w p)
 checks_true laws rules room w p range few is = (reached_sound laws rules room w range few is).journals.checks p
 
--- a watcher has true rows, and the machine of these
+-- a watcher has true rows, and the machine after them
 pub rows_true : (laws : ArePeersLawful) (rules : Rules) (room : ℕ) (w : World) (watcher : ℕ) → AreInRange rules → room < 2 ^ 64 → IsReached rules room w → HasTrueRows rules w watcher
 rows_true laws rules room w watcher range few is =
     let begins = (reached_sound laws rules room w range few is).watched watcher in
@@ -64,7 +64,7 @@ said_holds laws rules room w packet range few is among = holds_by rules w packet
 pub said_spells : (laws : ArePeersLawful) (rules : Rules) (room : ℕ) (w : World) (packet : Packet) → AreInRange rules → room < 2 ^ 64 → IsReached rules room w → IsAmong w.said packet → Spells (spelling packet) packet
 said_spells laws rules room w packet range few is among = record { packet = ((reached_sound laws rules room w range few is).said packet among).spelled; spelled = refl }
 
--- who has an open link is no watcher, so that its journal has had the epoch of what it said
+-- the other end of an open link is not a watcher, so its journal had the epoch of its datagrams
 had_by : (rules : Rules) (w : World) (packet : Packet) (heard : Option ℕ) (l : LinksValue) → seen_in packet.message ≡ heard → IsTold rules (journal_of w) packet heard → IsPacket packet → (link_to l packet.head.from).is_open ≡ true
     → had_epoch packet.head.sender_epoch (journal_of w packet.head.from) ≡ true
 had_by rules w packet None l seen told spelled opens = told.1.epoch
@@ -139,14 +139,14 @@ inputs_entered laws rules room w v events answers p range few is chain plays fra
     let e = confirmed_entered rules room (journal_of w) (journal_of v) p q frame range sound.journals later.grown plays q_plays below in
     record { word = e.0; is = e.1; entered = e.2 }
 
--- while nobody leaves
+-- while no player is dropped
 pub all_agree : (laws : ArePeersLawful) (rules : Rules) (room : ℕ) (w v : World) (events : List Event) (answers : List Answer) (p r : ℕ) → AreInRange rules → room < 2 ^ 64 → IsReached rules room w → Chain rules room w events answers v
     → NobodyLeaves v → IsPlayer rules p → IsPlayer rules r → AgreeUpTo rules w v p r
 all_agree laws rules room w v events answers p r range few is chain nobody p_plays r_plays = peers_agree laws rules room w v events answers p r range few is chain p_plays r_plays (nobody p) (nobody r)
 
 -- ---- what reads of the disks give
 
--- The first n players' journals are what a read of each disk finds, which all stays sound with.
+-- The first n players' journals are what a read of each disk finds; all journals stay sound.
 adopt : World → Reads → ℕ → World
 adopt w reads zero = w
 adopt w reads (suc n) = with_peer (adopt w reads n) (suc n) (away (peer_of (adopt w reads n) (suc n)) (found (peer_of (adopt w reads n) (suc n)) (reads (suc n))) None)
@@ -164,7 +164,7 @@ other_peer rules w p q s plays q_plays apart = peer_there rules w p s [] q plays
 this_peer : (rules : Rules) (w : World) (p : ℕ) (s : State) → length w.peers ≡ rules.players → IsPlayer rules p → peer_of (with_peer w p s) p ≡ s
 this_peer rules w p s nodes plays = peer_here rules w p s [] nodes plays
 
--- players past the n-th have their peer as it was
+-- players after the n-th keep their peers
 adopt_past : (rules : Rules) (room : ℕ) (w : World) (reads : Reads) (n q : ℕ) → n < q → IsPlayer rules q → peer_of (adopt w reads n) q ≡ peer_of w q
 unfolding adopt
 adopt_past rules room w reads zero q past plays = refl
@@ -189,7 +189,7 @@ adopt_is rules room w reads (suc n) q range sound within few plays =
           ∙ adopt_is rules room w reads n q range sound (omega (arith, within)) (omega (arith, few, apart)) plays
     ]
 
--- journals that are others
+-- the same for other journals that are equal
 agree_at : (rules : Rules) (room : ℕ) (J : ℕ → List Record) (p r n : ℕ) (one a b : List Record) → AreInRange rules → AreSound rules room J → IsPlayer rules p → IsPlayer rules r
     → J 1 ≡ one → J p ≡ a → J r ≡ b → has_leave p one ≡ false → has_leave r one ≡ false → n ≤ confirmed (known_of rules p a) → n ≤ confirmed (known_of rules r b)
     → AreSameUpTo rules (known_of rules p a) (known_of rules r b) n

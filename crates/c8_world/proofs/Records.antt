@@ -60,7 +60,7 @@ cuts_of_other q (Cut player K start words) other = rw (ne_eqb player q other) re
 cuts_of_other q (State player frames piece words) other = refl
 cuts_of_other q (Check player frames words) other = refl
 
--- whose cut it is
+-- a cut is of the player whom the record names
 cut_is_of : (q K : ℕ) (r : Record) → slice_get (cuts_of q r) 0 ≡ Some K → q ≡ player_of r
 cut_is_of q K r is =
     elim (cases_eq (player_of r) q) [
@@ -68,7 +68,7 @@ cut_is_of q K r is =
       | inr other ↦ let none : slice_get (cuts_of q r) 0 ≡ None = ap (λ (cuts : List ℕ). slice_get cuts 0) (cuts_of_other q r other) in absurd (cc (is, none))
     ]
 
--- what a record of a player q has to do with the others' journals
+-- how a record about player q must fit the others' journals
 pub record FitsOf (rules : Rules) (J : ℕ → List Record) (p q : ℕ) (words : List ℕ) (cuts : List ℕ) : Type 0 where
   pub adds : q ≢ p → Begins (held rules q (J p) ++ words) (held rules q (J q))
   pub cut : (K : ℕ) → p ≢ 1 → slice_get cuts 0 ≡ Some K → cut_of q (J 1) ≡ Some K
@@ -102,7 +102,7 @@ fits_by rules room J p r sound plays may of = record {
   ];
 }
 
--- a record that brings no inputs and no cut
+-- a record without inputs and without a cut
 pub quiet : (rules : Rules) (room : ℕ) (J : ℕ → List Record) (p q : ℕ) → AreSound rules room J → IsPlayer rules p → IsPlayer rules q → FitsOf rules J p q [] []
 quiet rules room J p q sound plays q_plays = record {
   adds = λ other. rw (append-nil (held rules q (J p))) (sound.begins p q plays q_plays);
@@ -146,7 +146,7 @@ pub fits_check : (rules : Rules) (room : ℕ) (J : ℕ → List Record) (p playe
 fits_check rules room J p player frames words sound plays may =
     fits_by rules room J p (Check player frames words) sound plays may (quiet rules room J p player sound plays (names_player rules room p (J p) (Check player frames words) may.allowed))
 
--- nobody freezes itself, and player one freezes nobody
+-- no player freezes itself, and player 1 freezes nobody
 pub own_unfrozen : (rules : Rules) (room : ℕ) (J : ℕ → List Record) (p : ℕ) → AreSound rules room J → IsPlayer rules p → has_freeze p (J p) ≡ false
 own_unfrozen rules room J p sound plays =
     let k : KnownValue = known_of rules p (J p) in
@@ -169,12 +169,12 @@ fits_own rules room J p start word sound plays may =
       frozen = λ is. absurd (both_ways (has_freeze p (J p)) (own_unfrozen rules room J p sound plays) is);
     })
 
--- new inputs of a player, of a run that stands in what it entered
+-- new inputs of a player, from a run that is in what it entered
 adds_fresh : (rules : Rules) (room : ℕ) (J : ℕ → List Record) (p q start : ℕ) (words : List ℕ) → AreSound rules room J → IsPlayer rules p → IsPlayer rules q
     → start ≤ count rules q (J p) → Stands start words (held rules q (J q)) → Begins (held rules q (J p) ++ drop (count rules q (J p) - start) words) (held rules q (J q))
 adds_fresh rules room J p q start words sound plays q_plays from stands = begins_fresh (held rules q (J p)) words (held rules q (J q)) start (sound.begins p q plays q_plays) from stands.is
 
--- a run that stands in what a player holds stands in what was entered
+-- a run that is in what a player holds is in what was entered
 pub stands_entered : (rules : Rules) (room : ℕ) (J : ℕ → List Record) (s q start : ℕ) (words : List ℕ) → AreSound rules room J → IsPlayer rules s → IsPlayer rules q
     → Stands start words (held rules q (J s)) → Stands start words (held rules q (J q))
 stands_entered rules room J s q start words sound plays q_plays stands =
@@ -197,7 +197,7 @@ fits_got rules room J p q at start words sound plays q_plays may from stands fro
 cut_here : (q K L : ℕ) → slice_get (if q == q then K ∷ [] else []) 0 ≡ Some L → K ≡ L
 cut_here q K L is = let e = rw (self q) at is in cc
 
--- a CUT elsewhere than at player one, of a player whose cut stands there
+-- a CUT in another journal than player 1's, which has that cut
 pub fits_cut : (rules : Rules) (room : ℕ) (J : ℕ → List Record) (p q K at start : ℕ) (words : List ℕ) → AreSound rules room J → IsPlayer rules p → IsPlayer rules q → p ≢ 1
     → MayAdd rules room J p (Cut q K at (drop (count rules q (J p) - start) words)) → start ≤ count rules q (J p) → Stands start words (held rules q (J q))
     → cut_of q (J 1) ≡ Some K → count rules q (J p) + length (drop (count rules q (J p) - start) words) ≤ K
@@ -212,7 +212,7 @@ fits_cut rules room J p q K at start words sound plays q_plays elsewhere may fro
       frozen = λ is. inr (K, cut, rw here within);
     })
 
--- player one's decision, which all who stay have answered
+-- player 1's decision, after all who stay have answered
 pub fits_decision : (rules : Rules) (room : ℕ) (J : ℕ → List Record) (p q K at : ℕ) → AreSound rules room J → IsPlayer rules p → IsPlayer rules q → p ≡ 1
     → MayAdd rules room J p (Cut q K at [])
     → ((s : ℕ) → IsPlayer rules s → s ≢ 1 → has_leave s (J 1) ≡ false → IsFrozenAt rules q K (J s))

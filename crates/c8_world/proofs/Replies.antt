@@ -1,4 +1,4 @@
--- What a call of an open peer never answers.
+-- Answers that a call of an open peer never has.
 use Rattle.c8_known.specs.Growth.{Stands}
 use Rattle.std.proofs.Common.{◌≡◌, ◌≢◌, ℕ, ◌+◌, ◌≤◌, List, [], ◌∷◌, length, false, not, Option, Some, None, Result, Ok, Err, refl, sym, ap, subst, ◌∙◌, arith, true}
 use Rattle.std.specs.Prelude.{◌==◌, ◌||◌, nat_lt, nat_le, is_some}
@@ -44,9 +44,9 @@ use Rattle.c8_world.proofs.Calm.{no_bad_ack, no_difference, not_differs, no_desy
 use Rattle.c8_hand.specs.Links.{LinksValue}
 use Rattle.c8_wire.specs.Seats.{are_seats, is_watcher}
 
--- ---- what holds of each refusal
+-- ---- what holds for each refusal
 
--- of a delivery to player p of what player q said
+-- a refusal of what player q sent, by player p
 pub record IsCalm (J : ℕ → List Record) (p q : ℕ) (why : Refused) : Type 0 where
   pub ack : why ≢ refusals.BadAck
   pub inputs : has_leave p (J 1) ≡ false → why ≢ refusals.Known knowns.Differs
@@ -65,7 +65,7 @@ calm_reply J p q why calm other e = let same : why ≡ other = cc in subst (λ (
 pub calm_other : (J : ℕ → List Record) (p q : ℕ) (why : Refused) → why ≢ refusals.BadAck → why ≢ refusals.Known knowns.Differs → why ≢ refusals.Desync → AnswersCalmly J p q (Delivered (Err why))
 calm_other J p q why ack inputs machines = calm_reply J p q why (record { ack = ack; inputs = λ stays. inputs; machines = λ stays also. machines })
 
--- why inputs cannot be held, where they do not differ
+-- a reason why inputs cannot be held, other than that they differ
 calm_known : (J : ℕ → List Record) (p q : ℕ) (error : KnownError) → error ≢ knowns.Differs → AnswersCalmly J p q (Delivered (Err (refusals.Known error)))
 calm_known J p q error apart = calm_other J p q (refusals.Known error) (λ e. cc e) (λ e. let same : error ≡ knowns.Differs = cc in apart same) (λ e. cc e)
 
@@ -79,7 +79,7 @@ unless_hand_calm P m (Some error) x refuses admits = refuses error
 
 -- ---- deliveries
 
--- an answer that refuses no delivery
+-- an answer that is not a refused delivery
 pub unrefused : (J : ℕ → List Record) (p q : ℕ) (reply : Reply) → ((why : Refused) → reply ≢ Delivered (Err why)) → AnswersCalmly J p q reply
 unrefused J p q reply not why e = absurd (not why e)
 
@@ -133,7 +133,7 @@ calm_frozen rules room J p q m f sound plays q_plays stands =
     (λ error e. calm_known J p q error (not_differs k f.leaver f.start f.words error (no_difference rules room J p f.leaver f.start f.words sound plays leaver entered) e))
     (calm_got J p q k _ f.leaver (fresh_words k f.leaver f.start f.words)))))))
 
--- at an undropped player a cut has player one's length, and no more inputs than that are held
+-- at an undropped player a cut has player 1's length, and no more inputs than that are held
 calm_end : (rules : Rules) (room : ℕ) (J : ℕ → List Record) (p q : ℕ) (m : Memory) (c : LeaverMessage) (o : Option ℕ) → AreInRange rules → AreSound rules room J → IsPlayer rules p → IsPlayer rules c.leaver
     → cut_of c.leaver (J 1) ≡ Some c.length → Stands c.start c.words (held rules c.leaver (J c.leaver)) → (player_in (known_of rules p (J p)) c.leaver).cut ≡ o
     → EndsCalmly J p q (hear_end (known_of rules p (J p)) m c o)
@@ -196,7 +196,7 @@ calm_message rules room J p m head (packets.Cut c) range sound plays q_plays is_
 calm_message rules room J p m head (packets.Show shown) range sound plays q_plays is_true = calm_other J p head.from _ (λ e. cc e) (λ e. cc e) (λ e. cc e)
 calm_message rules room J p m head (packets.Seen ack) range sound plays q_plays is_true = calm_other J p head.from _ (λ e. cc e) (λ e. cc e) (λ e. cc e)
 
--- what a watcher says it has, player one counts as confirmed
+-- the rows that a watcher acknowledges are confirmed at player 1
 calm_seen : (J : ℕ → List Record) (p q : ℕ) (rules : Rules) (m : Memory) (head : HeadValue) (ack : ℕ) → ack ≤ confirmed (known_of rules p (J p)) → EndsCalmly J p q (hear_seen (known_of rules p (J p)) m head ack)
 unfolding hear_seen
 calm_seen J p q rules m head ack few =
@@ -213,7 +213,7 @@ seen_kind (packets.Cut c) ack seen = absurd cc
 seen_kind (packets.Show m) ack seen = absurd cc
 seen_kind (packets.Seen n) ack seen = refl
 
--- a SEEN is a watcher's to player one
+-- a SEEN is from a watcher to player 1
 pub seen_seats : (packet : Packet) (ack : ℕ) → IsPacket packet → seen_in packet.message ≡ Some ack → (is_watcher packet.head.from ≡ true) × ((packet.head.to == 1) ≡ true)
 seen_seats packet ack spelled seen =
     let kind : packet.head.kind ≡ kinds.Seen = spelled.kind ∙ seen_kind packet.message ack seen in
@@ -312,7 +312,7 @@ calm_checkpoint J p q t k m =
 
 -- ---- any call
 
--- who said what is delivered; nobody says what is not
+-- the sender of the datagram that is delivered; 0 for other calls
 abbrev pub teller_of : Call → ℕ
 teller_of (Tick keys) = 0
 teller_of (Deliver (Ok packet)) = packet.head.from

@@ -1,5 +1,5 @@
--- How a match is worked out: what an event makes of a world where the sessions are the same and the marks agree, all of
--- which computes; and why a list of such events is a chain.
+-- How a match is computed: what an event does to a world, if the sessions are equal and the marks agree, as a function
+-- that reduces; and why a list of such events is a chain.
 use Rattle.std.proofs.Common.{◌≡◌, ℕ, ◌<◌, ◌^◌, List, [], ◌∷◌, Bool, true, false, Option, Some, None, Ok, refl, ap, subst, ◌∙◌, arith}
 use Rattle.std.specs.Prelude.{◌&&◌, not, nat_lt, if◌then◌else◌}
 use Rattle.std.specs.List.{slice_get}
@@ -32,7 +32,7 @@ use Rattle.c8_world.specs.Matches.{Line, events_of, answers_of, Leads}
 use Rattle.c8_world.proofs.Worlds.{IsSound, plays_if, after_sound}
 use Rattle.c8_wire.specs.Seats.{is_watcher}
 
--- ---- a delivery where the session is the own one and no machine differs
+-- ---- a delivery with the own session, and without a machine that differs
 
 abbrev pub refusal_here : LinksValue → HeadValue → Option HandError
 refusal_here l head =
@@ -72,7 +72,7 @@ deliver_here rules t k m packet =
     else (if is_of_other_wire rules packet.head then refused m refusals.OtherWire
     else from_here rules t k m packet (seen_in packet.message))
 
--- ---- what has to be the same
+-- ---- what must be equal
 
 -- a session, and a mark
 pub record Marks : Type 0 where
@@ -99,7 +99,7 @@ mark_for t (packets.Cut c) = None
 mark_for t (packets.Show shown) = None
 mark_for t (packets.Seen ack) = None
 
--- those of a datagram, and the peer's own ones
+-- those of a datagram, and the peer's own
 abbrev pub named_in : Packet → Marks
 named_in packet = record { session = packet.head.session; mark = mark_in packet.message }
 
@@ -173,7 +173,7 @@ after_here rules room w (Do act) h = acted_here rules room w act h
 after_here rules room w (Stop act calls pick) h =
     record { answer = Stopped; world = crashed rules (acted_here rules room w act h).world (player_of act) h.leaves }
 
--- what the datagram that an act gives names, and what the player who gets it has of its own
+-- those of the datagram that an act delivers, and the own ones of the player who gets it
 abbrev pub named_of : Option Packet → Option Marks
 named_of None = None
 named_of (Some packet) = Some (named_in packet)
@@ -249,9 +249,9 @@ after_is rules room w (Do act) h same = acted_is rules room w act h same
 after_is rules room w (Stop act calls pick) h same =
     ap (λ (a : After). record { answer = Stopped; world = crashed rules a.world (player_of act) h.leaves }) (acted_is rules room w act h same)
 
--- ---- what may happen
+-- ---- what can happen
 
--- an opening stands, over a journal without a pending record and with an epoch to come
+-- an opening succeeds, with a journal that has no pending record and has an epoch left
 abbrev pub stands_here : World → ℕ → Happening → Opening → Bool
 stands_here w p h Stands = not h.finds && nat_lt (epoch (journal_of w p)) last_epoch
 stands_here w p h (NotWritten why) = false
@@ -306,7 +306,7 @@ may_is rules room w (Fresh watcher) h sound is = is
 
 -- ---- a list of events
 
--- the answers, the world at the end, and what has to be so on the way
+-- the answers, the world at the end, and what must hold on the way
 pub record Course : Type 0 where
   pub answers : List Answer
   pub named : List (Option Marks)
@@ -331,7 +331,7 @@ abbrev pub all_true : List Line → List Bool
 all_true [] = []
 all_true (line ∷ lines) = true ∷ all_true lines
 
--- what is worked out
+-- what the computation shows
 pub record IsCourse (rules : Rules) (room : ℕ) (w : World) (lines : List Line) (answers : List Answer) (v : World) : Type 0 where
   pub chain : Chain rules room w (events_of lines) answers v
   pub sound : IsSound rules room v
@@ -356,7 +356,7 @@ course_is laws rules room w (line ∷ lines) range few sound same may =
       sound = rest.sound;
     }
 
--- what is worked out in room 0, where the answers are those of the lines
+-- what it shows in room 0, if the answers are those of the lines
 pub record IsWorked (rules : Rules) (w : World) (lines : List Line) (v : World) : Type 0 where
   pub leads : Leads rules w lines v
   pub sound : IsSound rules 0 v

@@ -1,4 +1,4 @@
--- What is said, and what is given, at a table.
+-- Datagrams that are sent and delivered at a table.
 use Rattle.std.proofs.Common.{◌≡◌, ◌≢◌, ℕ, zero, suc, ◌+◌, ◌-◌, ◌<◌, ◌≤◌, List, [], ◌∷◌, ◌++◌, length, map, take, Option, Some, None, Result, Ok, Err, refl, sym, ap, subst, ◌∙◌, arith, slice_index_or}
 use Rattle.std.specs.Prelude.{IfOk}
 use Rattle.std.specs.List.{slice_get}
@@ -23,7 +23,7 @@ use Rattle.c8_world.proofs.TableLemmas.{CanDo, stands_is_memory, IsCallOf, same_
 
 -- ---- the pool
 
--- bytes of the pool are those of the datagram of that number
+-- the pool has the bytes of the datagram with that number
 pub said_at : (said : List Packet) (n : ℕ) (bytes : List ℕ) → slice_get (map spelling said) n ≡ Some bytes → (packet : Packet) × (slice_get said n ≡ Some packet) × (bytes ≡ spelling packet)
 said_at [] n bytes is = absurd cc
 said_at (packet ∷ said) zero bytes is = (packet, refl, cc)
@@ -34,7 +34,7 @@ not_said [] n past = refl
 not_said (packet ∷ said) zero past = absurd (omega (arith, past))
 not_said (packet ∷ said) (suc n) past = not_said said n (omega (arith, past))
 
--- ---- a saying
+-- ---- sending
 
 pub say_call : (p to : ℕ) (what : Saying) (rules : Rules) (room : ℕ) (w : World) → IsCallOf rules room w (Say p to what) p (states.Say to what)
 unfolding acted
@@ -43,13 +43,13 @@ say_call p to what rules room w = record { by = refl; is = λ h. refl; may = λ 
 abbrev pub with_said : TableValue → List ℕ → TableValue
 with_said t bytes = record t { pool = t.pool ++ bytes ∷ [] }
 
--- an act is a call by which a player says something
+-- an act is a call that sends something for a player
 abbrev pub IsSayingOf : Act → ℕ → Call → Type 0
 IsSayingOf act p call = (rules : Rules) (room : ℕ) (w : World) → IsCallOf rules room w act p call
 
 module _ (t : TableValue) (p : ℕ) (act : Act) (call : Call) (is_call : IsSayingOf act p call) (node : Node) (plays : IsPlayer t.rules p) (w : World) (holds : Holds t w)
     (at : slice_index_or t.nodes (p - 1) None ≡ Some node) (is_node : IsNode t.rules t.room p node (peer_of w p)) where
-  -- the step of a saying leaves the state
+  -- the step of sending keeps the state
   said_state : (reply : Reply) → step t.rules p (peer_of w p) call Works ≡ record { reply = reply; state = peer_of w p }
       → IsNode t.rules t.room p node (step t.rules p (peer_of w p) call Works).state
   said_state reply is = subst (λ (x : State). IsNode t.rules t.room p node x) (sym (ap (λ (x : Stepped). x.state) is)) is_node
@@ -80,7 +80,7 @@ module _ (t : TableValue) (p : ℕ) (act : Act) (call : Call) (is_call : IsSayin
       let count : length t.pool ≡ length v.said - 1 = omega (arith, same, ap (λ (xs : List Packet). length xs) said, length-append w.said (packet ∷ [])) in
       ap (λ (x : Posted). answers.Said (Ok x)) (rw (count, long) refl))
 
--- ---- a datagram that is given
+-- ---- a datagram that is delivered
 
 pub none_happens : (t self : TableValue) (number p : ℕ) → t ≡ self → length t.pool ≤ number → (w : World) → Holds self w → HasHappened self w (Do (Give number p)) answers.NoSuch self
 unfolding acted
@@ -106,7 +106,7 @@ given_call rules room w number p packet at = record {
   may = λ h. tt;
 }
 
--- the datagrams that were said are read from their bytes
+-- the datagrams that were sent are read from their bytes
 abbrev pub AreRead : TableValue → World → Type 0
 AreRead t w = (packet : Packet) (n : ℕ) → slice_get w.said n ≡ Some packet → read (spelling packet) ≡ Ok packet
 
@@ -132,14 +132,14 @@ given_happens t self number place p bytes old new x answer view at reads places 
     asked_as t place p new (Give number p) (states.Deliver (Ok told.0)) places within plays w (given_call t.rules t.room w number p told.0 told.1) holds answer
     (subst (λ (r : _). IsAsked t.rules t.room p (peer_of w p) (states.Deliver r) answer new) is_read (asked t.rules t.room p (peer_of w p) (node_held t place p old w places within plays x here old_is holds))))
 
--- ---- what a player says
+-- ---- what a player sends
 
 pub say_absent : (t self : TableValue) (p : ℕ) (act : Act) (call : Call) → IsSayingOf act p call → t ≡ self → t.rules.players < p → (w : World) → Holds self w → HasHappened self w (Do act) answers.Down self
 say_absent t self p act call is_call view absent =
     subst (λ (u : TableValue). (w : World) → Holds u w → HasHappened u w (Do act) answers.Down u) view
     (λ w holds. same_happens t w act _ answers.Down holds (absent_can t.rules t.room w p act call (no_player t.rules p absent) (is_call t.rules t.room w)) refl)
 
--- what is asked of a node that is looked at
+-- a call at a node that is only read
 module _ (t self : TableValue) (place p : ℕ) (act : Act) (call : Call) (is_call : IsSayingOf act p call) (node : Node) (x : Option Node) (view : t ≡ self) (places : place + 1 ≡ p) (within : place < length t.nodes)
     (plays : IsPlayer t.rules p) (here : x ≡ slice_index_or t.nodes place x) (is : x ≡ Some node) where
   pub silent_happens : ((rules : Rules) (room q : ℕ) (s : State) → IsNode rules room q node s → s.mode ≢ states.Open) → (w : World) → Holds self w → HasHappened self w (Do act) answers.Down self

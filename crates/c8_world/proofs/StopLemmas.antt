@@ -1,4 +1,4 @@
--- What a stop makes of a table.
+-- What a stop does to a table.
 use Rattle.std.proofs.Common.{◌≡◌, ◌≢◌, ℕ, ◌+◌, ◌-◌, ◌<◌, length, map, Bool, true, false, cond, Option, Some, None, Result, Ok, Err, refl, sym, ap, subst, ◌∙◌, arith, slice_set, slice_index_or}
 use Rattle.std.specs.Prelude.{IfOk, IfErr}
 use Rattle.std.proofs.lemmas.List.{length-set, get_or-set_same, get_or-set_other}
@@ -75,7 +75,7 @@ stranger_crashes t self p view absent =
 
 -- ---- an act and then a crash
 
--- what a crash leaves is nothing to the act
+-- what a later crash leaves does not matter to the act
 acted_same : (rules : Rules) (room : ℕ) (w : World) (act : Act) (h : Happening) (leaves : Bool) → acted rules room w act (record h { leaves = leaves }) ≡ acted rules room w act h
 unfolding acted
 acted_same rules room w (Open p) h leaves = refl
@@ -163,7 +163,7 @@ unhappened_from first old mid new w act same is later = record {
   holds = later is.world is.holds;
 }
 
--- ---- an act after which the disk is told not to fail
+-- ---- an act after which the disk is armed not to fail
 
 pub with_ok : {T E : Type 0} (P Q : T → Type 0) (result : Result T E) → ((x : T) → P x → Q x) → IfOk result P → IfOk result Q
 with_ok P Q (Ok x) goes is = goes x is
@@ -173,7 +173,7 @@ pub with_err : {T E : Type 0} (P Q : E → Type 0) (result : Result T E) → ((e
 with_err P Q (Ok x) goes is = tt
 with_err P Q (Err error) goes is = goes error is
 
--- what has happened has, also where the table holds the same after it was changed
+-- an event has happened even if the table, which holds the same world, was changed after it
 pub happened_till : (old mid new : TableValue) (w : World) (event : Event) (answer : codes.Answer) → HasHappened old w event answer mid → ((v : World) → Holds mid v → Holds new v) → HasHappened old w event answer new
 happened_till old mid new w event answer is later = record {
   told = is.told;

@@ -1,4 +1,4 @@
--- What becomes of a table when one of its nodes, or its pool, changes.
+-- What happens to a table when one of its nodes, or its pool, changes.
 use Rattle.std.proofs.Common.{◌≡◌, ◌≢◌, inl, inr, ℕ, ◌+◌, ◌-◌, ◌<◌, ◌≤◌, ◌^◌, List, [], ◌∷◌, ◌++◌, length, map, Bool, false, cond, Option, Some, None, Ok, Err, refl, sym, ap, subst, ◌∙◌, arith, slice_set, slice_index_or}
 use Rattle.std.proofs.lemmas.Bool.{cases_eq, and_right, lt-leb}
 use Rattle.std.specs.Prelude.{nat_le, IfSome, MatchOption}
@@ -24,7 +24,7 @@ use Rattle.c8_world.specs.Nodes.{IsNode, IsPeerOf, IsCalled, IsAsked}
 use Rattle.c8_world.specs.Table.{TableValue, IsTaken, IsNotHeld, node_of, Holds, HadMemory, HasHappened, reported_reply, reported}
 use Rattle.c8_world.proofs.Openings.{plays_so}
 
--- ---- one event more
+-- ---- one more event
 
 chain_more : (rules : Rules) (room : ℕ) (u w v : World) (events : List Event) (answers : List Answer) (event : Event) (answer : Answer)
     → Chain rules room u events answers w → CanHappen rules room w event answer v → Chain rules room u (events ++ event ∷ []) (answers ++ answer ∷ []) v
@@ -42,7 +42,7 @@ reached_more rules room w v event answer reached can = record {
 
 -- ---- one node
 
--- The node of one player holds another peer; the others are as they were.
+-- The node of one player has another value; the others do not change.
 pub record IsRenodeed (old new : List (Option Node)) (p : ℕ) (node : Node) : Type 0 where
   pub here : slice_index_or new (p - 1) None ≡ Some node
   pub there : (q : ℕ) → 1 ≤ q → q ≢ p → slice_index_or new (q - 1) None ≡ slice_index_or old (q - 1) None
@@ -56,7 +56,7 @@ set_renodeed nodes place p node at within = record {
 pub same_renodeed : (nodes : List (Option Node)) (p : ℕ) (node : Node) → slice_index_or nodes (p - 1) None ≡ Some node → IsRenodeed nodes nodes p node
 same_renodeed nodes p node at = record { here = at; there = λ q from apart. refl }
 
--- each node holds its player's peer, where one of them has become another
+-- each node has its player's peer, after one of them changed
 pub nodeed : (rules : Rules) (room p : ℕ) (old new : List (Option Node)) (node : Node) (w v : World) → IsRenodeed old new p node
     → ((q : ℕ) → IsPlayer rules q → IsTaken rules room q (slice_index_or old (q - 1) None) (peer_of w q)) → IsNode rules room p node (peer_of v p)
     → ((q : ℕ) → IsPlayer rules q → q ≢ p → peer_of v q ≡ peer_of w q)
@@ -69,7 +69,7 @@ nodeed rules room p old new node w v is each here there q plays =
 
 -- ---- one peer goes on
 
--- the watchers' rows are as they were
+-- the watchers' rows do not change
 abbrev pub AreSameRows : TableValue → TableValue → Type 0
 AreSameRows old new = (new.five ≡ old.five) × (new.six ≡ old.six)
 
@@ -88,7 +88,7 @@ placed_there rules w p s new q plays q_plays apart =
     let also = q_plays.from_one in
     get_or-set_other w.peers (p - 1) (q - 1) s never_opened (λ e. apart (omega (arith, e, from, also)))
 
--- where the node and the pool tell it, the table holds the world in which one peer has become another and something more is said
+-- if the node and the pool show it, the table holds the world with one peer changed and some datagrams more
 pub placed_holds : (old new : TableValue) (w : World) (p : ℕ) (s : State) (said : List Packet) (node : Node)
     → new.rules ≡ old.rules → new.room ≡ old.room → IsPlayer old.rules p → Holds old w → IsReached old.rules old.room (placed w p s said)
     → IsRenodeed old.nodes new.nodes p node → IsNode old.rules old.room p node s → new.pool ≡ map spelling (w.said ++ said) → AreSameRows old new → Holds new (placed w p s said)
@@ -111,7 +111,8 @@ placed_holds old new w p s said node rules_same room_same plays holds reached is
 abbrev pub CanDo : Rules → ℕ → World → Event → Answer → World → Type 0
 CanDo rules room w event told v = (can : CanHappen rules room w event told v) × HadMemory can.happening
 
--- An act that comes to this answer, leaves one peer in this state and says this, has happened, where the node and the pool tell it.
+-- An act with this answer, which leaves one peer in this state and sends this, has happened, if the node and the pool
+-- show it.
 pub placed_happens : (old new : TableValue) (w : World) (p : ℕ) (s : State) (said : List Packet) (node : Node) (act : Act) (told : Answer) (answer : codes.Answer)
     → new.rules ≡ old.rules → new.room ≡ old.room → IsPlayer old.rules p → player_of act ≡ p → Holds old w
     → CanDo old.rules old.room w (Do act) told (placed w p s said)
@@ -196,7 +197,7 @@ absent_can rules room w p act call absent is = (
 pub no_player : (rules : Rules) (p : ℕ) → rules.players < p → is_player rules p ≡ false
 no_player rules p past = and_right (nat_le 1 p) (nat_le p rules.players) (lt-leb p rules.players past)
 
--- nothing has changed
+-- nothing changed
 pub same_happens : (t : TableValue) (w : World) (act : Act) (told : Answer) (answer : codes.Answer) → Holds t w → CanDo t.rules t.room w (Do act) told w
     → answer ≡ reported t.rules (player_of act) w told → HasHappened t w (Do act) answer t
 same_happens t w act told answer holds can reports = record { told = told; world = w; can = can.0; had_memory = can.1; reports = reports; holds = holds }
@@ -262,7 +263,7 @@ taken_at t place p w at within plays x here holds =
     let found : slice_index_or t.nodes (p - 1) None ≡ x = subst (λ (j : ℕ). slice_index_or t.nodes j None ≡ x) i (get_or_default t.nodes place None x within ∙ sym here) in
     subst (λ (y : Option Node). IsTaken t.rules t.room p y (peer_of w p)) found (holds.peers p plays)
 
--- the node that a table holds at a place
+-- the node of a table at a place
 pub held_at : (t : TableValue) (place p : ℕ) (node : Node) → place + 1 ≡ p → place < length t.nodes
     → (x : Option Node) → x ≡ slice_index_or t.nodes place x → x ≡ Some node → slice_index_or t.nodes (p - 1) None ≡ Some node
 held_at t place p node at within x here is =

@@ -13,7 +13,7 @@ use Rattle.c8_world.specs.Turns.{OfNodes, OthersStay, IsMove, IsTurn, IsTurnOut,
 use Rattle.c8_world.proofs.OpenedLemmas.{with_taken}
 use Rattle.c8_world.proofs.LifeLemmas.{one_more, here_split}
 
--- an opening that was refused memory left the disk alone
+-- an opening that was refused memory did not touch the disk
 pub opening_spared : {D : Type 0} (g : Ghosts D) (disk left : D) (rules : Rules) (room me : ℕ) → IsRefusedOpening g disk rules room me opens.Memory left → left ≡ disk
 opening_spared g disk left rules room me refused = ⊎_elim (λ stranger. stranger.2) (λ player. player.1) refused
 
@@ -24,7 +24,7 @@ others_set t place p x at q plays apart =
     let from = plays.from_one in
     get_or-set_other t.nodes place (q - 1) x None (λ e. apart (omega (arith, at, from, e)))
 
--- a node that is taken and put back
+-- a node is taken out and put back
 pub node_moves : (P : Node → Node → Type 0) (t self : TableValue) (place p : ℕ) (x y : Option Node) → t ≡ self → place + 1 ≡ p → place < length t.nodes → x ≡ slice_index_or t.nodes place x
     → OfNodes P x y → IsMove p P self (with_taken t place y)
 node_moves P t self place p x y view at within here is =
@@ -60,7 +60,7 @@ stranger_moves P t self p view full absent =
       own = rw none tt;
     })
 
--- ---- one turn more
+-- ---- one more turn
 
 pub turns_more : (old mid new : TableValue) (events : List asked.Event) (told : List codes.Answer) (event : asked.Event) (answer : codes.Answer) → AreTurns events told old mid
     → IsTurn event answer mid new → AreTurns (events ++ event ∷ []) (told ++ answer ∷ []) old new
@@ -74,7 +74,7 @@ pub turns_next : (old mid new : TableValue) (events : List asked.Event) (i : ℕ
 turns_next old mid new events i told more event answer within is turns turn grown =
     rw (one_more events i event within is, grown) (turns_more old mid new (take i events) told event answer turns turn)
 
--- memory is refused at an event
+-- memory was refused at an event
 pub first_turns : (old mid new : TableValue) (events : List asked.Event) (i : ℕ) (event : asked.Event) (told : List codes.Answer) → i < length events → event ≡ slice_index_or events i event
     → AreTurns (take i events) told old mid → IsTurnOut event mid new → AreFirstTurns events told old new
 first_turns old mid new events i event told within is turns out = record {

@@ -40,7 +40,7 @@ rows_are t w watcher holds = λ i. if watcher == 5 then sym holds.five i else (i
 watch_is : (t : TableValue) (w : World) (watcher : ℕ) → Holds t w → watch_of t.rules t.room w watcher ≡ watch_in t watcher
 watch_is t w watcher holds = λ i. record { rules = t.rules; room = t.room; seat = watcher; rows = rows_are t w watcher holds i }
 
--- ---- a watcher hears
+-- ---- a watcher takes a datagram
 
 pub unheard_happens : (t self : TableValue) (number watcher : ℕ) → is_watcher watcher ≡ true → t ≡ self → length t.pool ≤ number → (w : World) → Holds self w → HasHappened self w (Do (Hear number watcher)) answers.NoSuch self
 unfolding acted
@@ -58,7 +58,7 @@ unheard_happens t self number watcher watches view past =
     ) in
     same_happens t w (Hear number watcher) NoSuch answers.NoSuch holds can refl)
 
--- an act after which one watcher has other rows, and nothing else has changed
+-- an act after which one watcher has other rows, and nothing else changed
 watched_happens : (t : TableValue) (w : World) (act : Act) (watcher : ℕ) (rows : List Row) (told : Answer) (answer : codes.Answer) → Holds t w → CanDo t.rules t.room w (Do act) told (with_rows w watcher rows)
     → answer ≡ reported t.rules (player_of act) (with_rows w watcher rows) told → HasHappened t w (Do act) answer (with_watch t watcher rows)
 watched_happens t w act watcher rows told answer holds can reports = record {
@@ -108,7 +108,7 @@ fresh_happens t self watcher watches view =
     let can : CanDo t.rules t.room w (Do (Fresh watcher)) Anew (with_rows w watcher []) = (record { happening = with_luck Works; may = watches; is = refl }, stands_is_memory) in
     watched_happens t w (Fresh watcher) watcher [] Anew answers.Anew holds can refl)
 
--- ---- a watcher says what it has
+-- ---- a watcher acknowledges its rows
 
 pub seen_happens : (t self : TableValue) (watcher number size : ℕ) (bytes : List ℕ) (pool : List (List ℕ)) → is_watcher watcher ≡ true → t ≡ self → number ≡ length t.pool → pool ≡ t.pool ++ take size bytes ∷ []
     → Spells (take size bytes) (seen (watch_in t watcher)) → size ≤ length bytes
@@ -152,7 +152,7 @@ five_now t watcher rows is = rw (eq-eqb watcher 5 is, ne_eqb watcher 6 (λ e. om
 six_now : (t : TableValue) (watcher : ℕ) (rows : List Row) → watcher ≡ 6 → with_watch t watcher rows ≡ record t { six = rows }
 six_now t watcher rows is = rw (ne_eqb watcher 5 (λ e. omega (arith, is, e)), eq-eqb watcher 6 is) refl
 
--- who watches from a seat is what the table has of it
+-- the watcher in a seat is the table's
 pub watch_of_five : (t : TableValue) (watcher : ℕ) (v : WatchValue) → watcher ≡ 5 → IsWatch t.rules t.room 5 v → v.rows ≡ t.five → v ≡ watch_in t watcher
 watch_of_five t watcher v is watch rows =
     let here : rows_in t watcher ≡ t.five = rw (eq-eqb watcher 5 is) refl in
@@ -163,7 +163,7 @@ watch_of_six t watcher v is watch rows =
     let here : rows_in t watcher ≡ t.six = rw (ne_eqb watcher 5 (λ e. omega (arith, is, e)), eq-eqb watcher 6 is) refl in
     λ i. record { rules = watch.rules_are i; room = watch.room_is i; seat = (watch.seat_is ∙ sym is) i; rows = (rows ∙ sym here) i }
 
--- it watches on from the same seat
+-- it goes on watching from the same seat
 pub hears_on : (rules : Rules) (room seat : ℕ) (old new : WatchValue) (told : Result Packet WireError) → IsWatch rules room seat old → new ≡ (hear old told).watch → IsWatch rules room seat new
 hears_on rules room seat old new told is after =
     let kept = still_heard old told in

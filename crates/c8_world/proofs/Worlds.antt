@@ -1,4 +1,4 @@
--- A world is sound at its start, and every event keeps it so.
+-- A world is sound at its start, and each event keeps it sound.
 use Rattle.c8_spectator.specs.Growth.{ShowsRowsOf}
 use Rattle.std.proofs.Common.{◌≡◌, ◌≢◌, ℕ, zero, suc, ◌-◌, ◌<◌, ◌^◌, ◌⊎◌, inl, inr, ⊎_elim, List, [], ◌∷◌, ◌++◌, length, Bool, true, false, cond, Option, Some, None, Ok, Err, refl, sym, ap, subst, ◌∙◌, arith, slice_set, slice_index_or, replicate}
 use Rattle.std.specs.Prelude.{◌==◌, nat_le, if◌then◌else◌, option_to_list}
@@ -42,9 +42,9 @@ use Rattle.c8_spectator.specs.checked.WatchLaws.{truth_heard}
 use Rattle.c8_peer.specs.checked.BoundLaws.{session_low, confirmed_frames}
 use Rattle.std.proofs.lemmas.List.FromFn.{length-map-range_with_len}
 
--- ---- what holds of a world
+-- ---- the invariant of a world
 
--- a pending record fits, and its peer is not open; and what a peer keeps in memory is sound as long as it is not away
+-- a pending record fits, and its peer is not open; the memory of a peer is sound unless the peer is away
 pub record IsSoundPeer (rules : Rules) (room : ℕ) (J : ℕ → List Record) (said : List Packet) (p : ℕ) (s : State) : Type 0 where
   pub pending : (r : Record) → s.pending ≡ Some r → (s.mode ≢ states.Open) × Fits rules room J p r
   pub awake : s.mode ≢ Away → IsAwake rules room J said p s.memory
@@ -56,12 +56,12 @@ pub record IsSound (rules : Rules) (room : ℕ) (w : World) : Type 0 where
   pub peers : (p : ℕ) → IsPlayer rules p → IsSoundPeer rules room (journal_of w) w.said p (peer_of w p)
   pub watched : (watcher : ℕ) → Begins (rows_of w watcher) (confirmed_rows (known_by rules w 1))
 
--- a later world is sound, its journals go on from those of before, and so does what was said
+-- a later world is sound, and its journals and sent datagrams continue the earlier ones
 pub record Reaches (rules : Rules) (room : ℕ) (w v : World) : Type 0 where
   pub sound : IsSound rules room v
   pub grown : Grown rules (journal_of w) (journal_of v)
 
--- ---- journals that are the same
+-- ---- journals that are equal
 
 same_grown : (rules : Rules) (J J' : ℕ → List Record) → ((q : ℕ) → IsPlayer rules q → J' q ≡ J q) → Grown rules J J'
 same_grown rules J J' same q plays = rw (same q plays) (begins_same (J q))
@@ -95,7 +95,7 @@ awake_later rules room J J' said new p m grown lawful awake = record {
   links = named_more said new p m awake.links;
 }
 
--- what player one counts as confirmed stays
+-- what player 1 counts as confirmed stays confirmed
 still_known : (rules : Rules) (room : ℕ) (J J' : ℕ → List Record) → AreInRange rules → AreSound rules room J' → Grown rules J J' → IsStillKnown (known_of rules 1 (J 1)) (known_of rules 1 (J' 1))
 still_known rules room J J' range sound grown =
     let one = player_one rules range in
@@ -118,7 +118,7 @@ rows_later rules room J J' rows range sound grown begins =
 said_later : (rules : Rules) (room : ℕ) (J J' : ℕ → List Record) (packet : Packet) → AreInRange rules → AreSound rules room J' → Grown rules J J' → IsSaid rules J packet → IsSaid rules J' packet
 said_later rules room J J' packet range sound grown is = record { told = told_later rules room J J' packet (seen_in packet.message) range sound grown is.told; spelled = is.spelled }
 
--- ---- one peer is another, and something more is said
+-- ---- one peer changes, and more datagrams are sent
 
 abbrev pub placed : World → ℕ → State → List Packet → World
 placed w p s new = record w { peers = slice_set w.peers (p - 1) s; said = w.said ++ new }
@@ -135,13 +135,13 @@ peer_there rules w p s new q plays q_plays apart =
     let also = q_plays.from_one in
     get_or-set_other w.peers (p - 1) (q - 1) s never_opened (λ e. apart (omega (arith, e, from, also)))
 
--- an item of a list that is longer
+-- an item of two joined lists
 among_split : (said new : List Packet) (packet : Packet) → IsAmong (said ++ new) packet → IsAmong said packet ⊎ IsAmong new packet
 among_split [] new packet among = inr among
 among_split (x ∷ said) new packet (zero, e) = inl (zero, e)
 among_split (x ∷ said) new packet (suc n, e) = ⊎_elim (λ early. inl (suc early.0, early.1)) (λ late. inr late) (among_split said new packet (n, e))
 
--- What a peer becomes leaves all sound, where the journals stay or grow and the others' stay as they are.
+-- A change of one peer keeps all sound, if its journal stays or grows and the others' do not change.
 placed_by : (rules : Rules) (room : ℕ) (w : World) (p : ℕ) (s : State) (new : List Packet) → AreInRange rules → IsSound rules room w → IsPlayer rules p
     → AreSound rules room (journal_of (placed w p s new)) → Grown rules (journal_of w) (journal_of (placed w p s new))
     → IsSoundPeer rules room (journal_of (placed w p s new)) (w.said ++ new) p s
@@ -176,14 +176,14 @@ placed_by rules room w p s new range sound plays journals grown peer news =
       grown = grown;
     }
 
--- the journals of a world in which one peer is another
+-- the journals of a world after one peer changed
 journal_there : (rules : Rules) (w : World) (p : ℕ) (s : State) (new : List Packet) (q : ℕ) → IsPlayer rules p → IsPlayer rules q → q ≢ p → journal_of (placed w p s new) q ≡ journal_of w q
 journal_there rules w p s new q plays q_plays apart = ap (λ (t : State). t.journal) (peer_there rules w p s new q plays q_plays apart)
 
 journal_here : (rules : Rules) (w : World) (p : ℕ) (s : State) (new : List Packet) → length w.peers ≡ rules.players → IsPlayer rules p → journal_of (placed w p s new) p ≡ s.journal
 journal_here rules w p s new nodes plays = ap (λ (t : State). t.journal) (peer_here rules w p s new nodes plays)
 
--- the journal stays
+-- the journal does not change
 placed_same : (rules : Rules) (room : ℕ) (w : World) (p : ℕ) (s : State) (new : List Packet) → AreInRange rules → IsSound rules room w → IsPlayer rules p → s.journal ≡ journal_of w p
     → IsSoundPeer rules room (journal_of w) w.said p s → ((packet : Packet) → IsAmong new packet → IsSaid rules (journal_of w) packet) → Reaches rules room w (placed w p s new)
 placed_same rules room w p s new range sound plays stays peer news =
@@ -203,7 +203,7 @@ placed_same rules room w p s new range sound plays stays peer news =
     })
     (λ packet among. said_later rules room (journal_of w) (journal_of v) packet range journals grown (news packet among))
 
--- the journal has one record more, which fits
+-- the journal has one more record, which fits
 placed_more : (rules : Rules) (room : ℕ) (w : World) (p : ℕ) (s : State) (new : List Packet) (r : Record) → AreInRange rules → IsSound rules room w → IsPlayer rules p → s.journal ≡ journal_of w p ++ r ∷ []
     → Fits rules room (journal_of w) p r → s.pending ≡ None
     → (AreSound rules room (journal_of (placed w p s new)) → Grown rules (journal_of w) (journal_of (placed w p s new)) → s.mode ≢ Away → IsAwake rules room (journal_of (placed w p s new)) (w.said ++ new) p s.memory)
@@ -225,7 +225,7 @@ placed_more rules room w p s new r range sound plays longer fits settled awake n
 
 -- ---- a call of an open peer
 
--- what is said by a reply
+-- the datagram that a reply sends
 said_is : (reply : Reply) (packet : Packet) → IsAmong (said_by reply) packet → reply ≡ Said (Ok packet)
 said_is (Opened result) packet (n, e) = absurd cc
 said_is (Ticked result) packet (n, e) = absurd cc
@@ -246,14 +246,14 @@ none_by_disk (states.Leave leaver) why = refl
 none_by_disk (states.Decide leaver) why = refl
 none_by_disk states.Checkpoint why = refl
 
--- what a call of an open peer owes, all together
+-- all that must hold after a call of an open peer
 record Owes (rules : Rules) (room : ℕ) (w : World) (p : ℕ) (o : Outcome) : Type 0 where
   fits : (r : Record) → o.keeps ≡ Some r → Fits rules room (journal_of w) p r
   awake : IsAwake rules room (journal_of w) w.said p o.memory
   grows : (r : Record) → o.keeps ≡ Some r → IsMemory rules room p (journal_of w p ++ r ∷ []) o.memory
   says : (packet : Packet) → IsAmong (said_by o.reply) packet → IsSaid rules (journal_of w) packet
 
--- what is true of a player's journal is no SEEN
+-- a datagram that is true by a player's journal is not a SEEN
 no_seen : (rules : Rules) (me to : ℕ) (journal : List Record) (message : Message) → IsTrueMessage rules me to journal message → seen_in message ≡ None
 no_seen rules me to journal packets.Hello is = refl
 no_seen rules me to journal (packets.Welcome ack) is = refl
@@ -296,7 +296,7 @@ call_owes laws rules room w p call range sound plays up is_call worldly =
           };
     }
 
--- nothing is pending at an open peer
+-- an open peer has no pending record
 none_or_not : (o : Option Record) → ((r : Record) → o ≡ Some r → ⊥) → o ≡ None
 none_or_not None never = refl
 none_or_not (Some r) never = absurd (never r refl)
@@ -330,7 +330,7 @@ done_sound rules room w p call o (Some r) (Refuses why) range sound plays up owe
     })
     (λ packet among. absurd (no_item packet (subst (λ (all : List Packet). IsAmong all packet) (none_by_disk call why) among)))
 
--- an event that leaves the world as it is
+-- an event that does not change the world
 pub stays_as : (rules : Rules) (room : ℕ) (w : World) → IsSound rules room w → Reaches rules room w w
 stays_as rules room w sound = record { sound = sound; grown = λ q plays. begins_same (journal_of w q) }
 
@@ -369,7 +369,7 @@ call_sound laws rules room w p call luck range sound is_call worldly =
     (λ is. mode_sound laws rules room w p call luck (peer_of w p).mode range sound (plays_if rules p is) refl is_call worldly)
     (stays_as rules room w sound)
 
--- ---- what a reading finds
+-- ---- what a read finds
 
 -- the journal that was found is the peer's from now on
 found_sound : (rules : Rules) (room : ℕ) (w : World) (p : ℕ) (finds : Bool) (o : Option Record) → AreInRange rules → IsSound rules room w → IsPlayer rules p → (peer_of w p).pending ≡ o
@@ -384,7 +384,7 @@ found_sound rules room w p true (Some r) range sound plays e =
     placed_more rules room w p (away (peer_of w p) (journal_of w p ++ r ∷ []) None) [] r range sound plays refl ((sound.peers p plays).pending r e).1 refl
     (λ journals grown mode. absurd (mode refl)) (λ packet among. absurd (no_item packet among))
 
--- nothing is said by it
+-- it sends nothing
 said_none : (w : World) (p : ℕ) (s : State) → placed w p s [] ≡ with_peer w p s
 said_none w p s = λ i. record w { peers = slice_set w.peers (p - 1) s; said = append-nil w.said i }
 
@@ -444,7 +444,7 @@ fresh_awake rules room p J said n lawful = record {
   links = λ q is. absurd (both_ways (link_to (no_links rules p room n) q).is_open (no_link_open rules room p n q) is);
 }
 
--- a peer that is placed twice is the second one
+-- of two changes of a peer the second counts
 placed_twice : (w : World) (p : ℕ) (s t : State) (new : List Packet) → placed (placed w p s []) p t new ≡ placed w p t new
 placed_twice w p s t new = λ i. record w { peers = set-set w.peers (p - 1) s t i; said = append-nil w.said i ++ new }
 
@@ -459,7 +459,7 @@ may_open laws rules room w p journal range few sound plays is valid low =
       checks = subst (λ (j : List Record). HasTrueChecks rules p (j ++ r ∷ [])) (sym is) (laws.opening_true rules p room journal range plays.from_one plays.in_game few valid low checks.last);
     }
 
--- an opening that finds a journal, from the world in which that journal is the peer's
+-- an opening that finds a journal, from the world in which the peer has that journal
 opened_sound : (laws : ArePeersLawful) (rules : Rules) (room : ℕ) (w : World) (p : ℕ) (s : State) (journal : List Record) (outcome : Opening) → AreInRange rules → room < 2 ^ 64 → IsSound rules room w → IsPlayer rules p
     → journal_of w p ≡ journal → (peer_of w p).pending ≡ None → (peer_of w p).mode ≡ Away → MayBecome rules room p journal outcome
     → (outcome ≢ NoMemory) → ((why : DiskError) → outcome ≢ NotRead why)
@@ -500,7 +500,7 @@ unread_sound rules room w p range sound plays =
     placed_same rules room w p (away (peer_of w p) (journal_of w p) (peer_of w p).pending) [] range sound plays refl
     (record { pending = λ r e. (λ mode. absurd cc, ((sound.peers p plays).pending r e).1); awake = λ mode. absurd (mode refl) }) (λ packet among. absurd (no_item packet among))
 
--- an opening that settles what it found: first the journal that was found is the peer's, then it is opened
+-- an opening that settles what it found: first the peer gets the journal that was found, then it is opened
 settle_open : (laws : ArePeersLawful) (rules : Rules) (room : ℕ) (w : World) (p : ℕ) (finds : Bool) (outcome : Opening) → AreInRange rules → room < 2 ^ 64 → IsSound rules room w → IsPlayer rules p
     → MayBecome rules room p (found (peer_of w p) finds) outcome → outcome ≢ NoMemory → ((why : DiskError) → outcome ≢ NotRead why)
     → Reaches rules room w (stepped w p (opened rules room p (peer_of w p) (found (peer_of w p) finds) outcome)).world
@@ -542,7 +542,7 @@ given_sound laws rules room w p number luck (Some packet) range sound e =
 
 -- ---- watchers
 
--- of a watcher's rows, with another's or its own in their place
+-- a watcher's rows, when its own or another's change
 rows_if : (P : List Row → Type 0) (b : Bool) (x y : List Row) → P x → P y → P (cond b x y)
 rows_if P true x y one other = one
 rows_if P false x y one other = other
@@ -551,7 +551,7 @@ rows_with : (P : List Row → Type 0) (w : World) (watcher other : ℕ) (rows : 
 rows_with P w watcher other rows new old =
     rows_if P (other == 5) _ _ (rows_if P (watcher == 5) _ _ new (old 5)) (rows_if P (other == 6) _ _ (rows_if P (watcher == 6) _ _ new (old 6)) (old 7))
 
--- nothing is said and no peer changes, but one watcher has other rows, which begin the confirmed ones
+-- no datagram is sent and no peer changes, but one watcher has other rows, the beginning of the confirmed ones
 watched_sound : (rules : Rules) (room : ℕ) (w : World) (watcher : ℕ) (rows : List Row) → IsSound rules room w → Begins rows (confirmed_rows (known_by rules w 1)) → Reaches rules room w (with_rows w watcher rows)
 watched_sound rules room w watcher rows sound begins = record {
   sound = record {
@@ -564,7 +564,7 @@ watched_sound rules room w watcher rows sound begins = record {
   grown = λ q plays. begins_same (journal_of w q);
 }
 
--- what a watcher is told by SHOW stands in the confirmed rows of player one
+-- the rows of a SHOW are in player 1's confirmed rows
 pub shown_stands : (rules : Rules) (J : ℕ → List Record) (packet : Packet) (m : ShowMessage) → packet.message ≡ packets.Show m → IsTold rules J packet (seen_in packet.message) → StandsIn m.start m.rows (confirmed_rows (known_of rules 1 (J 1)))
 shown_stands rules J packet m is told =
     let q : ℕ = packet.head.from in
@@ -582,7 +582,7 @@ only_said : (rules : Rules) (J : ℕ → List Record) (packet one : Packet) → 
 only_said rules J packet one is (zero, e) = let same : packet ≡ one = cc in subst (λ (x : Packet). IsSaid rules J x) same is
 only_said rules J packet one is (suc n, e) = absurd cc
 
--- a watcher says what it has
+-- a watcher acknowledges its rows
 told_sound : (rules : Rules) (room : ℕ) (w : World) (packet : Packet) → AreInRange rules → IsSound rules room w → IsSaid rules (journal_of w) packet → Reaches rules room w (record w { said = w.said ++ packet ∷ [] })
 told_sound rules room w packet range sound is =
     let grown : Grown rules (journal_of w) (journal_of w) = λ q plays. begins_same (journal_of w q) in

@@ -27,7 +27,7 @@ pub record IsPlayer (rules : Rules) (p : ℕ) : Type 0 where
   pub from_one : 1 ≤ p
   pub in_game : p ≤ rules.players
 
--- The player has not been dropped: player one's journal has no LEAVE of it.
+-- The player has not been dropped: player 1's journal has no LEAVE of it.
 abbrev pub IsUndropped : World → ℕ → Type 0
 IsUndropped w p = has_leave p (journal_of w 1) ≡ false
 
@@ -37,13 +37,14 @@ NobodyLeaves w = (q : ℕ) → IsUndropped w q
 
 -- ---- agreement
 
--- Two of what peers know agree up to a number of frames: they have the same inputs of all players, and so the same machine.
+-- What two peers know is the same up to a number of frames: they have the same inputs of all players, so the same
+-- machine.
 pub record AreSameUpTo (rules : Rules) (a b : KnownValue) (n : ℕ) : Type 0 where
   pub rows : rows_below a n ≡ rows_below b n
   pub machine : serial rules (rows_below a n) ≡ serial rules (rows_below b n)
 
--- Peer p at one moment and peer r at that or a later one agree as far as both count frames as confirmed, each at its own
--- moment.
+-- Peer p at one moment and peer r at that or a later one agree up to the frames that both count as confirmed, each at
+-- its own moment.
 abbrev pub AgreeUpTo : Rules → World → World → ℕ → ℕ → Type 0
 AgreeUpTo rules earlier later p r = (n : ℕ) → n ≤ confirmed (known_by rules earlier p) → n ≤ confirmed (known_by rules later r)
     → AreSameUpTo rules (known_by rules earlier p) (known_by rules later r) n
@@ -52,8 +53,8 @@ AgreeUpTo rules earlier later p r = (n : ℕ) → n ≤ confirmed (known_by rule
 abbrev pub Agree : Rules → World → World → ℕ → ℕ → Type 0
 Agree rules earlier later p r = IsUndropped later p → IsUndropped later r → AgreeUpTo rules earlier later p r
 
--- An input of player q that a peer holds as confirmed at a moment: what q's own journal has at that frame, or, by player
--- one's journal, empty from q's cut on; at a later moment too.
+-- An input of player q that a peer holds as confirmed at a moment: what q's own journal has in that frame, at a later
+-- moment too, or empty from q's cut on, by player 1's journal.
 pub record IsEntered (rules : Rules) (later : World) (q frame : ℕ) (input : Option ℕ) : Type 0 where
   pub word : ℕ
   pub is : input ≡ Some word
@@ -64,26 +65,26 @@ abbrev pub AreEntered : Rules → World → World → ℕ → Type 0
 AreEntered rules earlier later p = (frame q : ℕ) → IsPlayer rules q → frame < confirmed (known_by rules earlier p)
     → IsEntered rules later q frame (input_of (player_in (known_by rules earlier p) q) frame)
 
--- who is undropped holds no more of a leaver's inputs than player one's cut
+-- an undropped player holds no more of a leaver's inputs than player 1's cut
 abbrev pub IsBounded : Rules → World → ℕ → Type 0
 IsBounded rules w p = IsUndropped w p → (leaver K : ℕ) → IsPlayer rules leaver → cut_of leaver (journal_of w 1) ≡ Some K → count rules leaver (journal_of w p) ≤ K
 
--- Before player one has cut a leaver's list, what a player answered it is at least what that player holds of the leaver.
+-- Before player 1 has cut a leaver's list, a player's answer is at least what that player holds of the leaver.
 abbrev pub AreReports : Rules → World → ℕ → Type 0
 AreReports rules w p = ((peer_of w 1).mode ≡ Away → ⊥) → (leaver n : ℕ) → report_of (peer_of w 1).memory.chair leaver p ≡ Some n → cut_of leaver (journal_of w 1) ≡ None
     → count rules leaver (journal_of w p) ≤ n
 
--- where player one has cut a leaver's list, each other player who is undropped has frozen the leaver
+-- if player 1 has cut a leaver's list, each other undropped player has frozen the leaver
 abbrev pub HasFrozen : World → ℕ → Type 0
 HasFrozen w p = IsUndropped w p → p ≢ 1 → (leaver K : ℕ) → cut_of leaver (journal_of w 1) ≡ Some K → has_freeze leaver (journal_of w p) ≡ true
 
--- the machine of a peer's `base`: run from where it began on the rows that are confirmed
+-- the machine of a peer's `base`: the run of the confirmed rows from where the machine began
 abbrev pub base_of : Rules → World → ℕ → State
 base_of rules w p = run_since rules (begun_at rules (journal_of w p)) (confirmed_rows (known_by rules w p))
 
--- ---- the same by what reads of the disks give
+-- ---- the same for reads of the disks
 
--- which of the pending records a read of each player's disk finds
+-- which pending records the reads of the players' disks find
 abbrev pub Reads : Type 0
 Reads = ℕ → Bool
 
@@ -95,14 +96,14 @@ AgreeByReads rules w reads p r = has_leave p (read_by w reads 1) ≡ false → h
     → (n : ℕ) → n ≤ confirmed (known_of rules p (read_by w reads p)) → n ≤ confirmed (known_of rules r (read_by w reads r))
     → AreSameUpTo rules (known_of rules p (read_by w reads p)) (known_of rules r (read_by w reads r)) n
 
--- ---- what was said
+-- ---- datagrams that were sent
 
--- this is one of the datagrams that were said
+-- this is one of the datagrams that were sent
 abbrev pub IsAmong : List Packet → Packet → Type 0
 IsAmong said packet = (number : ℕ) × (slice_get said number ≡ Some packet)
 
--- A datagram that was said is true: of its sender's journal; a SEEN, whose sender has none, where player one counts as many
--- frames as confirmed.
+-- A datagram is true by its sender's journal; a SEEN, whose sender has no journal, by how many frames player 1 counts
+-- as confirmed.
 abbrev pub IsTrueBy : Rules → World → Packet → Option ℕ → Type 0
 IsTrueBy rules w packet (Some rows) = rows ≤ confirmed (known_by rules w 1)
 IsTrueBy rules w packet None = IsTrue rules packet.head.from (journal_of w packet.head.from) packet
@@ -110,7 +111,7 @@ IsTrueBy rules w packet None = IsTrue rules packet.head.from (journal_of w packe
 abbrev pub IsTrueSaid : Rules → World → Packet → Type 0
 IsTrueSaid rules w packet = IsTrueBy rules w packet (seen_in packet.message)
 
--- a datagram of player q to player p names their epochs: q's own one, and p's
+-- a datagram of player q to player p has these epochs of q and p
 pub record Names (said : List Packet) (q p theirs mine : ℕ) : Type 0 where
   pub packet : Packet
   pub among : IsAmong said packet
@@ -119,7 +120,7 @@ pub record Names (said : List Packet) (q p theirs mine : ℕ) : Type 0 where
   pub sender_epoch : packet.head.sender_epoch ≡ theirs
   pub addressee_epoch : packet.head.addressee_epoch ≡ mine
 
--- An open link of p to q: q had the epoch that p knows of it, and in that epoch named p's own one.
+-- An open link of p to q: q had the epoch that p knows, and in that epoch named p's own epoch.
 pub record IsLinked (w : World) (p q : ℕ) : Type 0 where
   pub had : had_epoch (link_to (peer_of w p).memory.links q).known (journal_of w q) ≡ true
   pub named : Names w.said q p (link_to (peer_of w p).memory.links q).known (peer_of w p).memory.links.epoch
@@ -129,7 +130,7 @@ AreLinked w p q = ((peer_of w p).mode ≡ Away → ⊥) → (link_to (peer_of w 
 
 -- ---- watchers
 
--- A watcher has a beginning of the rows that player one counts as confirmed, and so the machine that player one had then.
+-- A watcher has a beginning of the rows that player 1 counts as confirmed, and so a machine that player 1 had.
 pub record HasTrueRows (rules : Rules) (w : World) (watcher : ℕ) : Type 0 where
   pub rows : Begins (rows_of w watcher) (confirmed_rows (known_by rules w 1))
   pub machine : serial rules (rows_of w watcher) ≡ serial rules (take (length (rows_of w watcher)) (confirmed_rows (known_by rules w 1)))
@@ -142,7 +143,7 @@ refused_for why = Told (Delivered (Err why))
 abbrev pub not_opened_for : OpenError → Answer
 not_opened_for why = Told (Opened (Err why))
 
--- no opening of a player's peer finds a journal that it may not open
+-- no opening of a player's peer finds a journal that it must refuse
 pub record IsFit (answer : Answer) : Type 0 where
   pub game : answer ≢ not_opened_for opens.WrongGame
   pub player : answer ≢ not_opened_for opens.WrongPlayer

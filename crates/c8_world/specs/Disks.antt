@@ -1,4 +1,4 @@
--- What the disks of a world have room for, and when they were told to fail.
+-- The capacities of a world's disks, and when they are to fail.
 use Rattle.std.specs.Prelude.{◌≡◌, ◌⊎◌, ℕ, List, [], ◌∷◌, ◌++◌, nat_eq, if◌then◌else◌, Option, Some, None}
 use Rattle.c8_disk.specs.declared.disk.Arm.{Arm}
 use Rattle.c8_disk.specs.declared.disk.Arm.TheVariants as arms
@@ -13,7 +13,7 @@ use Rattle.c8_world.specs.Events.{act_of}
 use Rattle.c8_world.specs.Agreement.{IsPlayer}
 use Rattle.c8_world.specs.Table.{TableValue, node_of}
 
--- the bytes that a disk has room for, and all that it was told of when its calls fail, the oldest first
+-- the bytes that fit on a disk, and the values given to `arm`, oldest first
 pub record Setting : Type 0 where
   pub room : ℕ
   pub arms : List Arm
@@ -29,24 +29,24 @@ setting_of (Some (nodes.Away disk)) = setting_of_disk disk
 abbrev pub setting_at : TableValue → ℕ → Setting
 setting_at t p = setting_of (node_of t p)
 
--- The rooms stay, and no disk was told anything.
+-- The capacities stay, and no disk was armed.
 abbrev pub KeepSettings : TableValue → TableValue → Type 0
 KeepSettings old new = (p : ℕ) → IsPlayer old.rules p → setting_at new p ≡ setting_at old p
 
--- told more
+-- after more values given to `arm`
 abbrev pub armed : List Arm → Setting → Setting
 armed more s = record s { arms = s.arms ++ more }
 
--- The rooms stay, and each player's disk was told so much more.
+-- The capacities stay, and each player's disk was armed with these values more.
 abbrev pub AreArmed : (ℕ → List Arm) → TableValue → TableValue → Type 0
 AreArmed more old new = (p : ℕ) → IsPlayer old.rules p → setting_at new p ≡ armed (more p) (setting_at old p)
 
--- what one player's disk is told; the others are told nothing
+-- only one player's disk is armed
 abbrev pub for_player : ℕ → List Arm → ℕ → List Arm
 for_player player more p = if nat_eq p player then more else []
 
--- What an event tells the disks: nothing; but inside a stop the player's own fails after so many calls, and inside a failure once
--- after so many.
+-- How an event arms the disks: not at all; but for a stop the player's own disk fails after that many calls, and for a
+-- failure once after that many.
 abbrev pub arms_by : asked.Event → ℕ → List Arm
 arms_by (happenings.Do act) = λ p. []
 arms_by (happenings.Stop act calls pick) = for_player (player_of (act_of act)) (arms.Stop calls ∷ [])
@@ -56,21 +56,21 @@ abbrev pub arms_in : List asked.Event → ℕ → List Arm
 arms_in [] p = []
 arms_in (event ∷ events) p = arms_by event p ++ arms_in events p
 
--- what an event tells them at which memory was refused: a stop is taken back, and a failure too
+-- how an event at which memory was refused arms them: a stop or a failure is taken back
 abbrev pub arms_taken_back : asked.Event → ℕ → List Arm
 arms_taken_back (happenings.Do act) = λ p. []
 arms_taken_back (happenings.Stop act calls pick) = for_player (player_of (act_of act)) (arms.Stop calls ∷ arms.Off ∷ [])
 arms_taken_back (happenings.Fail act calls) = for_player (player_of (act_of act)) (arms.Once calls ∷ arms.Off ∷ [])
 
--- What the disks were told in a run that ran out of memory: what the events before tell them, and, where memory was refused at an
--- event and not for the report, what that one does.
+-- How a run that ran out of memory armed the disks: as the events before do, and, if memory was refused at an event and
+-- not for the report, as that event does.
 pub record AreArmedOut (events : List asked.Event) (old new : TableValue) : Type 0 where
   pub before : List asked.Event
   pub after : List asked.Event
   pub at : events ≡ before ++ after
   pub armed : AreArmed (arms_in before) old new ⊎ ((event : asked.Event) × (rest : List asked.Event) × (after ≡ event ∷ rest) × AreArmed (λ p. arms_in before p ++ arms_taken_back event p) old new)
 
--- the disk of a peer that was never opened: empty, with room for so many bytes and as many calls to serve
+-- the disk of a peer that was never opened: empty, with this capacity and this many calls to serve
 abbrev pub IsNewDisk : ℕ → ℕ → Option Node → Type 0
 IsNewDisk capacity calls node = (disk : MemDisk) × (node ≡ Some (nodes.Away disk)) × (value_of disk ≡ new_value capacity calls)
 

@@ -1,4 +1,4 @@
--- Where players stand.
+-- What players have at the end.
 use Rattle.std.specs.Prelude.{◌≡◌, ◌↔◌, ℕ, ◌<◌, ◌+◌, ◌-◌, List, [], ◌∷◌, length, min, map, slice_index_or, Bool, true, false, Option, Some, None}
 use Rattle.std.specs.List.{slice_get, range_with_len}
 use Rattle.c8_game.specs.Rules.{Rules}
@@ -33,26 +33,27 @@ tally_of k = record { now = k.ticks; confirmed = confirmed k; held = map (held_o
 abbrev pub tally_at : Standing → Tally
 tally_at standing = tally_of (known_at standing)
 
--- as many frames as both count as confirmed
+-- the number of frames that both count as confirmed
 abbrev pub both : KnownValue → KnownValue → ℕ
 both a b = min (confirmed a) (confirmed b)
 
 abbrev pub AreSameRows : KnownValue → KnownValue → Type 0
 AreSameRows a b = rows_below a (both a b) ≡ rows_below b (both a b)
 
--- ---- the ends of a world
+-- ---- the end of a world
 
--- Whether the pending record counts: of a peer that is held it does not; of one that is away, where a read of its disk finds it.
+-- Whether the pending record counts: not if the node has a peer; if the peer is away, exactly if a read of its disk
+-- finds it.
 abbrev pub IsRead : State → Option Node → Bool → Type 0
 IsRead s None finds = ⊥
 IsRead s (Some (nodes.Held peer)) finds = finds ≡ false
 IsRead s (Some (nodes.Away disk)) finds = Keeps (found s finds) (bytes_of disk)
 
--- What is known of a player at its node: what its journal says.
+-- What a player at a node knows: what its journal says.
 abbrev pub IsStanding : Rules → ℕ → State → Option Node → Standing → Type 0
 IsStanding rules p s node standing = (finds : Bool) × (known_at standing ≡ known_of rules p (found s finds)) × IsRead s node finds
 
--- the first of them has not let go the player at a place
+-- player 1, the first of them, has not dropped the player at a place
 abbrev pub HasStayedAt : List Standing → ℕ → Type 0
 HasStayedAt standings place = (first : Standing) → slice_get standings 0 ≡ Some first → (player_in (known_at first) (place + 1)).leaving ≡ false
 
@@ -61,7 +62,7 @@ pub record AreStandings (t : TableValue) (w : World) (standings : List Standing)
   pub size : length standings ≡ t.rules.players
   pub each : (p : ℕ) (other : Standing) → IsPlayer t.rules p → IsStanding t.rules p (peer_of w p) (node_of t p) (slice_index_or standings (p - 1) other)
 
--- two of them have the same rows, unless the first has let one of them go
+-- two of them have the same rows, unless player 1 has dropped one of them
 abbrev pub AgreesWith : List Standing → ℕ → ℕ → Type 0
 AgreesWith standings i j =
     HasStayedAt standings i → HasStayedAt standings j → (one other : Standing) → slice_get standings i ≡ Some one → slice_get standings j ≡ Some other → AreSameRows (known_at one) (known_at other)
@@ -72,18 +73,18 @@ AgreesWithAll standings i = (j : ℕ) → j < length standings → AgreesWith st
 abbrev pub HaveAgreed : List Standing → Type 0
 HaveAgreed standings = (i : ℕ) → i < length standings → AgreesWithAll standings i
 
--- Player one has not let the player go.
+-- Player 1 has not dropped the player.
 abbrev pub HasStayed : Rules → World → Reads → ℕ → Type 0
 HasStayed rules w reads p = has_leave p (read_by w reads 1) ≡ false
 
 abbrev pub known_read : Rules → World → Reads → ℕ → KnownValue
 known_read rules w reads p = known_of rules p (read_by w reads p)
 
--- Where the players of a world stand, by these reads of the disks.
+-- What the players of a world have at the end, by these reads of the disks.
 --
--- - `read`: a peer that is held is asked; of one that is away the reads are what its disk gives.
+-- - `read`: a node with a peer is asked; if the peer is away the read is of its disk.
 -- - `players`: what each player has.
--- - `agree`: whether any two players who were not let go have the same rows, as far as both count frames as confirmed.
+-- - `agree`: whether any two undropped players have the same rows, up to the frames that both count as confirmed.
 pub record AreEnds (t : TableValue) (w : World) (reads : Reads) (players : List Tally) (agree : Bool) : Type 0 where
   pub read : (p : ℕ) → IsPlayer t.rules p → IsRead (peer_of w p) (node_of t p) (reads p)
   pub players_are : players ≡ map (λ p. tally_of (known_read t.rules w reads p)) (range_with_len 1 t.rules.players)

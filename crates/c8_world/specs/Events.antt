@@ -1,4 +1,4 @@
--- What the code's events are.
+-- The events of the code as events of the definitions.
 use Rattle.std.specs.Prelude.{List, map}
 use Rattle.c8_peer.specs.Asked.{saying_of}
 use Rattle.c8_world.specs.declared.event.Act as code
@@ -23,7 +23,7 @@ act_of (acts.Fresh watcher) = Fresh watcher.number
 abbrev pub event_of : codes.Event → Event
 event_of (events.Do act) = Do (act_of act)
 event_of (events.Stop act calls pick) = Stop (act_of act) calls pick
--- what the disk does in an act is not the event's to say
+-- the event does not say what the disk does in an act
 event_of (events.Fail act calls) = Do (act_of act)
 
 abbrev pub events_of : List codes.Event → List Event

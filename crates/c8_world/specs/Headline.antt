@@ -1,4 +1,4 @@
--- What is so of any two moments of a match.
+-- What holds for any two moments of a match.
 use Rattle.std.specs.Prelude.{◌≡◌, ◌≢◌, ℕ, Some, Err}
 use Rattle.std.specs.List.{slice_get}
 use Rattle.c8_game.specs.Rules.{Rules}
@@ -14,24 +14,25 @@ use Rattle.c8_peer.specs.TrueChecks.{HasTrueChecks}
 use Rattle.c8_world.specs.World.{World, journal_of, Open, Give, Hear, Do, Answer, Watched, CanHappen}
 use Rattle.c8_world.specs.Agreement.{IsPlayer, IsUndropped, Agree, AreEntered, IsBounded, AreReports, HasFrozen, IsAmong, IsTrueSaid, HasTrueRows, AreLinked, refused_for, IsFit}
 
--- What is so of two moments.
+-- What holds for two moments.
 --
--- - `agree`: two peers, undropped at the later, have the same inputs and the same machine as far as both count frames as
---   confirmed, each at its own moment.
--- - `entered`: each input that a peer counts as confirmed is what its player entered, or empty from that player's cut on.
--- - `held_begins`: what a peer holds of a player's inputs begins what that player entered.
--- - `said`, `spelled`: each datagram that was said is true, of its sender's journal or, if a watcher said it, by what player one
---   counts, and has a spelling.
+-- - `agree`: two peers, undropped at the later moment, have the same inputs and the same machine, up to the frames that
+--   both count as confirmed, each at its own moment.
+-- - `entered`: each input that a peer counts as confirmed is what its player entered, or empty from that player's cut
+--   on.
+-- - `held_begins`: the inputs of a player that a peer holds are the beginning of what that player entered.
+-- - `said`, `spelled`: each datagram that was sent has a spelling and is true, by its sender's journal or, if a watcher
+--   sent it, by player 1's confirmed frames.
 -- - `linked`: an open link names both epochs.
--- - `bounded`: who is undropped holds no more of a leaver's inputs than the cut.
--- - `reports`, `frozen`: before the cut an answer is at least what its stayer holds; after it each who is undropped has frozen
---   the leaver.
--- - `known`, `marks`, `acks`: a delivery at an undropped peer is never answered Differs, nor Desync where the sender is
---   undropped too; none is answered BadAck.
--- - `checks`: what a player's journal says of checkpoints is true, so that its machine, wherever it began, is the serial run.
--- - `watched`: a watcher has a beginning of the rows that player one counts as confirmed, and the machine of these.
--- - `differs`: a delivery at a watcher is never answered Differs.
--- - `fit`: no opening of a player's peer is answered WrongGame, WrongPlayer or BadRecord.
+-- - `bounded`: an undropped player holds no more of a leaver's inputs than the cut.
+-- - `reports`, `frozen`: before the cut an answer is at least what its stayer holds; after it each undropped player has
+--   frozen the leaver.
+-- - `known`, `marks`, `acks`: a delivery at an undropped peer is never answered with Differs, nor with Desync if the
+--   sender is undropped too; no delivery is answered with BadAck.
+-- - `checks`: the checkpoints in a player's journal are true, so its machine, wherever it began, is the serial run.
+-- - `watched`: a watcher has a beginning of the rows that player 1 counts as confirmed, and the machine after them.
+-- - `differs`: a delivery at a watcher is never answered with Differs.
+-- - `fit`: no opening of a player's peer is answered with WrongGame, WrongPlayer or BadRecord.
 pub record IsHeadline (rules : Rules) (room : ℕ) (earlier later : World) : Type 0 where
   pub agree : (p r : ℕ) → IsPlayer rules p → IsPlayer rules r → Agree rules earlier later p r
   pub entered : (p : ℕ) → IsPlayer rules p → AreEntered rules earlier later p

@@ -1,4 +1,4 @@
--- Worked matches: whole lists of events with what is answered, and what is so at their ends.
+-- Worked matches: whole lists of events with their answers, and what holds at the end.
 use Rattle.std.specs.Prelude.{◌≡◌, ◌≢◌, ℕ, ◌+◌, List, [], ◌∷◌, ◌++◌, map, length, drop, replicate, Bool, true, false, Option, Some, Ok, Err}
 use Rattle.c8_game.specs.Rules.{Rules, session_of}
 use Rattle.c8_game.specs.declared.wire.WireVersion.TheVariants as versions
@@ -45,14 +45,14 @@ answers_of (line ∷ lines) = line.answer ∷ answers_of lines
 abbrev pub Leads : Rules → World → List Line → World → Type 0
 Leads rules w lines v = Chain rules 0 w (events_of lines) (answers_of lines) v
 
--- the disk does what it is asked to
+-- the disk does what it is asked to do
 abbrev pub works : Happening
 works = record { finds = false; opening = Stands; luck = Works; leaves = false }
 
 abbrev pub done : Event → Answer → Line
 done event answer = record { event = event; happening = works; answer = answer }
 
--- a player's peer is opened, for that epoch
+-- a player's peer is opened with this epoch
 abbrev pub opens : ℕ → ℕ → Line
 opens p epoch = done (Do (Open p)) (Told (Opened (Ok epoch)))
 
@@ -60,11 +60,11 @@ opens p epoch = done (Do (Open p)) (Told (Opened (Ok epoch)))
 abbrev pub enters : ℕ → ℕ → Line
 enters p keys = done (Do (Tick p keys)) (Told (Ticked (Ok tt)))
 
--- the datagram of a number is given to a player
+-- the datagram with a number is delivered to a player
 abbrev pub hears : ℕ → ℕ → Heard → Line
 hears number p what = done (Do (Give number p)) (Told (Delivered (Ok what)))
 
--- what is said of that message (nobody watches these matches)
+-- how a player is asked to send this message (nobody watches these matches)
 abbrev pub saying_of : Message → Saying
 saying_of packets.Hello = Hello
 saying_of (packets.Welcome ack) = Welcome
@@ -75,7 +75,7 @@ saying_of (packets.Cut c) = Cut c.leaver
 saying_of (packets.Show m) = Hello
 saying_of (packets.Seen ack) = Hello
 
--- the datagram of a player in an epoch to another, whose epoch is known so
+-- the datagram of a player in an epoch to another player, whose known epoch is given
 abbrev pub datagram : Rules → ℕ → ℕ → ℕ → ℕ → Message → Packet
 datagram rules from epoch to known message = record {
   head = record { kind = kind_of message; version = rules.wire; session = session_of rules 0; from = from; to = to; sender_epoch = epoch; addressee_epoch = known };
@@ -89,11 +89,12 @@ says rules from epoch to known message = done (Do (Say from to (saying_of messag
 abbrev pub inputs : Rules → ℕ → ℕ → List ℕ → Message
 inputs rules ack start words = packets.Data (record { ack = ack; mark_frame = 0; mark = mark_of (serial rules []); start = start; words = words })
 
--- a datagram is said, and given by its number
+-- a datagram is sent, and delivered by its number
 abbrev pub brings : Rules → ℕ → ℕ → ℕ → ℕ → ℕ → Message → Heard → List Line
 brings rules number from epoch to known message what = says rules from epoch to known message ∷ hears number to what ∷ []
 
--- Two players in these epochs open their links, with four datagrams from that number on; nothing was heard before.
+-- Two players in these epochs open their links with four datagrams, numbered from the given number on, without earlier
+-- ones.
 abbrev pub meet : Rules → ℕ → ℕ → ℕ → ℕ → ℕ → List Line
 meet rules number p a q b =
     brings rules number p a q 0 packets.Hello Nothing ++ brings rules (number + 1) q b p a (packets.Welcome 0) Nothing
@@ -104,7 +105,7 @@ meet rules number p a q b =
 abbrev pub program : List ℕ
 program = 0x12 ∷ 0x00 ∷ []
 
--- two players, with so many frames and that window
+-- two players, with this many frames and this window
 abbrev pub two : ℕ → ℕ → Rules
 two frames window = record {
   players = 2;
@@ -144,9 +145,9 @@ four = record {
   program = program;
 }
 
--- ---- what is so at a moment
+-- ---- at a moment
 
--- of each of these players
+-- for each of these players
 abbrev pub each : {X : Type 0} → (ℕ → X) → List ℕ → List X
 each of players = map of players
 
@@ -163,23 +164,23 @@ holds rules w p q = count_in (known_by rules w p) q
 abbrev pub cut_by : World → ℕ → ℕ → Option ℕ
 cut_by w leaver p = cut_of leaver (journal_of w p)
 
--- how many bytes each datagram has from a number on
+-- the length of each datagram from a number on
 abbrev pub lengths_from : ℕ → World → List ℕ
 lengths_from number w = map (λ packet. length (spelling packet)) (drop number w.said)
 
 -- ---- two players, a window of one frame
 
--- player one enters a set, and no other one: nothing is confirmed
+-- player 1 enters a set, and no other player does: nothing is confirmed
 abbrev pub begins : List Line
 begins = opens 1 1 ∷ opens 2 1 ∷ meet (two 100 1) 0 1 1 2 1 ++ enters 1 0x0020 ∷ []
 
--- player two gets it, and enters its own
+-- player 2 gets it, and enters its own
 abbrev pub replies : List Line
 replies =
     done (Do (Tick 1 0x0000)) (Told (Ticked (Err ticks.Threshold)))
     ∷ brings (two 100 1) 4 1 1 2 1 (inputs (two 100 1) 0 0 (0x0020 ∷ [])) Kept ++ enters 2 0x0000 ∷ []
 
--- player one gets that, and goes on
+-- player 1 gets that, and goes on
 abbrev pub goes_on : List Line
 goes_on = brings (two 100 1) 5 2 1 1 1 (inputs (two 100 1) 1 0 (0x0000 ∷ [])) Kept ++ hears 4 2 Nothing ∷ enters 1 0x0000 ∷ []
 
@@ -201,7 +202,7 @@ pub record GoesInTurn : Type 0 where
 
 -- ---- a stop inside a tick
 
--- Player one stops inside a tick: the disk took the record or did not, and the crash left what was pending or did not.
+-- Player 1 stops inside a tick: the disk took the record or did not, and the crash left what was pending or did not.
 abbrev pub stops : ℕ → ℕ → Luck → Bool → Line
 stops calls pick luck leaves = record {
   event = Stop (Tick 1 0x0020) calls pick;
@@ -209,12 +210,13 @@ stops calls pick luck leaves = record {
   answer = Stopped;
 }
 
--- player two is opened, the two meet, and player one sends the one set that it has entered
+-- player 2 is opened, the two meet, and player 1 sends the one set that it has entered
 abbrev pub sends : ℕ → List Line
 sends word = opens 2 1 ∷ meet (two 100 8) 0 1 2 2 1 ++ brings (two 100 8) 4 1 2 2 1 (inputs (two 100 8) 0 0 (word ∷ [])) Kept
 
--- The record was refused and is lost, and another set is entered; or it was refused and is there all the same; or it was
--- taken. The set that is there is what is sent. Which of these it is after how many calls is for the disk and the log to say.
+-- The record was refused and is lost, and another set is entered; or it was refused and is there all the same; or it
+-- was taken. The set that is there is sent. Which of these happens after how many calls depends on the disk and the
+-- log.
 abbrev pub lost : ℕ → ℕ → List Line
 lost calls pick = opens 1 1 ∷ stops calls pick (Refuses Failed) false ∷ opens 1 2 ∷ enters 1 0x0040 ∷ sends 0x0040
 
@@ -224,15 +226,15 @@ left calls pick = opens 1 1 ∷ stops calls pick (Refuses Failed) true ∷ opens
 abbrev pub taken : ℕ → ℕ → Bool → List Line
 taken calls pick leaves = opens 1 1 ∷ stops calls pick Works leaves ∷ opens 1 2 ∷ sends 0x0020
 
--- each of them may happen, whatever the event says of the calls and the pick
+-- each of them can happen, whatever the calls and the pick of the event are
 pub record StopsInTick (calls pick : ℕ) : Type 0 where
   pub lost : (end : World) × Leads (two 100 8) (start (two 100 8)) (lost calls pick) end
   pub left : (end : World) × Leads (two 100 8) (start (two 100 8)) (left calls pick) end
   pub taken : (leaves : Bool) → (end : World) × Leads (two 100 8) (start (two 100 8)) (taken calls pick leaves) end
 
--- ---- three players, of whom one is dropped
+-- ---- three players, one of them dropped
 
--- Each enters ten sets. Player two gets all of them, player one eight of player three's.
+-- Each player enters ten sets. Player 2 gets all of them, player 1 eight of player 3's.
 abbrev pub play : List Line
 play =
     opens 1 1 ∷ opens 2 1 ∷ opens 3 1 ∷ meet three 0 1 1 2 1 ++ meet three 4 1 1 3 1 ++ meet three 8 2 1 3 1
@@ -243,11 +245,11 @@ play =
     ++ replicate 2 (enters 3 0x0002)
     ++ brings three 15 3 1 2 1 (inputs three 0 0 (replicate 10 0x0002)) Kept
 
--- player one lets player three go, and tells player two
+-- player 1 drops player 3, and tells player 2
 abbrev pub let_go : List Line
 let_go = done (Do (Leave 3)) (Told (Left (Ok tt))) ∷ brings three 16 1 1 2 1 (packets.Freeze (record { leaver = 3; have = 8 })) Kept
 
--- what player two holds of player three, from the place that player one named
+-- what player 2 holds of player 3, from the place that player 1 named
 abbrev pub answer : Message
 answer = packets.Frozen (record { leaver = 3; length = 10; start = 8; words = 0x0002 ∷ 0x0002 ∷ [] })
 
@@ -264,7 +266,7 @@ answers = brings three 17 2 1 1 1 answer Kept
 abbrev pub cuts : List Line
 cuts = decides ∷ brings three 18 1 1 2 1 (cut_from 10 []) Kept
 
--- Player two brings player one the inputs that it lacks, and player one cuts the list after them.
+-- Player 2 brings player 1 the inputs that it lacks, and player 1 cuts the list after them.
 pub record CutsWhereHeld : Type 0 where
   pub played : World
   pub brought : World
@@ -279,8 +281,8 @@ pub record CutsWhereHeld : Type 0 where
   pub ends : each (cut_by end 3) (1 ∷ 2 ∷ []) ≡ Some 10 ∷ Some 10 ∷ []
   pub lengths : lengths_from 16 end ≡ 30 ∷ 40 ∷ 36 ∷ []
 
--- Player three has entered an eleventh set, which reaches nobody, and gets the eleventh sets of the others; these do with an
--- empty one in its place. Then it is told that its list is cut.
+-- Player 3 has entered an eleventh set, which reaches nobody, and gets the eleventh sets of the others; these have an
+-- empty one in its place. Then player 3 learns that its list is cut.
 abbrev pub eleventh : List Line
 eleventh =
     enters 1 0x0001 ∷ enters 2 0x0010 ∷ enters 3 0x0004
@@ -292,8 +294,8 @@ eleventh =
 abbrev pub told : List Line
 told = brings three 23 1 1 3 1 (cut_from 0 (replicate 10 0x0002)) Out ++ done (Do (Tick 3 0x0000)) (Told (Ticked (Err ticks.Dropped))) ∷ []
 
--- Players one and three both count eleven frames as confirmed, and do not agree: player three has been dropped. Players one
--- and two do.
+-- Players 1 and 3 both count eleven frames as confirmed, and do not agree: player 3 has been dropped. Players 1 and 2
+-- agree.
 pub record DiffersWhenDropped : Type 0 where
   pub end : World
   pub leads : Leads three (start three) (play ++ let_go ++ answers ++ cuts ++ eleventh) end
@@ -306,20 +308,20 @@ pub record DiffersWhenDropped : Type 0 where
   pub out : World
   pub ends : Leads three end told out
 
--- ---- the same, but player two stops after its answer
+-- ---- the same, but player 2 stops after its answer
 
 abbrev pub opened_again : List Line
 opened_again =
     record { event = Stop (Say 2 1 (Frozen 3)) 0 0; happening = works; answer = Stopped }
     ∷ opens 2 2
-    -- what player three said to player two's first epoch
+    -- what player 3 sent to player 2's first epoch
     ∷ done (Do (Give 15 2)) (refused_for (Hand hands.Stale))
-    -- the two meet anew, and player three has one set more, which player two does not take from it
+    -- the two meet again, and player 3 has one more set, which player 2 does not take from it
     ∷ brings three 18 2 2 3 0 packets.Hello Nothing ++ brings three 19 3 1 2 2 (packets.Welcome 0) Nothing
     ++ brings three 20 2 2 3 1 (packets.Welcome 10) Nothing
     ++ enters 3 0x0004
     ∷ says three 3 1 2 2 (inputs three 0 10 (0x0004 ∷ [])) ∷ done (Do (Give 21 2)) (refused_for (Known knowns.FromLeaver))
-    -- the answer of before is good, and player one and player two meet anew
+    -- the earlier answer is still good, and players 1 and 2 meet again
     ∷ hears 17 1 Kept ∷ decides
     ∷ brings three 22 2 2 1 0 packets.Hello Nothing ++ brings three 23 1 1 2 2 (packets.Welcome 10) Nothing
     ++ brings three 24 2 2 1 1 (packets.Welcome 10) Nothing
@@ -330,7 +332,7 @@ pub record CutsAfterRestart : Type 0 where
   pub leads : Leads three (start three) (play ++ let_go ++ opened_again) end
   pub ends : each (cut_by end 3) (1 ∷ 2 ∷ []) ≡ Some 10 ∷ Some 10 ∷ []
 
--- ---- four players: a silent one is waited for until it is let go too
+-- ---- four players: one that has not answered is waited for until it is dropped too
 
 abbrev pub silent : List Line
 silent =
@@ -350,7 +352,7 @@ pub record WaitsForSilent : Type 0 where
 
 -- ---- the last frame
 
--- The one frame has been entered, and the window is one frame too: the end is what is told, confirmed or not.
+-- The only frame has been entered, and the window is one frame too: the answer is End, confirmed or not.
 abbrev pub over : List Line
 over =
     opens 1 1 ∷ opens 2 1 ∷ enters 1 0x0020 ∷ done (Do (Tick 1 0x0000)) (Told (Ticked (Err ticks.End)))
@@ -364,11 +366,11 @@ pub record EndsAfterLastFrame : Type 0 where
 
 -- ---- another game's journal
 
--- no peer is open, and player one's disk holds a journal that is no more than its HEAD
+-- no peer is open, and player 1's disk holds a journal with only its HEAD
 abbrev pub with_head : List ℕ → ℕ → World
 with_head id room = with_peer (start (two 100 8)) 1 (record never_opened { journal = Head 1 0 id room ∷ [] })
 
--- a journal of another game or room is refused, and stays as it is
+-- a journal of another game or room is refused, and does not change
 pub record RefusesOther (id : List ℕ) (room : ℕ) : Type 0 where
   pub end : World
   pub refused : CanHappen (two 100 8) 0 (with_head id room) (Do (Open 1)) (not_opened_for openings.WrongGame) end

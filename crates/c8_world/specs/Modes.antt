@@ -1,4 +1,4 @@
--- How players' peers stand, by what was answered.
+-- Whether players' peers are open, down or away, by the answers.
 use Rattle.std.specs.Prelude.{ℕ, ◌==◌, List, [], ◌∷◌, Ok, Err, if◌then◌else◌}
 use Rattle.c8_peer.specs.State.{Mode, Open, Away, Opened, Ticked, Delivered, Left, Decided, Checked}
 use Rattle.c8_peer.specs.Replies.{mode_told}
@@ -8,7 +8,7 @@ use Rattle.c8_world.specs.declared.event.Event as asked
 use Rattle.c8_world.specs.World.{player_of, Event, act_inside, Answer, Told, IsUp, IsDown, NoSuch, Stopped, Watched, Spoken, Anew}
 use Rattle.c8_world.specs.Events.{event_of}
 
--- after an answer of its own; who was not asked stands as before, and who was stopped is away
+-- after an answer of its own: a peer that was not asked keeps its mode, and a stopped one is away
 abbrev pub mode_answered : Mode → Answer → Mode
 mode_answered mode (Told reply) = mode_told reply
 mode_answered mode IsUp = mode
@@ -19,18 +19,18 @@ mode_answered mode (Watched result) = mode
 mode_answered mode (Spoken packet) = mode
 mode_answered mode Anew = mode
 
--- a player's, after an event, which may be another player's
+-- a player's mode after an event, which may be another player's
 abbrev pub mode_after : ℕ → Mode → Event → Answer → Mode
 mode_after p mode event answer = if player_of (act_inside event) == p then mode_answered mode answer else mode
 
--- after a list of events
+-- a player's mode after a list of events
 abbrev pub mode_by : ℕ → Mode → List Event → List Answer → Mode
 mode_by p mode [] [] = mode
 mode_by p mode [] (answer ∷ answers) = mode
 mode_by p mode (event ∷ events) [] = mode
 mode_by p mode (event ∷ events) (answer ∷ answers) = mode_by p (mode_after p mode event answer) events answers
 
--- ---- by what is reported
+-- ---- by the reported answers
 
 -- after an answer of its own, as a world reports it
 abbrev pub mode_reported : Mode → codes.Answer → Mode
@@ -50,7 +50,7 @@ mode_reported mode (answers.Watched result) = mode
 mode_reported mode (answers.Spoken posted) = mode
 mode_reported mode answers.Anew = mode
 
--- a player's, after a list of events
+-- a player's mode after a list of events
 abbrev pub reported_by : ℕ → Mode → List asked.Event → List codes.Answer → Mode
 reported_by p mode [] [] = mode
 reported_by p mode [] (answer ∷ told) = mode

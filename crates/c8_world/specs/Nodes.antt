@@ -1,4 +1,4 @@
--- What one player's node holds, and what becomes of it.
+-- What one player's node holds, and what happens to it.
 use Rattle.std.specs.Prelude.{◌≡◌, ◌≢◌, ℕ, List, take, Bool, Option, Some, None, Result, Ok, Err}
 use Rattle.c8_game.specs.Rules.{Rules}
 use Rattle.c8_disk.specs.declared.mem_disk.MemDisk.{MemDisk}
@@ -20,23 +20,24 @@ use Rattle.c8_world.specs.declared.answer.Counts.{Counts}
 use Rattle.c8_world.specs.declared.node.Node.{Node}
 use Rattle.c8_world.specs.declared.node.Node.TheVariants as nodes
 
--- the peer of a player in a match, in that state
+-- the peer of a player in a match, in this state
 pub record IsPeerOf (rules : Rules) (room p : ℕ) (peer : PeerValue MemDisk) (s : State) : Type 0 where
   pub rules_are : peer.rules ≡ rules
   pub room_is : peer.room ≡ room
   pub me_is : peer.me ≡ p
   pub state_is : peer.state ≡ s
 
--- each image that a crash now leaves of a disk keeps the journal of a state, with its pending record or without
+-- each image that a crash may leave of a disk now has the journal of a state, with its pending record or without
 abbrev pub Tells : State → MemDisk → Type 0
 Tells s disk = (image : List ℕ) → images_of disk image → (finds : Bool) × Keeps (found s finds) image
 
--- A peer that is held is in that state; the disk of one that is away tells it.
+-- A node with a peer is in its state; if the peer is away, its disk has the journal of the state.
 abbrev pub IsNode : Rules → ℕ → ℕ → Node → State → Type 0
 IsNode rules room p (nodes.Held peer) s = IsPeerOf rules room p peer s
 IsNode rules room p (nodes.Away disk) s = (s.mode ≡ Away) × Tells s disk
 
--- A call at a node: an open peer answers, and goes on, by its step; of another nothing is asked.
+-- A call at a node: an open peer answers by its step, and is then in the step's state; a peer that is not open is not
+-- asked.
 abbrev pub IsCalled : Rules → ℕ → ℕ → State → Call → Option Reply → Node → Type 0
 IsCalled rules room p s call None node = (s.mode ≢ Open) × IsNode rules room p node s
 IsCalled rules room p s call (Some reply) node =
@@ -45,7 +46,7 @@ IsCalled rules room p s call (Some reply) node =
 abbrev pub counts_of : Rules → ℕ → State → Counts
 counts_of rules p s = record { now = ticks s.journal; confirmed = confirmed (known_of rules p s.journal) }
 
--- The answer of a call at a node; after a tick it tells what is counted then.
+-- The answer of a call at a node; after a tick it has the counts.
 abbrev pub IsAsked : Rules → ℕ → ℕ → State → Call → Answer → Node → Type 0
 IsAsked rules room p s call (answers.Ticked (Ok counts)) node =
     IsCalled rules room p s call (Some (Ticked (Ok tt))) node × (counts ≡ counts_of rules p (step rules p s call Works).state)
@@ -64,7 +65,7 @@ IsAsked rules room p s call (answers.Watched result) node = ⊥
 IsAsked rules room p s call (answers.Spoken posted) node = ⊥
 IsAsked rules room p s call answers.Anew node = ⊥
 
--- What is said at a node changes nothing there, and the bytes in front spell it.
+-- Sending changes nothing at a node, and the first bytes spell the datagram.
 abbrev pub IsSaying : Rules → ℕ → State → Call → Result ℕ Unsayable → List ℕ → Type 0
 IsSaying rules p s call (Ok size) bytes =
     (packet : Packet) × Spells (take size bytes) packet × (step rules p s call Works ≡ record { reply = Said (Ok packet); state = s })
@@ -74,7 +75,7 @@ abbrev pub IsSaidAt : Rules → ℕ → ℕ → State → Call → Option (Resul
 IsSaidAt rules room p s call None bytes = s.mode ≢ Open
 IsSaidAt rules room p s call (Some result) bytes = (s.mode ≡ Open) × IsSaying rules p s call result bytes
 
--- An opening at a node: nothing is done where the peer is open; else it comes to something that it may.
+-- An opening at a node: nothing is done if the peer is open; else it ends in one of the ways that it may.
 pub record IsOpening (rules : Rules) (room p : ℕ) (s : State) (result : Result ℕ OpenError) (node : Node) : Type 0 where
   pub not_open : s.mode ≢ Open
   pub finds : Bool

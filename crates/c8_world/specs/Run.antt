@@ -14,7 +14,8 @@ use Rattle.c8_world.specs.World.{World, start, Open, player_of, act_inside, Happ
 use Rattle.c8_world.specs.Events.{event_of}
 use Rattle.c8_world.specs.Table.{TableValue, Holds, reported, HadMemory, TakesMemory, IsLeftBy}
 
--- Events that lead from one world to another, each of which can happen so that it has P, with what is reported of each.
+-- Events that lead from one world to another, each of which can happen with property P, with the reported answer of
+-- each.
 abbrev pub RunsBy : (Happening → Type 0) → Rules → ℕ → World → List asked.Event → List codes.Answer → World → Type 0
 RunsBy P rules room w [] [] v = v ≡ w
 RunsBy P rules room w [] (answer ∷ answers) v = ⊥
@@ -23,24 +24,24 @@ RunsBy P rules room w (event ∷ events) (answer ∷ answers) v =
     (told : Answer) × (u : World) × (can : CanHappen rules room w (event_of event) told u) × P can.happening × (answer ≡ reported rules (player_of (act_inside (event_of event))) u told)
     × RunsBy P rules room u events answers v
 
--- whatever happens in them
+-- the same without a property
 abbrev pub Runs : Rules → ℕ → World → List asked.Event → List codes.Answer → World → Type 0
 Runs = RunsBy (λ h. Unit {0})
 
--- where memory is there for all of them
+-- the same if memory was there for all events
 abbrev pub RunsWithMemory : Rules → ℕ → World → List asked.Event → List codes.Answer → World → Type 0
 RunsWithMemory = RunsBy HadMemory
 
 -- ---- a world of real peers
 
--- what its nodes and its pool hold, and the events of its life, with what was answered; among them each opening that was refused
--- for want of memory, which ended a run
+-- what its nodes and its pool hold, and the events of its life with their answers; among them each opening that ended a
+-- run because memory was refused
 pub record WorldValue : Type 0 where
   pub table : TableValue
   pub events : List asked.Event
   pub answers : List codes.Answer
 
--- The table holds a world to which these events lead.
+-- The events of the world's life lead to what its table holds.
 pub record IsLived (w : WorldValue) : Type 0 where
   pub now : World
   pub runs : Runs w.table.rules w.table.room (start w.table.rules) w.events w.answers now
@@ -52,8 +53,8 @@ pub record HasRun (old : TableValue) (w : World) (events : List asked.Event) (an
   pub runs : RunsWithMemory old.rules old.room w events answers world
   pub holds : Holds new world
 
--- Memory ran out, for the report before all events, or at an event that takes some: those before it have been run, and it has not
--- happened.
+-- Memory was refused, for the report before all events, or at an event that takes memory. The events before it have
+-- been run, and it has not happened.
 pub record HasRunOut (old : TableValue) (w : World) (events : List asked.Event) (answers : List codes.Answer) (new : TableValue) : Type 0 where
   pub before : List asked.Event
   pub event : asked.Event
@@ -66,8 +67,8 @@ pub record HasRunOut (old : TableValue) (w : World) (events : List asked.Event) 
   pub left : IsLeftBy (act_inside (event_of event)) then now
   pub holds : Holds new now
 
--- What an event at which memory was refused adds to a life: nothing, unless its act was to be an opening; then an opening that
--- was refused for want of memory.
+-- What an event at which memory was refused adds to a life: nothing; but if its act is an opening, an opening that was
+-- answered with Memory.
 abbrev pub IsAdded : asked.Event → List asked.Event → List codes.Answer → Type 0
 IsAdded event more told =
     (((p : ℕ) → act_inside (event_of event) ≢ Open p) × (more ≡ []) × (told ≡ []))
@@ -81,8 +82,8 @@ pub record IsRefusedMemory (event : asked.Event) (old new : WorldValue) : Type 0
   pub events_are : new.events ≡ old.events ++ more
   pub answers_are : new.answers ≡ old.answers ++ told
 
--- What a run that ran out of memory has lived: nothing where it was refused for the report; else the events before one, and what
--- that one adds.
+-- What a run that ran out of memory adds to a life: nothing if memory was refused for the report; else the events
+-- before one, and what that one adds.
 pub record HasLivedOn (old : WorldValue) (events : List asked.Event) (told : List codes.Answer) (new : WorldValue) : Type 0 where
   pub before : List asked.Event
   pub after : List asked.Event
@@ -95,8 +96,8 @@ pub record HasLivedOn (old : WorldValue) (events : List asked.Event) (told : Lis
 
 -- ---- two moments
 
--- Two moments of a world's life: some of its events lead to the earlier one, some on from there to the later, and the rest to
--- what is held now.
+-- Two moments of a world's life: some of its events lead to the earlier one, more of them to the later one, and the
+-- rest to the present.
 pub record AreMoments (w : WorldValue) (earlier later : World) : Type 0 where
   pub first : List asked.Event
   pub between : List asked.Event
@@ -112,6 +113,6 @@ pub record AreMoments (w : WorldValue) (earlier later : World) : Type 0 where
   pub to_now : Runs w.table.rules w.table.room later last told_last now
   pub holds : Holds w.table now
 
--- the answers that a run has given which ran out of memory
+-- the answers that a run gave before it ran out of memory
 abbrev pub answers_before : RunError → List codes.Answer
 answers_before (errors.Memory report) = report.answers.items

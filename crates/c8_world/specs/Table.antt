@@ -1,4 +1,4 @@
--- What the nodes and the pool of a world hold, and what an event makes of them.
+-- What the nodes and the pool of a world hold, and what an event does to them.
 use Rattle.std.specs.Prelude.{◌≡◌, ◌≢◌, ◌⊎◌, ℕ, ◌-◌, ◌<◌, ◌^◌, ◌==◌, if◌then◌else◌, List, [], length, Bool, map, All, slice_index_or, true, Option, Some, None, is_some, Ok, Err}
 use Rattle.c8_game.specs.Rules.{Rules}
 use Rattle.c8_game.specs.declared.row.Row.{Row}
@@ -16,13 +16,13 @@ use Rattle.c8_world.specs.World.{act_inside}
 use Rattle.c8_world.specs.Agreement.{IsPlayer}
 use Rattle.c8_world.specs.Nodes.{IsNode, IsOpenedNode, counts_of}
 
--- ---- what is held
+-- ---- what the table holds
 
 abbrev pub IsTaken : Rules → ℕ → ℕ → Option Node → State → Type 0
 IsTaken rules room p None s = ⊥
 IsTaken rules room p (Some node) s = IsNode rules room p node s
 
--- what an opening makes of a node, by its answer, and by want of memory
+-- what an opening does to a node, by its answer, and when memory is refused
 abbrev pub IsOpenedAs : Rules → ℕ → ℕ → State → codes.Answer → Option Node → Type 0
 IsOpenedAs rules room p s answer None = ⊥
 IsOpenedAs rules room p s answers.Up (Some node) = IsOpenedNode rules room p s None node
@@ -44,8 +44,8 @@ abbrev pub IsUnopened : Rules → ℕ → ℕ → State → Option Node → Type
 IsUnopened rules room p s None = ⊥
 IsUnopened rules room p s (Some node) = IsOpenedNode rules room p s (Some (Err opens.Memory)) node
 
--- the match, the nodes of its players, the bytes of what was said, in order, and the rows of the watchers; a node is empty only
--- inside a call
+-- the match, the nodes of its players, the bytes of what was sent, in order, and the rows of the watchers; a node is
+-- empty only inside a call
 pub record TableValue : Type 0 where
   pub rules : Rules
   pub room : ℕ
@@ -54,7 +54,7 @@ pub record TableValue : Type 0 where
   pub five : List Row
   pub six : List Row
 
--- the rows of the watcher in a seat, and what that is to it
+-- the rows of the watcher in a seat, and that watcher's value
 abbrev pub rows_in : TableValue → ℕ → List Row
 rows_in t watcher = if watcher == 5 then t.five else (if watcher == 6 then t.six else [])
 
@@ -74,7 +74,7 @@ node_of t p = slice_index_or t.nodes (p - 1) None
 abbrev pub IsUntouched : Option Node → Type 0
 IsUntouched node = (rules : Rules) (room p : ℕ) → IsTaken rules room p node never_opened
 
--- the node holds no peer
+-- the node has no peer
 abbrev pub IsNotHeld : Option Node → Type 0
 IsNotHeld None = Unit {0}
 IsNotHeld (Some (nodes.Held peer)) = ⊥
@@ -90,8 +90,8 @@ pub record IsSameMatch (old new : TableValue) : Type 0 where
   pub rules : new.rules ≡ old.rules
   pub room : new.room ≡ old.room
 
--- The table holds a world that some list of events leads to: each node its player's peer, the pool what was said, and the rows
--- of both watchers.
+-- The table holds a world to which some list of events leads: each node has its player's peer, the pool has what was
+-- sent, and both watchers have their rows.
 pub record Holds (t : TableValue) (w : World) : Type 0 where
   pub reached : IsReached t.rules t.room w
   pub count : length w.peers ≡ t.rules.players
@@ -100,10 +100,10 @@ pub record Holds (t : TableValue) (w : World) : Type 0 where
   pub five : t.five ≡ w.five
   pub six : t.six ≡ w.six
 
--- ---- what is reported
+-- ---- reported answers
 
--- The reply of a player's peer as it is reported, by the state that it is in then: with a tick comes what is counted, and with
--- a saying the datagram's number and length.
+-- The reply of a player's peer as it is reported, by the state that it is in then: a tick has the counts, and a
+-- datagram its number and length.
 abbrev pub reported_reply : Rules → ℕ → State → ℕ → Reply → codes.Answer
 reported_reply rules p s number (Opened result) = answers.Opened result
 reported_reply rules p s number (Ticked (Ok done)) = answers.Ticked (Ok (counts_of rules p s))
@@ -115,7 +115,7 @@ reported_reply rules p s number (Left result) = answers.Left result
 reported_reply rules p s number (Decided result) = answers.Decided result
 reported_reply rules p s number (Checked result) = answers.Checked result
 
--- the answer of an event at a player's peer, as it is reported; what was said last has the last number
+-- the answer of an event at a player's peer, as it is reported; the datagram that was sent last has the last number
 abbrev pub reported : Rules → ℕ → World → Answer → codes.Answer
 reported rules p after (Told reply) = reported_reply rules p (peer_of after p) (length after.said - 1) reply
 reported rules p after IsUp = answers.Up
@@ -126,14 +126,14 @@ reported rules p after (Watched result) = answers.Watched result
 reported rules p after (Spoken packet) = answers.Spoken (record { number = length after.said - 1; length = length (spelling packet) })
 reported rules p after Anew = answers.Anew
 
--- ---- what happens
+-- ---- events
 
--- No opening was refused for want of memory in it.
+-- No opening in it was refused memory.
 abbrev pub HadMemory : Happening → Type 0
 HadMemory h = h.opening ≢ NoMemory
 
--- An event has happened, and memory was there: it is one that can be, its answer is reported, and what the table holds then is
--- the world after it.
+-- An event has happened, and memory was there: it is one that can happen, its answer is reported, and the table now
+-- holds the world after it.
 pub record HasHappened (old : TableValue) (w : World) (event : Event) (answer : codes.Answer) (new : TableValue) : Type 0 where
   pub told : Answer
   pub world : World
@@ -142,12 +142,12 @@ pub record HasHappened (old : TableValue) (w : World) (event : Event) (answer : 
   pub reports : answer ≡ reported old.rules (player_of (act_inside event)) world told
   pub holds : Holds new world
 
--- Want of memory leaves the world as it was; but a peer that is down and was to be opened is away then.
+-- If memory is refused the world does not change, except that a peer that was down and was to be opened is away.
 abbrev pub IsLeftBy : Act → World → World → Type 0
 IsLeftBy act w v =
     (v ≡ w) ⊎ ((p : ℕ) × (act ≡ Open p) × ((peer_of w p).mode ≡ Down) × (v ≡ with_peer w p (away (peer_of w p) (peer_of w p).journal (peer_of w p).pending)))
 
--- only an opening and a saying take memory
+-- only openings and sending take memory
 abbrev pub TakesMemory : Act → Type 0
 TakesMemory (Open player) = Unit {0}
 TakesMemory (Tick player keys) = ⊥
@@ -161,8 +161,8 @@ TakesMemory (Hear number watcher) = ⊥
 TakesMemory (Seen watcher) = Unit {0}
 TakesMemory (Fresh watcher) = ⊥
 
--- An act that takes memory was refused it, and has not happened. By the definitions such an opening is an event too, which leaves
--- its peer away.
+-- An act that takes memory was refused it, and has not happened. By the definitions a refused opening is an event too,
+-- which leaves its peer away.
 pub record HasNotHappened (old : TableValue) (w : World) (act : Act) (new : TableValue) : Type 0 where
   pub world : World
   pub takes : TakesMemory act
@@ -170,7 +170,7 @@ pub record HasNotHappened (old : TableValue) (w : World) (act : Act) (new : Tabl
   pub opens : (p : ℕ) → act ≡ Open p → CanHappen old.rules old.room w (Do (Open p)) (Told (Opened (Err opens.Memory))) world
   pub holds : Holds new world
 
--- A player has been stopped: what the table holds tells a crash, which left the pending record or did not.
+-- A player has been stopped: the table holds the world after a crash, which left the pending record or did not.
 pub record HasCrashed (old : TableValue) (w : World) (p : ℕ) (new : TableValue) : Type 0 where
   pub leaves : Bool
   pub peers : (q : ℕ) → IsPlayer old.rules q → IsTaken old.rules old.room q (node_of new q) (peer_of (crashed old.rules w p leaves) q)

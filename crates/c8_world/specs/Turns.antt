@@ -1,4 +1,4 @@
--- What each event of a run makes of the nodes and their disks.
+-- What each event of a run does to the nodes and their disks.
 use Rattle.std.specs.Prelude.{◌≡◌, ◌≢◌, ◌⊎◌, ℕ, List, [], ◌∷◌, ◌++◌, Option, Some, None, Result, Ok, Err}
 use Rattle.std.specs.List.{slice_get}
 use Rattle.c8_game.specs.Rules.{Rules}
@@ -27,8 +27,8 @@ use Rattle.c8_world.specs.Agreement.{IsPlayer}
 use Rattle.c8_world.specs.Table.{TableValue, node_of, IsSameMatch, Holds, HasHappened, HasNotHappened, HasCrashed}
 use Rattle.c8_world.specs.Disks.{disk_in}
 
--- A crash leaves an image that it may, by the pick: 0 what was last synced, 1 what a read gives, and any other one of them all.
--- All calls are served anew then, and none is to fail.
+-- A crash leaves one of its images, by the pick: 0 what was last synced, 1 what a read gives, any other pick any of
+-- them. All calls are served again, and none is to fail.
 pub record IsDiskCrash (pick : ℕ) (old new : MemDisk) : Type 0 where
   pub image : images_of old (bytes_of new)
   pub synced : pick ≡ 0 → bytes_of new ≡ synced_of old
@@ -37,13 +37,13 @@ pub record IsDiskCrash (pick : ℕ) (old new : MemDisk) : Type 0 where
 
 -- ---- a node
 
--- An open peer answered a call, as the contract of that call has it.
+-- An open peer answered a call, as the contract of that call says.
 abbrev pub IsCalledAt : Call → Reply → Node → Node → Type 0
 IsCalledAt call reply (nodes.Held old) (nodes.Held new) = (old.state.mode ≡ Up) × IsSound ghosts old × IsAnswered ghosts old call reply new
 IsCalledAt call reply (nodes.Held old) (nodes.Away disk) = ⊥
 IsCalledAt call reply (nodes.Away disk) new = ⊥
 
--- What a call that is answered so makes of a node; one whose peer is not open stays as it is.
+-- What a call with this answer does to a node; a node without an open peer does not change.
 abbrev pub IsActedBy : Call → codes.Answer → Node → Node → Type 0
 IsActedBy call (answers.Ticked (Ok counts)) old new = IsCalledAt call (Ticked (Ok tt)) old new
 IsActedBy call (answers.Ticked (Err error)) old new = IsCalledAt call (Ticked (Err error)) old new
@@ -61,17 +61,17 @@ IsActedBy call (answers.Watched result) old new = ⊥
 IsActedBy call (answers.Spoken posted) old new = ⊥
 IsActedBy call answers.Anew old new = ⊥
 
--- a delivery of a datagram, where there is one of that number
+-- a delivery of the datagram with a number, if there is one
 abbrev pub IsGiven : Option (List ℕ) → codes.Answer → Node → Node → Type 0
 IsGiven None answer old new = (answer ≡ answers.NoSuch) × (new ≡ old)
 IsGiven (Some bytes) answer old new = IsActedBy (Deliver (read bytes)) answer old new
 
--- what an opening answers: that the peer was open already, or what it came to
+-- the answer of an opening: the peer was open already, or the result
 abbrev pub answer_of : Option (Result ℕ OpenError) → codes.Answer
 answer_of None = answers.Up
 answer_of (Some result) = answers.Opened result
 
--- What an opening that is answered so makes of a node, as the contract of the opening has it.
+-- What an opening with this answer does to a node, as the contract of the opening says.
 abbrev pub IsOpenedAt : Rules → ℕ → ℕ → codes.Answer → Node → Node → Type 0
 IsOpenedAt rules room p answers.Up old new = new ≡ old
 IsOpenedAt rules room p (answers.Opened (Ok number)) old (nodes.Held peer) = IsOpened ghosts (disk_in old) rules room p peer × (number ≡ epoch peer.state.journal)
@@ -94,11 +94,11 @@ IsOpenedAt rules room p answers.Anew old new = ⊥
 abbrev pub IsSameNode : Node → Node → Type 0
 IsSameNode old new = new ≡ old
 
--- where memory was refused the node stays, or its peer is away, and its disk was not touched
+-- if memory was refused the node does not change, or its peer is away, and its disk was not touched
 abbrev pub IsSpared : Node → Node → Type 0
 IsSpared old new = (new ≡ old) ⊎ (new ≡ nodes.Away (disk_in old))
 
--- its disk is told when its calls fail
+-- its disk is armed
 abbrev pub IsTold : Arm → Node → Node → Type 0
 IsTold arm old new = value_of (disk_in new) ≡ with_arm arm (value_of (disk_in old))
 
@@ -106,7 +106,7 @@ IsTold arm old new = value_of (disk_in new) ≡ with_arm arm (value_of (disk_in 
 abbrev pub IsNodeCrash : ℕ → Node → Node → Type 0
 IsNodeCrash pick old new = (disk : MemDisk) × (new ≡ nodes.Away disk) × IsDiskCrash pick (disk_in old) disk
 
--- the same of the node of a player, who has none where the game has no such player
+-- the same for the node of a player, who has none if the game has no such player
 abbrev pub OfNodes : (Node → Node → Type 0) → Option Node → Option Node → Type 0
 OfNodes P None None = Unit {0}
 OfNodes P None (Some new) = ⊥
@@ -115,17 +115,17 @@ OfNodes P (Some old) (Some new) = P old new
 
 -- ---- a table
 
--- the nodes of all players but one are as they were
+-- the nodes of all players but one do not change
 abbrev pub OthersStay : ℕ → TableValue → TableValue → Type 0
 OthersStay player old new = (p : ℕ) → IsPlayer old.rules p → p ≢ player → node_of new p ≡ node_of old p
 
--- Of one player's node this is so, and the others stay.
+-- This holds for one player's node, and the others do not change.
 pub record IsMove (player : ℕ) (P : Node → Node → Type 0) (old new : TableValue) : Type 0 where
   pub same : IsSameMatch old new
   pub others : OthersStay player old new
   pub own : OfNodes P (node_of old player) (node_of new player)
 
--- What an act that is answered so makes of its player's node; a saying makes nothing of it, and a watcher has none.
+-- What an act with this answer does to its player's node; sending does nothing to it, and a watcher has none.
 abbrev pub IsActed : TableValue → code.Act → codes.Answer → Node → Node → Type 0
 IsActed t (acts.Open player) answer = IsOpenedAt t.rules t.room player.number answer
 IsActed t (acts.Tick player keys) answer = IsActedBy (Tick keys.0) answer
@@ -149,7 +149,7 @@ pub record IsNotCarriedOut (act : code.Act) (old new : TableValue) : Type 0 wher
   pub moves : IsMove (player_of (act_of act)) IsSpared old new
   pub unhappened : (w : World) → Holds old w → HasNotHappened old w (act_of act) new
 
--- The disk of a player was told when its calls fail; its peer is in the state that it was in.
+-- The disk of a player was armed; its peer's state did not change.
 pub record IsArmed (player : ℕ) (arm : Arm) (old new : TableValue) : Type 0 where
   pub moves : IsMove player (IsTold arm) old new
   pub holds : (w : World) → Holds old w → Holds new w
@@ -159,8 +159,8 @@ pub record IsCrashed (player pick : ℕ) (old new : TableValue) : Type 0 where
   pub moves : IsMove player (IsNodeCrash pick) old new
   pub crashed : (w : World) → Holds old w → HasCrashed old w player new
 
--- A stop: the disk of the player is told to serve so many calls, the act comes to what it comes to with that disk, and then it
--- crashes by the pick. A record whose act was answered Ok stands after it.
+-- A stop: the player's disk is armed to serve that many calls, the act has its effect with that disk, and then the disk
+-- crashes by the pick. The record of an act that was answered Ok is there after it.
 pub record IsStop (act : code.Act) (calls pick : ℕ) (old new : TableValue) : Type 0 where
   pub armed : TableValue
   pub acted : TableValue
@@ -169,8 +169,8 @@ pub record IsStop (act : code.Act) (calls pick : ℕ) (old new : TableValue) : T
   pub does : IsCarriedOut act answer armed acted
   pub crashes : IsCrashed (player_of (act_of act)) pick acted new
 
--- An act inside which the disk fails once: it is told to serve so many calls and to fail the next one, the act comes to what it
--- comes to with that disk, and then the disk is told not to fail.
+-- An act inside which the disk fails once: the disk is armed to serve that many calls and to fail the next one, the act
+-- has its effect with that disk, and then the disk is armed not to fail.
 pub record IsFailure (act : code.Act) (calls : ℕ) (answer : codes.Answer) (old new : TableValue) : Type 0 where
   pub armed : TableValue
   pub acted : TableValue
@@ -178,7 +178,7 @@ pub record IsFailure (act : code.Act) (calls : ℕ) (answer : codes.Answer) (old
   pub does : IsCarriedOut act answer armed acted
   pub ends : IsArmed (player_of (act_of act)) arms.Off acted new
 
--- A stop or a failure at whose act memory was refused: the disk is then told not to fail.
+-- A stop or a failure at whose act memory was refused: the disk is then armed not to fail.
 pub record IsTakenBack (act : code.Act) (arm : Arm) (old new : TableValue) : Type 0 where
   pub armed : TableValue
   pub undone : TableValue
@@ -188,7 +188,7 @@ pub record IsTakenBack (act : code.Act) (arm : Arm) (old new : TableValue) : Typ
 
 -- ---- events
 
--- an event that is answered so, and one at which memory was refused
+-- an event with this answer, and one at which memory was refused
 abbrev pub IsTurn : asked.Event → codes.Answer → TableValue → TableValue → Type 0
 IsTurn (happenings.Do act) answer old new = IsCarriedOut act answer old new
 IsTurn (happenings.Stop act calls pick) answer old new = (answer ≡ answers.Stopped) × IsStop act calls pick old new
@@ -206,7 +206,8 @@ AreTurns [] (answer ∷ answers) old new = ⊥
 AreTurns (event ∷ events) [] old new = ⊥
 AreTurns (event ∷ events) (answer ∷ answers) old new = (mid : TableValue) × IsTurn event answer old mid × AreTurns events answers mid new
 
--- Those before some event, with these answers; and then memory was refused at that one, or for the report, before all of them.
+-- The events before some event, with these answers; then memory was refused at that event, or for the report, before
+-- all events.
 pub record AreFirstTurns (events : List asked.Event) (answers : List codes.Answer) (old new : TableValue) : Type 0 where
   pub before : List asked.Event
   pub after : List asked.Event

@@ -1,4 +1,4 @@
--- All peers of one match, all that they ever said, and what one event makes of them.
+-- All peers of one match, everything that they ever sent, and what one event does to them.
 use Rattle.std.specs.Prelude.{◌≡◌, ℕ, ◌^◌, ◌-◌, ◌<◌, ◌==◌, ◌&&◌, List, [], ◌∷◌, ◌++◌, replicate, slice_index_or, slice_set, nat_le, Bool, true, false, Option, Some, None, Result, Ok, Err, if◌then◌else◌}
 use Rattle.std.specs.List.{slice_get}
 use Rattle.c8_game.specs.Rules.{Rules}
@@ -22,15 +22,15 @@ use Rattle.c8_peer.specs.Opening.{Opening, found, opened, away, MayBecome}
 
 -- ---- the world
 
--- each player's peer, player 1 first, every datagram that was said, the first one number 0, and the rows that the watchers in
--- seats 5 and 6 have
+-- each player's peer, player 1 first, every datagram that was sent, numbered from 0, and the rows of the watchers in
+-- seats 5 and 6
 pub record World : Type 0 where
   pub peers : List State
   pub said : List Packet
   pub five : List Row
   pub six : List Row
 
--- a peer that was never opened: nothing is asked of its memory
+-- a peer that was never opened: its memory does not matter
 abbrev pub never_opened : State
 never_opened = record {
   journal = [];
@@ -62,7 +62,7 @@ journal_of w p = (peer_of w p).journal
 abbrev pub known_by : Rules → World → ℕ → KnownValue
 known_by rules w p = known_of rules p (journal_of w p)
 
--- the same, but for one player's peer
+-- the same except for one player's peer
 abbrev pub with_peer : World → ℕ → State → World
 with_peer w p s = record w { peers = slice_set w.peers (p - 1) s }
 
@@ -70,11 +70,11 @@ with_peer w p s = record w { peers = slice_set w.peers (p - 1) s }
 abbrev pub rows_of : World → ℕ → List Row
 rows_of w watcher = if watcher == 5 then w.five else (if watcher == 6 then w.six else [])
 
--- what it is to it
+-- that watcher's value
 abbrev pub watch_of : Rules → ℕ → World → ℕ → WatchValue
 watch_of rules room w watcher = record { rules = rules; room = room; seat = watcher; rows = rows_of w watcher }
 
--- the same, but for one watcher's rows
+-- the same except for one watcher's rows
 abbrev pub with_rows : World → ℕ → List Row → World
 with_rows w watcher rows = record w { five = if watcher == 5 then rows else w.five; six = if watcher == 6 then rows else w.six }
 
@@ -84,29 +84,29 @@ pub data Act : Type 0 where
   Open : (player : ℕ) → Act
   Tick : (player : ℕ) → (keys : ℕ) → Act
   Say : (player : ℕ) → (to : ℕ) → (what : Saying) → Act
-  -- the datagram of a number is delivered to a player
+  -- the datagram with a number is delivered to a player
   Give : (number : ℕ) → (player : ℕ) → Act
-  -- both at player one
+  -- both at player 1
   Leave : (leaver : ℕ) → Act
   Decide : (leaver : ℕ) → Act
   -- the next record of a checkpoint
   Check : (player : ℕ) → Act
-  -- player one shows a watcher rows
+  -- player 1 shows a watcher rows
   Show : (watcher : ℕ) → Act
-  -- the datagram of a number is delivered to a watcher
+  -- the datagram with a number is delivered to a watcher
   Hear : (number : ℕ) → (watcher : ℕ) → Act
-  -- a watcher tells player one how many rows it has
+  -- a watcher acknowledges its rows to player 1
   Seen : (watcher : ℕ) → Act
-  -- a watcher begins anew
+  -- a watcher starts over
   Fresh : (watcher : ℕ) → Act
 
--- An act; or an act inside which the player stops: the disk serves so many calls, and what a crash then leaves is picked. By these
--- definitions any crash may follow; the two numbers steer a real disk alone.
+-- An act; or an act inside which the player stops: the disk serves that many calls, and the image that a crash then
+-- leaves is picked. By these definitions any crash may follow; the two numbers only steer a real disk.
 pub data Event : Type 0 where
   Do : Act → Event
   Stop : Act → (calls : ℕ) → (pick : ℕ) → Event
 
--- who acts, by its seat: a player, or a watcher, whom no stop and no failure of a disk concerns
+-- who acts, by its seat: a player, or a watcher, for which stops and failures of disks do nothing
 abbrev pub player_of : Act → ℕ
 player_of (Open player) = player
 player_of (Tick player keys) = player
@@ -120,16 +120,16 @@ player_of (Hear number watcher) = watcher
 player_of (Seen watcher) = watcher
 player_of (Fresh watcher) = watcher
 
--- what the disk did in an event: whether a reading found the pending record, what became of an opening, whether the record
--- was taken, and whether a crash left the pending record; an event asks only for what it needs
+-- what the disk did in an event: whether a read found the pending record, how an opening ended, whether the record was
+-- taken, and whether a crash left the pending record; an event uses only what it needs
 pub record Happening : Type 0 where
   pub finds : Bool
   pub opening : Opening
   pub luck : Luck
   pub leaves : Bool
 
--- what is answered: what the peer replies; or that it is open already, that it is not open, that there is no such datagram,
--- or that it was stopped; or what a watcher answers to a datagram, what it says, or that it begins anew
+-- the answer: the peer's reply; or that it is open already, that it is not open, that there is no such datagram, or
+-- that it was stopped; or what a watcher answers to a datagram, what it sends, or that it starts over
 pub data Answer : Type 0 where
   Told : Reply → Answer
   IsUp : Answer
@@ -146,7 +146,7 @@ pub record After : Type 0 where
 
 -- ---- one event
 
--- what a reply says to all
+-- the datagrams that a reply sends
 abbrev pub said_by : Reply → List Packet
 said_by (Opened result) = []
 said_by (Ticked result) = []
@@ -189,7 +189,7 @@ abbrev pub hear_at : Rules → ℕ → World → ℕ → Option Packet → After
 hear_at rules room w watcher None = record { answer = NoSuch; world = w }
 hear_at rules room w watcher (Some packet) = heard_by w watcher (hear (watch_of rules room w watcher) (Ok packet))
 
--- what a watcher says
+-- the datagram that a watcher sends
 abbrev pub seen_by_watcher : Rules → ℕ → World → ℕ → Packet
 seen_by_watcher rules room w watcher = seen (watch_of rules room w watcher)
 
@@ -206,18 +206,18 @@ acted rules room w (Hear number watcher) h = hear_at rules room w watcher (slice
 acted rules room w (Seen watcher) h = record { answer = Spoken (seen_by_watcher rules room w watcher); world = record w { said = w.said ++ seen_by_watcher rules room w watcher ∷ [] } }
 acted rules room w (Fresh watcher) h = record { answer = Anew; world = with_rows w watcher [] }
 
--- a crash makes a peer away, with its journal as a reading of the disk finds it
+-- a crash makes a peer away, with the journal that a read of its disk finds
 abbrev pub crashed : Rules → World → ℕ → Bool → World
 crashed rules w p leaves = if is_player rules p then with_peer w p (away (peer_of w p) (found (peer_of w p) leaves) None) else w
 
--- a stop is the act and then a crash, whatever the act came to
+-- a stop is the act and then a crash, whatever the act did
 abbrev pub after : Rules → ℕ → World → Event → Happening → After
 after rules room w (Do act) h = acted rules room w act h
 after rules room w (Stop act calls pick) h = record { answer = Stopped; world = crashed rules (acted rules room w act h).world (player_of act) h.leaves }
 
--- ---- what may happen
+-- ---- what can happen
 
--- keys are a set of 16 keys, an opening comes to what it may, and watchers sit in seats 5 and 6
+-- keys are a set of 16 keys, an opening ends in one of the ways that it may, and watchers sit in seats 5 and 6
 abbrev pub MayAct : Rules → ℕ → World → Act → Happening → Type 0
 MayAct rules room w (Open p) h = is_player rules p ≡ true → MayBecome rules room p (found (peer_of w p) h.finds) h.opening
 MayAct rules room w (Tick p keys) h = keys < 2 ^ 16
@@ -235,13 +235,13 @@ abbrev pub act_inside : Event → Act
 act_inside (Do act) = act
 act_inside (Stop act calls pick) = act
 
--- an event may be answered so and leave this world
+-- an event can have this answer and lead to this world
 pub record CanHappen (rules : Rules) (room : ℕ) (w : World) (event : Event) (answer : Answer) (v : World) : Type 0 where
   pub happening : Happening
   pub may : MayAct rules room w (act_inside event) happening
   pub is : after rules room w event happening ≡ record { answer = answer; world = v }
 
--- a list of events, one answer each
+-- a list of events, with an answer to each
 abbrev pub Chain : Rules → ℕ → World → List Event → List Answer → World → Type 0
 Chain rules room w [] [] v = v ≡ w
 Chain rules room w [] (answer ∷ answers) v = ⊥

@@ -1,56 +1,56 @@
-//! What is answered to an event.
+//! The answers to events.
 
 use c8_peer::{
     Check, CheckError, DecideError, Heard, LeaveError, OpenError, Refused, TickError, Unsayable,
 };
 use c8_spectator::{NotTaken, Taken};
 
-/// How many ticks a player has made, and how many frames are confirmed there.
+/// How many ticks a player has made, and how many frames are confirmed for it.
 #[derive(Clone, Copy, Debug, PartialEq, Eq, Hash)]
 pub struct Counts {
     pub now: u32,
     pub confirmed: u32,
 }
 
-/// A datagram that was said: its number, the first one's 0, and how many bytes it has.
+/// A datagram that was sent: its number, counted from 0, and its length in bytes.
 #[derive(Clone, Copy, Debug, PartialEq, Eq, Hash)]
 pub struct Posted {
     pub number: u64,
     pub length: usize,
 }
 
-/// What is answered to an event: what the peer answers, or why it was not asked.
+/// The answer to an event: what the peer answers, or why it was not asked.
 #[derive(Clone, Copy, Debug, PartialEq, Eq, Hash)]
 pub enum Answer {
-    /// The epoch that began with the opening.
+    /// The epoch that began, or why the opening was refused.
     Opened(Result<u32, OpenError>),
-    /// The peer that was to be opened is open.
+    /// The peer to open is open already.
     Up,
-    /// What is counted after the tick.
+    /// The counts after the tick.
     Ticked(Result<Counts, TickError>),
     Said(Result<Posted, Unsayable>),
     Delivered(Result<Heard, Refused>),
-    /// No datagram of this number has been said.
+    /// No datagram with this number was sent.
     NoSuch,
     Left(Result<(), LeaveError>),
     /// The length at which the leaver's list is cut.
     Decided(Result<u32, DecideError>),
-    /// What is recorded of a checkpoint.
+    /// What was recorded of a checkpoint.
     Checked(Result<Check, CheckError>),
-    /// What a watcher makes of a datagram.
+    /// What a watcher did with a datagram.
     Watched(Result<Taken, NotTaken>),
-    /// A watcher has told player one how many rows it has.
+    /// A watcher has acknowledged its rows to player 1.
     Spoken(Posted),
-    /// A watcher has begun anew.
+    /// A watcher has started over.
     Anew,
-    /// The peer is down or away, or the game has no such player. The opening of such a player is
-    /// refused by name in its place.
+    /// The peer is down or away, or the game has no such player. An `Open` of a player who is not in the game gives its
+    /// own error instead.
     Down,
-    /// The player was stopped, whatever its act came to, also where the game has no such player.
+    /// The player was stopped, whatever its act did, and even if the game has no such player.
     Stopped,
 }
 
-/// One answer for each event, in order.
+/// The answers to the events, in order.
 #[derive(Debug, Drop)]
 pub struct Report {
     pub answers: Vec<Answer>,

@@ -1,7 +1,7 @@
-//! What the crates below say of one peer and of the round, in one place for the laws of all peers.
+//! The laws of the crates below about one peer and about the drop round, in one place.
 ghost use Rattle.c8_world.specs.checked.Below.{ArePeersLawful};
 
-/// Each fact is a law of c8_round or of c8_peer.
+/// Collects the laws of c8_round and c8_peer that the laws of worlds need.
 pub(crate) fn peers_are_lawful()
     ensures { ArePeersLawful }
 {

@@ -1,4 +1,4 @@
-//! Where the players of a world stand in the end.
+//! What the players of a world have at the end.
 ghost use Rattle.std.specs.Prelude.{◌≡◌, ◌≤◌, ◌<◌, ◌↔◌, true, length, map, IfOk};
 ghost use Rattle.c8_known.specs.Known.{player_in};
 ghost use Rattle.c8_known.specs.Confirmed.{confirmed, row};
@@ -10,8 +10,8 @@ use c8_known::Known;
 use c8_peer::Peer;
 use std::alloc::{AllocError, Global};
 
-/// What one player has: its ticks, its confirmed frames, and how many inputs it holds of each
-/// player, player 1 first; 0 of one who is not in the game.
+/// What one player has: its ticks, its confirmed frames, and how many inputs of each player it holds, player 1 first; 0
+/// for a player who is not in the game.
 #[derive(Clone, Copy, Debug, PartialEq, Eq, Hash)]
 pub struct Tally {
     pub now: u32,
@@ -19,14 +19,14 @@ pub struct Tally {
     pub held: [u32; MOST_PLAYERS],
 }
 
-/// Where all players stand, player 1 first, and whether those who were not let go agree.
+/// What all players have, player 1 first, and whether the players who were not dropped agree.
 #[derive(Debug, Drop)]
 pub struct Ends {
     pub players: Vec<Tally>,
     pub agree: bool,
 }
 
-/// What a player knows: as its peer tells it, or as a read of its disk gives it.
+/// What a player knows: from its peer, or from a read of its disk.
 #[derive(Drop)]
 pub enum Standing<'w, 'g> {
     Held(&'w Peer<'g, MemDisk>),
@@ -34,7 +34,7 @@ pub enum Standing<'w, 'g> {
 }
 
 impl<'w, 'g> Standing<'w, 'g> {
-    /// What the player has.
+    /// Returns what the player has.
     pub(crate) fn tally(&self) -> Tally
         ensures { result ≡ tally_of (known_at self.now) }
     {
@@ -59,7 +59,7 @@ impl<'w, 'g> Standing<'w, 'g> {
         }
     }
 
-    /// How many frames are confirmed.
+    /// Returns how many frames are confirmed.
     pub(crate) fn confirmed(&self) -> u32
         ensures { result ≡ confirmed (known_at self.now) }
     {
@@ -69,7 +69,7 @@ impl<'w, 'g> Standing<'w, 'g> {
         }
     }
 
-    /// How many inputs are held of a player.
+    /// Returns how many inputs of a player are held.
     fn held(&self, player: Player) -> u32
         ensures { result ≡ held_of (known_at self.now) player.number }
     {
@@ -84,7 +84,7 @@ impl<'w, 'g> Standing<'w, 'g> {
         }
     }
 
-    /// Whether a LEAVE of a player stands.
+    /// Returns whether there is a LEAVE of a player.
     pub(crate) fn leaving(&self, player: Player) -> bool
         ensures { result ≡ (player_in (known_at self.now) player.number).leaving }
     {
@@ -94,7 +94,7 @@ impl<'w, 'g> Standing<'w, 'g> {
         }
     }
 
-    /// The inputs of all players at a confirmed frame.
+    /// Returns the inputs of all players in a confirmed frame.
     fn row(&self, frame: u32) -> Row
         requires { frame < confirmed (known_at self.now) }
         ensures { result ≡ row (known_at self.now) frame }
@@ -105,7 +105,7 @@ impl<'w, 'g> Standing<'w, 'g> {
         }
     }
 
-    /// Whether two players have the same rows, as far as both count frames as confirmed.
+    /// Returns whether two players have the same rows, up to the frames that both count as confirmed.
     pub(crate) fn agrees(&self, other: &Standing<'w, 'g>) -> bool
         ensures { (result ≡ true) ↔ AreSameRows (known_at self.now) (known_at other.now) }
     {
@@ -119,9 +119,9 @@ impl<'w, 'g> Standing<'w, 'g> {
     }
 }
 
-/// Whether any two of the players whom player one has not let go have the same rows, as far as both
-/// count frames as confirmed: of what is known of all players of a match, player 1's first. So one
-/// who holds the peers of a match asks, as [`crate::World::ends`] does of a world.
+/// Returns whether all players that player 1 has not dropped have the same rows, up to the frames that each two of them
+/// count as confirmed. `standings` are those of all players of a match, player 1's first. A caller with the peers of a
+/// match uses this as [`crate::World::ends`] does for a world.
 pub fn all_agree(standings: &[Standing<'_, '_>]) -> bool
     requires few { length standings.now ≤ 4 }
     ensures { (result ≡ true) ↔ HaveAgreed standings.now }
@@ -134,7 +134,7 @@ pub fn all_agree(standings: &[Standing<'_, '_>]) -> bool
     true
 }
 
-/// Whether a player agrees with each.
+/// Returns whether a player agrees with each player.
 fn agrees_with_all(standings: &[Standing<'_, '_>], place: usize) -> bool
     requires few { length standings.now ≤ 4 }
     requires within { place < length standings.now }
@@ -148,7 +148,7 @@ fn agrees_with_all(standings: &[Standing<'_, '_>], place: usize) -> bool
     true
 }
 
-/// Whether two players have the same rows, or player one has let one of them go.
+/// Returns whether two players have the same rows, or player 1 has dropped one of them.
 fn agrees_with(standings: &[Standing<'_, '_>], place: usize, other: usize) -> bool
     requires few { length standings.now ≤ 4 }
     requires within { place < length standings.now }
@@ -161,7 +161,7 @@ fn agrees_with(standings: &[Standing<'_, '_>], place: usize, other: usize) -> bo
     standings[place].agrees(&standings[other])
 }
 
-/// Whether player one has not let go the player at a place.
+/// Returns whether player 1 has not dropped the player at a place.
 fn stays(standings: &[Standing<'_, '_>], place: usize) -> bool
     requires few { length standings.now ≤ 4 }
     requires within { place < length standings.now }
@@ -173,7 +173,7 @@ fn stays(standings: &[Standing<'_, '_>], place: usize) -> bool
     }
 }
 
-/// What each player has.
+/// Returns what each player has.
 pub(crate) fn tallies(
     alloc: Global,
     standings: &[Standing<'_, '_>],

@@ -1,4 +1,4 @@
-//! Why a run ends before its events do.
+//! Why a run ends before all its events.
 ghost use Rattle.std.specs.Prelude.{◌≡◌};
 
 use crate::answer::Report;
@@ -7,15 +7,14 @@ use thiserror::Error;
 /// Why `World::run` ends early.
 #[derive(Debug, Error, Drop)]
 pub enum RunError {
-    /// Memory was refused at an event. The report has one answer for each event before it, and what
-    /// these did stands. The event has changed nothing; but a peer that was down and was to be
-    /// opened may be away.
+    /// Memory was refused at an event. The report has an answer for each event before it, and these have happened. The
+    /// event itself changed nothing, with one exception: if it was to open a peer that was down, the peer may be away.
     #[error("out of memory")]
     Memory(Report),
 }
 
 impl RunError {
-    /// The number that stands for it in what a program prints.
+    /// Returns the number of the error, as programs print it.
     pub fn number(&self) -> u8
         ensures { result ≡ 1 }
     {

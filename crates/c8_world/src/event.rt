@@ -1,47 +1,47 @@
-//! What may happen to the peers of a world.
+//! What can happen to the peers of a world.
 ghost use Rattle.std.specs.Prelude.{◌≡◌};
 
 use c8_game::{Keys, Player};
 use c8_peer::Kind;
 use c8_wire::{Seat, Watcher};
 
-/// What one player or watcher does.
+/// An act of one player or watcher.
 #[derive(Clone, Copy, Debug, PartialEq, Eq, Hash)]
 pub enum Act {
-    /// Opens its peer on its disk. One that is down is closed first.
+    /// Opens the player's peer on its disk. A peer that is down is closed first.
     Open(Player),
     /// Enters a key set.
     Tick(Player, Keys),
-    /// Says something to another player: the first is who speaks.
+    /// Sends a datagram to another player; the sender comes first.
     Say(Player, Player, Kind),
-    /// Hears the datagram of this number. The first that was said has the number 0.
+    /// Delivers the datagram with this number, counted from 0, to a player.
     Give(u64, Player),
-    /// Player one lets a player go.
+    /// Player 1 drops a player.
     Leave(Player),
-    /// Player one cuts a leaver's list.
+    /// Player 1 cuts a leaver's list.
     Decide(Player),
-    /// Records what comes next of a checkpoint.
+    /// Records the next part of a checkpoint.
     Check(Player),
-    /// Player one shows a watcher the confirmed rows that come next there.
+    /// Player 1 shows a watcher the next confirmed rows.
     Show(Watcher),
-    /// A watcher hears the datagram of this number.
+    /// Delivers the datagram with this number to a watcher.
     Hear(u64, Watcher),
-    /// A watcher tells player one how many rows it has.
+    /// A watcher acknowledges its rows to player 1.
     Seen(Watcher),
-    /// A watcher begins anew, with no rows.
+    /// A watcher starts over, without rows.
     Fresh(Watcher),
 }
 
-/// An act, one inside which its player stops, or one inside which its disk fails once.
+/// An act, or one inside which its player stops, or one inside which its disk fails once.
 #[derive(Clone, Copy, Debug, PartialEq, Eq, Hash)]
 pub enum Event {
     Do(Act),
-    /// The disk serves so many calls more and fails then (a watcher has none, and just acts). After the act the player's peer is away,
-    /// and its disk holds an image that a crash may leave, picked by the last number: 0 for what was
-    /// last synced, 1 for what a read gives, any other for a seed.
+    /// The disk serves this many more calls, and then fails. After the act the player's peer is away, and its disk
+    /// holds an image that a crash may leave, picked by the last number: 0 for what was last synced, 1 for what a read
+    /// gives, any other as a seed. A watcher has no disk, and just acts.
     Stop(Act, u64, u64),
-    /// The player's disk serves so many calls more, fails the next one, with no effect, and serves
-    /// those after it. The answer is the act's own. Where the act makes no such call nothing fails, then or later.
+    /// The player's disk serves this many more calls, fails the next one, with no effect, and serves those after it.
+    /// The answer is the act's own. If the act ends before that call, nothing fails, then or later.
     Fail(Act, u64),
 }
 
@@ -49,7 +49,7 @@ impl Act {
     ghost use Rattle.c8_world.specs.Events.{act_of};
     ghost use Rattle.c8_world.specs.World.{player_of};
 
-    /// Who acts.
+    /// Returns the seat of the player or watcher who acts.
     pub fn seat(self) -> Seat
         ensures { result.number ≡ player_of (act_of self) }
     {
@@ -66,7 +66,7 @@ impl Event {
     ghost use Rattle.c8_world.specs.Events.{act_of, event_of};
     ghost use Rattle.c8_world.specs.World.{act_inside};
 
-    /// What the player does, whether or not it stops inside or its disk fails.
+    /// Returns the act, whether or not its player stops inside or its disk fails.
     pub fn act(self) -> Act
         ensures { act_of result ≡ act_inside (event_of self) }
     {

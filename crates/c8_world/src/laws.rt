@@ -1,6 +1,6 @@
-//! The theorem that peers agree, over every list of events of a world: each law is the contract of
-//! a function that only calls laws of the crates below. `IsReached` says that some list of events leads to a world, from
-//! the one in which no peer has been opened yet.
+//! The theorem that peers agree, for every list of events of a world. Each law is the contract of a function that only
+//! calls laws of the crates below. `IsReached` says that some list of events leads to a world from the one in which no
+//! peer has been opened.
 ghost use Rattle.std.specs.Prelude.{◌≡◌, ◌≢◌, ◌⊎◌, ℕ, ◌^◌, ◌<◌, List, length, Bool, Some, Err, false};
 ghost use Rattle.c8_spectator.specs.declared.error.NotTaken.TheVariants.{Watch};
 ghost use Rattle.c8_spectator.specs.declared.error.WatchError.TheVariants as watches;
@@ -32,7 +32,7 @@ ghost use Rattle.c8_world.specs.Matches.{two, three, four, GoesInTurn, StopsInTi
 use crate::below::peers_are_lawful;
 use c8_roll::laws::a_run_may_begin_on_the_way;
 
-/// What a peer holds of a player's inputs begins what that player entered.
+/// The inputs of a player that a peer holds are the beginning of what that player entered.
 pub fn held_inputs_were_entered()
     ensures { (rules : Rules) (room : ℕ) (w : World) (p q : ℕ)
         → AreInRange rules → room < 2 ^ 64 → IsReached rules room w
@@ -42,9 +42,8 @@ pub fn held_inputs_were_entered()
     peers_are_lawful();
 }
 
-/// The checkpoints of each player's journal are true. So a machine that begins at one goes on as if it
-/// had run from frame 0: `Peer::base` is the serial run of the confirmed rows, `Peer::shown` that of the
-/// best rows.
+/// The checkpoints in each player's journal are true. So a machine that starts from one is the machine that would have
+/// run from frame 0: `Peer::base` is the serial run of the confirmed rows, `Peer::shown` that of the best rows.
 pub fn checkpoints_are_true()
     ensures { (rules : Rules) (room : ℕ) (w : World) (p : ℕ)
         → AreInRange rules → room < 2 ^ 64 → IsReached rules room w → IsPlayer rules p
@@ -53,8 +52,8 @@ pub fn checkpoints_are_true()
     peers_are_lawful();
 }
 
-/// Two undropped peers that have confirmed equally many frames have the same machine after them, that of
-/// `Peer::base`, wherever each machine began: the serial run of the confirmed rows.
+/// Two undropped peers with equally many confirmed frames have the same machine after them, that of `Peer::base`,
+/// wherever each machine started: the serial run of the confirmed rows.
 pub fn undropped_peers_have_one_machine()
     ensures serial { (rules : Rules) (room : ℕ) (w : World) (p : ℕ)
         → AreInRange rules → room < 2 ^ 64 → IsReached rules room w → IsPlayer rules p
@@ -69,8 +68,8 @@ pub fn undropped_peers_have_one_machine()
     a_run_may_begin_on_the_way();
 }
 
-/// What a watcher has begins the rows that player one counts as confirmed, and its machine is the serial run on
-/// these; and no datagram that was said is refused by it because its rows differ.
+/// A watcher's rows are the beginning of the rows that player 1 counts as confirmed, and its machine is their serial
+/// run. A watcher refuses no datagram that was sent because its rows differ.
 pub fn watchers_have_a_beginning()
     ensures rows { (rules : Rules) (room : ℕ) (w : World) (watcher : ℕ)
         → AreInRange rules → room < 2 ^ 64 → IsReached rules room w → HasTrueRows rules w watcher }
@@ -82,8 +81,8 @@ pub fn watchers_have_a_beginning()
     peers_are_lawful();
 }
 
-/// Each datagram that was said is true of its sender's journal, a SEEN of player one's confirmed frames, and
-/// has a spelling; so to deliver the bytes that spell it is to deliver it. No delivery is answered BadAck.
+/// Each datagram that was sent is true: a SEEN by player 1's confirmed frames, any other by its sender's journal. It
+/// has a spelling, so to deliver these bytes is to deliver the datagram. No delivery is answered with BadAck.
 pub fn what_was_said_is_true()
     ensures said { (rules : Rules) (room : ℕ) (w : World) (packet : Packet)
         → AreInRange rules → room < 2 ^ 64 → IsReached rules room w → IsAmong w.said packet
@@ -98,8 +97,8 @@ pub fn what_was_said_is_true()
     peers_are_lawful();
 }
 
-/// An open link of p to q, at a peer that is open or down: q's journal had the epoch that p knows,
-/// and in that epoch q named p's own one.
+/// If p has an open link to q, and p's peer is open or down: q's journal had the epoch that p knows, and in that epoch
+/// q named p's own epoch.
 pub fn open_links_name_both_epochs()
     ensures { (rules : Rules) (room : ℕ) (w : World) (p q : ℕ)
         → AreInRange rules → room < 2 ^ 64 → IsReached rules room w
@@ -108,8 +107,8 @@ pub fn open_links_name_both_epochs()
     peers_are_lawful();
 }
 
-/// Whatever a reading of a player's disk finds is a journal of this match and player; and no opening
-/// of its peer is answered WrongGame, WrongPlayer or BadRecord.
+/// A read of a player's disk always finds a journal of this match and player. So no opening of its peer is answered
+/// with WrongGame, WrongPlayer or BadRecord.
 pub fn openings_find_journals()
     ensures journals { (rules : Rules) (room : ℕ) (w : World) (p : ℕ) (finds : Bool)
         → AreInRange rules → room < 2 ^ 64 → IsReached rules room w → IsPlayer rules p
@@ -121,9 +120,9 @@ pub fn openings_find_journals()
     peers_are_lawful();
 }
 
-/// What was answered tells how each player's peer stands (`modes`): it is open after an opening that
-/// was answered Ok, until an answer tells that the disk refused a record, or a stop. So `Down` is
-/// answered only where no such opening was, or one of these came after it (`down`).
+/// The answers tell whether each player's peer is open, down or away (`modes`). It is open after an opening that was
+/// answered Ok, until an answer says that the disk refused a record, or until a stop. So `Down` is answered only if
+/// there was no such opening, or one of these came after it (`down`).
 pub fn answers_tell_modes()
     ensures modes { (rules : Rules) (room : ℕ) (v : World) (events : List Event)
         (answers : List Answer) (p : ℕ)
@@ -138,8 +137,8 @@ pub fn answers_tell_modes()
     peers_are_lawful();
 }
 
-/// And so does what a world reports: `Down` is reported of an act only where no opening of that
-/// player was reported Ok before, or a refusal by the disk or a stop came after the last of these.
+/// The same for the answers that a world reports: `Down` is reported for an act only if no opening of that player was
+/// reported Ok before, or if a refusal by the disk or a stop came after the last one.
 pub fn reports_tell_modes()
     ensures modes { (rules : Rules) (room : ℕ) (v : World) (events : List asked.Event)
         (answers : List codes.Answer) (p : ℕ)
@@ -155,9 +154,9 @@ pub fn reports_tell_modes()
     peers_are_lawful();
 }
 
-/// Whatever happens between two moments: a peer at the earlier and a peer at the later one, both
-/// undropped at the later, have the same inputs and the same machine as far as both count frames
-/// as confirmed.
+/// Two peers agree, one at an earlier and one at a later moment, if neither has been dropped at the later one: they
+/// have the same inputs and the same machine, up to the frames that both count as confirmed. Any events may lie between
+/// the moments.
 pub fn undropped_peers_agree()
     ensures { (rules : Rules) (room : ℕ) (w v : World) (events : List Event)
         (answers : List Answer) (p r : ℕ)
@@ -168,9 +167,8 @@ pub fn undropped_peers_agree()
     peers_are_lawful();
 }
 
-/// Each input that a peer holds as confirmed is what its player entered, by that player's own
-/// journal, or empty from that player's cut on; at every later moment too. This is so of dropped
-/// peers as well.
+/// Each confirmed input of a peer is what its player entered, by that player's own journal, or empty from that player's
+/// cut on, also at each later moment. This holds for dropped peers too.
 pub fn confirmed_inputs_were_entered()
     ensures { (rules : Rules) (room : ℕ) (w v : World) (events : List Event)
         (answers : List Answer) (p : ℕ)
@@ -180,7 +178,7 @@ pub fn confirmed_inputs_were_entered()
     peers_are_lawful();
 }
 
-/// Once player one has cut a leaver's list, no undropped peer holds more of it.
+/// After player 1 has cut a leaver's list, no undropped peer holds more of it.
 pub fn a_cut_bounds_who_stays()
     ensures { (rules : Rules) (room : ℕ) (w : World) (p : ℕ)
         → AreInRange rules → room < 2 ^ 64 → IsReached rules room w
@@ -189,9 +187,8 @@ pub fn a_cut_bounds_who_stays()
     peers_are_lawful();
 }
 
-/// What a drop round rests on. `reports`: before player one has cut a leaver's list, what a stayer
-/// answered it is at least what that stayer holds. `frozen`: where the list is cut, each other
-/// player who is undropped has frozen the leaver.
+/// What a drop round rests on. `reports`: before player 1 has cut a leaver's list, a stayer's answer is at least what
+/// it holds. `frozen`: if the list is cut, each other undropped player has frozen the leaver.
 pub fn answers_bound_who_stays()
     ensures reports { (rules : Rules) (room : ℕ) (w : World) (p : ℕ)
         → AreInRange rules → room < 2 ^ 64 → IsReached rules room w
@@ -203,8 +200,8 @@ pub fn answers_bound_who_stays()
     peers_are_lawful();
 }
 
-/// A delivery at an undropped peer is never answered Differs, whoever said the datagram, and never
-/// Desync where its sender is undropped too.
+/// A delivery at an undropped peer is never answered with Differs, whoever sent the datagram, and never with Desync if
+/// its sender is undropped too.
 pub fn undropped_peers_see_no_difference()
     ensures inputs { (rules : Rules) (room : ℕ) (w v : World) (p number : ℕ) (answer : Answer)
         → AreInRange rules → room < 2 ^ 64 → IsReached rules room w → IsUndropped w p
@@ -220,8 +217,7 @@ pub fn undropped_peers_see_no_difference()
     peers_are_lawful();
 }
 
-/// The same agreement by what a reading of each disk gives, whichever of the pending records it
-/// finds.
+/// The same agreement for what a read of each disk gives, whichever of the pending records it finds.
 pub fn what_disks_give_agrees()
     ensures { (rules : Rules) (room : ℕ) (w : World) (reads : Reads) (p r : ℕ)
         → AreInRange rules → room < 2 ^ 64 → IsReached rules room w
@@ -230,8 +226,8 @@ pub fn what_disks_give_agrees()
     peers_are_lawful();
 }
 
-/// While no LEAVE stands at player one, any two peers agree, at any two moments, and no delivery is
-/// answered Differs or Desync.
+/// While player 1 has no LEAVE, any two peers agree, at any two moments, and no delivery is answered with Differs or
+/// Desync.
 pub fn all_agree_while_nobody_leaves()
     ensures rows { (rules : Rules) (room : ℕ) (w v : World) (events : List Event)
         (answers : List Answer) (p r : ℕ)
@@ -250,7 +246,7 @@ pub fn all_agree_while_nobody_leaves()
     peers_are_lawful();
 }
 
-/// What is so of any two moments, in one record.
+/// All that holds for any two moments, in one record.
 pub fn any_two_moments_agree()
     ensures { (rules : Rules) (room : ℕ) (w v : World) (events : List Event)
         (answers : List Answer)
@@ -263,24 +259,23 @@ pub fn any_two_moments_agree()
 /// Matches worked out by these definitions, from the start on, with every answer.
 ///
 /// - `ranges`: the games that are played are games.
-/// - `turns`: two players, a window of one frame. The second tick is refused until the other
-///   player's set is there; DATA that comes twice brings nothing the second time.
-/// - `stops`: player one stops inside a tick. Its set may be lost, and another one is entered; it
-///   may be there although the disk refused it; and where the disk took it, it is there.
-/// - `cuts`: player one lets player three go. Player two brings the two inputs that player one
-///   lacks, and both cut player three's list after them.
-/// - `restarts`: the same, but player two stops after its answer and is opened again. What was said
-///   to its first epoch is stale, it takes nothing more from player three, and the cut is the same.
-/// - `waits`: of four players one is let go, and nothing is decided before each who stays has
-///   answered, or has been let go too.
-/// - `differs`: as in `cuts`, but player three has entered one set more, which reached nobody, and
-///   counts eleven frames as confirmed, as the others do after the cut. Its rows differ from theirs;
-///   then it is told that it is out, and may tick no more.
-/// - `undropped`: so the law `undropped_peers_agree` is false without its two premises that the
-///   peers have not been dropped.
-/// - `ends`: in a game of one frame the second tick is refused as past the end, whether or not the
-///   frame is confirmed.
-/// - `refuses`: a journal of another game or another room is refused, and stays as it is.
+/// - `turns`: two players, a window of one frame. The second tick is refused until the other player's set is there.
+///   DATA that comes twice brings nothing the second time.
+/// - `stops`: player 1 stops inside a tick. Its set may be lost, and another one is entered; it may be there although
+///   the disk refused it; if the disk took it, it is there.
+/// - `cuts`: player 1 drops player 3. Player 2 brings the two inputs that player 1 lacks, and both cut player 3's list
+///   after them.
+/// - `restarts`: the same, but player 2 stops after its answer and is opened again. Datagrams to its first epoch are
+///   stale, it takes nothing more from player 3, and the cut is the same.
+/// - `waits`: one of four players is dropped. Nothing is decided before each other player has answered, or has been
+///   dropped too.
+/// - `differs`: as in `cuts`, but player 3 has entered one more set, which reached nobody, and counts eleven frames as
+///   confirmed, as the others do after the cut. Its rows differ from theirs. Then it learns that it is out, and can
+///   tick no more.
+/// - `undropped`: so the law `undropped_peers_agree` is false without its two premises that the peers have not been
+///   dropped.
+/// - `ends`: in a game of one frame the second tick is refused as past the end, whether or not the frame is confirmed.
+/// - `refuses`: a journal of another game or another room is refused, and does not change.
 pub fn worked_matches()
     ensures ranges { AreInRange (two 100 1) × AreInRange (two 100 8) × AreInRange (two 1 1)
         × AreInRange three × AreInRange four }

@@ -34,7 +34,7 @@ pub enum Node<'g> {
 }
 
 impl<'g> Node<'g> {
-    /// Opens the peer. None is answered where it is open.
+    /// Opens the peer. Answers `None` if it is open already.
     pub(crate) fn open(
         self,
         alloc: Global,
@@ -66,7 +66,7 @@ impl<'g> Node<'g> {
         }
     }
 
-    /// Enters a key set. `Down` is answered where the peer is not open, as in the calls below.
+    /// Enters a key set. Answers `Down` if the peer is not open, as do the calls below.
     pub(crate) fn tick(&mut self, keys: Keys) -> Answer
         ensures asked { (rules : Rules) (room p : ℕ) (s : State) → IsNode rules room p self.old s
             → IsAsked rules room p s (states.Tick keys.0) result self.new }
@@ -90,7 +90,7 @@ impl<'g> Node<'g> {
         }
     }
 
-    /// Hears bytes.
+    /// Delivers bytes.
     pub(crate) fn deliver(&mut self, bytes: &[u8]) -> Answer
         ensures asked { (rules : Rules) (room p : ℕ) (s : State) → IsNode rules room p self.old s
             → IsAsked rules room p s (states.Deliver (read bytes.now)) result self.new }
@@ -108,7 +108,7 @@ impl<'g> Node<'g> {
         }
     }
 
-    /// Lets a player go.
+    /// Drops a player.
     pub(crate) fn leave(&mut self, leaver: Player) -> Answer
         ensures asked { (rules : Rules) (room p : ℕ) (s : State) → IsNode rules room p self.old s
             → IsAsked rules room p s (states.Leave leaver.number) result self.new }
@@ -144,7 +144,7 @@ impl<'g> Node<'g> {
         }
     }
 
-    /// Records what comes next of a checkpoint.
+    /// Records the next part of a checkpoint.
     pub(crate) fn check(&mut self) -> Answer
         ensures asked { (rules : Rules) (room p : ℕ) (s : State) → IsNode rules room p self.old s
             → IsAsked rules room p s states.Checkpoint result self.new }
@@ -162,7 +162,7 @@ impl<'g> Node<'g> {
         }
     }
 
-    /// Says something to another player, to the front of `out`.
+    /// Writes a datagram to another player to the beginning of `out`, and returns its length.
     pub(crate) fn say(
         &self,
         to: Player,
@@ -184,7 +184,7 @@ impl<'g> Node<'g> {
         }
     }
 
-    /// Says rows to a watcher, to the front of `out`.
+    /// Writes a datagram with rows for a watcher to the beginning of `out`, and returns its length.
     pub(crate) fn show(
         &self,
         watcher: Watcher,
@@ -205,7 +205,7 @@ impl<'g> Node<'g> {
         }
     }
 
-    /// Says when the disk's calls fail from now on.
+    /// Sets when the disk's calls fail from now on.
     pub(crate) fn arm(&mut self, arm: Arm)
         ensures held { (rules : Rules) (room p : ℕ) (s : State) → IsNode rules room p self.old s
             → IsNode rules room p self.new s }
@@ -219,7 +219,7 @@ impl<'g> Node<'g> {
         }
     }
 
-    /// Stops the player: its disk holds what a crash may leave, by the pick.
+    /// Stops the player: its disk then holds what a crash may leave, by the pick.
     pub(crate) fn crash(self, pick: u64) -> Node<'g>
         ensures crashed { (rules : Rules) (room p : ℕ) (s : State) → IsNode rules room p self.entry s
             → (leaves : Bool) × IsNode rules room p result (crashed s leaves) }
@@ -229,7 +229,7 @@ impl<'g> Node<'g> {
         Node::Away(self.into_disk().crash(pick))
     }
 
-    /// Whether the peer is held and open.
+    /// Returns whether the node has a peer that is open.
     fn is_up(&self) -> bool
         ensures { (rules : Rules) (room p : ℕ) (s : State) → IsNode rules room p self.now s
             → (result ≡ true) ↔ (s.mode ≡ states.Open) }
@@ -240,7 +240,7 @@ impl<'g> Node<'g> {
         }
     }
 
-    /// The disk, of which an opening finds the journal.
+    /// Returns the disk, from which an opening reads the journal.
     fn into_disk(self) -> MemDisk
         ensures tells { (rules : Rules) (room p : ℕ) (s : State) → IsNode rules room p self.entry s
             → Tells s result }
@@ -254,7 +254,7 @@ impl<'g> Node<'g> {
         }
     }
 
-    /// What is known of the player: as its peer tells it, or by a read of its disk.
+    /// Returns what the player knows: from its peer, or from a read of its disk.
     pub(crate) fn standing(
         &self,
         alloc: Global,
@@ -274,7 +274,7 @@ impl<'g> Node<'g> {
             Node::Held(peer) => Ok(Standing::Held(peer)),
             Node::Away(disk) => {
                 let mut known = Known::new(alloc, game, player)?;
-                // A journal is refused for nothing.
+                // The replay never refuses this journal, so its result is dropped.
                 let _ = replay_bytes(disk.bytes(), game, room, &mut known, &mut Checks::new());
                 Ok(Standing::Read(known))
             }

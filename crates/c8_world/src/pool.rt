@@ -1,4 +1,4 @@
-//! All that was said, as bytes.
+//! The bytes of all datagrams that were sent.
 ghost use Rattle.std.specs.Prelude.{◌≡◌, ◌≤◌, ◌<◌, ◌+◌, List, [], ◌∷◌, ◌++◌, ℕ, length, take, map, IfOk, OnOk, OnErr, MatchOption};
 ghost use Rattle.std.specs.List.{slice_get};
 ghost use Rattle.c8_wire.specs.declared.sizes.TheConstants.{LONGEST_DATAGRAM};
@@ -15,7 +15,7 @@ struct Spoken {
     ghost fits: { size ≤ LONGEST_DATAGRAM },
 }
 
-/// Datagrams that were said, the first one's number is 0. Nothing leaves it.
+/// The datagrams that were sent, numbered from 0. None is ever removed.
 #[derive(Drop)]
 pub(crate) struct Pool {
     spoken: Vec<Spoken>,
@@ -38,14 +38,14 @@ impl Pool {
         }
     }
 
-    /// How many there are.
+    /// Returns how many there are.
     pub(crate) fn len(&self) -> usize
         ensures { result ≡ length self.now }
     {
         self.spoken.len()
     }
 
-    /// Adds the first bytes of `bytes`.
+    /// Adds a datagram: the first `size` bytes of `bytes`.
     pub(crate) fn push(
         &mut self,
         bytes: &[u8; LONGEST_DATAGRAM],
@@ -64,7 +64,7 @@ impl Pool {
         }
     }
 
-    /// The bytes of a number.
+    /// Returns the bytes of the datagram with a number.
     pub(crate) fn get(&self, number: u64) -> Option<&[u8]>
         ensures { MatchOption result (length self.now ≤ number)
             (λ bytes. slice_get self.now number ≡ Some bytes.now) }

@@ -1,4 +1,4 @@
-//! All nodes of a match and all that was said, and what an event makes of them.
+//! All nodes of a match and all datagrams that were sent, and what an event does to them.
 ghost use Rattle.std.specs.Prelude.{◌≡◌, ◌≤◌, ◌<◌, ◌+◌, ◌^◌, ℕ, [], ◌∷◌, Bool, true, is_some, Some, IfOk, IfErr, IfSome, vec_len, length, MatchOption};
 ghost use Rattle.std.specs.List.{slice_get};
 ghost use Rattle.c8_game.specs.Rules.{Rules, AreInRange};
@@ -35,14 +35,14 @@ use c8_wire::{LONGEST_DATAGRAM, Seat, Watcher};
 use std::alloc::{AllocError, Global};
 use std::marker::Model;
 
-/// The nodes of all players of a match, player 1's first, all that was said, and who watches.
+/// The nodes of all players of a match, player 1's first, all datagrams that were sent, and the watchers.
 #[derive(Drop)]
 pub(crate) struct Table<'g> {
     game: &'g Game,
     room: u64,
     nodes: Vec<Option<Node<'g>>>,
     pool: Pool,
-    /// Who watches from seat 5, and from seat 6.
+    /// The watchers in seats 5 and 6.
     five: Spectator<'g>,
     six: Spectator<'g>,
 }
@@ -65,7 +65,7 @@ impl<'g> Model for Table<'g> {
         × IsWatch t.game.now t.room 5 t.five × IsWatch t.game.now t.room 6 t.six };
 }
 
-/// The node of a player whose peer was never opened.
+/// Makes the node of a player whose peer was never opened.
 fn new_node<'g>(alloc: Global, capacity: u32, calls: u32) -> Result<Option<Node<'g>>, AllocError>
     ensures full { IfOk result (λ node. is_some node ≡ true) }
     ensures untouched { IfOk result IsUntouched }
@@ -75,7 +75,7 @@ fn new_node<'g>(alloc: Global, capacity: u32, calls: u32) -> Result<Option<Node<
     Ok(Some(Node::Away(disk)))
 }
 
-/// Opens the peer of a node, which is empty meanwhile.
+/// Opens the peer of a node. The node is empty during the call.
 fn open_node<'g>(
     place: &mut Option<Node<'g>>,
     alloc: Global,
@@ -110,7 +110,7 @@ fn open_node<'g>(
     }
 }
 
-/// Stops the player of a node, which is empty meanwhile.
+/// Stops the player of a node. The node is empty during the call.
 fn crash_node(place: &mut Option<Node<'_>>, pick: u64)
     requires { is_some place.old ≡ true }
     ensures full { is_some place.new ≡ true }
@@ -125,7 +125,7 @@ fn crash_node(place: &mut Option<Node<'_>>, pick: u64)
     *place = Some(node.crash(pick));
 }
 
-/// The player with a number.
+/// Returns the player with a number.
 fn player_of(number: u8) -> Player
     requires from_one { 1 ≤ number }
     requires to_four { number ≤ 4 }
@@ -138,8 +138,8 @@ fn player_of(number: u8) -> Player
 }
 
 impl<'g> Table<'g> {
-    /// No peer has been opened, and nothing was said: each player's disk is empty, has room for
-    /// `capacity` bytes, and serves `calls` calls.
+    /// Makes the table before any opening and any datagram: each player's disk is empty, has room for `capacity` bytes,
+    /// and serves `calls` calls.
     pub(crate) fn new(
         alloc: Global,
         game: &'g Game,
@@ -169,7 +169,7 @@ impl<'g> Table<'g> {
         })
     }
 
-    /// An event. Where memory is refused it has not happened.
+    /// Performs an event. If memory is refused, it has not happened.
     pub(crate) fn happen(&mut self, alloc: Global, event: Event) -> Result<Answer, AllocError>
         ensures same { IsSameMatch self.old self.new }
         ensures happened { IfOk result (λ answer. (w : World) → Holds self.old w
@@ -188,7 +188,7 @@ impl<'g> Table<'g> {
         }
     }
 
-    /// An act inside which its player stops.
+    /// Performs an act inside which its player stops.
     fn stop(&mut self, alloc: Global, act: Act, calls: u64, pick: u64) -> Result<Answer, AllocError>
         ensures same { IsSameMatch self.old self.new }
         ensures happened { IfOk result (λ answer. (w : World) → Holds self.old w
@@ -219,7 +219,7 @@ impl<'g> Table<'g> {
         }
     }
 
-    /// An act inside which its player's disk fails once.
+    /// Performs an act inside which its player's disk fails once.
     fn fail(&mut self, alloc: Global, act: Act, calls: u64) -> Result<Answer, AllocError>
         ensures same { IsSameMatch self.old self.new }
         ensures happened { IfOk result (λ answer. (w : World) → Holds self.old w
@@ -240,7 +240,7 @@ impl<'g> Table<'g> {
         result
     }
 
-    /// An act of one player.
+    /// Performs an act.
     fn act(&mut self, alloc: Global, act: Act) -> Result<Answer, AllocError>
         ensures same { IsSameMatch self.old self.new }
         ensures happened { IfOk result (λ answer. (w : World) → Holds self.old w
@@ -305,7 +305,7 @@ impl<'g> Table<'g> {
         node.tick(keys)
     }
 
-    /// A player says something to another one.
+    /// Sends a datagram of a player to another one.
     fn say(&mut self, player: Player, to: Player, what: Kind) -> Result<Answer, AllocError>
         ensures same { IsSameMatch self.old self.new }
         ensures happened { IfOk result (λ answer. (w : World) → Holds self.old w
@@ -334,7 +334,7 @@ impl<'g> Table<'g> {
         }
     }
 
-    /// Delivers the datagram of a number to a player.
+    /// Delivers the datagram with a number to a player.
     fn give(&mut self, number: u64, player: Player) -> Answer
         ensures same { IsSameMatch self.old self.new }
         ensures happened { (w : World) → Holds self.old w
@@ -358,7 +358,7 @@ impl<'g> Table<'g> {
         node.deliver(bytes)
     }
 
-    /// Player one lets a player go.
+    /// Player 1 drops a player.
     fn leave(&mut self, leaver: Player) -> Answer
         ensures same { IsSameMatch self.old self.new }
         ensures happened { (w : World) → Holds self.old w
@@ -373,7 +373,7 @@ impl<'g> Table<'g> {
         node.leave(leaver)
     }
 
-    /// Player one cuts a leaver's list.
+    /// Player 1 cuts a leaver's list.
     fn decide(&mut self, leaver: Player) -> Answer
         ensures same { IsSameMatch self.old self.new }
         ensures happened { (w : World) → Holds self.old w
@@ -388,7 +388,7 @@ impl<'g> Table<'g> {
         node.decide(leaver)
     }
 
-    /// Records what comes next of a player's checkpoint.
+    /// Records the next part of a player's checkpoint.
     fn check(&mut self, player: Player) -> Answer
         ensures same { IsSameMatch self.old self.new }
         ensures happened { (w : World) → Holds self.old w
@@ -405,7 +405,7 @@ impl<'g> Table<'g> {
         node.check()
     }
 
-    /// Player one shows a watcher rows.
+    /// Player 1 shows a watcher rows.
     fn show(&mut self, watcher: Watcher) -> Result<Answer, AllocError>
         ensures same { IsSameMatch self.old self.new }
         ensures happened { IfOk result (λ answer. (w : World) → Holds self.old w
@@ -432,7 +432,7 @@ impl<'g> Table<'g> {
         }
     }
 
-    /// Delivers the datagram of a number to a watcher.
+    /// Delivers the datagram with a number to a watcher.
     fn hear(&mut self, number: u64, watcher: Watcher) -> Answer
         ensures same { IsSameMatch self.old self.new }
         ensures happened { (w : World) → Holds self.old w
@@ -452,7 +452,7 @@ impl<'g> Table<'g> {
         Answer::Watched(self.six.hear(said))
     }
 
-    /// A watcher tells player one how many rows it has.
+    /// A watcher acknowledges its rows to player 1.
     fn seen(&mut self, watcher: Watcher) -> Result<Answer, AllocError>
         ensures same { IsSameMatch self.old self.new }
         ensures happened { IfOk result (λ answer. (w : World) → Holds self.old w
@@ -470,7 +470,7 @@ impl<'g> Table<'g> {
         Ok(Answer::Spoken(Posted { number, length }))
     }
 
-    /// A watcher begins anew.
+    /// A watcher starts over.
     fn fresh(&mut self, watcher: Watcher) -> Answer
         ensures same { IsSameMatch self.old self.new }
         ensures happened { (w : World) → Holds self.old w
@@ -486,7 +486,7 @@ impl<'g> Table<'g> {
         Answer::Anew
     }
 
-    /// Who watches from a seat.
+    /// Returns the watcher in a seat.
     pub(crate) fn watcher(&self, watcher: Watcher) -> &Spectator<'g>
         ensures { result.now ≡ watch_in self.now watcher.number }
     {
@@ -497,7 +497,7 @@ impl<'g> Table<'g> {
         }
     }
 
-    /// The player of the game in a seat, if it is one's.
+    /// Returns the player of the game in a seat, if there is one.
     fn player_in(&self, seat: Seat) -> Option<Player>
         ensures { MatchOption result (self.now.rules.players < seat.number)
             (λ player. (player.number ≡ seat.number) × (player.number ≤ self.now.rules.players)) }
@@ -508,7 +508,7 @@ impl<'g> Table<'g> {
         seat.player()
     }
 
-    /// Says when the calls of a player's disk fail from now on. A watcher has none.
+    /// Sets when the calls of a player's disk fail from now on. A watcher has no disk.
     fn arm(&mut self, seat: Seat, arm: Arm)
         ensures same { IsSameMatch self.old self.new }
         ensures armed { IsArmed seat.number arm self.old self.new }
@@ -523,7 +523,7 @@ impl<'g> Table<'g> {
         node.arm(arm);
     }
 
-    /// Stops a player. A watcher is not stopped.
+    /// Stops a player. A watcher cannot be stopped.
     fn crash(&mut self, seat: Seat, pick: u64)
         ensures same { IsSameMatch self.old self.new }
         ensures crashed { IsCrashed seat.number pick self.old self.new }
@@ -535,7 +535,7 @@ impl<'g> Table<'g> {
         crash_node(&mut self.nodes[player.place()], pick);
     }
 
-    /// The match is one of a game, in a room of 64 bits.
+    /// Ghost call: the rules are in range, and the room has 64 bits.
     pub(crate) fn in_range(&self)
         ensures rules { AreInRange self.now.rules }
         ensures room { self.now.room < 2 ^ 64 }
@@ -543,14 +543,14 @@ impl<'g> Table<'g> {
         self.game.in_range();
     }
 
-    /// How many datagrams were said.
+    /// Returns how many datagrams were sent.
     pub(crate) fn said(&self) -> u64
         ensures { result ≡ length self.now.pool }
     {
         self.pool.len() as u64
     }
 
-    /// The bytes of one of them.
+    /// Returns the bytes of a datagram.
     pub(crate) fn datagram(&self, number: u64) -> Option<&[u8]>
         ensures { MatchOption result (length self.now.pool ≤ number)
             (λ bytes. slice_get self.now.pool number ≡ Some bytes.now) }
@@ -558,7 +558,7 @@ impl<'g> Table<'g> {
         self.pool.get(number)
     }
 
-    /// A player's peer, if one is held.
+    /// Returns a player's peer, if its node has one.
     pub(crate) fn peer(&self, player: Player) -> Option<&Peer<'g, MemDisk>>
         ensures plays { IfSome result (λ _. player.number ≤ self.now.rules.players) }
         ensures held { MatchOption result (IsNotHeld (node_of self.now player.number))
@@ -573,8 +573,7 @@ impl<'g> Table<'g> {
         }
     }
 
-    /// What is known of each player, player 1 first: as its peer tells it if it is held, else by a
-    /// read of its disk.
+    /// Returns what each player knows, player 1 first: from its peer if its node has one, else from a read of its disk.
     pub(crate) fn standings(&self, alloc: Global) -> Result<Vec<Standing<'_, 'g>>, AllocError>
         ensures few { IfOk result (λ standings. vec_len standings ≤ 4) }
         ensures known { IfOk result (λ standings. (w : World) → Holds self.entry.now w
@@ -591,7 +590,7 @@ impl<'g> Table<'g> {
         Ok(standings)
     }
 
-    /// What is known of one of the players.
+    /// Returns what one player knows.
     fn standing(&self, alloc: Global, player: Player) -> Result<Standing<'_, 'g>, AllocError>
         requires { player.number ≤ self.now.rules.players }
         ensures { IfOk result (λ standing. (w : World) → Holds self.entry.now w

@@ -29,12 +29,11 @@ use std::alloc::{AllocError, Global};
 use std::fmt;
 use std::marker::Model;
 
-/// All peers of one match over disks in memory, and every datagram that they said.
+/// All peers of one match over disks in memory, and every datagram that they sent.
 ///
-/// Events happen to it one after the other: openings, ticks, sayings, deliveries of anything that
-/// was said, as often and as late as one likes, players who are dropped, and stops inside any of
-/// these. Whatever the events are, any two peers that were not dropped agree on every frame that
-/// both count as confirmed.
+/// Events happen to it one after the other: openings, ticks, datagrams that are sent, deliveries of anything that was
+/// sent, as often and as late as one likes, players who are dropped, and stops inside any of these. Whatever the events
+/// are, any two peers that were not dropped agree on every frame that both count as confirmed.
 #[derive(Drop)]
 pub struct World<'g> {
     table: Table<'g>,
@@ -60,7 +59,7 @@ impl<'g> Model for World<'g> {
     }) };
 }
 
-/// How many datagrams were said, and nothing of its peers.
+/// Prints how many datagrams were sent, not the peers.
 impl<'g> fmt::Debug for World<'g> {
     fn fmt<W: fmt::Write>(&self, f: &mut fmt::Formatter<W>) -> fmt::Result {
         let said = self.said();
@@ -69,9 +68,8 @@ impl<'g> fmt::Debug for World<'g> {
 }
 
 impl<'g> World<'g> {
-    /// A world in which no peer was opened yet. Each player's disk is empty, has room for `capacity`
-    /// bytes, and serves `calls` calls that read, write or sync, and fails then; after a stop it
-    /// serves as many anew.
+    /// Makes a world in which no peer has been opened. Each player's disk is empty and has room for `capacity` bytes.
+    /// It serves `calls` calls that read, write or sync, and then fails; after a stop it serves as many again.
     pub fn new(
         alloc: Global,
         game: &'g Game,
@@ -93,10 +91,9 @@ impl<'g> World<'g> {
         })
     }
 
-    /// Runs the events, one after the other, and reports one answer each (`ran`); what each makes of
-    /// the nodes and their disks is told event by event (`turns`). Any two peers that were not
-    /// dropped agree, at any two moments (`headline`). Where memory is refused the run ends: see
-    /// [`RunError`].
+    /// Runs the events in order, and reports an answer to each (`ran`); `turns` says what each does to the nodes and
+    /// their disks. Any two peers that were not dropped agree, at any two moments (`headline`). If memory is refused
+    /// the run ends: see [`RunError`].
     pub fn run(&mut self, alloc: Global, events: &[Event]) -> Result<Report, RunError>
         ensures same { IsSameMatch self.old.table self.new.table }
         ensures ran { IfOk result (λ report. (w : Moment) → Holds self.old.table w
@@ -138,7 +135,7 @@ impl<'g> World<'g> {
         }
     }
 
-    /// Runs the events, and adds the answers to `answers`, whose room is there.
+    /// Runs the events, and adds the answers to `answers`, in reserved room.
     fn run_all(
         &mut self,
         alloc: Global,
@@ -174,9 +171,8 @@ impl<'g> World<'g> {
         Ok(())
     }
 
-    /// The peer of a player, if it is held: open, or down. None if it was never opened, was stopped, or
-    /// was last refused its opening. Its checkpoints are true, so [`Peer::base`] is CHIP-8's serial run
-    /// on its confirmed rows.
+    /// Returns the peer of a player, open or down. `None` if it was never opened, was stopped, or its last opening was
+    /// refused. Its checkpoints are true, so [`Peer::base`] is the serial run of its confirmed rows.
     pub fn peer(&self, player: Player) -> Option<&Peer<'g, MemDisk>>
         ensures held { MatchOption result (IsNotHeld (node_of self.now.table player.number))
             (λ peer. node_of self.now.table player.number ≡ Some (Held peer.now)) }
@@ -188,28 +184,28 @@ impl<'g> World<'g> {
         self.table.peer(player)
     }
 
-    /// Who watches from a seat.
+    /// Returns the watcher in a seat.
     pub fn watcher(&self, watcher: Watcher) -> &Spectator<'g>
         ensures { result.now ≡ watch_in self.now.table watcher.number }
     {
         self.table.watcher(watcher)
     }
 
-    /// It does nothing: with the call comes that the events of its life lead to what it holds.
+    /// Ghost call: gives the caller's proof the invariant `IsLived`. It does nothing at run time.
     pub fn has_lived(&self)
         ensures { IsLived self.now }
     {
         let _ = &self.table;
     }
 
-    /// How many datagrams have been said. Their numbers are those below.
+    /// Returns how many datagrams were sent. They are numbered from 0.
     pub fn said(&self) -> u64
         ensures { result ≡ length self.now.table.pool }
     {
         self.table.said()
     }
 
-    /// The bytes of a datagram that was said.
+    /// Returns the bytes of a datagram that was sent.
     pub fn datagram(&self, number: u64) -> Option<&[u8]>
         ensures { MatchOption result (length self.now.table.pool ≤ number)
             (λ bytes. slice_get self.now.table.pool number ≡ Some bytes.now) }
@@ -217,8 +213,8 @@ impl<'g> World<'g> {
         self.table.datagram(number)
     }
 
-    /// Where the players stand: those whose peer is held as it tells, the others by what a read of
-    /// their disks gives; and whether those whom player one has not let go agree, which they do.
+    /// Returns what the players have, from their peers or, if a peer is away, from a read of its disk; and whether the
+    /// players that player 1 has not dropped agree. They always do.
     pub fn ends(&self, alloc: Global) -> Result<Ends, AllocError>
         ensures ends { IfOk result (λ ends. (w : Moment) → Holds self.now.table w
             → (reads : Reads) × AreEnds self.now.table w reads ends.players.items ends.agree) }
@@ -232,7 +228,7 @@ impl<'g> World<'g> {
         Ok(Ends { players, agree })
     }
 
-    /// An event. Where memory is refused it has not happened.
+    /// Performs an event. If memory is refused, it has not happened.
     fn happen(&mut self, alloc: Global, event: Event) -> Result<Answer, AllocError>
         ensures same { IsSameMatch self.old.table self.new.table }
         ensures happened { IfOk result (λ answer. (w : Moment) → Holds self.old.table w
@@ -255,7 +251,7 @@ impl<'g> World<'g> {
                 Ok(answer)
             }
             Err(error) => {
-                // An opening that was refused leaves a peer away which was down.
+                // A refused opening of a peer that was down leaves it away, so it is an event of the world's life.
                 if let Act::Open(player) = event.act() {
                     self.events = self.events.and(&Event::Do(Act::Open(player)));
                     self.answers = self.answers.and(&Answer::Opened(Err(OpenError::Memory)));

@@ -1,4 +1,4 @@
-//! Thousands of events drawn by chance: whatever they are, who was not let go agrees.
+//! Thousands of random events: whatever they are, the players who were not dropped agree.
 use crate::rest::go_on;
 use crate::run::{ONE, answer_to};
 use c8_disk::DiskError;
@@ -20,38 +20,37 @@ const GAMES: [&[u8]; 3] = [
     b"players 4\nipf 10\nframes 300\ndelay 2\nwindow 8\nseed 1\nmask1 000f\nmask2 00f0\nmask3 0f00\nmask4 f000\ncode 6205e2a1710170011202\n",
 ];
 
-/// A seed of each match of a game, and whether a player may be let go in it.
+/// The seed of each match of a game, and whether a player may be dropped in it.
 const SEEDS: [(u64, bool); 4] = [(2026, true), (7, true), (65537, true), (19, false)];
 
-/// How many players a match can have.
+/// The most players of a match.
 const MOST: u8 = 4;
 
 /// How many draws a match has.
 const DRAWS: u32 = 1200;
 
-/// What has come of events.
+/// How often each kind of event and answer came.
 #[derive(Clone, Copy)]
 struct Counted {
     kept: u32,
     stopped: u32,
     /// Events inside which a call of the disk was to fail.
     fails: u32,
-    /// Those of them that were answered that it did: at openings, ticks, deliveries, leaves and
-    /// decisions, and checkpoints.
+    /// Those of them that were answered with that failure: openings, ticks, deliveries, leaves and decisions,
+    /// checkpoints.
     opening: u32,
     tick: u32,
     delivery: u32,
     round: u32,
     check: u32,
     cut: u32,
-    /// Checkpoints that became whole.
+    /// Checkpoints that were completed.
     saved: u32,
-    /// Matches in which somebody confirmed more than 20 frames.
+    /// Matches in which some player confirmed more than 20 frames.
     far: u32,
-    /// Pairs of machines after more than 20 frames that were compared, of peers one of which had begun at a
-    /// checkpoint.
+    /// Compared pairs of machines after more than 20 frames, of peers with different last checkpoints.
     compared: u32,
-    /// Peers that were asked for an alarm where nobody may be let go.
+    /// Peers that were asked for an alarm in a match in which nobody may be dropped.
     calm: u32,
 }
 
@@ -71,20 +70,20 @@ const NOTHING: Counted = Counted {
     calm: 0,
 };
 
-/// One more.
+/// Counts one more.
 fn count(number: &mut u32) {
     *number = number.saturating_add(1);
 }
 
-/// Where the events of a match come from, and what has come of them.
+/// Draws the events of a match, and counts their answers.
 #[derive(Drop)]
 struct Chance {
     numbers: Pcg32,
     players: u8,
-    /// Whether a player may be let go.
+    /// Whether a player may be dropped.
     leaves: bool,
     said: u64,
-    /// To whom the last datagram is.
+    /// The addressee of the last datagram.
     to: Player,
     counted: Counted,
     /// Memory was refused.
@@ -104,7 +103,7 @@ impl Chance {
         }
     }
 
-    /// A number below a bound.
+    /// Returns a number below a bound.
     fn below(&mut self, bound: u32) -> u32 {
         if bound == 0 {
             0
@@ -113,7 +112,7 @@ impl Chance {
         }
     }
 
-    /// A number of disk calls.
+    /// Returns a number of disk calls.
     fn calls(&mut self) -> u64 {
         u64::from(self.below(6))
     }
@@ -127,7 +126,7 @@ impl Chance {
         }
     }
 
-    /// Who is let go.
+    /// Returns the player who is dropped.
     fn leaver(&self) -> Player {
         match self.players {
             2 => Player { number: 2 },
@@ -146,7 +145,7 @@ impl Chance {
         }
     }
 
-    /// One of the datagrams that were said last, or any other.
+    /// Returns the number of one of the last datagrams, or of any other.
     fn number(&mut self) -> u64 {
         let back = if self.below(8) == 0 { 1000 } else { 12 };
         self.said.saturating_sub(1 + u64::from(self.below(back)))
@@ -168,7 +167,7 @@ impl Chance {
         }
     }
 
-    /// A leave, where one may be, and late in a match of two: nobody else is there afterwards.
+    /// Drops a player, if that may be; late in a match of two, since nobody else is there afterwards.
     fn rare(&mut self) -> Act {
         if !self.leaves || (self.players == 2 && self.said < 500) {
             Act::Tick(self.player(), Keys(0x0010))
@@ -177,7 +176,7 @@ impl Chance {
         }
     }
 
-    /// An act of a drop round is rare, so more of these fail.
+    /// Draws an event. Acts of a drop round are rare, so more of these fail.
     fn event(&mut self) -> Event {
         let act = self.act();
         let is_rare = matches!(act, Act::Leave(_) | Act::Decide(_));
@@ -188,8 +187,7 @@ impl Chance {
         }
     }
 
-    /// One event more; at times two players meet, or player one asks another about the leaver, by
-    /// some events in a row.
+    /// Makes one more event, or several in a row: two players meet, or player 1 asks another about the leaver.
     fn go_on(&mut self, alloc: Global, world: &mut World<'_>) {
         let (one, other) = (self.player(), self.player());
         let leaver = self.leaver();
@@ -207,7 +205,7 @@ impl Chance {
         }
     }
 
-    /// A player records of a checkpoint some times in a row, so that one becomes whole now and then.
+    /// A player records parts of a checkpoint several times in a row, so that one is completed now and then.
     fn save(&mut self, alloc: Global, world: &mut World<'_>, player: Player) {
         let act = Act::Check(player);
         for _ in 0..self.below(80) {
@@ -227,7 +225,7 @@ impl Chance {
         self.bring(alloc, world, one, other, Kind::Welcome);
     }
 
-    /// A player says something to another, and the last datagram is given.
+    /// A player sends a datagram to another, and the last datagram is delivered.
     fn bring(
         &mut self,
         alloc: Global,
@@ -241,7 +239,7 @@ impl Chance {
         self.happen(alloc, world, Event::Do(last));
     }
 
-    /// The rest of a match; then all stop and are opened once more. None where two machines differ.
+    /// Ends a match; then all players stop and are opened once more. `None` if two machines differ.
     fn end(&mut self, alloc: Global, world: &mut World<'_>) -> Option<()> {
         let leaver = self.leaver();
         go_on(alloc, world, leaver);
@@ -258,8 +256,8 @@ impl Chance {
         }
     }
 
-    /// Whether those whom player 1 has not let go, where it is there, have one machine after equally many
-    /// frames, and no alarm stands where nobody may be let go.
+    /// Returns whether the players whom player 1 has not dropped, if its peer is there, have one machine after equally
+    /// many frames, and whether there is no alarm in a match in which nobody may be dropped.
     fn finds_no_other_machine(&mut self, world: &World<'_>) -> bool {
         for pair in 0..MOST * MOST {
             let (one, other) = (pair / MOST + 1, pair % MOST + 1);
@@ -270,7 +268,7 @@ impl Chance {
         true
     }
 
-    /// Whether nothing is wrong with a player beside another one.
+    /// Returns whether nothing is wrong between two players.
     fn is_like(&mut self, world: &World<'_>, one: Player, other: Player) -> bool {
         let (Some(chair), Some(peer), Some(beside)) = (
             world.peer(ONE),
@@ -295,7 +293,7 @@ impl Chance {
         *machine == *other_machine
     }
 
-    /// One event.
+    /// Makes one event.
     fn happen(&mut self, alloc: Global, world: &mut World<'_>, event: Event) {
         match answer_to(alloc, world, event) {
             Some(answer) => self.note(event, answer),
@@ -303,7 +301,7 @@ impl Chance {
         }
     }
 
-    /// Counts what an event was answered.
+    /// Counts the answer to an event.
     fn note(&mut self, event: Event, answer: Answer) {
         if let Event::Fail(_, _) = event {
             count(&mut self.counted.fails);
@@ -326,7 +324,7 @@ impl Chance {
 }
 
 impl Counted {
-    /// Counts an answer that a call of the disk failed.
+    /// Counts an answer that says that a call of the disk failed.
     fn note_failure(&mut self, answer: Answer) {
         let failed = DiskError::Failed;
         if answer == Answer::Opened(Err(OpenError::Disk(failed))) {
@@ -345,8 +343,8 @@ impl Counted {
     }
 }
 
-/// A match of one seed: its events, and then the rest of it. Those who stay agree after each hundred
-/// draws and in the end, and so do their machines. None where they don't, or where memory was refused.
+/// Plays a match of one seed to its end. The players who stay, and their machines, agree after each hundred draws and
+/// at the end. `None` if they do not, or if memory was refused.
 fn play(
     alloc: Global,
     game: &Game,
@@ -372,7 +370,7 @@ fn play(
     if chance.refused { None } else { Some(counted) }
 }
 
-/// How many frames are confirmed where most are, if those who stay agree.
+/// Returns the most frames that a player has confirmed, if those who stay agree.
 fn agrees(alloc: Global, world: &World<'_>) -> Option<u32> {
     let ends = world.ends(alloc).ok()?;
     if !ends.agree {
@@ -385,7 +383,7 @@ fn agrees(alloc: Global, world: &World<'_>) -> Option<u32> {
     Some(most)
 }
 
-/// All matches of all games, one after the other.
+/// Plays all matches of all games.
 fn play_all(alloc: Global) -> Result<Counted, Fail> {
     let mut counted = NOTHING;
     for text in &GAMES {
@@ -400,8 +398,8 @@ fn play_all(alloc: Global) -> Result<Counted, Fail> {
     Ok(counted)
 }
 
-/// Two, three and four players, four matches each, with stops, failures of disks, restarts, checkpoints
-/// and, but for one each, a drop round in them. That each kind was met is asked of all together.
+/// Two, three and four players, four matches each, with stops, failures of disks, restarts and checkpoints, and with a
+/// drop round in all but one match of each game. Each kind must occur in one of the matches.
 #[test]
 fn who_stays_agrees(rt: HostRuntime) -> Result<(), Fail> {
     let counted = play_all(rt.alloc())?;

@@ -1,4 +1,4 @@
-//! Disks that have room for few bytes, or serve few calls.
+//! Disks with room for few bytes, or that serve few calls.
 use crate::run::{ONE, TWO, answer_to, ends};
 use c8_disk::DiskError;
 use c8_game::{Game, Keys};
@@ -46,7 +46,7 @@ const FULL: Answer = Answer::Ticked(Err(TickError::Disk(DiskError::Full)));
 /// An opening of an empty disk makes seven calls.
 const SIX_CALLS: [Row; 2] = [(OPEN, NOT_OPENED), (TICK, Answer::Down)];
 
-/// A tick makes four, and the leave after it has one left. After a stop a disk serves as many calls as at first.
+/// A tick makes four, so one is left for the leave after it. After a stop a disk serves as many calls as at first.
 const TWELVE_CALLS: [Row; 7] = [
     (OPEN, NEW),
     (TICK, TICKED),
@@ -63,7 +63,7 @@ const TEN_CALLS: [Row; 2] = [(OPEN, NEW), (TICK, NOT_TICKED)];
 /// The next opening fails, and what was written of the tick is there.
 const TEN_AND_AWAY: [Row; 3] = [(OPEN, NEW), (TICK, NOT_TICKED), (OPEN, NOT_OPENED)];
 
-/// It is stopped, and what was synced is there.
+/// It is stopped, and only what was synced is there.
 const TEN_AND_SYNCED: [Row; 4] = [
     (OPEN, NEW),
     (TICK, NOT_TICKED),
@@ -79,7 +79,7 @@ const TEN_AND_WRITTEN: [Row; 4] = [
     (OPEN, AGAIN),
 ];
 
-/// There is no room for a record with the gate after it.
+/// There is no room for a record and the gate after it.
 const NO_RECORD: [Row; 2] = [(OPEN, NO_ROOM), (TICK, Answer::Down)];
 
 /// There is room for the record of the opening.
@@ -104,12 +104,12 @@ enum Rows {
 
 /// Events over disks of one size.
 struct Played {
-    /// The bytes that each disk has room for.
+    /// The capacity of each disk in bytes.
     room: u32,
-    /// The calls that it serves.
+    /// The calls that each disk serves.
     calls: u32,
     rows: Rows,
-    /// Whether the peer of player 1 is held then, and how many ticks it has: all are confirmed.
+    /// Whether player 1 has a peer then, and how many ticks it has: all are confirmed.
     is_held: bool,
     ticks: u32,
 }
@@ -132,7 +132,7 @@ fn all_played() -> &'static [Played] {
     &PLAYED
 }
 
-/// Where player 1 and player 2 stand after some ticks of player 1, of whom nobody hears.
+/// Returns what players 1 and 2 have after some ticks of player 1, if no datagram is delivered.
 fn after(ticks: u32) -> [Tally; 2] {
     let held = ticks.saturating_add(2);
     [
@@ -149,7 +149,7 @@ fn after(ticks: u32) -> [Tally; 2] {
     ]
 }
 
-/// Whether each event gets its answer.
+/// Returns whether each event gets its answer.
 fn are_answered(alloc: Global, world: &mut World<'_>, rows: &[Row]) -> bool {
     for (event, wanted) in rows {
         if answer_to(alloc, world, *event) != Some(*wanted) {
@@ -159,7 +159,7 @@ fn are_answered(alloc: Global, world: &mut World<'_>, rows: &[Row]) -> bool {
     true
 }
 
-/// Whether each event of a table gets its answer.
+/// Returns whether each event of a table gets its answer.
 fn are_played(alloc: Global, world: &mut World<'_>, rows: Rows) -> bool {
     match rows {
         Rows::SixCalls => are_answered(alloc, world, &SIX_CALLS),
@@ -174,7 +174,7 @@ fn are_played(alloc: Global, world: &mut World<'_>, rows: Rows) -> bool {
     }
 }
 
-/// Whether the events come to what they should.
+/// Returns whether the events end as they should.
 fn goes(alloc: Global, game: &Game, played: &Played) -> bool {
     let Ok(mut world) = World::new(alloc, game, 0, played.room, played.calls) else {
         return false;

@@ -1,6 +1,6 @@
-//! The tests of c8_world that no script of `c8play sim` can say: matches by chance whose machines are compared (`chance`, `rest`), disks
-//! of other sizes (`disks`), memory that is refused (`memory`), and the bytes of what was said (`said`). All else stands in
-//! crates/c8play_cases/data, as cases that begin with `sim_` or `world-`.
+//! The tests of c8_world that no script of `c8play sim` can express: random matches whose machines are compared
+//! (`chance`, `rest`), disks of other sizes (`disks`), refused memory (`memory`), and the bytes of datagrams (`said`).
+//! Everything else is in crates/c8play_cases/data, in cases that begin with `sim_` or `world-`.
 #![tactic(auto)]
 
 #[cfg(test)]

@@ -1,8 +1,7 @@
-//! Memory that is refused inside a run: what happened before stands, and the run goes on from there.
+//! Memory is refused inside a run: the events before have happened, and the run goes on from there.
 //!
-//! With ample memory the run is compared with what it must answer. `rt try --test --fail-alloc N`
-//! refuses the Nth allocation: where that is one of the run's, the test fails by the name `STANDS`, or by
-//! another one where something else was found.
+//! With ample memory the answers of the run are compared. `rt try --test --fail-alloc N` refuses the Nth allocation. If
+//! that is one of the run's, the test fails with the text `STANDS`, or with another one if something else is wrong.
 use crate::run::{ONE, TWO, answers_to, ends};
 use c8_disk::DiskError;
 use c8_game::{Game, Keys};
@@ -20,10 +19,9 @@ const STANDS: &str = "out of memory, and what happened before stands";
 
 const HELLO: Event = Event::Do(Act::Say(ONE, TWO, Kind::Hello));
 
-/// Openings of disks that are empty, that have a record, of peers that are down, and inside a failure
-/// and a stop; and more datagrams than a first allocation has room for. There is room for
-/// four datagrams, then for eight, then for sixteen: the one that is shown to a watcher, the fifth, and the one
-/// that a watcher says, the ninth, want more.
+/// Openings of empty disks, of a disk with a record, of peers that are down, and inside a failure and a stop; and more
+/// datagrams than fit in a first allocation. There is room for four datagrams, then for eight, then for sixteen: the
+/// fifth, which is shown to a watcher, and the ninth, which a watcher sends, need more.
 #[rattlefmt::skip]
 const EVENTS: [Event; 23] = [
     Event::Do(Act::Open(ONE)),
@@ -55,7 +53,7 @@ const NOTHING: Answer = Answer::Delivered(Ok(Heard::Nothing));
 
 const NOT_TICKED: Answer = Answer::Ticked(Err(TickError::Disk(DiskError::Failed)));
 
-/// The answers to them, place by place.
+/// The answers to them, in order.
 #[rattlefmt::skip]
 const ANSWERS: [Answer; 23] = [
     Answer::Opened(Ok(1)),
@@ -83,7 +81,7 @@ const ANSWERS: [Answer; 23] = [
     Answer::Said(Ok(Posted { number: 9, length: 24 })),
 ];
 
-/// Where both stand in the end.
+/// What both players have at the end.
 #[rattlefmt::skip]
 const ENDS: [Tally; 2] = [
     Tally { now: 2, confirmed: 0, held: [2, 0, 0, 0] },
@@ -94,12 +92,12 @@ fn wanted() -> &'static [Answer] {
     &ANSWERS
 }
 
-/// Whether these are the answers to the events from a place on.
+/// Returns whether these are the answers to the events from a place on.
 fn are_wanted(answers: &[Answer], from: usize) -> bool {
     wanted().get(from..from.saturating_add(answers.len())) == Some(answers)
 }
 
-/// How many events happened before memory was refused, each with its answer: all of them if it was not. None after another answer.
+/// Runs the events. Returns how many happened before memory was refused, or all of them; `None` if an answer is wrong.
 fn run_all(alloc: Global, world: &mut World<'_>) -> Option<usize> {
     let answers = match world.run(alloc, &EVENTS) {
         Ok(report) => report.answers,
@@ -112,8 +110,8 @@ fn run_all(alloc: Global, world: &mut World<'_>) -> Option<usize> {
     }
 }
 
-/// Whether the events from a place on get their answers, and both players then stand where all events bring them: those before have
-/// happened, once, and the one at that place has left nothing.
+/// Returns whether the events from a place on get their answers, and whether both players then have what all events
+/// give them: the earlier events have happened once, and the one at that place has left nothing behind.
 fn goes_on(alloc: Global, world: &mut World<'_>, from: usize) -> bool {
     let Some(rest) = EVENTS.get(from..) else {
         return false;

@@ -1,23 +1,23 @@
-//! The rest of a match, whatever came before: each peer is opened, all meet, a drop round that has begun ends, and all enter key sets
-//! and hear of each other's.
+//! The end of a match, whatever came before: each peer is opened, all meet, a drop round that has begun ends, and all
+//! enter key sets and exchange them.
 use crate::run::{ONE, TWO, answer_to};
 use c8_game::{Keys, Player};
 use c8_peer::Kind;
 use c8_world::{Act, Event, World};
 use std::alloc::Global;
 
-/// What each player enters in the whole match, but for what it entered before.
+/// What each player enters in the whole match, except what it entered before.
 const KEYS: [u16; 6] = [0x0011, 0x0122, 0x1024, 0x0220, 0x2002, 0x0131];
 
-/// All players that a match can have.
+/// The players that a match can have.
 const PLAYERS: [Player; 4] = [ONE, TWO, Player { number: 3 }, Player { number: 4 }];
 
-/// Does something, whatever the answer is.
+/// Performs an act, whatever the answer is.
 fn does(alloc: Global, world: &mut World<'_>, act: Act) {
     let _answer = answer_to(alloc, world, Event::Do(act));
 }
 
-/// A player says something to another one, who hears it at once, if it may be said.
+/// A player sends a datagram to another one, if it may, and it is delivered at once.
 fn tell(alloc: Global, world: &mut World<'_>, from: Player, to: Player, kind: Kind) {
     let number = world.said();
     does(alloc, world, Act::Say(from, to, kind));
@@ -26,7 +26,7 @@ fn tell(alloc: Global, world: &mut World<'_>, from: Player, to: Player, kind: Ki
     }
 }
 
-/// Each player says it to each other one.
+/// Each player sends it to each other one.
 fn all_tell(alloc: Global, world: &mut World<'_>, kind: Kind) {
     for from in &PLAYERS {
         for to in &PLAYERS {
@@ -58,13 +58,13 @@ fn enter(alloc: Global, world: &mut World<'_>) {
     }
 }
 
-/// How many key sets a player has entered.
+/// Returns how many key sets a player has entered.
 fn ticks(world: &World<'_>, player: Player) -> Option<usize> {
     let peer = world.peer(player)?;
     usize::try_from(peer.now()).ok()
 }
 
-/// The rest of a match in which one player may have been dropped.
+/// Ends a match in which one player may have been dropped.
 pub(crate) fn go_on(alloc: Global, world: &mut World<'_>, leaver: Player) {
     for player in &PLAYERS {
         does(alloc, world, Act::Open(*player));

@@ -1,4 +1,4 @@
-//! Events and their answers, and where two players stand.
+//! Runs events, and gives what two players have at the end.
 use c8_game::Player;
 use c8_world::{Answer, Event, RunError, Tally, World};
 use std::alloc::Global;
@@ -7,7 +7,7 @@ pub(crate) const ONE: Player = Player { number: 1 };
 
 pub(crate) const TWO: Player = Player { number: 2 };
 
-/// The answers to some events. None if memory is refused.
+/// Returns the answers to some events; `None` if memory is refused.
 pub(crate) fn answers_to(
     alloc: Global,
     world: &mut World<'_>,
@@ -19,7 +19,7 @@ pub(crate) fn answers_to(
     }
 }
 
-/// The answer to one event. None if memory is refused.
+/// Returns the answer to one event; `None` if memory is refused.
 pub(crate) fn answer_to(alloc: Global, world: &mut World<'_>, event: Event) -> Option<Answer> {
     match answers_to(alloc, world, &[event]) {
         Some(answers) => answers.first().copied(),
@@ -27,7 +27,7 @@ pub(crate) fn answer_to(alloc: Global, world: &mut World<'_>, event: Event) -> O
     }
 }
 
-/// Where the players of a match of two stand, if they agree.
+/// Returns what the two players of a match have, if they agree.
 pub(crate) fn ends(alloc: Global, world: &World<'_>) -> Option<[Tally; 2]> {
     let ends = world.ends(alloc).ok()?;
     match ends.players.as_slice() {

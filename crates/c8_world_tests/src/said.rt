@@ -1,4 +1,4 @@
-//! The bytes of what was said: all datagrams are kept, whatever their number.
+//! The bytes of datagrams: all that were sent are kept, however many they are.
 use crate::run::{ONE, TWO, answers_to};
 use c8_game::Game;
 use c8_peer::Kind;
@@ -10,14 +10,15 @@ use std::test::Fail;
 const GAME: &[u8] =
     b"players 2\nipf 10\nframes 100\ndelay 0\nwindow 1\nseed 0\nmask1 000f\nmask2 fff0\ncode 1200\n";
 
-/// HELLO from one of the two to the other, in room 7 and epoch 1, where the other's is unknown.
+/// HELLO from one player to the other, in room 7 and epoch 1, with the other's epoch unknown.
 const HELLO_OF_ONE: &[u8] =
     b"\x43\x38\x01\x01\x6d\x05\x0b\xae\xdf\x4a\xbc\x06\x01\x02\0\0\0\0\0\x01\0\0\0\0";
 
 const HELLO_OF_TWO: &[u8] =
     b"\x43\x38\x01\x01\x6d\x05\x0b\xae\xdf\x4a\xbc\x06\x02\x01\0\0\0\0\0\x01\0\0\0\0";
 
-/// An event happens 150 times in one run. Whether each answer is that a HELLO was said, the first with this number.
+/// Runs an event 150 times in one run. Returns whether each answer is that a HELLO was sent, the first with this
+/// number.
 fn are_said(alloc: Global, world: &mut World<'_>, event: Event, from: u64) -> bool {
     match answers_to(alloc, world, &[event; 150]) {
         Some(answers) => answers.len() == 150 && have_numbers(&answers, from),
@@ -25,7 +26,7 @@ fn are_said(alloc: Global, world: &mut World<'_>, event: Event, from: u64) -> bo
     }
 }
 
-/// Whether each answer is that a HELLO was said, with the next number.
+/// Returns whether each answer is that a HELLO was sent, with the next number.
 fn have_numbers(answers: &[Answer], from: u64) -> bool {
     let mut number = from;
     for answer in answers {
@@ -37,7 +38,7 @@ fn have_numbers(answers: &[Answer], from: u64) -> bool {
     true
 }
 
-/// Whether the datagrams of these numbers have these bytes.
+/// Returns whether the datagrams with these numbers have these bytes.
 fn are(world: &World<'_>, from: u64, to: u64, bytes: &[u8]) -> bool {
     for number in from..to {
         match world.datagram(number) {
@@ -48,7 +49,7 @@ fn are(world: &World<'_>, from: u64, to: u64, bytes: &[u8]) -> bool {
     true
 }
 
-/// Both are opened, and say HELLO 150 times each.
+/// Opens both peers, and sends 150 HELLOs from each.
 fn say_all(alloc: Global, world: &mut World<'_>) -> bool {
     let open = [Event::Do(Act::Open(ONE)), Event::Do(Act::Open(TWO))];
     let hello = Event::Do(Act::Say(ONE, TWO, Kind::Hello));

@@ -1,4 +1,4 @@
--- Checked, not believed: how a token has what clauses see of it.
+-- Checked, not believed: how a token stands for what clauses see of it.
 use Rattle.std.specs.Prelude.{◌≡◌, [], List}
 use Rattle.atomic_table.specs.Table.{Me}
 use Rattle.atomic_table.specs.Seated.{TableId}
@@ -11,14 +11,14 @@ use Rattle.c8_board.specs.declared.views.View.TheVariants.{Blank, Alone, Joined,
 use Rattle.c8_board.specs.Starts.{StartValue}
 use Rattle.c8_board.specs.Tokens.{PenValue, ViewerValue, new_viewer}
 
--- the seat is a pen's, or a viewer's, and holds no slot
+-- the seat is a pen's, or a viewer's, and has no slot
 abbrev pub IsPen : {S : Type 0} → Me S View → Type 0
 IsPen {S} me = (game : Rules) × (from : StartValue) × (rows : List Row) × (me ≡ (Alone game from rows, []))
 
 abbrev pub IsViewer : {S : Type 0} → Me S View → Type 0
 IsViewer {S} me = (w : Watch) × (me ≡ (Watching w, []))
 
--- the rules of no game and no start, for views that no token has
+-- a value for views that no token has: no game and no start
 abbrev pub no_game : Rules
 no_game = record { players = 0; ipf = 0; frames = 0; delay = 0; window = 0; seed = 0; wire = One; masks = []; program = [] }
 

@@ -1,4 +1,4 @@
--- Checked, not believed: where a run of the machine may begin.
+-- Checked, not believed: where a run of the machine begins.
 use Rattle.std.proofs.Common.{◌≡◌, ℕ, zero, suc, ◌+◌, ◌*◌, ◌<◌, ◌^◌, List, [], ◌∷◌, length, map, take, drop, Some, refl, sym, subst, ◌∙◌, arith}
 use Rattle.std.specs.Prelude.{slice_index}
 use Rattle.std.specs.List.{slice_get, range_with_len}
@@ -30,7 +30,7 @@ drop_low (x ∷ xs) (suc n) bound low i = drop_low xs n bound (λ j. low (suc j)
 
 -- ---- marks
 
--- the mark of a machine is one of its frame
+-- the mark of a machine, as a mark of a frame
 pub mark_is_one : (frame : ℕ) (s : State) → IsMarkAt frame (record { frame = frame; mark = mark_of s })
 mark_is_one frame s = record {
   frame_is = refl;
@@ -38,7 +38,7 @@ mark_is_one frame s = record {
   bytes = take_low (sha256 (state_bytes s)) 8 (2 ^ 8) (digest_bytes_fit (state_bytes s));
 }
 
--- what is read of 128 bytes are marks
+-- 128 bytes read as marks give marks as they are kept
 pub marks_read : (frames : ℕ) (bytes : List ℕ) → length bytes ≡ 128 → ((i : ℕ) → slice_index bytes i < 2 ^ 8) → AreMarksAfter frames (marks_in frames bytes)
 unfolding marks_in
 marks_read frames bytes long low =

@@ -5,7 +5,7 @@ use Rattle.c8_screen.specs.Points.{points_of}
 use Rattle.c8_machine.specs.declared.machine.parts.Parts.{Parts}
 use Rattle.c8_digest.specs.Reading.{part_at, place_at, waits_in, stop_in, screen_in}
 
--- each part is what stands in its place
+-- each part is what the bytes have at its place
 pub record AreRead (bytes : List ℕ) (p : Parts) : Type 0 where
   pub memory : p.memory ≡ part_at 0 4096 bytes
   pub registers : p.registers ≡ part_at 4096 16 bytes

@@ -6,7 +6,7 @@ use Rattle.c8_disk.specs.Disk.{DiskCall, Reading, Writing, Syncing}
 use Rattle.c8_disk.specs.checked.RunLaws.{leads_then}
 use Rattle.c8_disk.specs.Asks.{Answer, Run, Nothing, Write, Sync, Reads, After, Then, Asks}
 
--- reads that were all served, and more of them
+-- served reads, and more reads after them
 reads_join : (some more : ℕ) (first rest : List DiskCall) (answer : Answer) → Reads some first (Ok tt) → Reads more rest answer → Reads (some + more) (first ++ rest) answer
 reads_join zero more first rest answer none reads =
     let many : more ≡ zero + more = omega arith in
@@ -20,7 +20,7 @@ reads_join (suc some) more (Reading at count result ∷ first) rest answer (inr 
 reads_join (suc some) more (Writing at bytes result ∷ first) rest answer served reads = absurd served
 reads_join (suc some) more (Syncing result ∷ first) rest answer served reads = absurd served
 
--- where one of them is refused, as many more were to come
+-- a refused run of reads is a refused run of more reads too
 reads_cut : (few most : ℕ) (calls : List DiskCall) (why : DiskError) → few ≤ most → Reads few calls (Err why) → Reads most calls (Err why)
 reads_cut zero most calls why le none = absurd (cc none.1)
 reads_cut (suc few) zero calls why le reads = absurd (omega (arith, le))
@@ -35,7 +35,7 @@ one_read at count (Ok found) = inl (refl, (refl, refl))
 one_read at count (Err why) = inr (why, refl, refl, refl)
 
 module _ {D : Type 0} (g : Ghosts D) where
-  -- nothing, and one call
+  -- no call, and one call
   pub asks_nothing : (disk : D) → Asks g Nothing (Ok tt) disk disk
   asks_nothing disk = record { calls = []; led = refl; is = (refl, refl) }
 
@@ -45,7 +45,7 @@ module _ {D : Type 0} (g : Ghosts D) where
   pub asks_sync : (old new : D) (told answer : Answer) → told ≡ answer → g.does old (Syncing told) new → Asks g Sync answer old new
   asks_sync old new told answer same does = record { calls = Syncing told ∷ []; led = (new, does, refl); is = ap (λ (a : Answer). Syncing a ∷ []) same }
 
-  -- no read, one, and more of them
+  -- no read, one read, and more reads
   pub asks_no_read : (disk : D) → Asks g (Reads 0) (Ok tt) disk disk
   asks_no_read disk = record { calls = []; led = refl; is = (refl, refl) }
 
@@ -62,7 +62,7 @@ module _ {D : Type 0} (g : Ghosts D) where
   pub asks_cut : (old new : D) (few most : ℕ) (why : DiskError) → few ≤ most → Asks g (Reads few) (Err why) old new → Asks g (Reads most) (Err why) old new
   asks_cut old new few most why le reads = record { calls = reads.calls; led = reads.led; is = reads_cut few most reads.calls why le reads.is }
 
-  -- one run after another, and one that is refused before the other
+  -- one run after another, and a refused run in place of both
   pub asks_after : (P Q : Run) (old mid new : D) (answer : Answer) → Asks g P (Ok tt) old mid → Asks g Q answer mid new → Asks g (After P Q) answer old new
   asks_after P Q old mid new answer first second = record {
     calls = first.calls ++ second.calls;
@@ -77,6 +77,6 @@ module _ {D : Type 0} (g : Ghosts D) where
   pub asks_refused : (P Q : Run) (old new : D) (why : DiskError) → Asks g P (Err why) old new → Asks g (Then P Q) (Err why) old new
   asks_refused P Q old new why first = record { calls = first.calls; led = first.led; is = inr (why, refl, first.is) }
 
-  -- what is answered may be told otherwise
+  -- an equal answer may take the place of the answer
   pub asks_as : (P : Run) (old new : D) (told answer : Answer) → told ≡ answer → Asks g P told old new → Asks g P answer old new
   asks_as P old new told answer same asks = subst (λ (a : Answer). Asks g P a old new) same asks

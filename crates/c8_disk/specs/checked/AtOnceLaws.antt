@@ -1,4 +1,4 @@
--- Checked, not believed: the images are those that are said at once, each of them and no other.
+-- Checked, not believed: the images are exactly those that `AtOnce.antt` gives.
 use Rattle.std.proofs.Common.{◌≡◌, inl, inr, ◌≤◌, ◌<◌, ℕ, suc, ◌+◌, ◌-◌, min, max, nat_le, nat_lt, ◌&&◌, ◌||◌, Bool, true, false, List, [], ◌∷◌, ◌++◌, length, take, drop, get_or, slice_index, refl, sym, ◌∙◌, ap, subst, arith, take-append-drop, length-take, length-take-le, length-drop}
 use Rattle.std.proofs.lemmas.Bool.{cases_Bool, cases_lt, cond-true, cond-false, leb-true, ltb-true, ltb-false, or_parts, and_from, and_parts, le-leb, lt-ltb, true≢false}
 use Rattle.std.proofs.lemmas.List.{get_or-take, get_or-drop, get_or_append_left, ext_get_or}
@@ -29,7 +29,7 @@ both_false : (a b : Bool) → a ≡ false → b ≡ false → (a || b) ≡ false
 both_false false b p q = q
 both_false true b p q = absurd (true≢false p)
 
--- the image has the bytes of the last sync where nothing was touched
+-- the image has the bytes of the last sync wherever no write touched it
 record Agrees (base : List ℕ) (touched : ℕ → Bool) (image : List ℕ) : Type 0 where
   no_shorter : length base ≤ length image
   same : (i : ℕ) → i < length base → touched i ≡ false → slice_index image i ≡ slice_index base i
@@ -55,7 +55,7 @@ agrees base bytes touched images (Write at count written ∷ calls) image none s
     }
 agrees base bytes touched images (Sync ∷ calls) image none so left = absurd none
 
--- after the last sync there is one image
+-- after the last sync there is only one image
 after_sync : (images : List ℕ → Type 0) (bytes : List ℕ) (calls : List Call) (image : List ℕ) → 0 < synced_count calls → Leaves images bytes (take (synced_count calls) calls) image → image ≡ content bytes (take (synced_count calls) calls)
 after_sync images bytes [] image some left = absurd (omega arith)
 after_sync images bytes (Write at count written ∷ calls) image some left = elim (cases_Bool (nat_lt 0 (synced_count calls))) [
@@ -94,10 +94,10 @@ between first calls image lawful left =
     let is = at_sync first calls l old in record { no_shorter = omega (arith, ap length is); same = λ i lt none. ap (λ (b : List ℕ). slice_index b i) is }) split in
     record { no_shorter = here.no_shorter; no_longer = image_within first calls image lawful left; same = here.same }
 
--- Now the other way: from what was last synced, each write tears so much of it into the image as its range has.
+-- The other direction: from what was last synced, each write is torn so that its range becomes the image's.
 
--- what was torn so far is as long as the image, or as what a read gives, and it has the image's bytes where nothing is still
--- to be touched
+-- what is torn so far has the length of the image or of what a read gives, whichever is less, and the image's bytes
+-- wherever no later write touches it
 record IsTornTo (image bytes : List ℕ) (touched : ℕ → Bool) (base : List ℕ) : Type 0 where
   size : length base ≡ min (length image) (length bytes)
   same : (i : ℕ) → i < length base → touched i ≡ false → slice_index image i ≡ slice_index base i
@@ -113,7 +113,7 @@ not_before at count i lt = elim (cases_Bool (is_in_range at count i)) [
   | inr out ↦ out
 ]
 
--- a write that begins past the end changes nothing
+-- a write that begins beyond the end so far changes nothing
 nothing_torn : (image bytes new base : List ℕ) (touched : ℕ → Bool) (at count : ℕ) → at ≤ length bytes → length new ≡ max (length bytes) (at + count) → length base < at
     → IsTornTo image bytes (λ i. is_in_range at count i || touched i) base → TornOn image new touched at count base
 nothing_torn image bytes new base touched at count begins grown past so = record {
@@ -125,7 +125,7 @@ nothing_torn image bytes new base touched at count begins grown past so = record
   };
 }
 
--- another one writes what the image has there
+-- any other write writes what the image has in its range
 image_torn : (image bytes new base : List ℕ) (touched : ℕ → Bool) (at count : ℕ) → at ≤ length bytes → length new ≡ max (length bytes) (at + count) → at ≤ length base
     → IsTornTo image bytes (λ i. is_in_range at count i || touched i) base → TornOn image new touched at count base
 image_torn image bytes new base touched at count begins grown within so =

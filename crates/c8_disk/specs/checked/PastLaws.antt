@@ -1,4 +1,4 @@
--- Checked, not believed: the laws of the trait, at a disk that keeps what it held at first and each call.
+-- Checked, not believed: the laws of the trait, for a disk that keeps what it held at first and each call.
 use Rattle.std.proofs.Common.{◌≡◌, inl, inr, ◌≤◌, nat_le, nat_lt, ◌&&◌, ℕ, suc, true, List, [], ◌∷◌, ◌++◌, length, take, drop, refl, sym, ◌∙◌, ap, subst, arith, length-take-le}
 use Rattle.std.proofs.lemmas.Bool.{cases_Bool, and_parts, and_from, leb-true, ltb-false, cond-true, cond-false}
 use Rattle.std.proofs.lemmas.List.{take_all}
@@ -31,7 +31,7 @@ counts first calls t image le left =
 pub only : (first : List ℕ) (calls : List Call) (image : List ℕ) → LeftSince first calls (length calls) image → IsImage first calls image
 only first calls image left = subst (λ (l : List Call). IsImage first l image) (take_all left.0 calls left.1) left.3
 
--- the calls before, and those after
+-- earlier calls, and later ones
 pub content-append : (bytes : List ℕ) (xs ys : List Call) → content bytes (xs ++ ys) ≡ content (content bytes xs) ys
 content-append bytes [] ys = refl
 content-append bytes (Write at count written ∷ xs) ys = content-append (overwritten bytes at (take count written)) xs ys
@@ -61,7 +61,7 @@ lawful_front bytes (Write at count written ∷ xs) ys lawful =
     and_from _ _ parts.0 (lawful_front (overwritten bytes at (take count written)) xs ys parts.1)
 lawful_front bytes (Sync ∷ xs) ys lawful = lawful_front bytes xs ys lawful
 
--- behind the last sync there is none
+-- there is no call after the last sync
 abbrev pub none_synced : List Call → Type 0
 none_synced [] = Unit {0}
 none_synced (Write at count written ∷ calls) = none_synced calls

@@ -32,18 +32,18 @@ module _ (old : List ℕ) (at : ℕ) (bytes : List ℕ) (within : at ≤ length 
         length-drop (at + length bytes) old,
       )
 
-  -- a whole write is one way in which a write may be torn
+  -- a whole write counts as a torn one
   pub overwritten_is_torn : Torn at (length bytes) old (overwritten old at bytes)
   overwritten_is_torn = record { before = overwritten_front; after = overwritten_back; no_shorter = omega (arith, length-overwritten); no_longer = omega (arith, length-overwritten) }
 
   pub overwritten_is : IsOverwritten at bytes old (overwritten old at bytes)
   overwritten_is = record { before = overwritten_front; here = overwritten_rest; size = length-overwritten; torn = overwritten_is_torn }
 
--- and so is none
+-- and so does no write
 pub untouched : (at count : ℕ) (bytes : List ℕ) → Torn at count bytes bytes
 untouched at count bytes = record { before = refl; after = refl; no_shorter = omega arith; no_longer = omega arith }
 
--- a wider write may do as much
+-- a wider write can do the same
 pub torn_wider : (at less more : ℕ) (old new : List ℕ) → less ≤ more → Torn at less old new → Torn at more old new
 torn_wider at less more old new le torn =
     let steps : drop (at + more) new ≡ drop (at + more) old = further torn.after in

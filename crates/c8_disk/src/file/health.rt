@@ -1,9 +1,9 @@
-//! Whether a disk in a file still answers.
+//! Whether a disk in a file is down.
 ghost use Rattle.std.specs.Prelude.{◌≡◌, ◌+◌, true, length};
 
 use crate::GhostList;
 
-/// It goes down with the first call that fails, for good.
+/// The state of a disk: it goes down with the first call that fails, and stays down.
 #[derive(Drop)]
 pub(crate) struct Health {
     pub(crate) is_down: bool,
@@ -11,7 +11,7 @@ pub(crate) struct Health {
 }
 
 impl Health {
-    /// Counts a failure, and goes down.
+    /// Counts a failure, and takes the disk down.
     pub(crate) fn fail(&mut self)
         ensures down { self.new.is_down ≡ true }
         ensures failures { length self.new.failures.items ≡ length self.old.failures.items + 1 }

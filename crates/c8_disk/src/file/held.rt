@@ -1,4 +1,4 @@
-//! What a file held when it was opened as a disk, and what was done to it since.
+//! The bytes of a file when it was opened as a disk, and the calls since.
 ghost use Rattle.std.specs.Prelude.{◌≡◌, ◌≤◌, ◌<◌, ◌+◌, ◌^◌, [], ◌∷◌, ◌++◌, true, length, vec_len, vec_capacity};
 ghost use Rattle.c8_disk.specs.Disk.{overwritten, longest_write, Tears, AddsNone, Only, Elapses};
 ghost use Rattle.c8_disk.specs.Past.{content, are_lawful, AddsWrite};
@@ -8,8 +8,7 @@ use crate::bytes::overwrite;
 use crate::call::{Call, write_call};
 use std::snapshot::Snapshot;
 
-/// The bytes that a file is known to hold, in room that was reserved, and the calls that made them
-/// of the first ones.
+/// The bytes that the file is known to hold, in reserved room, and the calls that led there from the first bytes.
 #[derive(Drop)]
 pub(crate) struct Held {
     pub(crate) bytes: Vec<u8>,
@@ -43,7 +42,7 @@ impl Held {
         }
     }
 
-    /// Notes a write. It counts as whole or torn, so also where the file's own write fails.
+    /// Notes a write. It counts as whole or torn, so it is noted even if the write to the file fails.
     pub(crate) fn note_write(&mut self, at: u32, bytes: &[u8])
         requires place { at ≤ length self.old.bytes.items }
         requires short { length bytes.now ≤ longest_write }
@@ -60,7 +59,7 @@ impl Held {
         self.calls = self.calls.and(&write_call(at, bytes));
     }
 
-    /// Notes a sync that was done.
+    /// Notes a sync that succeeded.
     pub(crate) fn note_sync(&mut self)
         ensures bytes { self.new.bytes.items ≡ self.old.bytes.items }
         ensures room { self.new.room ≡ self.old.room }

@@ -1,28 +1,28 @@
-//! What a disk in a file asks of the operating system.
+//! The calls of the operating system that a disk in a file makes.
 use std::fs::{self, File};
 use std::io;
 use std::os::fd::AsRawFd;
 use std::os::unix::fs::FileExt;
 use std::rt::Files;
 
-/// An open file, by the calls that a disk in it makes. [`crate::FileDisk::over`] makes a disk of
-/// any: of another file layer than the operating system's, and in tests of one that lets each of
-/// these fail. Bytes are read and written by [`FileExt`].
+/// An open file, with the calls that a disk makes. [`crate::FileDisk::over`] makes a disk of any such file: of another
+/// file layer than the operating system's, or of a test file whose calls can fail. [`FileExt`] reads and writes its
+/// bytes.
 pub trait SystemFile: FileExt + Drop {
-    /// How many bytes it has. What is no regular file has no length.
+    /// Returns how many bytes it has. Fails if it is not a regular file.
     fn len(&self) -> io::Result<u64>;
 
-    /// Keeps every other open of the file out, as long as this one lasts.
+    /// Takes the lock of the file. No other opening of the file can take it as long as this one lasts.
     fn try_lock(&self) -> io::Result<()>;
 
-    /// Makes its bytes and its length durable, and all else that is known of it.
+    /// Makes its bytes, its length and its other metadata durable.
     fn sync_all(&self) -> io::Result<()>;
 
     /// Makes its bytes and its length durable.
     fn sync_data(&self) -> io::Result<()>;
 
-    /// Drops the system's copies of the file's bytes in memory, but for those that are still to be
-    /// made durable: the next read is of the device.
+    /// Drops the system's cache of the file's bytes, except those that are not durable yet: the next read is from the
+    /// device.
     fn drop_copies(&self) -> io::Result<()>;
 
     /// Makes the file's name durable in its folder.
@@ -37,14 +37,14 @@ pub struct OpenedFile {
 }
 
 impl OpenedFile {
-    /// Opens the file at this path to read and to write, and makes it if there is none.
+    /// Opens the file at this path to read and write, and makes it if there is none.
     pub fn open<R: Files<File = File> + AllocGlobal>(rt: &R, path: &str) -> io::Result<OpenedFile> {
         let file = File::options()
             .read(true)
             .write(true)
             .create(true)
             .open(rt, path)?;
-        // The name that is to be durable stands where a link leads.
+        // A link is followed first: the name to make durable is that of the file itself.
         let mut folder = fs::canonicalize(rt, path)?;
         folder.pop();
         let folder = File::open(rt, folder.as_str())?;

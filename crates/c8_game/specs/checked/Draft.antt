@@ -1,5 +1,5 @@
--- What a draft of a game holds of the lines so far. Only contracts of private functions cite this file: no reader has to
--- believe it.
+-- What a draft of a game holds of the lines so far. Only contracts of private functions cite this file; a reader need
+-- not believe it.
 use Rattle.std.specs.Prelude.{◌≡◌, ℕ, List, [], ◌∷◌, ◌++◌, ◌⊎◌, Some, None, slice_index_or, Result, MatchResult}
 use Rattle.std.specs.List.{AllZip}
 use Rattle.std.specs.Str.Lines.{lines}
@@ -27,7 +27,7 @@ AddsLine old new line result =
     → MatchResult result (λ _. (line_fault before line ≡ None) × ((item : Item) × Says line item × Holds new (items ++ item ∷ [])))
     (λ e. (e ≡ Memory) ⊎ (line_fault before line ≡ Some e))
 
--- the first number that the items have for a field, or that of a field that the lines don't say
+-- the first number that the items have for a field, else what the field has without a line
 abbrev pub first_for : List Item → Field → ℕ
 first_for items field = slice_index_or (numbers_for field items) 0 (untold_number field)
 
@@ -43,7 +43,7 @@ pub record AreFirst (items : List Item) (rules : Rules) : Type 0 where
   pub masks : rules.masks ≡ first_for items Mask1 ∷ first_for items Mask2 ∷ first_for items Mask3 ∷ first_for items Mask4 ∷ []
   pub program : rules.program ≡ code_of items
 
--- the items became a game, or the fault that shows after the last line was found
+-- the items became a game, or the fault that is found after the last line was found
 abbrev pub Finishes : Draft → Result Rules GameError → Type 0
 Finishes draft result =
     (items : List Item) → Holds draft items

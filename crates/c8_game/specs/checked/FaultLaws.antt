@@ -1,4 +1,4 @@
--- Checked, not believed: how the first fault of lines is found, line after line, and that there is one at most.
+-- Checked, not believed: how the first fault is found line by line, and that there is at most one.
 use Rattle.std.proofs.Common.{◌≡◌, ℕ, zero, suc, ◌<◌, ◌≤◌, ◌⊎◌, List, [], ◌∷◌, ◌++◌, length, Option, Some, None, refl, sym, ap, ◌∙◌, inl, inr, append_assoc, length-append, arith}
 use Rattle.std.specs.List.{slice_get}
 use Rattle.std.proofs.lemmas.Bool.{cases_lt}
@@ -21,7 +21,7 @@ none_or_some None = inl refl
 none_or_some (Some x) = inr (x, refl)
 
 module _ {E : Type 0} (judge : List (List ℕ) → List ℕ → Option E) where
-  -- lines that follow change nothing of the faults of the lines before
+  -- lines that follow do not change the faults of the lines before
   pub fault_at-left : (before after : List (List ℕ)) (place : ℕ) → place < length before → fault_at judge (before ++ after) place ≡ fault_at judge before place
   fault_at-left before after place within = rw (slice_get-left before after place within, take-append-le place before after (omega arith)) refl
 
@@ -57,7 +57,7 @@ module _ {E : Type 0} (judge : List (List ℕ) → List ℕ → Option E) where
   unfolding first_found
   first_placed before line after fault faultless bad = (first_found before line after fault faultless bad, refl)
 
-  -- of faultless lines each is one, given those before it
+  -- each of faultless lines is faultless, given those before it
   pub faultless_line : (before : List (List ℕ)) (line : List ℕ) (after : List (List ℕ)) → AreFaultless judge (before ++ line ∷ after) → judge before line ≡ None
   faultless_line before line after faultless = sym (fault_at-seam before line after) ∙ faultless (length before)
 

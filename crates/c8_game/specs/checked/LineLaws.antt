@@ -11,6 +11,6 @@ of_parts ([] ∷ []) = omega arith
 of_parts ((byte ∷ part) ∷ []) = grind arith
 of_parts (part ∷ next ∷ more) = omega (arith, of_parts (next ∷ more))
 
--- not more than it has bytes, and one
+-- at most one more than it has bytes
 pub few_lines : (text : List ℕ) → length (lines text) ≤ length text + 1
 few_lines text = omega (arith, of_parts (slice_split (λ b. b == 10) text), length-slice_split (λ b. b == 10) text, count_by-le-length (λ b. b == 10) text)

@@ -1,5 +1,5 @@
--- Where a draft keeps the number of a field. Only contracts of private functions cite this file: no reader has to believe
--- it.
+-- Where a draft keeps the number of a field. Only contracts of private functions cite this file; a reader need not
+-- believe it.
 use Rattle.std.specs.Prelude.{ℕ, List, [], ◌∷◌, Option, Some, None, unwrap_or, slice_index_or}
 use Rattle.c8_game.specs.declared.text.field.Field.{Field}
 use Rattle.c8_game.specs.Fields.{default_of}
@@ -23,11 +23,11 @@ index_of Mask4 = 10
 abbrev pub number_at : List (Option ℕ) → Field → Option ℕ
 number_at values field = slice_index_or values (index_of field) None
 
--- the number of a field that the lines don't say: its default, 0 if it has none
+-- the number of a field without a line: its default, or 0 if it has none
 abbrev pub untold_number : Field → ℕ
 untold_number field = unwrap_or (default_of field) 0
 
--- the number that a draft has for a field, or that of a field that the lines don't say
+-- the number that a draft has for a field, else what the field has without a line
 abbrev pub told_by : List (Option ℕ) → Field → ℕ
 told_by values field = unwrap_or (number_at values field) (untold_number field)
 

@@ -1,4 +1,4 @@
-//! A game in the making: what the lines so far say.
+//! A game that is being read: what the lines so far say.
 ghost use Rattle.std.specs.Prelude.{ℕ, ◌≡◌, ◌<◌, ◌^◌, ◌≤◌, ◌⊎◌, ◌++◌, ◌∷◌, ◌&&◌, true, false, not, [], Some, None, OnOk, IfErr, IfOk, IsSome, IsTrue, MatchResult, IfNone, IfSome, is_none, is_some, is_ok, nat_lt, nat_le, unwrap_or, slice_index, slice_set};
 ghost use Rattle.std.specs.List.{list_any};
 ghost use Rattle.std.specs.Option.{ForSome};
@@ -22,7 +22,7 @@ use crate::text::value::{is_decimal, number};
 use crate::wire::WireVersion;
 use std::alloc::Global;
 
-/// What the lines so far say: a number for each field that they name, and the program's bytes.
+/// What the lines so far say: a number for each field that they name, and the bytes of the program.
 #[derive(Drop)]
 pub struct Draft {
     values: [Option<u64>; 11],
@@ -35,7 +35,7 @@ impl Draft {
     ghost use Rattle.c8_game.specs.Fields.{number_of};
     ghost use Rattle.c8_game.specs.checked.Draft.{Holds, AddsLine, Finishes};
 
-    /// A draft before its first line.
+    /// Makes a draft without lines.
     pub fn new(alloc: Global) -> Self
         ensures { Holds result [] }
     {
@@ -45,7 +45,7 @@ impl Draft {
         }
     }
 
-    /// Adds one more line. After an error the draft is of no more use.
+    /// Adds one line. After an error the draft must not be used.
     pub fn add(&mut self, alloc: Global, line: &[u8]) -> Result<(), GameError>
         ensures { AddsLine self.old self.new line.now result }
     {
@@ -100,7 +100,7 @@ impl Draft {
         Ok(())
     }
 
-    /// The game that the lines say, now that there are no more.
+    /// Makes the game, after the last line.
     pub fn finish(self) -> Result<Game, GameError>
         ensures { Finishes self result }
     {
@@ -145,14 +145,14 @@ impl Draft {
         ]
     }
 
-    /// A field's number, if the lines say it.
+    /// Returns a field's number, if the lines have it.
     fn value(&self, field: Field) -> Option<u64>
         ensures { result ≡ number_at self.now.values field }
     {
         self.values[field.index()]
     }
 
-    /// A field's number; if the lines don't say it, its default, 0 if it has none.
+    /// Returns a field's number; without a line for it its default, or 0 if it has none.
     fn told(&self, field: Field) -> u64
         ensures value { result ≡ told_by self.now.values field }
         ensures least { IsSome (number_at self.now.values field) → least_of field ≤ result }
@@ -162,7 +162,7 @@ impl Draft {
         self.value(field).or(field.default_number()).unwrap_or(0)
     }
 
-    /// Whether a field without a default that every game of this many players has is missing.
+    /// Returns whether a field is missing that has no default and that a game of this many players needs.
     fn lacks(&self, players: u64) -> bool
         ensures { result ≡ list_any (λ field.
             nat_le (owner_of field) players && is_none (default_of field)
@@ -174,7 +174,7 @@ impl Draft {
         })
     }
 
-    /// Whether there is a mask of a player past this number of players.
+    /// Returns whether there is a mask for a player beyond this number of players.
     fn strays(&self, players: u64) -> bool
         ensures { result ≡ list_any (λ field.
             nat_lt players (owner_of field) && is_some (number_at self.now.values field)) fields }
@@ -183,7 +183,7 @@ impl Draft {
     }
 }
 
-/// Whether a line is empty or a comment.
+/// Returns whether a line is empty or a comment.
 fn is_skipped(line: &[u8]) -> bool
     ensures { result ≡ is_skipped line.now }
 {
@@ -193,8 +193,8 @@ fn is_skipped(line: &[u8]) -> bool
     }
 }
 
-/// The two parts of a line that is a name, one space and a value that is not empty and has no
-/// space.
+/// Splits a line into a name and a value at its first space. None if there is no space, or if the value is empty or has
+/// a space.
 fn name_and_value(line: &[u8]) -> Option<(&[u8], &[u8])>
     ensures none { IfNone result (is_name_and_value line.now ≡ false) }
     ensures some { IfSome result (λ parts. is_name_and_value line.now ≡ true) }

@@ -1,9 +1,9 @@
-//! The fields of a game text: every name but `code`, each with one number.
+//! The fields of a game text: all names but `code`. Each has one number.
 ghost use Rattle.std.specs.Prelude.{◌≡◌, ◌<◌, ◌≤◌, IfSome};
 
 use crate::bounds::MOST_FRAMES;
 
-/// A name that stands at most once in a game text, before its number.
+/// A name that a game text has at most once, with a number as its value.
 #[derive(Clone, Copy, Debug, PartialEq, Eq, Hash)]
 pub enum Field {
     Players,
@@ -38,14 +38,14 @@ impl Field {
     ghost use Rattle.c8_game.specs.checked.Places.{index_of};
     ghost use Rattle.c8_game.specs.Fields.{fields, word_of, owner_of, is_mask, least_of, greatest_of, default_of, field_named};
 
-    /// The field that a word names.
+    /// Returns the field with this name.
     pub fn named(word: &[u8]) -> Option<Field>
         ensures { result ≡ field_named word.now }
     {
         FIELDS.iter().copied().find(|field| field.word() == word)
     }
 
-    /// The word that stands for the field in a text.
+    /// Returns the field's name in a text.
     pub fn word(self) -> &'static [u8]
         ensures { result.now ≡ word_of self }
     {
@@ -64,7 +64,7 @@ impl Field {
         }
     }
 
-    /// The place of the field among `FIELDS`.
+    /// Returns the place of the field in `FIELDS`.
     pub(crate) fn index(self) -> usize
         ensures value { result ≡ index_of self }
         ensures small { result < 11 }
@@ -72,7 +72,7 @@ impl Field {
         self as usize
     }
 
-    /// The player whose mask the field is; 0 for a field that is no mask.
+    /// Returns the player whose mask the field is; 0 if it is not a mask.
     pub fn owner(self) -> u64
         ensures { result ≡ owner_of self }
     {
@@ -85,14 +85,14 @@ impl Field {
         }
     }
 
-    /// Whether the field is a mask, which four hexadecimal digits spell; all others are decimals.
+    /// Returns whether the field is a mask. Masks are four hexadecimal digits, all other fields decimals.
     pub fn is_mask(self) -> bool
         ensures { result ≡ is_mask self }
     {
         self.owner() > 0
     }
 
-    /// The least number that the field may have.
+    /// Returns the least number that the field may have.
     pub fn least(self) -> u64
         ensures { result ≡ least_of self }
     {
@@ -103,7 +103,7 @@ impl Field {
         }
     }
 
-    /// The greatest number that the field may have.
+    /// Returns the greatest number that the field may have.
     pub fn greatest(self) -> u64
         ensures { result ≡ greatest_of self }
     {
@@ -118,7 +118,7 @@ impl Field {
         }
     }
 
-    /// The number of the field where no line names it, if a text may lack it.
+    /// Returns the field's default, if a text may leave it out.
     pub fn default_number(self) -> Option<u64>
         ensures value { result ≡ default_of self }
         ensures least { IfSome result (λ number. least_of self ≤ number) }

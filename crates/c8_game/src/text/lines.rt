@@ -7,15 +7,16 @@ ghost use Rattle.std.specs.Str.Lines.{lines, strip_carriage_return};
 
 use std::fmt;
 
-/// The lines of a text that are still to come. A line ends at a line feed, and one carriage return
-/// before that is dropped with it. If nothing follows the last line feed, no line begins there; a
-/// last line that no line feed ends keeps its carriage return.
+/// The lines of a text that are still to be read.
+///
+/// A line ends at a line feed; one carriage return before it is dropped too. A final line feed starts no further line.
+/// A last line without a line feed keeps its carriage return.
 #[derive(Clone, Copy)]
 pub struct Lines<'a> {
     rest: &'a [u8],
 }
 
-/// How many bytes are left, and none of them.
+/// Prints how many bytes are left, not the bytes.
 impl<'a> fmt::Debug for Lines<'a> {
     fn fmt<W: fmt::Write>(&self, f: &mut fmt::Formatter<W>) -> fmt::Result {
         let left = self.rest.len();
@@ -26,14 +27,14 @@ impl<'a> fmt::Debug for Lines<'a> {
 impl<'a> Lines<'a> {
     ghost use Rattle.c8_game.specs.Lines.{lines_left};
 
-    /// The lines of `text`, of any bytes.
+    /// Makes the lines of `text`, which may have any bytes.
     pub fn new(text: &'a [u8]) -> Self
         ensures { lines_left result ≡ lines text.entry.now }
     {
         Lines { rest: text }
     }
 
-    /// The line of a text at a place, 0 for its first line; none past the last.
+    /// Returns the line at a place, counted from 0; none beyond the last.
     pub fn at(text: &'a [u8], place: usize) -> Option<&'a [u8]>
         ensures { option_map (λ line. line.now) result ≡ slice_get (lines text.entry.now) place }
     {
@@ -60,7 +61,7 @@ impl<'a> Iterator for Lines<'a> {
     }
 }
 
-/// The first line of a non-empty text, and what follows its line feed.
+/// Splits a non-empty text into its first line and what follows that line's line feed.
 fn first_line(text: &[u8]) -> (&[u8], &[u8])
     requires { 0 < length text.now }
     ensures { lines text.now ≡ result.0.now ∷ lines result.1.now }
@@ -71,7 +72,7 @@ fn first_line(text: &[u8]) -> (&[u8], &[u8])
     }
 }
 
-/// What stands before the first `byte`, and what stands after it.
+/// Splits a text at its first `byte` into what is before it and what is after it.
 pub fn cut_at(text: &[u8], byte: u8) -> Option<(&[u8], &[u8])>
     ensures none { IfNone result (position (λ b. b == byte) text.now ≡ None) }
     ensures before { IfSome result (λ parts. parts.0.now ≡ before_first (λ b. b == byte) text.now) }
@@ -84,14 +85,14 @@ pub fn cut_at(text: &[u8], byte: u8) -> Option<(&[u8], &[u8])>
     }
 }
 
-/// The place of the first `byte`.
+/// Returns the place of the first `byte`.
 fn place_of(text: &[u8], byte: u8) -> Option<usize>
     ensures { result ≡ position (λ b. b == byte) text.now }
 {
     text.iter().position(|b| *b == byte)
 }
 
-/// A line without the one carriage return at its end, if it has one.
+/// Drops one carriage return at the end of a line, if it has one.
 fn without_return(line: &[u8]) -> &[u8]
     ensures { result.now ≡ strip_carriage_return line.now }
 {

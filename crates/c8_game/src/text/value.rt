@@ -1,4 +1,4 @@
-//! What the value of a field spells.
+//! Reads the value of a field.
 ghost use Rattle.std.specs.Prelude.{◌≡◌, true, false, Some, None, IfOk, IsTrue, MatchResult};
 ghost use Rattle.std.specs.Char.{is_ascii_digit};
 ghost use Rattle.std.specs.List.{list_all};
@@ -9,7 +9,7 @@ use crate::error::GameError;
 use crate::row::Keys;
 use crate::text::field::Field;
 
-/// Whether the text is 1 to 20 digits.
+/// Returns whether the text is 1 to 20 digits.
 pub fn is_decimal(text: &[u8]) -> bool
     ensures { result ≡ is_decimal text.now }
 {
@@ -22,7 +22,7 @@ fn are_digits(text: &[u8]) -> bool
     text.iter().all(|byte| byte.is_ascii_digit())
 }
 
-/// The number that 1 to 20 digits spell.
+/// Returns the number that 1 to 20 digits spell.
 pub fn decimal_number(text: &[u8]) -> u128
     requires { IsTrue (is_decimal text.now) }
     ensures { result ≡ decimal_number text.now }
@@ -34,7 +34,7 @@ pub fn decimal_number(text: &[u8]) -> u128
     number
 }
 
-/// The number that the value of `field` spells, a mask's digits or a decimal, if it is in range.
+/// Returns the number of a value, the digits of a mask or a decimal, if it is in the field's range.
 pub fn number(field: Field, value: &[u8]) -> Result<u64, GameError>
     requires { is_mask field ≡ false → is_decimal value.now ≡ true }
     ensures value { IfOk result (λ n. n ≡ number_of field value.now) }

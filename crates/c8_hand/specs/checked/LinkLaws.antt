@@ -1,4 +1,4 @@
--- Checked, not believed: what is admitted, and what hearing it changes.
+-- Checked, not believed: what is admitted, and what an admitted datagram changes.
 use Rattle.std.proofs.Common.{◌≡◌, ◌≢◌, ℕ, zero, suc, ◌<◌, ◌≤◌, ◌⊎◌, Bool, true, false, cond, Option, Some, None, refl, sym, ap, subst, ◌∙◌, inl, inr, arith}
 use Rattle.std.specs.Prelude.{◌==◌, not, if◌then◌else◌}
 use Rattle.std.proofs.lemmas.Bool.{cases_lt, cases_eq, eqb-true, ne_eqb, both_ways, lt-ltb, le-ltb}
@@ -9,7 +9,7 @@ use Rattle.c8_wire.specs.Packet.{HeadValue}
 use Rattle.c8_hand.specs.declared.error.HandError.TheVariants as errors
 use Rattle.c8_hand.specs.Links.{LinkValue, LinksValue, no_link, link_to, with_link, is_mine, refusal, refusal_of_seen, refusal_as, admission, refusal_by_kind, refusal_of_welcome, refusal_of_others, link_after, heard, IsForMe, NamesBoth, IsWelcomeOf, OpensByWelcome}
 
--- ---- one link is changed
+-- ---- one link changes
 
 pub link_with : (l : LinksValue) (player : ℕ) (link : LinkValue) → 1 ≤ player → player ≤ 4 → link_to (with_link l player link) player ≡ link
 link_with l zero link from to = absurd (omega arith)
@@ -45,7 +45,7 @@ link_other l player link (suc (suc (suc (suc (suc n))))) apart =
     let past : 4 < suc (suc (suc (suc (suc n)))) = omega arith in
     link_past (with_link l player link) (suc (suc (suc (suc (suc n))))) past ∙ sym (link_past l (suc (suc (suc (suc (suc n))))) past)
 
--- none changes where a watcher says something
+-- no link changes if the sender is a watcher
 unlinked : (player place : ℕ) (link old : LinkValue) → 4 < player → place ≤ 4 → (if player == place then link else old) ≡ old
 unlinked player place link old past within = unless player place link old (λ same. omega (arith, same, past, within))
 
@@ -59,7 +59,7 @@ heard_past l head past =
       four = unlinked head.from 4 link l.four past (omega arith) i;
     }
 
--- ---- what is admitted
+-- ---- admitted datagrams
 
 none_past : {A : Type 0} (test : Bool) (x : A) (others : Option A) → cond test (Some x) others ≡ None → (test ≡ false) × (others ≡ None)
 none_past true x others e = absurd cc
@@ -69,7 +69,7 @@ none_within : {A : Type 0} (test : Bool) (x : A) (others : Option A) → cond te
 none_within true x others e = (refl, e)
 none_within false x others e = absurd cc
 
--- what is judged of an admitted datagram
+-- what is known of an admitted datagram
 record IsAdmitted (l : LinksValue) (head : HeadValue) : Type 0 where
   session : not (head.session == l.session) ≡ false
   mine : is_mine l head ≡ true
@@ -117,7 +117,7 @@ linked_by_kind kinds.Cut link own theirs mine none hello welcome = linked link o
 linked_by_kind kinds.Show link own theirs mine none hello welcome = absurd cc
 linked_by_kind kinds.Seen link own theirs mine none hello welcome = absurd cc
 
--- no SHOW and no SEEN passes for a player's
+-- no SHOW and no SEEN passes as from a player
 among_players : (kind : DatagramKind) (link : LinkValue) (own theirs mine : ℕ) → refusal_by_kind kind link own theirs mine ≡ None → (kind ≢ kinds.Show) × (kind ≢ kinds.Seen)
 among_players kind link own theirs mine none =
     (λ is. let never = ap (λ (k : DatagramKind). refusal_by_kind k link own theirs mine) (sym is) ∙ none in absurd cc, λ is. let never = ap (λ (k : DatagramKind). refusal_by_kind k link own theirs mine) (sym is) ∙ none in absurd cc)
@@ -224,7 +224,7 @@ opened kinds.Cut link theirs was = inl refl
 opened kinds.Show link theirs was = inl refl
 opened kinds.Seen link theirs was = inl refl
 
--- the link to the sender, where there is one
+-- the link to the sender, if it has one
 sender_opens : (l : LinksValue) (head : HeadValue) → refusal l head ≡ None → 1 ≤ head.from → head.from ≤ 4 → (link_to (heard l head) head.from).is_open ≡ true
     → (link_to (heard l head) head.from ≡ link_to l head.from) ⊎ IsWelcomeOf (heard l head) head.from head
 sender_opens l head none from to was =
@@ -263,7 +263,7 @@ opens_by_welcome l head none player was =
       | inr by_player ↦ player_opens l head by_player player was
     ]
 
--- ---- no known epoch falls
+-- ---- a known epoch never falls
 
 not_below : (kind : DatagramKind) (link : LinkValue) (own theirs mine : ℕ) → refusal_by_kind kind link own theirs mine ≡ None → link.known ≤ (link_after kind link theirs).known
 not_below kinds.Hello link own theirs mine none =

@@ -1,4 +1,4 @@
--- Checked, not believed: lists that begin others.
+-- Checked, not believed: lists that are the beginning of others.
 use Rattle.std.proofs.Common.{◌≡◌, ℕ, zero, suc, List, [], ◌∷◌, ◌++◌, Some, ap, sym, subst, ◌∙◌, append_assoc}
 use Rattle.std.specs.List.{slice_get}
 use mathlib.Core.List.{IsPrefix}

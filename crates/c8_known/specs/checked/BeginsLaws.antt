@@ -1,4 +1,4 @@
--- Checked, not believed: lists that begin others.
+-- Checked, not believed: lists that are the beginning of others.
 use Rattle.std.proofs.Common.{◌≡◌, ℕ, zero, suc, ◌-◌, ◌≤◌, List, [], ◌∷◌, ◌++◌, length, take, drop, false, Some, refl, sym, ap, subst, ◌∙◌, append_assoc, arith}
 use Rattle.std.specs.List.{slice_get}
 use Rattle.std.proofs.lemmas.Bool.{eq-eqb}
@@ -47,7 +47,7 @@ get_left (y ∷ xs) ys (suc i) x is = get_left xs ys i x is
 pub begins_get : {X : Type 0} (xs ys : List X) (i : ℕ) (x : X) → Begins xs ys → slice_get xs i ≡ Some x → slice_get ys i ≡ Some x
 begins_get {X = X} xs ys i x begins is = subst (λ (zs : List X). slice_get zs i ≡ Some x) (sym begins.is) (get_left xs begins.rest i x is)
 
--- two lists that begin one list do not differ
+-- two beginnings of one list do not differ
 same_front : (xs ys more rest : List ℕ) → xs ++ more ≡ ys ++ rest → differ xs ys ≡ false
 unfolding differ
 same_front [] ys more rest e = refl
@@ -60,7 +60,7 @@ same_front (x ∷ xs) (y ∷ ys) more rest e =
 pub begin_one : (xs ys zs : List ℕ) → Begins xs zs → Begins ys zs → differ xs ys ≡ false
 begin_one xs ys zs one two = same_front xs ys one.rest two.rest (sym one.is ∙ two.is)
 
--- What is held of a list goes on with what is new of a run that stands in the list.
+-- The held part of a list goes on with the fresh part of a run that is in the list.
 goes_on : (held rest words : List ℕ) (start : ℕ) → start ≤ length held → Begins words (drop start (held ++ rest)) → Begins (held ++ drop (length held - start) words) (held ++ rest)
 goes_on [] rest words start from stands =
     let zero_is : start ≡ 0 = omega (arith, from) in

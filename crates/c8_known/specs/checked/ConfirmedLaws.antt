@@ -1,4 +1,5 @@
--- Checked, not believed: how many frames are confirmed is a greatest number; what is settled and confirmed stays.
+-- Checked, not believed: the number of confirmed frames is the greatest of its kind; what is settled and confirmed
+-- stays.
 use Rattle.std.proofs.Common.{◌≡◌, ℕ, zero, suc, ◌+◌, ◌-◌, ◌<◌, ◌≤◌, ◌⊎◌, List, [], ◌∷◌, ◌++◌, length, map, true, Option, Some, None, refl, sym, ap, subst, ◌∙◌, inl, inr, arith, slice_index_or}
 use Rattle.std.specs.List.{slice_get, range_with_len, AllPass}
 use Rattle.std.proofs.lemmas.Bool.{cases_lt}
@@ -162,7 +163,7 @@ rows_stay old new still =
           ∙ ap (λ (early : List Row). early ++ map (row new) (range_with_len (0 + n) more)) (map_same (row new) (row old) 0 n (λ frame below. row_stays old new still frame (omega (arith, below))));
     }
 
--- the best guess at a confirmed frame is no guess
+-- the best guess at a confirmed frame is its row
 best_settled : (p : PlayerValue) (frame w : ℕ) → input_of p frame ≡ Some w → best_input p frame ≡ or_empty (input_of p frame)
 unfolding best_input
 best_settled p frame w is = rw is refl

@@ -1,5 +1,5 @@
--- Checked, not believed: when two lists differ, why a run is refused, and that a run that is not refused stands in the list,
--- once the fresh part of it is taken.
+-- Checked, not believed: when two lists differ, why a run is refused, and that a run that is not refused is in the list
+-- after its fresh part is taken.
 use Rattle.std.proofs.Common.{◌≡◌, ◌≢◌, ℕ, zero, suc, ◌+◌, ◌-◌, ◌≤◌, ◌||◌, List, [], ◌∷◌, ◌++◌, length, take, drop, Bool, true, false, not, cond, Option, Some, None, refl, sym, ap, ◌∙◌, inl, inr, arith}
 use Rattle.std.specs.Prelude.{◌==◌, nat_lt}
 use Rattle.std.proofs.Math.Seq.{take-length}
@@ -21,7 +21,7 @@ or_true : (test : Bool) → test || true ≡ true
 or_true true = refl
 or_true false = refl
 
--- lists of one length that are not the same
+-- two different lists of the same length differ
 pub differ_apart : (xs ys : List ℕ) → length xs ≡ length ys → xs ≢ ys → differ xs ys ≡ true
 unfolding differ
 differ_apart [] [] long apart = absurd (apart refl)
@@ -35,7 +35,7 @@ differ_apart (x ∷ xs) (y ∷ ys) long apart =
       | inr other ↦ rw (ne_eqb x y other) refl
     ]
 
--- ---- what stands in the list
+-- ---- what is in the list
 
 drop_left : (xs ys : List ℕ) (n : ℕ) → n ≤ length xs → drop n (xs ++ ys) ≡ drop n xs ++ ys
 drop_left xs ys zero within = refl
@@ -72,7 +72,7 @@ none_past false x others e = (refl, e)
 not_at_first : (test : Bool) (x : KnownError) (others : Option KnownError) → test ≡ false → cond test (Some x) others ≡ others
 not_at_first test x others fails = rw fails refl
 
--- but for a leaver's own word a run is judged by what is held
+-- a run that is not refused fits what is held
 pub misfit_none : (k : KnownValue) (player teller start : ℕ) (words : List ℕ) → refusal k player teller start words ≡ None → misfit k player start words ≡ None
 unfolding refusal
 misfit_none k player teller start words none = (none_past (is_from_leaver k player teller) errors.FromLeaver (misfit k player start words) none).1
@@ -83,7 +83,7 @@ unfolding refusal
 misfit_is k player teller start words error is stays =
     sym (not_at_first (is_from_leaver k player teller) errors.FromLeaver (misfit k player start words) stays) ∙ is
 
--- what is judged of a run that is not refused
+-- what is known of a run that is not refused
 pub record IsFresh (k : KnownValue) (player start : ℕ) (words : List ℕ) : Type 0 where
   pub room : start + length words ≤ k.limit
   pub no_gap : start ≤ count_in k player

@@ -38,7 +38,7 @@ leave_next q journal r = leave_more q journal (r ∷ []) ∙ ap (λ (b : Bool). 
 pub leave_stays : (q : ℕ) (journal more : List Record) → has_leave q journal ≡ true → has_leave q (journal ++ more) ≡ true
 leave_stays q journal more is = leave_more q journal more ∙ or_first (has_leave q journal) (list_any (lets_go q) more) is
 
--- nobody who has not left by now had left before
+-- a player who has not been dropped now had not been dropped before
 pub had_stayed : (q : ℕ) (journal more : List Record) → has_leave q (journal ++ more) ≡ false → has_leave q journal ≡ false
 had_stayed q journal more none = (or_parts (has_leave q journal) (list_any (lets_go q) more) (sym (leave_more q journal more) ∙ none)).0
 
@@ -66,7 +66,7 @@ pub cut_stays : (q K : ℕ) (journal more : List Record) → cut_of q journal �
 unfolding cut_of
 cut_stays q K journal more is = rw (flat_map-append (cuts_of q) journal more) (first_of (flat_map (cuts_of q) journal) (flat_map (cuts_of q) more) K is)
 
--- a cut stood before, or the record makes it
+-- a cut was there before, or the record makes it
 old_or_new : (xs ys : List ℕ) (K : ℕ) → slice_get (xs ++ ys) 0 ≡ Some K → (slice_get xs 0 ≡ Some K) ⊎ (slice_get ys 0 ≡ Some K)
 old_or_new [] ys K is = inr is
 old_or_new (x ∷ xs) ys K is = inl is

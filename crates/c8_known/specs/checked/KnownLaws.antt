@@ -1,4 +1,4 @@
--- Checked, not believed: what is known stays sound with each record, and stays known.
+-- Checked, not believed: each record keeps the invariant and what is known.
 use Rattle.std.proofs.Common.{◌≡◌, ◌≢◌, ℕ, zero, suc, ◌+◌, ◌-◌, ◌<◌, ◌≤◌, ◌||◌, List, [], ◌∷◌, ◌++◌, length, Bool, true, false, Option, Some, None, refl, sym, ap, ◌∙◌, inl, inr, length-append, arith, slice_set, slice_index_or}
 use Rattle.std.proofs.lemmas.Bool.{cases_eq}
 use Rattle.std.proofs.lemmas.List.{append-nil, length-set, get_or-set_same, get_or-set_other}
@@ -7,7 +7,7 @@ use Rattle.c8_known.specs.Known.{PlayerValue, KnownValue, nobody, player_in, cou
 use Rattle.c8_known.specs.Growth.{IsStillKnownOf, IsStillKnown}
 use Rattle.c8_known.specs.checked.BeginsLaws.{begins_more}
 
--- ---- one player is changed, and the number of ticks
+-- ---- one player and the number of ticks change
 
 abbrev pub changed : KnownValue → ℕ → ℕ → PlayerValue → KnownValue
 changed k ticks q p = record { me = k.me; delay = k.delay; limit = k.limit; ticks = ticks; players = slice_set k.players (q - 1) p }
@@ -99,7 +99,7 @@ still_longer p words uncut = record {
   ended = λ K was. absurd cc;
 }
 
--- one word more is one input more
+-- one more word is one more input
 length_more : (xs : List ℕ) (x : ℕ) → length (xs ++ x ∷ []) ≡ length xs + 1
 length_more xs x = length-append xs (x ∷ [])
 
@@ -198,7 +198,7 @@ cut_still k q K start words plays uncut =
     still_changed k k.ticks q (with_cut (with_words p words) K) plays (omega arith)
     (record { held = longer.held; frozen = λ was. was; leaving = λ was. was; cut = λ at was. absurd cc; ended = λ at was. absurd cc })
 
--- a cut with the last inputs, in two records
+-- a cut with the last inputs, as two records
 set_twice : {X : Type 0} (xs : List X) (i : ℕ) (x y : X) → slice_set (slice_set xs i x) i y ≡ slice_set xs i y
 set_twice [] i x y = refl
 set_twice (z ∷ xs) zero x y = refl
@@ -214,7 +214,7 @@ cut_in_two k q K start later words plays =
     ap (λ (players : List PlayerValue). record k { players = players })
     (sym twice ∙ ap (λ (new : PlayerValue). slice_set (slice_set k.players (q - 1) longer) (q - 1) (with_cut new K)) (sym (ap (λ (x : PlayerValue). with_words x []) there ∙ no_more)))
 
--- ---- what is still known stays so
+-- ---- what is still known
 
 pub still_same : (k : KnownValue) → IsStillKnown k k
 still_same k = record { me = refl; delay = refl; limit = refl; ticks = omega arith; players = refl; each = λ q. still_of_same (player_in k q) }

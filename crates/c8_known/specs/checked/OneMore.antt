@@ -1,4 +1,4 @@
--- Checked, not believed: what is known by a journal with one record more.
+-- Checked, not believed: what is known by a journal with one more record.
 use Rattle.std.proofs.Common.{◌≡◌, ◌≢◌, ℕ, zero, suc, ◌+◌, ◌-◌, ◌<◌, ◌≤◌, ◌||◌, List, [], ◌∷◌, ◌++◌, map, Bool, true, false, Option, refl, sym, ap, ◌∙◌, arith, slice_set}
 use Rattle.std.specs.Prelude.{◌==◌}
 use Rattle.std.specs.List.{range_with_len, slice_get, flat_map}
@@ -26,7 +26,7 @@ first_more [] (y ∷ ys) = refl
 first_more (x ∷ xs) [] = refl
 first_more (x ∷ xs) (y ∷ ys) = refl
 
--- what one record more makes of it
+-- how one more record changes it
 abbrev after : PlayerValue → ℕ → Record → PlayerValue
 after p q r = record {
   held = p.held ++ words_of q r;
@@ -46,7 +46,7 @@ same_player h f l c = λ i. record { held = h i; frozen = f i; leaving = l i; cu
 said_more : (rules : Rules) (q : ℕ) (journal : List Record) (r : Record) → said_of rules q (journal ++ r ∷ []) ≡ after (said_of rules q journal) q r
 said_more rules q journal r = same_player (held_next rules q journal r) (freeze_next q journal r) (leave_next q journal r) (cut_of_more q journal r)
 
--- what says nothing of a player changes nothing
+-- a record that says nothing of a player changes nothing for it
 after_none : (p : PlayerValue) (q : ℕ) (r : Record) → words_of q r ≡ [] → freezes q r ≡ false → lets_go q r ≡ false → cuts_of q r ≡ [] → after p q r ≡ p
 after_none p q r words freeze leave cuts =
     same_player (rw words (append-nil p.held)) (rw freeze (or-false p.frozen)) (rw leave (or-false p.leaving)) (rw cuts refl)
@@ -63,7 +63,7 @@ after_other p q (Leave player) other = after_none p q (Leave player) refl refl (
 after_other p q (Cut player K start words) other =
     after_none p q (Cut player K start words) (rw (ne_eqb player q other) refl) refl refl (rw (ne_eqb player q other) refl)
 
--- what a record makes of the player of whom it is
+-- how a record changes the player whom it names
 or_true : (b : Bool) → (b || true) ≡ true
 or_true true = refl
 or_true false = refl
@@ -88,12 +88,12 @@ after_cut p q K start words = same_player (rw (self q) refl) (or-false p.frozen)
 
 -- ---- the table of all players
 
--- two tables from functions that agree from a place on
+-- tables of two functions that agree from a place on
 same_from : (f g : ℕ → PlayerValue) (a n : ℕ) → ((i : ℕ) → a ≤ i → g i ≡ f i) → map g (range_with_len a n) ≡ map f (range_with_len a n)
 same_from f g a zero same = refl
 same_from f g a (suc n) same = rw (same a (omega arith), same_from f g (a + 1) n (λ i from. same i (omega (arith, from)))) refl
 
--- and from functions that differ at one place at most
+-- tables of two functions that differ at one place at most
 one_place : (f g : ℕ → PlayerValue) (a n place : ℕ) → place < n → ((i : ℕ) → i ≢ a + place → g i ≡ f i) → map g (range_with_len a n) ≡ slice_set (map f (range_with_len a n)) place (g (a + place))
 one_place f g a zero place within same = absurd (omega arith)
 one_place f g a (suc n) zero within same =
@@ -131,7 +131,7 @@ table_more rules me journal r named =
     (ap (λ (player : ℕ). said_of rules player (journal ++ r ∷ [])) at ∙ said_more rules q journal r
     ∙ ap (λ (p : PlayerValue). after p q r) (sym (player_known rules me q journal from to)))
 
--- a table whose player stays as it was
+-- a table whose player does not change
 table_same : (rules : Rules) (journal : List Record) (r : Record) → ((p : PlayerValue) (q : ℕ) → after p q r ≡ p) → table rules (journal ++ r ∷ []) ≡ table rules journal
 table_same rules journal r none =
     same_from (λ place. said_of rules (place + 1) journal) (λ place. said_of rules (place + 1) (journal ++ r ∷ [])) 0 rules.players

@@ -1,4 +1,4 @@
--- Checked, not believed: what is known before a journal says anything.
+-- Checked, not believed: what is known before a journal has a record.
 use Rattle.std.proofs.Common.{◌≡◌, ℕ, ◌+◌, ◌-◌, ◌<◌, ◌≤◌, List, [], length, false, None, sym, ap, ◌∙◌, ◌⊎◌, inl, inr, ⊎_elim, arith, replicate, slice_index_or}
 use Rattle.std.proofs.lemmas.Bool.{cases_lt}
 use Rattle.std.proofs.lemmas.List.{append-nil, length-replicate, get_or_past}
@@ -20,7 +20,7 @@ pub players_known : (rules : Rules) (me : ℕ) (journal : List journals.Record) 
 unfolding known_of
 players_known rules me journal = length-map-range_with_len (λ place. said_of rules (place + 1) journal) 0 rules.players
 
--- the place of a player's table, whatever its number
+-- the table of any number's player
 at_place : (rules : Rules) (me q : ℕ) → q - 1 < rules.players → player_in (known_of rules me []) q ≡ at_start rules.delay
 at_place rules me q within =
     let same : q - 1 + 1 - 1 ≡ q - 1 = omega arith in

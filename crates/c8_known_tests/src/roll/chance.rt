@@ -1,4 +1,4 @@
-//! A roll against one that runs everything again, over calls that are drawn by chance.
+//! A roll compared with one that runs everything again, over random calls.
 use crate::calls::{at_first, come, count, drop_player, game_of};
 use crate::roll::slow::{Guesses, is_as_slow};
 use crate::roll::{settle, tick};
@@ -9,20 +9,20 @@ use std::alloc::Global;
 use std::process::Abort;
 use std::test::Fail;
 
-/// Counts in V5 the turns with player 1's key down, and draws a random byte and adds it to V2 in
-/// each turn with player 2's key down.
+/// Counts in V5 the turns with player 1's key down. In each turn with player 2's key down it draws a random byte and
+/// adds it to V2.
 const CODE: &str = "61046301e39e120a7501e19e1204c0ff82041204";
 
 const TWO: Player = Player { number: 2 };
 
-/// Numbers as if by chance, the same at each run.
+/// Random numbers, the same in each run.
 #[derive(Drop)]
 struct Chance {
     state: u64,
 }
 
 impl Chance {
-    /// A number below a bound.
+    /// Returns a number below a bound.
     fn below(&mut self, bound: u32) -> u32 {
         self.state = self
             .state
@@ -40,7 +40,7 @@ impl Chance {
     }
 }
 
-/// What a play is like.
+/// The settings of a play.
 #[derive(Clone, Copy)]
 struct Plan {
     window: u8,
@@ -49,12 +49,11 @@ struct Plan {
     /// How far the own player goes ahead of the confirmed frames.
     ahead: u32,
     calls: u32,
-    /// After one call in so many, all that is seen of the roll is compared, and its counts after
-    /// each.
+    /// After one call in this many, everything that the roll shows is compared; its counts after each call.
     every: u32,
 }
 
-/// Plays within the smallest window, without delay and with the longest, and one that is long.
+/// Plays with the smallest window, without delay and with the longest, and one long play.
 const SMALLEST: [Plan; 3] = [
     Plan {
         window: 1,
@@ -82,7 +81,7 @@ const SMALLEST: [Plan; 3] = [
     },
 ];
 
-/// The same within the greatest window.
+/// The same with the greatest window.
 const GREATEST: [Plan; 3] = [
     Plan {
         window: 12,
@@ -141,9 +140,9 @@ const FAR: [Plan; 3] = [
 /// How many calls there were of each kind.
 #[derive(Clone, Copy)]
 struct Tally {
-    /// Something of the roll was not as it is to be.
+    /// The roll was wrong somewhere.
     wrong: u32,
-    /// A tick took back a guess.
+    /// A tick rolled back a guess.
     advanced_again: u32,
     settled_again: u32,
     settled_none: u32,
@@ -161,12 +160,12 @@ struct Play<'g> {
     tally: Tally,
 }
 
-/// What a number becomes that counts one more where it is so.
+/// Returns the number, plus one if it is so.
 fn counted(number: u32, is_so: bool) -> u32 {
     number.saturating_add(u32::from(is_so))
 }
 
-/// The key set that the last input of player 2 is.
+/// Returns the last held key set of player 2.
 fn last_keys(known: &Known) -> u16 {
     match count(known, TWO) {
         Some(count) if count > 0 => known.best(count - 1).sets[1].0,
@@ -174,7 +173,7 @@ fn last_keys(known: &Known) -> u16 {
     }
 }
 
-/// Some inputs of player 2, most of them what the last was.
+/// Draws some inputs of player 2, most of them equal to the one before.
 fn drawn(chance: &mut Chance, last: u16, many: u32) -> [u8; 128] {
     let mut keys = last;
     let mut bytes = [0; 128];
@@ -210,7 +209,7 @@ impl<'g> Play<'g> {
         })
     }
 
-    /// Some inputs of player 2 come, which is no more than two frames ahead.
+    /// Takes some inputs of player 2, which is at most two frames ahead.
     fn come(&mut self) {
         let most = self.known.ticks().saturating_add(2);
         let held = count(&self.known, TWO).unwrap_or(most);
@@ -224,13 +223,13 @@ impl<'g> Play<'g> {
         self.tally.wrong = counted(self.tally.wrong, !is_taken);
     }
 
-    /// How far ahead of the confirmed frames the roll is.
+    /// Returns how many frames the roll is ahead of the confirmed ones.
     fn ahead(&self) -> u32 {
         self.roll.ticks().saturating_sub(self.roll.base().0)
     }
 
-    /// The oldest frame that is to be run again. A roll that is further ahead than its window and
-    /// one frame goes back to that frame at least: it keeps no machine that is newer.
+    /// Returns the oldest frame that must be run again. A roll that is more than its window and one frame ahead goes
+    /// back to that frame at least: it keeps no newer machine.
     fn oldest(&self, before: &Guesses) -> Option<u32> {
         let change = before.oldest_change(self.roll.ticks(), &self.known);
         let window = u32::from(self.plan.window);
@@ -242,7 +241,7 @@ impl<'g> Play<'g> {
         }
     }
 
-    /// Whether the roll is the same as the slow one, if it is compared now.
+    /// Returns whether the roll equals the slow one, if it is compared now.
     fn is_right(&mut self, alloc: Global, ran: u32) -> bool {
         self.roll.last_run() == ran
             && self.roll.ticks() == self.known.ticks()
@@ -250,7 +249,7 @@ impl<'g> Play<'g> {
                 || is_as_slow(alloc, self.game, &self.known, &self.roll))
     }
 
-    /// A tick takes what is known now, and is compared.
+    /// Ticks with what is known now, and compares.
     fn tick(&mut self, alloc: Global, before: &Guesses) {
         let oldest = self.oldest(before);
         let from = oldest.unwrap_or(self.roll.ticks());
@@ -263,7 +262,7 @@ impl<'g> Play<'g> {
         self.tally.advanced_again = counted(self.tally.advanced_again, is_again);
     }
 
-    /// The roll takes what is known now without a tick, and is compared.
+    /// Settles the roll with what is known now, without a tick, and compares.
     fn settle(&mut self, alloc: Global, before: &Guesses) {
         let oldest = self.oldest(before);
         let from = oldest.unwrap_or(self.roll.ticks());
@@ -276,7 +275,7 @@ impl<'g> Play<'g> {
         self.tally.settled_none = counted(self.tally.settled_none, is_right && !is_again);
     }
 
-    /// One call that is drawn by chance.
+    /// Makes one random call.
     fn go_on(&mut self, alloc: Global) {
         let before = Guesses::of(&self.known);
         let ahead = self.ahead();
@@ -324,7 +323,7 @@ fn game(alloc: Global, plan: Plan) -> Result<Game, Fail> {
     game_of(alloc, text.as_bytes())
 }
 
-/// What came of so many calls.
+/// Plays all calls of a plan, and returns the counts.
 fn tally_of(alloc: Global, plan: Plan) -> Result<Tally, Fail> {
     let game = game(alloc, plan)?;
     let mut play = Play::new(alloc, plan, &game)?;
@@ -338,8 +337,8 @@ fn tally_of(alloc: Global, plan: Plan) -> Result<Tally, Fail> {
     Ok(play.tally)
 }
 
-/// Whether nothing was wrong, and the play had to go back at times: and at times not, or else it
-/// was further ahead than its window, where it is to be.
+/// Returns whether the roll was never wrong and rolled back. A play within its window must also settle without a
+/// rollback; a play that goes further ahead must do so, and roll back at ticks.
 fn is_right(plan: Plan, tally: Tally) -> bool {
     let has_gone_back = tally.wrong == 0 && tally.settled_again > 0;
     if plan.ahead > u32::from(plan.window) {
@@ -349,7 +348,7 @@ fn is_right(plan: Plan, tally: Tally) -> bool {
     }
 }
 
-/// Plays by each plan.
+/// Plays each plan.
 fn plays_right(rt: &impl Abort, alloc: Global, plans: &[Plan]) -> Result<(), Fail> {
     for plan in plans {
         let tally = tally_of(alloc, *plan)?;

@@ -1,4 +1,4 @@
-//! The roll of what is known, by running everything from the first frame on.
+//! The roll of what is known, computed by running everything from the first frame.
 use c8_digest::{Marks, mark};
 use c8_game::{Game, Row};
 use c8_known::Known;
@@ -6,10 +6,10 @@ use c8_machine::Machine;
 use c8_roll::Roll;
 use std::alloc::{AllocError, Global};
 
-/// A mark stands at each multiple of this many frames.
+/// The number of frames from one mark to the next.
 const STEP: u32 = 32;
 
-/// What a roll is to be.
+/// What a roll must show.
 #[derive(Drop)]
 struct Slow {
     confirmed: u32,
@@ -18,7 +18,7 @@ struct Slow {
     marks: Marks,
 }
 
-/// Whether a roll is the same, in all that is seen of it, as one that runs everything again.
+/// Returns whether a roll shows the same as one that runs everything again.
 pub fn is_as_slow(alloc: Global, game: &Game, known: &Known, roll: &Roll<'_>) -> bool {
     match Slow::new(alloc, game, known) {
         Ok(slow) => slow.is_as(roll),
@@ -59,7 +59,7 @@ impl Slow {
     }
 }
 
-/// Whether two have the same marks at the multiples up to a frame, and have forgotten the same.
+/// Returns whether two have the same marks at the multiples up to a frame, and lack the same.
 fn are_same(some: &Marks, others: &Marks, frame: u32) -> bool {
     for n in 0..frame / STEP + 1 {
         if some.get(n * STEP) != others.get(n * STEP) {
@@ -69,10 +69,10 @@ fn are_same(some: &Marks, others: &Marks, frame: u32) -> bool {
     some.newest() == others.newest()
 }
 
-/// How many of the last frames are looked at.
+/// How many of the last frames are compared.
 const KEPT: usize = 64;
 
-/// The best guesses at the last frames, as far as the own player has ticked.
+/// The best guesses at the last frames that the own player has ticked.
 #[derive(Clone, Copy)]
 pub struct Guesses {
     first: u32,
@@ -89,7 +89,7 @@ impl Guesses {
         Guesses { first, rows }
     }
 
-    /// The oldest frame up to this one whose best guess is another now.
+    /// Returns the oldest frame before frame `ticks` whose best guess has changed.
     pub fn oldest_change(&self, ticks: u32, known: &Known) -> Option<u32> {
         for (frame, row) in (self.first..ticks).zip(&self.rows) {
             if *row != known.best(frame) {

@@ -46,7 +46,7 @@ register_instruction x value =
     else if value == 0x65 then Some (LoadRegisters x)
     else None
 
--- by the parts of a code: its four digits, its last two and its last three
+-- from the parts of a code: its four digits, its last two and its last three
 unfoldable pub instruction_by : (code a x y n value to : ℕ) → Option Instruction
 instruction_by code a x y n value to =
     if a == 0x0 then system_instruction code
@@ -70,7 +70,7 @@ instruction_by code a x y n value to =
 abbrev pub instruction_of : ℕ → Option Instruction
 instruction_of code = instruction_by code (code / 0x1000) (code / 0x100 % 0x10) (code / 0x10 % 0x10) (code % 0x10) (code % 0x100) (code % 0x1000)
 
--- the instruction that an operation of the code stands for
+-- the instruction that an operation of the code means
 abbrev pub meaning : Operation → Option Instruction
 meaning operation.Clear = Some Clear
 meaning operation.Return = Some Return

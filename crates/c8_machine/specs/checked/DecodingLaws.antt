@@ -4,7 +4,7 @@ use Rattle.std.proofs.lemmas.Bool.{cases_Bool, and_parts, cond-true, cond-false,
 use Rattle.c8_machine.specs.Instructions.{Instruction, Clear, Return, Jump, Call, SkipIfValue, SkipUnlessValue, SkipIfSame, SetValue, AddValue, Set, Or, And, ExclusiveOr, Add, Subtract, ShiftRight, SubtractFrom, ShiftLeft, SkipUnlessSame, SetAddress, JumpFrom, Random, Draw, SkipIfDown, SkipIfUp, ReadTimer, AwaitKey, SetTimer, SetTone, AddAddress, PointAtDigit, StoreDigits, StoreRegisters, LoadRegisters, code_of, digits, with_byte, with_address, IsInRange, IsDigit, IsByte, IsAddress, IsInstructionOf}
 use Rattle.c8_machine.specs.checked.Decoding.{instruction_of, instruction_by, system_instruction, arithmetic_instruction, key_instruction, register_instruction}
 
--- ---- what is written is found
+-- ---- the instruction of a code is found
 
 parts_are : (code a x y n value to : ℕ) → code / 0x1000 ≡ a → code / 0x100 % 0x10 ≡ x → code / 0x10 % 0x10 ≡ y → code % 0x10 ≡ n → code % 0x100 ≡ value → code % 0x1000 ≡ to
     → instruction_of code ≡ instruction_by code a x y n value to
@@ -56,14 +56,14 @@ finds (StoreDigits x) x_in = of_digits 0xF x 0x3 0x3 x_in (omega arith) (omega a
 finds (StoreRegisters x) x_in = of_digits 0xF x 0x5 0x5 x_in (omega arith) (omega arith)
 finds (LoadRegisters x) x_in = of_digits 0xF x 0x6 0x5 x_in (omega arith) (omega arith)
 
--- ---- what is found is written so
+-- ---- the instruction that is found has this code
 
--- what is found, if anything, is written as the code
+-- the instruction that is found, if any, has this code
 abbrev IsSound : ℕ → Option Instruction → Type 0
 IsSound code (Some i) = IsInRange i × (code_of i ≡ code)
 IsSound code None = Unit {0}
 
--- a test, and what is found if it holds and if not
+-- by a test: what is found if it holds, and if not
 by_test : (code a b : ℕ) (p q : Option Instruction) → (a ≡ b → IsSound code p) → IsSound code q → IsSound code (cond (nat_eq a b) p q)
 by_test code a b p q on off = elim (cases_Bool (nat_eq a b)) [
   | inl holds ↦ rw (cond-true _ _ _ holds) (on (eqb-true a b holds))

@@ -1,5 +1,4 @@
--- Checked, not believed: every machine has a frame, whatever keys are down. Only the type of `framed`
--- is known elsewhere.
+-- Checked, not believed: each machine has a frame for any keys. Other files use only the type of `framed`.
 use Rattle.std.specs.Prelude.{MatchBool, length, nat_lt, ◌≡◌, ℕ, zero, suc, false, Option, Some, None, MatchOption, List, [], ◌∷◌}
 use Rattle.std.proofs.Common.{Bool, true, false, zero-le, suc-le-suc, ap, inl, inr, refl}
 use Rattle.c8_game.specs.Rules.{Rules}
@@ -13,13 +12,13 @@ use Rattle.c8_machine.specs.checked.DecodingLaws.{is_instruction_of}
 use Rattle.c8_machine.specs.Steps.{Does, Executes, IsStep, code_at}
 use Rattle.c8_machine.specs.Frames.{IsFrame, IsLiveFrame, IsChain, Runs, FillsFrame, settled, ended, goes_on}
 
--- what an instruction does that goes by a test
+-- what an instruction does that depends on a test
 one_or_other : (test : Bool) (s t : State) (when_true when_false : Step)
     → (u : State) × (step : Step) × MatchBool test ((step ≡ when_true) × (u ≡ s)) ((step ≡ when_false) × (u ≡ t))
 one_or_other true s t when_true when_false = (s, when_true, (refl, refl))
 one_or_other false s t when_true when_false = (t, when_false, (refl, refl))
 
--- what an instruction makes of a machine
+-- each instruction takes a machine to some machine
 does : (rules : Rules) (keys : ℕ) (i : Instruction) (s : State) → (t : State) × (step : Step) × Does rules keys i s t step
 does rules keys Return s = one_or_other (nat_lt 0 (length s.stack)) _ _ _ _
 does rules keys (Call to) s = one_or_other (nat_lt (length s.stack) 16) _ _ _ _
@@ -40,7 +39,7 @@ record Run (rules : Rules) (keys n : ℕ) (s : State) : Type 0 where
   whole : FillsFrame n steps
   chain : IsChain rules keys s steps end
 
--- a step that went, before steps that fill a frame
+-- a step that answers Went, before steps that fill a frame
 longer : (n : ℕ) (steps : List Step) → FillsFrame n steps → FillsFrame (suc n) (Went ∷ steps)
 longer n steps (inl all) = inl (ap (λ (rest : List Step). Went ∷ rest) all)
 longer n steps (inr early) = inr (record {

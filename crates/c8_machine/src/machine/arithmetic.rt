@@ -1,4 +1,4 @@
-//! The instructions that reckon with registers and timers. A flag is written after the result.
+//! The instructions that compute with registers and timers. They write the flag after the result.
 ghost use Rattle.std.specs.Prelude.{◌≡◌, ℕ, ◌<◌, ◌++◌};
 ghost use Rattle.sha2.specs.Sha256.{sha256};
 ghost use Rattle.c8_machine.specs.Instructions.{AddValue, Set, Or, And, ExclusiveOr, Add, Subtract, ShiftRight, SubtractFrom, ShiftLeft, Random, SetTimer, SetTone};
@@ -10,7 +10,7 @@ use c8_game::Game;
 use sha2::{Digest, Sha256};
 
 impl Machine {
-    /// 6XKK, and FX07 with the timer: VX is the value.
+    /// 6XKK, and FX07 with the timer: sets VX to the value.
     #[inline(always)]
     pub(crate) fn put(&mut self, x: u8, value: u8) -> Step
         requires { x < 16 }
@@ -22,7 +22,7 @@ impl Machine {
         Step::Went
     }
 
-    /// 8XY1 to 8XYE: VX is the result, and VF the flag, written last.
+    /// 8XY1 to 8XYE: sets VX to the result, then VF to the flag.
     #[inline(always)]
     fn put_with_flag(&mut self, x: u8, value: u8, flag: u8) -> Step
         requires { x < 16 }
@@ -36,7 +36,7 @@ impl Machine {
         Step::Went
     }
 
-    /// 7XKK: adds the value to VX modulo 100 (hexadecimal), with no flag.
+    /// 7XKK: adds the value to VX modulo 100 (hexadecimal), without a flag.
     #[inline(always)]
     pub(crate) fn add_value(&mut self, x: u8, value: u8) -> Step
         requires { x < 16 }
@@ -45,7 +45,7 @@ impl Machine {
         self.put(x, self.register(x).wrapping_add(value))
     }
 
-    /// 8XY0: VX is VY.
+    /// 8XY0: sets VX to VY.
     #[inline(always)]
     pub(crate) fn set(&mut self, x: u8, y: u8) -> Step
         requires x { x < 16 }
@@ -55,7 +55,7 @@ impl Machine {
         self.put(x, self.register(y))
     }
 
-    /// 8XY1: VX or VY; then VF is 0.
+    /// 8XY1: sets VX to the bitwise or of VX and VY, then VF to 0.
     #[inline(always)]
     pub(crate) fn or(&mut self, x: u8, y: u8) -> Step
         requires x { x < 16 }
@@ -65,7 +65,7 @@ impl Machine {
         self.put_with_flag(x, self.register(x) | self.register(y), 0)
     }
 
-    /// 8XY2: VX and VY; then VF is 0.
+    /// 8XY2: sets VX to the bitwise and of VX and VY, then VF to 0.
     #[inline(always)]
     pub(crate) fn and(&mut self, x: u8, y: u8) -> Step
         requires x { x < 16 }
@@ -75,7 +75,7 @@ impl Machine {
         self.put_with_flag(x, self.register(x) & self.register(y), 0)
     }
 
-    /// 8XY3: VX or VY but not both; then VF is 0.
+    /// 8XY3: sets VX to the bitwise exclusive or of VX and VY, then VF to 0.
     #[inline(always)]
     pub(crate) fn exclusive_or(&mut self, x: u8, y: u8) -> Step
         requires x { x < 16 }
@@ -96,7 +96,7 @@ impl Machine {
         self.put_with_flag(x, (sum % 0x100) as u8, flag_if(sum > 0xff))
     }
 
-    /// 8XY5: takes VY from VX; the flag is 1 if VX was at least VY.
+    /// 8XY5: subtracts VY from VX; the flag is 1 if VX was at least VY.
     #[inline(always)]
     pub(crate) fn subtract(&mut self, x: u8, y: u8) -> Step
         requires x { x < 16 }
@@ -107,7 +107,7 @@ impl Machine {
         self.put_with_flag(x, from.wrapping_sub(less), flag_if(from >= less))
     }
 
-    /// 8XY7: VX is VY less VX; the flag is 1 if VY was at least VX.
+    /// 8XY7: sets VX to VY minus VX; the flag is 1 if VY was at least VX.
     #[inline(always)]
     pub(crate) fn subtract_from(&mut self, x: u8, y: u8) -> Step
         requires x { x < 16 }
@@ -118,7 +118,7 @@ impl Machine {
         self.put_with_flag(x, from.wrapping_sub(less), flag_if(from >= less))
     }
 
-    /// 8XY6: VX is VY shifted right by one; the flag is the bit that fell out.
+    /// 8XY6: sets VX to VY shifted right by one; the flag is the bit shifted out.
     #[inline(always)]
     pub(crate) fn shift_right(&mut self, x: u8, y: u8) -> Step
         requires x { x < 16 }
@@ -129,7 +129,7 @@ impl Machine {
         self.put_with_flag(x, value / 2, value % 2)
     }
 
-    /// 8XYE: VX is VY shifted left by one; the flag is the bit that fell out.
+    /// 8XYE: sets VX to VY shifted left by one; the flag is the bit shifted out.
     #[inline(always)]
     pub(crate) fn shift_left(&mut self, x: u8, y: u8) -> Step
         requires x { x < 16 }
@@ -140,7 +140,7 @@ impl Machine {
         self.put_with_flag(x, value.wrapping_mul(2), value / 0x80)
     }
 
-    /// CXKK: VX is a random byte and the value; one draw more.
+    /// CXKK: sets VX to the bitwise and of a random byte and the value, and counts one more draw.
     pub(crate) fn random(&mut self, game: &Game, x: u8, value: u8) -> Step
         requires { x < 16 }
         ensures { (keys : ℕ) → Does game.now keys (Random x value)
@@ -151,7 +151,7 @@ impl Machine {
         self.put(x, byte & value)
     }
 
-    /// FX15: the timer is VX.
+    /// FX15: sets the timer to VX.
     #[inline(always)]
     pub(crate) fn set_timer(&mut self, x: u8) -> Step
         requires { x < 16 }
@@ -162,7 +162,7 @@ impl Machine {
         Step::Went
     }
 
-    /// FX18: the tone is VX.
+    /// FX18: sets the tone to VX.
     #[inline(always)]
     pub(crate) fn set_tone(&mut self, x: u8) -> Step
         requires { x < 16 }
@@ -174,7 +174,7 @@ impl Machine {
     }
 }
 
-/// 1 where the test holds, else 0.
+/// Returns 1 if the test holds, else 0.
 #[inline(always)]
 pub(crate) fn flag_if(test: bool) -> u8
     ensures { result ≡ flag_if test }
@@ -182,7 +182,8 @@ pub(crate) fn flag_if(test: bool) -> u8
     if test { 1 } else { 0 }
 }
 
-/// Random byte number `n` of the game with this seed.
+/// Returns random byte number `n` of a game with this seed: the first byte of SHA-256 (FIPS 180-4) over `seed` and `n`,
+/// 8 bytes each, the most significant first.
 #[tactic(auto, unfolding(crate::specs::Steps::random_byte))]
 fn random_byte(seed: u64, n: u64) -> u8
     ensures { result ≡ random_byte seed n }
@@ -191,7 +192,7 @@ fn random_byte(seed: u64, n: u64) -> u8
     first
 }
 
-/// The digest of two pieces taken as one message.
+/// Hashes two pieces as one message.
 fn digest_of_both(first: &[u8], second: &[u8]) -> [u8; 32]
     ensures { result ≡ sha256 (first.now ++ second.now) }
 {

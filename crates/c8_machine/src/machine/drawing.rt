@@ -10,7 +10,7 @@ use crate::machine::memory::load;
 use crate::machine::{Machine, Step};
 
 impl Machine {
-    /// 00E0: puts out every point.
+    /// 00E0: turns every point off.
     #[inline(always)]
     pub(crate) fn clear(&mut self) -> Step
         ensures { Performs Clear (state self.old) (state self.new) result }
@@ -20,7 +20,7 @@ impl Machine {
         Step::Went
     }
 
-    /// DXYN: draws the bytes from I on at (VX, VY); the flag is 1 if a lit point was put out.
+    /// DXYN: draws `rows` bytes from I on at (VX, VY); the flag is 1 if a lit point was turned off.
     #[inline(always)]
     pub(crate) fn draw(&mut self, x: u8, y: u8, rows: u8) -> Step
         requires x { x < 16 }
@@ -34,7 +34,7 @@ impl Machine {
         Step::Drew
     }
 
-    /// Draws `rows` bytes from I on, and says whether a lit point was put out.
+    /// Draws `rows` bytes from I on, and returns whether a lit point was turned off.
     #[inline(always)]
     fn draw_bytes(&mut self, x: u8, y: u8, rows: u8) -> bool
         requires { rows < 16 }

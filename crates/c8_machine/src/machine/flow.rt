@@ -1,4 +1,4 @@
-//! The instructions that say where the machine goes on.
+//! The instructions that decide where the machine goes on.
 ghost use Rattle.std.specs.Prelude.{◌≡◌, ◌%◌, ◌<◌};
 ghost use Rattle.c8_game.specs.Rules.{Rules};
 ghost use Rattle.c8_machine.specs.Instructions.{Return, Jump, Call, SkipIfValue, SkipUnlessValue, SkipIfSame, SkipUnlessSame, JumpFrom, SkipIfDown, SkipIfUp, AwaitKey};
@@ -9,7 +9,7 @@ use crate::machine::{ADDRESSES, MEMORY_SIZE, Machine, Step, Stop};
 use c8_game::Keys;
 
 impl Machine {
-    /// 1MMM: goes to an address.
+    /// 1MMM: jumps to the address.
     #[inline(always)]
     pub(crate) fn jump(&mut self, to: u16) -> Step
         requires { to < MEMORY_SIZE }
@@ -19,7 +19,7 @@ impl Machine {
         Step::Went
     }
 
-    /// BMMM: goes to the address that is V0 past another one.
+    /// BMMM: jumps to the address plus V0, modulo 1000 (hexadecimal).
     #[inline(always)]
     pub(crate) fn jump_from(&mut self, to: u16) -> Step
         requires { to < MEMORY_SIZE }
@@ -29,7 +29,7 @@ impl Machine {
         Step::Went
     }
 
-    /// 2MMM: puts the address after the instruction on the stack, and goes to another one.
+    /// 2MMM: pushes the address after the instruction on the stack, and jumps. Stops the machine if the stack is full.
     #[inline(always)]
     pub(crate) fn call(&mut self, to: u16) -> Step
         requires { to < MEMORY_SIZE }
@@ -45,7 +45,7 @@ impl Machine {
         Step::Went
     }
 
-    /// 00EE: goes to the last place of the stack, which is taken off.
+    /// 00EE: pops the last address from the stack and jumps there. Stops the machine if the stack is empty.
     #[inline(always)]
     pub(crate) fn go_back(&mut self) -> Step
         ensures { Performs Return (state self.old) (state self.new) result }
@@ -59,7 +59,7 @@ impl Machine {
         Step::Went
     }
 
-    /// The skips: goes on by 4 where the test holds, else by 2.
+    /// The skips: moves the counter by 4 if the test holds, else by 2.
     #[inline(always)]
     fn skip_if(&mut self, test: bool) -> Step
         ensures step { result ≡ Step.Went }
@@ -93,7 +93,7 @@ impl Machine {
         self.skip_if(self.register(x) != value)
     }
 
-    /// 5XY0: skips if VX and VY are the same.
+    /// 5XY0: skips if VX and VY are equal.
     #[inline(always)]
     pub(crate) fn skip_if_same(&mut self, x: u8, y: u8) -> Step
         requires x { x < 16 }
@@ -134,7 +134,7 @@ impl Machine {
         self.skip_if(!is_down(keys, self.register(x)))
     }
 
-    /// FX0A: waits for register X.
+    /// FX0A: waits until a key is released; register X gets the key.
     #[inline(always)]
     pub(crate) fn await_key(&mut self, x: u8) -> Step
         requires { x < 16 }
@@ -146,7 +146,7 @@ impl Machine {
     }
 }
 
-/// Whether the key that the low digit of `name` names is down.
+/// Returns whether the key with the number in the low digit of `name` is down.
 #[inline(always)]
 fn is_down(keys: Keys, name: u8) -> bool
     ensures { result ≡ is_down keys.0 (name % 0x10) }

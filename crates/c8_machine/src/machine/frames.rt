@@ -10,10 +10,11 @@ use crate::machine::Machine;
 use c8_game::{Game, Keys};
 
 impl Machine {
-    /// One frame, with the keys that are down in it. A stopped machine stays as it is. A wait ends
-    /// with the lowest key that was down in the last frame and is not in this one; unless the
-    /// machine still waits, at most `ipf` instructions are done, fewer where one draws, waits or
-    /// stops; then each timer above 0 falls by one, and the keys are remembered.
+    /// Runs one frame with the keys that are down in it.
+    ///
+    /// A stopped machine does not change. A wait ends with the lowest key that was down in the last frame and is not in
+    /// this one. Unless the machine still waits, it does up to `ipf` instructions; one that draws, waits or stops is
+    /// the last. Then each timer above 0 falls by one, and the keys are remembered.
     pub fn frame(&mut self, game: &Game, keys: Keys)
         ensures relation { IsFrame game.now keys.0 (state self.old) (state self.new) }
         ensures function { state self.new ≡ frame_of game.now keys.0 (state self.old) }
@@ -66,7 +67,7 @@ impl Machine {
     }
 }
 
-/// The lowest key of `before` that is not in `keys`.
+/// Returns the lowest key that is in `before` and not in `keys`.
 fn lowest_released(before: Keys, keys: Keys) -> Option<u8>
     ensures { result ≡ lowest_released before.0 keys.0 }
 {

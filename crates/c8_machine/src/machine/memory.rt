@@ -1,4 +1,4 @@
-//! The instructions that point into memory, write it and read it.
+//! The instructions that set I, and that write and read memory.
 ghost use Rattle.std.specs.Prelude.{◌≡◌, ◌+◌, ◌%◌, ◌<◌, ◌≤◌, length, map, slice_index};
 ghost use Rattle.std.specs.List.{range_with_len};
 ghost use Rattle.c8_machine.specs.Instructions.{AddAddress, PointAtDigit, StoreDigits, StoreRegisters, LoadRegisters};
@@ -8,7 +8,7 @@ ghost use Rattle.c8_machine.specs.Steps.{passed, stored, Performs};
 use crate::machine::{ADDRESSES, MEMORY_SIZE, Machine, Step};
 
 impl Machine {
-    /// AMMM: I is the address.
+    /// AMMM: sets I to the address.
     #[inline(always)]
     pub(crate) fn point_at(&mut self, to: u16) -> Step
         requires { to < MEMORY_SIZE }
@@ -20,7 +20,7 @@ impl Machine {
         Step::Went
     }
 
-    /// FX1E: adds VX to I, with no flag.
+    /// FX1E: adds VX to I modulo 1000 (hexadecimal), without a flag.
     #[inline(always)]
     pub(crate) fn add_address(&mut self, x: u8) -> Step
         requires { x < 16 }
@@ -29,7 +29,7 @@ impl Machine {
         self.point_at((self.address + u16::from(self.register(x))) % ADDRESSES)
     }
 
-    /// FX29: I is the address of the pattern of VX's low digit.
+    /// FX29: sets I to the address of the pattern of VX's low digit.
     #[inline(always)]
     pub(crate) fn point_at_digit(&mut self, x: u8) -> Step
         requires { x < 16 }
@@ -90,7 +90,7 @@ impl Machine {
     }
 }
 
-/// Stores bytes from an address on; after the last address comes the first.
+/// Stores bytes from an address on; address 0 follows the last address.
 #[inline(always)]
 fn store(memory: &mut [u8; MEMORY_SIZE], from: u16, bytes: &[u8])
     requires from { from < MEMORY_SIZE }
@@ -102,7 +102,7 @@ fn store(memory: &mut [u8; MEMORY_SIZE], from: u16, bytes: &[u8])
     }
 }
 
-/// Loads bytes from an address on; after the last address comes the first.
+/// Loads bytes from an address on; address 0 follows the last address.
 #[inline(always)]
 pub(crate) fn load(memory: &[u8; MEMORY_SIZE], from: u16, bytes: &mut [u8])
     requires from { from < MEMORY_SIZE }

@@ -1,4 +1,4 @@
-//! A machine made of its parts.
+//! Makes a machine from its parts.
 ghost use Rattle.std.specs.Prelude.{◌≡◌, ℕ, ◌<◌, ◌≤◌, IfSome, is_some, take, slice_index};
 ghost use Rattle.c8_machine.specs.State.{state};
 ghost use Rattle.c8_machine.specs.Parts.{state_of, are_addresses, is_register, are_of_a_machine};
@@ -7,8 +7,7 @@ use crate::machine::{MEMORY_SIZE, Machine, Stop};
 use c8_game::Keys;
 use c8_screen::Screen;
 
-/// The parts of a machine, each of any value of its type. [`Machine::of_parts`] says which a machine can
-/// have.
+/// The parts of a machine, with any values. [`Machine::of_parts`] says which values a machine can have.
 #[derive(Clone, Copy, Debug, PartialEq, Eq)]
 pub struct Parts {
     pub memory: [u8; MEMORY_SIZE],
@@ -18,16 +17,16 @@ pub struct Parts {
     pub address: u16,
     /// The program counter.
     pub counter: u16,
-    /// The places to return to, oldest first; those that are not in use count for nothing.
+    /// The return addresses, oldest first; those not in use are ignored.
     pub places: [u16; 16],
-    /// How many of the places are in use.
+    /// The number of return addresses in use.
     pub depth: u8,
     pub screen: Screen,
     pub timer: u8,
     pub tone: u8,
     /// The remembered keys.
     pub keys: Keys,
-    /// The register whose key is waited for.
+    /// The register that waits for a key.
     pub waits: Option<u8>,
     /// How many random bytes were drawn, modulo 2 to the 64.
     pub draws: u64,
@@ -35,9 +34,10 @@ pub struct Parts {
 }
 
 impl Machine {
-    /// The machine that has these parts; `None` where an address (I, the program counter, or a place of
-    /// the stack that is in use) is above 4095, where more than 16 places are in use, or where a register
-    /// above F is waited for.
+    /// Makes the machine with these parts.
+    ///
+    /// `None` if I, the program counter or a return address in use is above 4095, if more than 16 return addresses are
+    /// in use, or if a register above F waits.
     pub fn of_parts(parts: &Parts) -> Option<Machine>
         ensures found { IfSome result (λ machine. state machine ≡ state_of parts.now) }
         ensures only { is_some result ≡ are_of_a_machine parts.now }
@@ -63,7 +63,7 @@ impl Machine {
     }
 }
 
-/// Whether a machine can have these parts.
+/// Returns whether a machine can have these parts.
 fn are_of_a_machine(parts: &Parts) -> bool
     ensures { result ≡ are_of_a_machine parts.now }
 {
@@ -89,7 +89,7 @@ fn is_register(waits: Option<u8>) -> bool
     }
 }
 
-/// The places that are in use, and 0 for those that are not.
+/// Returns the addresses that are in use, and 0 in place of the others.
 fn in_use(places: &[u16; 16], depth: u8) -> [u16; 16]
     requires { depth ≤ 16 }
     ensures stack { take depth result ≡ take depth places.now }

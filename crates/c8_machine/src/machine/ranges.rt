@@ -6,8 +6,7 @@ use crate::machine::Machine;
 use c8_game::Keys;
 
 impl Machine {
-    /// Tells a caller's proof that each part of the machine's state is in its range; at run time it
-    /// does nothing.
+    /// Ghost call: tells the caller's proof that each part of the state is in its range. It does nothing at run time.
     pub fn in_range(&self)
         ensures { IsState (state self.now) }
     {
@@ -17,7 +16,7 @@ impl Machine {
     }
 }
 
-/// The numbers of a slice of bytes are bytes.
+/// The elements of a slice of bytes are below 2 to the 8.
 #[inline(always)]
 fn are_bytes(bytes: &[u8])
     ensures { (k : ℕ) → slice_index bytes.now k < 2 ^ 8 }
@@ -25,7 +24,7 @@ fn are_bytes(bytes: &[u8])
     let _bytes = bytes;
 }
 
-/// The other numbers fit their types.
+/// The other numbers are in the ranges of their types.
 #[inline(always)]
 fn are_numbers(timer: u8, tone: u8, keys: Keys, draws: u64)
     ensures timer { timer < 2 ^ 8 }

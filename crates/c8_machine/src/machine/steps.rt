@@ -1,4 +1,4 @@
-//! One step of the machine, and which part of it does which instruction.
+//! One step of the machine, and the method for each instruction.
 ghost use Rattle.std.specs.Prelude.{◌≡◌, ◌+◌, ◌%◌, ◌<◌, IsSome, MatchOption};
 ghost use Rattle.c8_machine.specs.Instructions.{IsInRange};
 ghost use Rattle.c8_machine.specs.checked.Decoding.{meaning};
@@ -10,8 +10,8 @@ use crate::operation::{Operation, decode};
 use c8_game::{Game, Keys};
 
 impl Machine {
-    /// Does the instruction at the counter, unless the machine waits or has stopped: then it is as
-    /// it was, and the answer is `Held`. `keys` are those that are down in this frame.
+    /// Performs the instruction at the counter, with the keys that are down in this frame. If the machine waits or has
+    /// stopped, it answers `Held` and does not change.
     pub fn step(&mut self, game: &Game, keys: Keys) -> Step
         ensures awake { (state self.old).stop ≡ None → (state self.old).waits ≡ None
             → IsStep game.now keys.0 (state self.old) (state self.new) result }
@@ -88,7 +88,7 @@ impl Machine {
         }
     }
 
-    /// The address after the instruction.
+    /// Returns the address after the instruction.
     #[inline(always)]
     pub(crate) fn next(&self) -> u16
         ensures value { result ≡ next (state self.now) }

@@ -1,4 +1,4 @@
--- Checked, not believed: the parts of a roll, which of its marks is the newest, and where it may be run from.
+-- Checked, not believed: the parts of a roll, its newest mark, and from where it may be run.
 use Rattle.std.proofs.Common.{◌≡◌, ℕ, zero, suc, ◌+◌, ◌-◌, ◌*◌, ◌/◌, ◌≤◌, ◌<◌, List, ◌++◌, length, map, take, drop, Some, inl, inr, refl, sym, ap, subst, ◌∙◌, arith}
 use Rattle.std.specs.Prelude.{fold, min}
 use Rattle.std.specs.List.{slice_get, range_with_len}
@@ -29,7 +29,7 @@ pub map_same_between : (g f : ℕ → FrameMark) (a n : ℕ) → ((i : ℕ) → 
 map_same_between g f a zero same = refl
 map_same_between g f a (suc n) same = rw (same a (omega arith) (omega arith), map_same_between g f (a + 1) n (λ i low to. same i (omega (arith, low)) (omega (arith, to)))) refl
 
--- of the marks at the first multiples the last one, which is among the last sixteen
+-- the last of the marks at the first multiples, which is among the last sixteen
 newest_kept : (f : ℕ → FrameMark) (n : ℕ) → newest_of (kept (map f (range_with_len 0 (n + 1)))) ≡ Some (f n)
 newest_kept f n =
     let put : List FrameMark = map f (range_with_len 0 (n + 1)) in
@@ -76,7 +76,7 @@ roll_marks rules from k v is = ap (λ (r : RollValue). r.marks) is
 
 -- ---- an origin on the way
 
--- what is kept of what is kept, with more
+-- to keep of what is kept and more is to keep of all
 kept_more : (old more : List FrameMark) → kept (kept old ++ more) ≡ kept (old ++ more)
 kept_more old more =
     let gone : ℕ = length old - 16 in
@@ -87,7 +87,7 @@ kept_more old more =
     ap (drop (length (drop gone old ++ more) - 16)) (sym (drop-append-le gone old more (omega arith)))
     ∙ drop-drop (length (drop gone old ++ more) - 16) gone (old ++ more) ∙ ap (λ (n : ℕ). drop n (old ++ more)) twice
 
--- the first so many of rows that a function gives
+-- the first m of the rows that a function gives
 rows_front : (f : ℕ → Row) (n m : ℕ) → m ≤ n → take m (map f (range_with_len 0 n)) ≡ map f (range_with_len 0 m)
 rows_front f n m within =
     let many = length-map-range_with_len f 0 n in
@@ -98,7 +98,7 @@ rows_front f n m within =
     ∙ get_or-map-range_with_len f 0 n i i d (omega (arith, below, front, within)) (omega arith)
     ∙ sym (get_or-map-range_with_len f 0 m i i d (omega (arith, below, front)) (omega arith)))
 
--- the rows from the origin's on lead to what all of them lead to
+-- the rows from the origin on lead to the same machine as all rows
 run_is_serial : (rules : Rules) (from : Origin) (rows before : List Row) → from.machine ≡ serial rules before → take from.frames rows ≡ before → run_since rules from rows ≡ serial rules rows
 run_is_serial rules from rows before machine front =
     let one : State → Row → State = λ s row. frame_of rules (joined rules row) s in
@@ -142,13 +142,13 @@ on_the_way rules k from way =
     let marks = marks_on_the_way rules k from (confirmed k) way way.confirmed_is in
     λ i. record { rules = rules; ticks = k.ticks; shown = shown i; confirmed = confirmed k; base = base i; marks = marks i }
 
--- the first machine with its mark is on every way
+-- the first machine with its mark is on the way
 pub first_on_the_way : (rules : Rules) (k : KnownValue) → IsOnTheWay rules k (first_origin rules)
 first_on_the_way rules k = record { confirmed_is = omega arith; machine = refl; marks = refl }
 
 -- ---- origins of a run
 
--- the marks after so many frames are those that are kept then
+-- the marks kept after n frames
 since_kept : (rules : Rules) (from : Origin) (k : KnownValue) (n : ℕ) → from.frames ≤ n → AreMarksAfter from.frames from.marks → AreMarksAfter n (marks_since rules from k n)
 since_kept rules from k n starts are =
     let g : ℕ → FrameMark = λ m. mark_since rules from k (32 * m) in

@@ -1,4 +1,4 @@
--- Checked, not believed: what a watcher takes, and that it takes no other rows than those of the list of which it is shown rows.
+-- Checked, not believed: what a watcher takes, and that its rows begin a list if it is shown rows of that list only.
 use Rattle.std.proofs.Common.{◌≡◌, ◌≢◌, ℕ, ◌+◌, ◌-◌, ◌<◌, ◌≤◌, ◌||◌, List, [], ◌∷◌, ◌++◌, length, drop, Bool, true, false, not, cond, Option, Some, None, Result, Ok, Err, refl, sym, ap, subst, ◌∙◌, append_assoc, inl, inr, arith}
 use Rattle.std.specs.Prelude.{◌==◌, nat_lt}
 use Rattle.std.proofs.Math.Seq.{drop-append_seam}
@@ -19,7 +19,7 @@ use Rattle.c8_spectator.specs.declared.taken.Taken.TheVariants as answers
 use Rattle.c8_spectator.specs.Watching.{WatchValue, Watched, is_of_other_match, are_of_game, are_same, differ, refusal_of_rows, refusal_of_message, refusal, fresh_rows, rows_in, with_rows, taken_of, unless_refused, hear}
 use Rattle.c8_spectator.specs.Growth.{IsStillWatched, IsTaken, ShowsRowsOf}
 
--- ---- nothing is taken back
+-- ---- no row is taken back
 
 pub still_same : (w : WatchValue) → IsStillWatched w w
 still_same w = record { rules = refl; room = refl; seat = refl; rows = begins_same w.rows }
@@ -40,7 +40,7 @@ pub still_heard : (w : WatchValue) (told : Result Packet WireError) → IsStillW
 still_heard w (Err error) = still_same w
 still_heard w (Ok p) = still_unless w p.message (refusal w p)
 
--- ---- what is taken
+-- ---- what a watcher takes
 
 none_past : {E : Type 0} (test : Bool) (x : E) (others : Option E) → cond test (Some x) others ≡ None → (test ≡ false) × (others ≡ None)
 none_past true x others e = absurd cc
@@ -89,7 +89,7 @@ answered w message None taken is = refl
 pub what_is_taken : (w : WatchValue) (p : Packet) (taken : Taken) → (hear w (Ok p)).answer ≡ Ok taken → IsTaken w p
 what_is_taken w p taken is = unrefused w p (answered w p.message (refusal w p) taken is)
 
--- what is taken is not refused
+-- a packet that is taken passes the first test
 not_at_first : {E : Type 0} (test : Bool) (x : E) (others : Option E) → test ≡ false → cond test (Some x) others ≡ others
 not_at_first test x others fails = rw fails refl
 
@@ -123,7 +123,7 @@ taken_answer w p is = ap (λ (watched : Watched). watched.answer) (taken_heard w
 pub taken_rows : (w : WatchValue) (p : Packet) (is : IsTaken w p) → (hear w (Ok p)).watch.rows ≡ w.rows ++ fresh_rows w is.shown
 taken_rows w p is = ap (λ (watched : Watched). watched.watch.rows) (taken_heard w p is)
 
--- then the rows reach to the end of those that were shown
+-- the watcher then has the rows up to the last one shown
 reach_of : (w : WatchValue) (m : ShowMessage) → m.start ≤ length w.rows → m.start + length m.rows ≤ length (w.rows ++ fresh_rows w m)
 reach_of w m after = omega (arith, after, length-append w.rows (fresh_rows w m), length-drop (length w.rows - m.start) m.rows)
 
@@ -131,7 +131,7 @@ pub taken_reaches : (w : WatchValue) (p : Packet) (is : IsTaken w p) → is.show
 taken_reaches w p is =
     subst (λ (watched : Watched). is.shown.start + length is.shown.rows ≤ length watched.watch.rows) (sym (taken_heard w p is)) (reach_of w is.shown is.after)
 
--- ---- new rows are kept, and nothing else changes what there is
+-- ---- only new rows change what a watcher has
 
 kept_some : (rows : List Row) → taken_of rows ≡ answers.Kept → 0 < length rows
 kept_some [] is = absurd cc
@@ -180,7 +180,7 @@ within_heard w (Ok p) few =
 
 -- ---- rows of one list
 
--- What begins a list goes on with what is new of a part that stands in it.
+-- The beginning of a list goes on with the fresh part of a run that is in the list.
 pub begins_fresh : {X : Type 0} (held part list : List X) (start : ℕ) → start ≤ length held → Begins held list → Begins part (drop start list)
     → Begins (held ++ drop (length held - start) part) list
 begins_fresh {X = X} held part list start after begins stands =
@@ -214,7 +214,7 @@ pub truth_shown : (truth : List Row) (w : WatchValue) (p : Packet) (m : ShowMess
     → Begins (hear w (Ok p)).watch.rows truth
 truth_shown truth w p m is begins stands = truth_heard truth w p begins (shows_one truth p m is stands)
 
--- two lists that begin one list do not differ
+-- two beginnings of one list do not differ
 
 same_as_itself : (row : Row) → are_same row row ≡ true
 same_as_itself row =

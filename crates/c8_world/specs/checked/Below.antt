@@ -1,4 +1,4 @@
--- What the laws of one peer and of the round say, gathered for the proofs about all of them.
+-- The laws about one peer and about the drop round, gathered for the proofs about all peers.
 use Rattle.std.specs.Prelude.{◌≡◌, ◌≢◌, ℕ, ◌^◌, ◌<◌, ◌≤◌, List, [], ◌∷◌, ◌++◌, Some, Ok, true, false}
 use Rattle.c8_game.specs.Rules.{Rules, AreInRange}
 use Rattle.c8_wire.specs.Packet.{Packet, IsPacket}

@@ -3,6 +3,6 @@ use Rattle.c8_game.specs.Lines.{lines_left}
 use Rattle.c8_game.proofs.ReadLemmas.{HasRead}
 use Rattle.c8_game.proofs.game.drafted.Given as goal
 
--- the draft has what the lines so far say, and their number is the place of the next one
+-- the draft holds the lines so far; the next line's place is their number
 abbrev pub invariant-loop-line : goal.invariant-loop-line
 invariant-loop-line l = HasRead l.draft (lines l.text) (lines_left l.line-iterator) l.place

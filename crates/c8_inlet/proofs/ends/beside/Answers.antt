@@ -1,4 +1,4 @@
--- The putter sees each place that is free, and the taker, which looks next, each packet that is inside.
+-- The putter sees each free place, and the taker, which looks next, each packet inside.
 use Rattle.std.proofs.Common.{arith, ◌≡◌, ℕ, length, length-append, ap, ◌∙◌, sym}
 use Rattle.rtrb.specs.Ring.{known_free, received, known_items}
 use Rattle.c8_inlet.proofs.ends.beside.Goals as goal

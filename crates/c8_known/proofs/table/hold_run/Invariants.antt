@@ -2,6 +2,6 @@ use Rattle.std.proofs.Common.{◌≡◌, ◌≤◌, ◌++◌, vec_capacity}
 use Rattle.c8_wire.specs.Lent.{words, words_left}
 use Rattle.c8_known.proofs.table.hold_run.Given as goal
 
--- what is held and what is left of the run
+-- the held inputs, and the rest of the run
 abbrev pub invariant-loop-input : goal.invariant-loop-input
 invariant-loop-input l = (l.inputs.items ++ words_left l.input-iterator ≡ l.fn.inputs.items ++ words l.fn.run) × (vec_capacity l.fn.inputs ≤ vec_capacity l.inputs)

@@ -3,7 +3,7 @@ use Rattle.c8_known.specs.Tables.{table_value, least_of}
 use Rattle.c8_known.proofs.ReachLemmas.{least_more}
 use Rattle.c8_known.proofs.table.least_reach.Goals as goal
 
--- src/table.rt:98:5
+-- one more player
 pub loop-place-preserved : goal.loop-place-preserved
 loop-place-preserved c =
     let more = least_more c.args.tables.now c.loop-place.place c.args.ticks c.index-tables-place.result c.loop-place-test.true c.index-tables-place.is in

@@ -3,6 +3,6 @@ use Rattle.c8_wire.specs.Lent.{shown}
 use Rattle.c8_spectator.specs.Watching.{differ}
 use Rattle.c8_spectator.proofs.judging.differ.Given as goal
 
--- some differ if some of those that are left do
+-- some rows differ if some of the remaining ones do
 abbrev pub invariant-loop-place : goal.invariant-loop-place
 invariant-loop-place l = differ l.taken (shown l.rows) ≡ differ (drop l.place l.taken) (drop l.place (shown l.rows))

@@ -1,7 +1,7 @@
 use Rattle.std.proofs.Common.{rules}
 use Rattle.c8_spectator.proofs.judging.may_hold.Goals as goal
 
--- what is wrong here is refused at once
+-- with this answer a wrong body is refused at once
 pub returns-then-place-players : goal.returns-then-place-players
 returns-then-place-players c = search rules
 

@@ -1,6 +1,6 @@
 use Rattle.std.proofs.Common.{rules}
 use Rattle.c8_disk.proofs.file.FileDiskDisk.write_at.Goals as goal
 
--- what is wrong here is refused at once
+-- with this answer a wrong body is refused at once
 pub returns-then-is_err-clause-noted_failed : goal.returns-then-is_err-clause-noted_failed
 returns-then-is_err-clause-noted_failed g c = search rules

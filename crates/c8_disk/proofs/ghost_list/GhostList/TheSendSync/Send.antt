@@ -1,4 +1,4 @@
--- A list without bytes owns nothing, so it may go to another thread.
+-- A list without bytes owns nothing, so it may move to another thread.
 use denote.RattleType.{RattleType}
 use denote.Param.Send.{IsSend, owning_send, sendable}
 use Rattle.c8_disk.specs.contracts.ghost_list.GhostList.{the_row, the_type}

@@ -3,7 +3,7 @@ use Rattle.std.proofs.lemmas.Grind.{common_steps}
 use Rattle.c8_known.specs.Fresh.{refusal}
 use Rattle.c8_known.proofs.known.Known.fresh.Goals as goal
 
--- what is wrong here is refused at once
+-- with this answer a wrong body is refused at once
 pub returns-then-start-len-clause-judged : goal.returns-then-start-len-clause-judged
 unfolding refusal
 returns-then-start-len-clause-judged c = search rules

@@ -2,7 +2,7 @@ use Rattle.std.proofs.Common.{arith}
 use Rattle.std.proofs.lemmas.Grind.{common_steps}
 use Rattle.c8_known.proofs.known.Known.frozen.Goals as goal
 
--- what is wrong here is refused at once
+-- with this answer a wrong body is refused at once
 pub returns-then-table : goal.returns-then-table
 returns-then-table c = grind (arith, common_steps)
 

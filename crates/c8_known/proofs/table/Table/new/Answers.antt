@@ -1,6 +1,6 @@
 use Rattle.std.proofs.Common.{rules}
 use Rattle.c8_known.proofs.table.Table.new.Goals as goal
 
--- what is wrong here is refused at once
+-- with this answer a wrong body is refused at once
 pub returns-clause-value : goal.returns-clause-value
 returns-clause-value c = search rules

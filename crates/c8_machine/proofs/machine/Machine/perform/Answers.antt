@@ -1,4 +1,4 @@
--- Each instruction is done as its own method says, whatever the rules and the keys are.
+-- Each instruction is what its own method does, whatever the rules and the keys are.
 use Rattle.std.proofs.Common.{rules}
 use Rattle.c8_machine.proofs.machine.Machine.perform.Goals as goal
 
@@ -95,6 +95,6 @@ returns-in-StoreRegisters c = rw c.in-StoreRegisters.is (c.store_registers.ensur
 pub returns-in-LoadRegisters : goal.returns-in-LoadRegisters
 returns-in-LoadRegisters c = rw c.in-LoadRegisters.is (c.load_registers.ensures c.args.game.now c.args.keys.0)
 
--- what is wrong here is refused at once
+-- with this answer a wrong body is refused at once
 pub returns-in-ReadTimer : goal.returns-in-ReadTimer
 returns-in-ReadTimer c = search rules

@@ -11,11 +11,11 @@ use Rattle.c8_roll.proofs.RollbackLemmas.{rolled, new_run, keeps}
 use Rattle.c8_roll.proofs.roll.Roll.over.Goals as goal
 use Rattle.c8_roll.proofs.roll.Roll.over.Goals.{After-run_on}
 
--- where the checkpoint lets the run begin
+-- the origin of the checkpoint
 abbrev from_of : After-run_on → Origin
 from_of c = origin_of c.args.from.now
 
--- no more frames were run than the own player has made ticks
+-- no more frames were run than the own player has ticks
 ticks_within : (c : After-run_on) → c.confirm_all.new.self.ticks ≤ c.args.known.now.ticks
 ticks_within c =
     let new = c.new-timeline.ensures.ticks in

@@ -14,7 +14,7 @@ use Rattle.c8_roll.proofs.RollbackLemmas.{rolled, back_of, keeps, from_is, oldes
 use Rattle.c8_roll.proofs.roll.Roll.run.Goals as goal
 use Rattle.c8_roll.proofs.roll.Roll.run.Goals.{After-run_on}
 
--- what the timeline counts once it has gone back
+-- how many frames the timeline has after rolling back
 back_ticks : (c : After-run_on) → c.go_back-oldest.new.self.ticks ≡ c.args.self.now.timeline.first + length c.go_back-oldest.new.self.snapshots
 back_ticks c = ap (λ (t : TimelineValue). t.ticks) c.go_back-oldest.ensures.back
 
@@ -77,7 +77,7 @@ returns-clause-ahead c =
     let two = c.run_on.ensures.counted in
     omega (arith, ticks, none, made, one, two)
 
--- ---- of what was known before
+-- ---- for what was known before
 
 still_of : (c : After-run_on) (from : Origin) (before : KnownValue) → IsRollSince from before (value_of c.args.self.now) → IsStillKnown before c.args.known.now
     → IsStill c.args.self.now.timeline.rules from c.args.known.now (value_of c.args.self.now)

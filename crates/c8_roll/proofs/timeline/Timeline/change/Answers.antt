@@ -1,7 +1,7 @@
 use Rattle.std.proofs.Common.{rules}
 use Rattle.c8_roll.proofs.timeline.Timeline.change.Goals as goal
 
--- The quick search does, and so a wrong body is refused at once.
+-- The quick search is enough, and with it a wrong body is refused at once.
 pub returns-then-not-is_same-clause-none : goal.returns-then-not-is_same-clause-none
 returns-then-not-is_same-clause-none c = search rules
 

@@ -4,7 +4,7 @@ use Rattle.c8_round.specs.Round.{report_of, has_answered, is_stayer}
 use Rattle.c8_round.proofs.RoundLemmas.{fails_at}
 use Rattle.c8_round.proofs.chair.Chair.all_have_answered.Goals as goal
 
--- who has not answered is one of them
+-- the player that has not answered is one of them
 pub returns-then-not-is_settled : goal.returns-then-not-is_settled
 returns-then-not-is_settled c =
     let k = c.args.known.now in

@@ -1,6 +1,6 @@
 use Rattle.std.proofs.Common.{rules}
 use Rattle.c8_spectator.proofs.spectator.Spectator.begin_again.Goals as goal
 
--- what is wrong here is refused at once
+-- with this answer a wrong body is refused at once
 pub invariant_of-self : goal.invariant_of-self
 invariant_of-self c = search rules

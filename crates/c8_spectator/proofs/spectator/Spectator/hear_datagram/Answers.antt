@@ -1,7 +1,7 @@
 use Rattle.std.proofs.Common.{rules}
 use Rattle.c8_spectator.proofs.spectator.Spectator.hear_datagram.Goals as goal
 
--- what is wrong here is refused at once
+-- with this answer a wrong body is refused at once
 pub returns-in-Show-clause-answer : goal.returns-in-Show-clause-answer
 returns-in-Show-clause-answer c = search rules
 

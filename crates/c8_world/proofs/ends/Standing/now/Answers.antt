@@ -4,7 +4,6 @@ use Rattle.c8_world.specs.declared.ends.Standing.{Standing}
 use Rattle.c8_world.specs.Ends.{known_at}
 use Rattle.c8_world.proofs.ends.Standing.now.Goals as goal
 
--- src/ends.rt:47:5
 pub returns-in-Held : goal.returns-in-Held
 unfolding known_of
 returns-in-Held c = c.now.ensures ∙ sym (ap (λ (s : Standing). (known_at s).ticks) c.in-Held.is)

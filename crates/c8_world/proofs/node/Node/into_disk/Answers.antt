@@ -8,7 +8,6 @@ use Rattle.c8_world.specs.declared.node.Node.{Node}
 use Rattle.c8_world.specs.Nodes.{IsNode}
 use Rattle.c8_world.proofs.node.Node.into_disk.Goals as goal
 
--- src/node.rt:192:5
 pub returns-in-Held-clause-tells : goal.returns-in-Held-clause-tells
 returns-in-Held-clause-tells c rules room p s is image left =
     let held = subst (λ (node : Node). IsNode rules room p node s) c.in-Held.is is in

@@ -19,7 +19,6 @@ use Rattle.c8_world.proofs.TurnLemmas.{opening_spared}
 use Rattle.c8_world.proofs.NodeLemmas.{found_now, reply_in, refused_away}
 use Rattle.c8_world.proofs.node.Node.open.Goals as goal
 
--- src/node.rt:31:5
 pub returns-in-Ok-clause-opened : goal.returns-in-Ok-clause-opened
 returns-in-Ok-clause-opened c s plays is journals =
     let rules = c.args.game.now in
@@ -42,7 +41,6 @@ returns-in-Ok-clause-opened c s plays is journals =
       node_is = record { rules_are = is_opened.rules_are; room_is = is_opened.room_is; me_is = is_opened.me_is; state_is = ap (λ (t : Stepped). t.state) same };
     }
 
--- src/node.rt:31:5
 pub returns-in-Err-clause-opened : goal.returns-in-Err-clause-opened
 returns-in-Err-clause-opened c s plays is journals =
     let rules = c.args.game.now in

@@ -8,7 +8,6 @@ use Rattle.c8_world.specs.Ends.{IsRead}
 use Rattle.c8_world.proofs.EndLemmas.{replayed_known}
 use Rattle.c8_world.proofs.node.Node.standing.Goals as goal
 
--- src/node.rt:197:5
 pub returns-in_ok-known-in-Away : goal.returns-in_ok-known-in-Away
 returns-in_ok-known-in-Away c s is journals =
     let rules = c.args.game.now in

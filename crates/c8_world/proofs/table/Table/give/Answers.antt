@@ -4,15 +4,12 @@ use Rattle.c8_world.specs.Agreement.{IsPlayer}
 use Rattle.c8_world.proofs.SpokenLemmas.{none_happens, given_absent, given_happens}
 use Rattle.c8_world.proofs.table.Table.give.Goals as goal
 
--- src/table.rt:184:13
 pub returns-in_default-clause-happened : goal.returns-in_default-clause-happened
 returns-in_default-clause-happened c = none_happens _ c.args.self.now c.args.number c.args.player.number c.self.view_is c.in_default.ensures
 
--- src/table.rt:187:13
 pub returns-then-player-players-clause-happened : goal.returns-then-player-players-clause-happened
 returns-then-player-players-clause-happened c = given_absent _ c.args.self.now c.args.number c.args.player.number c.in-Some.bytes.now c.self.view_is c.in-Some.ensures (omega arith)
 
--- src/table.rt:175:5
 pub returns-clause-happened : goal.returns-clause-happened
 returns-clause-happened c =
     let plays : IsPlayer c.self.inside.game.now c.args.player.number = record { from_one = omega arith; in_game = omega arith } in

@@ -6,7 +6,6 @@ use Rattle.c8_world.specs.Disks.{IsNewDisk}
 use Rattle.c8_world.proofs.LifeLemmas.{node_more, start_holds}
 use Rattle.c8_world.proofs.table.Table.new.Goals as goal
 
--- src/table.rt:127:9
 pub loop-preserved : goal.loop-preserved
 loop-preserved c = record {
   few = omega arith;
@@ -16,7 +15,6 @@ loop-preserved c = record {
   disks = node_more (IsNewDisk c.args.capacity c.args.calls) c.loop.nodes.items c.push_reserved.new.self.items c.in_ok-node.node c.push_reserved.ensures.items c.loop.invariant.disks c.in_ok-node.ensures.disk;
 }
 
--- src/table.rt:114:5
 pub returns-clause-holds : goal.returns-clause-holds
 returns-clause-holds c =
     start_holds _ (omega arith, omega arith, c.loop.invariant.nodeed) c.loop.invariant.untouched c.new.ensures

@@ -4,13 +4,11 @@ use Rattle.c8_world.specs.Events.{act_of}
 use Rattle.c8_world.proofs.LifeLemmas.{lived_more, lived_unopened, lived_still, other_act, opening_refused, nothing_refused}
 use Rattle.c8_world.proofs.world.World.happen.Goals as goal
 
--- src/world.rt:128:17
 pub invariant_of-self : goal.invariant_of-self
 invariant_of-self c =
     lived_more c.self.inside.table c.happen.new.self c.self.inside.events.items c.self.inside.answers.items c.args.event c.in-Ok.answer _ _ c.self.invariant c.happen.ensures.same c.in-Ok.ensures.happened
     c.and-self-inside.ensures c.and-self-inside-in-Ok.ensures
 
--- src/world.rt:134:21
 pub invariant_of-self-in-Open : goal.invariant_of-self-in-Open
 invariant_of-self-in-Open c =
     let opens = sym c.act.ensures ∙ ap act_of c.in-Open.is in

@@ -5,25 +5,21 @@ use Rattle.c8_world.proofs.LifeLemmas.{lived_none, run_out_first, headline_of}
 use Rattle.c8_world.proofs.TurnLemmas.{no_turns}
 use Rattle.c8_world.proofs.world.World.run.Goals as goal
 
--- src/world.rt:92:17
 pub returns-in-Err-clause-memory : goal.returns-in-Err-clause-memory
 returns-in-Err-clause-memory c w holds = run_out_first c.args.self.now.table w c.args.events.now c.new-answers.result.items (λ none. cc (c.in-Err.ensures.succeeds none)) c.new-answers.ensures.items holds
 
--- src/world.rt:92:17
 pub returns-in-Err-clause-headline : goal.returns-in-Err-clause-headline
 returns-in-Err-clause-headline c =
     let range = subst (λ (w : WorldValue). AreInRange w.table.rules) c.self.view_is c.in_range.ensures.rules in
     let few = subst (λ (w : WorldValue). w.table.room < 2 ^ 64) c.self.view_is c.in_range.ensures.room in
     headline_of c.args.self.now.table c.args.self.now c.any_two_moments_agree.ensures range few (record { rules = refl; room = refl })
 
--- src/world.rt:74:5
 pub returns-in-Ok-ran-clause-headline : goal.returns-in-Ok-ran-clause-headline
 returns-in-Ok-ran-clause-headline c =
     let range = subst (λ (w : WorldValue). AreInRange w.table.rules) c.self.view_is c.in_range.ensures.rules in
     let few = subst (λ (w : WorldValue). w.table.room < 2 ^ 64) c.self.view_is c.in_range.ensures.room in
     headline_of c.args.self.now.table c.run_all-ran.new.self c.any_two_moments_agree.ensures range few c.run_all-ran.ensures.same
 
--- src/world.rt:74:5
 pub returns-in-Err-ran-clause-headline : goal.returns-in-Err-ran-clause-headline
 returns-in-Err-ran-clause-headline c =
     let range = subst (λ (w : WorldValue). AreInRange w.table.rules) c.self.view_is c.in_range.ensures.rules in
