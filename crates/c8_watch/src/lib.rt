@@ -4,7 +4,6 @@
 //! [`watch_worker`] makes turns until the match is complete, and publishes the rows on a board ([`open_watch_board`]
 //! opens one). A [`Picture`] sees the machine after each turn. c8_spectator decides which rows a spectator takes;
 //! `specs/Turns.antt` defines a turn.
-//! spectator takes is c8_spectator's; what a turn is, stands in `specs/Turns.antt`.
 #![tactic(auto)]
 
 pub mod laws;
