@@ -1,27 +1,27 @@
-//! What the command `rig` takes, and what it is asked to play by that.
+//! The options of the command `rig`, and what they ask for.
 
 use crate::help::RIG_ENDING;
 use c8_front::{is_explained, with_explain, with_place, word_of};
 use clap::{Arg, ArgAction, ArgMatches, Command, value_parser};
 use std::alloc::{AllocError, Global};
 
-/// What `rig` is asked to play.
+/// What the command line of `rig` asks for.
 #[derive(Clone, Copy)]
 pub struct Asked<'a> {
     /// The path of the game's text.
     pub game: &'a str,
     pub seed: u64,
-    /// How many turns each player takes.
+    /// How many turns each player makes.
     pub turns: u16,
-    /// The path of the script that is made of the match, if one is.
+    /// The path of the script to write, if any.
     pub script: Option<&'a str>,
-    /// Whether it is told how the log grows.
+    /// Whether to print each second how long the log is.
     pub progress: bool,
-    /// Whether a second line says where the fault of a refusal is.
+    /// Whether to print a second line that says where a refusal's fault is.
     pub explain: bool,
 }
 
-/// What `rig` takes.
+/// The command `rig` with its options.
 pub fn rig_command<'a>(alloc: Global) -> Result<Command<'a>, AllocError> {
     let command = Command::new(alloc, "rig")
         .about(
@@ -51,8 +51,7 @@ pub fn rig_command<'a>(alloc: Global) -> Result<Command<'a>, AllocError> {
     with_explain(alloc, command.arg(progress)?)
 }
 
-/// What `rig` is asked to play by a command line, whose reader has seen that each argument is there and
-/// in its range.
+/// What a parsed command line asks for; the parser has checked that each argument is there and in its range.
 pub(crate) fn asked_of<'a>(given: &ArgMatches<'a>) -> Option<Asked<'a>> {
     Some(Asked {
         game: word_of(given, "GAME"),

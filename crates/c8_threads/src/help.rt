@@ -1,4 +1,4 @@
-//! What the help of `rig` ends with: what it is for, what it refuses, and the exit statuses.
+//! The end of the help of `rig`: what it is for, what it refuses, and the exit statuses.
 
 /// The end of the help of `rig`.
 pub const RIG_ENDING: &str =
