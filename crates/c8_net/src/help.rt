@@ -1,5 +1,4 @@
-//! What the help of `peer` and of `watch` ends with: what they take, what they refuse, and the exit
-//! statuses.
+//! The end of the help of `peer` and of `watch`: what they take, what they refuse, and the exit statuses.
 
 /// The end of the help of `peer`.
 pub const PEER_ENDING: &str =
