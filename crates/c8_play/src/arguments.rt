@@ -1,4 +1,4 @@
-//! What the command `play` takes, and what it is asked to play by that.
+//! The options of the command `play`, and what they ask for.
 
 use crate::desk::Pace;
 use crate::help::PLAY_ENDING;
@@ -13,11 +13,11 @@ use std::alloc::{AllocError, Global};
 pub(crate) enum Who {
     /// One person, with the keys of all players.
     Alone,
-    /// A player of a match, who has a journal and an address.
+    /// A player of a match, with a journal and an address.
     Player(Player),
 }
 
-/// What `play` takes.
+/// The command `play` with its arguments and options.
 pub fn play_command<'a>(alloc: Global) -> Result<Command<'a>, AllocError> {
     let command = Command::new(alloc, "play")
         .about("Plays a game at the keyboard, alone or with others over UDP")
@@ -46,7 +46,7 @@ pub fn play_command<'a>(alloc: Global) -> Result<Command<'a>, AllocError> {
     command.arg(hold)
 }
 
-/// The arguments that say what is played by whom.
+/// Adds the arguments that say who plays what.
 fn with_players<'a>(alloc: Global, command: Command<'a>) -> Result<Command<'a>, AllocError> {
     let game = "The path of the game's text, the same for all players";
     let command = with_place(alloc, command, "GAME", game)?;
@@ -62,7 +62,8 @@ fn with_players<'a>(alloc: Global, command: Command<'a>) -> Result<Command<'a>, 
     command.arg(remote)
 }
 
-/// Who is to play, if that is said: one alone has neither journal nor address, a player has both.
+/// Who plays, or `None` if the arguments do not fit: with `alone` there is no journal, and a player has a journal and
+/// an address.
 pub(crate) fn who_of(given: &ArgMatches<'_>) -> Option<Who> {
     let has_match = given.get_str("JOURNAL").is_some() && given.get_str("LOCAL").is_some();
     let has_none = given.get_str("JOURNAL").is_none();
@@ -76,7 +77,7 @@ pub(crate) fn who_of(given: &ArgMatches<'_>) -> Option<Who> {
     }
 }
 
-/// How fast the game goes, by a command line whose reader has seen that the numbers are in their ranges.
+/// How fast the game goes; the parser has checked the ranges.
 pub(crate) fn pace_of(given: &ArgMatches<'_>) -> Pace {
     Pace {
         rate: given.get_one::<u8>("rate").unwrap_or(60).max(1),
