@@ -1,5 +1,6 @@
-//! The end of the help of `play`.
+//! The end of the help of `play`: keys, picture, examples and options.
 
+/// The end of the help of `play`.
 pub const PLAY_ENDING: &str =
     "The left block of the keyboard stands for the keypad, by place, and the arrows for 5, 8, 7 and 9:
   1 2 3 4      1 2 3 C
