@@ -78,7 +78,7 @@ pub fn run<W: Write, E: Write>(
     tell(outcome, site, out, refused)
 }
 
-/// Plays a game by the key lines of `keys`, or returns why the game was not read. No allocator is in reach here.
+/// Plays a game by the key lines of `keys`, or returns why the game was not read. It takes no memory.
 fn played_from(game: Result<Game, GameError>, keys: &[u8]) -> Result<Played, RunError>
     ensures { IsPlayOfRead game keys.now result }
 {
