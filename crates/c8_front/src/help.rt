@@ -1,4 +1,4 @@
-//! What the help of each command ends with: what it takes, what it refuses, and the exit statuses.
+//! The end of the help of each command: what it refuses, and the exit statuses.
 
 /// The end of the help of `run`.
 pub const RUN_ENDING: &str = "Refusals, each one line on standard error, as 'refused: game 5 Hex':
