@@ -1,4 +1,4 @@
-//! What the help of each command ends with: what it takes, what it refuses, and the exit statuses.
+//! The end of the help of the program and of `sim`: what `sim` takes, what is refused, and the exit statuses.
 
 /// The end of the help of the program.
 pub const ENDING: &str =
