@@ -1,4 +1,4 @@
-//! How each refusal shows itself: its number, its name and its sentence.
+//! The texts of each refusal: its number, its name and its sentence.
 use c8_disk::DiskError;
 use c8_hand::HandError;
 use c8_known::KnownError;
@@ -7,7 +7,7 @@ use c8_wire::WireError;
 use std::alloc::Global;
 use std::fmt::Display;
 
-/// What a peer refuses.
+/// The refusals of a peer.
 #[derive(Clone, Copy)]
 enum Refusal {
     Opening(OpenError),
