@@ -84,9 +84,7 @@ fn command<'a>(alloc: Global) -> Result<Command<'a>, AllocError> {
 
 fn sim_command<'a>(alloc: Global) -> Result<Command<'a>, AllocError> {
     let command = Command::new(alloc, "sim")
-        .about(
-            "Plays all players of a game here, by a script of what happens, and prints the answers",
-        )
+        .about("Plays all players of a game here, as a script says, and prints the answers")
         .after_help(SIM_ENDING);
     let command = with_place(alloc, command, "GAME", "The path of the game's text")?;
     let script = "The path of the script: one event a line";

@@ -60,7 +60,7 @@ pub fn with_place<'a>(
 pub fn with_explain<'a>(alloc: Global, command: Command<'a>) -> Result<Command<'a>, AllocError> {
     let explain = Arg::new(alloc, "explain")
         .long("explain")
-        .help("Says in a line after a refusal what is wrong, and where")
+        .help("Says what is wrong, and where, in a second line after a refusal")
         .action(ArgAction::SetTrue);
     command.arg(explain)
 }

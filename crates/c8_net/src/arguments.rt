@@ -45,7 +45,7 @@ pub fn peer_command<'a>(alloc: Global) -> Result<Command<'a>, AllocError> {
     let turns = number(
         alloc,
         "turns",
-        "The most turns, of a millisecond and more each",
+        "Ends after N turns, of at least a millisecond each",
     );
     let progress =
         "Says each second, on standard error, how far the game is, and then how it ended";
@@ -58,11 +58,11 @@ fn with_players<'a>(alloc: Global, command: Command<'a>) -> Result<Command<'a>, 
     let game = "The path of the game's text, the same for all players";
     let command = with_place(alloc, command, "GAME", game)?;
     let player = Arg::new(alloc, "PLAYER")
-        .help("The own player's number, 1 to 4")
+        .help("The number of the own player, 1 to 4")
         .required(true)
         .value_parser(value_parser!(u8).range(1..5));
     let command = command.arg(player)?;
-    let journal = "The path of the own journal, made where there is none";
+    let journal = "The path of the own journal, created if it is missing";
     let command = with_place(alloc, command, "JOURNAL", journal)?;
     let local = "The own address, as 127.0.0.1:4001";
     let command = with_place(alloc, command, "LOCAL", local)?;
@@ -79,12 +79,16 @@ pub fn with_options<'a>(
     turns: Arg<'a>,
     progress: &'a str,
 ) -> Result<Command<'a>, AllocError> {
-    let room = number(alloc, "room", "The match, the same for all its players");
+    let room = number(
+        alloc,
+        "room",
+        "The number of the match, the same for all its players",
+    );
     let command = command.arg(room.default_value("0"))?;
     let command = command.arg(turns)?;
-    let patience = "The turns of silence after which player 1 drops a player [default: never]";
+    let patience = "Player 1 drops a player after N silent turns [default: never]";
     let command = command.arg(number(alloc, "patience", patience))?;
-    let stop = "Ends once so many frames are confirmed [default: never]";
+    let stop = "Ends once N frames are confirmed [default: never]";
     let command = command.arg(number(alloc, "stop", stop))?;
     let checkpoint = number(
         alloc,
@@ -108,7 +112,7 @@ fn with_watcher<'a>(
     name: &'a str,
 ) -> Result<Command<'a>, AllocError> {
     let watcher = Arg::new(alloc, name).long(name).value_name("ADDR").help(
-        "Shows the match to who watches it at this address (player 1 alone)",
+        "Shows the match to a watcher at this address (player 1 only)",
     );
     command.arg(watcher)
 }

@@ -25,10 +25,10 @@ pub fn play_command<'a>(alloc: Global) -> Result<Command<'a>, AllocError> {
     let turns = number(
         alloc,
         "turns",
-        "The most turns, one a frame [default: no end]",
+        "Ends after N turns, one a frame [default: no end]",
     );
     let progress =
-        "Says in the end, on standard error, how late frames were, and how the match ended";
+        "Says at the end, on standard error, how late frames were, and how the match ended";
     let command = with_options(alloc, with_players(alloc, command)?, turns, progress)?;
     let rate = Arg::new(alloc, "rate")
         .long("rate")
@@ -40,7 +40,7 @@ pub fn play_command<'a>(alloc: Global) -> Result<Command<'a>, AllocError> {
     let hold = Arg::new(alloc, "hold")
         .long("hold")
         .value_name("N")
-        .help("For how many frames a key counts as held where the terminal does not tell")
+        .help("How many frames a stroke counts for if the terminal reports no releases")
         .value_parser(value_parser!(u8).range(1..))
         .default_value("9");
     command.arg(hold)
@@ -50,9 +50,9 @@ pub fn play_command<'a>(alloc: Global) -> Result<Command<'a>, AllocError> {
 fn with_players<'a>(alloc: Global, command: Command<'a>) -> Result<Command<'a>, AllocError> {
     let game = "The path of the game's text, the same for all players";
     let command = with_place(alloc, command, "GAME", game)?;
-    let player = "The own player's number, 1 to 4, or alone";
+    let player = "The number of the own player, 1 to 4, or alone";
     let command = with_place(alloc, command, "PLAYER", player)?;
-    let journal = "The path of the own journal, made where there is none";
+    let journal = "The path of the own journal, created if it is missing";
     let command = command.arg(Arg::new(alloc, "JOURNAL").help(journal))?;
     let local = "The own address, as 127.0.0.1:4001";
     let command = command.arg(Arg::new(alloc, "LOCAL").help(local))?;

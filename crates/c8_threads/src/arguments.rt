@@ -25,24 +25,24 @@ pub struct Asked<'a> {
 pub fn rig_command<'a>(alloc: Global) -> Result<Command<'a>, AllocError> {
     let command = Command::new(alloc, "rig")
         .about(
-            "Plays all players of a game here, each in a thread of its own, and tells whether they agree",
+            "Plays all players of a game here, each in a thread of its own, and says whether they agree",
         )
         .after_help(RIG_ENDING);
     let command = with_place(alloc, command, "GAME", "The path of the game's text")?;
     let seed = Arg::new(alloc, "SEED")
-        .help("What the players draw their turns with, 0 to 18446744073709551615")
+        .help("The seed of the players' turns, 0 to 18446744073709551615")
         .required(true)
         .value_parser(value_parser!(u64));
     let command = command.arg(seed)?;
     let turns = Arg::new(alloc, "TURNS")
-        .help("How many turns each player takes, 0 to 10000")
+        .help("How many turns each player makes, 0 to 10000")
         .required(true)
         .value_parser(value_parser!(u16).range(0..10001));
     let command = command.arg(turns)?;
     let script = Arg::new(alloc, "script")
         .long("script")
         .value_name("FILE")
-        .help("Writes what happened as a script, by which sim plays it again");
+        .help("Writes what happened as a script, which sim can play again");
     let command = command.arg(script)?;
     let progress = Arg::new(alloc, "progress")
         .long("progress")

@@ -40,7 +40,7 @@ fn with_match<'a>(alloc: Global, command: Command<'a>) -> Result<Command<'a>, Al
     let game = "The path of the game's text, the same as the players'";
     let command = with_place(alloc, command, "GAME", game)?;
     let seat = Arg::new(alloc, "SEAT")
-        .help("The seat, 5 or 6, as player 1's --watch5 and --watch6 have it")
+        .help("The seat, 5 or 6, as in player 1's --watch5 or --watch6")
         .required(true)
         .value_parser(value_parser!(u8).range(5..7));
     let command = command.arg(seat)?;
@@ -51,15 +51,19 @@ fn with_match<'a>(alloc: Global, command: Command<'a>) -> Result<Command<'a>, Al
 
 /// Adds the options of `watch`.
 fn with_options<'a>(alloc: Global, command: Command<'a>) -> Result<Command<'a>, AllocError> {
-    let room = number(alloc, "room", "The match, the same as its players'");
+    let room = number(
+        alloc,
+        "room",
+        "The number of the match, the same as its players'",
+    );
     let command = command.arg(room.default_value("0"))?;
     let turns = number(
         alloc,
         "turns",
-        "The most turns, of a millisecond and more each",
+        "Ends after N turns, of at least a millisecond each",
     );
     let command = command.arg(turns.default_value("100000"))?;
-    let stop = "Ends once it has so many frames [default: never]";
+    let stop = "Ends once it has N frames [default: never]";
     let command = command.arg(number(alloc, "stop", stop))?;
     let screen = Arg::new(alloc, "screen")
         .long("screen")
