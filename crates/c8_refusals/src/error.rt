@@ -128,7 +128,7 @@ pub enum Refused {
     #[error("only player one says or hears this")]
     NotChair,
     /// At player 1 the journal has no LEAVE of the player, elsewhere no FREEZE.
-    #[error("the player has not been let go here")]
+    #[error("the player has not been dropped here")]
     NotFrozen,
     /// The player that it names cannot leave by it.
     #[error("this player does not leave so")]
@@ -243,13 +243,13 @@ impl Unsayable {
 #[derive(Clone, Copy, Debug, PartialEq, Eq, Hash, Error)]
 pub enum LeaveError {
     /// This peer is not player 1's.
-    #[error("only player one lets a player go")]
+    #[error("only player one drops a player")]
     NotChair,
     /// Player 1 cannot be dropped.
     #[error("player one cannot leave")]
     Myself,
     /// The player was dropped before.
-    #[error("the player has been let go already")]
+    #[error("the player has been dropped already")]
     Already,
     /// The disk refused the record. The peer is down, and the next opening that reads the journal decides whether the
     /// record stands.
@@ -294,7 +294,7 @@ impl LeaveError {
 #[derive(Clone, Copy, Debug, PartialEq, Eq, Hash, Error)]
 pub enum DecideError {
     /// The journal has no LEAVE of the player, or this peer is not player 1's.
-    #[error("the player has not been let go")]
+    #[error("the player has not been dropped")]
     NotLeaving,
     /// A stayer has not answered, or holds more inputs of the leaver than this peer.
     #[error("not all who stay have answered")]
