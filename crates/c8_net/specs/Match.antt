@@ -65,8 +65,8 @@ pub record HasEnded {D : Type 0} (disk : Ghosts D) (first last : PeerValue D) (t
 module _ {D : Type 0} (g : Ghosts D) (disk : D) (rules : Rules) (room me : ℕ) where
   -- The journal was opened, and the peer ran on, each of its calls one step of the definitions. These are the frames
   -- that it has confirmed at the end. The machine is the run of their rows from where the opening began: at the last
-  -- checkpoint that was found, or before the first frame. If that checkpoint is true, the machine is the serial run of
-  -- the rows. So it is if only peers wrote that journal, and if the journal has no checkpoint.
+  -- checkpoint that was found, or before the first frame. If that checkpoint is true, or there is none, the machine is
+  -- the serial run of the rows. The checkpoint is true if only peers wrote that journal.
   pub record HasPlayed (played : Played) : Type 0 where
     pub first : PeerValue D
     pub opened : IsOpened g disk rules room me first

@@ -14,7 +14,7 @@ const LONGEST_OF_TWO: usize = 64;
 
 const LONGEST: usize = 80;
 
-/// How many bytes the row has at most: they move the cursor, clear the row, and are the text.
+/// How many bytes the row has at most, those that move the cursor and clear the row included.
 pub const LONGEST_ROW: usize = 90;
 
 /// Moves the cursor to the first column of row 17, below the screen, and clears the row. It comes before the text,

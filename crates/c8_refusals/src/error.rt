@@ -27,8 +27,8 @@ pub enum OpenError {
     /// Memory ran out, before the disk was touched.
     #[error("out of memory")]
     Memory,
-    /// The disk refused a call. The next opening finds what this one could have found: with or without the record that
-    /// this one would have added.
+    /// The disk refused a call. The next opening finds the journal with or without the record that this one would have
+    /// added.
     #[error("the disk refused a call")]
     Disk(DiskError),
 }
@@ -69,7 +69,7 @@ pub enum TickError {
     /// All frames of the game have been ticked.
     #[error("the game is at its end")]
     End,
-    /// Player 1 has dropped this peer's player.
+    /// This peer's player was dropped, and its journal says so.
     #[error("this player has been dropped")]
     Dropped,
     /// The disk refused the record. The peer is down: its readers answer as before the call, and the next opening that
@@ -144,7 +144,7 @@ pub enum Refused {
     /// The disk failed before; the peer must be opened again.
     #[error("the peer is down")]
     Down,
-    /// Player 1 has dropped this peer's player.
+    /// This peer's player was dropped, and its journal says so.
     #[error("this player has been dropped")]
     Dropped,
 }
@@ -194,7 +194,7 @@ pub enum Unsayable {
     /// The disk failed before; the peer must be opened again.
     #[error("the peer is down")]
     Down,
-    /// Player 1 has dropped this peer's player.
+    /// This peer's player was dropped, and its journal says so.
     #[error("this player has been dropped")]
     Dropped,
     /// The addressee is this peer, or not in the game.
@@ -342,7 +342,7 @@ pub enum CheckError {
     /// No checkpoint is under way, and no frame was confirmed after the last one.
     #[error("nothing was confirmed since the last checkpoint")]
     Nothing,
-    /// Player 1 has dropped this peer's player.
+    /// This peer's player was dropped, and its journal says so.
     #[error("this player has been dropped")]
     Dropped,
     /// The disk refused the record. The peer is down, and the next opening that reads the journal decides whether the
