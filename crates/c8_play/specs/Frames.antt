@@ -46,8 +46,8 @@ pub record HasWaited {D W C : Type 0} (disk : DiskGhosts D) (wire : WireGhosts W
 
 module _ {D W C : Type 0} (disk : DiskGhosts D) (wire : WireGhosts W) (console : ConsoleGhosts C) (window patience : ℕ) where
   -- The bytes of the keys are read, and the peer makes one turn. It hands in the keys that are held, unless the tick is
-  -- left out; `HasLed` says when, by the counts before and after the frame. Nothing is written at the desk. The desk may
-  -- forget what its screen shows, when the person asks to repaint it.
+  -- left out; `HasLed` says when, by the counts before and after the frame. Nothing is written at the desk. The desk
+  -- may forget what its screen shows, when the person asks to repaint it.
   pub record HasPlayed (p q : PeerValue D) (before after : W) (old new : Desk C) (led leads : ℕ) : Type 0 where
     pub read : Typing
     pub keys : Keys
