@@ -24,8 +24,7 @@ pub record HasRunOn {D : Type 0} (disk : Ghosts D) (old new : PeerValue D) : Typ
   pub run : IsRun old.rules old.room old.me old.state (map does calls) answers new.state
   pub disk_is : IsSameDisk disk old.disk new.disk
 
--- After such a run one more call, whose record the disk refused: the answer says why, and the peer's contract says what
--- it leaves.
+-- After such a run one more call, answered as its contract says, whose record the disk refused for this reason.
 pub record IsStopped {D : Type 0} (disk : Ghosts D) (old new : PeerValue D) (why : DiskError) : Type 0 where
   pub before : PeerValue D
   pub ran : HasRunOn disk old before

@@ -1,5 +1,4 @@
--- What a turn of a session is: which calls of its peer it makes, in which order, and which of the resulting packets its
--- wire takes.
+-- What a turn of a session is: which calls of its peer it makes, in which order, and which packets its wire takes.
 use Rattle.std.specs.Prelude.{◌≡◌, ◌⊎◌, ◌≤◌, ℕ, zero, suc, List, [], ◌∷◌, ◌++◌, length, Option, Some, Ok}
 use Rattle.std.specs.List.{All}
 use Rattle.c8_disk.specs.declared.disk.Disk.{Ghosts as DiskGhosts}

@@ -118,7 +118,7 @@ impl<'g, D: Disk> Session<'g, D> {
         self.silence.turns(player)
     }
 
-    /// Whether the session is done: player 1 has dropped its player, or it has rested for more than 120 turns.
+    /// Whether the session is done: the peer knows that it was dropped, or it has rested for more than 120 turns.
     pub fn is_over(&self) -> bool
         ensures { IsTrue result ↔ IsOver self.now }
     {

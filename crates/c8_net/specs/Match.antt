@@ -54,8 +54,7 @@ IsNoMatch game input remotes (Open error) = ⊥
 
 -- ---- in threads
 
--- A session ended: its peer ran on, each of its calls one step of the definitions, and if something ended it before its
--- last turn, the error says what.
+-- A session ended: its peer ran on, each of its calls one step of the definitions; if an error ended it, this is why.
 pub record HasEnded {D : Type 0} (disk : Ghosts D) (first last : PeerValue D) (turns : Result ℕ SessionError) : Type 0 where
   pub ran : HasRunOn disk first last
   pub end : IfErr turns (IsEnd disk first last)

@@ -33,8 +33,7 @@ AreFramesAlone {C} console rules (suc fewer) rows old new =
     (before : List Row) × (row : Row) × (rested ready : Desk C) × (rows ≡ before ++ row ∷ []) × AreFramesAlone console rules fewer before old rested × IsSameDesk console rested ready
     × IsFrameAlone console rules before row ready new
 
--- at most as many frames as the game has, each with the keys that were held in it; the machine is that of the serial
--- run
+-- at most as many frames as the game has, each with the keys held in it; the machine is that of the serial run
 pub record IsPlayedAlone {C : Type 0} (console : Ghosts C) (rules : Rules) (played : Played) (old new : Desk C) : Type 0 where
   pub rows : List Row
   pub frames : played.frames ≡ length rows

@@ -23,18 +23,16 @@ pub record IsAhead {D : Type 0} (window : ℕ) (peer : PeerValue D) : Type 0 whe
   pub other : IsOther peer player
   pub beyond : count_in (known_by peer) player + window / 2 < ticks peer.state.journal
 
--- A frame, by the number of consecutive frames in which the player was ahead and its keys were taken, before and after
--- it. The tick is left out if the player is ahead and this frame makes that number reach the patience. If the keys are
--- not taken, because the tick was left out or refused, the count restarts: a player that has just waited for the others
--- does not wait again.
+-- A frame, by the number of consecutive frames ahead whose keys were taken, before and after it. The tick is left out
+-- if the player is ahead and this frame makes that number reach the patience. If the keys are not taken, as the tick is
+-- left out or refused, the count restarts: a player that has just waited for the others does not wait again.
 pub record HasLed {D : Type 0} (window patience : ℕ) (peer : PeerValue D) (out taken : Bool) (before after : ℕ) : Type 0 where
   pub left_out : IsTrue out ↔ (IsAhead window peer × (patience ≤ before + 1))
   pub counted : IsAhead window peer → IsTrue taken → after ≡ before + 1
   pub behind : ¬ IsAhead window peer → after ≡ 0
   pub waited : taken ≡ false → after ≡ 0
 
--- the window of the game; after how many consecutive frames ahead a tick is left out, that one included; and the count
--- so far
+-- the game's window; how many consecutive frames ahead leave out a tick, the last of them; and the count so far
 abbrev pub window_of : Lead → ℕ
 window_of lead = lead.window
 

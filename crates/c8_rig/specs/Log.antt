@@ -82,8 +82,7 @@ WasSaid said (Hear number watcher) bytes = ⊥
 WasSaid said (Seen watcher) bytes = ⊥
 WasSaid said (Fresh watcher) bytes = ⊥
 
--- A note may follow the notes of a log of `players` players: its peer is one of theirs, and what it delivers was said
--- before.
+-- A note may follow a log of `players` players: its peer is one of theirs, and what it delivers was said before.
 pub record MayFollow (players : ℕ) (log : List NoteValue) (n : NoteValue) : Type 0 where
   pub from_one : 1 ≤ player_of n.act
   pub in_game : player_of n.act ≤ players
@@ -162,9 +161,8 @@ pub record IsWorld (rules : Rules) (room : ℕ) (log : List NoteValue) (states :
   pub goes : GoesOn rules room (start rules) log (said_by log) world
   pub peers : (p : ℕ) → IsPlayer rules p → peer_of world p ≡ states p
 
--- Two moments of a log, one after a front of it and one some notes later. The world of the first leads to that of the
--- second, the rest of each player's part leads its peer on to this state, and the two worlds satisfy all that any two
--- moments of a match do.
+-- Two moments of a log, after a front of it and some notes later. The world of the first leads to that of the second,
+-- the rest of each player's part leads its peer on to this state, and both satisfy all that two moments of a match do.
 pub record AreMoments (rules : Rules) (room : ℕ) (front between rest : List NoteValue) (states : ℕ → State) : Type 0 where
   pub earlier : World
   pub later : World

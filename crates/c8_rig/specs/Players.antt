@@ -13,8 +13,7 @@ use Rattle.c8_rig.specs.Log.{NoteValue, Leads}
 use Rattle.c8_rig.specs.Tokens.{EntryValue}
 
 module _ {D : Type 0} (disk : Ghosts D) where
-  -- The peer answered this call as its contract says: it blames the disk only for a failure, and asks the disk only to
-  -- append its record.
+  -- The peer answered this call as its contract says: it blames the disk only for a failure, and only appends a record.
   abbrev pub IsCallAt : PeerValue D → Call → PeerValue D → Type 0
   IsCallAt old call new = (reply : Reply) × IsAnswered disk old call reply new
 

@@ -107,8 +107,7 @@ IsPrinted (Err unfinished) text = AreLines 1 unfinished.answers.items text
 abbrev pub part_of_unfinished : Unfinished → Part
 part_of_unfinished unfinished = sim_part unfinished.error
 
--- `sim` ended like this: the two texts have an outcome, it answers the outcome's status, and it appended the outcome's
--- text to the output.
+-- `sim` ended like this: the two texts have an outcome; it answers its status, and has appended its text to the output.
 pub record HasEnded (game script : List ℕ) (status : Status) (old new : Option (List ℕ)) : Type 0 where
   pub outcome : Result Transcript Unfinished
   pub is_outcome : IsOutcomeOfSim game script outcome

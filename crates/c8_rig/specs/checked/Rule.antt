@@ -1,5 +1,4 @@
--- Checked, not believed: what the keeper of a log and the owners of its parts know of each other, whatever the threads
--- do.
+-- Checked, not believed: what a log's keeper and the owners of its parts know of each other, whatever the threads do.
 use Rattle.std.specs.Prelude.{◌≡◌, ℕ, ◌+◌, ◌<◌, ◌≤◌, List, [], ◌∷◌, ◌++◌}
 use mathlib.Core.Option.{some}
 use lib.ListN.{get_elem?}
@@ -23,8 +22,7 @@ Owns p (Own q own) = q ≡ p
 Owns p (Both n all q own) = q ≡ p
 Owns p Spent = ⊥
 
--- The rule: there is one log. Each view fits it, each list has one owner, and a player without an entry has an empty
--- part.
+-- The rule: there is one log. Each view fits it, each list has one owner, and a player without an entry has no notes.
 pub record Keeps {S : Type 0} (s : State S View) : Type 0 where
   pub players : ℕ
   pub log : List NoteValue
