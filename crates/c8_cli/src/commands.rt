@@ -24,8 +24,8 @@ use std::sync::Wait;
 use std::thread::Threads;
 use std::time::Clock;
 
-/// Does what the program's arguments ask for, and answers how it ended. `input` is its standard
-/// input; what is printed goes to `out`, which may be a terminal, why something is refused to `refused`.
+/// Runs the program with these arguments, and returns its exit status. `input` is standard input. Output goes to `out`,
+/// which may be a terminal, and refusals to `refused`.
 pub fn answer<R, I, W: Write, E: Write + Send>(
     rt: &R,
     args: io::Result<Args>,
@@ -42,7 +42,7 @@ where
     status_at(ended, refused)
 }
 
-/// Does what the arguments ask for. The error is that of a writer, or want of memory.
+/// Does what the arguments ask for. The error is a writer's, or that memory ran out.
 fn obey<R, I, W: Write, E: Write + Send>(
     rt: &R,
     args: io::Result<Args>,
@@ -65,7 +65,7 @@ where
     }
 }
 
-/// What the program takes.
+/// The command line of the program.
 fn command<'a>(alloc: Global) -> Result<Command<'a>, AllocError> {
     let command = Command::new(alloc, "c8play")
         .about("Plays CHIP-8 programs, alone or with others, and shows what a datagram says")
@@ -84,9 +84,7 @@ fn command<'a>(alloc: Global) -> Result<Command<'a>, AllocError> {
 
 fn sim_command<'a>(alloc: Global) -> Result<Command<'a>, AllocError> {
     let command = Command::new(alloc, "sim")
-        .about(
-            "Plays all players of a game here, by a script of what happens, and prints the answers",
-        )
+        .about("Plays all players of a game here, as a script says, and prints the answers")
         .after_help(SIM_ENDING);
     let command = with_place(alloc, command, "GAME", "The path of the game's text")?;
     let script = "The path of the script: one event a line";

@@ -1,4 +1,4 @@
-//! The command line of c8play: what each command takes, and the crate that carries it out.
+//! The command line of c8play: the options of each command, and the crate that runs it.
 #![tactic(auto)]
 
 mod commands;

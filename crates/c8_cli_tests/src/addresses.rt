@@ -7,7 +7,7 @@ const LOCAL: &str = "127.0.0.1:4001";
 
 const REMOTES: [&str; 3] = ["127.0.0.1:5001", "127.0.0.1:5002", "127.0.0.1:5003"];
 
-/// The number of one of four players, and the ports at which it has them, 0 for its own place.
+/// The number of one of four players, and the ports by place, 0 at its own place.
 type Row = (u8, [u16; 4]);
 
 static ROWS: [Row; 4] = [
@@ -21,7 +21,7 @@ fn rows() -> &'static [Row] {
     &ROWS
 }
 
-/// The address of a port here, if it is one.
+/// The address of a port on this machine; `None` for port 0.
 fn at(port: u16) -> Option<SocketAddr> {
     if port == 0 {
         None

@@ -1,4 +1,4 @@
-//! The line of each refusal that no script of `c8play sim` brings about.
+//! The line of each refusal that no script of `c8play sim` causes.
 use c8_hand::HandError;
 use c8_known::KnownError;
 use c8_peer::{LeaveError, OpenError, Refused};
@@ -53,7 +53,7 @@ const LINES: &str = "1 no open 4 EpochsSpent
 18 no watch 6 Absent
 ";
 
-/// Whether all lines are written.
+/// Writes all lines, and returns whether that succeeded.
 fn tell(out: &mut Vec<u8>) -> bool {
     write_answers(out, answers()).is_ok()
 }

@@ -1,4 +1,4 @@
-//! The command line, where its words cannot be read, or what it prints cannot be written.
+//! The command line when its words cannot be read, or its output cannot be written.
 use crate::writers::Short;
 use c8_cli::answer;
 use std::alloc::Global;
@@ -36,7 +36,7 @@ where
     answer(rt, args, b"".as_slice(), out, false, refused).code()
 }
 
-/// The number of the error in place of the arguments, and the status and the line then.
+/// The number of the error in place of the arguments, and the status and the line that follow.
 static UNREAD: [(u8, u8, &str); 3] = [
     (0, 2, "error: an argument is not UTF-8\n"),
     (1, 1, "refused: open 5 Memory\n"),
@@ -59,7 +59,7 @@ fn arguments_that_cannot_be_read(rt: HostRuntime) {
     }
 }
 
-/// Command lines whose answer is longer than five bytes, and whether it goes to standard output.
+/// Command lines whose output is longer than five bytes, and whether it goes to standard output.
 static UNWRITTEN: [(&str, bool); 5] = [
     (
         "c8play show 433801010102030405060708020100000000000200000000",
@@ -84,8 +84,8 @@ fn words_in(alloc: Global, line: &str) -> Result<Args, Fail> {
     Ok(words.into_iter())
 }
 
-/// Whether a command line whose answer finds room for five bytes ends as the disk's fault. It says so on standard error,
-/// unless that is what has no room.
+/// Whether a command line ends as the disk's fault if only five bytes of its output can be written. It says so on
+/// standard error, unless that is the full one.
 fn fails<R>(rt: &R, args: Args, is_printed: bool) -> bool
 where
     R: Files<File = File> + Net + Clock + Threads + Wait + Sync + AllocGlobal,

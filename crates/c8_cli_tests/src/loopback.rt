@@ -29,7 +29,7 @@ const ONE: &str = "127.0.0.1:21401";
 
 const TWO: &str = "127.0.0.1:21402";
 
-/// A watcher with its address, and that of the carrier between it and player one.
+/// A watcher with its address, and the address of the carrier between it and player 1.
 #[derive(Clone, Copy)]
 struct Far {
     seat: Watcher,
@@ -55,12 +55,12 @@ const SIX: Far = Far {
     carrier_port: 21_416,
 };
 
-/// A port here.
+/// The address of a port on this machine.
 fn at(port: u16) -> SocketAddr {
     SocketAddr::from((Ipv4Addr::LOCALHOST, port))
 }
 
-/// What a player's peer prints; nothing where it is refused.
+/// What a player's peer prints; nothing if it is refused.
 fn played<'x, R>(
     rt: &R,
     number: u8,
@@ -97,7 +97,7 @@ where
     report
 }
 
-/// What a watcher prints; nothing where it is refused.
+/// What a watcher prints; nothing if it is refused.
 fn watched<R>(rt: &R, far: Far, is_over: &AtomicBool) -> Vec<u8>
 where
     R: Files<File = File> + Net + Clock + Threads + Wait + Sync + AllocGlobal,
@@ -119,7 +119,7 @@ where
     report
 }
 
-/// Carries packets between player one and a watcher, and loses every third one, until the watcher has ended.
+/// Carries packets between player 1 and a watcher, and loses every third one, until the watcher has ended.
 fn carry<R: Net + Clock + Wait>(rt: &R, far: Far, is_over: &AtomicBool) {
     let (watcher, one) = (at(far.port), at(21_401));
     let Ok(socket) = UdpSocket::bind(rt, at(far.carrier_port)) else {

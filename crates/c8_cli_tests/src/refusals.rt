@@ -1,5 +1,5 @@
-//! The lines of refusals that no case brings about: memory that runs out, a disk that is full, and a journal that was
-//! opened too often. The second line of each is the sentence of its error.
+//! The lines of refusals that no case causes: memory that runs out, a full disk, and a journal that was opened too
+//! often. The second line of each is the sentence of its error.
 use c8_command::{Refusal, Site, TextError, TextsError};
 use c8_disk::DiskError;
 use c8_game::GameError;
@@ -10,7 +10,7 @@ use c8_script::{ScriptError, SimError};
 use c8_show::{HexError, ShowError};
 use std::fmt::Display;
 
-/// Writes both lines. Whether they are written.
+/// Writes both lines, and returns whether that succeeded.
 fn tell<D: Display>(out: &mut Vec<u8>, refusal: Refusal, error: &D) -> bool {
     refusal.tell_at(Some(Site::Nowhere), error, out).is_ok()
 }

@@ -25,12 +25,12 @@ fn wire_to(rt: &HostRuntime, other: SocketAddr) -> Result<Udp, SocketError> {
     Udp::open(rt, &addresses)
 }
 
-/// A socket of another player, which waits for nothing.
+/// A socket of another player.
 fn other_socket(rt: &HostRuntime) -> Result<UdpSocket, Fail> {
     Ok(UdpSocket::bind(rt, any())?)
 }
 
-/// The first bytes of the next packet, if one has come.
+/// The length of the next packet, if one has come; 0 after an error.
 fn received(wire: &mut Udp, packet: &mut [u8; LONGEST_PACKET]) -> Option<usize> {
     match wire.receive(packet) {
         Ok(size) => size,
@@ -38,7 +38,7 @@ fn received(wire: &mut Udp, packet: &mut [u8; LONGEST_PACKET]) -> Option<usize> 
     }
 }
 
-/// Player 2 answers what it hears by a packet that is longer than any datagram, and a short one.
+/// Player 2 answers what it hears with a packet that is longer than any datagram, and a short one.
 fn answer_twice(other: &UdpSocket) -> Result<bool, Fail> {
     let mut heard = [0; 300];
     let (size, from) = other.recv_from(&mut heard)?;
@@ -47,7 +47,7 @@ fn answer_twice(other: &UdpSocket) -> Result<bool, Fail> {
     Ok(size == 8 && heard.starts_with(b"datagram"))
 }
 
-/// Whether player 2 is sent a datagram.
+/// Sends player 2 a datagram, and returns whether that succeeded.
 fn sends(wire: &mut Udp) -> bool {
     wire.send(Seat::from(TWO), b"datagram").is_ok()
 }
@@ -58,7 +58,7 @@ fn is_quiet(wire: &mut Udp) -> bool {
     received(wire, &mut packet).is_none()
 }
 
-/// Whether both answers come, the long one as its first bytes, and no more.
+/// Whether both answers come, the long one cut to its first bytes, and nothing more.
 fn hears_twice(wire: &mut Udp) -> bool {
     let mut packet = [0; LONGEST_PACKET];
     received(wire, &mut packet) == Some(LONGEST_PACKET)
@@ -78,7 +78,7 @@ fn carries_packets_and_never_waits(rt: HostRuntime) -> Result<(), Fail> {
     Ok(())
 }
 
-/// An address at which nobody is any more.
+/// An address at which nobody listens any more.
 fn gone(rt: &HostRuntime) -> Result<SocketAddr, Fail> {
     Ok(other_socket(rt)?.local_addr()?)
 }
@@ -88,7 +88,7 @@ fn loses(wire: &mut Udp) -> bool {
     sends(wire) && is_quiet(wire)
 }
 
-/// A player at whose address nobody is, and one without an address, are losses.
+/// Datagrams to an address at which nobody listens, and to a player without an address, are lost.
 #[test]
 fn a_player_who_is_not_there_is_a_loss(rt: HostRuntime) -> Result<(), Fail> {
     let mut wire = wire_to(&rt, gone(&rt)?)?;
@@ -109,7 +109,7 @@ fn opens_at(rt: &HostRuntime, local: SocketAddr) -> bool {
     Udp::open(rt, &addresses).is_ok()
 }
 
-/// An address that is taken, and one to which nothing can be sent.
+/// An address that is taken, and one to which nothing can be sent, are faults.
 #[test]
 fn an_address_of_no_use_is_a_fault(rt: HostRuntime) -> Result<(), Fail> {
     let other = other_socket(&rt)?;

@@ -1,4 +1,4 @@
-//! A datagram that is lost, where the system says so.
+//! A lost datagram that the system reports.
 use c8_game::Player;
 use c8_live::{LONGEST_PACKET, Wire};
 use c8_net::{Addresses, Udp};
@@ -29,7 +29,7 @@ fn connected(rt: &HostRuntime) -> Result<Udp, Fail> {
     Ok(Udp::over(socket, &addresses))
 }
 
-/// Whether the packet that waits comes behind the news of a loss, and datagrams are sent before it and after it.
+/// Whether the packet that waits comes after the report of a loss, and datagrams can be sent before and after it.
 fn goes_on(wire: &mut Udp) -> bool {
     let mut packet = [0; LONGEST_PACKET];
     wire.send(Seat::from(TWO), b"datagram").is_ok()
@@ -39,7 +39,7 @@ fn goes_on(wire: &mut Udp) -> bool {
         && wire.receive(&mut packet) == Ok(None)
 }
 
-/// Where a socket is connected, its next call says that nobody heard a datagram.
+/// The next call of a connected socket reports that nobody received a datagram.
 #[test]
 fn a_packet_comes_behind_a_loss(rt: HostRuntime) -> Result<(), Fail> {
     let mut wire = connected(&rt)?;

@@ -1,4 +1,4 @@
-//! Writers that fail, and what the commands make of them.
+//! Writers that fail, and how the commands end then.
 use c8_command::Text;
 use c8_keys::run;
 use c8_script::sim;
@@ -28,7 +28,7 @@ impl Write for Short {
     }
 }
 
-/// A writer that fails once, after some calls, and takes all else.
+/// A writer that fails once, after some calls, and takes everything else.
 #[derive(Drop)]
 struct FailsOnce {
     after: u32,
@@ -61,7 +61,7 @@ struct Writers {
 const GAME: &str =
     "players 2\nipf 10\nframes 100\ndelay 0\nwindow 8\nseed 0\nmask1 000f\nmask2 fff0\ncode 1200\n";
 
-/// What a command is given.
+/// The texts of a command.
 struct Given {
     command: &'static str,
     first: &'static str,
@@ -70,8 +70,8 @@ struct Given {
     calls: u32,
 }
 
-/// A game and no keys; a game and a script; a line that each refuses; and a word of each kind, and one
-/// of each refusal.
+/// A game and no keys; a game and a script; a line that each refuses; and a word of each kind, and one for each
+/// refusal.
 #[rattlefmt::skip]
 static COMMANDS: [Given; 14] = [
     Given { command: "run", first: GAME, second: "", calls: 200 },
@@ -94,13 +94,13 @@ fn commands() -> &'static [Given] {
     &COMMANDS
 }
 
-/// A text of no file.
+/// A text without a file.
 fn text<'a>(text: &'a str) -> Text<'a> {
     let bytes = text.as_bytes();
     Text { file: "a", bytes }
 }
 
-/// Whether the command ends without an error. It explains a refusal.
+/// Whether the command ends without an error. It explains refusals.
 fn ends_well(alloc: Global, given: &Given, to: &mut Writers) -> bool {
     let first = text(given.first);
     let second = text(given.second);
@@ -119,8 +119,8 @@ fn fails_after(after: u32) -> FailsOnce {
     }
 }
 
-/// The first number of calls after which a failure is no error of the command, or reaches both writers. The last one
-/// tried must not fail.
+/// The first number of calls after which a failure is no error of the command, or reaches both writers. The last number
+/// that is tried must cause no failure.
 fn first_missed(alloc: Global, given: &Given) -> Option<u32> {
     for after in 0..given.calls {
         let mut to = Writers {
@@ -137,7 +137,7 @@ fn first_missed(alloc: Global, given: &Given) -> Option<u32> {
     None
 }
 
-/// Any call of a writer that fails is an error, and then nothing goes to the other writer.
+/// A failing call of a writer is an error, and then nothing goes to the other writer.
 #[test]
 fn each_command_fails_where_its_writer_does(rt: HostRuntime) {
     for (place, given) in commands().iter().enumerate() {

@@ -12,7 +12,7 @@ exit_code_of Refused = 1
 exit_code_of CommandLine = 2
 exit_code_of Failed = 3
 
--- where a disk or a socket failed, the program ends as failed, and else as refused
+-- the program ends as failed if a disk or a socket failed, otherwise as refused
 abbrev pub status_of : Part → Status
 status_of Game = Refused
 status_of Keys = Refused
@@ -23,7 +23,7 @@ status_of Open = Refused
 status_of Disk = Failed
 status_of Socket = Failed
 
--- a command is done where it has something to print; else it ends by the part that its error is of
+-- a command that has something to print is done; otherwise the part of its error decides
 abbrev pub status_of_outcome : {T E : Type 0} → (E → Part) → Result T E → Status
 status_of_outcome part (Ok printed) = Done
 status_of_outcome part (Err error) = status_of (part error)

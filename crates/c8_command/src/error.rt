@@ -13,10 +13,10 @@ pub enum TextError {
 /// Why the two texts of a command were not both read.
 #[derive(Clone, Copy, Debug, PartialEq, Eq, Error)]
 pub enum TextsError {
-    /// Of the first text.
+    /// The first text.
     #[error("a file that cannot be read, or has more than 16777216 bytes")]
     FirstFailed,
-    /// Of the second text.
+    /// The second text.
     #[error("a file that cannot be read, or has more than 16777216 bytes")]
     SecondFailed,
     #[error("out of memory for the first text")]

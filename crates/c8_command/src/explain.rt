@@ -8,25 +8,25 @@ use std::io::Write;
 /// How many bytes of a line are shown at most.
 pub const MOST_SHOWN: usize = 100;
 
-/// Where the fault is that a refusal tells of.
+/// Where the fault of a refusal is.
 #[derive(Clone, Copy, Debug, PartialEq, Eq)]
 pub enum Site<'a> {
     /// In nothing that has a name.
     Nowhere,
-    /// In a file, or in what is read in place of one, of this name.
+    /// In a file, or in what is read in its place, of this name.
     File(&'a str),
     /// In one line of a file.
     Line {
         file: &'a str,
-        /// 0 for the file's first line.
+        /// The file's first line is at 0.
         place: usize,
-        /// The line, without what ends it.
+        /// The line without its end.
         bytes: &'a [u8],
     },
 }
 
 impl<'a> Site<'a> {
-    /// The line at a place of a file, if there is one; else the file.
+    /// The line at a place of a file, if there is one; otherwise the file.
     pub fn line(file: &'a str, place: usize, line: Option<&'a [u8]>) -> Self {
         match line {
             Some(bytes) => Site::Line { file, place, bytes },
@@ -34,10 +34,10 @@ impl<'a> Site<'a> {
         }
     }
 
-    /// Writes the line that explains a refusal by its error's sentence: `SENTENCE`, `FILE: SENTENCE`,
-    /// or `FILE, line N: SENTENCE: "TEXT"`, where N is 1 for the file's first line. In TEXT a byte that
-    /// is not printable ASCII, a quote and a backslash are escaped; of a line of more than
-    /// `MOST_SHOWN` bytes the first stand there, and after the quote ` and N bytes more`.
+    /// Writes the line that explains a refusal: `SENTENCE`, `FILE: SENTENCE`, or `FILE, line N: SENTENCE: "TEXT"`,
+    /// where N is 1 for the file's first line. In TEXT, quotes, backslashes and bytes that are not printable ASCII are
+    /// escaped. Of a line longer than `MOST_SHOWN` bytes it writes the first `MOST_SHOWN`, and after the quote ` and N
+    /// bytes more`.
     pub fn explain<W: Write, D: Display>(self, sentence: &D, out: &mut W) -> io::Result<()> {
         match self {
             Site::Nowhere => writeln!(out, "{sentence}"),
@@ -52,7 +52,7 @@ impl<'a> Site<'a> {
 }
 
 impl TextsError {
-    /// Which of the two files of a command is at fault.
+    /// The file of a command that is at fault.
     pub fn site<'a>(self, first: &'a str, second: &'a str) -> Site<'a> {
         match self {
             TextsError::FirstFailed | TextsError::FirstMemory => Site::File(first),

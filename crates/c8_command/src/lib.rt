@@ -1,6 +1,5 @@
-//! What all commands of the program have in common: how a command ends ([`Status`]), how it tells
-//! why it refuses what it was given ([`Refusal`]) and where the fault is ([`Site`]), and how the texts
-//! of files are read ([`Text`]).
+//! What all commands share: the exit status ([`Status`]), the line of a refusal ([`Refusal`]), where a fault is
+//! ([`Site`]), and reading text files ([`Text`]).
 #![tactic(auto)]
 
 mod error;

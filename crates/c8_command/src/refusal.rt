@@ -1,4 +1,4 @@
-//! Why a command refuses what it was given, as it is told.
+//! The line that says why a command refuses.
 
 ghost use Rattle.std.specs.Prelude.{◌≡◌, IfOk};
 ghost use Rattle.c8_command.specs.Status.{status_of};
@@ -16,13 +16,13 @@ pub enum Part {
     Game,
     /// A text of key lines.
     Keys,
-    /// A script of events, and want of memory for what happens by it.
+    /// A script of events; also out of memory while it runs.
     Script,
     /// A hexadecimal word.
     Hex,
     /// The bytes of a datagram.
     Wire,
-    /// The opening of a peer, and want of memory to start with.
+    /// The opening of a peer; also out of memory at the start.
     Open,
     /// A file that cannot be read or written or is too long for a text, or the disk of a journal.
     Disk,
@@ -31,7 +31,7 @@ pub enum Part {
 }
 
 impl Part {
-    /// The word for it.
+    /// The word that is printed for it.
     pub fn name(self) -> &'static str {
         match self {
             Part::Game => "game",
@@ -46,8 +46,8 @@ impl Part {
     }
 }
 
-/// Why a command refuses what it was given: what is refused, and the number and the name that the
-/// error has there. Each command has an error of its own, which becomes a refusal to be told.
+/// Why a command refuses: what is refused, and the number and the name of the error. Each command has its own error
+/// type, and converts it to a refusal to print it.
 #[derive(Clone, Copy, Debug, PartialEq, Eq)]
 pub struct Refusal {
     pub part: Part,
@@ -63,14 +63,14 @@ impl Refusal {
         name: "Failed",
     };
 
-    /// Want of memory before there is anything else to name.
+    /// Out of memory before anything was read.
     pub const MEMORY: Refusal = Refusal {
         part: Part::Open,
         number: 5,
         name: "Memory",
     };
 
-    /// The status with which the program ends: `Failed` for a disk and a socket, else `Refused`.
+    /// The exit status: `Failed` for a disk or a socket, otherwise `Refused`.
     pub fn status(self) -> Status
         ensures { result ≡ status_of self.part }
     {
@@ -82,7 +82,7 @@ impl Refusal {
         }
     }
 
-    /// Writes the one line that a refusal is, as `refused: hex 1 Bad`, and answers the status.
+    /// Writes the line of the refusal, as `refused: hex 1 Bad`, and returns the status.
     pub fn tell<W: Write>(self, out: &mut W) -> io::Result<Status>
         ensures { IfOk result (λ status. status ≡ status_of self.part) }
     {
@@ -91,8 +91,8 @@ impl Refusal {
         Ok(self.status())
     }
 
-    /// The same; and where it is to be explained, by a site and by the sentence of its error, a second
-    /// line does that.
+    /// Writes the line of the refusal, and a second line with the sentence of its error if there is a site. Returns the
+    /// status.
     pub fn tell_at<W: Write, D: Display>(
         self,
         site: Option<Site<'_>>,

@@ -13,9 +13,9 @@ pub enum Status {
     Done,
     /// It refused its input, or memory ran out.
     Refused,
-    /// The command line asks for nothing that it does.
+    /// The command line has a mistake.
     CommandLine,
-    /// A disk failed it.
+    /// A disk or a socket failed.
     Failed,
 }
 

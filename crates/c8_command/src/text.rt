@@ -10,17 +10,17 @@ use std::fs;
 use std::io::{ErrorKind, Read};
 use std::rt::Files;
 
-/// The most bytes that a text may have.
+/// How many bytes a text may have at most.
 pub const LONGEST_TEXT: u64 = 16_777_216;
 
-/// A text, and what the file that it is from is called.
+/// A text, and the name of its file.
 #[derive(Clone, Copy, Debug, PartialEq, Eq)]
 pub struct Text<'a> {
     pub file: &'a str,
     pub bytes: &'a [u8],
 }
 
-/// The bytes of the two files of a command. Both are read, whatever the first one says.
+/// Reads the two files of a command. It reads both, whatever comes of the first.
 pub fn read_both<R: Files + AllocGlobal>(
     rt: &R,
     first: &str,
@@ -31,8 +31,8 @@ pub fn read_both<R: Files + AllocGlobal>(
     both(first, second)
 }
 
-/// Both texts of a command, or why they are refused: a file that cannot be read comes before want
-/// of memory, and the first text before the second.
+/// Both texts of a command, or why they are refused: a file that cannot be read comes before out of memory, and the
+/// first text before the second.
 pub fn both<T: Drop>(
     first: Result<T, TextError>,
     second: Result<T, TextError>,
@@ -50,7 +50,7 @@ pub fn both<T: Drop>(
     }
 }
 
-/// The bytes of a file.
+/// Reads the bytes of a file.
 pub fn read_file<R: Files + AllocGlobal>(rt: &R, path: &str) -> Result<Vec<u8>, TextError> {
     let Ok(file) = fs::open(rt, path) else {
         return Err(TextError::Failed);
@@ -58,8 +58,7 @@ pub fn read_file<R: Files + AllocGlobal>(rt: &R, path: &str) -> Result<Vec<u8>, 
     text_of(rt.alloc(), file)
 }
 
-/// All that a reader has left. `Failed` where the reader fails or has more than `LONGEST_TEXT`
-/// bytes.
+/// Reads all that a reader has left. `Failed` if the reader fails or has more than `LONGEST_TEXT` bytes.
 pub fn text_of<R: Read + Drop>(alloc: Global, reader: R) -> Result<Vec<u8>, TextError>
     ensures whole { IfOk result
         (λ text. IfSome (R.remaining reader) (λ bytes. text.items ≡ bytes)) }

@@ -1,11 +1,11 @@
-//! What the commands `run` and `show` take.
+//! The options of the commands `run` and `show`.
 
 use crate::front::{with_explain, with_place};
 use crate::help::{RUN_ENDING, SHOW_ENDING};
 use clap::Command;
 use std::alloc::{AllocError, Global};
 
-/// What `run` takes: the paths `GAME` and `KEYS`, and `--explain`.
+/// The command `run`: the paths `GAME` and `KEYS`, and `--explain`.
 pub fn run_command<'a>(alloc: Global) -> Result<Command<'a>, AllocError> {
     let command = Command::new(alloc, "run")
         .about("Plays a game alone, from a file of keys, and prints the machine")
@@ -15,7 +15,7 @@ pub fn run_command<'a>(alloc: Global) -> Result<Command<'a>, AllocError> {
     with_explain(alloc, with_place(alloc, command, "KEYS", keys)?)
 }
 
-/// What `show` takes: the word `HEX`, and `--explain`.
+/// The command `show`: the word `HEX`, and `--explain`.
 pub fn show_command<'a>(alloc: Global) -> Result<Command<'a>, AllocError> {
     let command = Command::new(alloc, "show")
         .about("Prints the fields of a datagram")

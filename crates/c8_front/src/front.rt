@@ -1,4 +1,4 @@
-//! What every command line has in common: its words, what its reader says, and how it ends.
+//! What all command lines share: their words, the parser's messages, and the exit status.
 
 ghost use Rattle.std.specs.Prelude.{◌≡◌, ◌≢◌, ◌⊎◌, IfOk, IfErr};
 ghost use Rattle.std.specs.IoError.{error_kind};
@@ -15,7 +15,7 @@ use std::env::Args;
 use std::io;
 use std::io::Write;
 
-/// How the program ends. Output that cannot be written is the fault of a disk.
+/// The status with which the program ends. If output cannot be written, that is the fault of a disk.
 pub fn status_at<E: Write>(ended: io::Result<Status>, refused: &mut E) -> Status
     ensures told { IfOk ended (λ status. result ≡ status) }
     ensures memory { IfErr ended
@@ -27,14 +27,14 @@ pub fn status_at<E: Write>(ended: io::Result<Status>, refused: &mut E) -> Status
         Ok(status) => status,
         Err(error) => {
             let refusal = refusal_at(&error);
-            // where this cannot be written either, only the status is left to tell it
+            // If this cannot be written either, only the status tells it.
             let _ = refusal.tell(refused);
             refusal.status()
         }
     }
 }
 
-/// The refusal that an error of the system is.
+/// The refusal for an error of the system.
 fn refusal_at(error: &io::Error) -> Refusal
     ensures memory { error_kind error.now ≡ kinds.OutOfMemory → result.part ≡ parts.Open }
     ensures disk { error_kind error.now ≢ kinds.OutOfMemory → result.part ≡ parts.Disk }
@@ -46,7 +46,7 @@ fn refusal_at(error: &io::Error) -> Refusal
     }
 }
 
-/// A command with one more argument, which has to be given, behind those that it has.
+/// Adds a required argument after the others.
 pub fn with_place<'a>(
     alloc: Global,
     command: Command<'a>,
@@ -56,16 +56,16 @@ pub fn with_place<'a>(
     command.arg(Arg::new(alloc, name).help(help).required(true))
 }
 
-/// A command with the option `--explain`.
+/// Adds the option `--explain`.
 pub fn with_explain<'a>(alloc: Global, command: Command<'a>) -> Result<Command<'a>, AllocError> {
     let explain = Arg::new(alloc, "explain")
         .long("explain")
-        .help("Says in a line after a refusal what is wrong, and where")
+        .help("Says what is wrong, and where, in a second line after a refusal")
         .action(ArgAction::SetTrue);
     command.arg(explain)
 }
 
-/// Whether a command was given `--explain`.
+/// Whether `--explain` was given.
 pub fn is_explained(given: &ArgMatches<'_>) -> bool {
     given.get_flag("explain")
 }
@@ -77,13 +77,13 @@ pub fn line_of<'a>(alloc: Global, command: Command<'a>) -> Result<Command<'a>, A
         .subcommand(command)
 }
 
-/// The word that a command was given at a place which has to be given.
+/// The word that was given for a required argument.
 pub fn word_of<'a>(given: &ArgMatches<'a>, name: &str) -> &'a str {
     given.get_str(name).unwrap_or("")
 }
 
-/// The words of a command line, the program's own name first. `None` where one is not UTF-8, which
-/// `refused` is told. The error is that of the writer, or want of memory.
+/// The words of a command line, the program's own name first. If one is not UTF-8, it writes that to `refused` and
+/// returns `None`. The error is a writer's, or that memory ran out.
 pub fn words_in<E: Write>(
     alloc: Global,
     args: io::Result<Args>,
@@ -99,8 +99,8 @@ pub fn words_in<E: Write>(
     }
 }
 
-/// Writes what the command line's reader says: help or the version to `out`, a mistake to
-/// `refused`. The error is that of a writer, or want of memory.
+/// Writes the parser's message: help and version to `out`, a mistake to `refused`. The error is a writer's, or that
+/// memory ran out.
 pub fn tell<W: Write, E: Write>(
     error: &clap::Error,
     out: &mut W,

@@ -1,11 +1,11 @@
-//! What the help of each command ends with: what it takes, what it refuses, and the exit statuses.
+//! The end of the help of each command: what it refuses, and the exit statuses.
 
 /// The end of the help of `run`.
 pub const RUN_ENDING: &str = "Refusals, each one line on standard error, as 'refused: game 5 Hex':
   game 1 Line     a line that is no known name, one space and a value
-  game 2 Range    a number out of range, a program too long, a mask of nobody
-  game 3 Missing  a line that every game has is not there
-  game 4 Twice    a name for the second time
+  game 2 Range    a number out of range, a program too long, a mask for an absent player
+  game 3 Missing  a required line is missing
+  game 4 Twice    a name that stands twice
   game 5 Hex      a mask or code that is not hexadecimal
   game 6 Memory   out of memory for the game
   keys 1 Line     a line that is not four digits a player, one space between
@@ -25,11 +25,11 @@ pub const SHOW_ENDING: &str =
   wire 1 Short     fewer than 24 bytes
   wire 2 Magic     the first two bytes are not 43 38
   wire 3 Version   another version of the format
-  wire 4 Kind      no kind that is known
-  wire 5 Length    a body longer or shorter than it should be
+  wire 4 Kind      an unknown kind
+  wire 5 Length    a body of the wrong length
   wire 6 Player    seats that cannot say this to each other
   wire 7 Reserved  a byte that must be 0 is not
-  wire 8 Count     more than 64 inputs or 16 rows, or not as many bytes as they may have
+  wire 8 Count     more than 64 inputs or 16 rows, or not as many bytes as they need
   wire 9 Beyond    a number of inputs or of frames that is too great
   wire 10 Pairs    pairs that are not those of a run
   open 5 Memory    out of memory at the start

@@ -1,5 +1,5 @@
-//! What every command line of the house has in common: its words, what its reader says, and how it
-//! ends (`front`); and what the commands `run` and `show` take (`commands`).
+//! What all command lines share: their words, the parser's messages, and the exit status (`front`); and the options of
+//! the commands `run` and `show` (`commands`).
 #![tactic(auto)]
 
 mod commands;

@@ -1,4 +1,4 @@
--- One place of a line more, and the first fault of lines.
+-- One more place of a line, and the first fault of lines.
 use Rattle.std.proofs.Common.{◌≡◌, ℕ, zero, suc, ◌+◌, ◌-◌, ◌*◌, ◌≤◌, ◌<◌, Bool, true, false, ◌&&◌, nat_eq, Option, None, Some, MatchOption, List, [], ◌∷◌, ◌++◌, length, map, replicate, slice_set, refl, ap, sym, ◌∙◌, arith, inl, inr}
 use Rattle.std.specs.Prelude.{is_some}
 use Rattle.std.specs.List.{list_all, range_with_len}
@@ -20,7 +20,7 @@ and-false : (b : Bool) → (b && false) ≡ false
 and-false true = refl
 and-false false = refl
 
--- one place without a set spoils them all
+-- one place without a set spoils the line
 spoiled : (p : ℕ → Bool) (a n k : ℕ) → a ≤ k → k < a + n → p k ≡ false → list_all p (range_with_len a n) ≡ false
 spoiled p a zero k least within off = absurd (omega arith)
 spoiled p a (suc n) k least within off = elim (cases_lt a k) [
@@ -42,7 +42,7 @@ one_more_set line n all here =
     ap (λ m. list_all (are_keys_at line) (range_with_len 0 m)) next ∙ ap (list_all (are_keys_at line)) (range_more 0 n n (omega arith))
     ∙ list_all-append (are_keys_at line) (range_with_len 0 n) (n ∷ []) ∙ ap (λ b. b && (are_keys_at line n && true)) all ∙ ap (λ b. b && true) here
 
--- the set of the next place goes where none stood
+-- the set of the next place goes where none was
 pub next_set : (f : ℕ → Keys) (none : Keys) (n : ℕ) → n < 4 → slice_set (map f (range_with_len 0 n) ++ replicate (4 - n) none) n (f n) ≡ map f (range_with_len 0 (n + 1)) ++ replicate (4 - (n + 1)) none
 next_set f none n within =
     let long : length (map f (range_with_len 0 n)) ≡ n = length-map-range_with_len f 0 n in
@@ -70,7 +70,7 @@ first_bad rules text before line after cut faultless left bad =
     let none : key_line_fault rules before line ≡ Some Line = rw (lt-leb rules.frames (length before) left, bad) refl in
     rw cut (first_found (key_line_fault rules) before line after Line faultless none)
 
--- the same, with the place of the line
+-- the same with the place of the line
 pub long_here : (rules : Rules) (text : List ℕ) (before : List (List ℕ)) (line : List ℕ) (after : List (List ℕ)) (place : ℕ) → lines text ≡ before ++ line ∷ after → place ≡ length before
     → AreFaultless (key_line_fault rules) before → rules.frames ≤ length before → IsFirstPlace (key_line_fault rules) (lines text) place
 long_here rules text before line after place cut here faultless past =
@@ -83,12 +83,12 @@ bad_here rules text before line after place cut here faultless left bad =
     let none : key_line_fault rules before line ≡ Some Line = rw (lt-leb rules.frames (length before) left, bad) refl in
     rw (cut, here) (Line, first_placed (key_line_fault rules) before line after Line faultless none)
 
--- what is not there is not spelt
+-- what is not there is not spelled
 pub unspelt : (found : Option Row) (P : Type 0) (Q : Row → Type 0) → ((row : Row) → found ≡ Some row → ⊥) → MatchOption found P Q → P
 unspelt None P Q nothing why = why
 unspelt (Some row) P Q nothing why = absurd (nothing row refl)
 
--- what is known of what is there, and where nothing is
+-- what holds of something that is there, and what holds if nothing is
 pub found_some : {X : Type 0} (found : Option X) (P : Type 0) (Q : X → Type 0) (R : Type 0) → is_some found ≡ true → MatchOption found P Q → ((x : X) → Q x → R) → R
 found_some None P Q R some what then = absurd (cc)
 found_some (Some x) P Q R some what then = then x what

@@ -1,4 +1,4 @@
--- The numbers of refusals, as they are printed, and what each is of.
+-- The part and the number of each refusal, as they are printed.
 use Rattle.std.specs.Prelude.{ℕ}
 use Rattle.c8_command.specs.declared.refusal.Part.{Part}
 use Rattle.c8_command.specs.declared.refusal.Part.TheVariants as parts
@@ -13,7 +13,7 @@ keys_error_number Line = 1
 keys_error_number Long = 2
 keys_error_number Memory = 3
 
--- what the command refuses, and the number of the refusal: that of the error
+-- the part and the number of each refusal of the command
 abbrev pub run_part : RunError → Part
 run_part (Game error) = parts.Game
 run_part (Keys error) = parts.Keys

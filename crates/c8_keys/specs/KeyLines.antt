@@ -1,4 +1,4 @@
--- Key lines: the rows that a text of them spells, or the fault that refuses it.
+-- Key lines: the rows that a text spells, or the fault that refuses it.
 use Rattle.std.specs.Prelude.{◌≡◌, ℕ, ◌+◌, ◌-◌, ◌*◌, ◌==◌, ◌&&◌, ◌||◌, Bool, not, nat_le, List, ◌++◌, length, map, take, drop, replicate, slice_index, Option, Some, None, if◌then◌else◌}
 use Rattle.std.specs.List.{list_all, range_with_len}
 use Rattle.std.specs.Str.Lines.{lines}
@@ -13,7 +13,7 @@ use Rattle.c8_keys.specs.declared.error.KeysError.{KeysError}
 use Rattle.c8_keys.specs.declared.error.KeysError.TheVariants.{Line, Long}
 use Rattle.c8_keys.specs.declared.lines.Played.{Played}
 
--- a line has four digits for each player, player 1's at place 0, and one space between two
+-- a line has four digits for each player, player 1's at place 0, and one space between two players
 abbrev pub digits_at : List ℕ → ℕ → List ℕ
 digits_at line place = take 4 (drop (5 * place) line)
 
@@ -30,24 +30,24 @@ is_key_line players line =
 abbrev pub keys_at : List ℕ → ℕ → Keys
 keys_at line place = record { 0 = keys_number (digits_at line place) }
 
--- the row of a line: nobody holds a key down at the places behind the players'
+-- the row of a line; places without a player have no keys
 abbrev pub row_of : ℕ → List ℕ → Row
 row_of players line = record {
   sets = map (keys_at line) (range_with_len 0 players) ++ replicate (4 - players) (record { 0 = 0 });
 }
 
--- the fault of a line after these: one after the last frame's, else one that is no key line
+-- the fault of a line after these: it comes after the last frame's line, or it is no key line
 abbrev pub key_line_fault : Rules → List (List ℕ) → List ℕ → Option KeysError
 key_line_fault rules before line =
     if nat_le rules.frames (length before) then Some Long
     else if not (is_key_line rules.players line) then Some Line
     else None
 
--- the text has this fault first: that of the least line that has one
+-- this is the first fault of the text, that of its first faulty line
 abbrev pub IsFaultOf : Rules → List ℕ → KeysError → Type 0
 IsFaultOf rules text fault = IsFirstFault (key_line_fault rules) (lines text) fault
 
--- no line of the text has a fault; the machine is that of the serial run on its rows, one a frame
+-- no line of the text has a fault, and the machine is that of the serial run of its rows, one a frame
 pub record IsRunOf (rules : Rules) (text : List ℕ) (played : Played) : Type 0 where
   pub faultless : AreFaultless (key_line_fault rules) (lines text)
   pub frames : played.frames ≡ length (lines text)

@@ -1,4 +1,4 @@
--- What one player holds down: a text of one key set a line.
+-- The keys of one player: a text with one key set a line.
 use Rattle.std.specs.Prelude.{◌≡◌, ℕ, true, false, List, map, Option, Some, None, if◌then◌else◌}
 use Rattle.std.specs.List.{list_all}
 use Rattle.std.specs.Str.Lines.{lines}
@@ -22,6 +22,6 @@ IsFaultOfSets text Line = list_all is_keys_text (lines text) ≡ false
 IsFaultOfSets text Memory = Unit {0}
 IsFaultOfSets text Long = ⊥
 
--- the fault of a line, whatever stands before it
+-- the fault of a line, whatever comes before it
 abbrev pub set_fault : List (List ℕ) → List ℕ → Option KeysError
 set_fault before line = if is_keys_text line then None else Some Line

@@ -1,4 +1,4 @@
-//! `c8play run`: a game is played alone, from a file of keys.
+//! `c8play run`: plays a game alone, from a file of keys.
 
 ghost use Rattle.std.specs.Prelude.{◌≡◌, IfOk, Result};
 ghost use Rattle.c8_command.specs.Status.{status_of_outcome};
@@ -18,9 +18,8 @@ use std::io;
 use std::io::Write;
 use std::rt::Files;
 
-/// Plays the game of one file by the key lines of another, as `run` does with their texts. A file
-/// that cannot be read is told as the disk's fault, whatever the other one says. The error is that of
-/// a writer.
+/// Plays the game of one file by the key lines of another, as `run` does with their texts. If a file cannot be read,
+/// the refusal is the disk's, whatever the other file says. The error is a writer's.
 pub fn run_files<R, W: Write, E: Write>(
     rt: &R,
     game: &str,
@@ -56,9 +55,9 @@ fn unread(error: TextsError) -> Refusal {
     }
 }
 
-/// Plays the game that `game` spells by the key lines of `keys`, and writes the report of its
-/// machine to `out`; or writes the line of a refusal to `refused`, and nothing to `out`. Where
-/// `explain` is true a second line says where the fault is. The error is that of a writer.
+/// Plays the game that `game` spells by the key lines of `keys`, and writes the report of its machine to `out`. If a
+/// text is refused, it writes the line of the refusal to `refused`, and nothing to `out`. With `explain`, a second line
+/// says where the fault is. The error is a writer's.
 pub fn run<W: Write, E: Write>(
     alloc: Global,
     game: Text<'_>,
@@ -79,8 +78,7 @@ pub fn run<W: Write, E: Write>(
     tell(outcome, site, out, refused)
 }
 
-/// What is played of a game by the key lines of `keys`, where the game was read; else why it was
-/// not. This takes no memory.
+/// Plays a game by the key lines of `keys`, or returns why the game was not read. It takes no memory.
 fn played_from(game: Result<Game, GameError>, keys: &[u8]) -> Result<Played, RunError>
     ensures { IsPlayOfRead game keys.now result }
 {
@@ -89,8 +87,8 @@ fn played_from(game: Result<Game, GameError>, keys: &[u8]) -> Result<Played, Run
     Ok(played)
 }
 
-/// Writes the report of what was played to `out`; or the line of the refusal to `refused`, and the
-/// one that explains it by its site.
+/// Writes the report of what was played to `out`; or the line of the refusal to `refused`, and its explanation if there
+/// is a site.
 fn tell<W: Write, E: Write>(
     outcome: Result<Played, RunError>,
     site: Option<Site<'_>>,

@@ -8,7 +8,7 @@ use c8_command::{Part, Refusal};
 use c8_game::GameError;
 use thiserror::Error;
 
-/// Why a text of key lines is refused.
+/// Why key lines or key sets are refused.
 #[derive(Clone, Copy, Debug, PartialEq, Eq, Error)]
 pub enum KeysError {
     #[error("a line that is not four hexadecimal digits for each player, one space between two")]
@@ -56,10 +56,10 @@ impl From<KeysError> for Refusal {
 /// Why the command `run` refuses its texts.
 #[derive(Clone, Copy, Debug, PartialEq, Eq, Error)]
 pub enum RunError {
-    /// The text of the game.
+    /// The text of the game has a fault.
     #[error("{0}")]
     Game(GameError),
-    /// The text of the key lines.
+    /// The text of the key lines has a fault.
     #[error("{0}")]
     Keys(KeysError),
 }

@@ -1,10 +1,9 @@
-//! What people hold down, written as text, and a game that is played alone from it.
+//! The keys of players as text, and a game that is played alone from it.
 //!
-//! [`play`] plays a game by key lines, which have a key set for each player and stand for one frame
-//! each; [`key_sets`] reads what one player holds down, a key set a line. [`run`] is the command
-//! `run`: it plays the game of a text alone, and writes the report of its machine
-//! ([`write_report`]); [`run_files`] takes both texts from files. [`faulty_key_line`] and
-//! [`faulty_key_set`] say which line is refused, [`game_site`] and [`key_sets_site`] where that is.
+//! [`play`] plays a game by key lines: each is one frame, and has a key set for each player. [`key_sets`] reads the
+//! keys of one player, one key set a line. [`run`] is the command `run`: it plays the game of a text, and writes the
+//! report of its machine ([`write_report`]); [`run_files`] takes both texts from files. [`faulty_key_line`] and
+//! [`faulty_key_set`] find the line that is refused, [`game_site`] and [`key_sets_site`] where it is.
 #![tactic(auto)]
 
 mod command;

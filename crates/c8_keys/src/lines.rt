@@ -1,4 +1,4 @@
-//! Key lines: what the players hold down, one line a frame.
+//! Key lines: the keys of all players, one line a frame.
 
 ghost use Rattle.std.specs.Prelude.{◌≡◌, ◌≤◌, ◌+◌, ◌*◌, true, false, Some, MatchOption, MatchResult, length};
 ghost use Rattle.std.specs.Str.Lines.{lines};
@@ -9,16 +9,15 @@ use crate::error::KeysError;
 use c8_game::{Game, Keys, Lines, Row};
 use c8_machine::Machine;
 
-/// The frames that were played, and the machine after them.
+/// How many frames were played, and the machine after them.
 #[derive(Clone, Copy)]
 pub struct Played {
     pub frames: u32,
     pub machine: Machine,
 }
 
-/// Plays one frame for each line of `keys`, from the game's first machine on.
-///
-/// Lines are judged in order, each first for `Long`, then for `Line`.
+/// Plays one frame for each line of `keys`, starting with the game's first machine. Lines are checked in order, each
+/// first for `Long`, then for `Line`.
 pub fn play(game: &Game, keys: &[u8]) -> Result<Played, KeysError>
     ensures { MatchResult result (IsRunOf game.now keys.now) (IsFaultOf game.now keys.now) }
 {
@@ -39,8 +38,7 @@ pub fn play(game: &Game, keys: &[u8]) -> Result<Played, KeysError>
     Ok(played)
 }
 
-/// The place of the first line of `keys` that `play` refuses, 0 for the first line of all; none where
-/// it plays them all.
+/// The place of the first line of `keys` that `play` refuses; the first line is at 0. `None` if it plays them all.
 pub fn faulty_key_line(game: &Game, keys: &[u8]) -> Option<usize>
     ensures { MatchOption result
         (AreFaultless (key_line_fault game.now) (lines keys.now))
@@ -59,7 +57,7 @@ pub fn faulty_key_line(game: &Game, keys: &[u8]) -> Option<usize>
     None
 }
 
-/// The row that a key line spells: four digits for each player, and one space between two.
+/// The row that a key line spells: four digits for each player, and one space between two players.
 fn row_in(line: &[u8], players: u8) -> Option<Row>
     requires { players ≤ 4 }
     ensures { MatchOption result
@@ -76,7 +74,7 @@ fn row_in(line: &[u8], players: u8) -> Option<Row>
     Some(Row { sets })
 }
 
-/// The key set of the player at a place of a line, 0 for player 1.
+/// The key set of the player at a place of a line; player 1 is at 0.
 fn keys_at(line: &[u8], place: usize) -> Option<Keys>
     requires { 5 * place + 4 ≤ length line.now }
     ensures { MatchOption result

@@ -1,4 +1,4 @@
-//! The machine report: what a person, or another program, reads of a machine.
+//! The machine report, for people and for other programs.
 
 ghost use Rattle.std.specs.Prelude.{◌≡◌, ℕ, ◌<◌, slice_index};
 ghost use Rattle.c8_screen.specs.Points.{points_of};
@@ -9,9 +9,9 @@ use c8_screen::{HEIGHT, Screen, WIDTH};
 use std::io;
 use std::io::Write;
 
-/// Writes the report of a machine after n frames, with lower-case digits: the number of frames; the
-/// counter and I; the registers; the timers and the draws; the stack, oldest first; whether the
-/// machine runs, waits or has stopped; and the 32 rows of the screen.
+/// Writes the report of a machine after `frames` frames, with lower-case digits: the number of frames; the counter and
+/// I; the registers; the timers and the draws; the stack, oldest first; whether the machine runs, waits or has stopped;
+/// and the 32 rows of the screen.
 pub fn write_report<W: Write>(out: &mut W, frames: u32, machine: &Machine) -> io::Result<()> {
     writeln!(out, "frames {frames}")?;
     let (counter, address) = (machine.counter(), machine.address());

@@ -1,4 +1,4 @@
-//! What one player holds down, one key set a line.
+//! The keys of one player, one key set a line.
 
 ghost use Rattle.std.specs.Prelude.{MatchOption, MatchResult};
 ghost use Rattle.std.specs.Str.Lines.{lines};
@@ -9,7 +9,7 @@ use crate::error::KeysError;
 use c8_game::{Keys, Lines};
 use std::alloc::Global;
 
-/// The key sets of a text, one a line, each written as four hexadecimal digits.
+/// Reads the key sets of a text, one a line, each of four hexadecimal digits.
 pub fn key_sets(alloc: Global, text: &[u8]) -> Result<Vec<Keys>, KeysError>
     ensures { MatchResult result (λ sets. AreSetsOf text.now sets.items) (IsFaultOfSets text.now) }
 {
@@ -25,8 +25,8 @@ pub fn key_sets(alloc: Global, text: &[u8]) -> Result<Vec<Keys>, KeysError>
     Ok(sets)
 }
 
-/// The place of the first line of a text that is not four hexadecimal digits, 0 for the first line of
-/// all; none where each line is.
+/// The place of the first line of a text that is not four hexadecimal digits; the first line is at 0. `None` if there
+/// is no such line.
 pub fn faulty_key_set(text: &[u8]) -> Option<usize>
     ensures { MatchOption result
         (AreFaultless set_fault (lines text.now)) (IsFirstPlace set_fault (lines text.now)) }

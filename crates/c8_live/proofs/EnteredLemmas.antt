@@ -1,4 +1,4 @@
--- How what is entered is put together.
+-- How lists of entered key sets join.
 use Rattle.std.proofs.Common.{◌≡◌, ℕ, List, [], ◌∷◌, ◌++◌, Option, Some, refl, sym, ap, subst, ◌∙◌, map, append-nil, append_assoc}
 use Rattle.std.proofs.lemmas.List.Elements.{All-head, All-tail}
 use Rattle.std.specs.List.{All}
@@ -31,7 +31,7 @@ none_in what (call ∷ calls) (answer ∷ answers) other alike =
     let here : entered_by call.0 answer ≡ [] = none_by call.0 answer (λ ticks. other (sym same ∙ ticks)) in
     ap (λ (words : List ℕ). words ++ entered_in calls answers) here ∙ none_in what calls answers other (All-tail (λ (c : Call × Luck). doing c.0 ≡ what) call calls alike)
 
--- more calls, each with its answer
+-- calls after others, each with its answer
 both_in : (rules : Rules) (room me : ℕ) (s t : State) (calls others : List (Call × Luck)) (answers more : List (Option Reply)) → IsRun rules room me s (map does calls) answers t
     → entered_in (calls ++ others) (answers ++ more) ≡ entered_in calls answers ++ entered_in others more
 both_in rules room me s t [] others [] more run = refl
@@ -60,7 +60,7 @@ module _ {D : Type 0} (disk : Ghosts D) where
         ∙ ap (λ (l : List ℕ). l ++ entered_in two.ran.calls two.ran.answers) one.entered ∙ ap (λ (l : List ℕ). words ++ l) two.entered;
   }
 
-  -- what is entered, with calls before and after it that enter nothing
+  -- what calls enter, with calls before and after them that enter nothing
   pub entered_through : RunsJoin → (words : List ℕ) (first before after last : PeerValue D) → HasEntered disk [] first before → HasEntered disk words before after → HasEntered disk [] after last → HasEntered disk words first last
   entered_through join words first before after last one entered two =
       subst (λ (all : List ℕ). HasEntered disk all first last) (append-nil words)

@@ -1,4 +1,4 @@
--- How what is handed on is put together.
+-- How parts of a queue join.
 use Rattle.std.proofs.Common.{◌≡◌, inl, inr, ℕ, List, [], ◌∷◌, ◌++◌, refl, sym, ap, ◌∙◌, append-nil, append_assoc}
 use Rattle.c8_live.specs.Parts.{IsPart, IsHandedOn}
 use Rattle.c8_live.specs.Wire.{MayTake}

@@ -1,4 +1,4 @@
--- How runs of one peer are put together.
+-- How runs of one peer join.
 use Rattle.std.proofs.Common.{◌≡◌, ℕ, List, [], ◌∷◌, ◌++◌, true, false, Option, Some, None, refl, sym, ap, subst, ◌∙◌, map, append_assoc, arith}
 use Rattle.std.specs.Prelude.{option_to_list}
 use Rattle.std.proofs.lemmas.List.{map-append, append-nil}
@@ -27,14 +27,14 @@ use Rattle.c8_live.specs.Runs.{does, HasRunOn, IsEnd}
 abbrev pub still : {D : Type 0} (disk : Ghosts D) (p : PeerValue D) → HasRunOn disk p p
 still disk p = record { rules = refl; room = refl; me = refl; calls = []; answers = []; run = refl; disk_is = record { capacity = refl; arms = refl; no_fewer = omega arith } }
 
--- a run in a match and of a player, told of those that they are
+-- a run under other names of the same game, match and player
 pub run_of : (rules rules2 : Rules) (room room2 me me2 : ℕ) (s t : State) (deeds : List Deed) (answers : List (Option Reply)) → rules2 ≡ rules → room2 ≡ room → me2 ≡ me
     → IsRun rules2 room2 me2 s deeds answers t → IsRun rules room me s deeds answers t
 run_of rules rules2 room room2 me me2 s t deeds answers same_rules same_room same_me run =
     subst (λ (x : Rules). IsRun x room me s deeds answers t) same_rules
     (subst (λ (x : ℕ). IsRun rules2 x me s deeds answers t) same_room (subst (λ (x : ℕ). IsRun rules2 room2 x s deeds answers t) same_me run))
 
--- that runs join, as c8_peer says it
+-- runs join, as c8_peer states it
 abbrev pub RunsJoin : Type 0
 RunsJoin = (rules : Rules) (room me : ℕ) (s t u : State) (deeds more : List Deed) (answers others : List (Option Reply)) → IsRun rules room me s deeds answers t → IsRun rules room me t more others u
     → IsRun rules room me s (deeds ++ more) (answers ++ others) u
@@ -68,7 +68,7 @@ once disk old new call reply is deed = record {
   disk_is = is.same.disk_is;
 }
 
--- a saying, which leaves the peer as it is
+-- a saying, which does not change the peer
 abbrev pub says : {D : Type 0} (disk : Ghosts D) (p : PeerValue D) (call : Call) (reply : Reply) → IsDone p.rules p.room p.me p.state (Does call Works) (Some reply) p.state → HasRunOn disk p p
 says disk p call reply deed = record {
   rules = refl;
@@ -80,7 +80,7 @@ says disk p call reply deed = record {
   disk_is = record { capacity = refl; arms = refl; no_fewer = omega arith };
 }
 
--- what ends a session after some calls ends it after those before them too
+-- what ends a session after the second part of a run ends it after both
 pub ended : {D : Type 0} (disk : Ghosts D) → RunsJoin → (first middle last : PeerValue D) (error : SessionError) → HasRunOn disk first middle → IsEnd disk middle last error → IsEnd disk first last error
 ended disk join first middle last (Disk why) ran end = record {
   before = end.before;
@@ -92,18 +92,18 @@ ended disk join first middle last (Disk why) ran end = record {
 }
 ended disk join first middle last (Wire failed) ran end = tt
 
--- its machine began where it did, told of the rules that are the same
+-- the machine began where it did before, in terms of the same rules
 pub begun_still : {D : Type 0} (disk : Ghosts D) (old new : PeerValue D) → HasRunOn disk old new → begun_at old.rules new.state.journal ≡ begun_at old.rules old.state.journal → begun_by new ≡ begun_by old
 begun_still disk old new ran same = ap (λ (rules : Rules). begun_at rules new.state.journal) ran.rules ∙ same
 
 -- ---- checkpoints
 
--- what a reading finds where nothing is pending
+-- what a reading finds if no record is pending
 tells_alone : (rules : Rules) (me : ℕ) (s : State) → s.pending ≡ None → HasTrueChecks rules me s.journal → TellsTruly rules me s
 tells_alone rules me s none are true = subst (HasTrueChecks rules me) (sym (ap (λ (o : Option Record). s.journal ++ option_to_list o) none ∙ append-nil s.journal)) are
 tells_alone rules me s none are false = are
 
--- an opened peer's journal is what was found and the opening's record
+-- the journal of an opened peer is what was found and the record of the opening
 pub opened_tells : {D : Type 0} (g : Ghosts D) (disk : D) (rules : Rules) (room me : ℕ) (p : PeerValue D) → IsOpened g disk rules room me p
     → HasTrueChecks rules me (records_of (bodies_found g disk) ++ opening_record rules room me (records_of (bodies_found g disk)) ∷ []) → TellsTruly p.rules p.me p.state
 opened_tells g disk rules room me p is are =
@@ -122,7 +122,7 @@ begins_then early middle late first second = record {
   is = second.is ∙ ap (λ (rows : List Row). rows ++ second.rest) first.is ∙ append_assoc early first.rest second.rest;
 }
 
--- the rows that were confirmed before begin those of the journal that has grown
+-- the confirmed rows of the grown journal begin with those of before
 pub grown_rows : {D : Type 0} (disk : Ghosts D) (old new : PeerValue D) → HasRunOn disk old new → (rest : List Record) → new.state.journal ≡ old.state.journal ++ rest
     → BeginsKnown (confirmed_rows (known_of old.rules old.me old.state.journal)) (confirmed_rows (known_of old.rules old.me (old.state.journal ++ rest)))
     → Begins (confirmed_rows (known_by old)) (confirmed_rows (known_by new))

@@ -1,4 +1,4 @@
--- How what a session does is put together.
+-- How the parts of a turn join.
 use Rattle.std.proofs.Common.{◌≡◌, ◌≤◌, inl, inr, ℕ, suc, List, [], ◌∷◌, ◌++◌, Option, Some, Ok, refl, sym, ap, subst, ◌+◌, ◌∙◌, arith, append-nil, append_assoc}
 use Rattle.std.proofs.lemmas.List.{length-append}
 use Rattle.std.proofs.lemmas.List.Elements.{All-nil, All-cons, All-append}
@@ -13,7 +13,7 @@ use Rattle.c8_live.specs.Turns.{Doing, Hears, Ticks, LetsGo, Cuts, Saves, Speaks
 use Rattle.c8_live.specs.Wire.{MayTake}
 use Rattle.c8_live.proofs.RunLemmas.{RunsJoin, still, joined, once, says}
 
--- ---- calls that do the same
+-- ---- calls of one kind
 
 module _ {D : Type 0} (disk : DiskGhosts D) where
   abbrev pub done_still : (what : Doing) (p : PeerValue D) → HasDone disk what p p
@@ -34,7 +34,7 @@ module _ {D : Type 0} (disk : DiskGhosts D) where
 
 -- ---- what was heard
 
--- of more packets, these too
+-- deliveries of some packets are deliveries of one more
 heard_after : (given : List (List ℕ)) (calls : List (Call × Luck)) (bytes : List ℕ) → AreDeliveriesOf given calls → AreDeliveriesOf (bytes ∷ given) calls
 heard_after given [] bytes heard = tt
 heard_after given (call ∷ calls) bytes heard = inr heard
@@ -82,7 +82,7 @@ module _ {D W : Type 0} (disk : DiskGhosts D) (wire : WireGhosts W) where
 
 -- ---- what was said
 
--- one answer more in front
+-- with one more answer in front
 skip : (bytes : List (List ℕ)) (answer : Option Reply) (answers : List (Option Reply)) → WereSaid bytes answers → WereSaid bytes (answer ∷ answers)
 skip [] answer answers said = tt
 skip (one ∷ bytes) answer answers said = inr said

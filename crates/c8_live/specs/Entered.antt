@@ -10,7 +10,7 @@ use Rattle.c8_live.specs.declared.wire.Wire.{Ghosts as WireGhosts}
 use Rattle.c8_live.specs.Runs.{HasRunOn}
 use Rattle.c8_live.specs.Turns.{IsTurn}
 
--- whether this is the answer to a tick that was taken
+-- whether the answer is that of a tick that was taken
 abbrev pub was_taken : Option Reply → Bool
 was_taken (Some (Ticked (Ok done))) = true
 was_taken _ = false
@@ -30,7 +30,7 @@ entered_in [] answers = []
 entered_in (call ∷ calls) [] = []
 entered_in (call ∷ calls) (answer ∷ answers) = entered_by call.0 answer ++ entered_in calls answers
 
--- The peer has run on, and these are the key sets that its player entered by that, one after the other.
+-- The peer has run on, and its player entered these key sets by that, in this order.
 pub record HasEntered {D : Type 0} (disk : DiskGhosts D) (words : List ℕ) (old new : PeerValue D) : Type 0 where
   pub ran : HasRunOn disk old new
   pub entered : entered_in ran.calls ran.answers ≡ words
@@ -41,14 +41,14 @@ entered_of (Some keys) true = keys.0 ∷ []
 entered_of (Some keys) false = []
 entered_of None taken = []
 
--- The peer ticks with this key set, and its answer tells whether it is taken. Where there is none it does not tick.
+-- The peer ticks with this key set, and the answer says whether it was taken. Without a key set it does not tick.
 abbrev pub HasTicked : {D : Type 0} → DiskGhosts D → Option Keys → Bool → PeerValue D → PeerValue D → Type 0
 HasTicked disk (Some keys) true old new = IsAnswered disk old (Tick keys.0) (Ticked (Ok tt)) new
 HasTicked disk (Some keys) false old new = (why : TickError) × IsAnswered disk old (Tick keys.0) (Ticked (Err why)) new
 HasTicked disk None true old new = ⊥
 HasTicked disk None false old new = new ≡ old
 
--- A turn in which this key set is handed in, or none: its tick is the one with these keys.
+-- A turn that enters this key set, or without one does not tick.
 pub record HasHandedIn {D W : Type 0} (disk : DiskGhosts D) (wire : WireGhosts W) (keys : Option Keys) (taken : Bool) (old new : PeerValue D) (before after : W) : Type 0 where
   pub turn : IsTurn disk wire old new before after
   pub ticked : HasTicked disk keys taken turn.heard turn.ticked

@@ -1,13 +1,13 @@
--- What is handed on of a list, in its order, where some of it may be lost.
+-- What a queue hands on, in order; some of it may be lost.
 use Rattle.std.specs.Prelude.{◌≡◌, ◌⊎◌, ℕ, List, [], ◌∷◌, ◌++◌}
 
--- the first list is the second one with some left out
+-- the first list is the second one with some elements left out
 abbrev pub IsPart : List (List ℕ) → List (List ℕ) → Type 0
 IsPart [] whole = Unit {0}
 IsPart (one ∷ part) [] = ⊥
 IsPart (one ∷ part) (first ∷ whole) = ((one ≡ first) × IsPart part whole) ⊎ IsPart (one ∷ part) whole
 
--- One list has grown, and another one by a part of that.
+-- One list has grown, and the other has grown by a part of what the first one grew by.
 pub record IsHandedOn (from from_now to to_now : List (List ℕ)) : Type 0 where
   pub came : List (List ℕ)
   pub went : List (List ℕ)

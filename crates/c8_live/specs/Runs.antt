@@ -1,4 +1,4 @@
--- What the turns of a session make of its peer.
+-- What the turns of a session do to its peer.
 use Rattle.std.specs.Prelude.{◌≡◌, List, map, Option}
 use Rattle.c8_disk.specs.declared.disk.Disk.{Ghosts}
 use Rattle.c8_disk.specs.declared.error.DiskError.{DiskError}
@@ -10,11 +10,11 @@ use Rattle.c8_peer.specs.Runs.{Deed, Does, IsRun}
 use Rattle.c8_live.specs.declared.error.SessionError.{SessionError}
 use Rattle.c8_live.specs.declared.error.SessionError.TheVariants.{Disk, Wire}
 
--- a call, and what the disk does with its record: neither an opening nor a close, and no crash
+-- a call, and what the disk does with its record; no opening, close or crash
 abbrev pub does : Call × Luck → Deed
 does call = Does call.0 call.1
 
--- The peer of the same match and player, on the same disk, after some calls, each one step of the definitions.
+-- The peer of the same match and player, on the same disk, after some calls; each call is one step of the definitions.
 pub record HasRunOn {D : Type 0} (disk : Ghosts D) (old new : PeerValue D) : Type 0 where
   pub rules : new.rules ≡ old.rules
   pub room : new.room ≡ old.room
@@ -24,7 +24,7 @@ pub record HasRunOn {D : Type 0} (disk : Ghosts D) (old new : PeerValue D) : Typ
   pub run : IsRun old.rules old.room old.me old.state (map does calls) answers new.state
   pub disk_is : IsSameDisk disk old.disk new.disk
 
--- After such a run one call more, which the disk refused: its answer tells so, and is what the peer's contract says.
+-- After such a run one more call, answered as its contract says, whose record the disk refused for this reason.
 pub record IsStopped {D : Type 0} (disk : Ghosts D) (old new : PeerValue D) (why : DiskError) : Type 0 where
   pub before : PeerValue D
   pub ran : HasRunOn disk old before
@@ -33,7 +33,7 @@ pub record IsStopped {D : Type 0} (disk : Ghosts D) (old new : PeerValue D) (why
   pub answered : IsAnswered disk before call reply new
   pub refused : luck_of reply ≡ Refuses why
 
--- why a session cannot go on; of the way to the others nothing is said
+-- why a session cannot go on; about a failure of the wire it says nothing
 abbrev pub IsEnd : {D : Type 0} → Ghosts D → PeerValue D → PeerValue D → SessionError → Type 0
 IsEnd disk old new (Disk why) = IsStopped disk old new why
 IsEnd disk old new (Wire failed) = Unit {0}

@@ -1,4 +1,4 @@
--- What a turn of a session is: which calls of its peer it makes, in which order, and what of that its wire takes.
+-- What a turn of a session is: which calls of its peer it makes, in which order, and which packets its wire takes.
 use Rattle.std.specs.Prelude.{◌≡◌, ◌⊎◌, ◌≤◌, ℕ, zero, suc, List, [], ◌∷◌, ◌++◌, length, Option, Some, Ok}
 use Rattle.std.specs.List.{All}
 use Rattle.c8_disk.specs.declared.disk.Disk.{Ghosts as DiskGhosts}
@@ -29,12 +29,12 @@ doing Checkpoint = Saves
 doing (Say to what) = Speaks
 doing (Show watcher) = Speaks
 
--- a run of calls that all do the same
+-- a run of calls of one kind
 pub record HasDone {D : Type 0} (disk : DiskGhosts D) (what : Doing) (old new : PeerValue D) : Type 0 where
   pub ran : HasRunOn disk old new
   pub alike : All (λ (call : Call × Luck). doing call.0 ≡ what) ran.calls
 
--- and once at most
+-- the same with at most one call
 abbrev pub HasDoneOnce : {D : Type 0} → DiskGhosts D → Doing → PeerValue D → PeerValue D → Type 0
 HasDoneOnce disk what old new = (done : HasDone disk what old new) × (length done.ran.calls ≤ 1)
 
@@ -44,7 +44,7 @@ HasDoneOnce disk what old new = (done : HasDone disk what old new) × (length do
 abbrev pub DeliversBytes : List ℕ → Call → Type 0
 DeliversBytes bytes call = (packet : Packet) × (call ≡ Deliver (Ok packet)) × Spells bytes packet
 
--- each call delivers one of these, in this order; of these there may be more, such as spell no packet
+-- the calls deliver some of these packets, in this order; the others, such as those that spell no packet, are skipped
 abbrev pub AreDeliveriesOf : List (List ℕ) → List (Call × Luck) → Type 0
 AreDeliveriesOf given [] = Unit {0}
 AreDeliveriesOf [] (call ∷ calls) = ⊥
@@ -53,7 +53,7 @@ AreDeliveriesOf (bytes ∷ given) (call ∷ calls) = (DeliversBytes bytes call.0
 abbrev pub HasHeardOf : {D : Type 0} → DiskGhosts D → List (List ℕ) → PeerValue D → PeerValue D → Type 0
 HasHeardOf disk given old new = (done : HasDone disk Hears old new) × AreDeliveriesOf given done.ran.calls
 
--- The wire gave so many packets at most, whatever they spell, and took none to send; the peer has heard of these alone.
+-- The wire gave at most `most` packets, whatever they spell, and took none to send. The peer has heard only these.
 pub record HasHeard {D W : Type 0} (disk : DiskGhosts D) (wire : WireGhosts W) (most : ℕ) (old new : PeerValue D) (before after : W) : Type 0 where
   pub given : List (List ℕ)
   pub received : wire.received after ≡ wire.received before ++ given
@@ -67,13 +67,13 @@ pub record HasHeard {D W : Type 0} (disk : DiskGhosts D) (wire : WireGhosts W) (
 abbrev pub SpellsAnswer : List ℕ → Option Reply → Type 0
 SpellsAnswer bytes answer = (packet : Packet) × (answer ≡ Some (Said (Ok packet))) × Spells bytes packet
 
--- each of these was said, in this order; of what was said there may be more, which was lost
+-- all of these were said, in this order; more may have been said and lost
 abbrev pub WereSaid : List (List ℕ) → List (Option Reply) → Type 0
 WereSaid [] answers = Unit {0}
 WereSaid (bytes ∷ rest) [] = ⊥
 WereSaid (bytes ∷ rest) (answer ∷ answers) = (SpellsAnswer bytes answer × WereSaid rest answers) ⊎ WereSaid (bytes ∷ rest) answers
 
--- The peer has spoken, which leaves it as it is; what the wire took was said then, and it gave nothing.
+-- The peer has spoken, which does not change it. The wire took only what was said, and gave nothing.
 pub record HasSpoken {D W : Type 0} (disk : DiskGhosts D) (wire : WireGhosts W) (peer : PeerValue D) (before after : W) : Type 0 where
   pub done : HasDone disk Speaks peer peer
   pub taken : List (List ℕ)
@@ -83,12 +83,12 @@ pub record HasSpoken {D W : Type 0} (disk : DiskGhosts D) (wire : WireGhosts W) 
 
 -- ---- turns
 
--- how many packets a turn takes from its wire at most, so that however many wait it comes to its tick
+-- how many packets a turn takes from its wire at most, so that it reaches its tick however many wait
 abbrev pub most_packets : ℕ
 most_packets = 256
 
--- A turn: the peer hears what the wire gives, at most `most_packets` packets, ticks at most once, lets go, cuts, records of a checkpoint
--- at most once and speaks. Where the disk or the wire ends it, nothing follows.
+-- A turn: the peer hears at most `most_packets` packets of the wire, ticks at most once, drops players, cuts, records
+-- at most one part of a checkpoint, and speaks. If the disk or the wire fails, nothing more follows.
 pub record IsTurn {D W : Type 0} (disk : DiskGhosts D) (wire : WireGhosts W) (old new : PeerValue D) (before after : W) : Type 0 where
   pub heard : PeerValue D
   pub ticked : PeerValue D
@@ -102,7 +102,7 @@ pub record IsTurn {D W : Type 0} (disk : DiskGhosts D) (wire : WireGhosts W) (ol
   pub saves : HasDoneOnce disk Saves cut new
   pub speaks : HasSpoken disk wire new between after
 
--- so many turns, one after another; between two of them nothing is given or sent
+-- this number of turns, one after another; between two of them the wire gives and takes nothing
 abbrev pub AreTurns : {D W : Type 0} → DiskGhosts D → WireGhosts W → ℕ → PeerValue D → PeerValue D → W → W → Type 0
 AreTurns disk wire zero old new before after = (new ≡ old) × (wire.received after ≡ wire.received before) × (wire.sent after ≡ wire.sent before)
 AreTurns {D} {W} disk wire (suc fewer) old new before after =

@@ -2,11 +2,11 @@
 use Rattle.std.specs.Prelude.{◌≡◌, ◌⊎◌, ℕ, List, [], ◌∷◌, ◌++◌, take, Option, None, Some, Result, Ok, Err}
 use Rattle.c8_live.specs.declared.error.WireFailed.{WireFailed}
 
--- a datagram is taken, or lost at once
+-- the wire takes a datagram, or loses it at once
 abbrev pub MayTake : List (List ℕ) → List ℕ → List (List ℕ) → Type 0
 MayTake before datagram after = (after ≡ before) ⊎ (after ≡ before ++ datagram ∷ [])
 
--- a packet is given, as the first bytes of a buffer; or none is there, or the wire fails
+-- the wire gives a packet as the first bytes of a buffer, or has none, or fails
 abbrev pub Gives : List (List ℕ) → List ℕ → Result (Option ℕ) WireFailed → List (List ℕ) → Type 0
 Gives before buffer (Ok None) after = after ≡ before
 Gives before buffer (Ok (Some size)) after = after ≡ before ++ take size buffer ∷ []

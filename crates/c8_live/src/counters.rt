@@ -1,28 +1,28 @@
-//! What the threads of a peer count, for those who watch them.
+//! What the threads of a peer count, for other threads to read.
 use crate::session::Session;
 use c8_disk::Disk;
 use c8_game::{MOST_PLAYERS, Player};
 use std::sync::atomic::{AtomicBool, AtomicU64, Ordering};
 
-/// Where a peer stands, beside what is confirmed, which its board shows.
+/// How far a peer is, beside what is confirmed, which its board shows.
 #[derive(Clone, Copy, Debug, PartialEq, Eq)]
 pub struct Standing {
     /// How many frames it has ticked.
     pub ticked: u64,
-    /// How often it went back since it began, and how many frames it ran anew then, at most, since
-    /// this was taken last.
+    /// How often it rolled back since it began, and the most frames that one rollback simulated again since the last
+    /// `take`.
     pub rollbacks: u64,
     pub longest: u64,
-    /// In how many turns each player was heard, player 1's place first.
+    /// In how many turns each player was heard, by place.
     pub heard: [u64; MOST_PLAYERS],
-    /// A datagram told of another machine than its own.
+    /// Whether another player's machine differed.
     pub is_alarmed: bool,
-    /// How many packets found no place in an inlet.
+    /// How many packets were lost because an inlet was full.
     pub lost: u64,
 }
 
-/// Counters that the threads of a peer share. What is read of them while a turn is made may be of
-/// that turn or of the one before; nothing rests on them.
+/// Counters that the threads of a peer share. A reading during a turn may mix values of that turn and of the one
+/// before; nothing depends on them.
 #[derive(Drop)]
 pub struct Counters {
     ticked: AtomicU64,
@@ -30,13 +30,13 @@ pub struct Counters {
     longest: AtomicU64,
     heard: [AtomicU64; MOST_PLAYERS],
     is_alarmed: AtomicBool,
-    /// Of the outbox and of the inbox.
+    /// Packets lost by the outbox and by the inbox.
     lost_out: AtomicU64,
     lost_in: AtomicU64,
 }
 
 impl Counters {
-    /// Nothing has happened.
+    /// Creates counters at zero.
     pub fn new() -> Counters {
         Counters {
             ticked: AtomicU64::new(0),
@@ -54,7 +54,7 @@ impl Counters {
         }
     }
 
-    /// Notes the turn that a session has just made, and how many packets its wire has lost by now.
+    /// Notes the turn that a session has just made, and how many packets its wire has lost so far.
     pub fn note<D: Disk>(&self, session: &Session<'_, D>, lost: u64) {
         let peer = session.peer();
         let rollbacks = session.rollbacks();
@@ -76,12 +76,12 @@ impl Counters {
         }
     }
 
-    /// Notes that so many packets have found no place in the inbox.
+    /// Adds packets that the inbox had no place for.
     pub fn lose(&self, packets: u64) {
         self.lost_in.fetch_add(packets, Ordering::SeqCst);
     }
 
-    /// Where the peer stands. The longest rollback is told once.
+    /// Returns how far the peer is, and resets the longest rollback to 0.
     pub fn take(&self) -> Standing {
         let [one, two, three, four] = &self.heard;
         let lost_out = self.lost_out.load(Ordering::SeqCst);

@@ -1,4 +1,4 @@
-//! What ends a session before its game does.
+//! The errors that end a session before its game ends.
 
 ghost use Rattle.std.specs.Prelude.{◌≡◌};
 ghost use Rattle.c8_live.specs.declared.error.SessionError.TheVariants.{Disk, Wire};
@@ -6,7 +6,7 @@ ghost use Rattle.c8_live.specs.declared.error.SessionError.TheVariants.{Disk, Wi
 use c8_disk::DiskError;
 use thiserror::Error;
 
-/// The way to the other players cannot be used any more.
+/// The transport failed for good.
 #[derive(Clone, Copy, Debug, PartialEq, Eq, Error)]
 #[error("the other players cannot be reached any more")]
 pub struct WireFailed;
@@ -14,10 +14,10 @@ pub struct WireFailed;
 /// Why a session cannot go on.
 #[derive(Clone, Copy, Debug, PartialEq, Eq, Error)]
 pub enum SessionError {
-    /// The disk of the peer's journal.
+    /// The disk of the peer's journal failed.
     #[error("{0}")]
     Disk(DiskError),
-    /// The way to the other players.
+    /// The transport failed.
     #[error("{0}")]
     Wire(WireFailed),
 }

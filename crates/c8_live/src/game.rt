@@ -28,12 +28,11 @@ use c8_peer::Peer;
 use c8_record::laws::checkpoints_are_in_order;
 use std::alloc::{AllocError, Global};
 
-/// Makes turns of a session, at most so many, until it is over, a viewer of the board asks for the
-/// end, or the gate ends it; answers how many it made. Before the first one and after each the pen
-/// publishes what is confirmed, and after each the counters note it. The board's run begins where the
-/// peer's machine began, so that what is shown is at the serial run where the checkpoints of the
-/// peer's journal are true (`true_checks_show_the_serial_run`). The error is that of the disk or of
-/// the wire; the pen shows what was confirmed before that turn then.
+/// Makes at most `turns` turns of a session, until it is over, a viewer of the board asks for the end, or the gate ends
+/// it. Returns how many it made. Before the first turn and after each, the pen publishes what is confirmed; after each,
+/// the counters note it. The board's run begins where the peer's machine began, so if the checkpoints of the peer's
+/// journal are true, the board shows the serial run (`true_checks_show_the_serial_run`). The error is the disk's or the
+/// wire's; the pen then still shows what was confirmed before that turn.
 pub fn game_worker<D: Disk, W: Wire, G: Gate>(
     session: &mut Session<'_, D>,
     wire: &mut W,
@@ -75,8 +74,8 @@ pub fn game_worker<D: Disk, W: Wire, G: Gate>(
     Ok(made)
 }
 
-/// A board of the game, which shows what is confirmed at a peer, with its pen and 1 to 4 viewers. Its run
-/// begins where the peer's machine began. The error is want of memory.
+/// Opens a board that shows what is confirmed at a peer, with its pen and 1 to 4 viewers. The board's run begins where
+/// the peer's machine began. The error is that memory ran out.
 pub fn open_board<D: Disk>(
     alloc: Global,
     game: &Game,
@@ -91,8 +90,8 @@ pub fn open_board<D: Disk>(
     ensures viewers { IfOk result (λ r. All (λ v. v ≡ viewer_at r.0 peer.now) r.2.items) }
     ensures count { IfOk result (λ r. vec_len r.2 ≡ viewers) }
 {
-    // For the proof: the peer is sound, its frames are within the game's, and where its machine began
-    // can be told as data.
+    // For the proof: the peer is sound, its frames are within the game's, and a start can name the place where its
+    // machine began.
     let _down = peer.is_down();
     let _confirmed = peer.confirmed();
     checkpoints_are_in_order();
@@ -101,7 +100,7 @@ pub fn open_board<D: Disk>(
     open_at(alloc, peer, game, frames, machine, viewers)
 }
 
-/// The same of a machine and its count that are the peer's.
+/// The part of `open_board` that needs the proof: count and machine are the peer's.
 fn open_at<D: Disk>(
     alloc: Global,
     _peer: &Peer<'_, D>,
@@ -129,7 +128,7 @@ fn open_at<D: Disk>(
     Board::open(alloc, game, count, machine, viewers)
 }
 
-/// The pen publishes what is confirmed at a peer.
+/// Publishes what is confirmed at a peer.
 fn publish<D: Disk>(peer: &Peer<'_, D>, board: &Board, pen: &mut Pen)
     requires board { pen.old.board ≡ board.now }
     requires game { pen.old.game ≡ peer.now.rules }
@@ -145,7 +144,7 @@ fn publish<D: Disk>(peer: &Peer<'_, D>, board: &Board, pen: &mut Pen)
     show(peer, count, machine, board, pen);
 }
 
-/// The same of a machine and its count that are the peer's.
+/// The part of `publish` that needs the proof: count and machine are the peer's.
 fn show<D: Disk>(_peer: &Peer<'_, D>, count: u32, machine: &Machine, board: &Board, pen: &mut Pen)
     ghost rows: { List Row }
     requires rows { rows ≡ confirmed_rows (known_by _peer.now) }

@@ -1,19 +1,19 @@
-//! What holds the threads of a peer back, and ends them.
+//! What paces the threads of a peer, and ends them.
 
 /// The threads of a peer that make turns.
 #[derive(Clone, Copy, Debug, PartialEq, Eq, Hash)]
 pub enum Worker {
-    /// It moves packets between the wire and the inlets.
+    /// Moves packets between the wire and the inlets.
     Net,
-    /// It owns the peer.
+    /// Owns the peer.
     Game,
 }
 
-/// Whether a worker goes on, and how it waits between its turns. Both workers share it.
+/// Decides whether a worker goes on, and waits between its turns. Both workers share it.
 pub trait Gate {
-    /// To be asked before each turn, of which the first is 0: `false` ends the worker.
+    /// Called before each turn; the first turn is 0. `false` ends the worker.
     fn before(&self, worker: Worker, turn: u64) -> bool;
 
-    /// Told after each turn.
+    /// Called after each turn.
     fn after(&self, worker: Worker, turn: u64);
 }

@@ -1,4 +1,4 @@
-//! What callers may rest on that is no single call's.
+//! Facts for callers that no single call states.
 ghost use Rattle.std.specs.Prelude.{◌≡◌, ◌≢◌, ℕ, ◌+◌, List, [], ◌∷◌, ◌++◌, length, Some, Ok};
 ghost use Rattle.c8_peer.specs.Lawful.{IsCall};
 ghost use Rattle.c8_peer.specs.Peer.{PeerValue, IsAnswered, IsSaid, IsSound, known_by, begun_by};
@@ -31,8 +31,8 @@ use c8_peer::laws::{
 use c8_record::laws::what_a_journal_says_stays;
 use c8_roll::laws::a_run_may_begin_on_the_way;
 
-/// How a peer runs on: by no call (`still`), by one call more (`call`), and by what it runs on by
-/// after that (`joined`). What ends a session then ends it after all of it (`ended`).
+/// Runs of a peer: no call (`still`), one more call (`call`), one run after another (`joined`). What ends a session
+/// after the second part ends it after both (`ended`).
 pub fn peers_run_on<D: Disk>()
     ensures still { (p : PeerValue D) → HasRunOn D.Disk p p }
     ensures call { (first old new : PeerValue D) (call : Call) (reply : Reply)
@@ -48,7 +48,7 @@ pub fn peers_run_on<D: Disk>()
     calls_are_deeds::<D>();
 }
 
-/// Calls that do the same, joined: none (`still`), one (`once`), and some after others (`joined`).
+/// Calls of one kind: none (`still`), one (`once`), some after others (`joined`).
 pub fn doings_join<D: Disk>()
     ensures still { (what : Doing) (p : PeerValue D) → HasDone D.Disk what p p }
     ensures once { (old new : PeerValue D) (call : Call) (reply : Reply)
@@ -62,9 +62,9 @@ pub fn doings_join<D: Disk>()
     calls_are_deeds::<D>();
 }
 
-/// What a player enters, joined: nothing without a call (`still`), nothing by calls that are no ticks
-/// (`none`), a tick's key set if it was taken (`once`), more after it (`joined`), and what is entered
-/// between calls that enter nothing (`through`).
+/// What a player enters: nothing without a call (`still`), nothing by calls that are no ticks (`none`), a tick's key
+/// set if it was taken (`once`), one list after another (`joined`), and a list between calls that enter nothing
+/// (`through`).
 pub fn entries_join<D: Disk>()
     ensures still { (p : PeerValue D) → HasEntered D.Disk [] p p }
     ensures none { (what : Doing) (old new : PeerValue D) → what ≢ Ticks
@@ -93,8 +93,7 @@ pub fn a_packet_is_heard<D: Disk>()
     calls_are_deeds::<D>();
 }
 
-/// What a peer hears, joined: nothing (`silent`), what there is of one packet (`once`), and more
-/// after it (`joined`).
+/// What a peer hears: nothing (`silent`), one packet (`once`), one list after another (`joined`).
 pub fn hearings_join<D: Disk, W: Wire>()
     ensures silent { (p : PeerValue D) (before after : W)
         → W.received after ≡ W.received before → W.sent after ≡ W.sent before
@@ -111,8 +110,8 @@ pub fn hearings_join<D: Disk, W: Wire>()
     runs_join();
 }
 
-/// What a peer says, joined: nothing (`silent`), a packet that a wire takes or loses (`once`), and
-/// some after others (`joined`).
+/// What a peer says: nothing (`silent`), a packet that the wire takes or loses (`once`), one list after another
+/// (`joined`).
 pub fn sayings_join<D: Disk, W: Wire>()
     ensures silent { (p : PeerValue D) (before after : W)
         → W.sent after ≡ W.sent before → W.received after ≡ W.received before
@@ -129,7 +128,7 @@ pub fn sayings_join<D: Disk, W: Wire>()
     calls_are_deeds::<D>();
 }
 
-/// Turns, joined: none, and one more after some.
+/// Turns: none (`none`), and one more (`more`).
 pub fn turns_join<D: Disk, W: Wire>()
     ensures none { (p : PeerValue D) (before : W) → AreTurns D.Disk W.Wire 0 p p before before }
     ensures more { (n : ℕ) (old middle new : PeerValue D) (before between after : W)
@@ -138,7 +137,7 @@ pub fn turns_join<D: Disk, W: Wire>()
         → AreTurns D.Disk W.Wire (n + 1) old new before after }
 {}
 
-/// The frames that are confirmed at a peer stay so, with the same rows, however it runs on.
+/// The confirmed rows of a peer stay confirmed however it runs on.
 pub fn confirmed_rows_grow<D: Disk>()
     ensures { (old new : PeerValue D) → IsSound D.Disk old → HasRunOn D.Disk old new
         → Begins (confirmed_rows (known_by old)) (confirmed_rows (known_by new)) }
@@ -148,7 +147,7 @@ pub fn confirmed_rows_grow<D: Disk>()
     what_a_journal_says_stays();
 }
 
-/// However a peer runs on, its machine began where it did, at its opening.
+/// However a peer runs on, its machine still began at the same place.
 pub fn machines_begin_where_they_did<D: Disk>()
     ensures { (old new : PeerValue D) → IsSound D.Disk old → HasRunOn D.Disk old new
         → begun_by new ≡ begun_by old }
@@ -157,9 +156,9 @@ pub fn machines_begin_where_they_did<D: Disk>()
     a_word_stands_from_any_journal::<D>();
 }
 
-/// The checkpoints of a peer's journal are true where the last one that its opening found was
-/// (`opened`), and they stay true however the peer runs on (`stays`). While they are, the run on the
-/// confirmed rows from where the machine began is the serial run (`serial`).
+/// If the last checkpoint that an opening found is true, all checkpoints of the peer's journal are (`opened`), and they
+/// stay true however it runs on (`stays`). If they are true, the run of the confirmed rows from where the machine began
+/// is the serial run (`serial`).
 pub fn true_checks_show_the_serial_run<D: Disk>()
     ensures opened { (disk : D) (rules : Rules) (room me : ℕ) (p : PeerValue D)
         → IsOpened D.Disk disk rules room me p
@@ -177,7 +176,7 @@ pub fn true_checks_show_the_serial_run<D: Disk>()
     a_run_may_begin_on_the_way();
 }
 
-/// By a turn a peer runs on.
+/// A turn is a run of its peer.
 pub fn turns_run_on<D: Disk, W: Wire>()
     ensures { (old new : PeerValue D) (before after : W)
         → IsTurn D.Disk W.Wire old new before after → HasRunOn D.Disk old new }
@@ -185,8 +184,7 @@ pub fn turns_run_on<D: Disk, W: Wire>()
     runs_join();
 }
 
-/// What is handed on, joined: nothing (`none`), one that may be lost (`once`), and more after it
-/// (`joined`).
+/// What a queue hands on: nothing (`none`), one packet that may be lost (`once`), one list after another (`joined`).
 pub fn handings_on_join()
     ensures none { (from from_now to to_now : List (List ℕ)) → from_now ≡ from → to_now ≡ to
         → IsHandedOn from from_now to to_now }

@@ -1,16 +1,15 @@
-//! The live session of one peer: it plays a game with others, turn by turn, over any way on which
-//! datagrams are lost, come late or twice.
+//! The live session of one peer: it plays a game with others, turn by turn, over a network that may lose, delay or
+//! repeat datagrams.
 //!
-//! [`Session`] is the loop, [`Wire`] the way to the other players, [`Silence`] counts who is not
-//! heard, and [`Progress`] and [`tell_end`] say where the peer stands, and how it ended. What a peer
-//! may be told and what it answers is c8_peer's; here stands only which call comes when. That a turn
-//! changes its peer by such calls alone, in their order, and that its wire takes nothing but what
-//! was said, is `Session::turn`'s contract.
+//! [`Session`] is the loop, [`Wire`] the transport, and [`Silence`] counts the silent turns of each player.
+//! [`Progress`] and [`tell_end`] print how far the peer is and how it ended. c8_peer decides what each call does; this
+//! crate decides only which call comes when. The contract of `Session::turn` says that a turn changes its peer by these
+//! calls alone, in their order, and that its wire takes nothing but what the peer said.
 //!
-//! A peer may run in two threads: [`game_worker`] makes the turns of a session and shows on a board
-//! what is confirmed ([`open_board`] opens one that can show a peer), [`net_worker`] moves packets between a wire and the inlets of a [`Relay`], the
-//! game thread's own wire. A [`Gate`] holds both back, and ends them; [`Counters`] are what they tell
-//! whoever watches them.
+//! A peer may run in two threads. [`game_worker`] makes the turns of a session and publishes on a board what is
+//! confirmed ([`open_board`] opens a board for a peer). [`net_worker`] moves packets between a wire and the inlets of a
+//! [`Relay`], the wire of the game thread. A [`Gate`] paces both threads and ends them; [`Counters`] show others how
+//! far they are.
 #![tactic(auto)]
 
 mod counters;

@@ -12,12 +12,11 @@ use c8_inlet::{Packet, Putter, Taker};
 use c8_wire::{LONGEST_DATAGRAM, Seat, view};
 use std::sync::Wait;
 
-/// How many packets an inlet between the two workers has places for.
+/// How many packets an inlet between the two workers holds.
 pub const PLACES: usize = 64;
 
-/// Moves packets until the gate ends it: those that the wire gives into the inbox, and those of the
-/// outbox to the wire. A packet that finds no place in the inbox is lost, and counted. The error is
-/// the wire's; all that was moved before has been.
+/// Moves packets until the gate ends it: from the wire into the inbox, and from the outbox to the wire. If the inbox is
+/// full, the packet is lost and counted. The error is the wire's; what was moved before it stays moved.
 pub fn net_worker<R: Wait, W: Wire, G: Gate>(
     rt: &R,
     wire: &mut W,
@@ -47,8 +46,7 @@ pub fn net_worker<R: Wait, W: Wire, G: Gate>(
     Ok(())
 }
 
-/// Puts packets that have come into the inbox, as many as it has places at most, and answers how
-/// many were lost.
+/// Moves at most `PLACES` packets from the wire into the inbox, and returns how many of them were lost.
 fn take_in<W: Wire>(wire: &mut W, inbox: &mut Putter) -> Result<u64, WireFailed>
     ensures received { IsHandedOn (W.received wire.old) (W.received wire.new)
         inbox.old.put inbox.new.put }
@@ -71,7 +69,7 @@ fn take_in<W: Wire>(wire: &mut W, inbox: &mut Putter) -> Result<u64, WireFailed>
     Ok(lost)
 }
 
-/// Puts a packet in, and answers whether there was a place for it.
+/// Puts a packet in, and returns whether there was a place for it.
 fn put(inbox: &mut Putter, bytes: &[u8]) -> bool
     ensures taken { MayTake inbox.old.put bytes.now inbox.new.put }
     ensures inbox { inbox.new.inlet ≡ inbox.old.inlet }
@@ -82,7 +80,7 @@ fn put(inbox: &mut Putter, bytes: &[u8]) -> bool
     }
 }
 
-/// Sends the packets of the outbox, as many as it has places at most.
+/// Sends at most `PLACES` packets of the outbox.
 fn send_out<W: Wire>(wire: &mut W, outbox: &mut Taker) -> Result<(), WireFailed>
     ensures sent { IsHandedOn outbox.old.taken outbox.new.taken
         (W.sent wire.old) (W.sent wire.new) }
@@ -99,7 +97,7 @@ fn send_out<W: Wire>(wire: &mut W, outbox: &mut Taker) -> Result<(), WireFailed>
     Ok(())
 }
 
-/// Sends a datagram to the player or watcher whom it names. What is none is lost.
+/// Sends a datagram to the player or watcher that it names. Bytes that spell no datagram are dropped.
 fn send<W: Wire>(wire: &mut W, bytes: &[u8]) -> Result<(), WireFailed>
     ensures sent { MayTake (W.sent wire.old) bytes.now (W.sent wire.new) }
     ensures received { W.received wire.new ≡ W.received wire.old }
@@ -110,7 +108,7 @@ fn send<W: Wire>(wire: &mut W, bytes: &[u8]) -> Result<(), WireFailed>
     }
 }
 
-/// Whom a datagram is for.
+/// The addressee of a datagram.
 fn addressee(bytes: &[u8]) -> Option<Seat> {
     match view(bytes) {
         Ok(datagram) => Some(datagram.header().to()),

@@ -1,4 +1,4 @@
-//! What a person who waits is told of a session.
+//! The progress lines of a session, for the person who waits.
 
 use crate::counters::Standing;
 use crate::session::Session;
@@ -11,24 +11,23 @@ use std::time::Duration;
 /// How many seconds lie between two lines.
 const EVERY: u64 = 1;
 
-/// Where a peer stands, told once a second. All times are those of one clock.
+/// Prints once a second how far a peer is. All times are of one clock.
 #[derive(Clone, Copy)]
 pub struct Progress {
     me: Player,
     players: u8,
     /// When the next line is due.
     due: Duration,
-    /// When each player was last heard, player 1's place first; at first when it began. And in how
-    /// many turns it had been heard then.
+    /// When each player was last heard, or the start, by place; and in how many turns it had been heard by then.
     heard: [Duration; MOST_PLAYERS],
     turns: [u64; MOST_PLAYERS],
-    /// The rollbacks that have been told, and the longest that has not.
+    /// The rollbacks up to the last line, and the longest since then.
     rollbacks: u64,
     longest: u64,
 }
 
 impl Progress {
-    /// It begins now, with a player of a game of so many.
+    /// Starts the clock for the peer of `me` in a game of `players` players.
     pub fn new(now: Duration, me: Player, players: u8) -> Progress {
         Progress {
             me,
@@ -41,12 +40,11 @@ impl Progress {
         }
     }
 
-    /// To be told often, with how many frames are confirmed: where a second has gone by since the
-    /// last line, writes one more, as `ticked 96, confirmed 88, rollbacks 3, longest 5, player 2
-    /// silent for 16 ms`. These are frames; the rollbacks are those since the last line, and the
-    /// longest is that of them; of each other player it tells for how long nothing was taken; then
-    /// `2 packets lost` if any was since the start, and `the machines differ` while the alarm
-    /// stands.
+    /// Writes a line if a second has passed since the last one; call it often, with the number of confirmed frames. A
+    /// line is like `ticked 96, confirmed 88, rollbacks 3, longest 5, player 2 silent for 16 ms`. The first two are
+    /// numbers of frames. The rollbacks are those since the last line, and the longest one's frames. For each other
+    /// player follows the time since it was last heard, then `2 packets lost` if any was lost since the start, and `the
+    /// machines differ` while the alarm stands.
     pub fn tell<E: Write>(
         &mut self,
         out: &mut E,
@@ -71,7 +69,7 @@ impl Progress {
         writeln!(out)
     }
 
-    /// Notes who was heard since it was told last, and the longest rollback.
+    /// Notes who was heard since the last call, and the longest rollback.
     fn note(&mut self, now: Duration, standing: &Standing) {
         self.longest = self.longest.max(standing.longest);
         for place in 0..MOST_PLAYERS {
@@ -82,7 +80,7 @@ impl Progress {
         }
     }
 
-    /// Writes how far the peer is, and the rollbacks since the last line.
+    /// Writes the frame counts, and the rollbacks since the last line.
     fn write_counts<E: Write>(
         &mut self,
         out: &mut E,
@@ -99,7 +97,7 @@ impl Progress {
         )
     }
 
-    /// Writes for how long each other player has been silent.
+    /// Writes how long each other player has been silent.
     fn write_silence<E: Write>(&self, out: &mut E, now: Duration) -> io::Result<()> {
         for place in 0..MOST_PLAYERS {
             let number = place + 1;
@@ -112,8 +110,8 @@ impl Progress {
     }
 }
 
-/// Writes the line of a session that made so many turns and makes no more: `dropped by player 1`,
-/// `all 200 frames are confirmed`, or `665 of 10000 frames after 100000 turns`.
+/// Writes the last line of a session that made `turns` turns: `dropped by player 1`, `all 200 frames are confirmed`, or
+/// `665 of 10000 frames after 100000 turns`.
 pub fn tell_end<D: Disk, E: Write>(
     out: &mut E,
     turns: u64,

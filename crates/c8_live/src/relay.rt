@@ -6,8 +6,8 @@ use crate::wire::{LONGEST_PACKET, Wire};
 use c8_inlet::{Packet, Putter, Taker};
 use c8_wire::{LONGEST_DATAGRAM, Seat};
 
-/// A wire of two inlets: what is sent is put into the one, and what has come is taken out of the
-/// other. Where no place is free a datagram is lost, and counted. It never fails.
+/// A wire of two inlets: it sends into one and receives from the other. If the outbox is full, the datagram is lost and
+/// counted. It never fails.
 #[derive(Drop)]
 pub struct Relay {
     outbox: Putter,
@@ -16,7 +16,7 @@ pub struct Relay {
 }
 
 impl Relay {
-    /// Over the end of an inlet to put into, and that of another one to take from.
+    /// Creates a relay that puts into `outbox` and takes from `inbox`.
     pub fn new(outbox: Putter, inbox: Taker) -> Relay
         ensures outbox { result.outbox ≡ outbox }
         ensures inbox { result.inbox ≡ inbox }
@@ -28,7 +28,7 @@ impl Relay {
         }
     }
 
-    /// The two ends again.
+    /// Gives both inlet ends back.
     pub fn into_ends(self) -> (Putter, Taker)
         ensures { (result.0 ≡ self.outbox) × (result.1 ≡ self.inbox) }
     {

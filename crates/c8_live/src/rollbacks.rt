@@ -1,7 +1,7 @@
-//! How often frames were run anew.
+//! How often a peer rolled back.
 
-/// How often a peer went back, since an input differed from the guess, and how many frames it ran
-/// anew then, at most.
+/// How often a peer rolled back because an input differed from its prediction, and the most frames that one rollback
+/// simulated again.
 #[derive(Clone, Copy, Debug, Default, PartialEq, Eq)]
 pub struct Rollbacks {
     pub count: u32,
@@ -9,7 +9,7 @@ pub struct Rollbacks {
 }
 
 impl Rollbacks {
-    /// A call ran so many frames anew. None is no rollback.
+    /// Counts a call that simulated `frames` frames again; 0 frames are no rollback.
     pub(crate) fn note(&mut self, frames: u32) {
         if frames > 0 {
             self.count = self.count.saturating_add(1);

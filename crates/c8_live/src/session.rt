@@ -1,4 +1,5 @@
-//! The loop of one peer, turn by turn: it hears, ticks, lets go, cuts, records of a checkpoint and speaks.
+//! The loop of one peer, turn by turn: it hears, ticks, drops silent players, cuts, records a part of a checkpoint, and
+//! speaks.
 
 ghost use Rattle.std.specs.Prelude.{◌≡◌, ◌≤◌, ◌↔◌, [], ◌∷◌, IsTrue, IfOk, IfSome, IfErr};
 ghost use Rattle.c8_live.specs.Entered.{entered_of, HasEntered, HasTicked, HasHandedIn};
@@ -24,40 +25,40 @@ use c8_wire::{Header, LONGEST_DATAGRAM, Seat, view};
 use showing::Watchers;
 use std::fmt;
 
-/// The most packets that are taken from the wire in one turn.
+/// How many packets one turn takes from the wire at most.
 const MOST_PACKETS: u16 = 256;
 
-/// How many turns a peer goes on after all is confirmed and acknowledged, so that the others hear
-/// of it too.
+/// How many turns a peer goes on after everything is confirmed and acknowledged, so that the other peers get its last
+/// acknowledgements.
 const REST: u32 = 120;
 
-/// A peer that plays, and what it enters.
+/// A peer with its key sets, its turns and its patience.
 #[derive(Drop)]
 pub struct Session<'g, D: Disk> {
     peer: Peer<'g, D>,
-    /// How many frames the game has.
+    /// The number of frames of the game.
     frames: u32,
-    /// What is entered, one key set a tick, and how many of them have been.
+    /// The key sets to enter, one a tick, and how many of them have been entered.
     keys: Vec<Keys>,
     entered: usize,
-    /// After how many turns of silence player one lets a player go.
+    /// After how many silent turns player 1 drops a player; `None` for never.
     patience: Option<u64>,
-    /// How many confirmed frames more than at the last checkpoint begin the next one, 0 for never; and
-    /// whether one is under way.
+    /// A checkpoint begins once this many frames were confirmed since the last one (0: never), and whether one is under
+    /// way.
     interval: u32,
     is_saving: bool,
     silence: Silence,
-    /// Whose HELLO was taken since something was said last, player 1's place first.
+    /// Whose HELLO the peer has taken since it last spoke, by place.
     greeters: [bool; MOST_PLAYERS],
-    /// To whom player one shows what is confirmed.
+    /// The watchers to which player 1 shows the confirmed rows.
     watchers: Watchers,
-    /// The rollbacks of the turn or the listening made last.
+    /// The rollbacks of the last `turn`, `play` or `listen`.
     rollbacks: Rollbacks,
-    /// The turns since all was confirmed and acknowledged, that one included.
+    /// The number of turns that ended with everything confirmed and acknowledged.
     rested: u32,
 }
 
-/// Its peer, and how many of the key sets it has entered.
+/// Prints the peer, and how many of the key sets it has entered.
 impl<'g, D: Disk> fmt::Debug for Session<'g, D> {
     fn fmt<W: fmt::Write>(&self, f: &mut fmt::Formatter<W>) -> fmt::Result {
         let peer = &self.peer;
@@ -67,9 +68,9 @@ impl<'g, D: Disk> fmt::Debug for Session<'g, D> {
 }
 
 impl<'g, D: Disk> Session<'g, D> {
-    /// A peer that has made no turn yet. Once `interval` frames more are confirmed than at the last
-    /// checkpoint, the next one begins: one record a turn, 37 of them, and then a later opening of the
-    /// journal begins there. With 0 it makes none.
+    /// Creates the session of a peer, before its first turn. Once `interval` frames were confirmed since the last
+    /// checkpoint, the next one begins: one record a turn, 37 in all. A later opening of the journal starts there. With
+    /// `interval` 0 it makes no checkpoints. With `patience` player 1 drops a player after that many silent turns.
     pub fn new(
         peer: Peer<'g, D>,
         game: &Game,
@@ -95,40 +96,38 @@ impl<'g, D: Disk> Session<'g, D> {
         }
     }
 
-    /// The peer that plays.
+    /// The peer.
     pub fn peer(&self) -> &Peer<'g, D>
         ensures { result.now ≡ self.now.peer }
     {
         &self.peer
     }
 
-    /// How many frames the game has.
+    /// The number of frames of the game.
     pub fn frames(&self) -> u32 {
         self.frames
     }
 
-    /// The rollbacks of the turn that was made last, or of the listening after it.
+    /// The rollbacks of the last `turn`, `play` or `listen`.
     pub fn rollbacks(&self) -> Rollbacks {
         self.rollbacks
     }
 
-    /// For how many turns a player has been silent.
+    /// How many turns have begun since a datagram of the player was last admitted, or since the start.
     pub fn silent(&self, player: Player) -> u64 {
         self.silence.turns(player)
     }
 
-    /// Whether there is no more to do: this peer's player has been dropped, or it has rested.
+    /// Whether the session is done: the peer knows that it was dropped, or it has rested for more than 120 turns.
     pub fn is_over(&self) -> bool
         ensures { IsTrue result ↔ IsOver self.now }
     {
         self.peer.dropped() || self.rested > REST
     }
 
-    /// One turn: the peer hears what the wire gives, at most `MOST_PACKETS` packets, enters the next of
-    /// its key sets, after the last an empty one, as player one lets go and cuts, and records of a
-    /// checkpoint, each a step of the definitions; then it speaks, and what the wire takes is what it said.
-    /// A key set that is refused is entered again in the next turn. The error is that of the disk or of the
-    /// wire, which ends the session.
+    /// Makes one turn. The peer hears at most 256 packets of the wire, enters its next key set (an empty one after the
+    /// last), drops players and cuts if it is player 1, records at most one part of a checkpoint, and speaks. If a key
+    /// set is refused, the next turn enters it again. An error of the disk or of the wire ends the session.
     pub fn turn<W: Wire>(&mut self, wire: &mut W) -> Result<(), SessionError>
         ensures turn { IsTurn D.Disk W.Wire self.old.peer self.new.peer wire.old wire.new }
         ensures ran { HasRunOn D.Disk self.old.peer self.new.peer }
@@ -142,9 +141,9 @@ impl<'g, D: Disk> Session<'g, D> {
         Ok(())
     }
 
-    /// One turn like that, of one who has no list of key sets: its tick is the one with these keys, if there
-    /// are any, and it answers whether they were taken. They are refused where the peer may run no further
-    /// ahead of the others, and after the last frame.
+    /// Makes a turn of a player without a list of key sets: it enters `keys`, and with `None` it does not tick. Returns
+    /// whether the key set was taken. The peer refuses it at the window's limit, after the last frame, and when it is
+    /// down or dropped.
     pub fn play<W: Wire>(&mut self, keys: Option<Keys>, wire: &mut W) -> Result<bool, SessionError>
         ensures turn { IsTurn D.Disk W.Wire self.old.peer self.new.peer wire.old wire.new }
         ensures handed_in { IfOk result (λ taken. HasHandedIn D.Disk W.Wire keys taken
@@ -171,9 +170,8 @@ impl<'g, D: Disk> Session<'g, D> {
         Ok(is_taken)
     }
 
-    /// Hears, between two turns, what the wire gives, at most `MOST_PACKETS` packets, so that less is to be
-    /// heard in the turn that comes. What there is to say to that is said there. The error is that of the
-    /// disk or of the wire, which ends the session.
+    /// Hears at most 256 packets of the wire between two turns, so that the next turn has less to hear. The next turn
+    /// sends the replies. An error of the disk or of the wire ends the session.
     pub fn listen<W: Wire>(&mut self, wire: &mut W) -> Result<(), SessionError>
         ensures heard { HasHeard D.Disk W.Wire most_packets self.old.peer self.new.peer wire.old wire.new }
         ensures ran { HasRunOn D.Disk self.old.peer self.new.peer }
@@ -183,7 +181,7 @@ impl<'g, D: Disk> Session<'g, D> {
         self.hear(wire)
     }
 
-    /// Delivers the packets that wait, and notes of which players a HELLO was taken.
+    /// Delivers the packets that wait, and notes which players greeted.
     fn hear<W: Wire>(&mut self, wire: &mut W) -> Result<(), SessionError>
         ensures heard { HasHeard D.Disk W.Wire most_packets self.old.peer self.new.peer wire.old wire.new }
         ensures end { IfErr result (IsEnd D.Disk self.old.peer self.new.peer) }
@@ -203,7 +201,7 @@ impl<'g, D: Disk> Session<'g, D> {
         Ok(())
     }
 
-    /// Notes whose HELLO was taken, if one was: a WELCOME is to be said.
+    /// Notes the player whose HELLO was taken, so that this turn sends it a WELCOME.
     fn greet_back(&mut self, greeter: Option<Player>)
         ensures { self.new.peer ≡ self.old.peer }
     {
@@ -212,13 +210,13 @@ impl<'g, D: Disk> Session<'g, D> {
         }
     }
 
-    /// Delivers a packet, and answers whose HELLO it was, if it was one and was taken.
+    /// Delivers a packet. Returns the sender if it was a HELLO and was taken.
     fn deliver(&mut self, packet: &[u8]) -> Result<Option<Player>, SessionError>
         ensures ran { HasHeardOf D.Disk (packet.now ∷ []) self.old.peer self.new.peer }
         ensures end { IfErr result (IsEnd D.Disk self.old.peer self.new.peer) }
     {
         a_packet_is_heard::<D>();
-        // A peer takes nothing of what is no datagram.
+        // Bytes that spell no datagram change nothing.
         let Ok(datagram) = view(packet) else {
             return Ok(None);
         };
@@ -228,8 +226,8 @@ impl<'g, D: Disk> Session<'g, D> {
         }
     }
 
-    /// Ends the silence of the player whose datagram was answered so, if it was admitted, and answers
-    /// whose HELLO it was, if it was one and was taken.
+    /// Resets the silence of the sender if its datagram was admitted. Returns the sender if it was a HELLO and was
+    /// taken.
     fn greeter(&mut self, header: Header<'_>, answer: Result<Heard, Refused>) -> Option<Player>
         ensures { self.new.peer ≡ self.old.peer }
     {
@@ -245,7 +243,7 @@ impl<'g, D: Disk> Session<'g, D> {
         }
     }
 
-    /// Enters a key set, if there is one, and answers whether it was taken.
+    /// Enters a key set, if there is one, and returns whether it was taken.
     fn enter(&mut self, keys: Option<Keys>) -> Result<bool, SessionError>
         ensures ran { HasDoneOnce D.Disk Ticks self.old.peer self.new.peer }
         ensures ticked { IfOk result (λ taken. HasTicked D.Disk keys taken self.old.peer self.new.peer) }
@@ -263,7 +261,7 @@ impl<'g, D: Disk> Session<'g, D> {
         }
     }
 
-    /// Player one lets go of those who have been silent for too long.
+    /// Drops the players who have been silent for `patience` turns, if this is player 1.
     fn let_go(&mut self) -> Result<(), SessionError>
         ensures ran { HasDone D.Disk LetsGo self.old.peer self.new.peer }
         ensures end { IfErr result (IsEnd D.Disk self.old.peer self.new.peer) }
@@ -284,7 +282,7 @@ impl<'g, D: Disk> Session<'g, D> {
         Ok(())
     }
 
-    /// Player one cuts the leavers whose drop round is ready.
+    /// Cuts the leavers whose drop round is ready, if this is player 1.
     fn cut(&mut self) -> Result<(), SessionError>
         ensures ran { HasDone D.Disk Cuts self.old.peer self.new.peer }
         ensures end { IfErr result (IsEnd D.Disk self.old.peer self.new.peer) }
@@ -301,7 +299,7 @@ impl<'g, D: Disk> Session<'g, D> {
         Ok(())
     }
 
-    /// Records what comes next of a checkpoint, where one is under way or it is time for the next.
+    /// Records the next part of a checkpoint, if one is under way or due.
     fn save(&mut self) -> Result<(), SessionError>
         ensures ran { HasDoneOnce D.Disk Saves self.old.peer self.new.peer }
         ensures end { IfErr result (IsEnd D.Disk self.old.peer self.new.peer) }
@@ -319,7 +317,7 @@ impl<'g, D: Disk> Session<'g, D> {
         }
     }
 
-    /// Whether so many frames were confirmed since the last checkpoint.
+    /// Whether `interval` frames were confirmed since the last checkpoint.
     fn is_time_to_save(&self) -> bool {
         let since = self
             .peer
@@ -328,7 +326,7 @@ impl<'g, D: Disk> Session<'g, D> {
         self.interval > 0 && since >= self.interval
     }
 
-    /// Says to each other player what there is to say, and shows the watchers what they lack.
+    /// Sends each other player what is due, and shows the watchers what they lack.
     fn speak<W: Wire>(&self, wire: &mut W) -> Result<(), WireFailed>
         ensures spoke { HasSpoken D.Disk W.Wire self.now.peer wire.old wire.new }
     {
@@ -343,8 +341,7 @@ impl<'g, D: Disk> Session<'g, D> {
         self.show(wire)
     }
 
-    /// HELLO where the link is not open, WELCOME where the player has greeted, and DATA where neither
-    /// was said.
+    /// Sends HELLO if the link is not open, WELCOME if the player has greeted, and DATA if neither.
     fn speak_to<W: Wire>(
         &self,
         wire: &mut W,
@@ -360,7 +357,7 @@ impl<'g, D: Disk> Session<'g, D> {
         self.say_if(is_linked && !has_greeted, wire, to, Kind::Data)
     }
 
-    /// What the drop rounds want said to a player.
+    /// Sends a player the datagrams of the drop rounds.
     fn speak_of_leavers<W: Wire>(&self, wire: &mut W, to: Player) -> Result<(), WireFailed>
         ensures spoke { HasSpoken D.Disk W.Wire self.now.peer wire.old wire.new }
     {
@@ -375,9 +372,8 @@ impl<'g, D: Disk> Session<'g, D> {
         Ok(())
     }
 
-    /// What the drop round of a leaver wants said to a player. Player one says FREEZE to those who
-    /// stay until the cut, and CUT to all from then on; the others say FROZEN to player one until
-    /// they have the cut.
+    /// Which datagram of a leaver's drop round a player gets, if any. Player 1 sends FREEZE to the stayers until the
+    /// cut, and CUT to all after it. The others send FROZEN to player 1 until they have the cut.
     fn round(&self, to: Player, leaver: Player) -> Option<Kind> {
         if leaver.number > self.peer.players() {
             return None;
@@ -398,7 +394,7 @@ impl<'g, D: Disk> Session<'g, D> {
         }
     }
 
-    /// Says one datagram where it is wanted.
+    /// Sends one datagram if it is wanted.
     fn say_if<W: Wire>(
         &self,
         is_wanted: bool,
@@ -416,7 +412,7 @@ impl<'g, D: Disk> Session<'g, D> {
         }
     }
 
-    /// Says one datagram, if it can be said.
+    /// Sends one datagram, unless the peer refuses to say it.
     fn say<W: Wire>(&self, wire: &mut W, to: Player, kind: Kind) -> Result<(), WireFailed>
         ensures spoke { HasSpoken D.Disk W.Wire self.now.peer wire.old wire.new }
     {
@@ -428,8 +424,8 @@ impl<'g, D: Disk> Session<'g, D> {
         }
     }
 
-    /// Whether all frames are confirmed here, and every player who is not cut has acknowledged all
-    /// of the own inputs that count.
+    /// Whether all frames are confirmed here, and every player without a cut has acknowledged this player's inputs of
+    /// all frames.
     fn is_finished(&self) -> bool {
         if self.peer.confirmed() < self.frames {
             return false;
@@ -445,7 +441,7 @@ impl<'g, D: Disk> Session<'g, D> {
         true
     }
 
-    /// The player with a number, if it is another than this peer's.
+    /// The player with this number, unless it is this peer's own.
     fn other(&self, number: u8) -> Option<Player>
         ensures { IfSome result (λ player. player.number ≡ number) }
     {
@@ -457,7 +453,7 @@ impl<'g, D: Disk> Session<'g, D> {
     }
 }
 
-/// Whether the links admitted a packet, whatever was answered then.
+/// Whether the links admitted the datagram, whatever came after that.
 fn is_admitted(answer: Result<Heard, Refused>) -> bool {
     !matches!(
         answer,

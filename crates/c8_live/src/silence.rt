@@ -1,25 +1,24 @@
-//! For how long players have been silent.
+//! How long each player has been silent.
 
 ghost use Rattle.std.specs.Prelude.{◌≡◌};
 
 use c8_game::{MOST_PLAYERS, Player};
 
-/// For each player the turns that began since a datagram of it was last admitted, or since the
-/// start.
+/// For each player, how many turns have begun since a datagram of it was last admitted, or since the start.
 #[derive(Clone, Copy, Debug, PartialEq, Eq)]
 pub struct Silence {
     turns: [u64; MOST_PLAYERS],
 }
 
 impl Silence {
-    /// No turn has begun.
+    /// Before the first turn.
     pub fn new() -> Silence {
         Silence {
             turns: [0; MOST_PLAYERS],
         }
     }
 
-    /// A turn begins.
+    /// Counts a turn that begins.
     pub fn begin(&mut self) {
         let [one, two, three, four] = self.turns;
         self.turns = [
@@ -30,12 +29,12 @@ impl Silence {
         ];
     }
 
-    /// A datagram of the player was admitted.
+    /// Resets a player whose datagram was admitted.
     pub fn heard(&mut self, player: Player) {
         self.turns[player.place()] = 0;
     }
 
-    /// For how many turns the player has been silent, the one that runs included.
+    /// How many turns the player has been silent, the current one included.
     pub fn turns(&self, player: Player) -> u64 {
         self.turns[player.place()]
     }

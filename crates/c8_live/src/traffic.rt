@@ -1,12 +1,12 @@
-//! What goes over a wire, for those who reason about it.
+//! The traffic of a wire, for proofs.
 ghost use Rattle.std.specs.Prelude.{◌≡◌, ◌≤◌, [], ◌∷◌, ◌++◌, length};
 
 use crate::wire::LONGEST_PACKET;
 use c8_disk::GhostList;
 use c8_inlet::Packet;
 
-/// The packets that a wire took to send and those that it gave, the oldest first. It takes no room:
-/// a wire that keeps none of them has one, and its `sent` and `received` are read of it.
+/// The packets that a wire took to send and those that it gave, oldest first. It has no bytes: a wire that stores no
+/// packets holds one, and defines its `sent` and `received` by it.
 #[derive(Debug, Drop)]
 pub struct Traffic {
     pub sent: GhostList<Packet>,
@@ -20,7 +20,7 @@ impl Default for Traffic {
 }
 
 impl Traffic {
-    /// None yet.
+    /// No traffic yet.
     pub fn new() -> Traffic
         ensures sent { result.sent.items ≡ [] }
         ensures received { result.received.items ≡ [] }
@@ -31,7 +31,7 @@ impl Traffic {
         }
     }
 
-    /// One more was taken to send.
+    /// Notes a packet that the wire took to send.
     pub fn took(&mut self, packet: &[u8])
         requires { length packet.now ≤ LONGEST_PACKET }
         ensures sent { self.new.sent.items ≡ self.old.sent.items ++ packet.now ∷ [] }
@@ -42,7 +42,7 @@ impl Traffic {
         }
     }
 
-    /// One more was given.
+    /// Notes a packet that the wire gave.
     pub fn gave(&mut self, packet: &[u8])
         requires { length packet.now ≤ LONGEST_PACKET }
         ensures sent { self.new.sent.items ≡ self.old.sent.items }

@@ -1,4 +1,4 @@
-//! What ends a session before its game does.
+//! The errors that end a session before its game ends.
 use crate::players::{TWO, opened};
 use crate::table::none_is;
 use crate::way::Way;
@@ -8,7 +8,7 @@ use c8_live::{Session, SessionError, WireFailed};
 use std::alloc::Global;
 use std::test::Fail;
 
-/// A disk and a way, and what the first turn answers.
+/// The faults of a disk and a wire, and what the first turn answers.
 struct Fault {
     capacity: u32,
     arm: Arm,
@@ -33,7 +33,7 @@ fn faults() -> &'static [Fault] {
     &FAULTS
 }
 
-/// Player one's session on the disk of a fault.
+/// Player 1's session on the disk of a fault.
 fn session_on<'g>(alloc: Global, game: &'g Game, fault: &Fault) -> Option<Session<'g, MemDisk>> {
     let disk = MemDisk::new(alloc, fault.capacity, 4000).ok()?;
     let mut peer = opened(alloc, disk, game, Player::CHAIR)?;
@@ -64,7 +64,7 @@ fn first_wrong(alloc: Global) -> Option<usize> {
     None
 }
 
-/// A disk that fails or is full ends the session, as does a way that fails.
+/// A disk that fails or is full ends the session, and so does a wire that fails.
 #[test]
 fn a_fault_ends_the_session(rt: HostRuntime) -> Result<(), Fail> {
     none_is(first_wrong(rt.alloc()))

@@ -1,4 +1,4 @@
-//! Whole games, played by one thread that gives each session a turn after the other.
+//! Whole games, played by one thread that gives the sessions turns in order.
 use crate::letter::Letter;
 use crate::players::{FOUR, THREE, TWO, is_turn_made, session_of};
 use crate::table::{none_is, place_of};
@@ -11,10 +11,10 @@ use c8_wire::Seat;
 use std::alloc::Global;
 use std::test::Fail;
 
-/// After how many turns of silence player one drops a player here.
+/// After how many silent turns player 1 drops a player here.
 const PATIENCE: u32 = 60;
 
-/// The player who falls silent, and its place.
+/// The player who becomes silent, and its place.
 const LEAVER: Player = Player { number: 3 };
 
 const LEAVER_PLACE: usize = 2;
@@ -22,7 +22,7 @@ const LEAVER_PLACE: usize = 2;
 /// The place of nobody.
 const NOBODY: usize = 4;
 
-/// What each player enters, frame by frame. That of the second ends before the game does.
+/// What each player enters, frame by frame. Player 2's list ends before the game does.
 const FIRST: &[u16] = &[
     0x20, 0, 0x20, 0x20, 0, 0, 0, 0, 0x20, 0x20, 0x20, 0x20, 0x20, 0, 0, 0, 0, 0, 0, 0x20,
 ];
@@ -50,7 +50,7 @@ fn set_of(number: u8, frame: usize) -> Keys {
     Keys(entered(number).get(frame).copied().unwrap_or(0))
 }
 
-/// The machine of one who plays alone what all players enter.
+/// The machine of a game that one person plays with the keys of all players.
 fn played_alone(game: &Game) -> Machine {
     let mut machine = Machine::start(game);
     for frame in 0..20 {
@@ -67,7 +67,7 @@ fn played_alone(game: &Game) -> Machine {
     machine
 }
 
-/// A session, and its way to the others.
+/// A session, and its wire.
 #[derive(Drop)]
 struct Side<'g> {
     session: Session<'g, MemDisk>,
@@ -87,15 +87,15 @@ fn side_of<'g>(alloc: Global, game: &'g Game, number: u8) -> Option<Side<'g>> {
     })
 }
 
-/// The players of a game, player 1 first. Of the packets from one player to another those are lost whose number
-/// is a multiple of `lost`, none if that is 0.
+/// The players of a game, player 1's first. Of the packets from one player to another, each `lost`-th one is lost, and
+/// none if `lost` is 0.
 #[derive(Drop)]
 struct Match<'g> {
     sides: Vec<Side<'g>>,
     lost: u32,
     /// How many packets were sent, by sender and addressee.
     sent: [[u32; 4]; 4],
-    /// A turn has failed.
+    /// Whether a turn has failed.
     has_failed: bool,
 }
 
@@ -115,7 +115,7 @@ impl<'g> Match<'g> {
         }
     }
 
-    /// This many turns of each, in order of number, but of the silent one none.
+    /// Lets each player but the silent one make this many turns, in order of number.
     fn rounds(&mut self, alloc: Global, count: u32, silent: usize) {
         for _ in 0..count {
             self.round(alloc, silent);
@@ -130,7 +130,8 @@ impl<'g> Match<'g> {
         }
     }
 
-    /// One turn of the player at a place, unless its session is over. What it sends waits for the others.
+    /// Makes one turn of the player at a place, unless its session is over. The packets that it sends wait for the
+    /// others.
     fn turn(&mut self, alloc: Global, place: usize) {
         let Some(side) = self.sides.get_mut(place) else {
             return;
@@ -146,7 +147,7 @@ impl<'g> Match<'g> {
         }
     }
 
-    /// A packet goes from the player at a place to a seat, or is lost.
+    /// Carries a packet from the player at a place to a seat, or loses it.
     fn carry(&mut self, from: usize, to: Seat, letter: &Letter) {
         let to = place_of(to.number);
         if self.is_lost(from, to) {
@@ -157,7 +158,7 @@ impl<'g> Match<'g> {
         }
     }
 
-    /// Counts a packet from one place to another, and says whether it is lost.
+    /// Counts a packet from one place to another, and returns whether it is lost.
     fn is_lost(&mut self, from: usize, to: usize) -> bool {
         let Some(sent) = self.sent.get_mut(from) else {
             return false;
@@ -170,7 +171,7 @@ impl<'g> Match<'g> {
         self.lost > 0 && number % self.lost == 0
     }
 
-    /// Whether all is confirmed and acknowledged at player one, and whether its session is over.
+    /// Whether everything is confirmed and acknowledged at player 1, and whether its session is over.
     fn is_done(&self) -> (bool, bool) {
         match self.sides.get(0) {
             Some(one) => (is_finished(&one.session), one.session.is_over()),
@@ -178,7 +179,7 @@ impl<'g> Match<'g> {
         }
     }
 
-    /// Whether all ended with all frames confirmed, and with the machine of all rows.
+    /// Whether all sessions ended with all frames confirmed, and with the machine of all rows.
     fn has_ended_well(&self, game: &Game) -> bool {
         let alone = played_alone(game);
         for side in &self.sides {
@@ -190,7 +191,7 @@ impl<'g> Match<'g> {
     }
 }
 
-/// Whether all is confirmed at a session, and acknowledged by all other players than player one.
+/// Whether everything is confirmed at player 1's session, and acknowledged by all other players.
 fn is_finished(session: &Session<'_, MemDisk>) -> bool {
     let peer = session.peer();
     for number in 2..peer.players() + 1 {
@@ -210,7 +211,7 @@ fn has_ended_with(session: &Session<'_, MemDisk>, machine: &Machine) -> bool {
     frames == 20 && *confirmed == *machine && session.is_over() && !peer.dropped() && !peer.alarm()
 }
 
-/// In which of 400 rounds player one is finished, and in which its session is over; 0 if that never is so.
+/// In which of 400 rounds player 1 is finished, and in which its session is over; 0 for never.
 fn last_rounds(alloc: Global, all: &mut Match<'_>) -> (u32, u32) {
     let (mut finished, mut ended) = (0, 0);
     for round in 1..401 {
@@ -233,7 +234,8 @@ fn games() -> &'static [(u8, u32)] {
     &GAMES
 }
 
-/// Whether all end well, and player one rests for 120 turns after the one in which all is confirmed and acknowledged.
+/// Whether all sessions end well, and player 1 rests for 120 turns after the one in which everything is confirmed and
+/// acknowledged.
 fn ends_well(alloc: Global, players: u8, lost: u32) -> bool {
     let text = match players {
         2 => TWO,
@@ -290,13 +292,13 @@ fn have_dropped(all: &Match<'_>) -> bool {
         && !three.session.is_over()
 }
 
-/// Whether just this is printed of how a session ended.
+/// Whether just this line is printed at the end of a session.
 fn ends_by(alloc: Global, session: &Session<'_, MemDisk>, wanted: &[u8]) -> bool {
     let mut told = Vec::new(alloc);
     tell_end(&mut told, 400, session).is_ok() && told.as_slice() == wanted
 }
 
-/// Whether player 3 has learnt that it was dropped, which is its end, and both ends are printed.
+/// Whether player 3 has learnt that it was dropped, which ends it, and both last lines are printed.
 fn is_dropped(alloc: Global, all: &Match<'_>) -> bool {
     let [one, _, three] = all.sides.as_slice() else {
         return false;
@@ -307,8 +309,8 @@ fn is_dropped(alloc: Global, all: &Match<'_>) -> bool {
         && ends_by(alloc, &three.session, b"dropped by player 1\n")
 }
 
-/// Player 3 falls silent; the others cut it at one length and end with one machine. When it speaks again it learns that
-/// it was dropped.
+/// Player 3 becomes silent; the others cut it at one length and end with one machine. When it speaks again it learns
+/// that it was dropped.
 fn drops_the_silent(alloc: Global, lost: u32) -> bool {
     let Ok(game) = Game::read(alloc, THREE.as_bytes()) else {
         return false;

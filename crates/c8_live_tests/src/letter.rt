@@ -14,7 +14,7 @@ impl Letter {
         &self.bytes[..self.size.min(LONGEST_PACKET)]
     }
 
-    /// The same with one bit of a byte changed; of the version, which byte 2 is, both.
+    /// The packet with one bit of a byte changed; in byte 2, the version, with two bits changed.
     pub(crate) fn changed(&self, place: usize) -> Letter {
         let mut changed = *self;
         if let Some(byte) = changed.bytes.get_mut(place) {

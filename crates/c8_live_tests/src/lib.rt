@@ -1,8 +1,8 @@
-//! Tests of c8_live's session, and of what a person reads of it.
+//! Tests of c8_live's session, and of the lines that it prints.
 //!
-//! `turns` plays scripts: what the other players send before each turn, and all that the turn sends. `games`
-//! plays whole games in one thread, `faults` has what ends a session, `lines` what a person reads meanwhile.
-//! Scripts and rows are lent by functions without a contract: a proof then holds for any of them.
+//! `turns` plays scripts: what the other players send before each turn, and all that the turn sends. `games` plays
+//! whole games in one thread, `faults` has what ends a session, and `lines` the progress line. Functions without
+//! contracts lend the scripts and rows, so that a proof holds for any of them.
 #![tactic(auto)]
 
 #[cfg(test)]

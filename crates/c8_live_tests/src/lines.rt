@@ -1,15 +1,15 @@
-//! A line that a person reads who waits.
+//! The progress line.
 use c8_game::Player;
 use c8_live::{Progress, Standing};
 use std::alloc::Global;
 use std::time::Duration;
 
-/// All that a line can have, of player 3 of four: the longest rollback is that of two looks.
+/// All that a line can have, for player 3 of four. The longest rollback is that of both calls.
 const LINE: &[u8] = b"\
     ticked 21, confirmed 19, rollbacks 4, longest 5, player 1 silent for 200 ms, \
     player 2 silent for 1000 ms, player 4 silent for 0 ms, 7 packets lost, the machines differ\n";
 
-/// Whether two looks print that line.
+/// Whether two calls print that line.
 fn is_printed(alloc: Global) -> bool {
     let mut standing = Standing {
         ticked: 21,

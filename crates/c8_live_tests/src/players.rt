@@ -16,7 +16,7 @@ pub(crate) const THREE: &str =
 pub(crate) const FOUR: &str =
     "players 4\nipf 10\nframes 20\ndelay 0\nwindow 8\nseed 0\nmask1 ffff\nmask2 ffff\nmask3 ffff\nmask4 ffff\ncode 6205e2a1710170011202\n";
 
-/// The room in which all play.
+/// The room of all matches.
 const ROOM: u64 = 7;
 
 /// A player's peer over a disk, if it opens.
@@ -60,7 +60,7 @@ fn sets_of(alloc: Global, keys: &[u16]) -> Vec<Keys> {
     sets
 }
 
-/// Whether a session makes a turn that does not fail.
+/// Makes a turn, and returns whether it succeeded.
 pub(crate) fn is_turn_made(session: &mut Session<'_, MemDisk>, way: &mut Way) -> bool {
     session.turn(way).is_ok()
 }

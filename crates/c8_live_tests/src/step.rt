@@ -15,13 +15,14 @@ pub(crate) const CUT: u8 = 6;
 /// No byte of a datagram: none is this long.
 pub(crate) const WHOLE: usize = 1000;
 
-/// A step. Datagrams that the session sends are words: the addressee, the kind, and the leaver if there is one.
+/// A step. The datagrams that the session sends are written as words: the addressee, the kind, and the leaver if there
+/// is one.
 #[derive(Clone, Copy)]
 pub(crate) enum Step {
     /// A player sends a datagram of this kind, about this leaver if the kind has one; 0 is nobody. It waits for
     /// the next turn.
     Sends(u8, u8, u8),
-    /// A player says a datagram of this kind, which is kept.
+    /// A player says a datagram of this kind, and it is kept.
     Keeps(u8, u8),
     /// The kept datagram waits for the next turn, with one bit of this byte changed.
     Repeats(usize),
@@ -33,16 +34,16 @@ pub(crate) enum Step {
     Restarts(u8),
     /// From now on the session shows the match to the watcher in this seat.
     Shows(u8),
-    /// The session makes a turn, and sends just this.
+    /// The session makes a turn, and sends exactly this.
     Turn(&'static str),
-    /// The session listens between two turns, and sends just this.
+    /// The session listens between two turns, and sends exactly this.
     Listens(&'static str),
-    /// The session plays a turn with this key set, or none; whether it takes it, and all that it sends.
+    /// The session plays a turn with this key set, or none; whether it takes the set, and all that it sends.
     Plays(Option<u16>, bool, &'static str),
     /// A player has been silent for this many turns.
     Silent(u8, u64),
     /// This many frames are ticked, this many confirmed, and the last one shown has these keys.
     Stands(u32, u32, u16),
-    /// 400 milliseconds later a person reads this line, or nothing.
+    /// 400 milliseconds later this line is printed, or nothing.
     Prints(&'static str),
 }

@@ -1,4 +1,4 @@
-//! A session whose datagrams are read, and peers of the other players, whose datagrams are carried by hand.
+//! A session whose datagrams are read, and peers of the other players, whose datagrams the test carries.
 use crate::letter::{Letter, letter_of};
 use crate::players::{is_turn_made, new_peer, opened, session_of};
 use crate::step::{DATA, FREEZE, FROZEN, HELLO, Step, WELCOME};
@@ -14,15 +14,15 @@ use std::io::Write;
 use std::test::Fail;
 use std::time::Duration;
 
-/// How many milliseconds lie between two lines that a person may read.
+/// How many milliseconds lie between two calls that may print a line.
 const PAUSE: u64 = 400;
 
-/// The place of a seat among all; that of player 1 is 0.
+/// The place of a seat; player 1's is 0.
 pub(crate) fn place_of(number: u8) -> usize {
     usize::from(number).wrapping_sub(1)
 }
 
-/// What a script's kind is, about this leaver where the kind has one.
+/// The kind of a number in a script, about this leaver if the kind has one.
 fn kind_of(what: u8, leaver: u8) -> Kind {
     let leaver = Player::new(leaver).unwrap_or(Player::CHAIR);
     match what {
@@ -35,7 +35,7 @@ fn kind_of(what: u8, leaver: u8) -> Kind {
     }
 }
 
-/// The leaver whom a datagram names.
+/// The leaver that a datagram names.
 fn leaver_of(datagram: &Datagram<'_>) -> Option<u8> {
     match datagram {
         Datagram::Freeze(freeze) => Some(freeze.leaver().number),
@@ -54,7 +54,7 @@ fn tell(out: &mut Vec<u8>, to: u8, datagram: &Datagram<'_>) -> io::Result<()> {
     }
 }
 
-/// Writes what was sent to a seat. What is no datagram for it is `2 nothing`.
+/// Writes what was sent to a seat. Bytes that are no datagram for it are `2 nothing`.
 fn tell_next(out: &mut Vec<u8>, to: u8, letter: &Letter) -> io::Result<()> {
     if !out.is_empty() {
         write!(out, ", ")?;
@@ -65,7 +65,7 @@ fn tell_next(out: &mut Vec<u8>, to: u8, letter: &Letter) -> io::Result<()> {
     }
 }
 
-/// Whether just these datagrams were sent, in words.
+/// Whether exactly these datagrams were sent, in words.
 fn are_sent(alloc: Global, sent: &[(Seat, Letter)], wanted: &str) -> bool {
     let mut told = Vec::new(alloc);
     for (to, letter) in sent {
@@ -74,7 +74,7 @@ fn are_sent(alloc: Global, sent: &[(Seat, Letter)], wanted: &str) -> bool {
     told.as_slice() == wanted.as_bytes()
 }
 
-/// Player one drops a player, or cuts its list, so that it can say so.
+/// Player 1 drops a player, or cuts its list, so that it can say so.
 fn prepare(peer: &mut Peer<'_, MemDisk>, kind: Kind) {
     match kind {
         Kind::Freeze(leaver) => {
@@ -87,14 +87,14 @@ fn prepare(peer: &mut Peer<'_, MemDisk>, kind: Kind) {
     }
 }
 
-/// What a peer says to a player, if it can be said.
+/// What a peer says to a player, unless it refuses.
 fn said_by(peer: &Peer<'_, MemDisk>, to: Player, kind: Kind) -> Option<Letter> {
     let mut bytes = [0; LONGEST_DATAGRAM];
     let size = peer.say(to, kind, &mut bytes).ok()?;
     Some(letter_of(&bytes[..size]))
 }
 
-/// A peer of each player of a game, player 1's place first, but none of this one.
+/// A peer of each player of a game, by place, except this one.
 fn others_of<'g>(alloc: Global, game: &'g Game, me: u8) -> Vec<Option<Peer<'g, MemDisk>>> {
     let mut others = Vec::new(alloc);
     for number in 1..game.players() + 1 {
@@ -108,7 +108,7 @@ fn others_of<'g>(alloc: Global, game: &'g Game, me: u8) -> Vec<Option<Peer<'g, M
     others
 }
 
-/// The peer of a player hears a datagram.
+/// Delivers a datagram to the peer of a player.
 fn deliver(others: &mut Vec<Option<Peer<'_, MemDisk>>>, to: u8, letter: &Letter) {
     if let Some(Some(peer)) = others.get_mut(place_of(to)) {
         let _heard = peer.deliver(letter.packet());
@@ -120,19 +120,19 @@ fn deliver(others: &mut Vec<Option<Peer<'_, MemDisk>>>, to: u8, letter: &Letter)
 struct Table<'g> {
     game: &'g Game,
     session: Session<'g, MemDisk>,
-    /// Player 1's place first; none at the session's own place.
+    /// By place; none at the session's own place.
     others: Vec<Option<Peer<'g, MemDisk>>>,
     way: Way,
     /// A datagram that may come again.
     kept: Letter,
     counters: Counters,
     progress: Progress,
-    /// How much time has gone by.
+    /// How much time has passed.
     millis: u64,
 }
 
 impl<'g> Table<'g> {
-    /// The session of a player, who enters these key sets. It has no link to anybody.
+    /// The session of a player who enters these key sets. It has no links yet.
     fn new(
         alloc: Global,
         game: &'g Game,
@@ -154,7 +154,7 @@ impl<'g> Table<'g> {
         })
     }
 
-    /// The first step that comes to something else.
+    /// The first step with another result.
     fn first_wrong(&mut self, alloc: Global, steps: &[Step]) -> Option<usize> {
         for (place, step) in steps.iter().enumerate() {
             if !self.does(alloc, *step) {
@@ -164,7 +164,7 @@ impl<'g> Table<'g> {
         None
     }
 
-    /// Whether a step comes to what it says.
+    /// Whether a step has the result that it names.
     fn does(&mut self, alloc: Global, step: Step) -> bool {
         match step {
             Step::Sends(from, what, leaver) => self.sends(from, what, leaver),
@@ -272,7 +272,7 @@ impl<'g> Table<'g> {
         }
     }
 
-    /// Whether just this was sent, which each addressee hears.
+    /// Whether exactly this was sent. Each addressee hears it.
     fn has_sent(&mut self, alloc: Global, wanted: &str) -> bool {
         let is_wanted = are_sent(alloc, &self.way.sent, wanted);
         for (to, letter) in &self.way.sent {
@@ -306,13 +306,13 @@ impl<'g> Table<'g> {
     }
 }
 
-/// A row of a table, or a step of a script, that comes to something else.
+/// A row of a table, or a step of a script, with another result.
 #[derive(Debug, Drop)]
 struct Wrong {
     row: usize,
 }
 
-/// No row of a table is wrong.
+/// Fails if a row of a table is wrong.
 pub(crate) fn none_is(wrong: Option<usize>) -> Result<(), Fail> {
     match wrong {
         Some(row) => Err(Fail::from(Wrong { row })),
@@ -320,7 +320,7 @@ pub(crate) fn none_is(wrong: Option<usize>) -> Result<(), Fail> {
     }
 }
 
-/// Each step of a script comes to what it says, at the session of a player who enters these key sets.
+/// Checks that each step of a script has its result, at the session of a player who enters these key sets.
 pub(crate) fn follows(
     alloc: Global,
     text: &str,

@@ -8,12 +8,12 @@ use crate::step::{CUT, DATA, FREEZE, FROZEN, HELLO, Step, WELCOME, WHOLE};
 use crate::table::follows;
 use std::test::Fail;
 
-/// Two players, neither more than two frames ahead of what is confirmed.
+/// Two players, neither more than two frames ahead of the confirmed ones.
 const NARROW: &str =
     "players 2\nipf 10\nframes 20\ndelay 0\nwindow 2\nseed 0\nmask1 ffff\nmask2 ffff\ncode 1200\n";
 
-/// HELLO until there is a link, WELCOME in the turn in which a HELLO came, and DATA in a turn that has neither.
-/// The watchers come last.
+/// HELLO until there is a link, WELCOME in the turn in which a HELLO came, and DATA in a turn with neither. The
+/// watchers come last.
 #[rattlefmt::skip]
 static GREETINGS: [Step; 22] = [
     Turn("2 HELLO, 3 HELLO"),
@@ -34,7 +34,7 @@ fn greets_answers_and_sends_data(rt: HostRuntime) -> Result<(), Fail> {
     follows(rt.alloc(), THREE, 1, None, &[], &GREETINGS)
 }
 
-/// Player one shows the match to each watcher once a turn.
+/// Player 1 shows the match to each watcher once a turn.
 #[rattlefmt::skip]
 static SHOWN: [Step; 8] = [
     Turn("2 HELLO, 3 HELLO"),
@@ -49,8 +49,8 @@ fn player_one_shows_the_match(rt: HostRuntime) -> Result<(), Fail> {
     follows(rt.alloc(), THREE, 1, None, &[], &SHOWN)
 }
 
-/// Players 4 and 3 fall silent, 3 two turns later. FREEZE goes to those who stay, from the turn on in which a player
-/// is dropped; once its list is cut, CUT goes to all, and DATA goes on to all.
+/// Players 4 and 3 become silent, 3 two turns later. FREEZE goes to the stayers, from the turn in which a player is
+/// dropped; once its list is cut, CUT goes to all. DATA goes on to all.
 #[rattlefmt::skip]
 static DROPS: [Step; 28] = [
     Turn("2 HELLO, 3 HELLO, 4 HELLO"),
@@ -74,8 +74,7 @@ fn player_one_sends_freeze_and_then_cut(rt: HostRuntime) -> Result<(), Fail> {
     follows(rt.alloc(), FOUR, 1, Some(4), &[], &DROPS)
 }
 
-/// A player who stays sends FROZEN of each leaver to player one alone, from the FREEZE to the CUT. It shows
-/// the match to nobody.
+/// A stayer sends FROZEN of each leaver to player 1 alone, from the FREEZE to the CUT. It shows the match to nobody.
 #[rattlefmt::skip]
 static STAYS: [Step; 25] = [
     Turn("1 HELLO, 3 HELLO, 4 HELLO"),
@@ -99,7 +98,7 @@ fn who_stays_sends_frozen_to_player_one(rt: HostRuntime) -> Result<(), Fail> {
     follows(rt.alloc(), FOUR, 2, None, &[], &STAYS)
 }
 
-/// A turn takes 256 of the packets that wait, and comes to its tick; the next turn takes the others.
+/// A turn takes 256 of the packets that wait, and reaches its tick; the next turn takes the others.
 #[rattlefmt::skip]
 static CROWD: [Step; 9] = [
     Noise(255), Sends(2, HELLO, 0), Sends(3, HELLO, 0),
@@ -113,19 +112,18 @@ fn takes_256_packets_in_a_turn(rt: HostRuntime) -> Result<(), Fail> {
     follows(rt.alloc(), THREE, 1, None, &[], &CROWD)
 }
 
-/// A HELLO that is refused is not answered. Byte 4 is of the session, byte 2 of the version, byte 0 is the first of
-/// all.
+/// A refused HELLO is not answered. Byte 4 is in the session, byte 2 is the version, and byte 0 the first of all.
 #[rattlefmt::skip]
 static REFUSED: [Step; 21] = [
     Keeps(2, HELLO), Restarts(2),
     Turn("2 HELLO"),
     Sends(2, HELLO, 0), Turn("2 HELLO, 2 WELCOME"),
     Turn("2 HELLO"),
-    // of the time before the restart
+    // from before the restart
     Repeats(WHOLE), Turn("2 HELLO"),
     Sends(2, WELCOME, 0), Turn("2 DATA"),
     Repeats(WHOLE), Turn("2 DATA"),
-    // of another match, of the other version, and no datagram
+    // from another match, in the other version, and no datagram
     Keeps(2, HELLO),
     Repeats(4), Turn("2 DATA"),
     Repeats(2), Turn("2 DATA"),
@@ -138,9 +136,9 @@ fn answers_no_hello_that_is_refused(rt: HostRuntime) -> Result<(), Fail> {
     follows(rt.alloc(), TWO, 1, None, &[], &REFUSED)
 }
 
-/// A silence ends with a datagram that the link admits, whatever is answered then, and with no other. It is judged
-/// after what comes in a turn, and before anything is sent in it. Byte 26 is of the acknowledgement, 43 of the
-/// start, 4 of the session, 19 of the sender's epoch, 2 of the version.
+/// A silence ends with a datagram that the link admits, whatever comes after that, and with no other. It is checked
+/// after the packets of a turn are heard, and before anything is sent. Byte 26 is in the acknowledgement, 43 in the
+/// start, 4 in the session, 19 in the sender's epoch, and 2 is the version.
 #[rattlefmt::skip]
 static SILENCES: [Step; 45] = [
     Turn("2 HELLO, 3 HELLO"),
@@ -155,7 +153,7 @@ static SILENCES: [Step; 45] = [
     Sends(2, DATA, 0), Turn("2 DATA, 3 DATA"), Silent(3, 1),
     Sends(2, DATA, 0), Turn("2 DATA, 3 DATA"), Silent(3, 2),
     Sends(2, DATA, 0), Repeats(43), Turn("2 DATA, 3 DATA"), Silent(3, 0),
-    // and these are not: of another match, of an earlier epoch, no datagram, of the other version
+    // these are not: from another match, from an earlier epoch, no datagram, in the other version
     Sends(2, DATA, 0), Repeats(4), Turn("2 DATA, 3 DATA"), Silent(3, 1),
     Sends(2, DATA, 0), Repeats(19), Turn("2 DATA, 3 DATA"), Silent(3, 2),
     Sends(2, DATA, 0), Repeats(0), Turn("2 DATA, 2 FREEZE 3, 3 DATA"), Silent(3, 3),
@@ -167,8 +165,8 @@ fn what_is_admitted_ends_a_silence(rt: HostRuntime) -> Result<(), Fail> {
     follows(rt.alloc(), THREE, 1, Some(3), &[], &SILENCES)
 }
 
-/// What is heard between two turns is answered in the next, and a turn enters the key set that it is given, not one
-/// of the list. While two frames are not confirmed it takes no more.
+/// What is heard between two turns is answered in the next one. A turn enters the key set that it is given, not one of
+/// the list. While two frames are not confirmed it takes no more.
 #[rattlefmt::skip]
 static GIVEN: [Step; 16] = [
     Plays(None, false, "2 HELLO"), Stands(0, 0, 0),
@@ -185,7 +183,7 @@ fn hears_between_turns_and_enters_what_is_given(rt: HostRuntime) -> Result<(), F
     follows(rt.alloc(), NARROW, 1, None, &[9], &GIVEN)
 }
 
-/// A key set that is refused, since two frames are not confirmed, is entered in a later turn. Player 2 is dropped
+/// A key set that is refused, because two frames are not confirmed, is entered in a later turn. Player 2 is dropped
 /// after the tick of the fourth turn, which is refused too.
 #[rattlefmt::skip]
 static AGAIN: [Step; 14] = [
@@ -204,7 +202,7 @@ fn enters_a_refused_key_set_again(rt: HostRuntime) -> Result<(), Fail> {
 }
 
 /// A line a second: how far the game is, how often the peer rolled back since the last line, who is silent for how
-/// long, and that the machines differ. Byte 32 is of the mark.
+/// long, and that the machines differ. Byte 32 is in the mark.
 #[rattlefmt::skip]
 static PRINTED: [Step; 33] = [
     Turn("2 HELLO"),
@@ -213,7 +211,7 @@ static PRINTED: [Step; 33] = [
     // both frames were run without the key
     Enters(2, 0x20), Sends(2, DATA, 0), Turn("2 DATA"), Prints(""),
     Turn("2 DATA"), Prints(""),
-    // the guess was right
+    // the prediction was right
     Enters(2, 0x20), Sends(2, DATA, 0), Turn("2 DATA"),
     Prints("ticked 5, confirmed 2, rollbacks 1, longest 2, player 2 silent for 0 ms\n"),
     // frames 2 to 4 were run with the key

@@ -1,4 +1,4 @@
-//! A session's way to the others.
+//! The wire of a session.
 ghost use Rattle.std.specs.Prelude.{[]};
 
 use crate::letter::{Letter, letter_of};
@@ -6,7 +6,7 @@ use c8_live::{LONGEST_PACKET, Traffic, Wire, WireFailed};
 use c8_wire::Seat;
 use std::alloc::Global;
 
-/// A way on which packets wait, and which keeps what is sent, with its addressee. It may fail in one direction.
+/// A wire on which packets wait, and which keeps what is sent, with its addressee. It may fail in one direction.
 #[derive(Drop)]
 pub(crate) struct Way {
     waiting: Vec<Letter>,
@@ -30,7 +30,7 @@ impl Way {
         }
     }
 
-    /// A packet waits for the session. Whether there was memory for it.
+    /// Lets a packet wait for the session, and returns whether there was memory for it.
     pub(crate) fn post(&mut self, letter: &Letter) -> bool {
         self.waiting.push(*letter).is_ok()
     }

@@ -6,7 +6,7 @@ use Rattle.c8_keys.specs.declared.lines.Played.{Played}
 use Rattle.c8_net.specs.Errors.{peer_part}
 use Rattle.c8_net.specs.declared.error.PeerError.{PeerError}
 
--- the status that is told of an error is that of an outcome
+-- the status of an error is the status of the outcome
 pub of_error : {E : Type 0} → (told : Result Status E) (error : PeerError) → IfOk told (λ status. status ≡ status_of (peer_part error)) → IfOk told (λ status. (outcome : Result Played PeerError) × (status ≡ status_of_outcome peer_part outcome))
 of_error (Ok status) error same = (Err error, same)
 of_error (Err e) error same = tt

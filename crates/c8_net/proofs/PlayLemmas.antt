@@ -1,4 +1,4 @@
--- What a session on a journal comes to.
+-- How a session on a journal ends.
 use Rattle.std.proofs.Common.{◌≡◌, ℕ, Result, Err, IfErr, false, refl, sym, ap, subst, ◌∙◌, inl, inr}
 use Rattle.c8_game.specs.Rules.{Rules}
 use Rattle.c8_machine.specs.State.{state}
@@ -23,12 +23,12 @@ use Rattle.c8_net.specs.declared.error.Unopened.TheVariants as unopened
 use Rattle.c8_net.specs.Match.{HasEnded, HasPlayed, HasFailed}
 
 module _ {D : Type 0} (g : Ghosts D) (disk : D) (rules : Rules) (room me : ℕ) where
-  -- the peer that was opened is the session's
+  -- the session's peer is the one that was opened
   pub session_failed : (peer first last : PeerValue D) (error : SessionError) → IsOpened g disk rules room me peer → first ≡ peer → IsEnd g first last error → HasFailed g disk rules room me (error_of_session error)
   session_failed peer first last (sessions.Disk why) opened same end = (first, last, subst (IsOpened g disk rules room me) (sym same) opened, end)
   session_failed peer first last (sessions.Wire failed) opened same end = tt
 
-  -- so it is of a session that ended without all its turns
+  -- a session that ended before its last turn has failed
   pub ended_failed : (peer first last : PeerValue D) (turns : Result ℕ SessionError) (error : SessionError) → IsOpened g disk rules room me peer → first ≡ peer → HasEnded g first last turns → turns ≡ Err error → HasFailed g disk rules room me (error_of_session error)
   ended_failed peer first last turns error opened same ended is =
       session_failed peer first last error opened same (subst (λ (t : Result ℕ SessionError). IfErr t (IsEnd g first last)) is ended.end)
@@ -41,12 +41,12 @@ module _ {D : Type 0} (g : Ghosts D) (disk : D) (rules : Rules) (room me : ℕ) 
   pub opened_still : (peer now : PeerValue D) → now ≡ peer → IsOpened g disk rules room me peer → IsOpened g disk rules room me now
   opened_still peer now same opened = subst (IsOpened g disk rules room me) (sym same) opened
 
-  -- nothing to play with after it
+  -- after the opening, memory or the socket is missing
   pub unopened_failed : (peer : PeerValue D) (error : Unopened) → IsOpened g disk rules room me peer → HasFailed g disk rules room me (error_of_unopened error)
   unopened_failed peer unopened.Memory opened = inr (refl, peer, opened)
   unopened_failed peer unopened.Socket opened = tt
 
-  -- that a machine begins where it did, and that what is true of checkpoints stays so and shows the serial run, as c8_live says it
+  -- c8_live's laws: a machine still begins where it did; true checkpoints stay true, and show the serial run
   abbrev pub BeginsThere : Type 0
   BeginsThere = (old new : PeerValue D) → IsSound g old → HasRunOn g old new → begun_by new ≡ begun_by old
 

@@ -1,4 +1,4 @@
--- What one who watched comes to.
+-- How a watched match ends.
 use Rattle.std.proofs.Common.{◌≡◌, ◌≤◌, ℕ, length, ap, subst, ◌∙◌}
 use Rattle.c8_game.specs.Rules.{Rules}
 use Rattle.std.specs.Prelude.{Result, IfOk}

@@ -1,4 +1,4 @@
--- The numbers of refusals, as they are printed, and what each is of.
+-- The part and the number of each refusal, as they are printed.
 use Rattle.std.specs.Prelude.{ℕ}
 use Rattle.c8_command.specs.declared.refusal.Part.{Part}
 use Rattle.c8_command.specs.declared.refusal.Part.TheVariants as parts
@@ -21,7 +21,7 @@ socket_error_number sockets.Failed = 1
 socket_error_number sockets.Remotes = 2
 socket_error_number sockets.Address = 3
 
--- an opening that the disk refused is told as the disk
+-- if the disk refused an opening, the refusal is the disk's
 abbrev pub opening_part : OpenError → Part
 opening_part openings.WrongGame = parts.Open
 opening_part openings.WrongPlayer = parts.Open
@@ -38,7 +38,7 @@ opening_number openings.EpochsSpent = 4
 opening_number openings.Memory = 5
 opening_number (openings.Disk error) = disks.disk_number_of error
 
--- what the command refuses, and the number of the refusal: that of the error
+-- the part and the number of each refusal of the command
 abbrev pub peer_part : PeerError → Part
 peer_part (Game error) = parts.Game
 peer_part (Keys error) = parts.Keys
@@ -53,12 +53,12 @@ peer_error_number (Open error) = opening_number error
 peer_error_number (Disk error) = disks.disk_number_of error
 peer_error_number (Socket error) = socket_error_number error
 
--- a session ends by its disk, or by the way to the others
+-- the error of a session that the disk or the wire ended
 abbrev pub error_of_session : SessionError → PeerError
 error_of_session (sessions.Disk error) = Disk error
 error_of_session (sessions.Wire failed) = Socket sockets.Failed
 
--- there is no memory to start with, or no socket
+-- the error of a session for which memory or the socket is missing
 abbrev pub error_of_unopened : Unopened → PeerError
 error_of_unopened unopened.Memory = Open openings.Memory
 error_of_unopened unopened.Socket = Socket sockets.Failed

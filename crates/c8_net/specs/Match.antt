@@ -1,4 +1,4 @@
--- What `peer` comes to: by the text of a game and what standard input has, and then on a journal.
+-- How `peer` ends: by the text of a game and standard input, and then on a journal.
 use Rattle.std.specs.Prelude.{◌≡◌, ◌≢◌, ◌≤◌, ◌⊎◌, ℕ, ◌+◌, List, length, Option, IfSome, Result, IfErr}
 use Rattle.c8_game.specs.GameFaults.{IsRefused}
 use Rattle.c8_game.specs.GameText.{Spells}
@@ -29,7 +29,7 @@ use Rattle.c8_net.specs.declared.error.SocketError.TheVariants as sockets
 
 -- ---- before the journal is opened
 
--- why standard input has no key sets: a line that spells none, or want of memory; or it cannot be read
+-- why standard input gives no key sets: a line spells none, memory ran out, or it cannot be read
 abbrev pub IsNoKeys : Option (List ℕ) → PeerError → Type 0
 IsNoKeys input (Game error) = ⊥
 IsNoKeys input (Keys error) = IfSome input (λ text. IsFaultOfSets text error)
@@ -37,12 +37,12 @@ IsNoKeys input (Open error) = ⊥
 IsNoKeys input (Disk why) = why ≡ disks.Failed
 IsNoKeys input (Socket error) = ⊥
 
--- the text spells a game, which has one player more than there are addresses of others
+-- the text spells a game for these addresses of the other players and one more player
 abbrev pub IsGameFor : List ℕ → ℕ → Type 0
 IsGameFor game remotes = (rules : Rules) × Spells game rules × (remotes + 1 ≡ rules.players)
 
--- Why a match cannot begin, in this order: the text's first fault, or want of memory; there is not one address for each other
--- player; an address, of which no more is said; what standard input has.
+-- Why a match cannot begin, in this order: the text's first fault, or out of memory; a wrong number of addresses of
+-- other players; an address that cannot be read, without saying which; a fault of standard input.
 abbrev pub IsNoMatch : List ℕ → Option (List ℕ) → ℕ → PeerError → Type 0
 IsNoMatch game input remotes (Game error) = (error ≡ games.Memory) ⊎ IsRefused game error
 IsNoMatch game input remotes (Socket sockets.Failed) = ⊥
@@ -54,7 +54,7 @@ IsNoMatch game input remotes (Open error) = ⊥
 
 -- ---- in threads
 
--- A session ended: its peer ran on, each of its calls one step of the definitions, and where no more turns could be made it is told why.
+-- A session ended: its peer ran on, each of its calls one step of the definitions; if an error ended it, this is why.
 pub record HasEnded {D : Type 0} (disk : Ghosts D) (first last : PeerValue D) (turns : Result ℕ SessionError) : Type 0 where
   pub ran : HasRunOn disk first last
   pub end : IfErr turns (IsEnd disk first last)
@@ -62,10 +62,10 @@ pub record HasEnded {D : Type 0} (disk : Ghosts D) (first last : PeerValue D) (t
 -- ---- on a journal
 
 module _ {D : Type 0} (g : Ghosts D) (disk : D) (rules : Rules) (room me : ℕ) where
-  -- The journal was opened, and the peer ran on, each of its calls one step of the definitions. These are the frames that it counts
-  -- as confirmed then, and the machine is the run on their rows from where the opening began, at the last checkpoint that was
-  -- found or before the first frame. Where what the journal that was found says of checkpoints is true, it is the serial run on
-  -- them: so it is where peers alone have written that journal, and where it says nothing of checkpoints.
+  -- The journal was opened, and the peer ran on, each of its calls one step of the definitions. These are the frames
+  -- that it has confirmed at the end. The machine is the run of their rows from where the opening began: at the last
+  -- checkpoint that was found, or before the first frame. If that checkpoint is true, or there is none, the machine is
+  -- the serial run of the rows. The checkpoint is true if only peers wrote that journal.
   pub record HasPlayed (played : Played) : Type 0 where
     pub first : PeerValue D
     pub opened : IsOpened g disk rules room me first
@@ -75,12 +75,12 @@ module _ {D : Type 0} (g : Ghosts D) (disk : D) (rules : Rules) (room me : ℕ) 
     pub machine : state played.machine ≡ run_since rules (begun_by first) (confirmed_rows (known_by last))
     pub serial_is : HasTrueLast rules me (records_of (bodies_found g disk)) → state played.machine ≡ serial rules (confirmed_rows (known_by last))
 
-  -- the journal was opened, and there is no memory for what else a match takes
+  -- the journal was opened, and memory for the rest of a match is missing
   abbrev pub IsWithoutRoom : OpenError → Type 0
   IsWithoutRoom error = (error ≡ opens.Memory) × (first : PeerValue D) × IsOpened g disk rules room me first
 
-  -- The journal's opening is refused, or there is no memory for more; or the peer ran on until its disk, which was to blame,
-  -- refused a record. Of a socket that failed nothing is said.
+  -- The journal's opening was refused; or memory for the rest ran out; or the peer ran on until its disk failed and
+  -- refused a record. About a socket that failed this says nothing.
   abbrev pub HasFailed : PeerError → Type 0
   HasFailed (Game error) = ⊥
   HasFailed (Keys error) = ⊥
@@ -90,10 +90,10 @@ module _ {D : Type 0} (g : Ghosts D) (disk : D) (rules : Rules) (room me : ℕ) 
   HasFailed (Socket sockets.Remotes) = ⊥
   HasFailed (Socket sockets.Address) = ⊥
 
--- ---- of one who watches
+-- ---- watching
 
--- A match was watched from a seat: some turns over this wire, from no rows on, and no more than may be made. These are the frames that
--- were taken, and the machine is the serial run on their rows.
+-- A match was watched from a seat: at most `most` turns over this wire, starting without rows. These are the frames
+-- that were taken, and the machine is the serial run of their rows.
 pub record HasWatched {W : Type 0} (wire : WireGhosts W) (rules : Rules) (room seat most : ℕ) (first : W) (played : Played) : Type 0 where
   pub last : W
   pub turns : ℕ

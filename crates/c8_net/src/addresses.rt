@@ -1,4 +1,4 @@
-//! Where the players of a game are, and those who watch it.
+//! The addresses of the players of a game, and of its watchers.
 
 ghost use Rattle.std.specs.Prelude.{◌≡◌, ◌≢◌, ◌+◌, ◌<◌, ◌≤◌, length, IfOk, IfErr, IsErrOf, MatchResult};
 ghost use Rattle.std.specs.Net.Grammar.{IsSocketText};
@@ -8,21 +8,21 @@ use c8_game::{MOST_PLAYERS, Player};
 use c8_wire::Seat;
 use std::net::SocketAddr;
 
-/// How many may watch a match.
+/// How many watchers a match may have.
 pub const MOST_WATCHERS: usize = 2;
 
-/// The own address, and for each other player its address, player 1's first.
+/// The own address, and the address of each other player, by place.
 #[derive(Clone, Copy)]
 pub struct Addresses {
     pub local: SocketAddr,
     pub others: [Option<SocketAddr>; MOST_PLAYERS],
-    /// Those of the watchers in seats 5 and 6, if anybody watches.
+    /// The addresses of the watchers in seats 5 and 6, if any.
     pub watchers: [Option<SocketAddr>; MOST_WATCHERS],
 }
 
 impl Addresses {
-    /// Reads the own address, and those of the other players in order of number. `Remotes` if there
-    /// is not one for each other player, else `Address` if one cannot be read.
+    /// Reads the own address, and those of the other players in order of number. `Remotes` if there is not one for each
+    /// other player; otherwise `Address` if one cannot be read.
     pub fn read(
         players: u8,
         me: Player,
@@ -51,7 +51,7 @@ impl Addresses {
         })
     }
 
-    /// Reads the own address of one who watches, and player one's. `Address` if one cannot be read.
+    /// Reads a watcher's own address, and player 1's. `Address` if one cannot be read.
     pub fn of_player_one(local: &str, remote: &str) -> Result<Addresses, SocketError>
         ensures { IfErr result (λ error. error ≡ SocketError.Address) }
     {
@@ -64,7 +64,7 @@ impl Addresses {
         })
     }
 
-    /// The same with those who watch, in seats 5 and 6. `Address` if one of theirs cannot be read.
+    /// Adds the addresses of the watchers in seats 5 and 6. `Address` if one cannot be read.
     pub fn watched_by(
         self,
         watchers: [Option<&str>; MOST_WATCHERS],
@@ -80,7 +80,7 @@ impl Addresses {
         Ok(addresses)
     }
 
-    /// Where one is whom a datagram may be for.
+    /// The address of a player or watcher, if it has one here.
     pub(crate) fn of(&self, seat: Seat) -> Option<SocketAddr> {
         match (seat.player(), seat.watcher()) {
             (Some(player), _) => self.others[player.place()],
@@ -90,7 +90,7 @@ impl Addresses {
     }
 }
 
-/// The first of these words that is no address, if one is not.
+/// The first of these words that is no address, if any.
 pub(crate) fn no_address<'a>(
     local: &'a str,
     remotes: &[&'a str],
@@ -109,7 +109,7 @@ pub(crate) fn no_address<'a>(
         .or(six.filter(|word| address(word).is_err()))
 }
 
-/// The place among all players, from 0, of the one at a place among the others.
+/// The place among all players, from 0, of the player at a place among the others.
 fn place_of(place: usize, me: Player) -> usize
     requires { place < 3 }
     ensures { result < 4 }
@@ -121,7 +121,7 @@ fn place_of(place: usize, me: Player) -> usize
     }
 }
 
-/// The address that a word spells.
+/// Reads an address.
 fn address(word: &str) -> Result<SocketAddr, SocketError>
     ensures { MatchResult result (λ address. IsSocketText word.now address)
         (λ error. error ≡ SocketError.Address) }

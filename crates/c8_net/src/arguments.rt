@@ -1,4 +1,4 @@
-//! What the command `peer` takes, and what it is asked to play by that.
+//! The options of the command `peer`, and what they ask for.
 
 use crate::addresses::MOST_WATCHERS;
 use crate::help::PEER_ENDING;
@@ -7,7 +7,7 @@ use c8_game::Player;
 use clap::{Arg, ArgAction, ArgMatches, Command, value_parser};
 use std::alloc::{AllocError, Global};
 
-/// What `peer` is asked to play.
+/// What the command line of `peer` asks for.
 #[derive(Clone, Copy)]
 pub struct Asked<'m, 'a> {
     /// The path of the game's text.
@@ -16,26 +16,26 @@ pub struct Asked<'m, 'a> {
     /// The path of the journal.
     pub journal: &'a str,
     pub local: &'a str,
-    /// The other players' addresses, in order of number, if there are any.
+    /// The other players' addresses, in order of number, if any.
     pub remotes: Option<&'m [&'a str]>,
-    /// The addresses of those whom player one shows the match, in seats 5 and 6, if there are any.
+    /// The addresses of the watchers in seats 5 and 6, if any; for player 1 only.
     pub watchers: [Option<&'a str>; MOST_WATCHERS],
     pub room: u64,
-    /// The most turns that are made.
+    /// How many turns the session makes at most.
     pub turns: u64,
-    /// After how many turns of silence player one lets a player go, if it does.
+    /// After how many silent turns player 1 drops a player; `None` for never.
     pub patience: Option<u64>,
-    /// How many confirmed frames are enough to end, if any are.
+    /// The session ends once this many frames are confirmed; `None` for never.
     pub stop: Option<u64>,
-    /// After how many confirmed frames more the peer makes a checkpoint, 0 for never.
+    /// After how many confirmed frames the peer makes the next checkpoint; 0 for never.
     pub checkpoint: u32,
-    /// Whether the peer says where it stands.
+    /// Whether to print each second how far the peer is.
     pub progress: bool,
-    /// Whether a second line says where the fault of a refusal is.
+    /// Whether to print a second line that says where a refusal's fault is.
     pub explain: bool,
 }
 
-/// What `peer` takes.
+/// The command `peer` with its arguments and options.
 pub fn peer_command<'a>(alloc: Global) -> Result<Command<'a>, AllocError> {
     let command = Command::new(alloc, "peer")
         .about(
@@ -45,7 +45,7 @@ pub fn peer_command<'a>(alloc: Global) -> Result<Command<'a>, AllocError> {
     let turns = number(
         alloc,
         "turns",
-        "The most turns, of a millisecond and more each",
+        "Ends after N turns, of at least a millisecond each",
     );
     let progress =
         "Says each second, on standard error, how far the game is, and then how it ended";
@@ -53,16 +53,16 @@ pub fn peer_command<'a>(alloc: Global) -> Result<Command<'a>, AllocError> {
     with_options(alloc, command, turns.default_value("100000"), progress)
 }
 
-/// The arguments of `peer` that say what is played with whom.
+/// Adds the arguments of `peer`: game, player, journal and addresses.
 fn with_players<'a>(alloc: Global, command: Command<'a>) -> Result<Command<'a>, AllocError> {
     let game = "The path of the game's text, the same for all players";
     let command = with_place(alloc, command, "GAME", game)?;
     let player = Arg::new(alloc, "PLAYER")
-        .help("The own player's number, 1 to 4")
+        .help("The number of the own player, 1 to 4")
         .required(true)
         .value_parser(value_parser!(u8).range(1..5));
     let command = command.arg(player)?;
-    let journal = "The path of the own journal, made where there is none";
+    let journal = "The path of the own journal, created if it is missing";
     let command = with_place(alloc, command, "JOURNAL", journal)?;
     let local = "The own address, as 127.0.0.1:4001";
     let command = with_place(alloc, command, "LOCAL", local)?;
@@ -72,19 +72,23 @@ fn with_players<'a>(alloc: Global, command: Command<'a>) -> Result<Command<'a>, 
     command.arg(remote)
 }
 
-/// The options of `peer`, and of whatever else plays a match: that of its turns, and what `--progress` says.
+/// Adds the options of a command that plays a match, with its own option of turns and its own help for `--progress`.
 pub fn with_options<'a>(
     alloc: Global,
     command: Command<'a>,
     turns: Arg<'a>,
     progress: &'a str,
 ) -> Result<Command<'a>, AllocError> {
-    let room = number(alloc, "room", "The match, the same for all its players");
+    let room = number(
+        alloc,
+        "room",
+        "The number of the match, the same for all its players",
+    );
     let command = command.arg(room.default_value("0"))?;
     let command = command.arg(turns)?;
-    let patience = "The turns of silence after which player 1 drops a player [default: never]";
+    let patience = "Player 1 drops a player after N silent turns [default: never]";
     let command = command.arg(number(alloc, "patience", patience))?;
-    let stop = "Ends once so many frames are confirmed [default: never]";
+    let stop = "Ends once N frames are confirmed [default: never]";
     let command = command.arg(number(alloc, "stop", stop))?;
     let checkpoint = number(
         alloc,
@@ -101,19 +105,19 @@ pub fn with_options<'a>(
     with_explain(alloc, command.arg(progress)?)
 }
 
-/// The option that names a watcher's address.
+/// Adds the option for a watcher's address.
 fn with_watcher<'a>(
     alloc: Global,
     command: Command<'a>,
     name: &'a str,
 ) -> Result<Command<'a>, AllocError> {
     let watcher = Arg::new(alloc, name).long(name).value_name("ADDR").help(
-        "Shows the match to who watches it at this address (player 1 alone)",
+        "Shows the match to a watcher at this address (player 1 only)",
     );
     command.arg(watcher)
 }
 
-/// An option with a number.
+/// An option that takes a number.
 pub fn number<'a>(alloc: Global, name: &'a str, help: &'a str) -> Arg<'a> {
     Arg::new(alloc, name)
         .long(name)
@@ -122,14 +126,13 @@ pub fn number<'a>(alloc: Global, name: &'a str, help: &'a str) -> Arg<'a> {
         .value_parser(value_parser!(u64))
 }
 
-/// What `peer` is asked to play by a command line, whose reader has seen that each argument is there
-/// and in its range.
+/// What a parsed command line asks for; the parser has checked that each argument is there and in its range.
 pub(crate) fn asked_of<'m, 'a>(given: &'m ArgMatches<'a>) -> Option<Asked<'m, 'a>> {
     let player = Player::new(given.get_one::<u8>("PLAYER")?)?;
     Some(asked_for(given, player))
 }
 
-/// What a command of these places and options is asked to play, as a player.
+/// What a parsed command line asks for, with the player given.
 pub fn asked_for<'m, 'a>(given: &'m ArgMatches<'a>, player: Player) -> Asked<'m, 'a> {
     Asked {
         game: word_of(given, "GAME"),
@@ -148,12 +151,12 @@ pub fn asked_for<'m, 'a>(given: &'m ArgMatches<'a>, player: Player) -> Asked<'m,
     }
 }
 
-/// The interval of a number of frames; no game has as many as the greatest.
+/// A number of frames as 32 bits; no game has as many frames as the greatest.
 fn interval_of(frames: u64) -> u32 {
     u32::try_from(frames).unwrap_or(u32::MAX)
 }
 
-/// The number that an option was given, or has by default.
+/// The number that an option was given, or its default.
 pub fn number_of(given: &ArgMatches<'_>, name: &str) -> Option<u64> {
     given.get_one::<u64>(name)
 }

@@ -4,17 +4,16 @@ ghost use Rattle.std.specs.Duration.{as_nanos, max_nanos};
 
 use std::time::Duration;
 
-/// After a pause of more than so many frames those that were missed are left out.
+/// After a pause of more frames than this, the missed ones are skipped.
 const LONGEST_PAUSE: u8 = 5;
 
 /// How many nanoseconds a second has.
 const SECOND: u128 = 1_000_000_000;
 
-/// The clock of a game. A frame is due so many seconds after the start as its number over the rate is, so
-/// that no error adds up.
+/// The clock of a game. A frame is due number / rate seconds after the start, so rounding errors do not add up.
 #[derive(Clone, Copy)]
 pub struct Beat {
-    /// How many frames a second.
+    /// The number of frames a second.
     rate: u8,
     start: Duration,
     /// How many frames have begun since the start.
@@ -26,7 +25,7 @@ pub struct Beat {
 impl Beat {
     ghost use Rattle.c8_net.specs.Beats.{IsNoted, clock_of, counts_of, due, late, lateness_of, latest, left, most_of, one_more, started_anew};
 
-    /// A clock whose first frame is due now.
+    /// Creates a clock whose first frame is due now.
     pub fn new(now: Duration, rate: u8) -> Beat
         requires { 1 ≤ rate }
         ensures clock { clock_of result
@@ -42,15 +41,16 @@ impl Beat {
         }
     }
 
-    /// How long it is until the next frame is due, 0 if it is; the longest duration where it is longer.
+    /// How long it is until the next frame is due; 0 if it is due now. A longer time than the longest duration becomes
+    /// that.
     pub fn left(&self, now: Duration) -> Duration
         ensures { as_nanos result ≡ min (left (clock_of self.now) (as_nanos now)) max_nanos }
     {
         duration(self.due(0).saturating_sub(now.as_nanos()))
     }
 
-    /// The next frame begins. Where it is late by more than five frames, the clock starts anew with it: a
-    /// game does not run fast to catch up.
+    /// Begins the next frame. If it is late by more than five frames, the clock starts again with it, so that a game
+    /// does not run fast to catch up.
     pub fn begin(&mut self, now: Duration)
         ensures anew { latest (clock_of self.old) < as_nanos now
             → clock_of self.new ≡ started_anew (clock_of self.old) (as_nanos now) }
@@ -75,7 +75,7 @@ impl Beat {
         &self.lateness
     }
 
-    /// When the frame is due that comes so many after the next one, in nanoseconds.
+    /// When the frame is due that comes `after` frames after the next one, in nanoseconds.
     fn due(&self, after: u8) -> u128
         ensures { result ≡ due (clock_of self.now) ((clock_of self.now).begun + after) }
     {
@@ -84,7 +84,7 @@ impl Beat {
     }
 }
 
-/// So many nanoseconds, the longest duration where they are more.
+/// A time in nanoseconds as a duration, or the longest duration if it is longer.
 fn duration(nanos: u128) -> Duration
     ensures { as_nanos result ≡ min nanos max_nanos }
 {
@@ -95,10 +95,10 @@ fn duration(nanos: u128) -> Duration
     }
 }
 
-/// Milliseconds above this are counted as these.
+/// Lateness above this many milliseconds counts as this many.
 const MOST_LATE: usize = 63;
 
-/// How many frames were late by how many whole milliseconds, and the latest.
+/// How many frames were late by how many whole milliseconds, and the greatest lateness.
 #[derive(Clone, Copy, Debug, PartialEq, Eq)]
 pub struct Lateness {
     frames: [u32; MOST_LATE + 1],
@@ -108,7 +108,7 @@ pub struct Lateness {
 impl Lateness {
     ghost use Rattle.c8_net.specs.Beats.{IsMedian, IsNoted, counts_of, most_of};
 
-    /// Of no frame.
+    /// No frames yet.
     pub fn new() -> Lateness
         ensures counts { counts_of result ≡ replicate 64 0 }
         ensures most { most_of result ≡ 0 }
@@ -119,7 +119,7 @@ impl Lateness {
         }
     }
 
-    /// A frame was late by so much.
+    /// Notes how late a frame was.
     pub fn note(&mut self, late: Duration)
         ensures { IsNoted self.old (as_nanos late) self.new }
     {
@@ -131,8 +131,8 @@ impl Lateness {
         }
     }
 
-    /// By how many milliseconds half of the frames, or more, were late at most; 0 of no frame. What is above
-    /// 63 is told as 63.
+    /// The median lateness in whole milliseconds: at least half of the frames were late by at most that. It is 0
+    /// without frames, and at most 63.
     #[tactic(auto, using(crate::proofs::BeatLemmas::sum_more))]
     pub fn median(&self) -> usize
         ensures { IsMedian (counts_of self.now) result }
@@ -148,7 +148,7 @@ impl Lateness {
         MOST_LATE
     }
 
-    /// How many frames there were.
+    /// How many frames were noted.
     #[tactic(auto, using(crate::proofs::BeatLemmas::sum_more))]
     fn all(&self) -> u64
         ensures { result ≡ sum (counts_of self.now) }
@@ -160,7 +160,7 @@ impl Lateness {
         all
     }
 
-    /// By how many whole milliseconds the latest frame was late; 0 of no frame.
+    /// The greatest lateness, in whole milliseconds; 0 without frames.
     pub fn most(&self) -> u128
         ensures { result ≡ most_of self.now / 1_000_000 }
     {

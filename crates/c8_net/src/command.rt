@@ -1,7 +1,6 @@
-//! `c8play peer`: a game is played with others over UDP.
+//! `c8play peer`: plays a game with others over UDP.
 //!
-//! The turns are c8_live's, and the match is `play`'s; here the files are opened that the command is given, and
-//! the report is written.
+//! c8_live makes the turns, and `play` runs the match. This file opens the files, and writes the report.
 
 ghost use Rattle.std.specs.Prelude.{◌≡◌, IfOk, Result};
 ghost use Rattle.c8_command.specs.Status.{status_of, status_of_outcome};
@@ -33,7 +32,7 @@ use std::time::Clock;
 /// How many bytes a journal may have.
 const JOURNAL_CAPACITY: u32 = 1_073_741_824;
 
-/// Plays what the command line asks for, as `peer` does. The error is that of a writer.
+/// Runs `peer` as the command line asks. The error is a writer's.
 pub fn peer_given<R, I, W, E>(
     rt: &R,
     given: &ArgMatches<'_>,
@@ -54,8 +53,8 @@ where
     }
 }
 
-/// Plays what a command line asks for by a performance; one that asks for watchers of another than player 1
-/// is refused. The error is that of a writer.
+/// Plays what a command line asks for by a performance. It refuses watchers for any player but player 1. The error is a
+/// writer's.
 pub fn perform_given<R, P, W, E>(
     rt: &R,
     asked: &Asked<'_, '_>,
@@ -76,7 +75,7 @@ where
     }
 }
 
-/// Tells that another than player 1 shows nothing.
+/// Writes that only player 1 shows the match to watchers.
 fn refuse_watchers<E: Write>(refused: &mut E) -> io::Result<Status> {
     writeln!(
         refused,
@@ -85,15 +84,15 @@ fn refuse_watchers<E: Write>(refused: &mut E) -> io::Result<Status> {
     Ok(Status::CommandLine)
 }
 
-/// Whether those who watch are player one's, if there are any.
+/// Whether there are no watchers, or the player is player 1.
 fn may_be_watched(asked: &Asked<'_, '_>) -> bool {
     let [five, six] = asked.watchers;
     asked.player.is_chair() || five.is_none() && six.is_none()
 }
 
-/// Plays a game with others, in threads: the key sets are those of the text in `input`, the confirmed
-/// machine's report goes to `out`; the line of a refusal goes to `refused`, with the one that explains it
-/// where that is asked for, and where the peer stands. The error is that of a writer.
+/// Plays a game with others, in threads. It reads the key sets from `input` and writes the report of the confirmed
+/// machine to `out`. The line of a refusal, its explanation if asked for, and the progress lines go to `refused`. The
+/// error is a writer's.
 pub fn peer<R, I, W, E>(
     rt: &R,
     asked: &Asked<'_, '_>,
@@ -120,7 +119,7 @@ where
     tell_outcome(rt.alloc(), asked, outcome, out, refused)
 }
 
-/// The same by a performance, in the caller's thread, which has key sets of its own.
+/// Plays a game with others by a performance, in the caller's thread; the performance has its own key sets.
 pub fn perform<R, P, W, E>(
     rt: &R,
     asked: &Asked<'_, '_>,
@@ -169,8 +168,8 @@ fn tell_outcome<W: Write, E: Write>(
     }
 }
 
-/// Writes the line of a refusal, and where that is asked for the one that explains it; `no_address` is the
-/// first word that is no address, if one is not.
+/// Writes the line of a refusal, and its explanation if asked for; `no_address` is the first word that is no address,
+/// if any.
 pub fn refuse<E: Write>(
     alloc: Global,
     explain: bool,
@@ -191,8 +190,8 @@ pub fn refuse<E: Write>(
     }
 }
 
-/// What a match takes, and the disk of its journal. Faults are found in this order: the game's file, all that
-/// `prepare` judges, the journal; its opening and the socket come then.
+/// Prepares a match, and opens the disk of its journal. Faults are found in this order: the game's file, all that
+/// `prepare` checks, the journal's file. The journal's opening and the socket come later.
 fn begun<'a, R, I>(
     rt: &R,
     asked: &Asked<'_, 'a>,
@@ -225,7 +224,7 @@ where
     }
 }
 
-/// Why a match cannot begin that would be of the game of a file, with this text.
+/// Turns the refusal of `prepare` into a fault with its file.
 fn at_start<'a>(game: &'a str, text: Vec<u8>, it: Unprepared) -> Fault<'a> {
     let Unprepared { error, input } = it;
     let (file, text, unread) = match error {
@@ -241,7 +240,7 @@ fn at_start<'a>(game: &'a str, text: Vec<u8>, it: Unprepared) -> Fault<'a> {
     }
 }
 
-/// The journal at a path, made empty where there is none.
+/// Opens the journal at a path, and creates it if it is missing.
 fn journal_at<R>(rt: &R, path: &str) -> Result<FileDisk, PeerError>
 where
     R: Files<File = File> + AllocGlobal,

@@ -1,4 +1,4 @@
-//! Why a peer cannot play.
+//! The refusals of the commands `peer` and `watch`.
 
 ghost use Rattle.std.specs.Prelude.{◌≡◌};
 ghost use Rattle.c8_net.specs.Errors.{socket_error_number, peer_part, peer_error_number, error_of_session, error_of_unopened};
@@ -44,37 +44,37 @@ impl SocketError {
     }
 }
 
-/// Why the command `peer` refuses what it was given, or ends before its game does.
+/// Why the command `peer` refuses, or ends before its game does.
 #[derive(Clone, Copy, Debug, PartialEq, Eq, Error)]
 pub enum PeerError {
-    /// The text of the game.
+    /// The text of the game has a fault.
     #[error("{0}")]
     Game(GameError),
-    /// The key sets of standard input.
+    /// The key sets of standard input have a fault.
     #[error("{0}")]
     Keys(KeysError),
-    /// The opening of the peer, and want of memory to start with. A disk that refused the opening is
-    /// told as the disk.
+    /// The peer's opening was refused, or memory ran out at the start. If the disk refused the opening, the refusal is
+    /// printed as the disk's.
     #[error("{0}")]
     Open(OpenError),
-    /// A file that cannot be read or is too long for a text, or the disk of the journal.
+    /// A file cannot be read or is too long for a text, or the disk of the journal failed.
     #[error("{0}")]
     Disk(DiskError),
-    /// The addresses, or the socket.
+    /// The addresses have a fault, or the socket failed.
     #[error("{0}")]
     Socket(SocketError),
 }
 
-/// Why there is nothing to play with once the journal is open.
+/// Why a match cannot be played once its journal is open.
 #[derive(Clone, Copy, Debug, PartialEq, Eq)]
 pub enum Unopened {
-    /// Want of memory.
+    /// Memory ran out.
     Memory,
     /// The socket cannot be opened.
     Socket,
 }
 
-/// Want of memory is told as one to start with.
+/// If memory ran out, the refusal is that of an opening.
 impl From<Unopened> for PeerError {
     ghost from_gives = { λ error result. result ≡ error_of_unopened error };
 
@@ -86,7 +86,7 @@ impl From<Unopened> for PeerError {
     }
 }
 
-/// Why a session that cannot go on ends the command.
+/// The error of the command if a session cannot go on.
 impl From<SessionError> for PeerError {
     ghost from_gives = { λ error result. result ≡ error_of_session error };
 

@@ -10,22 +10,22 @@ use std::alloc::Global;
 use std::fs::File;
 use std::rt::Files;
 
-/// What standard input is called.
+/// The name of standard input in messages.
 pub(crate) const INPUT: &str = "standard input";
 
-/// Why nothing was played, and the file that was at hand then.
+/// Why nothing was played, and the file at fault.
 #[derive(Drop)]
 pub struct Fault<'a> {
     pub(crate) error: PeerError,
     pub(crate) file: &'a str,
-    /// What the file has, where a line of it may be at fault.
+    /// The content of the file, if a line of it may be at fault.
     pub(crate) text: Vec<u8>,
     /// Why the file was not read, if it is a text that was not.
     pub(crate) unread: Option<TextError>,
 }
 
 impl<'a> Fault<'a> {
-    /// A fault of no line of a file.
+    /// A fault outside the lines of a file.
     pub(crate) fn new(alloc: Global, error: PeerError, file: &'a str) -> Self {
         Fault {
             error,
@@ -35,7 +35,7 @@ impl<'a> Fault<'a> {
         }
     }
 
-    /// A fault in what a file has.
+    /// A fault in the content of a file.
     pub(crate) fn of_text(error: PeerError, file: &'a str, text: Vec<u8>) -> Self {
         Fault {
             error,
@@ -59,7 +59,7 @@ impl<'a> Fault<'a> {
         }
     }
 
-    /// Where the fault is: its line, where it is in one; the word that is no address, where that is it.
+    /// Where the fault is: the line of the file, if it is in one; the word that is no address, if that is the fault.
     pub(crate) fn site<'s>(&'s self, alloc: Global, no_address: Option<&'s str>) -> Site<'s> {
         let (file, bytes) = (self.file, self.text.as_slice());
         let text = Text { file, bytes };
@@ -73,7 +73,7 @@ impl<'a> Fault<'a> {
     }
 }
 
-/// The game that the text of a file spells. Faults are found in this order: the file, the game.
+/// Reads the game in a file. Faults are found in this order: the file, the game.
 pub fn game_at<'a, R>(rt: &R, path: &'a str) -> Result<Game, Fault<'a>>
 where
     R: Files<File = File> + AllocGlobal,
@@ -88,7 +88,7 @@ where
     }
 }
 
-/// The address that cannot be read, in place of a file; one of no characters names nothing.
+/// The address that cannot be read, in place of a file; nothing if it is empty.
 fn address_site<'a>(no_address: Option<&'a str>) -> Site<'a> {
     match no_address {
         Some(word) if !word.is_empty() => Site::File(word),

@@ -1,10 +1,10 @@
-//! The commands `peer` and `watch`: a game that is played with others over UDP, and one that is watched.
+//! The commands `peer` and `watch`: play a game with others over UDP, and watch one.
 //!
-//! `arguments` says what the command takes; `command` reads that and opens the files; `play` begins the
-//! match ([`prepare`], [`play_on`]), and `stage` has the threads that play it: the workers of c8_live, which
-//! go on as `pace` says, and a viewer; a [`Performance`] plays one in the caller's thread ([`perform_on`]).
-//! `udp` is the way to the others, who are where `addresses` says, as are those who watch. `watching` is the
-//! command `watch`; a [`Beat`] says when its pictures are due, and the frames of a game that is played.
+//! `arguments` has the options, and `command` opens the files. `play` begins the match ([`prepare`], [`play_on`]), and
+//! `stage` plays it in threads: the workers of c8_live, paced by `pace`, and a viewer. A [`Performance`] plays a match
+//! in the caller's thread instead ([`perform_on`]). `udp` is the transport, `addresses` has the addresses of players
+//! and watchers. `watching` is the command `watch`. A [`Beat`] says when its pictures are due, and when the frames of a
+//! game are.
 #![tactic(auto)]
 
 mod addresses;

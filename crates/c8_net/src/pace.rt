@@ -7,11 +7,11 @@ use std::time::{Clock, Duration};
 /// How many microseconds the game thread sleeps after a turn.
 const GAME_PAUSE: u64 = 1000;
 
-/// How many the net thread does, by which a packet comes later at most.
+/// How many microseconds the net thread sleeps after a turn; this delays a packet by at most as much.
 const NET_PAUSE: u64 = 50;
 
-/// Both threads sleep after each turn. The game thread ends with the net thread, and the net thread
-/// one turn after the game thread, which sends what was said last.
+/// Lets both threads sleep after each turn. The game thread ends when the net thread has ended. The net thread ends one
+/// turn after the game thread, so that it sends the last datagrams.
 #[derive(Drop)]
 pub(crate) struct Pace<'r, R> {
     rt: &'r R,
@@ -30,7 +30,7 @@ impl<'r, R: Clock> Pace<'r, R> {
         }
     }
 
-    /// A worker has ended.
+    /// Notes that a worker has ended.
     pub(crate) fn end(&self, worker: Worker) {
         match worker {
             Worker::Net => self.is_net_over.store(true, Ordering::SeqCst),

@@ -13,7 +13,7 @@ use c8_live::{Session, SessionError, WireFailed};
 use std::io::Write;
 use std::net::Net;
 
-/// A session whose turns are over, and how many were made, or why there are no more.
+/// A session after its last turn, and how many turns were made or what ended them.
 #[derive(Drop)]
 pub struct Ended<'g, D: Disk> {
     pub session: Session<'g, D>,
@@ -21,7 +21,7 @@ pub struct Ended<'g, D: Disk> {
 }
 
 impl<'g, D: Disk> Ended<'g, D> {
-    /// The same where another thread could use the wire to the end, or could not: that ends a session too.
+    /// Adds whether another thread could use the wire to the end; if it could not, that ended the session.
     pub(crate) fn after(self, moved: Result<(), WireFailed>) -> Ended<'g, D>
         ensures { (first : PeerValue D) → HasEnded D.Disk first self.entry.session.peer self.entry.turns
             → HasEnded D.Disk first result.session.peer result.turns }
@@ -35,11 +35,11 @@ impl<'g, D: Disk> Ended<'g, D> {
     }
 }
 
-/// What makes the turns of a session in the caller's thread, as from a keyboard, once a frame. Whatever it
-/// does, the session's peer only runs on, each of its calls one step of the definitions.
+/// Makes the turns of a session in the caller's thread, for example from a keyboard, once a frame. Whatever it does,
+/// the session's peer only runs on, each of its calls one step of the definitions.
 pub trait Performance {
-    /// Opens the way to the others, and makes turns of a session of this game until it is over or no more are
-    /// wanted. The error comes before the first turn.
+    /// Opens the transport, and makes turns of a session of this game until the session is over or the performance
+    /// ends. The error comes before the first turn.
     fn perform<'g, R: Net, D: Disk + Drop, E: Write>(
         self,
         rt: &R,

@@ -1,4 +1,4 @@
-//! A match over UDP: what it takes to begin, and what is played of it on a journal.
+//! A match over UDP: what it takes to begin, and how it is played on a journal.
 
 ghost use Rattle.std.specs.Prelude.{◌≡◌, ◌+◌, ℕ, length, IfOk, IfErr, IfSome};
 ghost use Rattle.c8_game.specs.GameText.{Spells};
@@ -34,11 +34,11 @@ use std::time::Clock;
 pub struct Prepared {
     pub game: Game,
     pub addresses: Addresses,
-    /// What the own player enters, one key set a tick.
+    /// The own player's key sets, one a tick.
     pub keys: Vec<Keys>,
 }
 
-/// Why a match cannot begin, and what the reader of the key sets had, if one of its lines is at fault.
+/// Why a match cannot begin, and the content of standard input if one of its lines is at fault.
 #[derive(Drop)]
 pub struct Unprepared {
     pub error: PeerError,
@@ -46,7 +46,7 @@ pub struct Unprepared {
 }
 
 impl Unprepared {
-    /// No line of the key sets is at fault.
+    /// An error outside the lines of standard input.
     fn new(alloc: Global, error: PeerError) -> Self
         ensures { result.error ≡ error }
     {
@@ -57,9 +57,8 @@ impl Unprepared {
     }
 }
 
-/// What a match takes: the game that a text spells, where the players and the watchers are, and the key
-/// sets of all that a reader has. Faults are found in this order: the game, how many remotes there are,
-/// the addresses, the reader, its key sets.
+/// Reads what a match takes: the game that a text spells, the addresses of players and watchers, and the key sets of
+/// `input`. Faults are found in this order: the game, the number of remotes, the addresses, the reader, its key sets.
 pub fn prepare<I: Read + Drop>(
     alloc: Global,
     text: &[u8],
@@ -117,11 +116,10 @@ fn keys_in<I: Read + Drop>(alloc: Global, input: I) -> Result<Vec<Keys>, Unprepa
     }
 }
 
-/// Plays a match on the disk that holds the own journal, in threads: opens that first, then the socket, and
-/// makes turns until the session is over, as many were made as are asked for, or as many frames are
-/// confirmed as are enough. The caller's thread makes the turns, one moves packets, and one watches. Answers
-/// the confirmed machine, which began at the last checkpoint that was found; where that is true it is the
-/// machine of the serial run.
+/// Plays a match on the disk of the own journal, in threads. It opens the journal first, then the socket, and makes
+/// turns until the session is over, its turns are made, or as many frames are confirmed as `--stop` asks for. The
+/// caller's thread makes the turns, one thread moves packets, and one prints the progress. Returns the confirmed
+/// machine, which began at the last checkpoint that was found; if that is true, it is the machine of the serial run.
 pub fn play_on<R, D, E>(
     rt: &R,
     asked: &Asked<'_, '_>,
@@ -158,7 +156,7 @@ where
     outcome_of(asked, ended.after(moved), progress)
 }
 
-/// The same of a match that a performance plays, in the caller's thread.
+/// Plays a match by a performance, in the caller's thread; otherwise as `play_on`.
 pub fn perform_on<R, D, P, E>(
     rt: &R,
     asked: &Asked<'_, '_>,
@@ -193,7 +191,7 @@ where
     }
 }
 
-/// What a session comes to whose turns are over, by what was found on the disk of its journal.
+/// The outcome of a session after its last turn, in terms of the journal that was found.
 fn outcome_of<D: Disk + Drop, E: Write>(
     asked: &Asked<'_, '_>,
     ended: Ended<'_, D>,
@@ -225,7 +223,7 @@ fn outcome_of<D: Disk + Drop, E: Write>(
     })
 }
 
-/// The session of a peer, which shows the match to those who have addresses, in seats 5 and 6.
+/// The session of a peer; it shows the match to the watchers in seats 5 and 6 that have an address.
 fn session_of<'g, D: Disk>(
     peer: Peer<'g, D>,
     game: &Game,

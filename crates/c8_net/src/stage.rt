@@ -25,7 +25,7 @@ use std::time::{Clock, Duration};
 /// How many milliseconds the viewer sleeps between two looks.
 const VIEWER_PAUSE: u64 = 5;
 
-/// What it takes to play a session in threads: the ends of two inlets and of a board.
+/// What it takes to play a session in threads: the ends of two inlets, and a board.
 #[derive(Drop)]
 pub(crate) struct Stage {
     relay: Relay,
@@ -46,7 +46,7 @@ struct Shared<'r, R> {
     pace: Pace<'r, R>,
 }
 
-/// What the net thread has: the wire, and its ends of the inlets.
+/// What the net thread owns: the wire, and its ends of the inlets.
 #[derive(Drop)]
 struct Post<W> {
     wire: W,
@@ -54,7 +54,7 @@ struct Post<W> {
     inbox: Putter,
 }
 
-/// A viewer, and the board that it is of.
+/// A viewer, and its board.
 #[derive(Drop)]
 pub(crate) struct Onlooker<'b> {
     pub(crate) board: &'b Board,
@@ -63,7 +63,7 @@ pub(crate) struct Onlooker<'b> {
 }
 
 impl Stage {
-    /// The inlets, and a board with one viewer that shows a peer of the game.
+    /// Opens the inlets, and a board with one viewer that shows a peer of the game.
     pub(crate) fn open<D: Disk>(
         alloc: Global,
         game: &Game,
@@ -89,10 +89,10 @@ impl Stage {
         })
     }
 
-    /// Plays a session over a wire: the caller's thread makes its turns, one moves its packets, and one
-    /// watches, until the session is over, its turns are made, the viewer has asked for the end, or
-    /// the wire fails. All threads are joined then. Answers how the session ended, and whether the net
-    /// thread could use the wire to the end.
+    /// Plays a session over a wire: the caller's thread makes its turns, one thread moves its packets, and one prints
+    /// the progress. It ends when the session is over, its turns are made, the viewer has asked for the end, or the
+    /// wire fails. All threads are then joined. Returns how the session ended, and whether the net thread could use the
+    /// wire to the end.
     pub(crate) fn play<'g, R, D, W, E>(
         self,
         rt: &R,
@@ -141,7 +141,7 @@ impl Stage {
     }
 }
 
-/// The game thread, which is the caller's.
+/// Runs the game thread, which is the caller's.
 fn make_turns<'g, R: Clock, D: Disk>(
     session: Session<'g, D>,
     relay: Relay,
@@ -172,7 +172,7 @@ fn make_turns<'g, R: Clock, D: Disk>(
     Ended { session, turns }
 }
 
-/// The net thread and the viewer's.
+/// Runs the net thread and the viewer's thread.
 fn move_and_watch<R, W, E>(
     rt: &R,
     asked: &Asked<'_, '_>,
@@ -195,7 +195,7 @@ where
     moved
 }
 
-/// The net thread.
+/// Runs the net thread.
 fn move_packets<R: Clock + Wait, W: Wire + Drop>(
     rt: &R,
     post: Post<W>,
@@ -218,8 +218,8 @@ fn move_packets<R: Clock + Wait, W: Wire + Drop>(
     moved
 }
 
-/// The viewer's thread: asks for the end once as many frames are confirmed as are asked for, and says
-/// how far the peer is where that is asked for, until the game thread has ended.
+/// Runs the viewer's thread until the game thread has ended: it asks for the end once as many frames are confirmed as
+/// `--stop` asks for, and prints the progress if asked for.
 fn watch<R: Clock + Wait, E: Write>(
     rt: &R,
     asked: &Asked<'_, '_>,
@@ -242,7 +242,7 @@ fn watch<R: Clock + Wait, E: Write>(
 }
 
 impl<'b> Onlooker<'b> {
-    /// How many frames are confirmed, by one look. Asks for the end where these are enough.
+    /// Looks once and returns how many frames are confirmed. Asks for the end if these are `enough`.
     pub(crate) fn look(&mut self, enough: Option<u64>) -> u32 {
         let confirmed = self.board.look(&mut self.viewer).count();
         if let Some(enough) = enough
@@ -254,7 +254,7 @@ impl<'b> Onlooker<'b> {
     }
 }
 
-/// What the clock says; where it cannot be read, that no time has gone by.
+/// The time since the clock's start; 0 if the clock cannot be read.
 fn now<R: Clock>(rt: &R) -> Duration {
     rt.monotonic().unwrap_or(Duration::from_secs(0))
 }

@@ -12,14 +12,14 @@ use std::io;
 use std::io::ErrorKind;
 use std::net::Net;
 
-/// What the system answers where it has no room for a datagram (ENOBUFS).
+/// The error code of Linux when it has no buffer for a datagram (ENOBUFS).
 const NO_ROOM: i32 = 105;
 
-/// How often a packet is asked for where the system answers that nobody heard a datagram. A turn
-/// sends fewer datagrams, so that these answers never pile up before the packets.
+/// How often `receive` asks again when the system reports that nobody received an earlier datagram. A turn sends fewer
+/// datagrams, so these reports never pile up in front of the packets.
 const MOST_UNHEARD: u8 = 16;
 
-/// A UDP socket, and where the other players and the watchers are.
+/// A UDP socket, and the addresses of the other players and the watchers.
 #[derive(Drop)]
 pub struct Udp {
     socket: UdpSocket,
@@ -28,7 +28,7 @@ pub struct Udp {
 }
 
 impl Udp {
-    /// A socket at the local address.
+    /// Opens a socket at the local address.
     pub fn open<R: Net>(rt: &R, addresses: &Addresses) -> Result<Udp, SocketError>
         ensures { IfErr result (λ error. error ≡ SocketError.Failed) }
     {
@@ -38,14 +38,14 @@ impl Udp {
         }
     }
 
-    /// Has a poll end its wait, under this token, where a packet has come.
+    /// Lets a poll end its wait, with this token, when a packet has come.
     pub fn wake(&mut self, registry: &Registry, token: Token) -> io::Result<()>
         ensures { self.new.traffic ≡ self.old.traffic }
     {
         registry.register(&mut self.socket, token, Interest::READABLE)
     }
 
-    /// The way over a socket that is open already, wherever that is.
+    /// Uses a socket that is already open, whatever its address.
     pub fn over(socket: UdpSocket, addresses: &Addresses) -> Udp {
         Udp {
             socket,
@@ -81,7 +81,7 @@ impl Wire for Udp {
                     self.traffic.gave(&packet[..size]);
                     return Ok(Some(size));
                 }
-                // a datagram that is lost says nothing of the packets that wait
+                // That a datagram was lost does not mean that no packets wait.
                 Err(error) if was_unheard(&error) => {}
                 Err(error) if would_wait(&error) => return Ok(None),
                 Err(_) => return Err(WireFailed),
@@ -91,8 +91,8 @@ impl Wire for Udp {
     }
 }
 
-/// Whether an error of the socket tells that a datagram is lost, since nobody listens at the other
-/// end yet, or no network leads there now. The system may tell it by a later call of any kind.
+/// Whether a socket error reports a lost datagram: nobody listens at the other end yet, or no network leads there now.
+/// The system may report it by any later call.
 fn was_unheard(error: &io::Error) -> bool {
     matches!(
         error.kind(),
@@ -103,7 +103,7 @@ fn was_unheard(error: &io::Error) -> bool {
     )
 }
 
-/// Whether a call would have to wait: no packet has come, or there is no room for one.
+/// Whether a call would have to wait: no packet has come, or there is no room to send one.
 fn would_wait(error: &io::Error) -> bool {
     error.kind() == ErrorKind::WouldBlock || error.raw_os_error() == Some(NO_ROOM)
 }

@@ -1,7 +1,6 @@
-//! `c8play watch`: a match is watched over UDP, and nothing is entered.
+//! `c8play watch`: watches a match over UDP, without playing.
 //!
-//! What a turn is c8_watch says; `arguments` says what the command takes, `stage` has its two threads, and
-//! `drawing` the picture.
+//! c8_watch defines a turn; `arguments` has the options, `stage` the two threads, and `drawing` the picture.
 
 ghost use Rattle.std.specs.Prelude.{◌≡◌, IfOk, Result};
 ghost use Rattle.c8_command.specs.Status.{status_of_outcome};
@@ -39,8 +38,7 @@ use std::sync::Wait;
 use std::thread::Threads;
 use std::time::Clock;
 
-/// Watches what the command line asks for, as `watch` does. A screen is drawn only where `out` is a
-/// terminal; where it is asked for and is none, the command line is refused. The error is that of a writer.
+/// Runs `watch` as the command line asks. `--screen` is refused unless `out` is a terminal. The error is a writer's.
 pub fn watch_given<R, W, E>(
     rt: &R,
     given: &ArgMatches<'_>,
@@ -63,9 +61,9 @@ where
     }
 }
 
-/// Watches a match: the report of the machine after the frames that player one has shown goes to `out`,
-/// and the screen before it, where that is asked for; the line of a refusal goes to `refused`, with the one
-/// that explains it where that is asked for. The error is that of a writer.
+/// Watches a match. The report of the machine after the frames that player 1 has shown goes to `out`, and before it the
+/// screen, if asked for. The line of a refusal, and its explanation if asked for, go to `refused`. The error is a
+/// writer's.
 pub fn watch<R, W, E>(
     rt: &R,
     asked: &WatchAsked<'_>,
@@ -91,8 +89,8 @@ where
     }
 }
 
-/// The machine at the end. Faults are found in this order: the game's file, the game, the addresses, the
-/// socket, want of memory.
+/// Watches a match of the game in a file, and returns the machine at the end. Faults are found in this order: the
+/// game's file, the game, the addresses, the socket, out of memory.
 fn watched<'a, R, W>(rt: &R, asked: &WatchAsked<'a>, out: &mut W) -> Result<Played, Fault<'a>>
 where
     R: Files<File = File> + Net + Clock + Threads + Wait + Sync + AllocGlobal,
@@ -102,7 +100,7 @@ where
     watched_at(rt, asked, &game, out).map_err(|error| Fault::new(rt.alloc(), error, asked.game))
 }
 
-/// The same of a game that was read.
+/// Watches a match of a game.
 fn watched_at<R, W>(
     rt: &R,
     asked: &WatchAsked<'_>,
@@ -123,8 +121,8 @@ where
     }
 }
 
-/// Watches a match of a game over a wire: the machine at the end is the serial run on the rows that were
-/// taken. `Open` is want of memory, `Socket` a wire that failed.
+/// Watches a match of a game over a wire; the machine at the end is the serial run of the rows that were taken. `Open`
+/// means that memory ran out, `Socket` that the wire failed.
 pub fn watch_on<R, W, O>(
     rt: &R,
     asked: &WatchAsked<'_>,

@@ -1,4 +1,4 @@
-//! A journal says by blocks what it says slot by slot.
+//! A journal read by blocks says what it says slot by slot.
 use crate::images::{GAME, ROOM, Tail, holding, image_of};
 use c8_check::Checks;
 use c8_disk::MemDisk;
@@ -11,8 +11,7 @@ use std::test::Fail;
 
 const COUNTS: [u32; 6] = [1, 31, 32, 33, 64, 65];
 
-/// The answer of a reading, and what is known by it: the ticks, the confirmed frames and the last row
-/// of these.
+/// The answer of a reading, and what is then known: the ticks, the confirmed frames, and the last row of these.
 type Said = (Result<u32, ReplayError>, u32, u32, Option<[u16; 2]>);
 
 /// The keys of both players in the last confirmed frame.
@@ -26,7 +25,7 @@ fn said(answer: Result<u32, ReplayError>, known: &Known) -> Said {
     (answer, known.ticks(), known.confirmed(), last_keys(known))
 }
 
-/// Slot by slot, as the bytes have it.
+/// Reads the bytes slot by slot.
 fn said_by_slots(alloc: Global, game: &Game, image: &[u8]) -> Option<Said> {
     game.in_range();
     let mut known = Known::new(alloc, game, Player { number: 1 }).ok()?;
@@ -34,7 +33,7 @@ fn said_by_slots(alloc: Global, game: &Game, image: &[u8]) -> Option<Said> {
     Some(said(answer, &known))
 }
 
-/// Block by block, out of a log.
+/// Reads a log block by block.
 fn said_by_blocks(alloc: Global, game: &Game, log: &mut Log<MemDisk>) -> Option<Said> {
     game.in_range();
     let mut known = Known::new(alloc, game, Player { number: 1 }).ok()?;
@@ -62,7 +61,7 @@ fn counted(alloc: Global, game: &Game, mut log: Log<MemDisk>) -> Option<(u32, Sa
     }
 }
 
-/// Whether both readings of an image say the same, and what a journal of this many records says.
+/// Whether both readings of an image agree, and say what a journal of this many records says.
 fn are_alike(alloc: Global, game: &Game, count: u32, image: &[u8]) -> bool {
     let (Some(slow), Some((found, fast))) = (
         said_by_slots(alloc, game, image),
@@ -78,7 +77,7 @@ fn are_alike(alloc: Global, game: &Game, count: u32, image: &[u8]) -> bool {
         && slow.2 == count.saturating_sub(1) / 2
 }
 
-/// The same of a journal with this tail.
+/// The same for a journal with this tail.
 fn is_read_alike(alloc: Global, game: &Game, count: u32, tail: Tail) -> bool {
     match image_of(alloc, game, count, tail) {
         Ok(image) => are_alike(alloc, game, count, &image),

@@ -1,7 +1,7 @@
 //! Checkpoints: what each call records, where an opening then begins, and which journals are refused.
 //!
-//! Marks and the bytes of journals are of another program; the journal of the first form is of this one
-//! as it was before there were checkpoints.
+//! Another program made the marks and the bytes of the journals. An earlier version of this program, without
+//! checkpoints, wrote the journal of the first form.
 use crate::stops::{Stage, Trial};
 use c8_game::Game;
 use c8_peer::{Check, CheckError, Heard, OpenError, Refused};
@@ -10,8 +10,7 @@ use c8_table::What::Data;
 use c8_table::{Answer, Deed, ONE, OfPlayer, Row, TWO, Told, plays};
 use std::test::Fail;
 
-/// Two players, a window of 8 frames and no delay. The program counts the frames with player 2's key 4
-/// down.
+/// Two players, a window of 8 frames and no delay. The program counts the frames with player 2's key 4 down.
 const COUNTS: &str =
     "players 2\nipf 3\nframes 100\ndelay 0\nwindow 8\nseed 0\nmask1 000f\nmask2 fff0\ncode 6004e09e120272011202\n";
 
@@ -85,7 +84,7 @@ const WHOLE: [Row; 42] = [
     (ONE, Deed::Checks(1), LAST),
 ];
 
-/// Where the first call for the checkpoint stands there, and the last one.
+/// Where the first and the last call for the checkpoint are in that table.
 const FIRST_CALL: usize = 5;
 
 const LAST_CALL: usize = 41;
@@ -111,8 +110,8 @@ fn an_opening_begins_at_a_checkpoint(rt: HostRuntime) -> Result<(), Fail> {
     plays(rt.alloc(), COUNTS, &WHOLE, &BEGINS)
 }
 
-/// Player 1 stops after piece 20. Pieces without their digest mean nothing: the next checkpoint begins with
-/// its first piece.
+/// Player 1 stops after piece 20. Without their digest, pieces mean nothing: the next checkpoint begins with its first
+/// piece.
 const BEGINS_AGAIN: [Row; 4] = [
     (ONE, Deed::Crash(1), Answer::Done),
     (ONE, Deed::Open, OPENED_AGAIN),
@@ -142,7 +141,7 @@ const CHECKED: Told = Told {
     ..UNCHECKED
 };
 
-/// Each of the 37 calls makes four calls of the disk. A piece alone is nothing that an opening finds.
+/// Each of the 37 calls makes four calls of the disk. Before the digest, an opening finds no checkpoint.
 fn holds_at_each_call(stage: Stage<'_>) -> Result<(), Fail> {
     let piece = Trial {
         place: FIRST_CALL,
@@ -173,8 +172,8 @@ fn a_stopped_call_of_a_checkpoint_is_kept_or_not(rt: HostRuntime) -> Result<(), 
 
 const BAD_CHECK: Answer = Answer::Opened(Err(OpenError::BadRecord(46)));
 
-/// The first byte of the machine and of its mark is changed, and then as it was. The pieces are slots 10
-/// to 45, and 46 is the digest.
+/// The first byte of the machine and then of its mark is changed, and restored. The pieces are slots 10 to 45, and slot
+/// 46 is the digest.
 const CHANGED: [Row; 7] = [
     (ONE, Deed::Write(10, 13, b"\x01"), Answer::Done),
     (ONE, Deed::Open, BAD_CHECK),
@@ -232,8 +231,8 @@ fn an_opening_keeps_the_marks(rt: HostRuntime) -> Result<(), Fail> {
     plays(rt.alloc(), ROUNDS, &[], &MARKS)
 }
 
-/// A journal of the first form, as the program wrote it before there were checkpoints: player 1 ticked
-/// twelve times, and ten frames are confirmed. games/first_form.journal.hex has the same bytes.
+/// A journal of the first form, as the program wrote it before there were checkpoints: player 1 ticked twelve times,
+/// and ten frames are confirmed. games/first_form.journal.hex has the same bytes.
 #[rattlefmt::skip]
 const FIRST_FORM: [Row; 16] = [
     (ONE, Deed::Disk(20000, 1000), Answer::Done),
@@ -254,7 +253,7 @@ const FIRST_FORM: [Row; 16] = [
     (ONE, Deed::Add(b"\xa5\x04\x02\0\0\0\0\0\0\0\x05\0\x05\0\x10\0\x10\x80\x10\0\x20\x07\xf0"), Answer::Done),
 ];
 
-/// It shows what it showed then, and the next EPOCH is of the second form.
+/// The peer shows what it showed then, and the next EPOCH is of the second form.
 #[rattlefmt::skip]
 const GOES_ON: [Row; 19] = [
     (ONE, Deed::Open, OPENED_AGAIN),

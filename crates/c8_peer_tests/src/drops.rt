@@ -33,8 +33,7 @@ const NOT_READY: Answer = Answer::Decided(Err(DecideError::NotReady));
 
 const YES: Answer = Answer::Tells(true);
 
-/// Each player ticks ten times. Player 1 holds 10 inputs of player 2 and 8 of player 3, player 2
-/// holds 10 of both.
+/// Each player ticks ten times. Player 1 holds 10 inputs of player 2 and 8 of player 3; player 2 holds 10 of each.
 const TEN_TICKS: [Row; 13] = [
     (ONE, Deed::Meet, Answer::Done),
     (ONE, Deed::Ticks(1, 10), TICKED),
@@ -51,8 +50,8 @@ const TEN_TICKS: [Row; 13] = [
     (TWO, Deed::Look(Confirmed), Answer::Is(10)),
 ];
 
-/// Player 2 answers that it holds 10 inputs, and brings those from place 8. The CUT has length 10, and
-/// brings none from place 10.
+/// Player 2 answers that it holds 10 inputs, and sends those from place 8. The CUT has length 10, and sends none from
+/// place 10.
 #[rattlefmt::skip]
 const ROUND: [Row; 12] = [
     (ONE, Deed::Leave(THREE), LEFT),
@@ -74,8 +73,8 @@ fn a_leaver_is_cut_where_all_hold_it(rt: HostRuntime) -> Result<(), Fail> {
     plays(rt.alloc(), OF_THREE, &TEN_TICKS, &ROUND)
 }
 
-/// Player 2 stops right after its answer. What player 3 said to its first epoch is stale, and after a
-/// new handshake it takes nothing more from player 3.
+/// Player 2 stops right after its answer. What player 3 said to its first epoch is stale. After a new handshake it
+/// takes nothing more from player 3.
 const RESTART: [Row; 16] = [
     (ONE, Deed::Leave(THREE), LEFT),
     (ONE, Deed::Tell(TWO, Freeze(THREE)), KEPT),
@@ -100,7 +99,7 @@ fn who_stays_is_opened_again_in_a_drop_round(rt: HostRuntime) -> Result<(), Fail
     plays(rt.alloc(), OF_THREE, &TEN_TICKS, &RESTART)
 }
 
-/// Player 3 says nothing, until it leaves too.
+/// Player 3 says nothing, until it is dropped too.
 const SILENT: [Row; 7] = [
     (ONE, Deed::Meet, Answer::Done),
     (ONE, Deed::Leave(FOUR), LEFT),
@@ -116,8 +115,8 @@ fn a_silent_player_is_waited_for(rt: HostRuntime) -> Result<(), Fail> {
     plays(rt.alloc(), OF_FOUR, &[], &SILENT)
 }
 
-/// Player 3 enters one set more that reaches nobody, and hears the eleventh sets of the others: the
-/// rows differ at frame 10.
+/// Player 3 enters one more set that reaches nobody, and hears the eleventh sets of the others: the rows differ at
+/// frame 10.
 const DIFFERS: [Row; 21] = [
     (THREE, Deed::Tick(4), TICKED),
     (ONE, Deed::Tick(1), TICKED),

@@ -1,4 +1,4 @@
-//! Images of disks: journals with a number of records, and what stands behind them.
+//! Images of disks: journals with a number of records, and what follows them.
 use c8_disk::{Disk, MemDisk};
 use c8_game::Game;
 use c8_log::{BODY_LENGTH, CLOSED_GATE, OPEN_GATE};
@@ -10,7 +10,7 @@ pub const GAME: &[u8] =
 
 pub const ROOM: u64 = 0x0102030405060708;
 
-/// What stands behind the records.
+/// What follows the records.
 #[derive(Clone, Copy)]
 pub enum Tail {
     /// An open slot that the end cuts short.
@@ -19,8 +19,8 @@ pub enum Tail {
     Closed,
 }
 
-/// The body of record `n` of player 1's journal, of the first form, byte for byte: a HEAD, then in turn an
-/// input of its own and one of player 2.
+/// The body of record `n` of player 1's journal, of the first form, byte for byte: a HEAD, then by turns an input of
+/// its own and one of player 2.
 pub fn nth_body(game: &Game, n: u32) -> [u8; BODY_LENGTH] {
     let mut body = [0; BODY_LENGTH];
     if n == 0 {
@@ -67,13 +67,13 @@ pub fn image_of(alloc: Global, game: &Game, count: u32, tail: Tail) -> Result<Ve
     Ok(image)
 }
 
-/// Writes behind the end. Whether it could.
+/// Writes after the end, and returns whether that succeeded.
 fn extend(disk: &mut MemDisk, piece: &[u8]) -> bool {
     let end = disk.len();
     piece.len() <= 144 && disk.write_at(end, piece).is_ok()
 }
 
-/// Whether the bytes are on the disk then, all of them synced.
+/// Writes and syncs the bytes, and returns whether that succeeded.
 fn is_filled(disk: &mut MemDisk, bytes: &[u8]) -> bool {
     for piece in bytes.chunks(144) {
         if !extend(disk, piece) {

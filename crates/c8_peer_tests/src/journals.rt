@@ -1,4 +1,4 @@
-//! What a peer writes to its disk and finds there.
+//! What a peer writes to its disk, and finds there.
 use c8_disk::DiskError;
 use c8_peer::{OpenError, TickError};
 use c8_table::{Answer, Deed, ONE, Row, plays, plays_beside};
@@ -52,7 +52,7 @@ fn a_tick_is_one_record(rt: HostRuntime) -> Result<(), Fail> {
     plays(rt.alloc(), GAME, &[], &ONE_RECORD)
 }
 
-/// There is room for the HEAD alone.
+/// The disk has room for the HEAD only.
 const NO_ROOM: [Row; 4] = [
     (ONE, Deed::Disk(145, 100), Answer::Done),
     (ONE, Deed::Open, OPENED),
@@ -72,8 +72,8 @@ const CLOSED: &[u8] =
 const OPEN: &[u8] =
     b"\xa50001020304050607080910111213141516171819202122232425262728293031323334353637383940414243444546474849";
 
-/// Either way there is one record, and the next EPOCH takes the place of the torn slot. An opening in
-/// another game closes an open gate and changes nothing else.
+/// In both cases there is one record, and the next EPOCH takes the place of the torn slot. An opening in another game
+/// closes an open gate and changes nothing else.
 const TORN: [Row; 18] = [
     (ONE, Deed::Disk(1000, 100), Answer::Done),
     (ONE, Deed::Open, OPENED),
@@ -100,7 +100,7 @@ fn what_a_crash_left_of_a_slot_is_no_record(rt: HostRuntime) -> Result<(), Fail>
     plays_beside(rt.alloc(), GAME, SHORT, &[], &TORN)
 }
 
-/// The journal of another game stays as it was, byte for byte.
+/// The journal of another game does not change.
 const OTHERS: [Row; 8] = [
     (ONE, Deed::Disk(1000, 100), Answer::Done),
     (ONE, Deed::Open, OPENED),

@@ -1,6 +1,5 @@
-//! The tests of c8_peer: tables of what its peers are asked, each with what it answers. Beside them stand
-//! the texts of its refusals, and journals that are read a block of 32 slots at a time, of c8_log and
-//! c8_record.
+//! The tests of c8_peer: tables of what its peers are asked, each with its answer. Also the texts of its refusals; and
+//! journals of c8_log and c8_record that are read a block of 32 slots at a time.
 #![tactic(auto)]
 
 #[cfg(test)]

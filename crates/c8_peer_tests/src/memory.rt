@@ -1,4 +1,4 @@
-//! An opening to which memory is refused.
+//! An opening for which memory runs out.
 use crate::journals::{HEAD_OF_SHORT, SHORT};
 use c8_disk::Arm;
 use c8_game::Game;
@@ -13,7 +13,7 @@ const READY: [Row; 3] = [
     (ONE, Deed::Arm(Arm::Stop(7)), Answer::Done),
 ];
 
-/// The bytes are as they were, and all seven calls are left.
+/// The bytes have not changed, and all seven calls are left.
 const UNTOUCHED: [Row; 4] = [
     (ONE, Deed::Length, Answer::Is(145)),
     (ONE, Deed::Slot(0, HEAD_OF_SHORT), Answer::Tells(true)),
@@ -21,7 +21,7 @@ const UNTOUCHED: [Row; 4] = [
     (ONE, Deed::Open, Answer::Opened(Ok(2))),
 ];
 
-/// Where memory is refused to the opening, this fails with a name, and the disk is as it was.
+/// If memory runs out for the opening, this fails with a name, and the disk has not changed.
 #[test]
 fn memory_is_refused_before_the_disk_is_touched(rt: HostRuntime) -> Result<(), Fail> {
     let game = Game::read(rt.alloc(), SHORT.as_bytes())?;

@@ -27,8 +27,8 @@ const NONE_COUNTED: Answer = Answer::Registers([4, 0, 0, 0, 0, 0, 0, 0, 0, 0, 0,
 
 const ONE_COUNTED: Answer = Answer::Registers([4, 0, 1, 0, 0, 0, 0, 0, 0, 0, 0, 0, 0, 0, 0, 0]);
 
-/// Player 1 runs eight frames and predicts that player 2 holds no key down, which is wrong in the first
-/// frame alone: all eight run again.
+/// Player 1 runs eight frames and predicts that player 2 holds no key down. That is wrong in the first frame only: all
+/// eight run again.
 const MISSED: [Row; 13] = [
     (ONE, Deed::Meet, Answer::Done),
     (ONE, Deed::Ticks(0, 8), TICKED),
@@ -50,7 +50,7 @@ fn a_key_missed_in_the_first_frame_runs_all_again(rt: HostRuntime) -> Result<(),
     plays(rt.alloc(), COUNTS, &[], &MISSED)
 }
 
-/// The same where the prediction is wrong in the fourth frame alone: five frames run again.
+/// The same if the prediction is wrong in the fourth frame only: five frames run again.
 const LATE: [Row; 11] = [
     (ONE, Deed::Meet, Answer::Done),
     (ONE, Deed::Ticks(0, 8), TICKED),
@@ -72,7 +72,7 @@ fn a_late_key_is_run_again(rt: HostRuntime) -> Result<(), Fail> {
 
 const END: Answer = Answer::Ticked(Err(TickError::End));
 
-/// Once the frame is ticked the next tick is refused, before and after the frame is confirmed.
+/// Once the only frame is ticked, the next tick is refused, before and after the frame is confirmed.
 const LAST: [Row; 7] = [
     (ONE, Deed::Meet, Answer::Done),
     (ONE, Deed::Tick(1), TICKED),
@@ -90,9 +90,9 @@ fn the_game_ends_after_its_frames(rt: HostRuntime) -> Result<(), Fail> {
 
 const GAP: Answer = Answer::Delivered(Err(Refused::Known(KnownError::Gap)));
 
-/// Player 2 holds two inputs of player 1, who acknowledged one of its own. The DATA acknowledges a second
-/// one and brings an input from place 2; byte 43 is the last one of that place. With place 3 it leaves a
-/// gap: then the acknowledgement, the journal and the link stay as they were.
+/// Player 2 holds two inputs of player 1, who has acknowledged one of player 2's. The DATA acknowledges a second one
+/// and has an input from place 2; byte 43 is the last byte of that place. With place 3 it leaves a gap: then the
+/// acknowledgement, the journal and the link do not change.
 const LEAVES_A_GAP: [Row; 16] = [
     (ONE, Deed::Meet, Answer::Done),
     (TWO, Deed::Tick(0x10), TICKED),

@@ -1,5 +1,5 @@
-//! Stops and failures inside each call that records something: the disk stops after each number of its
-//! calls, or one of them fails, and the next opening finds the record or not.
+//! Stops and failures inside each call that records something: the disk stops after each number of its calls, or one of
+//! them fails. The next opening finds the record or not.
 use c8_disk::{Arm, DiskError};
 use c8_game::Game;
 use c8_peer::{CheckError, DecideError, Heard, LeaveError, OpenError, Refused, TickError};
@@ -8,9 +8,8 @@ use c8_table::{Answer, Deed, ONE, OfPlayer, Row, THREE, TWO, Table, Told};
 use std::alloc::Global;
 use std::test::Fail;
 
-/// A call of a history, by its place there. Once the disk has served as many calls as `gate` says, the
-/// gate of the record is written; one more call syncs it. What the next opening finds is `bare` without
-/// the record, and `kept` with it.
+/// A call of a history, by its place there. After `gate` calls of the disk the gate of the record is written, and one
+/// more call syncs it. The next opening finds `bare` without the record, and `kept` with it.
 #[derive(Clone, Copy)]
 pub(crate) struct Trial {
     pub(crate) place: usize,
@@ -19,8 +18,7 @@ pub(crate) struct Trial {
     pub(crate) kept: Told,
 }
 
-/// A fault in a call, after which the opening finds something else. Where no image is picked the disk
-/// failed once.
+/// A fault in a call after which the opening finds something else. Without `pick` the disk failed once.
 #[derive(Clone, Copy, Debug)]
 struct Wrong {
     place: usize,
@@ -37,7 +35,7 @@ pub(crate) struct Stage<'a> {
 }
 
 impl<'a> Stage<'a> {
-    /// Each trial comes to what it says.
+    /// Runs each trial.
     pub(crate) fn holds(self, trials: &[Trial]) -> Result<(), Fail> {
         for trial in trials {
             self.holds_at(trial)?;
@@ -45,7 +43,7 @@ impl<'a> Stage<'a> {
         Ok(())
     }
 
-    /// A trial with each number of calls.
+    /// Runs a trial with each number of calls.
     pub(crate) fn holds_at(self, trial: &Trial) -> Result<(), Fail> {
         for calls in 0..trial.gate.saturating_add(2) {
             self.fails(trial, calls)?;
@@ -85,7 +83,7 @@ impl<'a> Stage<'a> {
         Ok(())
     }
 
-    /// What the opening finds after a fault; none where the history or the call has another answer.
+    /// What the opening finds after a fault; `None` if the history or the call has another answer.
     fn comes(self, trial: &Trial, calls: u64, pick: Option<u64>) -> Option<Told> {
         let before = self.history.get(..trial.place)?;
         let row = self.history.get(trial.place)?;
@@ -94,7 +92,7 @@ impl<'a> Stage<'a> {
     }
 }
 
-/// The same at a table. A call that needs no more calls of the disk than are served has its own answer.
+/// The same at a table. A call that needs at most as many calls of the disk as are served has its own answer.
 fn found_at(
     table: &mut Table<'_>,
     before: &[Row],
@@ -116,7 +114,7 @@ fn found_at(
     table.told(at)
 }
 
-/// What a call answers where the disk fails.
+/// The answer of a call when the disk fails.
 fn refused(deed: Deed) -> Answer {
     let failed = DiskError::Failed;
     match deed {
@@ -190,8 +188,8 @@ fn a_stopped_opening_or_tick_is_kept_or_not(rt: HostRuntime) -> Result<(), Fail>
 const OF_THREE: &str =
     "players 3\nipf 10\nframes 100\ndelay 0\nwindow 12\nseed 0\nmask1 000f\nmask2 fff0\nmask3 ffff\ncode 1200\n";
 
-/// Player 3 leaves, whose only input player 2 has and player 1 lacks. Player 1 hears DATA and FROZEN,
-/// player 2 FREEZE and CUT, and player 3 CUT.
+/// Player 3 leaves; player 2 has its only input, and player 1 lacks it. Player 1 hears DATA and FROZEN, player 2 FREEZE
+/// and CUT, and player 3 CUT.
 #[rattlefmt::skip]
 const ROUND: [Row; 17] = [
     (ONE, Deed::Meet, Answer::Done),

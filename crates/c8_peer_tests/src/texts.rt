@@ -1,4 +1,4 @@
-//! How each refusal shows itself: its number, its name and its sentence.
+//! The texts of each refusal: its number, its name and its sentence.
 use c8_disk::DiskError;
 use c8_hand::HandError;
 use c8_known::KnownError;
@@ -7,7 +7,7 @@ use c8_wire::WireError;
 use std::alloc::Global;
 use std::fmt::Display;
 
-/// What a peer refuses.
+/// The refusals of a peer.
 #[derive(Clone, Copy)]
 enum Refusal {
     Opening(OpenError),
@@ -41,7 +41,7 @@ const TEXTS: [Text; 45] = [
     (Refusal::Delivery(Refused::Known(KnownError::Gap)), 1, "Gap", "inputs before these are missing"),
     (Refusal::Delivery(Refused::BadAck), 10, "BadAck", "more inputs are acknowledged than there are"),
     (Refusal::Delivery(Refused::NotChair), 11, "NotChair", "only player one says or hears this"),
-    (Refusal::Delivery(Refused::NotFrozen), 12, "NotFrozen", "the player has not been let go here"),
+    (Refusal::Delivery(Refused::NotFrozen), 12, "NotFrozen", "the player has not been dropped here"),
     (Refusal::Delivery(Refused::WrongLeaver), 13, "WrongLeaver", "this player does not leave so"),
     (Refusal::Delivery(Refused::Desync), 14, "Desync", "the sender's machine differs"),
     (Refusal::Delivery(Refused::Disk(DiskError::Failed)), 15, "Disk", "the disk refused a call"),
@@ -54,13 +54,13 @@ const TEXTS: [Text; 45] = [
     (Refusal::Saying(Unsayable::NotMine), 4, "NotMine", "this is not this player's to say to that one"),
     (Refusal::Saying(Unsayable::NoRecord), 5, "NoRecord", "the journal says nothing of the kind"),
     (Refusal::Saying(Unsayable::NoLink), 6, "NoLink", "no link to the addressee"),
-    (Refusal::Leave(LeaveError::NotChair), 1, "NotChair", "only player one lets a player go"),
+    (Refusal::Leave(LeaveError::NotChair), 1, "NotChair", "only player one drops a player"),
     (Refusal::Leave(LeaveError::Myself), 2, "Myself", "player one cannot leave"),
-    (Refusal::Leave(LeaveError::Already), 3, "Already", "the player has been let go already"),
+    (Refusal::Leave(LeaveError::Already), 3, "Already", "the player has been dropped already"),
     (Refusal::Leave(LeaveError::Disk(DiskError::Failed)), 4, "Disk", "the disk refused a call"),
     (Refusal::Leave(LeaveError::Down), 5, "Down", "the peer is down"),
     (Refusal::Leave(LeaveError::NotPlaying), 6, "NotPlaying", "not a player of the game"),
-    (Refusal::Decision(DecideError::NotLeaving), 1, "NotLeaving", "the player has not been let go"),
+    (Refusal::Decision(DecideError::NotLeaving), 1, "NotLeaving", "the player has not been dropped"),
     (Refusal::Decision(DecideError::NotReady), 2, "NotReady", "not all who stay have answered"),
     (Refusal::Decision(DecideError::Already), 3, "Already", "the player has been cut already"),
     (Refusal::Decision(DecideError::Disk(DiskError::Full)), 4, "Disk", "the disk refused a call"),

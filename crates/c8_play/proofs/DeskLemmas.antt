@@ -1,4 +1,4 @@
--- What a desk takes the screen to show, from one call to the next.
+-- What a desk knows of its screen, from one call to the next.
 use Rattle.std.proofs.Common.{inl, inr, ℕ, List, ◌++◌, Option, ap, subst, ◌∙◌}
 use Rattle.c8_screen.specs.Points.{Points}
 use Rattle.c8_terminal.specs.Picture.{Repaints}

@@ -1,4 +1,4 @@
--- How frames are put together.
+-- How frames join.
 use Rattle.std.proofs.Common.{◌≡◌, ℕ, suc, ◌+◌, subst, arith, List, [], ◌∷◌, ◌++◌, Bool, true, false, None, refl}
 use Rattle.c8_game.specs.Rules.{Rules}
 use Rattle.c8_game.specs.declared.row.Row.{Row}
@@ -29,7 +29,7 @@ module _ {D W C : Type 0} (disk : DiskGhosts D) (wire : WireGhosts W) (console :
       subst (λ (w : ℕ). IsFrame disk wire console w same_patience p q before after old new led leads) one
       (subst (λ (n : ℕ). IsFrame disk wire console window n p q before after old new led leads) two frame)
 
-  -- that what is heard joins, as c8_live says it
+  -- what is heard joins, as c8_live states it
   abbrev pub HearingsJoin : Type 0
   HearingsJoin = (most more : ℕ) (first middle last : PeerValue D) (before between after : W) → HasHeard disk wire most first middle before between
       → HasHeard disk wire more middle last between after → HasHeard disk wire (most + more) first last before after
@@ -42,7 +42,7 @@ module _ {D W C : Type 0} (disk : DiskGhosts D) (wire : WireGhosts W) (console :
     same = same_chain console old rested new waited.same same;
   }
 
-  -- where no key set was handed in none was taken
+  -- if no key set was handed in, none was taken
   pub none_taken : (taken : Bool) (p q : PeerValue D) (before after : W) → HasHandedIn disk wire None taken p q before after → taken ≡ false
   none_taken true p q before after handed = absurd handed.ticked
   none_taken false p q before after handed = refl

@@ -1,10 +1,10 @@
--- How a frame goes for a player who may be ahead, by what `leaves_out` answers.
+-- A frame of a player who may be ahead, by the answer of `leaves_out`.
 use Rattle.std.proofs.Common.{◌≡◌, ◌≤◌, ◌↔◌, ℕ, ◌+◌, Bool, true, false, IsTrue, subst}
 use Rattle.c8_peer.specs.Peer.{PeerValue}
 use Rattle.c8_play.specs.Lead.{IsAhead, HasLed}
 
 module _ {D : Type 0} (window patience : ℕ) (peer : PeerValue D) (out : Bool) (before after : ℕ) where
-  -- where the answer is what decides
+  -- the answer decides whether the tick is left out
   abbrev pub Judged : Type 0
   Judged = IsTrue out ↔ (IsAhead window peer × (patience ≤ before + 1))
 
@@ -21,6 +21,6 @@ module _ {D : Type 0} (window patience : ℕ) (peer : PeerValue D) (out : Bool) 
   led_refused is judged none =
       record { left_out = subst (λ (b : Bool). IsTrue b ↔ (IsAhead window peer × (patience ≤ before + 1))) is judged; counted = λ ahead taken. cc taken; behind = λ not. none; waited = λ same. none }
 
--- of the same peer
+-- for the same peer
 pub led_at : {D : Type 0} (window patience : ℕ) (seen peer : PeerValue D) (out taken : Bool) (before after : ℕ) → seen ≡ peer → HasLed window patience seen out taken before after → HasLed window patience peer out taken before after
 led_at window patience seen peer out taken before after same led = subst (λ (p : PeerValue _). HasLed window patience p out taken before after) same led

@@ -44,7 +44,7 @@ come_joined xs ys t u v one two = record {
       ∙ ap (λ (signals : List Signal). after_signals t.hold signals key (t.press key)) (sym (told-append xs ys t.read));
 }
 
--- nothing came, and what is read of a sequence is what a pause leaves
+-- nothing came, and a pause ended the sequence that was being read
 pub paused_after : (t u v : Typing) → u ≡ t → v.typed ≡ u.typed → v.read ≡ (pause u.read).next → v.hold ≡ u.hold → ((key : ℕ) → v.press key ≡ u.press key) → HasPaused t v
 paused_after t u v same typed read hold press = record {
   typed = typed ∙ ap (λ (x : Typing). x.typed) same;

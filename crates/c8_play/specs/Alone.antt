@@ -1,4 +1,4 @@
--- What one who plays alone has played.
+-- How a person plays alone.
 use Rattle.std.specs.Prelude.{◌≡◌, ◌⊎◌, ◌≤◌, ℕ, zero, suc, min, true, List, [], ◌∷◌, ◌++◌, length, replicate}
 use Rattle.c8_game.specs.Rules.{Rules}
 use Rattle.c8_game.specs.declared.row.Row.{Row}
@@ -11,8 +11,8 @@ use Rattle.c8_play.specs.declared.desk.Desk.{Desk}
 use Rattle.c8_play.specs.Typing.{Typing, HasRead, AreHeld, HasCounted}
 use Rattle.c8_play.specs.Desk.{typing, drawn_at, IsSameDesk, MayForget, HasShown}
 
--- A frame after others with these rows: what the keys have sent is read, the keys that are held are those of each of four players, the
--- frame is counted, and the machine's screen is painted.
+-- A frame after others with these rows: the bytes of the keys are read, each of the four players gets the keys that are
+-- held, the frame is counted, and the machine's screen is painted.
 pub record IsFrameAlone {C : Type 0} (console : Ghosts C) (rules : Rules) (before : List Row) (row : Row) (old new : Desk C) : Type 0 where
   pub read : Typing
   pub keys : Keys
@@ -26,14 +26,14 @@ pub record IsFrameAlone {C : Type 0} (console : Ghosts C) (rules : Rules) (befor
   pub typing_is : typing console new ≡ typing console counted
   pub shown : HasShown console (serial rules (before ++ row ∷ [])).screen counted new
 
--- so many frames, with these rows; before each there was a wait
+-- this number of frames, with these rows; before each there was a wait
 abbrev pub AreFramesAlone : {C : Type 0} → Ghosts C → Rules → ℕ → List Row → Desk C → Desk C → Type 0
 AreFramesAlone console rules zero rows old new = (rows ≡ []) × IsSameDesk console old new
 AreFramesAlone {C} console rules (suc fewer) rows old new =
     (before : List Row) × (row : Row) × (rested ready : Desk C) × (rows ≡ before ++ row ∷ []) × AreFramesAlone console rules fewer before old rested × IsSameDesk console rested ready
     × IsFrameAlone console rules before row ready new
 
--- as many frames were played as the game has at most, each with what was held down in it, and the machine is that of the serial run
+-- at most as many frames as the game has, each with the keys held in it; the machine is that of the serial run
 pub record IsPlayedAlone {C : Type 0} (console : Ghosts C) (rules : Rules) (played : Played) (old new : Desk C) : Type 0 where
   pub rows : List Row
   pub frames : played.frames ≡ length rows
@@ -41,6 +41,6 @@ pub record IsPlayedAlone {C : Type 0} (console : Ghosts C) (rules : Rules) (play
   pub machine : state played.machine ≡ serial rules rows
   pub frames_are : AreFramesAlone console rules played.frames rows old new
 
--- it ended because nobody is there any more, or after as many frames as were asked for, or the game's last
+-- it ended because the person left, or after as many frames as were asked for, or after the game's last
 abbrev pub IsEndAlone : {C : Type 0} → Rules → ℕ → Played → Desk C → Type 0
 IsEndAlone rules asked played desk = (desk.has_left ≡ true) ⊎ (played.frames ≡ min asked rules.frames)

@@ -1,4 +1,4 @@
--- What a caller knows of a desk: the keyboard, what has been written on the screen, and what that shows.
+-- How a caller sees a desk: the keyboard, what was written on the screen, and what that shows.
 use Rattle.std.specs.Prelude.{◌≡◌, ◌⊎◌, ℕ, true, List, ◌++◌, Option, None, Some}
 use Rattle.c8_screen.specs.Points.{Points}
 use Rattle.c8_terminal.specs.Decoder.{read_by}
@@ -12,7 +12,7 @@ use Rattle.c8_play.specs.Typing.{Typing}
 abbrev pub typing : {C : Type 0} → Ghosts C → Desk C → Typing
 typing console desk = record { typed = console.typed desk.console; read = read_by desk.decoder; hold = hold_of desk.held; press = press_at desk.held }
 
--- the points that it takes the screen to show, if it knows
+-- the points that the desk knows to be on the screen, if it knows any
 abbrev pub seen_at : {C : Type 0} → Desk C → Option Points
 seen_at desk = known_to desk.painter
 
@@ -25,12 +25,12 @@ pub record IsSameDesk {C : Type 0} (console : Ghosts C) (old new : Desk C) : Typ
   pub seen : seen_at new ≡ seen_at old
   pub drawn : drawn_at console new ≡ drawn_at console old
 
--- what the screen shows may have been forgotten
+-- the desk may have forgotten what the screen shows
 abbrev pub MayForget : {C : Type 0} → Desk C → Desk C → Type 0
 MayForget old new = (seen_at new ≡ seen_at old) ⊎ (seen_at new ≡ None)
 
--- A painting of the points was written, and then what tells of the match: a terminal that showed what the desk took it to show
--- shows these points once it has read the painting.
+-- A painting of the points was written, and then the status row. A terminal that showed what the desk knew shows these
+-- points once it has read the painting.
 pub record HasPainted {C : Type 0} (console : Ghosts C) (points : Points) (old new : Desk C) : Type 0 where
   pub painting : List ℕ
   pub row : List ℕ
@@ -38,6 +38,6 @@ pub record HasPainted {C : Type 0} (console : Ghosts C) (points : Points) (old n
   pub drawn : drawn_at console new ≡ drawn_at console old ++ (painting ++ row)
   pub seen : seen_at new ≡ Some points
 
--- or nobody is there any more
+-- or the person has left
 abbrev pub HasShown : {C : Type 0} → Ghosts C → Points → Desk C → Desk C → Type 0
 HasShown console points old new = (new.has_left ≡ true) ⊎ HasPainted console points old new

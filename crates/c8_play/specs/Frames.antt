@@ -1,4 +1,4 @@
--- The frames of a match at a desk: what is entered is what is held down, and what is painted is what the peer shows.
+-- The frames of a match at a desk: the keys that are held are entered, and what the peer shows is painted.
 use Rattle.std.specs.Prelude.{◌≡◌, ◌⊎◌, ◌≤◌, ℕ, zero, suc, Bool, true, false, Option, None, Some}
 use Rattle.c8_game.specs.declared.row.Keys.{Keys}
 use Rattle.c8_disk.specs.declared.disk.Disk.{Ghosts as DiskGhosts}
@@ -18,11 +18,11 @@ use Rattle.c8_play.specs.Lead.{HasLed}
 use Rattle.c8_play.specs.Typing.{Typing, HasRead, AreHeld, HasCounted}
 use Rattle.c8_play.specs.Desk.{typing, drawn_at, IsSameDesk, MayForget, HasShown}
 
--- the points that a peer's player sees: those of the run on the best guess at each row
+-- the points that a peer's player sees: those of the run of the best rows
 abbrev pub points_shown : {D : Type 0} → PeerValue D → Points
 points_shown p = (run_since p.rules (begun_by p) (best_rows (known_by p))).screen
 
--- what is handed in: these keys, or none where the tick is left out
+-- what is handed in: these keys, or none if the tick is left out
 abbrev pub unless_left_out : Bool → Keys → Option Keys
 unless_left_out true keys = None
 unless_left_out false keys = Some keys
@@ -32,12 +32,12 @@ abbrev pub IsCountedIf : Bool → Typing → Typing → Type 0
 IsCountedIf true old new = HasCounted old new
 IsCountedIf false old new = new ≡ old
 
--- what a peer's player sees is painted, unless nobody is there
+-- what a peer's player sees is painted, unless the person has left
 pub record IsSeen {D C : Type 0} (console : ConsoleGhosts C) (p : PeerValue D) (old new : Desk C) : Type 0 where
   pub typing_is : typing console new ≡ typing console old
   pub shown : HasShown console (points_shown p) old new
 
--- Between two frames the peer hears what comes, and nothing is read or written at the desk.
+-- Between two frames the peer hears packets, and at the desk nothing is read or written.
 pub record HasWaited {D W C : Type 0} (disk : DiskGhosts D) (wire : WireGhosts W) (console : ConsoleGhosts C) (p q : PeerValue D)
     (before after : W) (old new : Desk C) : Type 0 where
   pub packets : ℕ
@@ -45,9 +45,9 @@ pub record HasWaited {D W C : Type 0} (disk : DiskGhosts D) (wire : WireGhosts W
   pub same : IsSameDesk console old new
 
 module _ {D W C : Type 0} (disk : DiskGhosts D) (wire : WireGhosts W) (console : ConsoleGhosts C) (window patience : ℕ) where
-  -- What the keys have sent is read, and the peer makes one turn, in which the keys that are held are handed in, unless the tick is left
-  -- out: `HasLed` tells when, by the counts before the frame and after it. Nothing is written at the desk; what its screen shows may be
-  -- forgotten, where a person wants it painted anew.
+  -- The bytes of the keys are read, and the peer makes one turn. It hands in the keys that are held, unless the tick is
+  -- left out; `HasLed` says when, by the counts before and after the frame. Nothing is written at the desk. The desk
+  -- may forget what its screen shows, when the person asks to repaint it.
   pub record HasPlayed (p q : PeerValue D) (before after : W) (old new : Desk C) (led leads : ℕ) : Type 0 where
     pub read : Typing
     pub keys : Keys
@@ -61,13 +61,13 @@ module _ {D W C : Type 0} (disk : DiskGhosts D) (wire : WireGhosts W) (console :
     pub forgets : MayForget old new
     pub drawn : drawn_at console new ≡ drawn_at console old
 
-  -- one frame: its turn, and then what is seen of it
+  -- one frame: its turn, and then its picture
   pub record IsFrame (p q : PeerValue D) (before after : W) (old new : Desk C) (led leads : ℕ) : Type 0 where
     pub between : Desk C
     pub played : HasPlayed p q before after old between led leads
     pub seen : IsSeen console q between new
 
-  -- so many frames, before each of which there was a wait
+  -- this number of frames; before each there was a wait
   abbrev pub AreFrames : ℕ → PeerValue D → PeerValue D → W → W → Desk C → Desk C → ℕ → ℕ → Type 0
   AreFrames zero p q before after old new led leads =
       (q ≡ p) × (wire.received after ≡ wire.received before) × (wire.sent after ≡ wire.sent before) × IsSameDesk console old new
@@ -77,12 +77,12 @@ module _ {D W C : Type 0} (disk : DiskGhosts D) (wire : WireGhosts W) (console :
       × AreFrames fewer p played before between old rested led so_far
       × HasWaited disk wire console played ready between due rested awake × IsFrame ready q due after awake new so_far leads
 
--- so many frames are confirmed as are enough, if any are
+-- as many frames are confirmed as are enough, if a number is given
 abbrev pub IsEnough : {D : Type 0} → Option ℕ → PeerValue D → Type 0
 IsEnough None p = ⊥
 IsEnough (Some enough) p = enough ≤ confirmed (known_by p)
 
--- a match ended because all its turns are made, its session is over, enough is confirmed, or nobody is there any more
+-- a match ended because all its turns are made, its session is over, enough is confirmed, or the person has left
 abbrev pub IsEndOfPlay : {D C : Type 0} → Asked → ℕ → Session D → Desk C → Type 0
 IsEndOfPlay asked made session desk =
     (made ≡ asked.turns) ⊎ IsOver session ⊎ IsEnough asked.stop session.peer ⊎ (desk.has_left ≡ true)

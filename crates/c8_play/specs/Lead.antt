@@ -12,27 +12,27 @@ pub record IsOther {D : Type 0} (peer : PeerValue D) (player : ℕ) : Type 0 whe
   pub other : ¬ (player ≡ peer.me)
   pub uncut : (player_in (known_by peer) player).cut ≡ None
 
--- one of these of whom no other has fewer inputs known
+-- such a player with the fewest known inputs
 pub record IsHindmost {D : Type 0} (peer : PeerValue D) (player : ℕ) : Type 0 where
   pub other : IsOther peer player
   pub fewest : (q : ℕ) → IsOther peer q → count_in (known_by peer) player ≤ count_in (known_by peer) q
 
--- so few inputs are known of one of these that the own ticks are more than half the window beyond
+-- the own ticks are more than half the window beyond the known inputs of such a player
 pub record IsAhead {D : Type 0} (window : ℕ) (peer : PeerValue D) : Type 0 where
   pub player : ℕ
   pub other : IsOther peer player
   pub beyond : count_in (known_by peer) player + window / 2 < ticks peer.state.journal
 
--- A frame, by the count of frames on end in which the player was ahead and its keys were taken, before it and after it. The tick is left
--- out where the player is ahead and that count, with this frame, makes up the patience. Where the keys are not taken, since the tick is
--- left out or refused, the count begins anew: who has waited for the others does not wait once more.
+-- A frame, by the number of consecutive frames ahead whose keys were taken, before and after it. The tick is left out
+-- if the player is ahead and this frame makes that number reach the patience. If the keys are not taken, as the tick is
+-- left out or refused, the count restarts: a player that has just waited for the others does not wait again.
 pub record HasLed {D : Type 0} (window patience : ℕ) (peer : PeerValue D) (out taken : Bool) (before after : ℕ) : Type 0 where
   pub left_out : IsTrue out ↔ (IsAhead window peer × (patience ≤ before + 1))
   pub counted : IsAhead window peer → IsTrue taken → after ≡ before + 1
   pub behind : ¬ IsAhead window peer → after ≡ 0
   pub waited : taken ≡ false → after ≡ 0
 
--- the window of the game, for how many frames on end one may be ahead, the last of which is left out, and how many are counted so far
+-- the game's window; how many consecutive frames ahead leave out a tick, the last of them; and the count so far
 abbrev pub window_of : Lead → ℕ
 window_of lead = lead.window
 

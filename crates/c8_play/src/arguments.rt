@@ -1,4 +1,4 @@
-//! What the command `play` takes, and what it is asked to play by that.
+//! The options of the command `play`, and what they ask for.
 
 use crate::desk::Pace;
 use crate::help::PLAY_ENDING;
@@ -13,11 +13,11 @@ use std::alloc::{AllocError, Global};
 pub(crate) enum Who {
     /// One person, with the keys of all players.
     Alone,
-    /// A player of a match, who has a journal and an address.
+    /// A player of a match, with a journal and an address.
     Player(Player),
 }
 
-/// What `play` takes.
+/// The command `play` with its arguments and options.
 pub fn play_command<'a>(alloc: Global) -> Result<Command<'a>, AllocError> {
     let command = Command::new(alloc, "play")
         .about("Plays a game at the keyboard, alone or with others over UDP")
@@ -25,10 +25,10 @@ pub fn play_command<'a>(alloc: Global) -> Result<Command<'a>, AllocError> {
     let turns = number(
         alloc,
         "turns",
-        "The most turns, one a frame [default: no end]",
+        "Ends after N turns, one a frame [default: no end]",
     );
     let progress =
-        "Says in the end, on standard error, how late frames were, and how the match ended";
+        "Says at the end, on standard error, how late frames were, and how the match ended";
     let command = with_options(alloc, with_players(alloc, command)?, turns, progress)?;
     let rate = Arg::new(alloc, "rate")
         .long("rate")
@@ -40,19 +40,19 @@ pub fn play_command<'a>(alloc: Global) -> Result<Command<'a>, AllocError> {
     let hold = Arg::new(alloc, "hold")
         .long("hold")
         .value_name("N")
-        .help("For how many frames a key counts as held where the terminal does not tell")
+        .help("How many frames a stroke counts for if the terminal reports no releases")
         .value_parser(value_parser!(u8).range(1..))
         .default_value("9");
     command.arg(hold)
 }
 
-/// The arguments that say what is played by whom.
+/// Adds the arguments that say who plays what.
 fn with_players<'a>(alloc: Global, command: Command<'a>) -> Result<Command<'a>, AllocError> {
     let game = "The path of the game's text, the same for all players";
     let command = with_place(alloc, command, "GAME", game)?;
-    let player = "The own player's number, 1 to 4, or alone";
+    let player = "The number of the own player, 1 to 4, or alone";
     let command = with_place(alloc, command, "PLAYER", player)?;
-    let journal = "The path of the own journal, made where there is none";
+    let journal = "The path of the own journal, created if it is missing";
     let command = command.arg(Arg::new(alloc, "JOURNAL").help(journal))?;
     let local = "The own address, as 127.0.0.1:4001";
     let command = command.arg(Arg::new(alloc, "LOCAL").help(local))?;
@@ -62,7 +62,8 @@ fn with_players<'a>(alloc: Global, command: Command<'a>) -> Result<Command<'a>, 
     command.arg(remote)
 }
 
-/// Who is to play, if that is said: one alone has neither journal nor address, a player has both.
+/// Who plays, or `None` if the arguments do not fit: with `alone` there is no journal, and a player has a journal and
+/// an address.
 pub(crate) fn who_of(given: &ArgMatches<'_>) -> Option<Who> {
     let has_match = given.get_str("JOURNAL").is_some() && given.get_str("LOCAL").is_some();
     let has_none = given.get_str("JOURNAL").is_none();
@@ -76,7 +77,7 @@ pub(crate) fn who_of(given: &ArgMatches<'_>) -> Option<Who> {
     }
 }
 
-/// How fast the game goes, by a command line whose reader has seen that the numbers are in their ranges.
+/// How fast the game goes; the parser has checked the ranges.
 pub(crate) fn pace_of(given: &ArgMatches<'_>) -> Pace {
     Pace {
         rate: given.get_one::<u8>("rate").unwrap_or(60).max(1),

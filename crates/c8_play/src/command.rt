@@ -1,4 +1,4 @@
-//! `c8play play`: a game is played at the keyboard.
+//! `c8play play`: plays a game at the keyboard.
 
 use crate::alone::play_alone;
 use crate::arguments::{Who, pace_of, who_of};
@@ -17,9 +17,9 @@ use std::net::Net;
 use std::rt::Files;
 use std::time::Clock;
 
-/// Plays what the command line asks for, as `play` does: the screen is drawn on the terminal that the program
-/// runs in, and the report of the machine at the end goes to `out`; the line of a refusal goes to `refused`.
-/// Without such a terminal the command line is refused. The error is that of a writer.
+/// Runs `play` as the command line asks. It draws the screen on the terminal of the process, and writes the report of
+/// the machine at the end to `out`. The line of a refusal goes to `refused`. Without a terminal it refuses the command
+/// line. The error is a writer's.
 pub fn play_given<R, W, E>(
     rt: &R,
     given: &ArgMatches<'_>,
@@ -53,7 +53,7 @@ where
     }
 }
 
-/// Plays a game alone, of which the file may be refused.
+/// Plays a game alone. The game's file may be refused.
 fn alone<R, W, E>(
     rt: &R,
     given: &ArgMatches<'_>,

@@ -1,4 +1,4 @@
-//! A console, and what is kept of it.
+//! A console, with its held keys, painter and frame clock.
 
 ghost use Rattle.std.specs.Prelude.{◌≡◌, ◌≤◌, ◌<◌, ◌++◌, ℕ, true, false, List, []};
 ghost use Rattle.c8_screen.specs.Points.{points_of};
@@ -17,17 +17,17 @@ use c8_screen::Screen;
 use c8_terminal::{Decoder, Held, Painter, Signal};
 use std::time::Duration;
 
-/// How often keys are read in one frame at most, so that no flood of them holds it up.
+/// How many reads of the keys one frame makes at most, so that a flood of them cannot stop it.
 const MOST_READS: u8 = 64;
 
-/// How many milliseconds of silence end what a terminal sends at once: an escape that stands alone by then was the
-/// key of that name, and no beginning of a sequence that a read has cut.
+/// An escape that nothing follows for this many milliseconds is the key itself, and not the start of a sequence that a
+/// read has split.
 const SILENCE: u64 = 25;
 
-/// How fast a game goes, and for how long a stroke counts where the keyboard does not tell its end.
+/// How fast a game goes, and how long a stroke counts if the keyboard reports no release.
 #[derive(Clone, Copy, Debug, PartialEq, Eq)]
 pub struct Pace {
-    /// How many frames a second.
+    /// The number of frames a second.
     pub rate: u8,
     /// How many frames a stroke counts for.
     pub hold: u8,
@@ -35,8 +35,8 @@ pub struct Pace {
     pub ghost held: { 1 ≤ hold },
 }
 
-/// A console with a person at it: which keys are held, what the screen shows, when the next frame is due,
-/// and whether the person wants to end.
+/// A console with a person at it: which keys are held, what the screen shows, when the next frame is due, and whether
+/// the person wants to end.
 #[derive(Drop)]
 pub struct Desk<C> {
     console: C,
@@ -44,7 +44,7 @@ pub struct Desk<C> {
     held: Held,
     painter: Painter,
     beat: Beat,
-    /// When a byte came last.
+    /// When the last byte came.
     last: Duration,
     has_left: bool,
     /// Whether something else may have been written on the screen.
@@ -52,7 +52,7 @@ pub struct Desk<C> {
 }
 
 impl<C: Console> Desk<C> {
-    /// A console is made ready. Where that fails nobody is there.
+    /// Prepares a console. If that fails, the person counts as gone.
     pub fn new(console: C, pace: Pace) -> Desk<C> {
         let mut console = console;
         let now = console.now();
@@ -83,14 +83,14 @@ impl<C: Console> Desk<C> {
         self.console.now()
     }
 
-    /// Whether nobody is there, or somebody who wants to end.
+    /// Whether the person has left, or wants to end.
     pub fn has_left(&self) -> bool
         ensures { result ≡ self.now.has_left }
     {
         self.has_left
     }
 
-    /// Rests until the next frame is due, or until a packet has come; answers whether it was due already.
+    /// Rests until the next frame is due, or until a packet has come. Returns true at once if it is due already.
     pub fn rest_unless_due(&mut self) -> bool
         ensures { IsSameDesk C.Console self.old self.new }
     {
@@ -112,8 +112,8 @@ impl<C: Console> Desk<C> {
         }
     }
 
-    /// The next frame begins. Answers the keys that are held in it; they are held in the one after it too,
-    /// unless this one is told to be entered.
+    /// Begins the next frame, and returns the keys that are held in it. Unless `entered` follows, they stay held in the
+    /// next frame too.
     pub fn begin(&mut self) -> Keys
         ensures read { HasRead (typing C.Console self.old) (typing C.Console self.new) }
         ensures held { AreHeld (typing C.Console self.new) result.0 }
@@ -127,7 +127,7 @@ impl<C: Console> Desk<C> {
         held.frame()
     }
 
-    /// The keys of the frame that began last were entered.
+    /// Notes that the keys of the last frame were entered.
     pub fn entered(&mut self)
         ensures counted { HasCounted (typing C.Console self.old) (typing C.Console self.new) }
         ensures seen { seen_at self.new ≡ seen_at self.old }
@@ -136,7 +136,7 @@ impl<C: Console> Desk<C> {
         let _keys = self.held.frame();
     }
 
-    /// Reads what keys have sent by now. An escape after which nothing has come for so long is the key itself.
+    /// Reads the bytes that have come. An escape that nothing has followed for `SILENCE` is the key itself.
     fn read(&mut self, now: Duration)
         ensures read { HasRead (typing C.Console self.old) (typing C.Console self.new) }
         ensures seen { MayForget self.old self.new }
@@ -152,7 +152,7 @@ impl<C: Console> Desk<C> {
         }
     }
 
-    /// Reads what keys have sent, and answers whether that was anything.
+    /// Reads the bytes that have come, and returns whether there were any.
     fn read_waiting(&mut self) -> bool
         ensures came { (bytes : List ℕ) × HasCome bytes (typing C.Console self.old) (typing C.Console self.new) }
         ensures none { result ≡ false → typing C.Console self.new ≡ typing C.Console self.old }
@@ -177,7 +177,7 @@ impl<C: Console> Desk<C> {
         has_come
     }
 
-    /// Takes bytes that keys have sent.
+    /// Takes bytes of the keys.
     fn take(&mut self, bytes: &[u8])
         ensures read { read_by self.new.decoder ≡ read_after bytes.now (read_by self.old.decoder) }
         ensures hold { hold_of self.new.held ≡ hold_of self.old.held }
@@ -191,7 +191,7 @@ impl<C: Console> Desk<C> {
         }
     }
 
-    /// Takes a byte that keys have sent.
+    /// Takes one byte of the keys.
     fn take_byte(&mut self, byte: u8)
         ensures read { read_by self.new.decoder ≡ (step byte (read_by self.old.decoder)).next }
         ensures hold { hold_of self.new.held ≡ hold_of self.old.held }
@@ -205,7 +205,7 @@ impl<C: Console> Desk<C> {
         }
     }
 
-    /// Does what a person has told.
+    /// Does what a signal asks for.
     fn obey(&mut self, signal: Signal)
         requires { IsOfKeypad signal }
         ensures read { self.new.decoder ≡ self.old.decoder }
@@ -226,8 +226,8 @@ impl<C: Console> Desk<C> {
         self.held.note(signal);
     }
 
-    /// Whether the row below the screen is to be written anew, since something else may stand there. It is told
-    /// once.
+    /// Whether the row below the screen must be written again, because something else may stand there; then resets
+    /// this.
     pub fn take_spoilt(&mut self) -> bool
         ensures { IsSameDesk C.Console self.old self.new }
     {
@@ -236,7 +236,7 @@ impl<C: Console> Desk<C> {
         is_spoilt
     }
 
-    /// Shows a screen, and writes these bytes after it, which leave its rows as they are.
+    /// Paints a screen, then writes `row`, which must not change the screen's rows.
     pub fn show(&mut self, screen: &Screen, row: &[u8])
         ensures typing { typing C.Console self.new ≡ typing C.Console self.old }
         ensures shown { HasShown C.Console (points_of screen.now) self.old self.new }
@@ -251,7 +251,7 @@ impl<C: Console> Desk<C> {
 }
 
 impl<C: Console + Drop> Desk<C> {
-    /// Gives the console's screen back, and answers how late frames were.
+    /// Restores the console's screen, and returns how late frames were.
     pub fn end(self) -> Lateness {
         let mut desk = self;
         desk.console.leave();
@@ -259,7 +259,7 @@ impl<C: Console + Drop> Desk<C> {
     }
 }
 
-/// Writes bytes, if there are any, and answers whether they were written.
+/// Writes bytes, if there are any, and returns whether that succeeded.
 fn is_written<C: Console>(console: &mut C, text: &[u8]) -> bool
     ensures typed { C.typed console.new ≡ C.typed console.old }
     ensures drawn { result ≡ true → C.drawn console.new ≡ C.drawn console.old ++ text.now }

@@ -1,11 +1,11 @@
-//! What goes through a console, for those who reason about it.
+//! What goes through a console, for proofs.
 
 ghost use Rattle.std.specs.Prelude.{◌≡◌, ◌++◌, []};
 
 use c8_disk::GhostList;
 
-/// The bytes that keys have sent, and the text that was written, the oldest first. It takes no room: a console
-/// that keeps neither has one, and its `typed` and `drawn` are read of it.
+/// The bytes that keys have sent, and the text that was written, oldest first. It has no bytes: a console that stores
+/// neither holds one, and defines its `typed` and `drawn` by it.
 #[derive(Debug, Drop)]
 pub struct Exchange {
     pub typed: GhostList<u8>,
@@ -24,7 +24,7 @@ impl Exchange {
         }
     }
 
-    /// Keys have sent these bytes.
+    /// Notes bytes that keys have sent.
     pub fn sent(&mut self, bytes: &[u8])
         ensures typed { self.new.typed.items ≡ self.old.typed.items ++ bytes.now }
         ensures drawn { self.new.drawn.items ≡ self.old.drawn.items }
@@ -32,7 +32,7 @@ impl Exchange {
         extend(&mut self.typed, bytes);
     }
 
-    /// This text was written.
+    /// Notes text that was written.
     pub fn wrote(&mut self, text: &[u8])
         ensures typed { self.new.typed.items ≡ self.old.typed.items }
         ensures drawn { self.new.drawn.items ≡ self.old.drawn.items ++ text.now }
@@ -47,7 +47,7 @@ impl Default for Exchange {
     }
 }
 
-/// Adds bytes to a list of them.
+/// Adds bytes to a list.
 fn extend(list: &mut GhostList<u8>, bytes: &[u8])
     ensures { list.new.items ≡ list.old.items ++ bytes.now }
 {

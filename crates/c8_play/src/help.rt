@@ -1,4 +1,4 @@
-//! What the help of `play` ends with.
+//! The end of the help of `play`: keys, picture, examples and options.
 
 /// The end of the help of `play`.
 pub const PLAY_ENDING: &str =
@@ -7,24 +7,23 @@ pub const PLAY_ENDING: &str =
   q w e r      4 5 6 D          5
   a s d f      7 8 9 E        7 8 9
   z x c v      A 0 B F
-A player has the keys of the game's mask for the player; who plays alone has those of all players.
-Escape and control-C end the game, control-L paints the screen anew. A terminal that tells when a key
-is let go (one with kitty's keyboard protocol) plays better than one that does not: there a stroke
-counts for --hold frames, and one within 45 frames of the key's last stroke for 6 from then on, as
-of a keyboard that repeats it. With --hold 30 a key that is held down has no gap where the keyboard
-begins to repeat it within half a second.
+A player has the keys of its mask in the game; a person who plays alone has those of all players.
+Escape and control-C end the game, control-L repaints the screen. A terminal that reports releases of
+keys (one with kitty's keyboard protocol) plays best. On others a stroke counts for --hold frames, and
+a repeat within 45 frames of the key's last stroke for 6 from then on. With --hold 30 a key that is
+held down has no gap if the keyboard begins to repeat it within half a second.
 
-The screen takes 64 columns and 16 rows of the terminal. The row below tells once a second what
-stands here, and at once for whom the game waits:
+The screen takes 64 columns and 16 rows of the terminal. The row below is updated once a second, and
+at once when the game waits for a player:
   423/421  waits for 2  2: 16 ms  back 3, longest 5
-423 frames are ticked and 421 confirmed; it waits for player 2, of whom something was taken 16 ms
-ago; in the last second it went back 3 times, over 5 frames at most. When the game ends the machine
-after the confirmed frames is printed.
+423 frames are ticked and 421 confirmed. The game waits for player 2, whose last datagram came 16 ms
+ago. In the last second the peer rolled back 3 times, over 5 frames at most. When the game ends, the
+machine after the confirmed frames is printed.
 
 Alone, and two players, each in a terminal of their own:
   ./c8play play games/rally.game alone
   ./c8play play games/rally.game 1 one.journal 127.0.0.1:4001 127.0.0.1:4002
   ./c8play play games/rally.game 2 two.journal 127.0.0.1:4002 127.0.0.1:4001
 
-A turn is a frame: so many are made a second as --rate says. The other options, the refusals and the
-exit statuses are those of the command peer; standard input is not read.";
+A turn is a frame; --rate says how many are made a second. The other options, the refusals and the exit
+statuses are those of the command peer; standard input is not read.";

@@ -10,20 +10,20 @@ use c8_disk::Disk;
 use c8_game::Player;
 use c8_peer::Peer;
 
-/// For how many frames on end a player was ahead of another's newest input by more than half the window.
+/// For how many consecutive frames a player was more than half the window ahead of another player's newest input.
 ///
-/// Each player has a clock of their own. The one whose clock is fast sees all the rollbacks, so it waits: it
-/// leaves out one tick a second for as long as that lasts.
+/// Each player has a clock of their own. The player with the fastest clock sees all the rollbacks, so it waits: it
+/// leaves out one tick a second while it is ahead.
 #[derive(Clone, Copy, Debug, PartialEq, Eq)]
 pub struct Lead {
     window: u8,
-    /// For how many frames on end one may be ahead, the last of which is left out.
+    /// After how many consecutive frames ahead a tick is left out, that one included.
     patience: u8,
     frames: u8,
 }
 
 impl Lead {
-    /// Of a game with such a window, at so many frames a second.
+    /// Starts the count for a game with this window, at `rate` frames a second.
     pub fn new(window: u8, rate: u8) -> Lead
         ensures window { window_of result ≡ window }
         ensures patience { patience_of result ≡ rate }
@@ -36,8 +36,8 @@ impl Lead {
         }
     }
 
-    /// Whether the tick of this frame, which is counted, is left out: where the player is ahead, as in all the
-    /// frames before it that make up a second with it. Then a new second begins.
+    /// Counts this frame, and returns whether its tick is left out: the player is ahead now, and was in all frames of
+    /// the last second. Then a new second begins.
     pub fn leaves_out<D: Disk>(&mut self, peer: &Peer<'_, D>) -> bool
         ensures window { window_of self.new ≡ window_of self.old }
         ensures patience { patience_of self.new ≡ patience_of self.old }
@@ -61,7 +61,7 @@ impl Lead {
         true
     }
 
-    /// A tick was refused: a player who waits for the others does not wait once more.
+    /// Restarts the count after a refused tick: a player that waits for the others does not wait again.
     pub fn has_waited(&mut self)
         ensures window { window_of self.new ≡ window_of self.old }
         ensures patience { patience_of self.new ≡ patience_of self.old }
@@ -83,8 +83,7 @@ impl Lead {
     }
 }
 
-/// The other player of whom the fewest inputs are known, of those whose inputs are not cut; none where all
-/// others' are.
+/// The other player with the fewest known inputs, among those whose inputs are not cut; `None` if all others are cut.
 pub(crate) fn hindmost<D: Disk>(peer: &Peer<'_, D>) -> Option<Player>
     ensures some { IfSome result (λ player. IsHindmost peer.now player.number) }
     ensures none { result ≡ None → (player : ℕ) → ¬ IsOther peer.now player }
@@ -96,7 +95,7 @@ pub(crate) fn hindmost<D: Disk>(peer: &Peer<'_, D>) -> Option<Player>
     found
 }
 
-/// The hindmost of the others below a number and of the one that has it.
+/// The hindmost of the players found so far and the one with this number.
 fn hindmost_with<D: Disk>(peer: &Peer<'_, D>, number: u8, found: Option<Player>) -> Option<Player>
     ensures { FoundBelow peer.now number found → FoundBelow peer.now (number + 1) result }
 {
@@ -112,7 +111,7 @@ fn hindmost_with<D: Disk>(peer: &Peer<'_, D>, number: u8, found: Option<Player>)
     }
 }
 
-/// The other player with a number, whose inputs are not cut, if there is one.
+/// The other player with this number, unless its inputs are cut.
 fn other<D: Disk>(peer: &Peer<'_, D>, number: u8) -> Option<Player>
     ensures some { IfSome result (λ player. IsOther peer.now player.number) }
     ensures same { IfSome result (λ player. player.number ≡ number) }
@@ -127,7 +126,7 @@ fn other<D: Disk>(peer: &Peer<'_, D>, number: u8) -> Option<Player>
     }
 }
 
-/// Whether fewer inputs are known of a player than of another, if there is one.
+/// Whether fewer inputs are known of a player than of the one found so far, if any.
 fn is_fewer<D: Disk>(peer: &Peer<'_, D>, player: Player, found: Option<Player>) -> bool
     ensures fewer { IsTrue result → IfSome found (λ it. count_in (known_by peer.now) player.number
         < count_in (known_by peer.now) it.number) }

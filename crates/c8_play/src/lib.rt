@@ -1,10 +1,9 @@
 //! The command `play`: people play at a keyboard, and see the screen, sixty frames a second.
 //!
-//! `console` is what a person plays at, and `terminal` the one of the system, the only file here that touches
-//! it. A [`Desk`] is a console with what is kept of it: the keys that are held, what is painted, and when the
-//! next frame is due, by a [`Beat`]. `live` plays a match at a desk: it is a performance of c8_net, whose turns
-//! are made once a frame; `alone` plays a game at a desk without a network. `arguments` says what the command
-//! takes, `command` reads that.
+//! `console` is the interface to keyboard, screen and clock; `terminal` implements it, and is the only file here that
+//! calls the system. A [`Desk`] is a console with its held keys, its painter, and a [`Beat`] that says when the next
+//! frame is due. `live` plays a match at a desk: a performance of c8_net with one turn a frame. `alone` plays a game at
+//! a desk without a network. `arguments` has the options, and `command` runs them.
 #![tactic(auto)]
 
 mod alone;

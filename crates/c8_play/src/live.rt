@@ -20,10 +20,10 @@ use std::io;
 use std::io::Write;
 use std::net::Net;
 
-/// How often a peer listens before a frame at most, so that no flood of packets holds it up.
+/// How often a peer listens before a frame at most, so that a flood of packets cannot stop it.
 const MOST_RESTS: u16 = 1000;
 
-/// The performance at a console: a turn a frame, which enters the keys that are held.
+/// The performance at a console: one turn a frame, which enters the keys that are held.
 #[derive(Drop)]
 pub struct Live<C> {
     pub console: C,
@@ -65,10 +65,10 @@ pub(crate) fn tell_lateness<E: Write>(out: &mut E, lateness: &Lateness) -> io::R
     )
 }
 
-/// Plays a session of this game at a desk, a turn a frame, until it is over, its turns are made, as many
-/// frames are confirmed as are enough, or the person wants to end. Between two frames the peer listens. A
-/// player who is ahead for so many frames as make up a second, `rate`, leaves out a tick. Answers how many
-/// turns were made. The error is that of the disk or of the wire.
+/// Plays a session of this game at a desk, one turn a frame, until it is over, its turns are made, as many frames are
+/// confirmed as `--stop` asks for, or the person ends it. Between two frames the peer listens. A player that was ahead
+/// for a second, `rate` frames, leaves out a tick. Returns how many turns were made. The error is the disk's or the
+/// wire's.
 pub fn play_frames<D: Disk, W: Wire, C: Console>(
     session: &mut Session<'_, D>,
     wire: &mut W,
@@ -136,7 +136,7 @@ fn wait<D: Disk, W: Wire, C: Console>(
     Ok(())
 }
 
-/// One frame: its turn, and what is seen of it.
+/// Plays one frame: its turn, and its picture.
 fn play_frame<D: Disk, W: Wire, C: Console>(
     session: &mut Session<'_, D>,
     wire: &mut W,
@@ -164,11 +164,11 @@ enum Entry {
     Taken,
     /// This player is ahead, and leaves out a tick.
     LeftOut,
-    /// No more can be ticked before more is confirmed, or the game is over.
+    /// The player is at the window's limit, or the game is over.
     Refused,
 }
 
-/// The turn of a frame, in which the keys that are held are handed in, unless this player leaves out a tick.
+/// Makes the turn of a frame, which hands in the keys that are held, unless this player leaves out a tick.
 fn enter<D: Disk, W: Wire, C: Console>(
     session: &mut Session<'_, D>,
     wire: &mut W,
@@ -196,8 +196,8 @@ fn enter<D: Disk, W: Wire, C: Console>(
     }
 }
 
-/// What is seen of a frame. Where no more can be ticked before more is confirmed, that is shown as waiting, for
-/// the player of whom the least is known.
+/// Shows the picture of a frame. If the player is at the window's limit, the row says that it waits for the player with
+/// the fewest known inputs.
 fn show<D: Disk, C: Console>(
     session: &Session<'_, D>,
     desk: &mut Desk<C>,

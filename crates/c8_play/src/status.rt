@@ -1,4 +1,4 @@
-//! The row of text below the screen: where a match is.
+//! The row of text below the screen: how far a match is.
 
 use arrayvec::ArrayVec;
 use c8_disk::Disk;
@@ -8,20 +8,20 @@ use std::io;
 use std::io::Write;
 use std::time::Duration;
 
-/// The most characters of the text: of a match of two, which a terminal of 64 columns shows whole, and of one
+/// How many characters the text has at most: in a match of two, as a terminal of 64 columns shows them, and in a match
 /// of more.
 const LONGEST_OF_TWO: usize = 64;
 
 const LONGEST: usize = 80;
 
-/// The most bytes of the row: what moves the cursor there, what clears it, and the text.
+/// How many bytes the row has at most, those that move the cursor and clear the row included.
 pub const LONGEST_ROW: usize = 90;
 
-/// What moves the cursor to the first column of row 17, below the screen, and clears the row, before the text: a
-/// terminal whose last column is written has its cursor there still.
+/// Moves the cursor to the first column of row 17, below the screen, and clears the row. It comes before the text,
+/// because after a text up to the last column the cursor would still be on that column.
 const CLEAR: &[u8] = b"\x1b[17;1H\x1b[K";
 
-/// How many seconds lie between two looks at the numbers.
+/// How many seconds lie between two updates of the numbers.
 const EVERY: u64 = 1;
 
 /// The numbers of the row.
@@ -29,35 +29,35 @@ const EVERY: u64 = 1;
 struct Numbers {
     ticked: u64,
     confirmed: u32,
-    /// The rollbacks since the look before, and how many frames the longest of them ran anew.
+    /// The rollbacks of the last second, and the most frames that one of them simulated again.
     rollbacks: u64,
     longest: u64,
-    /// For how many milliseconds nothing was heard of each player, player 1's place first.
+    /// For how many milliseconds nothing was heard of each player, by place.
     silent: [u128; MOST_PLAYERS],
     is_alarmed: bool,
 }
 
-/// Where a match is, by numbers that are looked at once a second, and for whom it waits.
+/// How far a match is, by numbers that are updated once a second, and which player it waits for.
 #[derive(Drop)]
 pub struct StatusRow {
     me: Player,
     players: u8,
     counters: Counters,
-    /// When the numbers are looked at next.
+    /// When the next update is due.
     due: Duration,
-    /// When each player was last heard, at first when it began, and in how many turns it had been heard then.
+    /// When each player was last heard, or the start, and in how many turns it had been heard by then.
     heard: [Duration; MOST_PLAYERS],
     turns: [u64; MOST_PLAYERS],
-    /// The rollbacks up to the last look, and the longest one since.
+    /// The rollbacks up to the last update, and the longest since.
     rollbacks: u64,
     longest: u64,
     numbers: Numbers,
-    /// What the terminal has in the row.
+    /// What the terminal shows in the row.
     shown: ArrayVec<u8, LONGEST_ROW>,
 }
 
 impl StatusRow {
-    /// The row begins now, with a player of a game of so many.
+    /// Starts the row of the peer of `me` in a game of `players` players.
     pub fn new(now: Duration, me: Player, players: u8) -> StatusRow {
         StatusRow {
             me,
@@ -78,22 +78,22 @@ impl StatusRow {
         self.counters.note(session, 0);
     }
 
-    /// Forgets what the terminal has in the row.
+    /// Forgets what the terminal shows in the row.
     pub fn forget(&mut self) {
         self.shown.clear();
     }
 
-    /// The bytes that make the terminal show where the match is now, by all that was noted: none where it does.
+    /// The bytes that make the terminal show how far the match is, by all that was noted; none if it already does.
     pub fn row(&mut self, now: Duration, confirmed: u32, waits: Option<Player>) -> &[u8] {
         let standing = self.counters.take();
         self.row_of(now, confirmed, &standing, waits)
     }
 
-    /// The same, of a peer that stands so. The text is `423/421  waits for 2  2: 16 ms  back 3, longest 5`: how
-    /// many frames are ticked and how many confirmed; whether the machines differ, as `the machines differ`; at
-    /// once for whom the match waits; for how long each other player has been silent; and how often the peer
-    /// went back in the last second, and how many frames it ran anew then at most. What is longer than 64
-    /// characters, or of more than two players 80, is cut off.
+    /// The bytes of the row for a peer that is this far. The text is like `423/421  waits for 2  2: 16 ms  back 3,
+    /// longest 5`: how many frames are ticked and confirmed; `the machines differ` while the alarm stands; the player
+    /// that the match waits for, which changes at once; how long each other player has been silent; how often the peer
+    /// rolled back in the last second, and the most frames that one rollback simulated again. The text is cut off after
+    /// 64 characters, or after 80 with more than two players.
     pub fn row_of(
         &mut self,
         now: Duration,
@@ -108,7 +108,7 @@ impl StatusRow {
         }
         let mut row = ArrayVec::<u8, LONGEST_ROW>::new();
         let _ = row.write_all(CLEAR);
-        // it writes as much as there is room for
+        // A full row takes no more.
         let _ = self.write_text(&mut row, waits);
         row.truncate(CLEAR.len().saturating_add(self.most()));
         if row.as_slice() == self.shown.as_slice() {
@@ -118,7 +118,7 @@ impl StatusRow {
         self.shown.as_slice()
     }
 
-    /// The most characters of the text.
+    /// How many characters the text has at most.
     fn most(&self) -> usize {
         if self.players > 2 {
             LONGEST
@@ -127,7 +127,7 @@ impl StatusRow {
         }
     }
 
-    /// Notes who was heard since this was told last, and the longest rollback.
+    /// Notes who was heard since the last call, and the longest rollback.
     fn hear(&mut self, now: Duration, standing: &Standing) {
         self.longest = self.longest.max(standing.longest);
         for place in 0..MOST_PLAYERS {
@@ -138,7 +138,7 @@ impl StatusRow {
         }
     }
 
-    /// Looks at the numbers.
+    /// Updates the numbers.
     fn look(&mut self, now: Duration, confirmed: u32, standing: &Standing) {
         let mut silent = [0; MOST_PLAYERS];
         for place in 0..MOST_PLAYERS {
@@ -156,7 +156,7 @@ impl StatusRow {
         self.longest = 0;
     }
 
-    /// Writes the text, what matters most first.
+    /// Writes the text, the most important part first.
     fn write_text<E: Write>(&self, out: &mut E, waits: Option<Player>) -> io::Result<()> {
         let Numbers {
             ticked,
@@ -178,7 +178,7 @@ impl StatusRow {
         write!(out, "  back {rollbacks}, longest {longest}")
     }
 
-    /// Writes for how long each other player has been silent.
+    /// Writes how long each other player has been silent.
     fn write_silence<E: Write>(&self, out: &mut E) -> io::Result<()> {
         for place in 0..MOST_PLAYERS {
             let number = place + 1;

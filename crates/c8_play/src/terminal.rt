@@ -1,4 +1,4 @@
-//! The terminal that the program runs in: the only file here that touches the system.
+//! The terminal of the process: the only file here that calls the system.
 
 use crate::console::{Console, Gone, KEY_BYTES};
 use crate::exchange::Exchange;
@@ -16,19 +16,19 @@ use std::{io, thread};
 /// The terminal of the process, whatever its standard streams are.
 const TTY: &str = "/dev/tty";
 
-/// Asks for kitty's keyboard protocol, and whether the terminal has it: no ambiguity (1), event types (2), the
-/// place of a key on an English keyboard (4), all keys as sequences (8). Asks to be told where the window loses
-/// the focus; and text that is too long for a row is cut off from now on.
+/// Asks for kitty's keyboard protocol, and whether the terminal has it: unambiguous escape codes (1), event types (2),
+/// the place of a key on an English keyboard (4), all keys as sequences (8). Asks for reports when the window loses the
+/// focus, and turns off the wrapping of long rows.
 const ASK: &[u8] = b"\x1b[>15u\x1b[?u\x1b[?1004h\x1b[?7l";
 
-/// Takes all of that back.
+/// Undoes `ASK`.
 const ASK_NO_MORE: &[u8] = b"\x1b[?7h\x1b[?1004l\x1b[<u";
 
-/// How many wakes are told at once: there is one socket.
+/// How many wakes one poll reports at most; there is one socket.
 const MOST_EVENTS: usize = 4;
 
-/// The terminal of the process. Its settings are not touched: the script `c8play` has it send keys as they
-/// are struck, and gives it back however the program ends.
+/// The terminal of the process. It does not touch the terminal's settings: the script `c8play` makes the terminal send
+/// keys at once, and restores it however the program ends.
 #[derive(Drop)]
 pub struct Terminal<'r, R> {
     rt: &'r R,
@@ -36,7 +36,7 @@ pub struct Terminal<'r, R> {
     screen: File,
     poll: Poll,
     events: Events,
-    /// What the clock said last.
+    /// The last time that the clock gave.
     last: Duration,
     exchange: Exchange,
 }
@@ -45,8 +45,8 @@ impl<'r, R> Terminal<'r, R>
 where
     R: Files<File = File> + Net + Clock + AllocGlobal,
 {
-    /// Opens the terminal twice: to read without waiting, which is a setting of that opening alone, and to
-    /// write. Nothing is written yet.
+    /// Opens the terminal twice: once to read without waiting, a setting of that opening alone, and once to write. It
+    /// writes nothing yet.
     pub fn open(rt: &'r R) -> io::Result<Terminal<'r, R>> {
         let keys = File::open(rt, TTY)?;
         if os::set_nonblocking(keys.as_raw_fd(), true) != 0 {
@@ -83,14 +83,14 @@ impl<'r, R: Clock> Console for Terminal<'r, R> {
     }
 
     fn now(&mut self) -> Duration {
-        // where the clock cannot be read no time has gone by
+        // If the clock cannot be read, no time has passed.
         self.last = self.rt.monotonic().unwrap_or(self.last);
         self.last
     }
 
     fn keys(&mut self, bytes: &mut [u8; KEY_BYTES]) -> Result<usize, Gone> {
         match self.keys.read(bytes) {
-            // the end of a terminal's input: it has hung up
+            // The end of a terminal's input means that it has hung up.
             Ok(0) => Err(Gone),
             Ok(size) => {
                 self.exchange.sent(&bytes[..size]);
@@ -109,7 +109,7 @@ impl<'r, R: Clock> Console for Terminal<'r, R> {
     }
 
     fn wake_at(&mut self, wire: &mut Udp) {
-        // without it packets are taken when the next frame is due
+        // If this fails, packets are taken when the next frame is due.
         let _ = wire.wake(self.poll.registry(), Token(0));
     }
 

@@ -13,7 +13,7 @@ use std::io::Write;
 pub const DRAWS: &[u8] =
     b"players 2\nipf 10\nframes 30\ndelay 0\nwindow 8\nseed 0\nmask1 0020\nmask2 2000\ncode a206d0011204f000\n";
 
-/// In frame 2 a person has the whole screen painted again.
+/// In frame 2 a person repaints the whole screen.
 static REPAINT: [Sent; 1] = [(2, b"\x0c")];
 
 /// The bytes that paint the whole screen of that game.
@@ -29,7 +29,7 @@ pub fn whole(alloc: Global) -> Vec<u8> {
     text
 }
 
-/// What is seen where five frames of the game are played at this many a second.
+/// What is seen when five frames of the game are played at this many a second.
 fn seen_at(alloc: Global, game: &Game, rate: u8) -> Log
     requires { 1 ≤ rate }
 {
@@ -42,8 +42,8 @@ fn seen_at(alloc: Global, game: &Game, rate: u8) -> Log
     log
 }
 
-/// Whether frames begin at these microseconds, and the screen is painted whole in the first one and where a person
-/// wants it again.
+/// Whether frames begin at these microseconds, and the screen is painted whole in the first one and when the person
+/// repaints it.
 fn is_painted(alloc: Global, rate: u8, times: [u64; 5]) -> bool
     requires { 1 ≤ rate }
 {
@@ -68,8 +68,8 @@ fn frames_begin_by_the_clock_and_are_painted_once(rt: HostRuntime) {
 const COUNTS: &[u8] =
     b"players 2\nipf 10\nframes 30\ndelay 0\nwindow 8\nseed 0\nmask1 0020\nmask2 2000\ncode 6205640de2a17101e4a1730170011204\n";
 
-/// What is held in each frame where key 5 is struck in frame 3, and key 13, the other player's, in frame 20. A
-/// stroke counts for 9 frames.
+/// What is held in each frame if key 5 is struck in frame 3, and key 13, the other player's, in frame 20. A stroke
+/// counts for 9 frames.
 const LINES: &[u8] =
     b"0000 0000\n0000 0000\n0000 0000\n0020 0000\n0020 0000\n0020 0000\n0020 0000\n0020 0000\n0020 0000\n0020 0000\n0020 0000\n0020 0000\n0000 0000\n0000 0000\n0000 0000\n0000 0000\n0000 0000\n0000 0000\n0000 0000\n0000 0000\n0000 2000\n0000 2000\n0000 2000\n0000 2000\n0000 2000\n0000 2000\n0000 2000\n0000 2000\n0000 2000\n0000 0000\n";
 
@@ -83,19 +83,19 @@ fn lines(count: usize) -> &'static [u8] {
 
 static BOTH: [Sent; 2] = [(3, b"w"), (20, b"r")];
 
-/// The first stroke as an arrow, which a read cuts after its escape.
+/// The first stroke as an arrow, which a read splits after its escape.
 static CUT: [Sent; 3] = [(2, b"\x1b"), (3, b"[A"), (20, b"r")];
 
-/// Control-C in frame 11, or a terminal that hangs up: the frame is the last.
+/// Control-C in frame 11, or a terminal that hangs up: this frame is the last.
 static STOPPED: [Sent; 2] = [(3, b"w"), (11, b"\x03")];
 
 static HUNG_UP: [Sent; 2] = [(3, b"w"), (11, b"")];
 
-/// An escape that stands alone ends the game once nothing has come for 25 milliseconds.
+/// An escape alone ends the game once nothing has come for 25 milliseconds.
 static ESCAPE: [Sent; 2] = [(3, b"w"), (10, b"\x1b")];
 
-/// What is played with these keys at this many frames a second, at most as many frames as are asked for, and how
-/// often the console was used.
+/// Plays with these keys at this many frames a second, at most `asked` frames. Returns what was played, and how often
+/// the console was used.
 fn played_by(
     alloc: Global,
     game: &Game,
@@ -113,8 +113,8 @@ fn played_by(
     (played, log.marks)
 }
 
-/// Whether this many frames are played, with the machine that the same number of key lines make; and the console is
-/// made ready once, written on once, since the program draws nothing, and given back once.
+/// Whether this many frames are played, with the machine that the same number of key lines make. The console must be
+/// prepared once, written on once, because the program draws nothing, and restored once.
 fn is_played(alloc: Global, rate: u8, sent: &'static [Sent], asked: u64, frames: usize) -> bool
     requires { 1 ≤ rate }
 {

@@ -1,4 +1,4 @@
-//! Consoles whose keys are written down, and a clock that only sleeps move on.
+//! Consoles with written-down keys, and a clock that only sleeps move.
 
 use c8_net::Udp;
 use c8_play::{Console, Exchange, Gone, KEY_BYTES};
@@ -7,7 +7,7 @@ use std::sync::atomic::{AtomicU64, Ordering};
 use std::time::{Clock, Duration};
 use std::{io, thread};
 
-/// A clock that only sleeps move on.
+/// A clock that only sleeps move.
 #[derive(Drop)]
 pub struct Still {
     nanos: AtomicU64,
@@ -36,10 +36,10 @@ impl Clock for Still {
     }
 }
 
-/// What a terminal sends, and in which frame, counted from 0. Where it sends nothing it hangs up.
+/// What a terminal sends, and in which frame, counted from 0. If it sends nothing it hangs up.
 pub type Sent = (u32, &'static [u8]);
 
-/// How often a console was made ready, written on, and given back.
+/// How often a console was prepared, written on, and restored.
 pub type Marks = (u32, u32, u32);
 
 /// What was seen at a console.
@@ -62,7 +62,7 @@ impl Log {
     }
 }
 
-/// A console on which these keys are sent.
+/// A console that sends these keys.
 #[derive(Drop)]
 pub struct Written<'r, R> {
     rt: &'r R,
@@ -105,7 +105,7 @@ impl<'r, R: Clock> Console for Written<'r, R> {
         self.rt.monotonic().unwrap_or(Duration::from_secs(0))
     }
 
-    /// A frame is over where nothing is left of what is sent in it.
+    /// A frame is over when all that is sent in it was read.
     fn keys(&mut self, bytes: &mut [u8; KEY_BYTES]) -> Result<usize, Gone> {
         if let Some((frame, sent)) = self.sent.get(self.told)
             && *frame == self.frame

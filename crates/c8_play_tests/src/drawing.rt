@@ -1,4 +1,4 @@
-//! What is drawn of a match that is watched, and when, by a clock that is made here.
+//! What is drawn of a watched match, and when, by a clock of the test.
 ghost use Rattle.std.specs.Prelude.{◌≡◌};
 
 use c8_game::Game;
@@ -18,11 +18,11 @@ use std::thread::Threads;
 use std::time::{Clock, Duration};
 use std::{fs, io};
 
-/// Each frame turns one point of the uppermost row, the leftmost first, and after the last that again.
+/// Each frame flips one point of the uppermost row, from left to right, and then from the left again.
 const GAME: &str =
     "players 2\nipf 3\nframes 5000\ndelay 0\nwindow 8\nseed 0\nmask1 ffff\nmask2 ffff\ncode a208d0117001120280\n";
 
-/// Whose sleep after a turn is no time to wait for, but a millisecond of a clock that counts these alone.
+/// A runtime whose sleeps do not wait, and whose clock counts each of them as a millisecond.
 #[derive(Drop)]
 struct Counted<'r, R> {
     rt: &'r R,
@@ -59,7 +59,7 @@ impl<'r, R: Clock> Clock for Counted<'r, R> {
     }
 }
 
-/// A way on which one more row comes each turn, in which no key is held.
+/// A wire on which one more row comes each turn, with no key held.
 #[derive(Drop)]
 struct Shows {
     show: [u8; 38],
@@ -69,7 +69,7 @@ struct Shows {
 }
 
 impl Shows {
-    /// The rows of a match in room 3, to seat 5.
+    /// The rows of a match in room 3, for seat 5.
     fn new(game: &Game) -> Shows {
         let mut show = [0; 38];
         show[..4].copy_from_slice(b"C8\x01\x07");
@@ -108,7 +108,7 @@ impl Wire for Shows {
     }
 }
 
-/// Keeps what is written, and where each write ends. One of them fails, and is not kept.
+/// Keeps what is written, and where each write ends. One write fails, and is not kept.
 #[derive(Drop)]
 struct Pages {
     text: Vec<u8>,
@@ -159,8 +159,8 @@ fn picture(alloc: Global, frames: u64, is_whole: bool) -> Vec<u8> {
     text
 }
 
-/// What is to be drawn: the pictures that are due by the clock, each sixtieth of them whole, between what makes the
-/// terminal ready and what gives it back.
+/// What must be drawn: the pictures that are due by the clock, every sixtieth of them whole, between the bytes that
+/// prepare the terminal and those that restore it.
 fn wanted(alloc: Global, row: &Row) -> Pages {
     let mut pages = Pages::new(alloc, row.until_failure);
     if row.screen {
@@ -175,8 +175,8 @@ fn wanted(alloc: Global, row: &Row) -> Pages {
     pages
 }
 
-/// For how many turns of a millisecond a match is watched, whether it is drawn, and how many writes come before
-/// one that fails. Then how many pictures are drawn, that one counted.
+/// For how many turns of a millisecond a match is watched, whether it is drawn, and how many writes come before one
+/// that fails; and how many pictures are then drawn, with that one.
 struct Row {
     turns: u64,
     screen: bool,
@@ -186,12 +186,12 @@ struct Row {
 
 #[rattlefmt::skip]
 static ROWS: [Row; 6] = [
-    // two seconds, and to the turn before the second picture, and to that
+    // two seconds; up to the turn before the second picture; and up to that picture
     Row { turns: 2000, screen: true, until_failure: u64::MAX, pictures: 120 },
     Row { turns: 17, screen: true, until_failure: u64::MAX, pictures: 1 },
     Row { turns: 18, screen: true, until_failure: u64::MAX, pictures: 2 },
     Row { turns: 100, screen: false, until_failure: u64::MAX, pictures: 0 },
-    // the terminal is given back, also where it took nothing
+    // the terminal is restored, even if it took nothing
     Row { turns: 100, screen: true, until_failure: 0, pictures: 0 },
     Row { turns: 100, screen: true, until_failure: 3, pictures: 3 },
 ];
@@ -258,7 +258,7 @@ fn words() -> &'static [&'static str] {
     &WORDS
 }
 
-/// What they print on a terminal; nothing where they are a mistake.
+/// What these arguments print on a terminal; nothing if they are a mistake.
 fn printed<R>(rt: &R) -> Vec<u8>
 where
     R: Files<File = File> + Net + Clock + Threads + Wait + Sync + AllocGlobal,

@@ -1,8 +1,8 @@
-//! Tests of c8_play, and of what c8_net draws of a match that is watched.
+//! Tests of c8_play, and of what c8_net draws of a watched match.
 //!
-//! `console` has consoles whose keys are written down. `alone` plays a game at one, `waits` a match in which
-//! nobody else is there, `pair` one of two over the loopback. `rows` has the row below the screen, `drawing` the
-//! pictures of a match that is watched.
+//! `console` has consoles with written-down keys. `alone` plays a game at one, `waits` a match without other players,
+//! and `pair` a match of two over the loopback. `rows` has the row below the screen, and `drawing` the pictures of a
+//! watched match.
 #![tactic(auto)]
 
 #[cfg(test)]

@@ -24,13 +24,13 @@ static ONE: [Sent; 3] = [(10, b"w"), (20, b"w"), (30, b"w")];
 
 static TWO: [Sent; 3] = [(15, b"r"), (25, b"r"), (35, b"r")];
 
-/// The address of a socket that is no more, as text.
+/// The address of a socket that was closed, as text.
 fn free(rt: &HostRuntime) -> Result<String, Fail> {
     let socket = UdpSocket::bind(rt, SocketAddr::from((Ipv4Addr::LOCALHOST, 0)))?;
     Ok(format!(in rt.alloc(); "{}", socket.local_addr()?)?)
 }
 
-/// What a player prints who plays at one address with one at another, nothing where it is refused; and how often its
+/// What a player prints that plays at one address with one at another, nothing if it is refused; and how often its
 /// console was used.
 fn printed<'x, R>(
     rt: &'x R,
@@ -69,7 +69,7 @@ where
     (report, log.marks)
 }
 
-/// What a register has in a report, one line of which has the registers: `v 00 3f ...`; 0 where none has.
+/// The value of a register in a report, in its line `v 00 3f ...`; 0 if there is no such line.
 fn count_of(report: &[u8], register: usize) -> u8 {
     for place in 0..report.len() {
         if report[place..].starts_with(b"\nv ") {
@@ -91,12 +91,12 @@ fn is_of_some(report: &[u8], register: usize) -> bool {
     count > 0 && count < count_of(report, 0) / 2
 }
 
-/// Whether a console was made ready, written on, and given back.
+/// Whether a console was prepared, written on, and restored.
 fn is_given_back(marks: Marks) -> bool {
     marks.0 == 1 && marks.1 >= 2 && marks.2 == 1
 }
 
-/// Whether the game's file and all journals are there, which are removed.
+/// Removes the game's file and all journals, and returns whether they were there.
 fn are_removed(rt: &HostRuntime) -> bool {
     fs::remove_file(rt, GAME_FILE).is_ok()
         && fs::remove_file(rt, "play_one.journal").is_ok()
@@ -119,7 +119,7 @@ fn two_at_consoles_print_one_report(rt: HostRuntime) -> Result<(), Fail> {
     // the keys of both had their effect, for as long as strokes count
     assert!(rt; is_of_some(&one, 1) && is_of_some(&one, 3));
     assert!(rt; is_given_back(first) && is_given_back(second));
-    // no frame is enough: nobody answers, and it ends at once
+    // 0 frames are enough: nobody answers, and it ends at once
     let (stopped, _) = printed(&rt, 1, &ONE, "play_none.journal", here, there, Some(0));
     assert!(rt; stopped.starts_with(b"frames 0\n"));
     assert!(rt; are_removed(&rt));

@@ -5,7 +5,7 @@ use c8_live::Standing;
 use c8_play::StatusRow;
 use std::time::Duration;
 
-/// When, for whom it waits, and all that is written then.
+/// The time, the player that it waits for, and all that is written then.
 type Told = (u64, Option<u8>, &'static [u8]);
 
 /// The last row that is written.
@@ -39,13 +39,13 @@ fn rows() -> &'static [Told] {
     &ROWS
 }
 
-/// Whether just this is written.
+/// Whether exactly this is written.
 fn is_row(status: &mut StatusRow, millis: u64, waits: Option<u8>, wanted: &[u8]) -> bool {
     let waits = waits.and_then(Player::new);
     status.row(Duration::from_millis(millis), 7, waits) == wanted
 }
 
-/// Whether a row is written where it changes, and again once the desk has forgotten it.
+/// Whether a row is written when it changes, and again once the desk has forgotten it.
 fn are_rows() -> bool {
     let mut status = StatusRow::new(Duration::from_secs(0), Player::CHAIR, 2);
     for (millis, waits, wanted) in rows() {
@@ -62,7 +62,7 @@ fn a_row_is_written_where_it_changes(rt: HostRuntime) {
     assert!(rt; are_rows());
 }
 
-/// When, how the peer stands, for whom it waits, and all that is written then.
+/// The time, how far the peer is, the player that it waits for, and all that is written then.
 struct Look {
     millis: u64,
     confirmed: u32,
@@ -75,7 +75,7 @@ struct Look {
     wanted: &'static [u8],
 }
 
-/// Of player 2 of two. The longest rollback is that of all since the look before.
+/// Player 2 of two. The longest rollback is that of all since the last update.
 static OF_TWO: [Look; 5] = [
     Look {
         millis: 200,
@@ -135,7 +135,7 @@ static OF_TWO: [Look; 5] = [
     },
 ];
 
-/// Of player 3 of four.
+/// Player 3 of four.
 static OF_FOUR: [Look; 3] = [
     Look {
         millis: 200,
@@ -173,7 +173,7 @@ static OF_FOUR: [Look; 3] = [
     },
 ];
 
-/// Whether these are the rows of a player of a game with this many players, which begins at 100 milliseconds.
+/// Whether these are the rows of a player of a game with this many players; the row begins at 100 milliseconds.
 fn are_told(number: u8, players: u8, looks: &[Look]) -> bool {
     let me = Player::new(number).unwrap_or(Player::CHAIR);
     let mut status = StatusRow::new(Duration::from_millis(100), me, players);

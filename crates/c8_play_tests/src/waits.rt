@@ -1,4 +1,4 @@
-//! A match in which nobody else is there: how far a player gets, when, and what is seen of it.
+//! A match without other players: how far a player gets, when, and what is seen of it.
 
 ghost use Rattle.std.specs.Prelude.{[]};
 
@@ -16,7 +16,7 @@ use std::alloc::Global;
 /// How many frames are due a second.
 const RATE: u8 = 60;
 
-/// The row under the picture, after the first frame and once no more can be ticked.
+/// The row under the picture, after the first frame and at the window's limit.
 const FIRST: &[u8] = b"\x1b[17;1H\x1b[K1/0  2: 0 ms  back 0, longest 0";
 
 const WAITS: &[u8] = b"\x1b[17;1H\x1b[K1/0  waits for 2  2: 0 ms  back 0, longest 0";
@@ -26,7 +26,7 @@ static TIMES: [u64; 10] = [
     0, 16_666, 33_333, 50_000, 66_666, 83_333, 100_000, 116_666, 133_333, 150_000,
 ];
 
-/// A way that leads nowhere.
+/// A wire that leads nowhere.
 #[derive(Drop)]
 struct Nowhere;
 
@@ -44,7 +44,7 @@ impl Wire for Nowhere {
     }
 }
 
-/// What is asked for: ten turns.
+/// The command line: ten turns.
 fn asked_for() -> Asked<'static, 'static> {
     Asked {
         game: "",

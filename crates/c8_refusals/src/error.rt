@@ -1,4 +1,4 @@
-//! The refusals of openings, ticks, deliveries, sayings, departures, cuts and checkpoints.
+//! The refusals of openings, ticks, deliveries, sayings, leaves, cuts and checkpoints.
 ghost use Rattle.std.specs.Prelude.{◌≡◌};
 ghost use Rattle.c8_refusals.specs.Errors.{open_number_of, tick_number_of, refused_number_of, unsayable_number_of, leave_number_of, decide_number_of, check_number_of};
 
@@ -8,34 +8,33 @@ use c8_known::KnownError;
 use c8_wire::WireError;
 use thiserror::Error;
 
-/// Why a peer was not opened. The disk is given back with the refusal.
+/// Why a peer was not opened. The disk comes back with the refusal.
 #[derive(Clone, Copy, Debug, PartialEq, Eq, Hash, Error)]
 pub enum OpenError {
-    /// The journal begins with a HEAD of another game or another room. It stays as it was.
+    /// The journal begins with a HEAD of another game or room. It has not changed.
     #[error("a journal of another game or room")]
     WrongGame,
-    /// The journal begins with a HEAD of another player, or there is no such player in the game. It
-    /// stays as it was.
+    /// The journal begins with a HEAD of another player, or the game has no such player. The journal has not changed.
     #[error("no journal of this player, or no player of the game")]
     WrongPlayer,
-    /// The body of this number, counted from 0, is the first that spells no record, or one that the
-    /// rules don't allow there. The journal stays as it was.
+    /// The body of this number, counted from 0, is the first that spells no record, or one that may not stand there.
+    /// The journal has not changed.
     #[error("body {0} is no record that may stand there")]
     BadRecord(usize),
-    /// The last epoch was the last that there is. The journal stays as it was.
+    /// The last epoch is the greatest there is. The journal has not changed.
     #[error("the epochs are spent")]
     EpochsSpent,
-    /// Memory was refused, before the disk was touched.
+    /// Memory ran out, before the disk was touched.
     #[error("out of memory")]
     Memory,
-    /// The disk refused a call. The next opening finds what it would have found before, or what this
-    /// one found and then the record that it would have added.
+    /// The disk refused a call. The next opening finds the journal with or without the record that this one would have
+    /// added.
     #[error("the disk refused a call")]
     Disk(DiskError),
 }
 
 impl OpenError {
-    /// The number that stands for it in what a program prints.
+    /// The number that programs print.
     pub fn number(self) -> u8
         ensures { result ≡ open_number_of self }
     {
@@ -61,29 +60,29 @@ impl OpenError {
     }
 }
 
-/// Why a tick was refused. But for `Disk`, nothing has changed.
+/// Why a tick was refused. Only `Disk` changes anything.
 #[derive(Clone, Copy, Debug, PartialEq, Eq, Hash, Error)]
 pub enum TickError {
-    /// As many frames are not confirmed as the game's window has.
+    /// The peer has ticked as many frames beyond the confirmed ones as the game's window has.
     #[error("too far ahead of what is confirmed")]
     Threshold,
     /// All frames of the game have been ticked.
     #[error("the game is at its end")]
     End,
-    /// This peer's player has been dropped.
+    /// This peer's player was dropped, and its journal says so.
     #[error("this player has been dropped")]
     Dropped,
-    /// The disk refused the record. The peer is down: what its readers answer is as before the call,
-    /// and the next opening that reads the journal decides whether the input stands.
+    /// The disk refused the record. The peer is down: its readers answer as before the call, and the next opening that
+    /// reads the journal decides whether the input stands.
     #[error("the disk refused a call")]
     Disk(DiskError),
-    /// The disk refused a record before; the peer has to be opened again.
+    /// The disk failed before; the peer must be opened again.
     #[error("the peer is down")]
     Down,
 }
 
 impl TickError {
-    /// The number that stands for it in what a program prints.
+    /// The number that programs print.
     pub fn number(self) -> u8
         ensures { result ≡ tick_number_of self }
     {
@@ -107,51 +106,51 @@ impl TickError {
     }
 }
 
-/// Why a datagram was refused. But for `Desync` and `Disk`, nothing has changed.
+/// Why a datagram was refused. Only `Desync` and `Disk` change anything.
 #[derive(Clone, Copy, Debug, PartialEq, Eq, Hash, Error)]
 pub enum Refused {
-    /// It is no datagram.
+    /// The bytes are no datagram.
     #[error("{0}")]
     Wire(WireError),
-    /// It is a datagram, but not in the version of the format that the game names.
+    /// It is in another version of the format than the game names.
     #[error("not in the version of datagrams that the game names")]
     OtherWire,
     /// It is not for this peer, this match or these epochs.
     #[error("{0}")]
     Hand(HandError),
-    /// The inputs that it brings cannot be held, or the end that it tells cannot stand.
+    /// Its inputs cannot be held, or the end of a list that it names cannot stand.
     #[error("{0}")]
     Known(KnownError),
     /// It acknowledges more inputs than this player has entered.
     #[error("more inputs are acknowledged than there are")]
     BadAck,
-    /// It is for player one to say or to hear, and was not.
+    /// Only player 1 says it (FREEZE, CUT) or hears it (FROZEN).
     #[error("only player one says or hears this")]
     NotChair,
-    /// No LEAVE of the player stands at player one, or no FREEZE elsewhere.
-    #[error("the player has not been let go here")]
+    /// At player 1 the journal has no LEAVE of the player, elsewhere no FREEZE.
+    #[error("the player has not been dropped here")]
     NotFrozen,
     /// The player that it names cannot leave by it.
     #[error("this player does not leave so")]
     WrongLeaver,
-    /// The sender's machine differs from this peer's after the same number of frames. The alarm stands
-    /// until the next opening; nothing else has changed.
+    /// The sender's machine differs from this peer's after the same number of frames. The alarm stands until the next
+    /// opening; nothing else has changed.
     #[error("the sender's machine differs")]
     Desync,
-    /// The disk refused the record. The peer is down: what its readers answer is as before the call,
-    /// and the next opening that reads the journal decides whether the record stands.
+    /// The disk refused the record. The peer is down: its readers answer as before the call, and the next opening that
+    /// reads the journal decides whether the record stands.
     #[error("the disk refused a call")]
     Disk(DiskError),
-    /// The disk refused a record before; the peer has to be opened again.
+    /// The disk failed before; the peer must be opened again.
     #[error("the peer is down")]
     Down,
-    /// This peer's player has been dropped.
+    /// This peer's player was dropped, and its journal says so.
     #[error("this player has been dropped")]
     Dropped,
 }
 
 impl Refused {
-    /// The number that stands for it in what a program prints.
+    /// The number that programs print.
     pub fn number(self) -> u8
         ensures { result ≡ refused_number_of self }
     {
@@ -192,29 +191,29 @@ impl Refused {
 /// Why a datagram cannot be said. Nothing has changed.
 #[derive(Clone, Copy, Debug, PartialEq, Eq, Hash, Error)]
 pub enum Unsayable {
-    /// The disk refused a record; the peer has to be opened again.
+    /// The disk failed before; the peer must be opened again.
     #[error("the peer is down")]
     Down,
-    /// This peer's player has been dropped.
+    /// This peer's player was dropped, and its journal says so.
     #[error("this player has been dropped")]
     Dropped,
     /// The addressee is this peer, or not in the game.
     #[error("the addressee is no other player of the game")]
     NotAPlayer,
-    /// A FREEZE or CUT is player one's to say, a FROZEN the others' to player one, and a FREEZE is not
-    /// said to the leaver.
+    /// Only player 1 says FREEZE and CUT, and FREEZE not to the leaver; only the others say FROZEN, and only to player
+    /// 1.
     #[error("this is not this player's to say to that one")]
     NotMine,
-    /// The journal lacks the LEAVE, FREEZE or CUT of which this would tell.
+    /// The journal lacks the LEAVE, FREEZE or CUT that the datagram would report.
     #[error("the journal says nothing of the kind")]
     NoRecord,
-    /// A WELCOME wants the addressee's epoch, and all but HELLO and WELCOME an open link.
+    /// A WELCOME needs the addressee's epoch; all kinds but HELLO and WELCOME need an open link.
     #[error("no link to the addressee")]
     NoLink,
 }
 
 impl Unsayable {
-    /// The number that stands for it in what a program prints.
+    /// The number that programs print.
     pub fn number(self) -> u8
         ensures { result ≡ unsayable_number_of self }
     {
@@ -240,32 +239,32 @@ impl Unsayable {
     }
 }
 
-/// Why a player was not let go. But for `Disk`, nothing has changed.
+/// Why a player was not dropped. Only `Disk` changes anything.
 #[derive(Clone, Copy, Debug, PartialEq, Eq, Hash, Error)]
 pub enum LeaveError {
-    /// This peer is not player one.
-    #[error("only player one lets a player go")]
+    /// This peer is not player 1's.
+    #[error("only player one drops a player")]
     NotChair,
-    /// Player one does not leave.
+    /// Player 1 cannot be dropped.
     #[error("player one cannot leave")]
     Myself,
-    /// The player has been let go.
-    #[error("the player has been let go already")]
+    /// The player was dropped before.
+    #[error("the player has been dropped already")]
     Already,
-    /// The disk refused the record. The peer is down, and the next opening that reads the journal
-    /// decides whether the record stands.
+    /// The disk refused the record. The peer is down, and the next opening that reads the journal decides whether the
+    /// record stands.
     #[error("the disk refused a call")]
     Disk(DiskError),
-    /// The disk refused a record before; the peer has to be opened again.
+    /// The disk failed before; the peer must be opened again.
     #[error("the peer is down")]
     Down,
-    /// No such player is in the game.
+    /// The game has no such player.
     #[error("not a player of the game")]
     NotPlaying,
 }
 
 impl LeaveError {
-    /// The number that stands for it in what a program prints.
+    /// The number that programs print.
     pub fn number(self) -> u8
         ensures { result ≡ leave_number_of self }
     {
@@ -291,29 +290,29 @@ impl LeaveError {
     }
 }
 
-/// Why a leaver was not cut. But for `Disk`, nothing has changed.
+/// Why a leaver was not cut. Only `Disk` changes anything.
 #[derive(Clone, Copy, Debug, PartialEq, Eq, Hash, Error)]
 pub enum DecideError {
-    /// No LEAVE of the player stands, or this peer is not player one.
-    #[error("the player has not been let go")]
+    /// The journal has no LEAVE of the player, or this peer is not player 1's.
+    #[error("the player has not been dropped")]
     NotLeaving,
-    /// A player who stays has not answered, or holds more inputs of the leaver than this peer.
+    /// A stayer has not answered, or holds more inputs of the leaver than this peer.
     #[error("not all who stay have answered")]
     NotReady,
-    /// The player has been cut.
+    /// The player was cut before.
     #[error("the player has been cut already")]
     Already,
-    /// The disk refused the record. The peer is down, and the next opening that reads the journal
-    /// decides whether the record stands.
+    /// The disk refused the record. The peer is down, and the next opening that reads the journal decides whether the
+    /// record stands.
     #[error("the disk refused a call")]
     Disk(DiskError),
-    /// The disk refused a record before; the peer has to be opened again.
+    /// The disk failed before; the peer must be opened again.
     #[error("the peer is down")]
     Down,
 }
 
 impl DecideError {
-    /// The number that stands for it in what a program prints.
+    /// The number that programs print.
     pub fn number(self) -> u8
         ensures { result ≡ decide_number_of self }
     {
@@ -337,26 +336,26 @@ impl DecideError {
     }
 }
 
-/// Why nothing of a checkpoint was recorded. The peer stays as it was, unless the disk refused.
+/// Why nothing of a checkpoint was recorded. Only `Disk` changes anything.
 #[derive(Clone, Copy, Debug, PartialEq, Eq, Hash, Error)]
 pub enum CheckError {
     /// No checkpoint is under way, and no frame was confirmed after the last one.
     #[error("nothing was confirmed since the last checkpoint")]
     Nothing,
-    /// This peer's player has been dropped.
+    /// This peer's player was dropped, and its journal says so.
     #[error("this player has been dropped")]
     Dropped,
-    /// The disk refused the record. The peer is down, and the next opening that reads the journal
-    /// decides whether the record stands.
+    /// The disk refused the record. The peer is down, and the next opening that reads the journal decides whether the
+    /// record stands.
     #[error("the disk refused a call")]
     Disk(DiskError),
-    /// The disk refused a record before; the peer has to be opened again.
+    /// The disk failed before; the peer must be opened again.
     #[error("the peer is down")]
     Down,
 }
 
 impl CheckError {
-    /// The number that stands for it in what a program prints.
+    /// The number that programs print.
     pub fn number(self) -> u8
         ensures { result ≡ check_number_of self }
     {

@@ -1,8 +1,7 @@
-//! What a peer answers where it does nothing: one enum for each kind of call, with the state after
-//! each refusal.
+//! Why a peer refuses a call: one enum for each kind of call, with the state after each refusal.
 //!
-//! The numbers that programs print stand in `specs/Errors.antt`. When each refusal comes, and before
-//! which others, the calls of `c8_peer` say.
+//! `specs/Errors.antt` has the numbers that programs print. The contracts of the calls in `c8_peer` say when each
+//! refusal comes, and before which others.
 #![tactic(auto)]
 
 mod error;

@@ -1,4 +1,4 @@
--- Those who come back agree: they are the peers of a world.
+-- The peers that come back agree, as they are the peers of a world.
 use Rattle.std.proofs.Common.{◌≡◌, ◌<◌, ◌^◌, ◌+◌, ◌-◌, ℕ, List, length, map, Option, Some, None, Bool, true, false, refl, sym, ap, subst, ◌∙◌, arith}
 use Rattle.std.specs.Prelude.{slice_index_or, option_map}
 use Rattle.std.specs.List.{slice_get}
@@ -25,7 +25,7 @@ AgreeInWorlds = (rules : Rules) (room : ℕ) (w : World) (reads : Reads) (p r : 
 abbrev pub ArePeersOf : Rules → List (PeerValue MemDisk) → Type 0
 ArePeersOf rules peers = (i : ℕ) (q : PeerValue MemDisk) → slice_get peers i ≡ Some q → IsPeerOf rules (i + 1) q
 
--- no pending record counts: each peer is held
+-- no pending record counts: every peer is here, none is a disk
 abbrev none_is_read : Reads
 none_is_read p = false
 

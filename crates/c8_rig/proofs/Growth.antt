@@ -1,4 +1,4 @@
--- A lawful log stays lawful with a note more that may follow it.
+-- A lawful log stays lawful with one more note that may follow it.
 use Rattle.std.proofs.Common.{◌≡◌, ◌≤◌, ◌<◌, Some, zero, suc, length, arith, ◌⊎◌, inl, inr, ⊎_elim, ℕ, List, [], ◌∷◌, ◌++◌, refl, sym, ap, subst, ◌∙◌}
 use Rattle.std.specs.Prelude.{take, slice_index_or}
 use Rattle.std.specs.List.{All, slice_get}
@@ -16,7 +16,7 @@ Ends log front rest n m = (log ≡ front) × (n ≡ m)
 abbrev GoesBeyond : List NoteValue → List NoteValue → List NoteValue → NoteValue → NoteValue → Type 0
 GoesBeyond log front rest n m = (more : List NoteValue) × (log ≡ front ++ m ∷ more)
 
--- a note of a list that ends with another one is that one, or stands before it
+-- a note in a list that ends with another note is that last one, or stands before it
 last_or_before : (log front rest : List NoteValue) (n m : NoteValue) → log ++ n ∷ [] ≡ front ++ m ∷ rest → Ends log front rest n m ⊎ GoesBeyond log front rest n m
 last_or_before [] [] rest n m e = inl (refl, cc)
 last_or_before [] (x ∷ []) rest n m e = absurd cc
@@ -54,7 +54,7 @@ short_said most (Hear number watcher) bytes few = λ k d none. absurd (omega (ar
 short_said most (Seen watcher) bytes few = λ k d none. absurd (omega (arith, none))
 short_said most (Fresh watcher) bytes few = λ k d none. absurd (omega (arith, none))
 
--- what a book has with a note more
+-- what the book holds with one more note
 pub book_with : (players most : ℕ) (log log' : List NoteValue) (said said' : List (List ℕ)) (n : NoteValue) → log' ≡ log ++ n ∷ [] → said' ≡ said ++ said_in n.act n.bytes
     → said ≡ said_by log → All (λ bytes. length bytes ≤ most) said → IsLawful players log
     → 1 ≤ player_of n.act → player_of n.act ≤ players → WasSaid (said_by log) n.act n.bytes → length n.bytes ≤ most
@@ -84,7 +84,7 @@ no_saying (Hear number watcher) bytes more e = (refl, e)
 no_saying (Seen watcher) bytes more e = (refl, e)
 no_saying (Fresh watcher) bytes more e = (refl, e)
 
--- where nothing was said nobody has said anything
+-- if nothing was said, no player has said anything
 silent_part : (p : ℕ) (log : List NoteValue) → said_by log ≡ [] → said_by (part_of p log) ≡ []
 silent_part p [] e = refl
 silent_part p (n ∷ log) e =
@@ -97,11 +97,11 @@ silent_part p (n ∷ log) e =
 pub nobody_said : (p : ℕ) (log notes : List NoteValue) (said : List (List ℕ)) → length said ≡ 0 → said ≡ said_by log → notes ≡ part_of p log → said_by notes ≡ []
 nobody_said p log notes said none is part = ap said_by part ∙ silent_part p log (sym is ∙ nothing said none)
 
--- a copy of what stands at a place
+-- a copy of the packet at a place
 pub picked : (said pool : List (List ℕ)) (number : ℕ) (packet : List ℕ) → pool ≡ said → number < length pool → packet ≡ slice_index_or pool number packet → slice_get said number ≡ Some packet
 picked said pool number packet is within at =
     subst (λ (x : List (List ℕ)). slice_get x number ≡ Some packet) is (slice_get-get_or pool number packet within ∙ ap (λ (x : List ℕ). Some x) (sym at))
 
--- what is copied to the front of a buffer stands there
+-- what is copied to the front of a buffer is there
 pub copied : (bytes front rest : List ℕ) → front ≡ bytes → take (length bytes) (front ++ rest) ≡ bytes
 copied bytes front rest same = ap (λ (x : List ℕ). take (length bytes) (x ++ rest)) same ∙ take-append_seam bytes rest

@@ -48,9 +48,9 @@ peer_at_start rules p =
 plays_so : (rules : Rules) (p : ℕ) → IsPlayer rules p → is_player rules p ≡ true
 plays_so rules p plays = rw (le-leb 1 p plays.from_one, le-leb p rules.players plays.in_game) refl
 
--- ---- what an act makes of a world
+-- ---- what an act does to a world
 
--- One player's peer is this now, the others are as they were, and this was said.
+-- One player's peer has this new state, the others are unchanged, and this was said.
 record Becomes (rules : Rules) (w : World) (p : ℕ) (t : Stepped) (v : World) : Type 0 where
   size : length v.peers ≡ length w.peers
   here : peer_of v p ≡ t.state
@@ -65,7 +65,7 @@ stepped_becomes rules w p t size plays = record {
   said = refl;
 }
 
--- where nothing is said and the peer stays as it is
+-- if nothing is said and the peer does not change
 stays_becomes : (rules : Rules) (w : World) (p : ℕ) (t : Stepped) → t.state ≡ peer_of w p → said_in_reply t.reply ≡ [] → Becomes rules w p t w
 stays_becomes rules w p t same silent = record {
   size = refl;
@@ -100,9 +100,9 @@ open_becomes : (rules : Rules) (room : ℕ) (w : World) (p : ℕ) (h : Happening
     → Becomes rules w p (opened rules room p (peer_of w p) (found (peer_of w p) h.finds) h.opening) (open_at rules room w p h).world
 open_becomes rules room w p h size plays other = rw (plays_so rules p plays) (mode_opens rules room w p h (peer_of w p).mode size plays other)
 
--- ---- a note's turn
+-- ---- the event of a note
 
--- An event of a note: the peer becomes this, the others stay, and what is said is what the note has.
+-- An event of a note: the peer gets this state, the others are unchanged, and the note has what is said.
 record Turns (rules : Rules) (room : ℕ) (w : World) (n : NoteValue) (t : State) : Type 0 where
   world : World
   answer : Answer
@@ -114,7 +114,7 @@ record Turns (rules : Rules) (room : ℕ) (w : World) (n : NoteValue) (t : State
   said : world.said ≡ w.said ++ new
   spelled : AreSpelled (said_in n.act n.bytes) new
 
--- what a call at a peer makes of the world, where its note says nothing
+-- what a call does to the world if its note says nothing
 silent_turns : (rules : Rules) (room : ℕ) (w : World) (n : NoteValue) (t : State) (call : Call) → length w.peers ≡ rules.players → IsPlayer rules (player_of n.act)
     → IsNoSaying call → said_in n.act n.bytes ≡ []
     → ((luck : Luck) → (answer : Answer) × CanHappen rules room w (event_of n) answer (call_at rules w (player_of n.act) call luck).world)
@@ -139,7 +139,7 @@ silent_turns rules room w n t call size plays other quiet can is =
 abbrev with_luck : Luck → Happening
 with_luck luck = record { finds = false; opening = NoMemory; luck = luck; leaves = false }
 
--- what is said under a number is spelled by the bytes there
+-- the bytes under a number spell the packet that was said under it
 spelled_at : (bytes : List (List ℕ)) (packets : List Packet) (number : ℕ) (these : List ℕ) → AreSpelled bytes packets → slice_get bytes number ≡ Some these
     → (packet : Packet) × (slice_get packets number ≡ Some packet) × Spells these packet
 spelled_at [] packets number these are is = absurd cc
@@ -250,7 +250,7 @@ spelled_joined [] more (packet ∷ packets) others are also = absurd are
 spelled_joined (first ∷ rest) more [] others are also = absurd are
 spelled_joined (first ∷ rest) more (packet ∷ packets) others are also = (are.0, spelled_joined rest more packets others are.1 also)
 
--- Some notes have passed: what is left of each peer's part leads on from where it is.
+-- Some notes have happened: the rest of each peer's part leads on from its present state.
 record Passes (rules : Rules) (room : ℕ) (states : ℕ → State) (w : World) (rest more : List NoteValue) (said : List (List ℕ)) : Type 0 where
   world : World
   goes : GoesOn rules room w rest said world

@@ -55,7 +55,7 @@ at_end (x ∷ views) w v (suc seat) e = ⊎_elim (λ early. inl early) (λ late.
 no_owner : (p : ℕ) (v w : View) → w ≡ v → (Owns p w → ⊥) → Owns p v → ⊥
 no_owner p v w same never owns = never (subst (λ (x : View). Owns p x) (sym same) owns)
 
--- a view that owns no more than the one before it
+-- a view that owns no more than the one it replaces
 alone_set : (views : List View) (id : ℕ) (old w : View) → AreAlone views → get_elem? views id ≡ some old → ((p : ℕ) → Owns p w → Owns p old) → AreAlone (set views id w)
 alone_set views id old w alone at no_more p a b v x here there owns also =
     ⊎_elim
@@ -83,14 +83,14 @@ alone_snoc views w alone new p a b v x here there owns also =
     (at_end views w x b there))
     (at_end views w v a here)
 
--- no other view than those of the keeper and of the player changes with a note
+-- a note changes only the views of the keeper and of its player
 others_fit : (players : ℕ) (log : List NoteValue) (note : NoteValue) (seat : ℕ) (v : View) → seat ≢ 0 → (Owns (player_of note.act) v → ⊥) → Fits players log seat v → Fits players (log ++ note ∷ []) seat v
 others_fit players log note seat (Keeper n all) apart other fits = absurd (apart fits.0)
 others_fit players log note seat (Both n all p own) apart other fits = absurd (apart fits.0)
 others_fit players log note seat (Own p own) apart other fits = (fits.0, fits.1 ∙ sym (part_without p note log (λ e. other (sym e))))
 others_fit players log note seat Spent apart other fits = tt
 
--- an own list's player has an entry
+-- the player of an own list has an entry
 within : (players : ℕ) (log : List NoteValue) (seat : ℕ) (v : View) (p : ℕ) → Fits players log seat v → Owns p v → p ≤ players
 within players log seat (Keeper n all) p fits owns = absurd owns
 within players log seat (Own q own) p fits owns = subst (λ (x : ℕ). x ≤ players) owns fits.0
@@ -103,7 +103,7 @@ more_fit players log seat (Own p own) apart fits = (let few = fits.0 in omega (a
 more_fit players log seat (Both n all p own) apart fits = absurd (apart fits.0)
 more_fit players log seat Spent apart fits = tt
 
--- an owned list moves to the keeper's seat
+-- an own list moves to the keeper's seat
 alone_pair : (views : List View) (id other : ℕ) (n : ℕ) (all : List NoteValue) (p : ℕ) (own : List NoteValue) → AreAlone views
     → get_elem? views other ≡ some (Own p own) → AreAlone (set (set views id (Both n all p own)) other Spent)
 alone_pair views id other n all p own alone before q a b v w here there owns also =
@@ -139,7 +139,7 @@ module _ {S : Type 0} where
       once p zero b v w here there owns also = absurd (no_owner p v (Keeper 0 []) (some-injective _ _ here) (λ never. never) owns)
       once p (suc a) b v w here there owns also = absurd (some-ne-none v (sym here))
 
-  -- the next player has an entry
+  -- the next player gets an entry
   pub enlists : (id n : ℕ) (all : List NoteValue) → Splits {S = S} Keeps id (Keeper n all) (Keeper (n + 1) all) (Own (n + 1) [])
   enlists id n all s k at =
       let mine = k.fits id (Keeper n all) at in
@@ -158,7 +158,7 @@ module _ {S : Type 0} where
         later = λ p more. k.later p (omega (arith, more));
       }
 
-  -- the keeper takes an entry's view in
+  -- the keeper takes in the view of an entry
   pub joins : (id n : ℕ) (all : List NoteValue) (other p : ℕ) (own : List NoteValue) → Joins {S = S} Keeps id (Keeper n all) other (Own p own) (Both n all p own) Spent
   joins id n all other p own s k at apart there =
       let mine = k.fits id (Keeper n all) at in
@@ -177,7 +177,7 @@ module _ {S : Type 0} where
         later = k.later;
       }
 
-  -- each alone again
+  -- keeper and entry are separate again
   pub parts : (id n : ℕ) (all : List NoteValue) (p : ℕ) (own : List NoteValue) → Splits {S = S} Keeps id (Both n all p own) (Keeper n all) (Own p own)
   parts id n all p own s k at =
       let mine = k.fits id (Both n all p own) at in
@@ -195,7 +195,7 @@ module _ {S : Type 0} where
         later = k.later;
       }
 
-  -- something is noted of the player whose entry the keeper has in hand
+  -- one more note of the player whose entry joined the keeper
   pub notes : (slots id n : ℕ) (all : List NoteValue) (p : ℕ) (own : List NoteValue) (note : NoteValue) → player_of note.act ≡ p
       → Allows {S = S} Keeps slots id (Both n all p own, []) 0 (λ word. word) (λ _ after. after ≡ (Both n (all ++ note ∷ []) p (own ++ note ∷ []), []))
   notes slots id n all p own note of s k homes at room =
@@ -220,7 +220,7 @@ module _ {S : Type 0} where
         refl,
       )
 
-  -- the part that the entry has is the player's part of the log
+  -- the entry's part is its player's part of the log
   pub compares : (slots id n : ℕ) (all : List NoteValue) (p : ℕ) (own : List NoteValue) → Allows {S = S} Keeps slots id (Both n all p own, []) 0 (λ word. word) (Compares (Both n all p own, []))
   compares slots id n all p own s k homes at room =
       let mine = k.fits id (Both n all p own) at in (

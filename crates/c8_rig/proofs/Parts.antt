@@ -20,7 +20,7 @@ part_at p (n ∷ log) (suc i) note e own =
       | inr apart ↦ rw (ne_eqb (player_of n.act) p apart) (part_at p log i note e own)
     ]
 
--- ---- the entries, one after the other
+-- ---- the entries, one after another
 
 abbrev pub ArePartsBelow : List NoteValue → List EntryValue → ℕ → Type 0
 ArePartsBelow log entries place = (i : ℕ) (e : EntryValue) → i < place → slice_get entries i ≡ Some e → e.notes ≡ part_of e.player log
@@ -36,7 +36,7 @@ parts_more log entries place entry there is before i e within at =
       | inr apart ↦ before i e (omega (arith, within, apart)) at
     ]
 
--- an entry that is written back as it was
+-- an entry that is written back unchanged
 pub written_back : (entries : List EntryValue) (place : ℕ) (entry new : EntryValue) → entry ≡ slice_index_or entries place entry → new ≡ entry → set entries place new ≡ entries
 written_back entries place entry new at same = ap (λ (e : EntryValue). set entries place e) (same ∙ at) ∙ set-get_or entries place entry
 

@@ -53,7 +53,7 @@ module _ {D : Type 0} (g : Ghosts D) where
   abbrev pub AreDeeds : Type 0
   AreDeeds = (old new : PeerValue D) (call : Call) (reply : Reply) → IsCall call → IsAnswered g old call reply new → IsDone old.rules old.room old.me old.state (Does call (luck_of reply)) (Some reply) new.state
 
-  -- a call, with a note of an act that is just that call
+  -- a call, with a note of the act for it
   pub calls_on : AreDeeds → (e : EntryValue) (old new : PeerValue D) (act : Act) (bytes : List ℕ) (call : Call) (reply : Reply) → IsCall call → IsAnswered g old call reply new
       → (IsCalled old.rules old.room old.me old.state call IsAnything new.state → Follows old.rules old.room old.me old.state act bytes new.state)
       → (IsCallAt g old call new → IsPlayed g old act bytes new)
@@ -84,11 +84,11 @@ module _ {D : Type 0} (g : Ghosts D) where
     played = (p, (is, refl), refl);
   }
 
-  -- the same of an entry that is that one
+  -- the same for an entry that equals the one with the note
   pub with_entry : (before : EntryValue) (old new : PeerValue D) (after with_it : EntryValue) → after ≡ with_it → HasPlayed g before old with_it new → HasPlayed g before old after new
   with_entry before old new after with_it same is = subst (λ (e : EntryValue). HasPlayed g before old e new) (sym same) is
 
-  -- the same of a note that is there unless no memory was left for it
+  -- the same for a note that is there unless memory ran out
   pub noted : (before : EntryValue) (peer : PeerValue D) (after with_it : EntryValue) (result : Result (Unit {0}) AllocError) → HasPlayed g before peer with_it peer
       → OnOk result (after ≡ with_it) → OnErr result (after ≡ before) → HasPlayed g before peer after peer
   noted before peer after with_it (Ok done) is same none = with_entry before peer peer after with_it same is

@@ -23,7 +23,7 @@ use Rattle.c8_rig.specs.declared.gathering.Gathering.{Gathering}
 use Rattle.c8_rig.specs.declared.gathering.Gathering.TheVariants.{Gathered, Torn}
 use Rattle.c8_rig.proofs.Agreeing.{AgreeInWorlds, ArePeersOf, agreed}
 
--- ---- what threads begin with
+-- ---- what the threads begin with
 
 length_first : (ether : TableId) (n : ℕ) → length (first_entries ether n) ≡ n
 length_first ether n = length-map (range_with_len 1 n) _ ∙ length-range_with_len 1 n
@@ -38,7 +38,7 @@ first_at entry ether n jobs is i x within at =
     ap entry at ∙ sym (get_or-map entry jobs i x (entry x) within) ∙ ap (λ (entries : List EntryValue). slice_index_or entries i (entry x)) is
     ∙ get_or-map-range_with_len (λ p. record { ether = ether; player = p; notes = [] }) 1 n i (i + 1) (entry x) (omega (arith, within, size)) (omega arith)
 
--- ---- what they come back with
+-- ---- what the threads come back with
 
 some_inside : {X : Type 0} (o : Option X) (y : Option X) → option_map Some o ≡ Some y → (x : X) × (o ≡ Some x) × (y ≡ Some x)
 some_inside None y e = absurd cc
@@ -106,7 +106,7 @@ all_there rules turns ether n entries peers size played = (
       (subst (λ (x : EntryValue). x.ether ≡ ether) same a.ether_is, subst (λ (x : EntryValue). x.player ≡ i + 1) same a.player_is),
 )
 
--- ---- what they come to
+-- ---- the match
 
 abbrev pub AreWorlds : Type 0
 AreWorlds = (rules : Rules) (room : ℕ) (log : List NoteValue) (states : ℕ → State) → IsLawful rules.players log → AreLed rules room log states → IsWorld rules room log states
@@ -165,7 +165,7 @@ state_at peers i q at =
     ap (λ (j : ℕ). slice_index_or (map (λ (x : PeerValue MemDisk). x.state) peers) j never_opened) place
     ∙ get_or-map (λ (x : PeerValue MemDisk). x.state) peers i q never_opened within ∙ ap (λ (x : PeerValue MemDisk). x.state) (get_or_from_slice_get peers i q q at)
 
--- the last moment of the log is one of a match, in which each journal's checkpoints are true
+-- the last moment of the log is a moment of a match, in which each journal's checkpoints are true
 all_checked : AreMatches → (rules : Rules) (log : List NoteValue) (peers : List (PeerValue MemDisk)) → AreInRange rules → length peers ≡ rules.players → IsLawful rules.players log → AreLed rules 0 log (states_of peers)
     → (i : ℕ) (q : PeerValue MemDisk) → slice_get peers i ≡ Some q → HasTrueChecks rules (i + 1) q.state.journal
 all_checked matches rules log peers range size lawful led i q at =

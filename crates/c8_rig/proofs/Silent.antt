@@ -1,4 +1,4 @@
--- Nothing is said but by a saying.
+-- Only a saying says anything.
 use Rattle.std.proofs.Common.{◌≡◌, ◌+◌, ℕ, List, [], ◌∷◌, length, Option, Some, None, Ok, Err, refl}
 use Rattle.std.specs.Prelude.{Result, Bool, true, false, ◌==◌, ◌||◌, not, nat_le, nat_lt, is_some, if◌then◌else◌}
 use Rattle.c8_game.specs.Rules.{Rules}

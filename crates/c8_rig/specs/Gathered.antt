@@ -1,4 +1,4 @@
--- What the entries and the peers of all players come to.
+-- What the entries and the peers of all players become when a match ends.
 use Rattle.std.specs.Prelude.{◌≡◌, ◌↔◌, ℕ, ◌+◌, List, length, map, true, Bool, Some}
 use Rattle.std.specs.List.{slice_get}
 use Rattle.atomic_table.specs.Seated.{TableId}
@@ -20,11 +20,11 @@ AreAll ether players entries =
 abbrev pub AreParts : List NoteValue → List EntryValue → Type 0
 AreParts log entries = (i : ℕ) (e : EntryValue) → slice_get entries i ≡ Some e → e.notes ≡ part_of e.player log
 
--- Whether the peers of all players agree: as is told of what is known at them, player 1's first.
+-- Whether the peers of all players agree, player 1's first, by what each of them knows.
 abbrev pub HaveAgreedOrNot : {D : Type 0} → List (PeerValue D) → Bool → Type 0
 HaveAgreedOrNot {D} peers agree = (standings : List Standing) × (map known_at standings ≡ map known_by peers) × ((agree ≡ true) ↔ HaveAgreed standings)
 
--- The log is lawful and has each entry's notes as a part, and it is told whether the peers agree.
+-- The log is lawful, each entry's notes are its player's part of it, and `agree` says whether the peers agree.
 abbrev pub IsGathering : ℕ → List EntryValue → List (PeerValue MemDisk) → Gathering → Type 0
 IsGathering players entries peers (Gathered log held agree) =
     IsLawful players log.items × AreParts log.items entries × (held.items ≡ peers) × HaveAgreedOrNot peers agree

@@ -1,4 +1,4 @@
--- The log of peers that run in threads of their own: what each of them did, noted one after the other.
+-- The log of peers that run in threads of their own: what each of them did, one note after another.
 use Rattle.std.specs.Prelude.{◌≡◌, ◌≤◌, ◌==◌, ℕ, List, [], ◌∷◌, ◌++◌, map, Bool, Option, Some}
 use Rattle.std.specs.List.{slice_get, filter}
 use Rattle.c8_game.specs.Rules.{Rules}
@@ -15,7 +15,7 @@ use Rattle.c8_world.specs.World.{World, start, never_opened, peer_of, Act, Open,
 use Rattle.c8_world.specs.Agreement.{IsPlayer}
 use Rattle.c8_world.specs.Headline.{IsHeadline}
 
--- what a player's peer did, and the bytes that it said or heard in that; none in any other act
+-- what a player's peer did, and the bytes that it said or heard by that; no bytes for other acts
 pub record NoteValue : Type 0 where
   pub act : Act
   pub bytes : List ℕ
@@ -34,7 +34,7 @@ IsSaying (Hear number watcher) = ⊥
 IsSaying (Seen watcher) = ⊥
 IsSaying (Fresh watcher) = ⊥
 
--- a peer does what neither says nor delivers anything
+-- an act of a peer that neither says nor delivers anything
 abbrev pub IsDoing : Act → Type 0
 IsDoing (Open p) = Unit {0}
 IsDoing (Tick p keys) = Unit {0}
@@ -63,12 +63,12 @@ said_in (Hear number watcher) bytes = []
 said_in (Seen watcher) bytes = []
 said_in (Fresh watcher) bytes = []
 
--- all that was said, the first with the number 0
+-- all that was said; the first has the number 0
 abbrev pub said_by : List NoteValue → List (List ℕ)
 said_by [] = []
 said_by (n ∷ log) = said_in n.act n.bytes ++ said_by log
 
--- what is delivered is what was said under this number; and nobody watches
+-- what is delivered is what was said under this number; nobody watches
 abbrev pub WasSaid : List (List ℕ) → Act → List ℕ → Type 0
 WasSaid said (Open p) bytes = Unit {0}
 WasSaid said (Tick p keys) bytes = Unit {0}
@@ -82,7 +82,7 @@ WasSaid said (Hear number watcher) bytes = ⊥
 WasSaid said (Seen watcher) bytes = ⊥
 WasSaid said (Fresh watcher) bytes = ⊥
 
--- A note may follow those of a log of so many players: its peer is one of theirs, and what it delivers was said before.
+-- A note may follow a log of `players` players: its peer is one of theirs, and what it delivers was said before.
 pub record MayFollow (players : ℕ) (log : List NoteValue) (n : NoteValue) : Type 0 where
   pub from_one : 1 ≤ player_of n.act
   pub in_game : player_of n.act ≤ players
@@ -97,14 +97,14 @@ part_of p log = filter (λ n. player_of n.act == p) log
 
 -- ---- what a peer does by its part of a log
 
--- A call at a peer, with an answer of which this holds: one deed, with whatever luck of the disk.
+-- A call at a peer, with an answer that satisfies `Tells`: one deed, whatever the disk does.
 pub record IsCalled (rules : Rules) (room p : ℕ) (s : State) (call : Call) (Tells : Option Reply → Type 0) (t : State) : Type 0 where
   pub luck : Luck
   pub answer : Option Reply
   pub done : IsDone rules room p s (Does call luck) answer t
   pub tells : Tells answer
 
--- An opening of a peer: one deed, whatever becomes of it.
+-- An opening of a peer: one deed, whatever comes of it.
 pub record IsOpenedAnew (rules : Rules) (room p : ℕ) (s t : State) : Type 0 where
   pub finds : Bool
   pub opening : Opening
@@ -114,7 +114,7 @@ pub record IsOpenedAnew (rules : Rules) (room p : ℕ) (s t : State) : Type 0 wh
 abbrev pub IsAnything : Option Reply → Type 0
 IsAnything answer = Unit {0}
 
--- What is noted of player p's peer makes of it this state: a Say says its bytes, and a Give delivers what its bytes say.
+-- The note leads player p's peer to this state: a Say says its bytes, and a Give delivers what its bytes spell.
 abbrev pub Follows : Rules → ℕ → ℕ → State → Act → List ℕ → State → Type 0
 Follows rules room p s (Open q) bytes t = IsOpenedAnew rules room p s t
 Follows rules room p s (Tick q keys) bytes t = IsCalled rules room p s (calls.Tick keys) IsAnything t
@@ -128,12 +128,12 @@ Follows rules room p s (Hear number watcher) bytes t = ⊥
 Follows rules room p s (Seen watcher) bytes t = ⊥
 Follows rules room p s (Fresh watcher) bytes t = ⊥
 
--- a list of notes of one peer leads from a state to another
+-- a list of notes of one peer leads from one state to another
 abbrev pub Leads : Rules → ℕ → ℕ → State → List NoteValue → State → Type 0
 Leads rules room p s [] t = t ≡ s
 Leads rules room p s (n ∷ notes) t = (u : State) × Follows rules room p s n.act n.bytes u × Leads rules room p u notes t
 
--- each player's state is one that its part of the log leads to, from before its peer was first opened
+-- each player's part of the log leads to this state, from before its peer was first opened
 abbrev pub AreLed : Rules → ℕ → List NoteValue → (ℕ → State) → Type 0
 AreLed rules room log states = (p : ℕ) → IsPlayer rules p → Leads rules room p never_opened (part_of p log) (states p)
 
@@ -149,7 +149,7 @@ AreSpelled [] (packet ∷ packets) = ⊥
 AreSpelled (bytes ∷ rest) [] = ⊥
 AreSpelled (bytes ∷ rest) (packet ∷ packets) = Spells bytes packet × AreSpelled rest packets
 
--- The events of the notes lead from a world to this one, in which that was said which these bytes spell.
+-- The events of the notes lead from one world to another, in which these bytes spell all that was said.
 pub record GoesOn (rules : Rules) (room : ℕ) (w : World) (notes : List NoteValue) (said : List (List ℕ)) (v : World) : Type 0 where
   pub answers : List Answer
   pub chain : Chain rules room w (map event_of notes) answers v
@@ -161,8 +161,8 @@ pub record IsWorld (rules : Rules) (room : ℕ) (log : List NoteValue) (states :
   pub goes : GoesOn rules room (start rules) log (said_by log) world
   pub peers : (p : ℕ) → IsPlayer rules p → peer_of world p ≡ states p
 
--- Two moments of a log, after a front of it and some notes later: the world of the first goes on to that of the second, the rest of
--- each player's part leads its peer on to this state, and all is so of the two that is so of any two moments of a match.
+-- Two moments of a log, after a front of it and some notes later. The world of the first leads to that of the second,
+-- the rest of each player's part leads its peer on to this state, and both satisfy all that two moments of a match do.
 pub record AreMoments (rules : Rules) (room : ℕ) (front between rest : List NoteValue) (states : ℕ → State) : Type 0 where
   pub earlier : World
   pub later : World

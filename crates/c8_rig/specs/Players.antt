@@ -1,4 +1,4 @@
--- What a worker makes of its entry and its peer.
+-- What a worker does to its entry and its peer.
 use Rattle.std.specs.Prelude.{◌≡◌, ℕ, List, [], ◌∷◌, ◌++◌}
 use Rattle.c8_game.specs.Rules.{Rules}
 use Rattle.c8_disk.specs.declared.disk.Disk.{Ghosts}
@@ -13,11 +13,11 @@ use Rattle.c8_rig.specs.Log.{NoteValue, Leads}
 use Rattle.c8_rig.specs.Tokens.{EntryValue}
 
 module _ {D : Type 0} (disk : Ghosts D) where
-  -- The peer answered this call as its contract says: a disk that is blamed has its cause, and was asked for nothing else.
+  -- The peer answered this call as its contract says: it blames the disk only for a failure, and only appends a record.
   abbrev pub IsCallAt : PeerValue D → Call → PeerValue D → Type 0
   IsCallAt old call new = (reply : Reply) × IsAnswered disk old call reply new
 
-  -- A note stands for what one call makes of the peer. A saying changes nothing, and no peer that is open is opened.
+  -- A note stands for one call of the peer. A saying changes nothing, and an open peer is not opened again.
   abbrev pub IsPlayed : PeerValue D → Act → List ℕ → PeerValue D → Type 0
   IsPlayed old (Open q) bytes new = ⊥
   IsPlayed old (Tick q keys) bytes new = IsCallAt old (calls.Tick keys) new
@@ -31,13 +31,13 @@ module _ {D : Type 0} (disk : Ghosts D) where
   IsPlayed old (Seen watcher) bytes new = ⊥
   IsPlayed old (Fresh watcher) bytes new = ⊥
 
-  -- the calls of these notes, one after another, and no change of the peer between them
+  -- the calls of these notes, one after another; between them the peer does not change
   abbrev pub ArePlayed : PeerValue D → List NoteValue → PeerValue D → Type 0
   ArePlayed old [] new = new ≡ old
   ArePlayed old (n ∷ notes) new = (mid : PeerValue D) × IsPlayed old n.act n.bytes mid × ArePlayed mid notes new
 
-  -- Notes were added, and their calls lead from the old peer to the new one, as the steps of the definitions do. The entry stays one
-  -- player's at one ether, the peer one player's in one match.
+  -- Notes were added, and their calls lead from the old peer to the new one by the steps of the definitions. The entry
+  -- keeps its player and ether, and the peer its player and match.
   pub record HasPlayed (before : EntryValue) (old : PeerValue D) (after : EntryValue) (new : PeerValue D) : Type 0 where
     pub ether : after.ether ≡ before.ether
     pub player : after.player ≡ before.player
@@ -49,7 +49,7 @@ module _ {D : Type 0} (disk : Ghosts D) where
     pub leads : Leads old.rules old.room old.me old.state notes new.state
     pub played : ArePlayed old notes new
 
-  -- The peer was opened on this disk, of which the first note tells, and made the calls of the other notes.
+  -- The peer was opened on this disk, as the first note says, and made the calls of the other notes.
   pub record HasPlayedOn (rules : Rules) (player : ℕ) (begun : D) (notes : List NoteValue) (peer : PeerValue D) : Type 0 where
     pub opened : PeerValue D
     pub is_opened : IsOpened disk begun rules 0 player opened
@@ -61,7 +61,7 @@ module _ {D : Type 0} (disk : Ghosts D) where
 abbrev pub away_with : List Record → State
 away_with journal = record never_opened { journal = journal }
 
--- it is the peer of this player in the game, in room 0
+-- the peer of this player in the game, in room 0
 pub record IsPeerOf {D : Type 0} (rules : Rules) (player : ℕ) (q : PeerValue D) : Type 0 where
   pub rules_are : q.rules ≡ rules
   pub room_is : q.room ≡ 0

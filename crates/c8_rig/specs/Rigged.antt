@@ -17,13 +17,13 @@ use Rattle.c8_rig.specs.Gathered.{HaveAgreedOrNot}
 use Rattle.c8_rig.specs.declared.gathering.Gathering.{Gathering}
 use Rattle.c8_rig.specs.declared.gathering.Gathering.TheVariants.{Gathered, Torn}
 
--- A player's disk for so many turns: new, with room for a record a turn and two more, and for the last gate; it serves four calls a turn
--- and 16 more.
+-- A player's disk for `turns` turns: new, with room for a record a turn, two more, and the last gate. It serves four
+-- calls a turn and 16 more.
 abbrev pub IsDiskFor : ℕ → MemDisk → Type 0
 IsDiskFor turns disk = value_of disk ≡ new_value (144 * (turns + 2) + 1) (4 * turns + 16)
 
--- What a thread makes of an entry that has no notes, on an empty disk: if it comes back with a peer, the entry's notes lead to that,
--- and the peer made their calls on this disk.
+-- What a thread does to an entry without notes, on an empty disk. If it comes back with a peer, the entry's notes lead
+-- to that peer, and the peer made their calls on this disk.
 pub record HasWorked (rules : Rules) (disk : MemDisk) (before after : EntryValue) (peer : Option (PeerValue MemDisk)) : Type 0 where
   pub ether : after.ether ≡ before.ether
   pub player : after.player ≡ before.player
@@ -31,7 +31,7 @@ pub record HasWorked (rules : Rules) (disk : MemDisk) (before after : EntryValue
   pub led : IfSome peer (λ q. Leads rules 0 before.player never_opened after.notes q.state)
   pub played : IfSome peer (λ q. HasPlayedOn ghosts rules before.player disk after.notes q)
 
--- These notes' calls made the peer, on a new disk.
+-- The calls of these notes made the peer, on a new disk.
 pub record IsMadeBy (rules : Rules) (turns player : ℕ) (notes : List NoteValue) (q : PeerValue MemDisk) : Type 0 where
   pub disk : MemDisk
   pub new_disk : IsDiskFor turns disk
@@ -53,15 +53,15 @@ pub record IsPlayedAt (rules : Rules) (turns : ℕ) (ether : TableId) (entries :
 abbrev pub states_of : List (PeerValue MemDisk) → ℕ → State
 states_of peers p = slice_index_or (map (λ (q : PeerValue MemDisk). q.state) peers) (p - 1) never_opened
 
--- What a match in threads comes to.
+-- The end of a match in threads.
 --
 -- - `size`, `plays`: there is a peer of each player of the game, player 1's first.
--- - `made`: the calls of its part of the log made each of them, on a new disk for so many turns; a disk that is blamed in one has its
---   cause. A call that changes nothing may stand beside them. How many turns there were is not said.
--- - `lawful`, `world`: the log is that of a world, in which the peers are as these.
+-- - `made`: each peer was made by the calls of its part of the log, on a new disk for `turns` turns; it blames the disk
+--   only for a failure. It may have made other calls that change nothing. How many turns there were is not claimed.
+-- - `lawful`, `world`: the log leads to a world with these peers.
 -- - `moments`: any two moments of it agree.
--- - `checks`: what a peer's journal says of checkpoints is true, so that its machine is the serial run of its confirmed rows.
--- - `agrees`, `yes`: it is told whether the peers do, and they do.
+-- - `checks`: the checkpoints of each peer's journal are true, so its machine is the serial run of its confirmed rows.
+-- - `agrees`, `yes`: the answer says whether the peers agree, and it is yes.
 pub record IsRiggedLog (rules : Rules) (turns : ℕ) (log : List NoteValue) (peers : List (PeerValue MemDisk)) (agree : Bool) : Type 0 where
   pub size : length peers ≡ rules.players
   pub plays : (i : ℕ) (q : PeerValue MemDisk) → slice_get peers i ≡ Some q → IsPeerOf rules (i + 1) q

@@ -1,17 +1,17 @@
--- What the clauses of an ether see of its tokens.
+-- How the clauses of an ether see its tokens.
 use Rattle.std.specs.Prelude.{◌≡◌, ℕ, List, [], ◌∷◌, ◌++◌, map}
 use Rattle.std.specs.List.{range_with_len}
 use Rattle.atomic_table.specs.Seated.{TableId}
 use Rattle.c8_world.specs.World.{Act, Give}
 use Rattle.c8_rig.specs.Log.{NoteValue}
 
--- The keeper: of which ether it is, how many players have an entry, and the whole log.
+-- The keeper: its ether, how many players have an entry, and the whole log.
 pub record KeeperValue : Type 0 where
   pub ether : TableId
   pub players : ℕ
   pub log : List NoteValue
 
--- An entry: of which ether it is, whose, and what was noted of the player's peer.
+-- An entry: its ether, its player, and the notes of the player's peer.
 pub record EntryValue : Type 0 where
   pub ether : TableId
   pub player : ℕ
@@ -22,11 +22,11 @@ pub record EtherValue : Type 0 where
   pub ether : TableId
   pub players : ℕ
 
--- entries of so many players, player 1's first, of whom nothing was noted
+-- the entries of this number of players, player 1's first, without notes
 abbrev pub first_entries : TableId → ℕ → List EntryValue
 first_entries ether players = map (λ p. record { ether = ether; player = p; notes = [] }) (range_with_len 1 players)
 
--- the entry with a note more
+-- the entry with one more note
 abbrev pub with_note : EntryValue → Act → List ℕ → EntryValue
 with_note entry act bytes = record entry { notes = entry.notes ++ record { act = act; bytes = bytes } ∷ [] }
 

@@ -1,4 +1,4 @@
-//! What the peers of a match have in common: a log of what each did, and all that was said.
+//! What the threads of a match share: a log of what each peer did, and all that was said.
 ghost use Rattle.std.specs.Prelude.{◌≡◌, ◌≤◌, ◌<◌, ◌+◌, ℕ, List, [], ◌∷◌, ◌++◌, take, drop, length, Some, IfOk, IfSome, IfNone, IfErr, true, OnOk, OnErr, vec_len, vec_capacity};
 ghost use Rattle.std.specs.List.{slice_get};
 ghost use Rattle.c8_world.specs.Events.{act_of};
@@ -35,7 +35,7 @@ impl Room for Brand {
     ghost ether = { no_ether };
 }
 
-/// Under the lock: the log, and what was said in it, the first with the number 0.
+/// The locked content: the log, and what was said in it; the first has the number 0.
 #[derive(Drop)]
 struct Book<B: Room> {
     notes: Vec<Note>,
@@ -61,7 +61,7 @@ impl<B: Room> Model for Book<B> {
         × IsLawful B.players b.notes.items };
 }
 
-/// A player's way into an ether, with what was noted of the player's peer.
+/// A player's access to an ether, with the notes of the player's peer.
 #[derive(Drop)]
 pub struct Entry {
     player: Player,
@@ -83,14 +83,14 @@ impl Model for Entry {
 }
 
 impl Entry {
-    /// Whose it is.
+    /// The player.
     pub fn player(&self) -> Player
         ensures { result.number ≡ self.now.player }
     {
         self.player
     }
 
-    /// What was noted of the player's peer.
+    /// The notes of the player's peer.
     pub fn notes(&self) -> &[Note]
         ensures { result.now ≡ self.now.notes }
     {
@@ -99,7 +99,7 @@ impl Entry {
 }
 
 impl<B: Room> Book<B> {
-    /// Notes something of the player whose part it is; at an error for want of memory nothing changes.
+    /// Adds a note of the part's player. If memory runs out, nothing changes.
     fn add(
         &mut self,
         tokens: &Tokens,
@@ -139,7 +139,7 @@ impl<B: Room> Book<B> {
         Ok(part)
     }
 
-    /// Whether an entry's notes are its player's part of the log. It is proved that they are.
+    /// Whether an entry's notes are its player's part of the log. Proved: they are.
     fn is_part(&mut self, tokens: &Tokens, entry: &mut Entry) -> bool
         requires tokens { tokens.now ≡ B.ether }
         requires ether { entry.old.ether ≡ B.ether }
@@ -155,8 +155,8 @@ impl<B: Room> Book<B> {
         is_part(&self.notes, entry.player, &entry.notes)
     }
 
-    /// Picks one of what was said: its number, and a copy. None where nothing was said, so nothing by the
-    /// player whose part it is.
+    /// Picks one of the packets that were said, and returns its number and a copy. `None` if nothing was said, and so
+    /// nothing by the part's player.
     fn pick(&mut self, tokens: &Tokens, part: Part, choice: u64) -> (Part, Option<(u64, Packet)>)
         requires tokens { tokens.now ≡ B.ether }
         requires ether { part.ether ≡ B.ether }
@@ -166,7 +166,7 @@ impl<B: Room> Book<B> {
         ensures some { IfSome result.1 (λ r. slice_get (said_by self.old) r.0 ≡ Some r.1) }
         ensures fits { IfSome result.1 (λ r. length r.1 ≤ LONGEST_DATAGRAM) }
     {
-        // For the proof: what was said by the player is in the log.
+        // For the proof: what the player said is in the log.
         let part = tokens.compare(&mut self.keeper, part);
         let count = self.said.len() as u64;
         if count == 0 {
@@ -180,7 +180,7 @@ impl<B: Room> Book<B> {
     }
 }
 
-/// Adds what is said in an act, if anything is.
+/// Adds what an act says, if it says anything.
 fn keep_said(said: &mut Vec<Packet>, act: Act, bytes: Packet)
     requires { vec_len said.old < vec_capacity said.old }
     ensures { said.new.items ≡ said.old.items ++ said_in (act_of act) bytes }
@@ -190,8 +190,7 @@ fn keep_said(said: &mut Vec<Packet>, act: Act, bytes: Packet)
     }
 }
 
-/// An ether whose log is empty, before the caller's proof names it. Contracts see how many players it
-/// has.
+/// An ether with an empty log, before the caller's proof names it. Contracts see how many players it has.
 #[derive(Drop)]
 pub struct Unnamed {
     players: u8,
@@ -212,8 +211,8 @@ impl Model for Unnamed {
 }
 
 impl Unnamed {
-    /// An ether for the players of a game, with an entry for each, player 1 first. The error is want of
-    /// memory.
+    /// Opens an ether for the players of a game, with an entry for each, player 1's first. The error is that memory ran
+    /// out.
     pub fn open(alloc: Global, game: &Game) -> Result<(Unnamed, Vec<Entry>), AllocError>
         ensures players { IfOk result (λ r. r.0.players ≡ game.now.players) }
         ensures entries { IfOk result (λ r.
@@ -241,7 +240,7 @@ impl Unnamed {
         Ok((ether, entries))
     }
 
-    /// The ether, under the name that it has.
+    /// The ether, under the name that the proof picked.
     pub fn named<B: Room>(self, alloc: Global) -> Ether<B>
         requires ether { self.ether ≡ B.ether }
         requires players { self.players ≡ B.players }
@@ -264,7 +263,7 @@ impl Unnamed {
     }
 }
 
-/// What the peers of a match have in common, for threads to share: a log under a lock.
+/// What the peers of a match share between their threads: a log under a lock.
 #[derive(Drop)]
 pub struct Ether<B: Room> {
     tokens: Tokens,
@@ -273,8 +272,8 @@ pub struct Ether<B: Room> {
 }
 
 impl<B: Room> Ether<B> {
-    /// Notes that the player's peer has said these bytes. The error is want of memory, and then nothing
-    /// has changed, as in the calls below.
+    /// Notes that the player's peer has said these bytes. The error is that memory ran out; then nothing has changed.
+    /// The same holds for the calls below.
     pub fn post<R: Wait>(
         &self,
         rt: &R,
@@ -292,7 +291,7 @@ impl<B: Room> Ether<B> {
         self.enter(rt, entry, act, bytes)
     }
 
-    /// Notes what the player's peer is to do: an opening, a tick, a leave, a decision or a checkpoint.
+    /// Notes what the player's peer is about to do: an opening, a tick, a leave, a decision or a checkpoint.
     pub fn note<R: Wait>(&self, rt: &R, entry: &mut Entry, act: Act) -> Result<(), AllocError>
         requires ether { entry.old.ether ≡ B.ether }
         requires player { player_of (act_of act) ≡ entry.old.player }
@@ -303,10 +302,9 @@ impl<B: Room> Ether<B> {
         self.enter(rt, entry, act, &[])
     }
 
-    /// Draws one of the datagrams that were said, by its choice, and notes that it is delivered to the
-    /// player. Copies its bytes to the front of `out` and answers how many; the rest of `out` stays. None
-    /// where nothing was said. The error is want of memory. At None and at an error nothing changes, `out`
-    /// included.
+    /// Draws one of the datagrams that were said, by `choice`, and notes that it is delivered to the player. It copies
+    /// the bytes to the front of `out` and returns their number; the rest of `out` is unchanged. `None` if nothing was
+    /// said. The error is that memory ran out. After `None` and after an error nothing has changed, `out` included.
     pub fn draw<R: Wait>(
         &self,
         rt: &R,
@@ -352,7 +350,7 @@ impl<B: Room> Ether<B> {
         }
     }
 
-    /// The log, where each entry's notes are its player's part of it. It is proved that they are.
+    /// The log, if each entry's notes are its player's part of it. Proved: they are.
     pub(crate) fn into_log(self, entries: Vec<Entry>) -> Option<Vec<Note>>
         requires { AreAll B.ether B.players entries.items }
         ensures whole { IfNone result ⊥ }
@@ -370,7 +368,7 @@ impl<B: Room> Ether<B> {
         Some(book.notes)
     }
 
-    /// Notes what is neither heard, nor of more bytes than a datagram.
+    /// Adds a note of an act that delivers nothing, with at most a datagram's bytes.
     fn enter<R: Wait>(
         &self,
         rt: &R,

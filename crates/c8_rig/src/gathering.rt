@@ -15,23 +15,22 @@ use c8_peer::Peer;
 use c8_world::{Standing, all_agree};
 use std::alloc::{AllocError, Global};
 
-/// What the entries and the peers of all players come to.
+/// The log, the peers and the verdict of a match.
 #[derive(Drop)]
 pub enum Gathering<'g> {
-    /// Each entry's notes are its player's part of the log. The peers are in order of number; they agree
-    /// where any two whom player one has not let go have the same rows, as far as both count frames as
-    /// confirmed.
+    /// Each entry's notes are its player's part of the log. The peers are in order of number. `agree` says whether any
+    /// two players that were not dropped have the same rows up to the lower of their confirmed counts.
     Gathered {
         log: Vec<Note>,
         peers: Vec<Peer<'g, MemDisk>>,
         agree: bool,
     },
-    /// An entry's notes are not its player's part of the log. It is proved that this never comes.
+    /// An entry's notes are not its player's part of the log. Proved: this never happens.
     Torn,
 }
 
-/// Brings together the entries of an ether and the peers of all its players, each at its place, player 1's
-/// first. The error is want of memory.
+/// Joins the entries of an ether and the peers of all its players, both in order, player 1's first. The error is that
+/// memory ran out.
 pub fn gather<'g, B: Room>(
     alloc: Global,
     ether: Ether<B>,

@@ -1,4 +1,4 @@
-//! What a caller may rely on: a log is a list of events of a world, so its peers agree.
+//! Facts for callers: a log is a list of events of a world, so its peers agree.
 ghost use Rattle.std.specs.Prelude.{◌≡◌, ◌<◌, ◌^◌, ◌++◌, ℕ, List, []};
 ghost use Rattle.c8_game.specs.Rules.{Rules, AreInRange};
 ghost use Rattle.c8_peer.specs.State.{State};
@@ -17,9 +17,9 @@ use c8_peer::laws::{calls_are_deeds, deliveries_are_calls};
 use c8_wire::laws::what_is_spelled_is_read;
 use c8_world::laws::any_two_moments_agree;
 
-/// A lawful log, and for each player a state that its part of the log leads to: some world has these
-/// peers, to which the events of the log lead from the start. No part leads through an opening of a peer
-/// that is open, so the law does not speak of a log with one.
+/// Take a lawful log, and for each player a state that its part of the log leads to. Then the events of the log lead
+/// from the start to a world with these peers. No part leads through an opening of an open peer, so the law says
+/// nothing about such a log.
 pub fn a_log_is_a_world()
     ensures { (rules : Rules) (room : ℕ) (log : List NoteValue) (states : ℕ → State)
         → IsLawful rules.players log → AreLed rules room log states → IsWorld rules room log states }
@@ -27,8 +27,8 @@ pub fn a_log_is_a_world()
     what_is_spelled_is_read();
 }
 
-/// So any two moments of such a log agree, as any two of a match do: the one after a front of it, the
-/// other some notes later.
+/// Any two moments of such a log agree, as any two moments of a match do: one after a front of the log, the other some
+/// notes later.
 pub fn moments_of_a_log_agree()
     ensures { (rules : Rules) (room : ℕ) (front between rest : List NoteValue)
         (states : ℕ → State)
@@ -41,8 +41,8 @@ pub fn moments_of_a_log_agree()
     any_two_moments_agree();
 }
 
-/// How a peer plays on, with a note of each of its calls: by none (`still`), by one of each kind but a
-/// checkpoint, and by some after others (`joined`).
+/// How a peer plays on with a note of each of its calls: no call (`still`), one call of each kind but a checkpoint, and
+/// one list after another (`joined`).
 pub fn peers_play_on<D: Disk>()
     ensures still { (e : EntryValue) (p : PeerValue D) → HasPlayed D.Disk e p e p }
     ensures ticks { (e : EntryValue) (old new : PeerValue D) (player keys : ℕ) (reply : Reply)

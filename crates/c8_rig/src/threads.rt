@@ -32,9 +32,9 @@ struct Played<'g> {
     peer: Option<Peer<'g, MemDisk>>,
 }
 
-/// The players of a game, each in a thread of its own, over one ether, in room 0, on empty disks: each
-/// takes so many turns, by a generator of the seed and the player's number, as long as the gate lets
-/// it. The error is want of memory, or an opening that was refused.
+/// Plays a match in room 0: each player in a thread of its own, over one ether, on an empty disk. Each takes `turns`
+/// turns, drawn by a generator of the seed and the player's number, as long as the gate lets it. The error is that
+/// memory ran out, or that an opening was refused.
 pub fn rig<'g, R: Threads + Wait + Sync, G: Watch + Sync>(
     rt: &R,
     alloc: Global,
@@ -50,7 +50,7 @@ pub fn rig<'g, R: Threads + Wait + Sync, G: Watch + Sync>(
     rigged::<Brand, R, G>(rt, alloc, game, ether, entries, seed, turns, gate)
 }
 
-/// The same over an ether that the proof names.
+/// The part of `rig` that needs the proof: the ether has a name.
 fn rigged<'g, B: Room + Send + Sync, R: Threads + Wait + Sync, G: Watch + Sync>(
     rt: &R,
     alloc: Global,
@@ -81,7 +81,7 @@ fn rigged<'g, B: Room + Send + Sync, R: Threads + Wait + Sync, G: Watch + Sync>(
     together(alloc, game, turns, ether, entries, peers)
 }
 
-/// What each thread begins with: its entry, and a new disk for so many turns.
+/// What each thread begins with: its entry, and a new disk for `turns` turns.
 fn jobs_of(alloc: Global, entries: Vec<Entry>, turns: u16) -> Result<Vec<Job>, AllocError>
     ensures entries { IfOk result (λ jobs. map (λ job. job.entry) jobs.items ≡ entries.items) }
     ensures disks { IfOk result (λ jobs. All (λ job. IsDiskFor turns job.disk) jobs.items) }
@@ -95,7 +95,7 @@ fn jobs_of(alloc: Global, entries: Vec<Entry>, turns: u16) -> Result<Vec<Job>, A
     Ok(jobs)
 }
 
-/// One thread.
+/// Runs one thread.
 fn work_at<'g, B: Room, R: Wait, G: Watch>(
     rt: &R,
     alloc: Global,
@@ -126,7 +126,7 @@ fn work_at<'g, B: Room, R: Wait, G: Watch>(
     Played { entry, peer }
 }
 
-/// The entries and the peers, where all threads came back with one.
+/// The entries and the peers, or `None` if a thread came back without a peer.
 fn parted<'g>(
     alloc: Global,
     played: Vec<Played<'g>>,
@@ -149,7 +149,7 @@ fn parted<'g>(
     Ok(Some((entries, peers)))
 }
 
-/// What all threads came back with, gathered.
+/// Joins what all threads came back with.
 fn together<'g, B: Room>(
     alloc: Global,
     game: &Game,

@@ -1,5 +1,5 @@
-//! The tokens of an ether, of no bytes: the keeper's, which knows the log, and one for each player,
-//! which knows the player's part of it.
+//! The tokens of an ether, without bytes: the keeper's knows the log, and one for each player knows the player's part
+//! of it.
 ghost use Rattle.std.specs.Prelude.{◌≡◌, ◌≤◌, ◌+◌, [], ◌∷◌, ◌++◌, IfOk};
 ghost use Rattle.c8_world.specs.World.{player_of};
 ghost use Rattle.c8_rig.specs.Log.{part_of};
@@ -10,10 +10,10 @@ use atomic_table::{Seat, Table};
 use std::alloc::{AllocError, Global};
 use std::marker::{Brand, Model};
 
-/// The one word of a table. What it holds says nothing: a step is a look at it.
+/// The one word of a table. Its value means nothing: a step is a look at it.
 const WORD: usize = 0;
 
-/// What the tokens of one ether are of.
+/// The table that the tokens of one ether belong to.
 #[derive(Drop)]
 pub(crate) struct Tokens {
     table: Table<(), View, (), Order, Global>,
@@ -49,7 +49,7 @@ impl Model for Keeper {
     ghost invariant = { λ k. IsKeeper k.seat.me };
 }
 
-/// Knows whose it is, and that player's part of the log.
+/// Knows its player, and that player's part of the log.
 #[derive(Drop)]
 pub(crate) struct Part {
     seat: Seat<(), View>,
@@ -67,7 +67,7 @@ impl Model for Part {
 }
 
 impl Tokens {
-    /// The keeper of an empty log, of no players.
+    /// The keeper of an empty log without players.
     pub(crate) fn open(alloc: Global) -> Result<(Tokens, Keeper), AllocError>
         ensures { IfOk result (λ r.
             r.1 ≡ record { ether = r.0; players = 0; log = [] }) }
@@ -76,7 +76,7 @@ impl Tokens {
         Ok((Tokens { table }, Keeper { seat }))
     }
 
-    /// The part of the next player, of whom nothing was noted.
+    /// The part of the next player, without notes.
     pub(crate) fn enlist(&self, keeper: &mut Keeper) -> Part
         requires { keeper.old.ether ≡ self.now }
         ensures keeper { keeper.new
@@ -89,7 +89,7 @@ impl Tokens {
         }
     }
 
-    /// A note more, of the player whose part it is.
+    /// Adds a note of the part's player.
     pub(crate) fn add(&self, keeper: &mut Keeper, part: Part, note: &Note) -> Part
         requires keeper { keeper.old.ether ≡ self.now }
         requires part { part.ether ≡ self.now }
@@ -101,7 +101,7 @@ impl Tokens {
         self.enter::<Brand>(keeper, part, note)
     }
 
-    /// The same of a note that the proof knows.
+    /// The part of `add` that needs the proof: it names the note.
     fn enter<N: Noted>(&self, keeper: &mut Keeper, part: Part, _note: &Note) -> Part
         requires note { _note.now ≡ N.note }
         requires keeper { keeper.old.ether ≡ self.now }
@@ -119,7 +119,7 @@ impl Tokens {
         }
     }
 
-    /// Both in one hand: the part is the player's part of the log, and the player has an entry.
+    /// Joins both for a moment: the part is the player's part of the log, and the player has an entry.
     pub(crate) fn compare(&self, keeper: &mut Keeper, part: Part) -> Part
         requires keeper { keeper.old.ether ≡ self.now }
         requires part { part.ether ≡ self.now }

@@ -1,5 +1,5 @@
-//! What the keeper of a log and the owners of its parts know, and the steps in which it changes. Proofs
-//! alone have values of these types.
+//! What the keeper of a log and the owners of its parts know, and the steps in which that changes. Only proofs have
+//! values of these types.
 
 use crate::note::Note;
 use atomic_table::{Join, Play, Split, TableRule};
@@ -76,7 +76,7 @@ impl Split<View> for Pair {
     ghost right = { entry_of };
 }
 
-/// The keeper and an entry in one hand note something.
+/// The keeper, joined with an entry, adds a note.
 pub struct Add<N: Noted>(PhantomData<N>);
 
 impl<N: Noted> Play<(), View> for Add<N> {
@@ -86,7 +86,7 @@ impl<N: Noted> Play<(), View> for Add<N> {
     ghost then = { λ step before found after. after ≡ (noted N.note before.0, before.1) };
 }
 
-/// The keeper and an entry in one hand are compared.
+/// The keeper, joined with an entry, compares the part with the log.
 pub struct Compare;
 
 impl Play<(), View> for Compare {

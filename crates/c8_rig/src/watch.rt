@@ -1,10 +1,10 @@
-//! What holds the players of a match in threads back, and sees how far they are.
+//! What paces the players of a match in threads, and sees how far they are.
 
 use c8_game::Player;
 use c8_live::Gate;
 
-/// A gate of the players' threads, which is told how the log grows.
+/// A gate of the players' threads that also sees how the log grows.
 pub trait Watch: Gate {
-    /// Told after a player's peer was opened, and after each of its turns: how many notes its entry has.
+    /// Called after a player's peer was opened, and after each of its turns, with the number of notes of its entry.
     fn noted(&self, player: Player, notes: usize);
 }

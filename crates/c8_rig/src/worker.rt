@@ -22,7 +22,7 @@ use rand_pcg::rand_core::Rng;
 use std::alloc::{AllocError, Global};
 use std::sync::Wait;
 
-/// A player at an ether: its entry, its peer, and what it draws its turns with.
+/// A player at an ether: its entry, its peer, and the generator of its turns.
 #[derive(Drop)]
 struct Seat<'a, 'g, B: Room, R, D: Disk> {
     rt: &'a R,
@@ -43,7 +43,7 @@ impl<'a, 'g, B: Room, R: Wait, D: Disk> Seat<'a, 'g, B, R, D> {
         self.random.next_u32()
     }
 
-    /// Enters a key set. The error is want of memory for the note, and then nothing is done, as in the
+    /// Enters a key set. The error is that memory for the note ran out; then nothing is done. The same holds for the
     /// calls below.
     fn tick(&mut self, keys: Keys) -> Result<(), AllocError>
         ensures { HasPlayed D.Disk self.old.entry self.old.peer self.new.entry self.new.peer }
@@ -70,7 +70,7 @@ impl<'a, 'g, B: Room, R: Wait, D: Disk> Seat<'a, 'g, B, R, D> {
         Ok(())
     }
 
-    /// Says something to another player, if it can be said.
+    /// Says something to another player, unless the peer refuses to say it.
     fn say(&mut self, to: Player, kind: Kind) -> Result<(), AllocError>
         ensures { HasPlayed D.Disk self.old.entry self.old.peer self.new.entry self.new.peer }
     {
@@ -86,7 +86,7 @@ impl<'a, 'g, B: Room, R: Wait, D: Disk> Seat<'a, 'g, B, R, D> {
         }
     }
 
-    /// As player one lets a player go.
+    /// Drops a player, as player 1.
     fn leave(&mut self, leaver: Player) -> Result<(), AllocError>
         requires { self.old.peer.me ≡ 1 }
         ensures { HasPlayed D.Disk self.old.entry self.old.peer self.new.entry self.new.peer }
@@ -98,7 +98,7 @@ impl<'a, 'g, B: Room, R: Wait, D: Disk> Seat<'a, 'g, B, R, D> {
         Ok(())
     }
 
-    /// As player one cuts a leaver's list.
+    /// Cuts a leaver's list, as player 1.
     fn decide(&mut self, leaver: Player) -> Result<(), AllocError>
         requires { self.old.peer.me ≡ 1 }
         ensures { HasPlayed D.Disk self.old.entry self.old.peer self.new.entry self.new.peer }
@@ -110,7 +110,7 @@ impl<'a, 'g, B: Room, R: Wait, D: Disk> Seat<'a, 'g, B, R, D> {
         Ok(())
     }
 
-    /// The other player at this place in the order of their numbers, counted round and round.
+    /// The other player at this place in the order of their numbers, counted round.
     fn other(&self, place: u32) -> Player {
         let others = u32::from(self.peer.players()).saturating_sub(1).max(1);
         let before = place % others + 1;
@@ -122,7 +122,7 @@ impl<'a, 'g, B: Room, R: Wait, D: Disk> Seat<'a, 'g, B, R, D> {
         player(number)
     }
 
-    /// Says this to one of the other players, whom the next word names.
+    /// Says this to the other player that the next word names.
     fn say_to_one(&mut self, kind: Kind) -> Result<(), AllocError>
         ensures { HasPlayed D.Disk self.old.entry self.old.peer self.new.entry self.new.peer }
     {
@@ -131,7 +131,7 @@ impl<'a, 'g, B: Room, R: Wait, D: Disk> Seat<'a, 'g, B, R, D> {
         self.say(to, kind)
     }
 
-    /// Its part in a drop round: player one lets go, cuts and tells of it, the others answer.
+    /// Takes part in a drop round: player 1 drops, cuts and says FREEZE or CUT, the others answer.
     fn drop_round(&mut self) -> Result<(), AllocError>
         ensures { HasPlayed D.Disk self.old.entry self.old.peer self.new.entry self.new.peer }
     {
@@ -150,8 +150,8 @@ impl<'a, 'g, B: Room, R: Wait, D: Disk> Seat<'a, 'g, B, R, D> {
         }
     }
 
-    /// One turn, as the next words of the generator have it: a tick, a delivery, a datagram, or a part
-    /// in a drop round.
+    /// Makes one turn, as the next words of the generator say: a tick, a delivery, a datagram, or a part in a drop
+    /// round.
     fn turn(&mut self) -> Result<(), AllocError>
         ensures { HasPlayed D.Disk self.old.entry self.old.peer self.new.entry self.new.peer }
     {
@@ -177,7 +177,7 @@ impl<'a, 'g, B: Room, R: Wait, D: Disk> Seat<'a, 'g, B, R, D> {
         }
     }
 
-    /// So many turns, as long as the gate lets it and there is memory.
+    /// Makes `turns` turns, as long as the gate lets it and memory lasts.
     fn play<G: Watch>(&mut self, turns: u64, gate: &G)
         ensures { HasPlayed D.Disk self.old.entry self.old.peer self.new.entry self.new.peer }
     {
@@ -192,10 +192,10 @@ impl<'a, 'g, B: Room, R: Wait, D: Disk> Seat<'a, 'g, B, R, D> {
     }
 }
 
-/// A player's part of a match in a thread of its own: notes that its peer is opened, opens it on the
-/// disk in room 0, and takes so many turns by a generator of the seed and the player's number, as long
-/// as the gate lets it. Each call is noted before it is made, and a datagram after it is said. Where there is no memory for a note, or the opening is refused, nothing more is done,
-/// and the entry comes back with the peer, if there is one.
+/// Plays one player's part of a match in its own thread. It notes that the peer is opened, opens it on the disk in room
+/// 0, and makes `turns` turns, drawn by a generator of the seed and the player's number, as long as the gate lets it. A
+/// call is noted before it is made, and a datagram after the peer has said it. If memory for a note runs out, or the
+/// opening is refused, it stops there, and returns the entry with the peer, if there is one.
 pub fn rig_worker<'g, B: Room, R: Wait, D: Disk + Drop, G: Watch>(
     rt: &R,
     alloc: Global,
@@ -239,7 +239,7 @@ pub fn rig_worker<'g, B: Room, R: Wait, D: Disk + Drop, G: Watch>(
     (entry, Some(peer))
 }
 
-/// The player with a number, or player 4 where there is none.
+/// The player with a number, or player 4 for any other number.
 fn player(number: u32) -> Player {
     match number {
         1 => Player::CHAIR,
@@ -249,7 +249,7 @@ fn player(number: u32) -> Player {
     }
 }
 
-/// Hears bytes of which an entry has a note.
+/// Hears bytes that an entry has a note of.
 fn hear_noted<D: Disk>(peer: &mut Peer<'_, D>, bytes: &[u8])
     ensures { (e : EntryValue) (number player : ℕ)
         → HasPlayed D.Disk e peer.old (with_note e (Give number player) bytes.now) peer.new }

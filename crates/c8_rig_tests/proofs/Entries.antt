@@ -4,7 +4,7 @@ use Rattle.std.specs.List.{range_with_len}
 use Rattle.atomic_table.specs.Seated.{TableId}
 use Rattle.c8_rig.specs.Tokens.{EntryValue, first_entries}
 
--- the last of a list is one of what a function made
+-- the last of a mapped list is the image of an element
 last_made : {X Y : Type 0} (f : X → Y) (xs : List X) (front : List Y) (y : Y) → map f xs ≡ front ++ y ∷ [] → (x : X) × (f x ≡ y)
 last_made f [] [] y e = absurd cc
 last_made f [] (z ∷ front) y e = absurd cc

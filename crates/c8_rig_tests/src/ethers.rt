@@ -1,5 +1,5 @@
-//! An ether in one thread. `rt try --test --fail-alloc N` refuses the Nth allocation: where a call fails, it
-//! has changed nothing, and succeeds when it is made again.
+//! An ether in one thread. `rt try --test --fail-alloc N` refuses the Nth allocation: a call that fails has changed
+//! nothing, and succeeds when it is made again.
 ghost use Rattle.std.specs.Prelude.{◌≡◌, ◌≤◌, length};
 ghost use Rattle.c8_wire.specs.declared.sizes.TheConstants.{LONGEST_DATAGRAM};
 
@@ -23,7 +23,7 @@ const NEXT: &[u8] = b"another one";
 /// What was drawn: how many bytes, and these, with zeros after them.
 type Drawn = (Option<usize>, [u8; LONGEST_DATAGRAM]);
 
-/// Draws by a choice; once more where memory was refused and nothing has changed.
+/// Draws by a choice, and again if memory ran out and nothing has changed.
 fn draw<B: Room, R: Wait>(
     rt: &R,
     ether: &Ether<B>,
@@ -43,7 +43,7 @@ fn draw<B: Room, R: Wait>(
     Ok(())
 }
 
-/// Posts a HELLO of these bytes; once more where memory was refused and nothing has changed.
+/// Posts a HELLO of these bytes, and again if memory ran out and nothing has changed.
 fn post<B: Room, R: Wait>(
     rt: &R,
     ether: &Ether<B>,
@@ -63,7 +63,7 @@ fn post<B: Room, R: Wait>(
     }
 }
 
-/// Notes a tick; once more where memory was refused and nothing has changed.
+/// Notes a tick, and again if memory ran out and nothing has changed.
 fn note<B: Room, R: Wait>(rt: &R, ether: &Ether<B>, entry: &mut Entry) -> Result<(), AllocError>
     requires { entry.old.ether ≡ B.ether }
     ensures { entry.new.ether ≡ B.ether }
@@ -77,8 +77,8 @@ fn note<B: Room, R: Wait>(rt: &R, ether: &Ether<B>, entry: &mut Entry) -> Result
     }
 }
 
-/// What is drawn before anything was said, by the choice 5; after the first saying, by the choice 5; and
-/// after the next one, by the choices 5 and 6. Then how many notes there are.
+/// Draws by the choice 5 before anything was said, and after the first saying; and by the choices 5 and 6 after the
+/// next one. Also returns how many notes there are.
 fn draws<B: Room, R: Wait>(
     rt: &R,
     alloc: Global,
@@ -102,7 +102,7 @@ fn draws<B: Room, R: Wait>(
     Ok((drawn, entry.notes().len()))
 }
 
-/// Whether these bytes were drawn, or none where there are none.
+/// Whether these bytes were drawn, or nothing if there are none.
 fn is_drawn(drawn: &Drawn, wanted: &[u8]) -> bool {
     match drawn.0 {
         Some(size) => drawn.1.get(..size) == Some(wanted),

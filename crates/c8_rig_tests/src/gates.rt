@@ -22,7 +22,7 @@ impl Watch for Open {
     fn noted(&self, _: Player, _: usize) {}
 }
 
-/// Lets each worker make so many turns, counts those of all, and keeps how many notes each player has.
+/// Lets each worker make `most` turns, counts those of all, and keeps how many notes each player has.
 #[derive(Drop)]
 pub(crate) struct Turns {
     pub(crate) most: u64,
@@ -71,14 +71,14 @@ impl Watch for Turns {
     }
 }
 
-/// For how many microseconds a worker sleeps between two looks.
+/// How many microseconds a worker sleeps between two looks.
 const PAUSE: u64 = 100;
 
-/// How often a worker looks whether another one has made its first turn: some seconds in all, for a
-/// machine whose processors are busy.
+/// How often a worker looks whether another one has made its first turn: several seconds in all, because the processors
+/// may be busy.
 const LOOKS: u32 = 100_000;
 
-/// Lets no worker make its second turn before so many have made their first.
+/// Lets no worker make its second turn before `workers` have made their first.
 #[derive(Drop)]
 pub(crate) struct Meeting<'r, R> {
     pub(crate) rt: &'r R,
@@ -102,7 +102,7 @@ impl<'r, R: Clock> Meeting<'r, R> {
         self.turns.load(Ordering::SeqCst)
     }
 
-    /// Whether all have made their first turn, by then.
+    /// Waits for the first turns of all, and returns whether they came.
     fn are_all_there(&self) -> bool {
         for _ in 0..LOOKS {
             if self.begun.load(Ordering::SeqCst) >= self.workers {

@@ -1,5 +1,5 @@
-//! Tests of what no clause says of a match in threads: that the threads take their turns, beside each
-//! other and by the table of turns; and that a draw follows its choice.
+//! Tests of what no clause says about a match in threads: that the threads take their turns, at the same time and as
+//! the table of turns says; and that a draw follows its choice.
 #![tactic(auto)]
 
 mod ethers;

@@ -29,7 +29,7 @@ fn workers_overlap(rt: HostRuntime) -> Result<(), Fail> {
     Ok(())
 }
 
-/// How many notes of a log are of the player at a place.
+/// How many notes of a log the player at a place has.
 fn notes_of(log: &[Note], place: usize) -> u64 {
     let mut notes: u64 = 0;
     for note in log {
@@ -40,8 +40,7 @@ fn notes_of(log: &[Note], place: usize) -> u64 {
     notes
 }
 
-/// A gate that lets each worker make 100 turns ends all of them after these, and knows how many notes
-/// each player has.
+/// A gate that lets each worker make 100 turns ends all of them after these, and knows how many notes each player has.
 #[test]
 fn a_gate_ends_its_workers_and_counts_their_notes(rt: HostRuntime) -> Result<(), Fail> {
     let game = Game::read(rt.alloc(), GAMES[2].as_bytes())?;

@@ -1,7 +1,6 @@
 //! The turns of each player of a match in threads are those that the words of its generator name, in their order.
 //!
-//! Each player is played again alone, by its list: a peer of its own makes the calls that the table has, and hears what
-//! the log has.
+//! Each player is played again alone, by its list: a new peer makes the calls of the table, and hears what the log has.
 use crate::gates::Open;
 use crate::matches::games;
 use c8_disk::MemDisk;
@@ -32,7 +31,7 @@ enum Turn {
     Decide(Player),
 }
 
-/// The player at a place in the order of their numbers, 0 for player 1.
+/// The player at a place in the order of their numbers; player 1 is at 0.
 fn player(place: u32) -> Player {
     match place {
         0 => Player { number: 1 },
@@ -42,7 +41,7 @@ fn player(place: u32) -> Player {
     }
 }
 
-/// The words of the generator of the player at a place, who has so many others.
+/// The words of the generator of the player at a place, who has `others` other players.
 #[derive(Drop)]
 struct Words {
     random: Pcg32,
@@ -55,7 +54,7 @@ impl Words {
         self.random.next_u32()
     }
 
-    /// Which of the others a word picks, the first with the number 0.
+    /// Which of the others a word picks; the first is 0.
     fn pick(&self, word: u32) -> u32 {
         word.checked_rem(self.others).unwrap_or(0)
     }
@@ -106,8 +105,8 @@ impl Words {
     }
 }
 
-/// A log, all that was said in it, and what is left of one player's list: the place of each note in the log, and how much
-/// was said before.
+/// A log, all that was said in it, and what is left of one player's list: the place of each note in the log, and how
+/// many datagrams were said before it.
 #[derive(Drop)]
 struct List<'a> {
     log: &'a [Note],
@@ -148,7 +147,7 @@ impl<'a> List<'a> {
         }
     }
 
-    /// What is heard by a choice, if it is the next note of the list.
+    /// The datagram that a choice picks, if its delivery is the next note of the list.
     fn heard(&mut self, choice: u64, me: Player) -> Option<&'a [u8]> {
         let (_, before) = *self.own.get(self.next)?;
         let number = choice.checked_rem(before)?;
@@ -161,7 +160,7 @@ impl<'a> List<'a> {
     }
 }
 
-/// Makes a turn, and answers whether the list has what the turn notes.
+/// Makes a turn, and returns whether the list has its note.
 fn is_made(peer: &mut Peer<'_, MemDisk>, list: &mut List<'_>, turn: Turn) -> bool {
     let me = peer.me();
     match turn {
@@ -194,7 +193,7 @@ fn is_made(peer: &mut Peer<'_, MemDisk>, list: &mut List<'_>, turn: Turn) -> boo
     }
 }
 
-/// Whether the list of a player has what the table's turns note, the first so many hearings finding nothing.
+/// Whether the list of a player has the notes of the table's turns, if the first `first` hearings find nothing.
 fn follows(
     alloc: Global,
     game: &Game,
@@ -225,7 +224,7 @@ fn follows(
     Ok(is_so && list.is_at_end())
 }
 
-/// Whether the list of a player is by the table, however many hearings found nothing at first.
+/// Whether the list of a player follows the table, however many hearings find nothing at first.
 fn is_by_the_table(
     alloc: Global,
     game: &Game,

@@ -1,4 +1,4 @@
--- The first line of a script that it cannot have.
+-- The first faulty line of a script.
 use Rattle.std.proofs.Common.{◌≡◌, ℕ, Bool, true, false, ◌||◌, Option, Some, None, IfSome, List, take, refl, subst, if◌then◌else◌}
 use Rattle.std.specs.Prelude.{is_some}
 use Rattle.std.specs.List.{slice_get}
@@ -16,7 +16,7 @@ use Rattle.c8_script.proofs.ScriptLines.{line_read, line_spelt}
 abbrev pub fault_if_not : Bool → Option ScriptError
 fault_if_not taken = if taken then None else Some Line
 
--- a line's fault, whatever stands before it
+-- the fault of a line, whatever comes before it
 abbrev pub event_fault : List (List ℕ) → List ℕ → Option ScriptError
 event_fault before line = fault_if_not (is_event_line line)
 

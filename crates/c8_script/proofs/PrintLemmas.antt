@@ -1,4 +1,4 @@
--- What is printed, one text after another.
+-- Printed texts, one after another.
 use Rattle.c8_spectator.specs.declared.error.NotTaken.{NotTaken}
 use Rattle.std.proofs.Common.{◌≡◌, codes, OnOk, Result, Ok, Err, ℕ, ◌+◌, ◌<◌, ◌≤◌, min, List, [], ◌∷◌, ◌++◌, length, take, drop, get_or, Option, Some, None, refl, sym, ap, subst, ◌∙◌}
 use Rattle.std.proofs.lemmas.List.{append-nil, append_assoc, drop_all, flat_map_more, take_more}
@@ -23,7 +23,7 @@ appends_then (Some xs) (Some ys) (Some zs) a b x y = y ∙ ap (λ (t : List ℕ)
 
 -- ---- answers
 
--- A text has been written, and with the lines of the answers from here on it is the lines of all.
+-- A text was written, and with the lines of the remaining answers it is the lines of all.
 pub record LinesSoFar (u v : Option (List ℕ)) (answers : List Answer) (i : ℕ) : Type 0 where
   pub text : List ℕ
   pub appended : Appends u v text
@@ -49,7 +49,7 @@ lines_all u v answers i all before =
 
 -- ---- ends
 
--- A text has been written, and with what is told of the players from here on it is what is told of all.
+-- A text was written, and with the lines of the remaining players it is the lines of all.
 pub record TalliesSoFar (u v : Option (List ℕ)) (players : ℕ) (tallies : List Tally) (i : ℕ) : Type 0 where
   pub text : List ℕ
   pub appended : Appends u v text
@@ -85,19 +85,19 @@ counts_next u v w counts i lt before appended =
 
 -- ---- one answer
 
--- it is told by a text of its own, whatever the name
+-- the answer has its own text, whatever the name
 pub told_by : {T E : Type 0} → (u v : Option (List ℕ)) (answer : Answer) (name text : List ℕ) (result : Result T E) → answer_text name answer ≡ text → OnOk result (Appends u v text)
     → OnOk result ((name : List ℕ) × Appends u v (answer_text name answer))
 told_by u v answer name text (Ok done) is appended = (name, subst (λ (t : List ℕ). Appends u v t) (sym is) appended)
 told_by u v answer name text (Err error) is appended = appended
 
--- and of what a watcher did not take
+-- the same for what a watcher did not take
 pub not_taken_by : {T E : Type 0} → (u v : Option (List ℕ)) (error : NotTaken) (name text : List ℕ) (result : Result T E) → not_taken_text name error ≡ text → OnOk result (Appends u v text)
     → OnOk result ((name : List ℕ) × Appends u v (not_taken_text name error))
 not_taken_by u v error name text (Ok done) is appended = (name, subst (λ (t : List ℕ). Appends u v t) (sym is) appended)
 not_taken_by u v error name text (Err failed) is appended = appended
 
--- the number of its event in front
+-- with the number of its event in front
 pub numbered : {T E : Type 0} → (u v w : Option (List ℕ)) (number : ℕ) (answer : Answer) (result : Result T E) → Appends u v (decimal number ++ codes " ")
     → OnOk result ((name : List ℕ) × Appends v w (answer_text name answer)) → OnOk result ((text : List ℕ) × IsLine number answer text × Appends u w text)
 numbered u v w number answer (Ok done) first rest =
@@ -106,7 +106,7 @@ numbered u v w number answer (Err error) first rest = rest
 
 -- ---- one player
 
--- what was written in front of the counts, and they
+-- what was written in front of the counts, and the counts
 pub tally_told : {T E : Type 0} → (u v w : Option (List ℕ)) (players player : ℕ) (tally : Tally) (shown : ℕ) (result : Result T E) → shown ≡ min players 4
     → Appends u v (codes "player " ++ (decimal player ++ (codes " now " ++ (decimal tally.now ++ (codes " confirmed " ++ (decimal tally.confirmed ++ codes " held"))))))
     → OnOk result (Appends v w (line (flat_map count_text (take shown tally.held) ∷ []))) → OnOk result (Appends u w (tally_text players player tally))

@@ -1,4 +1,4 @@
--- What the words of a line are read as is what they spell, and nothing else is.
+-- The words of a line are read as what they spell, and as nothing else.
 use Rattle.std.proofs.Common.{◌≡◌, ℕ, suc, zero, ◌+◌, ◌-◌, ◌<◌, ◌≤◌, ◌⊎◌, Bool, true, false, ◌&&◌, cond, nat_lt, Option, Some, None, option_map, List, [], ◌∷◌, length, get_or, codes, refl, sym, ap, subst, ◌∙◌, arith, lit≤, inl, inr}
 use Rattle.std.proofs.Math.Bridge.{le_prop}
 use Rattle.std.proofs.lemmas.Bool.{and_parts, cond-true, le-leb, leb-true}
@@ -39,7 +39,7 @@ keyword word text same = (bytes_eq-Decides word text).0 same
 
 -- ---- players, key sets and numbers
 
--- a player is found by the number, whatever proves that it is one
+-- a player is determined by its number, whatever proves the number's range
 player_of_own : (n : ℕ) (from : 1 ≤ n) (to : n ≤ 4) → player_of n ≡ Some (record { number = n; from_one = from; to_four = to })
 player_of_own zero from to = absurd (omega arith)
 player_of_own (suc zero) from to = λ i. Some (record { number = 1; from_one = le_prop (lit≤ tt) from i; to_four = le_prop (lit≤ tt) to i })
@@ -149,7 +149,7 @@ number_spelt word number is = elim (chosen (is_decimal word && nat_lt (decimal_n
 
 -- ---- what is said
 
--- a kind of one player
+-- a kind with a player
 player_kind : (make : Player → Kind) (text what word : List ℕ) (kind : Kind) → ((p : Player) → kind_words (make p) ≡ text ∷ player_word p ∷ [])
     → bytes_eq what text ≡ true → option_map make (player_in word) ≡ Some kind → kind_words kind ≡ what ∷ word ∷ []
 player_kind make text what word kind says same is =
@@ -227,7 +227,7 @@ hear_spelt verb one other act same is =
     let other_is : other ≡ watcher_word watcher.0 = watcher_spelt other watcher.0 watcher.1 in
     subst (SpellsAct (verb ∷ one ∷ other ∷ [])) watcher.2 (one, cc, number_spelt one number.0 number.1)
 
--- either of two acts
+-- one of two acts
 either_act : (one other : Option Act) (act : Act) → act_or one other ≡ Some act → (one ≡ Some act) ⊎ (other ≡ Some act)
 either_act None other act is = inr is
 either_act (Some first) other act is = inl is
@@ -358,7 +358,7 @@ act_read words (Seen watcher) spelt =
     ∙ ap (option_map Seen) (watcher_read watcher)
 act_read words (Fresh watcher) spelt = ap act_in spelt ∙ ap (option_map Fresh) (watcher_read watcher)
 
--- what may be held is held
+-- an act that may be held is held
 held_read : (act : Act) (found : Option Act) → found ≡ Some act → may_be_held act ≡ true → held_in found ≡ Some act
 held_read act found is may = ap held_in is ∙ ap (λ b. cond b (Some act) None) may
 

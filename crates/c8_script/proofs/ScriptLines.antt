@@ -36,7 +36,7 @@ abbrev HaveNoSpace : List (List ℕ) → Type 0
 HaveNoSpace [] = Unit {0}
 HaveNoSpace (word ∷ words) = HasNoSpace word × HaveNoSpace words
 
--- bytes that pass a test which a space fails are none
+-- bytes that pass a test that a space fails contain no space
 no_space : (p : ℕ → Bool) (word : List ℕ) → p 32 ≡ false → AllPass p word → HasNoSpace word
 no_space p word fails pass =
     list_all-from_AllPass (λ byte. not (byte == 32)) word
@@ -63,7 +63,7 @@ kind_no_space (Freeze player) = (refl, (player_no_space player, tt))
 kind_no_space (Frozen player) = (refl, (player_no_space player, tt))
 kind_no_space (Cut player) = (refl, (player_no_space player, tt))
 
--- ---- a line is cut into its words
+-- ---- a line splits into its words
 
 not_true : (b : Bool) → not b ≡ true → b ≡ false
 not_true true is = absurd (cc)
@@ -109,7 +109,7 @@ words_no_space words (Stop act calls pick) (of_calls, of_pick, of_act, words_are
 words_no_space words (Fail act calls) (of_calls, of_act, words_are, calls_are, act_is, may) =
     rw words_are (refl, (number_no_space of_calls calls calls_are, act_no_space of_act act act_is))
 
--- no event is spelt by no word
+-- no event is spelled without words
 spelt_by_some : (event : Event) → WordsSpell [] event → ⊥
 spelt_by_some (Do (Open player)) spelt = cc
 spelt_by_some (Do (Leave player)) spelt = cc
@@ -175,7 +175,7 @@ one_read seen line events event kept is read =
     ap (map event_of) (one_kept seen [] line kept) ∙ map-append event_of (not_skipped seen) (line ∷ []) ∙ ap (λ before. before ++ event_of line ∷ []) read ∙ ap (λ e. map Some events ++ e ∷ []) is
     ∙ sym (map-append Some events (event ∷ []))
 
--- a line that is kept and spells no event is a fault
+-- a line that is not skipped and spells no event is a fault
 line_fault : (text : List ℕ) (seen more : List (List ℕ)) (line : List ℕ) → lines text ≡ seen ++ line ∷ more → is_skipped line ≡ false → event_of line ≡ None → IsFaultOfScript text Line
 line_fault text seen more line cut kept none =
     let there = Contains-append_right (not_skipped seen) (line ∷ not_skipped more) line (0, omega arith, refl) in

@@ -1,4 +1,4 @@
--- What has been run of a match.
+-- How much of a match was run.
 use Rattle.std.proofs.Common.{◌≡◌, inl, inr, ℕ, List, [], ◌∷◌, refl, sym, subst}
 use Rattle.std.proofs.lemmas.List.{append-nil}
 use Rattle.c8_game.specs.Rules.{Rules}
@@ -11,7 +11,7 @@ use Rattle.c8_world.specs.Turns.{AreTurns, AreFirstTurns}
 use Rattle.c8_script.specs.Sim.{IsBegun, IsNewWorld}
 use Rattle.c8_script.specs.declared.transcript.TheConstants.{ROOM}
 
--- nothing has
+-- nothing was run
 pub begun_none : (rules : Rules) (events : List Event) (answers : List Answer) → answers ≡ [] → IsBegun rules events answers
 begun_none rules events answers none = record {
   before = [];
@@ -41,7 +41,7 @@ begun_out rules made left events answers is_new out first = record {
   turned = inr (record { before = first.before; after = first.after; at = first.at; made = made; is_new = is_new; left = first.mid; turns = first.turns });
 }
 
--- all events have
+-- all events were run
 pub begun_all : (rules : Rules) (made left : TableValue) (events : List Event) (answers : List Answer) → IsNewWorld rules made → HasRun made (start rules) events answers left
     → AreTurns events answers made left → IsBegun rules events answers
 begun_all rules made left events answers is_new run turns = record {

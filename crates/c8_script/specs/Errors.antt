@@ -1,4 +1,4 @@
--- The numbers of refusals, as they are printed, and what each is of.
+-- The part and the number of each refusal, as they are printed.
 use Rattle.std.specs.Prelude.{ℕ}
 use Rattle.c8_command.specs.declared.refusal.Part.{Part}
 use Rattle.c8_command.specs.declared.refusal.Part.TheVariants as parts
@@ -12,7 +12,7 @@ abbrev pub script_error_number : ScriptError → ℕ
 script_error_number Line = 1
 script_error_number Memory = 2
 
--- what the command refuses, and the number of the refusal: that of the error
+-- the part and the number of each refusal of the command
 abbrev pub sim_part : SimError → Part
 sim_part (Game error) = parts.Game
 sim_part (Script error) = parts.Script

@@ -1,4 +1,4 @@
--- What `sim` prints: a line for each answer, and then how the players stand.
+-- What `sim` prints: a line for each answer, and then how far each player is.
 use Rattle.std.specs.Prelude.{◌≡◌, ℕ, ◌+◌, List, [], ◌∷◌, ◌++◌, length, min, take, codes, Bool, true, false, Option, Some, None, Ok, Err}
 use Rattle.std.specs.List.{flat_map}
 use Rattle.std.specs.Fmt.{decimal}
@@ -21,7 +21,7 @@ use Rattle.c8_world.specs.declared.answer.Counts.{Counts}
 use Rattle.c8_world.specs.declared.ends.Tally.{Tally}
 use Rattle.c8_script.specs.declared.watched.Watched.{Watched as RowsTold}
 
--- these parts, one after the other, and a line feed
+-- these parts, one after another, and a line feed
 abbrev pub line : List (List ℕ) → List ℕ
 line [] = 10 ∷ []
 line (part ∷ parts) = part ++ line parts
@@ -52,16 +52,16 @@ abbrev pub taken_word : Taken → List ℕ
 taken_word takens.Nothing = codes "nothing"
 taken_word takens.Kept = codes "kept"
 
--- what is counted after a tick
+-- the counts after a tick
 abbrev pub ticked_text : Counts → List ℕ
 ticked_text counts = line (codes "now " ∷ decimal counts.now ∷ codes " confirmed " ∷ decimal counts.confirmed ∷ [])
 
--- what is recorded of a checkpoint
+-- what was recorded of a checkpoint
 abbrev pub check_text : Check → List ℕ
 check_text (Piece piece) = line (codes "piece " ∷ decimal piece ∷ [])
 check_text (Done frames) = line (codes "checked " ∷ decimal frames ∷ [])
 
--- why an event was refused: by which part, and the number and the name of it there
+-- why an event was refused: the part that refused it, and the refusal's number and name
 abbrev pub refusal_text : List ℕ → ℕ → List ℕ → List ℕ
 refusal_text part number name = line (codes "no " ∷ part ∷ codes " " ∷ decimal number ∷ codes " " ∷ name ∷ [])
 
@@ -70,7 +70,7 @@ abbrev pub not_taken_text : List ℕ → NotTaken → List ℕ
 not_taken_text name (watchings.Wire error) = refusal_text (codes "wire") (wire_number_of error) name
 not_taken_text name (watchings.Watch error) = refusal_text (codes "watch") (watch_number_of error) name
 
--- what is told of an answer, where this is the name of its refusal
+-- the text of an answer, if its refusal has this name
 abbrev pub answer_text : List ℕ → Answer → List ℕ
 answer_text name (Opened (Ok epoch)) = line (codes "epoch " ∷ decimal epoch ∷ [])
 answer_text name (Opened (Err error)) = refusal_text (codes "open") (open_number_of error) name
@@ -95,11 +95,11 @@ answer_text name Anew = line (codes "fresh" ∷ [])
 answer_text name Down = line (codes "down" ∷ [])
 answer_text name Stopped = line (codes "stopped" ∷ [])
 
--- The line of an answer: the number of its event, and what is told. Nothing is said of the names of refusals.
+-- The line of an answer: the number of its event, and the answer's text. The names of refusals are left open.
 abbrev pub IsLine : ℕ → Answer → List ℕ → Type 0
 IsLine number answer text = (name : List ℕ) × (text ≡ decimal number ++ codes " " ++ answer_text name answer)
 
--- the lines of answers, numbered from here on
+-- the lines of answers, numbered from `number` on
 abbrev pub AreLines : ℕ → List Answer → List ℕ → Type 0
 AreLines number [] text = text ≡ []
 AreLines number (answer ∷ answers) text =
@@ -110,8 +110,8 @@ AreLines number (answer ∷ answers) text =
 abbrev pub count_text : ℕ → List ℕ
 count_text count = codes " " ++ decimal count
 
--- how a player stands in a game of so many players: its ticks, its confirmed frames, and how many inputs it holds of each,
--- who are four at most
+-- how far a player is: its ticks, its confirmed frames, and how many inputs it holds of each player of the game, of at
+-- most four
 abbrev pub tally_text : ℕ → ℕ → Tally → List ℕ
 tally_text players player tally =
     line (codes "player " ∷ decimal player ∷ codes " now " ∷ decimal tally.now ∷ codes " confirmed " ∷ decimal tally.confirmed ∷ codes " held"
@@ -125,7 +125,7 @@ abbrev pub yes_or_no : Bool → List ℕ
 yes_or_no true = codes "yes"
 yes_or_no false = codes "no"
 
--- of a watcher that the script names: how many rows it has
+-- how many rows a watcher has, if the script names it
 abbrev pub watcher_text : ℕ → Option ℕ → List ℕ
 watcher_text seat None = []
 watcher_text seat (Some rows) = line (codes "watcher " ∷ decimal seat ∷ codes " rows " ∷ decimal rows ∷ [])

@@ -1,4 +1,4 @@
--- Scripts: the events that a text of them spells, one a line, or the fault that refuses it.
+-- Scripts: the events that a text spells, one a line, or the fault that refuses it.
 use Rattle.std.specs.Prelude.{◌≡◌, ℕ, ◌+◌, ◌<◌, ◌^◌, not, Bool, true, false, List, [], ◌∷◌, Some, IfSome, codes, filter}
 use Rattle.std.specs.List.{AllZip, Any, join_with_byte, slice_get}
 use Rattle.std.specs.Str.Lines.{lines}
@@ -17,11 +17,11 @@ use Rattle.c8_world.specs.declared.event.Event.TheVariants.{Do, Stop, Fail}
 use Rattle.c8_script.specs.declared.error.ScriptError.{ScriptError}
 use Rattle.c8_script.specs.declared.error.ScriptError.TheVariants.{Line, Memory}
 
--- a player's word is one digit, 48 being that of 0
+-- a player's word is one digit; 48 is the code of 0
 abbrev pub player_word : Player → List ℕ
 player_word player = (48 + player.number) ∷ []
 
--- and so is a watcher's
+-- a watcher's word is one digit too
 abbrev pub watcher_word : Watcher → List ℕ
 watcher_word watcher = (48 + watcher.number) ∷ []
 
@@ -29,11 +29,11 @@ watcher_word watcher = (48 + watcher.number) ∷ []
 abbrev pub SpellsKeys : List ℕ → Keys → Type 0
 SpellsKeys word keys = (is_keys_text word ≡ true) × (keys_number word ≡ keys.0)
 
--- a decimal of 1 to 20 digits spells its number, if 64 bits hold it
+-- a decimal of 1 to 20 digits spells its number, if that fits in 64 bits
 abbrev pub SpellsNumber : List ℕ → ℕ → Type 0
 SpellsNumber word number = (is_decimal word ≡ true) × (decimal_number word ≡ number) × (number < 2 ^ 64)
 
--- the words for what is said
+-- the words of a kind
 abbrev pub kind_words : Kind → List (List ℕ)
 kind_words Hello = codes "hello" ∷ []
 kind_words Welcome = codes "welcome" ∷ []
@@ -59,7 +59,7 @@ SpellsAct words (Hear number watcher) =
 SpellsAct words (Seen watcher) = words ≡ codes "say" ∷ watcher_word watcher ∷ codes "1" ∷ codes "seen" ∷ []
 SpellsAct words (Fresh watcher) = words ≡ codes "fresh" ∷ watcher_word watcher ∷ []
 
--- what a watcher does is held by no stop and no failure: it has no disk
+-- a stop or a failure cannot hold an act of a watcher, which has no disk
 abbrev pub may_be_held : Act → Bool
 may_be_held (Open player) = true
 may_be_held (Tick player keys) = true
@@ -73,8 +73,8 @@ may_be_held (Hear number watcher) = false
 may_be_held (Seen watcher) = false
 may_be_held (Fresh watcher) = false
 
--- the words spell the event: an act, a stop with its two numbers and the words of the act inside it, or a failure with its one
--- number and those words
+-- the words spell the event: an act, a stop with its two numbers and the words of the act inside it, or a failure with
+-- its number and those words
 abbrev pub WordsSpell : List (List ℕ) → Event → Type 0
 WordsSpell words (Do act) = SpellsAct words act
 WordsSpell words (Stop act calls pick) =
@@ -84,7 +84,7 @@ WordsSpell words (Fail act calls) =
     (of_calls : List ℕ) × (of_act : List (List ℕ)) × (words ≡ codes "fail" ∷ of_calls ∷ of_act) × SpellsNumber of_calls calls
     × SpellsAct of_act act × (may_be_held act ≡ true)
 
--- a line is the words of an event, with one space between two and nothing else
+-- a line is the words of an event, with one space between two words and nothing else
 abbrev pub SpellsEvent : List ℕ → Event → Type 0
 SpellsEvent line event = (words : List (List ℕ)) × (line ≡ join_with_byte 32 words) × WordsSpell words event
 
@@ -104,15 +104,15 @@ abbrev pub IsFaultOfScript : List ℕ → ScriptError → Type 0
 IsFaultOfScript text Line = Any (λ line. (event : Event) → SpellsEvent line event → ⊥) (event_lines text)
 IsFaultOfScript text Memory = Unit {0}
 
--- a line that a script cannot have: it is not skipped, and spells no event
+-- a faulty line: it is not skipped, and spells no event
 abbrev pub IsNoEventLine : List ℕ → Type 0
 IsNoEventLine line = (is_skipped line ≡ false) × ((event : Event) → SpellsEvent line event → ⊥)
 
--- no line of the text is one
+-- no line of the text is faulty
 abbrev pub AreEventLines : List ℕ → Type 0
 AreEventLines text = (place : ℕ) → IfSome (slice_get (lines text) place) (λ line. IsNoEventLine line → ⊥)
 
--- the first one of the text stands at this place, 0 for the text's first line
+-- the first faulty line of the text is at this place; the text's first line is at 0
 pub record IsFirstNoEvent (text : List ℕ) (place : ℕ) : Type 0 where
   pub line : List ℕ
   pub here : slice_get (lines text) place ≡ Some line

@@ -37,8 +37,8 @@ pub record IsNewWorld (rules : Rules) (t : TableValue) : Type 0 where
   pub holds : Holds t (start rules)
   pub disks : (p : ℕ) → IsPlayer t.rules p → IsNewDisk CAPACITY CALLS (node_of t p)
 
--- All events have been run from a new world on, memory was there, and these are the answers; each made of the players and their
--- disks what it makes; and so the players stand in what is held then.
+-- All events were run from a new world on, memory was enough, and these are the answers. Each event changed players and
+-- disks as it must, and the ends describe the players that resulted.
 pub record IsPlayed (rules : Rules) (events : List Event) (transcript : Transcript) : Type 0 where
   pub made : TableValue
   pub is_new : IsNewWorld rules made
@@ -51,7 +51,7 @@ pub record IsPlayed (rules : Rules) (events : List Event) (transcript : Transcri
   pub five : transcript.watched.five ≡ told_of events 5 (length (rows_in left 5))
   pub six : transcript.watched.six ≡ told_of events 6 (length (rows_in left 6))
 
--- The first of the events, with these answers, each made of a new world what it makes.
+-- The first of the events, with these answers; each changed a new world as it must.
 pub record HasBegun (rules : Rules) (events : List Event) (answers : List Answer) : Type 0 where
   pub before : List Event
   pub after : List Event
@@ -61,7 +61,7 @@ pub record HasBegun (rules : Rules) (events : List Event) (answers : List Answer
   pub left : TableValue
   pub turns : AreTurns before answers made left
 
--- The first of the events have been run from a new world on, and these are the answers; there are none where memory ran out at once.
+-- The first of the events were run from a new world on, and these are the answers; none if memory ran out at once.
 pub record IsBegun (rules : Rules) (events : List Event) (answers : List Answer) : Type 0 where
   pub before : List Event
   pub after : List Event
@@ -70,7 +70,7 @@ pub record IsBegun (rules : Rules) (events : List Event) (answers : List Answer)
   pub runs : RunsWithMemory rules ROOM (start rules) before answers world
   pub turned : (answers ≡ []) ⊎ HasBegun rules events answers
 
--- Memory ran out, after the first of the events.
+-- Memory ran out after the first of the events.
 abbrev pub IsCutShort : Rules → List Event → Unfinished → Type 0
 IsCutShort rules events unfinished = (unfinished.error ≡ Script scripts.Memory) × IsBegun rules events unfinished.answers.items
 
@@ -80,12 +80,12 @@ IsCutShort rules events unfinished = (unfinished.error ≡ Script scripts.Memory
 abbrev pub SpellMatch : List ℕ → List ℕ → Rules → List Event → Type 0
 SpellMatch game script rules events = Spells game rules × SpellsScript script events
 
--- the first text has this first fault, or it spells a game and the second has it; or memory ran out
+-- the first text has this first fault; or it spells a game and the second text has this fault; or memory ran out
 abbrev pub IsRefusalOfSim : List ℕ → List ℕ → SimError → Type 0
 IsRefusalOfSim game script (Game error) = (error ≡ games.Memory) ⊎ IsRefused game error
 IsRefusalOfSim game script (Script error) = (rules : Rules) × Spells game rules × IsFaultOfScript script error
 
--- A text is refused and nothing is answered; or both spell a match, and memory ran out in it.
+-- A text is refused and there are no answers; or both spell a match, and memory ran out during it.
 abbrev pub IsUnfinished : List ℕ → List ℕ → Unfinished → Type 0
 IsUnfinished game script unfinished =
     (IsRefusalOfSim game script unfinished.error × (unfinished.answers.items ≡ []))
@@ -96,9 +96,9 @@ IsOutcomeOfSim game script (Ok transcript) =
     (rules : Rules) × (events : List Event) × SpellMatch game script rules events × IsPlayed rules events transcript
 IsOutcomeOfSim game script (Err unfinished) = IsUnfinished game script unfinished
 
--- ---- what is told of it
+-- ---- what is printed
 
--- a line for each answer; and then, of a match that was played to its end, how the players stand
+-- a line for each answer; then, if the match was played to its end, how far each player is
 abbrev pub IsPrinted : Result Transcript Unfinished → List ℕ → Type 0
 IsPrinted (Ok transcript) text =
     (answers : List ℕ) × AreLines 1 transcript.answers.items answers × (text ≡ answers ++ ends_text transcript.ends.players.items transcript.watched transcript.ends.agree)
@@ -107,7 +107,7 @@ IsPrinted (Err unfinished) text = AreLines 1 unfinished.answers.items text
 abbrev pub part_of_unfinished : Unfinished → Part
 part_of_unfinished unfinished = sim_part unfinished.error
 
--- `sim` ended so: it has an outcome of the two texts, whose status it answers and which it printed on what was there.
+-- `sim` ended like this: the two texts have an outcome; it answers its status, and has appended its text to the output.
 pub record HasEnded (game script : List ℕ) (status : Status) (old new : Option (List ℕ)) : Type 0 where
   pub outcome : Result Transcript Unfinished
   pub is_outcome : IsOutcomeOfSim game script outcome

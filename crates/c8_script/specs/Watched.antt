@@ -1,4 +1,4 @@
--- Which watchers a script names, and what is told of them.
+-- Which watchers a script names, and how many rows they have.
 use Rattle.std.specs.Prelude.{ℕ, ◌==◌, List, Bool, false, Option, Some, None, if◌then◌else◌}
 use Rattle.std.specs.List.{list_any}
 use Rattle.c8_world.specs.declared.event.Act.{Act}
@@ -19,7 +19,7 @@ act_names (Hear number watcher) seat = watcher.number == seat
 act_names (Seen watcher) seat = watcher.number == seat
 act_names (Fresh watcher) seat = watcher.number == seat
 
--- the seat of a watcher stands in the line of the event
+-- the line of the event names the seat of a watcher
 abbrev pub names_seat : Event → ℕ → Bool
 names_seat (Do act) seat = act_names act seat
 names_seat (Stop act calls pick) seat = act_names act seat

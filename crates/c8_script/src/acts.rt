@@ -1,4 +1,4 @@
-//! How acts are written as lines of a script.
+//! Writes acts as lines of a script.
 
 use c8_game::Player;
 use c8_peer::Kind;
@@ -7,7 +7,7 @@ use c8_world::Act;
 use std::io;
 use std::io::Write;
 
-/// Writes the line of a script that an act is, as `tick 1 00ff`. `read_script` reads it back.
+/// Writes an act as a line of a script, as `tick 1 00ff`. `read_script` reads it back.
 pub fn write_act<W: Write>(out: &mut W, act: Act) -> io::Result<()> {
     match act {
         Act::Open(Player { number }) => writeln!(out, "open {number}"),
@@ -27,7 +27,7 @@ pub fn write_act<W: Write>(out: &mut W, act: Act) -> io::Result<()> {
     }
 }
 
-/// Writes the rest of a line: what is said.
+/// Writes the rest of a line: the kind.
 fn write_kind<W: Write>(out: &mut W, kind: Kind) -> io::Result<()> {
     match kind {
         Kind::Hello => writeln!(out, "hello"),

@@ -1,4 +1,4 @@
-//! How answers are told: one line each, as `12 no tick 1 Threshold`.
+//! Writes answers, one line each, as `12 no tick 1 Threshold`.
 
 ghost use Rattle.std.specs.Prelude.{◌≡◌, ℕ, List, [], ◌∷◌, OnOk, length};
 ghost use Rattle.std.specs.List.{flat_map};
@@ -12,7 +12,7 @@ use c8_world::{Answer, Counts, Ends, Posted, Tally};
 use std::io;
 use std::io::Write;
 
-/// Writes a line for each answer: the number of its event, 1 for the first, and what is answered.
+/// Writes a line for each answer: the number of its event, from 1, and the answer.
 pub fn write_answers<W: Write>(out: &mut W, answers: &[Answer]) -> io::Result<()>
     ensures { OnOk result ((text : List ℕ) × AreLines 1 answers.now text
         × Appends (W.contents out.old) (W.contents out.new) text) }
@@ -117,7 +117,7 @@ fn write_not_taken<W: Write>(out: &mut W, error: NotTaken) -> io::Result<()>
     }
 }
 
-/// Writes why an event was refused: by which part, and its number and name there.
+/// Writes why an event was refused: the part that refused it, and the refusal's number and name.
 fn write_refusal<W: Write>(out: &mut W, part: &str, number: u8, name: &str) -> io::Result<()>
     ensures { OnOk result (Appends (W.contents out.old) (W.contents out.new)
         (refusal_text part.now number name.now)) }
@@ -145,8 +145,7 @@ fn part_of(error: Refused) -> &'static str
     }
 }
 
-/// Writes how the players stand, one line each, how many rows the watchers have that are named, and whether
-/// the players agree.
+/// Writes how far each player is, one line each, how many rows each named watcher has, and whether the players agree.
 pub fn write_ends<W: Write>(out: &mut W, ends: &Ends, watched: Watched) -> io::Result<()>
     ensures { OnOk result (Appends (W.contents out.old) (W.contents out.new)
         (ends_text ends.now.players.items watched ends.now.agree)) }
@@ -163,7 +162,7 @@ fn write_watched<W: Write>(out: &mut W, watched: Watched) -> io::Result<()>
     write_watcher(out, 6, watched.six)
 }
 
-/// Writes how many rows the watcher of a seat has, if it is told.
+/// Writes how many rows the watcher of a seat has, if the script names it.
 fn write_watcher<W: Write>(out: &mut W, seat: u8, rows: Option<u32>) -> io::Result<()>
     ensures { OnOk result (Appends (W.contents out.old) (W.contents out.new)
         (watcher_text seat rows)) }
@@ -192,8 +191,8 @@ fn write_tallies<W: Write>(out: &mut W, tallies: &[Tally]) -> io::Result<()>
     Ok(())
 }
 
-/// Writes how a player stands: its ticks, the frames that it has confirmed, and how many inputs it
-/// holds of each player of the game.
+/// Writes how far a player is: its ticks, its confirmed frames, and how many inputs it holds of each player of the
+/// game.
 fn write_tally<W: Write>(
     out: &mut W,
     player: usize,

@@ -1,4 +1,4 @@
-//! `c8play sim`: all players of a game in one world, in which happens what a script says.
+//! `c8play sim`: all players of a game in one world, driven by a script.
 
 ghost use Rattle.std.specs.Prelude.{IfOk};
 ghost use Rattle.c8_script.specs.Sim.{HasEnded};
@@ -14,9 +14,8 @@ use std::io;
 use std::io::Write;
 use std::rt::Files;
 
-/// Lets happen what the script of one file says, to the players of the game of another, as `sim` does
-/// with their texts. A file that cannot be read is told as the disk's fault, whatever the other one
-/// says. The error is that of a writer.
+/// Runs the script of one file for the game of another, as `sim` does with their texts. If a file cannot be read, the
+/// refusal is the disk's, whatever the other file says. The error is a writer's.
 pub fn sim_files<R, W: Write, E: Write>(
     rt: &R,
     game: &str,
@@ -52,11 +51,10 @@ fn unread(error: TextsError) -> Refusal {
     }
 }
 
-/// Lets happen what `script` says, to the players of the game that `game` spells, from no journal
-/// on. Writes the answer to each event and then how the players stand to `out`; or writes the line
-/// of a refusal to `refused`, and nothing to `out`. Where memory runs out after both texts were
-/// read, the answers so far are written too. Where `explain` is true a second line says where the
-/// fault is. The error is that of a writer.
+/// Runs `script` for the players of the game that `game` spells, from empty journals on. Writes the answer to each
+/// event and then how far each player is to `out`. If a text is refused, it writes the line of the refusal to
+/// `refused`, and nothing to `out`. If memory runs out after both texts were read, it also writes the answers so far.
+/// With `explain`, a second line says where the fault is. The error is a writer's.
 pub fn sim<W: Write, E: Write>(
     alloc: Global,
     game: Text<'_>,

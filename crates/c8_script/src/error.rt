@@ -49,10 +49,10 @@ impl From<AllocError> for ScriptError {
 /// Why the command `sim` refuses its texts.
 #[derive(Clone, Copy, Debug, PartialEq, Eq, Error)]
 pub enum SimError {
-    /// The text of the game.
+    /// The text of the game has a fault.
     #[error("{0}")]
     Game(GameError),
-    /// The script, and want of memory for what happens by it.
+    /// The script has a fault, or memory ran out while it was run.
     #[error("{0}")]
     Script(ScriptError),
 }

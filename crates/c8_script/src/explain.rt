@@ -6,7 +6,7 @@ use c8_command::{Site, Text};
 use c8_game::{Game, GameError, Lines};
 use std::alloc::{AllocError, Global};
 
-/// Where the fault is by which `sim` refuses its two texts, if that is asked for.
+/// Where the fault is that makes `sim` refuse its two texts, if `explain` is true.
 pub(crate) fn site_if<'a>(
     explain: bool,
     alloc: Global,
@@ -25,7 +25,7 @@ pub(crate) fn site_if<'a>(
     })
 }
 
-/// The line of a text at a place, if one was found; else the file.
+/// The line of a text at a place, if one was found; otherwise the file.
 fn site_at<'a>(text: Text<'a>, found: Result<Option<usize>, AllocError>) -> Site<'a> {
     match found {
         Ok(Some(place)) => Site::line(text.file, place, Lines::at(text.bytes, place)),

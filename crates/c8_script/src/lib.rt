@@ -1,6 +1,6 @@
-//! Scripts of whole matches: what happens to the peers of a world, one event a line
-//! ([`read_script`], [`faulty_event`]; [`write_act`] writes a line), what it comes to ([`play_script`]),
-//! and the command `sim`, which writes each answer.
+//! Scripts of whole matches, one event a line. [`read_script`] reads one, [`faulty_event`] finds its first faulty line,
+//! and [`write_act`] writes a line. [`play_script`] runs a script in a world of peers. The command `sim` writes each
+//! answer.
 #![tactic(auto)]
 
 mod acts;

@@ -15,8 +15,8 @@ use c8_game::Lines;
 use c8_world::Event;
 use std::alloc::{AllocError, Global};
 
-/// The events that a script spells, one a line. Empty lines and lines that begin with `#` are
-/// skipped. A line that spells no event is `Line`; `Memory` comes only where memory was refused.
+/// Reads the events of a script, one a line. Empty lines and lines that begin with `#` are skipped. `Line` if a line
+/// spells no event; `Memory` if memory ran out.
 pub fn read_script(alloc: Global, text: &[u8]) -> Result<Vec<Event>, ScriptError>
     ensures spelled { MatchResult result
         (λ events. SpellsScript text.now events.items) (IsFaultOfScript text.now) }
@@ -36,8 +36,8 @@ pub fn read_script(alloc: Global, text: &[u8]) -> Result<Vec<Event>, ScriptError
     Ok(events)
 }
 
-/// The place of the first line of a script that is not skipped and spells no event, 0 for the first
-/// line of all; none where there is no such line. The error is want of memory.
+/// The place of the first line of a script that is not skipped and spells no event; the text's first line is at 0.
+/// `None` if there is no such line. The error is that memory ran out.
 pub fn faulty_event(alloc: Global, text: &[u8]) -> Result<Option<usize>, AllocError>
     ensures { IfOk result (λ found. MatchOption found
         (AreEventLines text.now) (IsFirstNoEvent text.now)) }

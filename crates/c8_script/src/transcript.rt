@@ -1,4 +1,4 @@
-//! What happens by a script: all players of a game in one world, from no journal on.
+//! Runs a script: all players of a game in one world, from empty journals on.
 
 ghost use Rattle.std.specs.Prelude.{◌≡◌, MatchResult};
 ghost use Rattle.c8_game.specs.GameText.{Spells};
@@ -16,14 +16,14 @@ use std::alloc::Global;
 /// The room of the match.
 pub const ROOM: u64 = 0;
 
-/// How many bytes each player's disk has room for: 4096 records, and the gate after them.
+/// How many bytes each player's disk has: 4096 records, and the gate after them.
 pub const CAPACITY: u32 = 589_825;
 
 /// How many calls each player's disk serves between two stops.
 pub const CALLS: u32 = 65_536;
 
-/// All that a match came to: one answer for each event, in order, where the players stand in the end, and
-/// how many rows the watchers have.
+/// The result of a match: one answer for each event, in order, how far each player is at the end, and how many rows the
+/// watchers have.
 #[derive(Debug, Drop)]
 pub struct Transcript {
     pub answers: Vec<Answer>,
@@ -31,16 +31,15 @@ pub struct Transcript {
     pub watched: Watched,
 }
 
-/// Why a script was not played to its end, and the answers to the events before. Where a text is
-/// refused there are none.
+/// Why a script was not played to its end, and the answers to the events before that; none if a text was refused.
 #[derive(Debug, Drop)]
 pub struct Unfinished {
     pub answers: Vec<Answer>,
     pub error: SimError,
 }
 
-/// Lets happen what `script` says, to the players of the game that `game` spells, in a new world.
-/// `Memory` of the script comes also where memory runs out while the events happen.
+/// Runs `script` for the players of the game that `game` spells, in a new world. `Memory` of the script is also the
+/// error if memory runs out while the events run.
 pub fn play_script(alloc: Global, game: &[u8], script: &[u8]) -> Result<Transcript, Unfinished>
     ensures { IsOutcomeOfSim game.now script.now result }
 {
@@ -53,8 +52,7 @@ pub fn play_script(alloc: Global, game: &[u8], script: &[u8]) -> Result<Transcri
     }
 }
 
-/// The game and the events that the texts spell, or why one of them is refused: the game's text is
-/// judged first.
+/// The game and the events that the texts spell, or why one of them is refused; the game's text comes first.
 fn read(alloc: Global, game: &[u8], script: &[u8]) -> Result<(Game, Vec<Event>), SimError>
     ensures { MatchResult result
         (λ read. Spells game.now read.0 × SpellsScript script.now read.1.items)
@@ -65,7 +63,7 @@ fn read(alloc: Global, game: &[u8], script: &[u8]) -> Result<(Game, Vec<Event>),
     Ok((game, events))
 }
 
-/// Lets the events happen in a new world. Memory may run out.
+/// Runs the events in a new world. Memory may run out.
 fn play(alloc: Global, game: &Game, events: &[Event]) -> Result<Transcript, Unfinished>
     ensures { MatchResult result (IsPlayed game.now events.now) (IsCutShort game.now events.now) }
 {

@@ -1,4 +1,4 @@
-//! Which watchers a script names, and how many rows they have in the end.
+//! Which watchers a script names, and how many rows they have at the end.
 
 ghost use Rattle.std.specs.Prelude.{◌≡◌, length};
 ghost use Rattle.std.specs.List.{list_any};
@@ -8,14 +8,14 @@ ghost use Rattle.c8_script.specs.Watched.{names_seat, told_of};
 use c8_wire::Watcher;
 use c8_world::{Act, Event, World};
 
-/// How many rows the watchers in seats 5 and 6 have; `None` of one that no event of the script names.
+/// How many rows the watchers in seats 5 and 6 have; `None` if no event of the script names the watcher.
 #[derive(Clone, Copy, Debug, PartialEq, Eq)]
 pub struct Watched {
     pub five: Option<u32>,
     pub six: Option<u32>,
 }
 
-/// What is told of both watchers after these events.
+/// The rows of both watchers after these events.
 pub(crate) fn rows_told(world: &World<'_>, events: &[Event]) -> Watched
     ensures five { result.five ≡ told_of events.now 5 (length (rows_in world.now.table 5)) }
     ensures six { result.six ≡ told_of events.now 6 (length (rows_in world.now.table 6)) }

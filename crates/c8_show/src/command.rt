@@ -18,9 +18,9 @@ use std::alloc::Global;
 use std::io;
 use std::io::Write;
 
-/// Writes the fields of the datagram that `word` spells in hexadecimal to `out`; or writes the line
-/// of a refusal to `refused`, and nothing to `out`. Where `explain` is true the sentence of its error
-/// is a second line. The error is that of a writer.
+/// Writes the fields of the datagram that `word` spells in hexadecimal to `out`. If the word is refused, it writes the
+/// line of the refusal to `refused`, and nothing to `out`. With `explain`, a second line has the sentence of the error.
+/// The error is a writer's.
 pub fn show<W: Write, E: Write>(
     alloc: Global,
     word: &str,
@@ -49,7 +49,7 @@ fn bytes_of(alloc: Global, word: &str) -> Result<Vec<u8>, HexError>
     }
 }
 
-/// The datagram that these bytes spell, or the refusal of them.
+/// The datagram that these bytes spell, or why they are refused.
 fn datagram_in(bytes: &[u8]) -> Result<Datagram<'_>, ShowError>
     ensures { MatchResult result (λ datagram. Spells bytes.now (packet_of datagram))
         (IsRefusalOfBytes bytes.now) }
@@ -60,8 +60,8 @@ fn datagram_in(bytes: &[u8]) -> Result<Datagram<'_>, ShowError>
     }
 }
 
-/// Writes the fields of the datagram to `out`; or the line of the refusal to `refused`, and one that
-/// explains it.
+/// Writes the fields of the datagram to `out`; or the line of the refusal to `refused`, and its explanation if asked
+/// for.
 fn tell<W: Write, E: Write>(
     outcome: Result<Datagram<'_>, ShowError>,
     explain: bool,

@@ -1,10 +1,10 @@
-//! A row of a table: which player's peer is asked, what it is asked, and what it answers.
+//! A row of a table: a player, what its peer is asked, and the answer.
 use c8_disk::Arm;
 use c8_peer::{
     Check, CheckError, DecideError, Heard, LeaveError, OpenError, Refused, TickError, Unsayable,
 };
 
-/// The room in which all tests play.
+/// The room of all tests.
 pub(crate) const ROOM: u64 = 0x0102030405060708;
 
 pub const ONE: u8 = 1;
@@ -15,8 +15,8 @@ pub const THREE: u8 = 3;
 
 pub const FOUR: u8 = 4;
 
-/// Whose peer is asked, what, and what it answers. Players stand by their numbers: a table can lend no
-/// `Player` beside bytes.
+/// A player, what its peer is asked, and the answer. A table names players by number, because it can lend no `Player`
+/// beside bytes.
 pub type Row = (u8, Deed, Answer);
 
 /// What a player's peer, or its disk, is asked.
@@ -24,21 +24,21 @@ pub type Row = (u8, Deed, Answer);
 pub enum Deed {
     /// All players open their peers on empty disks, and each gets a link to each other.
     Meet,
-    /// Closes the peer if it is held, and opens it again on its disk.
+    /// Closes the peer if there is one, and opens it again on its disk.
     Open,
     /// The same in the other game.
     OpenOther,
-    /// Closes the peer. Its disk holds an image that a crash may leave, chosen by this number.
+    /// Closes the peer. Its disk then holds an image that a crash may leave, chosen by this number.
     Crash(u64),
     /// Replaces the peer and its disk by an empty disk with this capacity, which serves this many calls.
     Disk(u32, u32),
     /// Closes the peer, and writes these bytes to its disk, into the slot with this number at this place.
     Write(u32, u32, &'static [u8]),
-    /// Closes the peer, and adds a slot to its disk: these bytes, zeros, and a closed gate behind them.
+    /// Closes the peer, and adds a slot to its disk: these bytes, zeros, and a closed gate after them.
     Add(&'static [u8]),
-    /// Says when the disk's calls fail.
+    /// Sets which calls of the disk fail.
     Arm(Arm),
-    /// Closes the peer. Whether the slot with this number begins with these bytes, with zeros behind them.
+    /// Closes the peer. Whether the slot with this number begins with these bytes, followed by zeros.
     Slot(usize, &'static [u8]),
     /// Closes the peer. How many bytes its disk holds.
     Length,
@@ -46,11 +46,11 @@ pub enum Deed {
     Tick(u16),
     /// Enters a key set this many times.
     Ticks(u16, u32),
-    /// Says something to a player. What this deed says is numbered from 0.
+    /// Says something to a player. The datagrams of this deed are numbered from 0.
     Say(u8, What),
     /// Says something to a player, who hears it at once. The answer is that player's.
     Tell(u8, What),
-    /// Says HELLO to a player, and hears the WELCOME. The answer is to the WELCOME.
+    /// Says HELLO to a player, and hears the WELCOME. The answer is the one to the WELCOME.
     Link(u8),
     /// Hears the datagram with this number.
     Hear(usize),
@@ -60,7 +60,7 @@ pub enum Deed {
     Spells(usize, usize, &'static [u8]),
     Leave(u8),
     Decide(u8),
-    /// This many calls of `checkpoint`, until one is refused. The answer is the last one's.
+    /// Calls `checkpoint` this many times, until one call is refused. The answer is the last one's.
     Checks(u32),
     Look(Look),
     /// Asks about a player.
@@ -69,7 +69,7 @@ pub enum Deed {
     Row(u32),
 }
 
-/// What a player says, some of it about a leaver.
+/// What a player says, in part about a leaver.
 #[derive(Clone, Copy)]
 pub enum What {
     Hello,
@@ -103,7 +103,7 @@ pub enum About {
     Cut,
 }
 
-/// What a deed answers.
+/// The answer to a deed.
 #[derive(Clone, Copy, PartialEq, Eq)]
 pub enum Answer {
     Opened(Result<u32, OpenError>),
@@ -127,11 +127,11 @@ pub enum Answer {
 pub struct Told {
     pub epoch: u32,
     pub now: u32,
-    /// At how many frames the last whole checkpoint is.
+    /// How many frames the last whole checkpoint covers.
     pub checkpoint: u32,
     pub players: [OfPlayer; 4],
 }
 
-/// What a peer shows of a player's inputs: how many it holds, whether they are frozen, whether the
-/// player leaves, and where the list is cut.
+/// What a peer shows of a player's inputs: how many it holds, whether they are frozen, whether the player leaves, and
+/// where the list is cut.
 pub type OfPlayer = (u32, bool, bool, Option<u32>);

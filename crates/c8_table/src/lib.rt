@@ -1,9 +1,7 @@
-//! A table at which the peers of a match sit, in one program: what they are asked, row by row, and what
-//! each answers. For the tests of c8_peer.
+//! The peers of a match in one program: what each is asked, row by row, and what it answers. For the tests of c8_peer.
 //!
-//! A [`Row`] says whose peer is asked what ([`Deed`]) and what it answers ([`Answer`]); [`plays`] and
-//! [`plays_beside`] walk tables of rows. Nothing here has a contract: a row with another answer is an
-//! error.
+//! A [`Row`] says whose peer is asked what ([`Deed`]) and what it answers ([`Answer`]); [`plays`] and [`plays_beside`]
+//! walk tables of rows. Nothing here has a contract; a row with another answer is an error.
 #![tactic(auto)]
 
 mod deed;

@@ -35,7 +35,7 @@ impl Letter {
     }
 }
 
-/// A player's peer if it is held, else its disk.
+/// A player's open peer, or its disk.
 #[derive(Drop)]
 pub(crate) struct Node<'g> {
     peer: Option<Peer<'g, MemDisk>>,
@@ -43,7 +43,7 @@ pub(crate) struct Node<'g> {
 }
 
 impl<'g> Node<'g> {
-    /// Nothing is there yet.
+    /// A node without peer and disk.
     pub(crate) fn empty() -> Node<'g> {
         Node {
             peer: None,
@@ -51,7 +51,7 @@ impl<'g> Node<'g> {
         }
     }
 
-    /// Opens the peer on its disk; one that is held is closed first.
+    /// Opens the peer on its disk; an open one is closed first.
     pub(crate) fn open(&mut self, alloc: Global, game: &'g Game, me: Player, room: u64) -> Answer {
         self.close();
         let Some(disk) = self.disk.take() else {
@@ -83,7 +83,7 @@ impl<'g> Node<'g> {
         }
     }
 
-    /// Replaces all that is there by a disk.
+    /// Replaces everything by a disk.
     pub(crate) fn put(&mut self, disk: MemDisk) {
         self.peer = None;
         self.disk = Some(disk);
@@ -109,7 +109,7 @@ impl<'g> Node<'g> {
         }
     }
 
-    /// Adds a slot behind the last one, in place of the gate there.
+    /// Adds a slot after the last one, in place of the gate there.
     fn add(&mut self, bytes: &[u8]) -> Answer {
         let mut slot = [0; SLOT_LENGTH];
         for (byte, new) in slot.iter_mut().zip(bytes.iter()) {
@@ -122,7 +122,7 @@ impl<'g> Node<'g> {
         }
     }
 
-    /// How many bytes the disk holds, once the peer is closed.
+    /// Closes the peer, and returns how many bytes the disk holds.
     fn length(&mut self) -> u32 {
         self.close();
         match &self.disk {
@@ -131,7 +131,7 @@ impl<'g> Node<'g> {
         }
     }
 
-    /// What the disk holds, once the peer is closed.
+    /// Closes the peer, and returns what the disk holds.
     fn image(&mut self) -> &[u8] {
         self.close();
         match &self.disk {
@@ -173,7 +173,7 @@ impl<'g> Node<'g> {
         })
     }
 
-    /// What a deed answers that needs no other player.
+    /// Answers a deed that needs no other player.
     pub(crate) fn does(&mut self, deed: Deed) -> Answer {
         match deed {
             Deed::Crash(pick) => {
@@ -198,7 +198,7 @@ impl<'g> Node<'g> {
     }
 }
 
-/// Writes bytes at a place of a disk. Whether that worked.
+/// Writes bytes at a place of a disk, and returns whether that worked.
 fn writes(disk: &mut MemDisk, place: u32, bytes: &[u8]) -> bool {
     if place > disk.len() || bytes.len() > LONGEST_WRITE {
         return false;
@@ -206,7 +206,7 @@ fn writes(disk: &mut MemDisk, place: u32, bytes: &[u8]) -> bool {
     disk.write_at(place, bytes).is_ok()
 }
 
-/// The kind, where its leaver is a player.
+/// The kind, if its leaver is a player.
 fn kind_of(what: What) -> Option<Kind> {
     match what {
         What::Hello => Some(Kind::Hello),
@@ -230,7 +230,7 @@ fn told_of(peer: &Peer<'_, MemDisk>, player: u8) -> OfPlayer {
     )
 }
 
-/// What a peer answers to a deed.
+/// Answers a deed of a peer.
 fn asked(peer: &mut Peer<'_, MemDisk>, deed: Deed) -> Answer {
     match deed {
         Deed::Tick(keys) => ticks(peer, keys, 1),
@@ -269,7 +269,7 @@ fn ticks(peer: &mut Peer<'_, MemDisk>, keys: u16, times: u32) -> Answer {
     Answer::Ticked(Ok(()))
 }
 
-/// This many calls for a checkpoint, until one is refused.
+/// Calls `checkpoint` this many times, until one call is refused.
 fn checks(peer: &mut Peer<'_, MemDisk>, times: u32) -> Answer {
     let mut answer = Answer::Impossible;
     for _ in 0..times {
@@ -317,7 +317,7 @@ fn row(peer: &Peer<'_, MemDisk>, frame: u32) -> Answer {
     Answer::Sets([one.0, two.0, three.0, four.0])
 }
 
-/// Whether a slot of an image begins so, with zeros behind that.
+/// Whether a slot of an image begins with these bytes, followed by zeros.
 fn is_slot(image: &[u8], number: usize, beginning: &[u8]) -> bool {
     let Some(slot) = image.chunks(SLOT_LENGTH).nth(number) else {
         return false;

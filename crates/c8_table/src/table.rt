@@ -1,4 +1,4 @@
-//! All players' peers, and one deed after the other.
+//! All players' peers, and one deed after another.
 use crate::deed::{Answer, Deed, FOUR, ONE, ROOM, Row, THREE, TWO, Told, What};
 use crate::node::{Letter, Node};
 use c8_disk::MemDisk;
@@ -8,7 +8,7 @@ use std::test::Fail;
 
 const ALL: [u8; 4] = [ONE, TWO, THREE, FOUR];
 
-/// The nodes of all players, player 1 first, and what was said to be heard later.
+/// The nodes of all players, player 1's first, and the datagrams to be heard later.
 #[derive(Drop)]
 pub struct Table<'g> {
     alloc: Global,
@@ -24,12 +24,12 @@ pub struct Wrong {
     pub row: usize,
 }
 
-/// All rows have their answers, where the first rows were walked before.
+/// Walks the first rows, then the others; each must get its answer.
 pub fn plays(alloc: Global, text: &str, first: &[Row], rows: &[Row]) -> Result<(), Fail> {
     plays_beside(alloc, text, text, first, rows)
 }
 
-/// The same beside another game.
+/// The same, with another game beside it.
 pub fn plays_beside(
     alloc: Global,
     text: &str,
@@ -44,7 +44,7 @@ pub fn plays_beside(
 }
 
 impl<'g> Table<'g> {
-    /// A table at which nobody has a peer or a disk yet.
+    /// A table without peers and disks.
     pub fn new(alloc: Global, game: &'g Game, other: &'g Game) -> Result<Table<'g>, AllocError> {
         let mut nodes = Vec::new(alloc);
         for _ in 0..4 {
@@ -66,7 +66,7 @@ impl<'g> Table<'g> {
         Ok(())
     }
 
-    /// Each row has its answer.
+    /// Checks that each row gets its answer.
     pub fn walk(&mut self, rows: &[Row]) -> Result<(), Wrong> {
         for (row, (at, deed, wanted)) in rows.iter().enumerate() {
             if self.does(*at, *deed) != *wanted {
@@ -76,7 +76,7 @@ impl<'g> Table<'g> {
         Ok(())
     }
 
-    /// What a deed answers.
+    /// Answers a deed.
     pub fn does(&mut self, at: u8, deed: Deed) -> Answer {
         match deed {
             Deed::Meet => self.meet(),
@@ -96,7 +96,7 @@ impl<'g> Table<'g> {
         }
     }
 
-    /// What a player's peer shows of its journal; none where no peer is held.
+    /// What a player's peer shows of its journal; `None` without an open peer.
     pub fn told(&mut self, at: u8) -> Option<Told> {
         match self.node(at) {
             Some(node) => node.told(),
@@ -108,7 +108,7 @@ impl<'g> Table<'g> {
         self.nodes.get_mut(usize::from(at.saturating_sub(1)))
     }
 
-    /// Who is not a player of the game is refused, and stays away.
+    /// Opens all four; a number that is no player of the game is refused, and stays away.
     fn meet(&mut self) -> Answer {
         for at in &ALL {
             self.put(*at, 20000, 1000);
@@ -188,7 +188,7 @@ impl<'g> Table<'g> {
         }
     }
 
-    /// Hears what was said, with these bytes at a place.
+    /// Hears the datagram with these bytes at a place.
     fn hear(&mut self, to: u8, number: usize, place: usize, bytes: &[u8]) -> Answer {
         match self.letters.get(number).copied() {
             Some(letter) => self.give(to, &letter.with(place, bytes)),

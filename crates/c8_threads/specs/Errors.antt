@@ -1,4 +1,4 @@
--- The numbers of refusals, as they are printed, and what each is of.
+-- The part and the number of each refusal, as they are printed.
 use Rattle.std.specs.Prelude.{ℕ}
 use Rattle.c8_command.specs.declared.refusal.Part.{Part}
 use Rattle.c8_command.specs.declared.refusal.Part.TheVariants as parts
@@ -6,8 +6,8 @@ use Rattle.c8_game.specs.Errors as games
 use Rattle.c8_threads.specs.declared.error.RigError.{RigError}
 use Rattle.c8_threads.specs.declared.error.RigError.TheVariants.{Game, Memory, Script}
 
--- what the command refuses, and the number of the refusal; want of memory is told as that of an opening, a file that cannot be
--- written as the disk's
+-- the part and the number of each refusal of the command; out of memory counts as an opening's, and a file that cannot
+-- be written as the disk's
 abbrev pub rig_part : RigError → Part
 rig_part (Game error) = parts.Game
 rig_part Memory = parts.Open

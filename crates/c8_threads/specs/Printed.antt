@@ -5,7 +5,7 @@ abbrev pub agree_text : Bool → List ℕ
 agree_text true = codes "agree yes\n"
 agree_text false = codes "agree no\n"
 
--- of a match that is gathered: whether its peers agree; and of one that is torn
+-- for a gathered match, whether its peers agree; for a torn log, that it is not lawful
 abbrev pub verdict_text : Option Bool → List ℕ
 verdict_text (Some agree) = codes "lawful yes\n" ++ agree_text agree
 verdict_text None = codes "lawful no\n"

@@ -1,48 +1,48 @@
-//! What the command `rig` takes, and what it is asked to play by that.
+//! The options of the command `rig`, and what they ask for.
 
 use crate::help::RIG_ENDING;
 use c8_front::{is_explained, with_explain, with_place, word_of};
 use clap::{Arg, ArgAction, ArgMatches, Command, value_parser};
 use std::alloc::{AllocError, Global};
 
-/// What `rig` is asked to play.
+/// What the command line of `rig` asks for.
 #[derive(Clone, Copy)]
 pub struct Asked<'a> {
     /// The path of the game's text.
     pub game: &'a str,
     pub seed: u64,
-    /// How many turns each player takes.
+    /// How many turns each player makes.
     pub turns: u16,
-    /// The path of the script that is made of the match, if one is.
+    /// The path of the script to write, if any.
     pub script: Option<&'a str>,
-    /// Whether it is told how the log grows.
+    /// Whether to print each second how long the log is.
     pub progress: bool,
-    /// Whether a second line says where the fault of a refusal is.
+    /// Whether to print a second line that says where a refusal's fault is.
     pub explain: bool,
 }
 
-/// What `rig` takes.
+/// The command `rig` with its options.
 pub fn rig_command<'a>(alloc: Global) -> Result<Command<'a>, AllocError> {
     let command = Command::new(alloc, "rig")
         .about(
-            "Plays all players of a game here, each in a thread of its own, and tells whether they agree",
+            "Plays all players of a game here, each in a thread of its own, and says whether they agree",
         )
         .after_help(RIG_ENDING);
     let command = with_place(alloc, command, "GAME", "The path of the game's text")?;
     let seed = Arg::new(alloc, "SEED")
-        .help("What the players draw their turns with, 0 to 18446744073709551615")
+        .help("The seed of the players' turns, 0 to 18446744073709551615")
         .required(true)
         .value_parser(value_parser!(u64));
     let command = command.arg(seed)?;
     let turns = Arg::new(alloc, "TURNS")
-        .help("How many turns each player takes, 0 to 10000")
+        .help("How many turns each player makes, 0 to 10000")
         .required(true)
         .value_parser(value_parser!(u16).range(0..10001));
     let command = command.arg(turns)?;
     let script = Arg::new(alloc, "script")
         .long("script")
         .value_name("FILE")
-        .help("Writes what happened as a script, by which sim plays it again");
+        .help("Writes what happened as a script, which sim can play again");
     let command = command.arg(script)?;
     let progress = Arg::new(alloc, "progress")
         .long("progress")
@@ -51,8 +51,7 @@ pub fn rig_command<'a>(alloc: Global) -> Result<Command<'a>, AllocError> {
     with_explain(alloc, command.arg(progress)?)
 }
 
-/// What `rig` is asked to play by a command line, whose reader has seen that each argument is there and
-/// in its range.
+/// What a parsed command line asks for; the parser has checked that each argument is there and in its range.
 pub(crate) fn asked_of<'a>(given: &ArgMatches<'a>) -> Option<Asked<'a>> {
     Some(Asked {
         game: word_of(given, "GAME"),

@@ -27,7 +27,7 @@ use std::thread::Threads;
 use std::time::Clock;
 use std::{fs, io, thread};
 
-/// Plays what the command line asks for, as `rig_file` does. The error is that of a writer.
+/// Runs `rig_file` as the command line asks. The error is a writer's.
 pub fn rig_given<R, W, E>(
     rt: &R,
     given: &ArgMatches<'_>,
@@ -45,9 +45,8 @@ where
     }
 }
 
-/// Plays a match of the game of a file, as `rig` does with its text. Where a script is asked for, its
-/// file is made before anything is played, if the text is a game's and the file another one. The error
-/// is that of a writer.
+/// Plays a match of the game in a file, as `rig` does with its text. With `script` it first creates the script's file,
+/// if the text spells a game and the script is another file. The error is a writer's.
 pub fn rig_file<R, W, E>(
     rt: &R,
     asked: &Asked<'_>,
@@ -82,11 +81,10 @@ where
     }
 }
 
-/// Plays a match of the game that a text spells: each player in a thread of its own, by generators of
-/// the seed that is asked for, so many turns. Writes the verdict to `out`, and before that, where
-/// there is a `script`, into that what happened; or writes the line of a refusal to
-/// `refused`, with the one that explains it where that is asked for. With `progress` it also writes
-/// there how the log grows. The error is that of a writer.
+/// Plays a match of the game that a text spells: each player in a thread of its own, with `turns` turns drawn by a
+/// generator of the seed. Writes the log as a script, if there is a `script`, and then the verdict to `out`. A refusal
+/// is one line on `refused`, with a second one for `--explain`. With `progress` it also writes there how the log grows.
+/// The error is a writer's.
 pub fn rig<R, S, W, E>(
     rt: &R,
     asked: &Asked<'_>,
@@ -117,7 +115,7 @@ where
     }
 }
 
-/// Whether the players agree, if what was noted of them is one log.
+/// Whether the players agree; `None` if their notes are not one log.
 fn played<R, S, E>(
     rt: &R,
     asked: &Asked<'_>,
@@ -161,7 +159,7 @@ fn write_to<S: Write>(alloc: Global, script: &mut S, log: &[Note]) -> Result<(),
     script.write_all(&text).map_err(|_| RigError::Script)
 }
 
-/// The match. Meanwhile tells how the log grows, where that is asked for.
+/// Plays the match, and meanwhile prints how the log grows, if asked for.
 fn gathered<'g, R, E>(
     rt: &R,
     asked: &Asked<'_>,
@@ -184,7 +182,7 @@ where
     gathering
 }
 
-/// The match, after which its watcher is told that it is over.
+/// Plays the match, then ends the progress lines.
 fn play<'g, R>(
     rt: &R,
     asked: &Asked<'_>,
@@ -200,7 +198,7 @@ where
     gathering
 }
 
-/// Writes whether the players agree, or that what was noted of them is not one log.
+/// Writes whether the players agree, or that their notes are not one log.
 fn write_verdict<W: Write>(out: &mut W, verdict: Option<bool>) -> io::Result<()>
     ensures { OnOk result (Appends (W.contents out.old) (W.contents out.new)
         (verdict_text verdict)) }
@@ -212,7 +210,7 @@ fn write_verdict<W: Write>(out: &mut W, verdict: Option<bool>) -> io::Result<()>
     }
 }
 
-/// Writes the line of a refusal, and where that is asked for the one that explains it.
+/// Writes the line of a refusal, and its explanation if asked for.
 fn refuse<E: Write>(
     alloc: Global,
     asked: &Asked<'_>,
@@ -234,7 +232,7 @@ fn refuse<E: Write>(
     refusal.tell_at(Some(site), &error, refused)
 }
 
-/// Tells why the game's file was not read.
+/// Writes why the game's file was not read.
 fn refuse_file<E: Write>(
     asked: &Asked<'_>,
     error: TextError,

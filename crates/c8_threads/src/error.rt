@@ -1,4 +1,4 @@
-//! Why there is no match in threads.
+//! The refusals of the command `rig`.
 
 ghost use Rattle.std.specs.Prelude.{◌≡◌};
 ghost use Rattle.c8_threads.specs.Errors.{rig_part, rig_error_number};
@@ -7,16 +7,16 @@ use c8_command::{Part, Refusal};
 use c8_game::GameError;
 use thiserror::Error;
 
-/// Why the command `rig` refuses what it was given, or comes to no verdict.
+/// Why the command `rig` refuses, or comes to no verdict.
 #[derive(Clone, Copy, Debug, PartialEq, Eq, Error)]
 pub enum RigError {
-    /// The text of the game.
+    /// The text of the game has a fault.
     #[error("{0}")]
     Game(GameError),
-    /// Out of memory for the match.
+    /// Memory ran out during the match.
     #[error("out of memory")]
     Memory,
-    /// A script that cannot be written.
+    /// The script cannot be written.
     #[error("a file that cannot be written")]
     Script,
 }

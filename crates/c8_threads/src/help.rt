@@ -1,22 +1,22 @@
-//! What the help of `rig` ends with: what it is for, what it refuses, and the exit statuses.
+//! The end of the help of `rig`: what it is for, what it refuses, and the exit statuses.
 
 /// The end of the help of `rig`.
 pub const RIG_ENDING: &str =
-    "A soak of the session under real threads, on this machine: each player opens its peer on an empty
-disk in memory, and then takes its turns by a generator of the seed and its number. It enters keys,
-says something, hears something that was said, once, late or again, or has its part in letting a
-player go. Nothing else is between the threads. As they race, two runs with one seed differ in what
-happens when, and not in the verdict. Player 1 lets somebody go in one of 64 of its turns, so in matches
-of some twenty turns mostly all stay, and in those of hundreds few. A player for whose note there is no
-memory takes no more turns.
+    "Tests the session under real threads, on this machine. Each player opens its peer on an empty disk in
+memory, and then makes turns, drawn by a generator of the seed and its number. In a turn it enters
+keys, says something, hears something that was said (once, late or again), or takes part in dropping
+a player. Nothing else is between the threads. They race, so two runs with one seed differ in what
+happens when, but not in the verdict. Player 1 drops a player in one of 64 of its turns: in matches of
+about twenty turns mostly all stay, in matches of hundreds few. If memory runs out for a note of a
+player, it makes no more turns.
 
-Prints 'lawful yes', where what was noted of each player is its part of one log, and then 'agree yes',
-where all who were not let go agree on the frames that they count as confirmed. It is proved that
-neither line says no; 'lawful no' would stand alone.
+Prints 'lawful yes' if the notes of each player are its part of one log, and then 'agree yes' if all
+players that were not dropped agree on the frames that they have confirmed. It is proved that neither
+line says no. After 'lawful no' there would be no second line.
 
-The script has each opening, key set, datagram and delivery of the log, in its order. The command sim
-plays it to the same end, in one thread, but where a player has more than 4096 records: the disks of
-sim have room for so many, which 4094 turns cannot fill.
+The script has each event of the log, in order. The command sim plays it to the same end, in one
+thread, unless a player has more than 4096 records: the disks of sim have room for 4096, which 4094
+turns cannot fill.
 
 Refusals, each one line on standard error, as 'refused: game 5 Hex':
   game 1 Line to 6 Memory: those of the command run

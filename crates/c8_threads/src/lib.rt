@@ -1,9 +1,8 @@
-//! The command `rig`: all players of a game here, each in a thread of its own, as a soak of the session
-//! under real threads.
+//! The command `rig`: all players of a game, each in a thread of its own, as a stress test of the session under real
+//! threads.
 //!
-//! The match is [`c8_rig::rig`], whose contract has the theorem; `arguments` says what the command
-//! takes, `command` reads that, plays, and prints the verdict; `watch` counts the log while it grows,
-//! and `script` writes it as a script for the command `sim`.
+//! [`c8_rig::rig`] plays the match; its contract has the theorem. `arguments` has the options, `command` plays and
+//! prints the verdict, `watch` counts the log while it grows, and `script` writes it as a script for the command `sim`.
 #![tactic(auto)]
 
 mod arguments;

@@ -5,7 +5,7 @@ use c8_script::write_act;
 use std::io;
 use std::io::Write;
 
-/// Writes a line for each note of a log, in its order: a script of what happened.
+/// Writes a log as a script, one line for each note.
 pub fn write_script<W: Write>(out: &mut W, log: &[Note]) -> io::Result<()> {
     for note in log {
         write_act(out, note.act)?;

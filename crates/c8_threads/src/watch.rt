@@ -1,4 +1,4 @@
-//! How the log of a match grows, for a person who waits.
+//! How the log of a match grows, for the person who waits.
 
 use c8_game::{MOST_PLAYERS, Player};
 use c8_live::{Gate, Worker};
@@ -9,13 +9,13 @@ use std::sync::atomic::{AtomicBool, AtomicU64, Ordering};
 use std::time::{Clock, Duration};
 use std::{io, thread};
 
-/// How many milliseconds the viewer sleeps between two looks.
+/// How many milliseconds the progress thread sleeps between two looks.
 const PAUSE: u64 = 5;
 
 /// How many seconds lie between two lines.
 const EVERY: u64 = 1;
 
-/// How many notes there are of each player, and whether the match is over.
+/// How many notes each player has, and whether the match is over.
 #[derive(Drop)]
 pub(crate) struct Counts {
     notes: [AtomicU64; MOST_PLAYERS],
@@ -35,7 +35,7 @@ impl Counts {
         }
     }
 
-    /// The match is over.
+    /// Ends `tell`.
     pub(crate) fn end(&self) {
         self.is_over.store(true, Ordering::SeqCst);
     }
@@ -49,8 +49,8 @@ impl Counts {
         all
     }
 
-    /// Writes once a second how many notes the log has, as `12345 notes`, until the match is over. The
-    /// error is that of the writer.
+    /// Writes once a second how many notes the log has, as `12345 notes`, until the match is over. The error is the
+    /// writer's.
     pub(crate) fn tell<R: Clock + Wait, E: Write>(&self, rt: &R, out: &mut E) -> io::Result<()> {
         let mut due = soon(rt);
         for _ in rt.forever() {
@@ -67,7 +67,7 @@ impl Counts {
     }
 }
 
-/// No player is held back.
+/// No player has to wait.
 impl Gate for Counts {
     fn before(&self, _: Worker, _: u64) -> bool {
         true
@@ -84,7 +84,7 @@ impl Watch for Counts {
     }
 }
 
-/// What the clock says; where it cannot be read, that no time has gone by.
+/// The time since the clock's start; 0 if the clock cannot be read.
 fn now<R: Clock>(rt: &R) -> Duration {
     rt.monotonic().unwrap_or(Duration::from_secs(0))
 }

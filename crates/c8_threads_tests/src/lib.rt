@@ -1,5 +1,5 @@
-//! Tests of the command `rig`: what its threads do, that its script tells it and is played to the same
-//! end, and what it refuses.
+//! Tests of the command `rig`: what its threads do, that its script has the log and leads to the same end, and what it
+//! refuses.
 #![tactic(auto)]
 
 mod refusals;

@@ -1,11 +1,11 @@
-//! What the command refuses, and how it tells it.
+//! What the command refuses, and what it prints then.
 use c8_command::{Refusal, Text};
 use c8_game::GameError;
 use c8_threads::{Asked, RigError, rig};
 use std::io;
 use std::io::Write;
 
-/// What is asked for, with no line that explains a refusal.
+/// The command line, without `--explain`.
 pub(crate) const ASKED: Asked<'static> = Asked {
     game: "a.game",
     seed: 1,

@@ -28,7 +28,7 @@ const SEEDS: u64 = 20;
 
 const TURNS: u16 = 200;
 
-/// Holds no player back.
+/// Lets every player go on.
 #[derive(Drop)]
 struct Open;
 
@@ -44,7 +44,7 @@ impl Watch for Open {
     fn noted(&self, _: Player, _: usize) {}
 }
 
-/// Whether a player of a script's match stands as a peer does.
+/// Whether a player of a script's match is as far as a peer.
 fn stands_so(tally: &Tally, peer: &Peer<'_, MemDisk>) -> bool {
     let (now, confirmed) = (peer.now(), peer.confirmed());
     let held = [
@@ -61,7 +61,7 @@ fn stands_so(tally: &Tally, peer: &Peer<'_, MemDisk>) -> bool {
         }
 }
 
-/// Whether the players of a script's match stand as these peers do, and agree.
+/// Whether the players of a script's match are as far as these peers, and agree.
 fn stand_so(transcript: &Transcript, peers: &[Peer<'_, MemDisk>]) -> bool {
     let mut is_so = transcript.ends.agree && transcript.ends.players.len() == peers.len();
     for (tally, peer) in transcript.ends.players.iter().zip(peers) {
@@ -70,7 +70,7 @@ fn stand_so(transcript: &Transcript, peers: &[Peer<'_, MemDisk>]) -> bool {
     is_so
 }
 
-/// Whether a script is played to the same end.
+/// Whether a script leads to the same end.
 fn is_played(alloc: Global, game: &str, script: &[u8], peers: &[Peer<'_, MemDisk>]) -> bool {
     match play_script(alloc, game.as_bytes(), script) {
         Ok(transcript) => stand_so(&transcript, peers),
@@ -90,7 +90,7 @@ fn is_read(alloc: Global, script: &[u8], log: &[Note]) -> bool {
     is_so
 }
 
-/// Whether the script of a log has its acts, and is played to the end of these peers.
+/// Whether the script of a log has its acts, and leads to the end of these peers.
 fn is_replayed(alloc: Global, game: &str, log: &[Note], peers: &[Peer<'_, MemDisk>]) -> bool {
     let mut script = Vec::new(alloc);
     write_script(&mut script, log).is_ok()

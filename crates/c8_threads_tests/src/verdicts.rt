@@ -5,12 +5,12 @@ use c8_threads::{Asked, rig};
 
 const VERDICT: &[u8] = b"lawful yes\nagree yes\n";
 
-/// What the two players of the seed 2878 do in four turns each: its generators draw key sets alone.
+/// What the two players do with seed 2878 in four turns each: their generators draw only ticks.
 const ONE: &[u8] = b"open 1\ntick 1 a995\ntick 1 68b7\ntick 1 761e\ntick 1 728c\n";
 
 const TWO: &[u8] = b"open 2\ntick 2 49a2\ntick 2 2354\ntick 2 32db\ntick 2 5d77\n";
 
-/// Whether a text has the lines of two others and no more, those of each in their order.
+/// Whether a text is a merge of the lines of two others.
 fn is_merged(text: &[u8], one: &[u8], two: &[u8]) -> bool {
     let (mut one, mut two) = (one, two);
     for line in text.split_inclusive(|byte| *byte == b'\n') {
@@ -25,8 +25,8 @@ fn is_merged(text: &[u8], one: &[u8], two: &[u8]) -> bool {
     one.is_empty() && two.is_empty()
 }
 
-/// The script has what happened, by the words of the seed. The log is watched, and a line tells its
-/// growth once a second: so mostly not in so short a match.
+/// The script has what happened, by the words of the seed. The progress lines come once a second, so usually not in so
+/// short a match.
 #[test]
 fn a_match_has_its_verdict_and_its_script(rt: HostRuntime) {
     let (mut out, mut refused) = (Vec::new(rt.alloc()), Vec::new(rt.alloc()));

@@ -1,4 +1,4 @@
--- What comes of SHOWs that one peer said.
+-- What follows from SHOWs that one peer said.
 use Rattle.std.proofs.Common.{◌≡◌, ℕ, ◌<◌, ◌≤◌, ◌^◌, List, [], ◌∷◌, Option, Result, Ok, Err, refl, subst, arith}
 use Rattle.c8_game.specs.Rules.{Rules, AreInRange}
 use Rattle.c8_game.specs.declared.row.Row.{Row}
@@ -17,7 +17,7 @@ use Rattle.c8_spectator.specs.Watching.{WatchValue, hear}
 use Rattle.c8_watch.specs.Turns.{after_hearing}
 use Rattle.c8_watch.specs.Shown.{ShowsWereSaid}
 
--- that what is shown of one list begins it, as c8_spectator says it
+-- c8_spectator's law: rows shown from one list begin that list
 abbrev pub BeginsIt : Type 0
 BeginsIt = (truth : List Row) (w : WatchValue) (p : Packet) → Begins w.rows truth → ShowsRowsOf truth p → Begins (hear w (Ok p)).watch.rows truth
 
@@ -25,7 +25,7 @@ heard_one : BeginsIt → (truth : List Row) (w : WatchValue) (told : Result Pack
 heard_one law truth w (Err error) shows begins = begins
 heard_one law truth w (Ok p) shows begins = law truth w p begins (shows p refl)
 
--- a SHOW of player one that is true of a journal has rows that its confirmed ones have there
+-- the rows of a true SHOW of player 1 stand among the confirmed rows of its journal
 shown_stands : (rules : Rules) (s : State) (p : Packet) (m : ShowMessage) → p.message ≡ packets.Show m → IsTrue rules 1 s.journal p → Stands m.start m.rows (confirmed_rows (known_of rules 1 s.journal))
 shown_stands rules s p m is true_said = (subst (λ (message : Message). IsTrueMessage rules 1 p.head.to s.journal message) is true_said.message).1
 

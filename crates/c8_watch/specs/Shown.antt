@@ -1,4 +1,4 @@
--- What a watcher hears of one player who shows it a match.
+-- What a watcher hears of the one player who shows it a match.
 use Rattle.std.specs.Prelude.{◌≡◌, ℕ, List, [], ◌∷◌, Option, Ok}
 use Rattle.c8_wire.specs.Packet.{ShowMessage, Packet}
 use Rattle.c8_wire.specs.Packet as packets
@@ -6,7 +6,7 @@ use Rattle.c8_wire.specs.checked.Read.{read}
 use Rattle.c8_peer.specs.State.{Reply}
 use Rattle.c8_peer.specs.Runs.{IsAmong}
 
--- Each SHOW among these packets was said in one of these answers. Of all else that comes nothing is asked.
+-- One of these answers said each SHOW among these packets. Other packets may be anything.
 abbrev pub ShowsWereSaid : List (Option Reply) → List (List ℕ) → Type 0
 ShowsWereSaid answers [] = Unit {0}
 ShowsWereSaid answers (bytes ∷ given) = ((p : Packet) (m : ShowMessage) → read bytes ≡ Ok p → p.message ≡ packets.Show m → IsAmong answers p) × ShowsWereSaid answers given

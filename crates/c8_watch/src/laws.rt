@@ -1,5 +1,4 @@
-//! What callers may rest on that is no single call's, each the contract of a function that does
-//! nothing.
+//! Facts for callers that no single call states; each is the contract of a function that does nothing.
 ghost use Rattle.std.specs.Prelude.{◌≡◌, ◌<◌, ◌≤◌, ◌+◌, ◌^◌, ℕ, List, [], ◌∷◌, ◌++◌, Option};
 ghost use Rattle.c8_game.specs.Rules.{Rules, AreInRange};
 ghost use Rattle.c8_known.specs.Growth.{Begins};
@@ -20,8 +19,8 @@ use c8_spectator::laws::{
     what_is_still_watched_chains,
 };
 
-/// What is heard, joined: nothing (`none`), one packet more after others (`more`), and fewer than so many
-/// (`fewer`).
+/// What a watcher hears: nothing (`none`), one more packet (`more`), nothing more (`still`), and a smaller number of
+/// packets under a larger bound (`fewer`).
 pub fn hearings_join<W: Wire>()
     ensures none { (w : WatchValue) (wire : W) → HasHeard W.Wire 0 w w wire wire }
     ensures more { (most : ℕ) (first middle : WatchValue) (before between after : W) (bytes : List ℕ)
@@ -37,7 +36,7 @@ pub fn hearings_join<W: Wire>()
         → HasHeard W.Wire most first last before after }
 {}
 
-/// Turns, joined: none, and one more after some.
+/// Turns: none (`none`), and one more (`more`).
 pub fn turns_join<W: Wire>()
     ensures none { (w : WatchValue) (wire : W) → AreTurns W.Wire 0 w w wire wire }
     ensures more { (n : ℕ) (first middle last : WatchValue) (before between after : W)
@@ -45,8 +44,7 @@ pub fn turns_join<W: Wire>()
         → AreTurns W.Wire (n + 1) first last before after }
 {}
 
-/// A turn takes no row back: it is the same match, watched from the same seat, and the rows that there were
-/// begin those that there are.
+/// A turn takes no row back: game, match and seat stay, and the new rows begin with the old ones.
 pub fn a_turn_takes_nothing_back<W: Wire>()
     ensures { (old new : WatchValue) (before after : W) → IsTurn W.Wire old new before after
         → IsStillWatched old new }
@@ -55,7 +53,7 @@ pub fn a_turn_takes_nothing_back<W: Wire>()
     what_is_still_watched_chains();
 }
 
-/// Nor do any number of turns.
+/// No number of turns takes a row back.
 pub fn turns_take_nothing_back<W: Wire>()
     ensures { (n : ℕ) (first last : WatchValue) (before after : W)
         → AreTurns W.Wire n first last before after → IsStillWatched first last }
@@ -64,9 +62,9 @@ pub fn turns_take_nothing_back<W: Wire>()
     what_is_still_watched_chains();
 }
 
-/// Whatever is delivered to player one's peer, forged datagrams too, however often it stops and starts again, and
-/// whatever comes to a watcher: if each SHOW among that was said by this peer, at any time and in any order,
-/// what the watcher has begins the rows that player one counts as confirmed in the end.
+/// Only a forged SHOW can mislead a watcher. Suppose that player 1's peer said each SHOW that the watcher heard, at any
+/// time and in any order. Then the watcher's rows begin the rows that player 1 has confirmed in the end. This holds
+/// whatever else the watcher hears, whatever is delivered to player 1, forged or not, and however often it restarts.
 pub fn only_a_forged_show_misleads()
     ensures { (rules : Rules) (room seat : ℕ) (s : State) (deeds : List Deed)
         (answers : List (Option Reply)) (given : List (List ℕ))

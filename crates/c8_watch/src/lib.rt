@@ -1,9 +1,9 @@
-//! Watching a match live: the turns of a spectator, over the way on which packets come.
+//! Watching a match live: the turns of a spectator, over the network.
 //!
-//! [`watch_turn`] is one turn: the packets that wait are heard, and player one is told how many rows there
-//! are. [`watch_worker`] makes turns until the match is whole, and shows on a board what was taken
-//! ([`open_watch_board`] opens one); whoever wants to see the machine itself is a [`Picture`]. What a
-//! spectator takes is c8_spectator's; what a turn is, stands in `specs/Turns.antt`.
+//! [`watch_turn`] is one turn: it hears the packets that wait, and tells player 1 how many rows it has.
+//! [`watch_worker`] makes turns until the match is complete, and publishes the rows on a board ([`open_watch_board`]
+//! opens one). A [`Picture`] sees the machine after each turn. c8_spectator decides which rows a spectator takes;
+//! `specs/Turns.antt` defines a turn.
 #![tactic(auto)]
 
 pub mod laws;

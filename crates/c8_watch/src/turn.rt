@@ -1,4 +1,4 @@
-//! A turn of one who watches: it hears, and says how many rows it has.
+//! A turn of a watcher: it hears, and says how many rows it has.
 ghost use Rattle.std.specs.Prelude.{◌≡◌};
 ghost use Rattle.c8_live.specs.Turns.{most_packets};
 ghost use Rattle.c8_watch.specs.Turns.{HasHeard, IsTurn};
@@ -9,11 +9,11 @@ use c8_live::{LONGEST_PACKET, Wire, WireFailed};
 use c8_spectator::Spectator;
 use c8_wire::{LONGEST_DATAGRAM, Seat};
 
-/// The most packets that are taken from the wire in one turn.
+/// How many packets one turn takes from the wire at most.
 const MOST_PACKETS: u16 = 256;
 
-/// One turn: the spectator hears what the wire gives, at most 256 packets, whatever they are, and then
-/// player one is told how many rows there are. The error is the wire's; what was heard before it stays.
+/// Makes one turn: the spectator hears at most 256 packets of the wire, whatever they are, and then tells player 1 how
+/// many rows it has. The error is the wire's; what was heard before it stays.
 pub fn watch_turn<W: Wire>(spectator: &mut Spectator<'_>, wire: &mut W) -> Result<(), WireFailed>
     ensures { IsTurn W.Wire spectator.old spectator.new wire.old wire.new }
 {

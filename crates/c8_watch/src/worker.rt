@@ -1,4 +1,4 @@
-//! One who watches, turn after turn, and the board that shows what was taken.
+//! A watcher, turn after turn, and the board that shows its rows.
 ghost use Rattle.std.specs.Prelude.{◌≡◌, ◌≤◌, ℕ, List, length, vec_len, IfOk};
 ghost use Rattle.std.specs.List.{All};
 ghost use Rattle.c8_game.specs.Rules.{most_frames};
@@ -20,16 +20,16 @@ use c8_machine::Machine;
 use c8_spectator::Spectator;
 use std::alloc::{AllocError, Global};
 
-/// Who looks at the machine of a match that is watched, in the thread that makes the turns.
+/// Sees the machine of a watched match, in the thread that makes the turns.
 pub trait Picture {
-    /// Told after each turn.
+    /// Called after each turn.
     fn show(&mut self, machine: &Machine);
 }
 
-/// Makes turns of a spectator, at most so many, until it has every row of the game, a viewer of the board
-/// asks for the end, or the gate ends it (as the game's worker); answers how many it made. Before the first
-/// one and after each the pen publishes what was taken, and after each the picture is shown the machine. The
-/// error is the wire's; the pen shows what had been taken before that turn then.
+/// Makes at most `turns` turns of a spectator, until it has every row of the game, a viewer of the board asks for the
+/// end, or the gate ends it (as `Worker::Game`). Returns how many it made. Before the first turn and after each, the
+/// pen publishes the spectator's rows; after each, the picture is shown the machine. The error is the wire's; the pen
+/// then still shows the rows from before that turn.
 pub fn watch_worker<W: Wire, G: Gate, P: Picture>(
     spectator: &mut Spectator<'_>,
     wire: &mut W,
@@ -63,8 +63,7 @@ pub fn watch_worker<W: Wire, G: Gate, P: Picture>(
     Ok(made)
 }
 
-/// A board of the game, which shows what a spectator has, with its pen and 1 to 4 viewers. The error is
-/// want of memory.
+/// Opens a board that shows what a spectator has, with its pen and 1 to 4 viewers. The error is that memory ran out.
 pub fn open_watch_board(
     alloc: Global,
     spectator: &Spectator<'_>,
@@ -83,7 +82,7 @@ pub fn open_watch_board(
     open_at(alloc, spectator, spectator.game(), count, machine, viewers)
 }
 
-/// The same of a machine and its count that are the spectator's.
+/// The part of `open_watch_board` that needs the proof: count and machine are the spectator's.
 fn open_at(
     alloc: Global,
     _spectator: &Spectator<'_>,
@@ -110,7 +109,7 @@ fn open_at(
     Board::open(alloc, game, count, machine, viewers)
 }
 
-/// The pen publishes what a spectator has.
+/// Publishes what a spectator has.
 fn publish(spectator: &Spectator<'_>, board: &Board, pen: &mut Pen)
     requires board { pen.old.board ≡ board.now }
     requires shows { MayShow spectator.now pen.old }
@@ -120,7 +119,7 @@ fn publish(spectator: &Spectator<'_>, board: &Board, pen: &mut Pen)
     show(spectator, spectator.game(), count, machine, board, pen);
 }
 
-/// The same of a machine and its count that are the spectator's.
+/// The part of `publish` that needs the proof: count and machine are the spectator's.
 fn show(
     _spectator: &Spectator<'_>,
     game: &Game,

@@ -1,4 +1,4 @@
-//! Random matches of three, in which players stop, disks fail and one player is dropped: at the end player one's
+//! Random matches of three, in which players stop, disks fail and one player is dropped. At the end player 1's
 //! confirmed rows begin with those of each watcher.
 use crate::played::{FIVE, ONE, ROOM, SIX, THREE, TWO, game_of, keys_of, serial};
 use c8_game::{Game, Keys, Player, Row};
@@ -17,7 +17,7 @@ const SEEDS: u64 = 200;
 
 const STEPS: u32 = 60;
 
-/// A match, and where its steps come from.
+/// A match, and the generator of its steps.
 #[derive(Drop)]
 struct Drawn<'g> {
     alloc: Global,
@@ -62,7 +62,7 @@ impl<'g> Drawn<'g> {
         self.world.said().saturating_sub(back)
     }
 
-    /// The answer to an event; none where memory is refused.
+    /// The answer to an event; `None` if memory ran out.
     fn happen(&mut self, event: Event) -> Option<Answer> {
         match self.world.run(self.alloc, &[event]) {
             Ok(report) => match report.answers.as_slice() {
@@ -73,7 +73,7 @@ impl<'g> Drawn<'g> {
         }
     }
 
-    /// The second act hears what the first one says, if it says anything. Gives the last answer.
+    /// The second act hears what the first one says, if it says anything. Returns the last answer.
     fn pass(&mut self, say: Act, hear: Act) -> Option<Answer> {
         let before = self.world.said();
         let said = self.happen(Event::Do(say));
@@ -83,20 +83,20 @@ impl<'g> Drawn<'g> {
         self.happen(Event::Do(hear))
     }
 
-    /// A player tells another something, who hears it at once.
+    /// A player says something to another, who hears it at once.
     fn tell(&mut self, from: Player, to: Player, kind: Kind) -> Option<Answer> {
         let next = self.world.said();
         self.pass(Act::Say(from, to, kind), Act::Give(next, to))
     }
 
-    /// Each player tells each other the same.
+    /// Each player says the same to each other.
     fn tell_all(&mut self, kind: Kind) {
         let _one = (self.tell(ONE, TWO, kind), self.tell(ONE, THREE, kind));
         let _two = (self.tell(TWO, ONE, kind), self.tell(TWO, THREE, kind));
         let _three = (self.tell(THREE, ONE, kind), self.tell(THREE, TWO, kind));
     }
 
-    /// Every player who is not open is opened, and every two players get a link.
+    /// Opens every player who is not open, and links every two players.
     fn meet(&mut self) -> Option<Answer> {
         let _one = self.happen(Event::Do(Act::Open(ONE)));
         let _two = self.happen(Event::Do(Act::Open(TWO)));
@@ -106,12 +106,12 @@ impl<'g> Drawn<'g> {
         None
     }
 
-    /// The next frame of a player, if its peer is held.
+    /// The next frame of a player, if its peer is open.
     fn frame(&self, player: Player) -> Option<u32> {
         Some(self.world.peer(player)?.now())
     }
 
-    /// A player enters its next key set, if its peer is held.
+    /// Enters a player's next key set, if its peer is open.
     fn enter(&mut self, player: Player) {
         if let Some(frame) = self.frame(player) {
             let keys = Keys(keys_of(player.number, frame));
@@ -192,7 +192,7 @@ impl<'g> Drawn<'g> {
         }
     }
 
-    /// How many rows a watcher has, if player one's confirmed rows begin with them and its machine is their serial run.
+    /// How many rows a watcher has, if player 1's confirmed rows begin with them and its machine is their serial run.
     fn begun(&self, game: &Game, watcher: Watcher) -> Option<u32> {
         let peer = self.world.peer(ONE)?;
         let spectator = self.world.watcher(watcher);
@@ -217,8 +217,8 @@ fn begin(rows: &[Row], confirmed: &Rows<'_>) -> bool {
     true
 }
 
-/// How often each of these came: new rows at a watcher, none, a gap, and what is not for it; a watcher that began
-/// again, player 3 cut, and a stop; and a watcher that ends with more rows than one SHOW has.
+/// How often each of these came: new rows at a watcher, none, a gap, and a datagram that is not for it; a watcher that
+/// started again, player 3 cut, and a stop; and a watcher that ends with more rows than one SHOW has.
 type Counted = [u32; 8];
 
 /// Counts one more at a place.
@@ -228,7 +228,7 @@ fn count(counted: &mut Counted, place: usize) {
     }
 }
 
-/// Counts an answer. Whether it may come: a watcher refuses nothing else, and no SEEN has more rows than are
+/// Counts an answer, and returns whether it may come. A watcher refuses only these, and no SEEN has more rows than are
 /// confirmed.
 fn note(counted: &mut Counted, came: Option<Answer>) -> bool {
     let Some(answer) = came else {
@@ -249,7 +249,7 @@ fn note(counted: &mut Counted, came: Option<Answer>) -> bool {
     true
 }
 
-/// Whether player one's confirmed rows begin with those of a watcher.
+/// Whether player 1's confirmed rows begin with those of a watcher.
 fn ends(game: &Game, drawn: &Drawn<'_>, watcher: Watcher, counted: &mut Counted) -> bool {
     let Some(rows) = drawn.begun(game, watcher) else {
         return false;
@@ -260,7 +260,7 @@ fn ends(game: &Game, drawn: &Drawn<'_>, watcher: Watcher, counted: &mut Counted)
     true
 }
 
-/// Whether only answers that may come do come in a match, and its watchers end as they should.
+/// Whether a match has only answers that may come, and its watchers end as they should.
 fn plays(game: &Game, drawn: &mut Drawn<'_>, counted: &mut Counted) -> bool {
     let _met = drawn.meet();
     for _ in 0..STEPS {
@@ -272,7 +272,7 @@ fn plays(game: &Game, drawn: &mut Drawn<'_>, counted: &mut Counted) -> bool {
     ends(game, drawn, FIVE, counted) && ends(game, drawn, SIX, counted)
 }
 
-/// The same of the match of a seed.
+/// The same for the match of a seed.
 fn holds(alloc: Global, game: &Game, seed: u64, counted: &mut Counted) -> bool {
     match Drawn::new(alloc, game, seed) {
         Ok(mut drawn) => plays(game, &mut drawn, counted),

@@ -1,5 +1,5 @@
 //! A SHOW of two rows, the first of which the watcher has: cut short at every length, made one byte longer, and with
-//! every byte replaced by each of its 255 other values. A table made from the documents says what each is answered.
+//! every byte replaced by each of its 255 other values. A table made from the documents has the answer to each.
 use crate::letter::Letter;
 use crate::played::{FIVE, ROOM, SIX, game_of, row_of, serial};
 use c8_game::{Game, Row};
@@ -30,11 +30,11 @@ const LISTS: usize = 46 + 1 + 46 * 255;
 
 type Answer = Result<Taken, NotTaken>;
 
-/// The first and the last byte that a row is about, the least and the greatest value that one of them is changed to,
-/// and the answer.
+/// The first and the last byte that a row covers, the least and the greatest value that such a byte is changed to, and
+/// the answer.
 type Change = (usize, usize, u8, u8, Answer);
 
-/// The first row that fits a change says the answer.
+/// The first row that fits a change has its answer.
 #[rattlefmt::skip]
 static CHANGES: [Change; 25] = [
     (0, 1, 0, 255, Err(Wire(WireError::Magic))),
@@ -63,7 +63,7 @@ static CHANGES: [Change; 25] = [
     (27, 27, 7, 18, Err(Watch(WatchError::Gap))),
     (27, 27, 19, 255, Err(Watch(WatchError::Full))),
     (28, 29, 0, 255, Err(Wire(WireError::Count))),
-    // the row that is there, and the new one: players 1 and 2, and two who are not in the game
+    // the row that the watcher has, and the new one: players 1 and 2, and two absent players
     (30, 33, 0, 255, Err(Watch(WatchError::Differs))),
     (34, 37, 0, 255, Err(Watch(WatchError::Absent))),
     (38, 41, 0, 255, Ok(Taken::Kept)),
@@ -74,7 +74,7 @@ fn changes() -> &'static [Change] {
     &CHANGES
 }
 
-/// What the table answers where the byte at a place has this value.
+/// The table's answer if the byte at a place has this value.
 fn answer_at(place: usize, value: u8) -> Option<Answer> {
     for (first, last, least, greatest, answer) in changes() {
         if *first <= place && place <= *last && *least <= value && value <= *greatest {
@@ -92,7 +92,7 @@ struct List {
     answer: Option<Answer>,
 }
 
-/// The list of a number.
+/// The list with a number.
 fn list_of(show: &[u8], number: usize) -> List {
     let mut bytes = [0; SIZE + 1];
     for (byte, said) in bytes.iter_mut().zip(show) {
@@ -114,7 +114,7 @@ fn list_of(show: &[u8], number: usize) -> List {
     }
 }
 
-/// The first bytes of a list; at its own size it is one byte longer instead.
+/// The first bytes of a list; for its own size, the list with one more byte.
 fn cut(bytes: [u8; SIZE + 1], size: usize) -> List {
     let error = if size < 24 {
         WireError::Short
@@ -142,7 +142,8 @@ fn has_no_more(spectator: &Spectator<'_>, before: &Before) -> bool {
         && *spectator.shown() == before.machine
 }
 
-/// Whether a watcher that kept rows of a list has them at their frames, the rows before them, and the machine after all.
+/// Whether a watcher that kept rows of a list has them at their frames, the rows before them, and the machine after
+/// all.
 fn has_kept(game: &Game, spectator: &Spectator<'_>, before: &Before, list: &List) -> bool {
     let rows = spectator.rows();
     let start = usize::from(list.bytes[START_AT]);
@@ -156,14 +157,14 @@ fn has_kept(game: &Game, spectator: &Spectator<'_>, before: &Before, list: &List
         && *spectator.shown() == serial(game, rows)
 }
 
-/// A watcher begins again, and takes the first rows. Whether it did.
+/// A watcher starts again and takes the first rows. Returns whether it did.
 fn begins(game: &Game, spectator: &mut Spectator<'_>) -> bool {
     let first = Letter::show(game, spectator.seat().number, 0, 6);
     spectator.begin_again();
     spectator.hear(first.bytes()) == Ok(Taken::Kept)
 }
 
-/// Whether a watcher answers a list as it should, and then has what it should. Where it kept rows it begins again.
+/// Whether a watcher gives the right answer to a list, and then has the right rows. If it kept rows it starts again.
 fn hears(game: &Game, spectator: &mut Spectator<'_>, before: &Before, list: &List) -> bool {
     let answer = spectator.hear(list.bytes.get(..list.size).unwrap_or(&[]));
     if list.answer != Some(answer) {
@@ -176,7 +177,7 @@ fn hears(game: &Game, spectator: &mut Spectator<'_>, before: &Before, list: &Lis
     }
 }
 
-/// The first list that a watcher answers otherwise, or after which it has something else.
+/// The first list with a wrong answer, or with wrong rows after it.
 fn first_wrong(game: &Game, spectator: &mut Spectator<'_>) -> Option<usize> {
     let show = Letter::show(game, spectator.seat().number, START, 2);
     let rows = [
@@ -200,7 +201,7 @@ fn first_wrong(game: &Game, spectator: &mut Spectator<'_>) -> Option<usize> {
     None
 }
 
-/// The first list that is wrong in a seat, in a version of the datagrams.
+/// The first list that goes wrong for a seat and a version of the datagrams.
 fn walk(alloc: Global, wire: u8, seat: Watcher) -> Result<Option<usize>, Fail> {
     let game = game_of(alloc, 2, FRAMES, wire)?;
     let mut spectator = Spectator::open(alloc, &game, ROOM, seat)?;

@@ -2,7 +2,7 @@
 use crate::played::{ROOM, row_of};
 use c8_game::{Game, Row};
 
-/// The epoch of player one in each SHOW. Watchers ignore it.
+/// The epoch of player 1 in each SHOW. Watchers ignore it.
 const EPOCH: u32 = 9;
 
 /// A datagram, or a part of one.

@@ -10,7 +10,7 @@ use std::test::Fail;
 /// How many frames the longest game has.
 const FRAMES: u32 = 262144;
 
-/// Whether a watcher takes all rows, sixteen at a time, and then finds the last ones old.
+/// Whether a watcher takes all rows, sixteen at a time, and then treats the last ones as old.
 fn takes_all(game: &Game, spectator: &mut Spectator<'_>) -> bool {
     for turn in 0..16384 {
         let show = Letter::show(game, 5, turn * 16, 16);

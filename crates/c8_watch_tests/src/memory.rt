@@ -1,8 +1,8 @@
 //! Memory that is refused when a watcher is made.
 //!
-//! With ample memory the watcher is compared with what it must be. `rt try --test --fail-alloc N` refuses the Nth
-//! allocation: where that is the watcher's, the test fails by the name `STANDS`, or by another one where something
-//! else was found.
+//! With enough memory the watcher is compared with what it must be. `rt try --test --fail-alloc N` refuses the Nth
+//! allocation. If that is the watcher's, the test fails with the name `STANDS`, or with another name if it finds
+//! something wrong.
 use crate::played::{ROOM, SIX, game_of};
 use c8_game::Game;
 use c8_machine::Machine;

@@ -15,7 +15,7 @@ pub(crate) const FIVE: Watcher = Watcher { number: 5 };
 
 pub(crate) const SIX: Watcher = Watcher { number: 6 };
 
-/// The room in which all play.
+/// The room of all matches.
 pub(crate) const ROOM: u64 = 7;
 
 /// A game of two or three players with a window of 8 frames and no delay. `wire` is the version of its datagrams. Its
@@ -53,7 +53,7 @@ pub(crate) fn row_of(frame: u32) -> Row {
     }
 }
 
-/// The machine after a run on these rows.
+/// The machine after a run of these rows.
 pub(crate) fn serial(game: &Game, rows: &[Row]) -> Machine {
     let mut machine = Machine::start(game);
     for row in rows {

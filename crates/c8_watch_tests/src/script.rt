@@ -1,4 +1,4 @@
-//! The bytes of a match with a watcher: the first 24 events of the case `sim_watch`, whose answers that shows.
+//! The bytes of a match with a watcher: the first 24 events of the case `sim_watch`, which shows their answers.
 use crate::played::{FIVE, ONE, ROOM, SIX, TWO};
 use c8_game::{Game, Keys, Row};
 use c8_peer::Kind::{Data, Hello, Welcome};
@@ -64,7 +64,7 @@ fn is_said(world: &World<'_>, number: u64, bytes: &[u8]) -> bool {
     }
 }
 
-/// Whether the events happen, and no more was said than these datagrams.
+/// Whether the events happen, and exactly these datagrams were said.
 fn happen(alloc: Global, world: &mut World<'_>) -> bool {
     world.run(alloc, &EVENTS).is_ok()
         && is_said(world, 6, FIRST_SHOW)

@@ -33,7 +33,7 @@ struct Way<'g> {
     traffic: Traffic,
 }
 
-/// What has been sent after a datagram more.
+/// The number of SEENs sent, after one more datagram.
 fn sent_with(way: &Way<'_>, to: Seat, datagram: &[u8]) -> Option<usize> {
     let sent = way.sent?;
     let seen = Letter::seen(way.game, 5, *way.wanted.get(sent)?);
@@ -44,7 +44,7 @@ fn sent_with(way: &Way<'_>, to: Seat, datagram: &[u8]) -> Option<usize> {
     }
 }
 
-/// Serves one more call, or fails where none is left.
+/// Serves one more call, or fails if none is left.
 fn served(calls: &mut u32) -> Result<(), WireFailed> {
     if *calls == 0 {
         return Err(WireFailed);
@@ -105,7 +105,7 @@ struct Album<'b> {
     game: &'b Game,
     board: &'b Board,
     viewer: Viewer,
-    /// After how many it asks.
+    /// After how many machines it asks.
     enough: usize,
     /// The counts of rows after which the machines are wanted, in order.
     wanted: &'static [u32],
@@ -114,7 +114,7 @@ struct Album<'b> {
     ghost looks: { viewer.board ≡ board.now },
 }
 
-/// What has been shown after a machine more.
+/// The number of machines shown, after one more.
 fn shown_with(album: &Album<'_>, machine: &Machine) -> Option<usize> {
     let shown = album.shown?;
     if *machine == after(album.game, *album.wanted.get(shown)?) {
@@ -142,7 +142,7 @@ fn after(game: &Game, count: u32) -> Machine {
     machine
 }
 
-/// The turns of a watcher, and what comes of them.
+/// The turns of a watcher, and their result.
 struct Row {
     /// How many packets come before each turn.
     a_turn: u32,
@@ -155,9 +155,9 @@ struct Row {
     /// After how many pictures a viewer asks for the end.
     enough: usize,
     made: Result<u64, WireFailed>,
-    /// How many rows there are in the end.
+    /// How many rows there are at the end.
     rows: u32,
-    /// The count of rows after each turn, which player one is told and the picture shows.
+    /// The count of rows after each turn, which player 1 gets and the picture shows.
     seen: &'static [u32],
 }
 
@@ -174,10 +174,10 @@ static ROWS: [Row; 11] = [
     Row { a_turn: 1, calls: ALL, turns: 2, gate: 100, enough: 100, made: Ok(2), rows: 2, seen: &[1, 2] },
     Row { a_turn: 0, calls: ALL, turns: 3, gate: 100, enough: 100, made: Ok(3), rows: 0, seen: &[0, 0, 0] },
     Row { a_turn: 1, calls: ALL, turns: 0, gate: 100, enough: 100, made: Ok(0), rows: 0, seen: &[] },
-    // where the gate ends it, and where a viewer asks for the end
+    // when the gate ends it, and when a viewer asks for the end
     Row { a_turn: 1, calls: ALL, turns: 100, gate: 3, enough: 100, made: Ok(3), rows: 3, seen: &[1, 2, 3] },
     Row { a_turn: 1, calls: ALL, turns: 100, gate: 100, enough: 4, made: Ok(4), rows: 4, seen: &[1, 2, 3, 4] },
-    // where the wire fails: at its first call, after a packet of the second turn, and where that turn sends a SEEN
+    // when the wire fails: at its first call, after a packet of the second turn, and when that turn sends a SEEN
     Row { a_turn: 1, calls: 0, turns: 100, gate: 100, enough: 100, made: Err(WireFailed), rows: 0, seen: &[] },
     Row { a_turn: 1, calls: 4, turns: 100, gate: 100, enough: 100, made: Err(WireFailed), rows: 2, seen: &[1] },
     Row { a_turn: 1, calls: 5, turns: 100, gate: 100, enough: 100, made: Err(WireFailed), rows: 2, seen: &[1] },

@@ -18,11 +18,11 @@ impl Gate for Turns {
     fn after(&self, _: Worker, _: u64) {}
 }
 
-/// For how many microseconds a worker sleeps between two looks.
+/// How many microseconds a worker sleeps between two looks.
 const PAUSE: u64 = 100;
 
-/// How often a worker looks whether the other one has made its first turn, with a sleep between looks:
-/// some seconds in all, for a machine whose processors are busy.
+/// How often a worker looks whether the other one has made its first turn, with a sleep between looks: several seconds
+/// in all, because the processors may be busy.
 const LOOKS: u32 = 100_000;
 
 /// Lets each worker make two turns, the second one once the other has made its first.
@@ -49,7 +49,7 @@ impl<'r, R: Clock> Meeting<'r, R> {
         self.turns.load(Ordering::SeqCst)
     }
 
-    /// What says whether a worker has made its first turn.
+    /// The flag that says whether a worker has made its first turn.
     fn begun(&self, worker: Worker) -> &AtomicBool {
         match worker {
             Worker::Net => &self.net_has_begun,
@@ -57,7 +57,7 @@ impl<'r, R: Clock> Meeting<'r, R> {
         }
     }
 
-    /// Whether the other one has made its first turn, by then.
+    /// Waits for the first turn of the other worker, and returns whether it came.
     fn is_joined(&self, worker: Worker) -> bool {
         let other = match worker {
             Worker::Net => Worker::Game,

@@ -1,6 +1,6 @@
 //! The tests of c8_live's workers.
 //!
-//! `packets` moves packets between two inlets and a wire in memory, `matches` plays a game by two game workers in
+//! `packets` moves packets between two inlets and a wire in memory. `matches` plays a game with two game workers in
 //! threads of their own, whose relays are joined, and lets a net worker and a game worker wait for each other.
 #![tactic(auto)]
 

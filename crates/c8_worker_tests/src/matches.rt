@@ -7,13 +7,13 @@ use std::alloc::Global;
 use std::test::Fail;
 use std::thread::join;
 
-/// What player 1 enters. Player 2 enters one line, and then nothing.
+/// What player 1 enters. Player 2 enters one line, and then no keys.
 const KEYS: &str = "0020\n0000\n0020\n0020\n0000\n0000\n0000\n0000\n0020\n0020\n0020\n0020\n";
 
 /// A bound on the turns of a worker, which never waits for the other one.
 const TURNS: u64 = 20_000_000;
 
-/// What a player's worker comes to, if its side can be made.
+/// The outcome of a player's worker, if its side can be made.
 fn worked<G: Gate>(
     alloc: Global,
     number: u8,
@@ -63,14 +63,14 @@ fn two_workers_play_a_game(rt: HostRuntime) -> Result<(), Fail> {
     Ok(())
 }
 
-/// What a worker comes to whose relay has one place, which the HELLO of its first turn takes.
+/// The outcome of a worker whose relay has one place, which the HELLO of its first turn takes.
 fn alone(alloc: Global, turns: u64, most: u64) -> Option<Outcome> {
     let (narrow, _other) = relays(alloc, 1).ok()?;
     worked(alloc, 1, KEYS, narrow, turns, &Turns { most })
 }
 
-/// Whether a worker makes this many turns, by those that it is asked for and those that its gate allows, and loses
-/// the HELLO of each turn but the first.
+/// Whether a worker makes this many turns, by the number that it is asked for and the number that its gate allows, and
+/// loses the HELLO of each turn but the first.
 fn makes(alloc: Global, turns: u64, most: u64, made: u64) -> bool {
     match alone(alloc, turns, most) {
         Some(ended) => ended.made == Some(made) && ended.counted.lost == made.saturating_sub(1),
@@ -78,7 +78,7 @@ fn makes(alloc: Global, turns: u64, most: u64, made: u64) -> bool {
     }
 }
 
-/// What a worker comes to whose viewer has asked it to stop.
+/// The outcome of a worker whose viewer has asked it to stop.
 fn stopped(alloc: Global) -> Option<Outcome> {
     let (relay, _other) = relays(alloc, PLACES).ok()?;
     let game = Game::read(alloc, GAME.as_bytes()).ok()?;
@@ -87,7 +87,7 @@ fn stopped(alloc: Global) -> Option<Outcome> {
     Some(side.work(100, &Turns { most: u64::MAX }))
 }
 
-/// Whether a worker makes no turn where its viewer has asked it to stop.
+/// Whether a worker makes no turn if its viewer has asked it to stop.
 fn stops(alloc: Global) -> bool {
     match stopped(alloc) {
         Some(ended) => { ended.made == Some(0) && ended.confirmed == 0 && ended.shown.count() == 0 }
@@ -95,8 +95,8 @@ fn stops(alloc: Global) -> bool {
     }
 }
 
-/// A worker ends with its gate, after the turns that it is asked for, and where a viewer asks it to stop. What finds no
-/// place in its relay is lost, and counted.
+/// A worker ends with its gate, after the turns that it is asked for, and when a viewer asks it to stop. If its relay
+/// is full, a packet is lost, and counted.
 #[test]
 fn a_worker_ends_when_it_should(rt: HostRuntime) {
     assert!(rt; makes(rt.alloc(), 100, 6, 6));
@@ -104,8 +104,8 @@ fn a_worker_ends_when_it_should(rt: HostRuntime) {
     assert!(rt; stops(rt.alloc()));
 }
 
-/// A net worker and a game worker of one peer: neither makes its second turn before the other has made
-/// its first, and both do.
+/// A net worker and a game worker of one peer: neither makes its second turn before the other has made its first, and
+/// both do.
 #[test]
 fn workers_overlap(rt: HostRuntime) -> Result<(), Fail> {
     let (relay, ends) = relays(rt.alloc(), PLACES)?;

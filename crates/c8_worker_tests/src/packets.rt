@@ -1,4 +1,4 @@
-//! Packets that a net worker moves, and those that find no place.
+//! Packets that a net worker moves, and packets that are lost because a queue is full.
 use crate::gates::Turns;
 use crate::sides::relays;
 use c8_game::Player;
@@ -19,7 +19,7 @@ fn is_sent(relay: &mut Relay, bytes: &[u8]) -> bool {
     bytes.len() <= LONGEST_DATAGRAM && relay.send(Seat::from(TWO), bytes).is_ok()
 }
 
-/// Whether the next packet that has come is this one; an empty one where none has.
+/// Whether the next packet that has come is this one; an empty one stands for none.
 fn has_come(relay: &mut Relay, wanted: &[u8]) -> bool {
     let mut packet = [0; LONGEST_PACKET];
     match relay.receive(&mut packet) {
@@ -34,13 +34,13 @@ fn are_sent(relay: &mut Relay, one: &[u8], two: &[u8], three: &[u8]) -> bool {
     has_come(relay, b"") && is_sent(relay, one) && is_sent(relay, two) && is_sent(relay, three)
 }
 
-/// Whether just these packets have come, an empty one for none.
+/// Whether exactly these packets have come; an empty one stands for none.
 fn have_come(relay: &mut Relay, one: &[u8], two: &[u8]) -> bool {
     has_come(relay, one) && has_come(relay, two) && has_come(relay, b"")
 }
 
-/// Whether a net worker moves, in one turn, what waits in a relay of two places and on a wire of three. The game's
-/// third packet finds no place in its relay, the wire's third one none in the inbox, and a byte is no datagram.
+/// Whether a net worker moves, in one turn, what waits in a relay of two places and on a wire of three. The relay is
+/// full for the game's third packet, the inbox for the wire's third one, and a single byte is no datagram.
 fn are_moved<R: Wait>(rt: &R, alloc: Global) -> Result<bool, AllocError> {
     let (mut game, net) = relays(alloc, 2)?;
     let (mut wire, mut world) = relays(alloc, 3)?;

@@ -19,7 +19,7 @@ use std::alloc::{AllocError, Global};
 pub(crate) const GAME: &str =
     "players 2\nipf 10\nframes 20\ndelay 0\nwindow 8\nseed 0\nmask1 ffff\nmask2 ffff\ncode 6205e2a1710170011202\n";
 
-/// A session, its way to the others, and a board with its pen and a viewer.
+/// A session, its wire, and a board with its pen and a viewer.
 #[derive(Drop)]
 pub(crate) struct Side<'g, W> {
     session: Session<'g, MemDisk>,
@@ -34,8 +34,8 @@ pub(crate) struct Side<'g, W> {
     ghost shows: { pen.rows ≡ confirmed_rows (known_by session.peer) },
 }
 
-/// What a worker came to: how many turns it made if it did not fail, how many frames are confirmed
-/// at its peer, and with which machine, what its counters tell, and what its board shows.
+/// The outcome of a worker: how many turns it made if it did not fail, how many frames its peer has confirmed, with
+/// which machine, its counters, and what its board shows.
 #[derive(Clone, Copy)]
 pub(crate) struct Outcome {
     pub(crate) made: Option<u64>,
@@ -52,7 +52,7 @@ pub(crate) fn relays(alloc: Global, places: usize) -> Result<(Relay, Relay), All
     Ok((Relay::new(to_two, from_two), Relay::new(to_one, from_one)))
 }
 
-/// A player's session on a new disk. The error stands for any fault.
+/// A player's session on a new disk. Any fault is the error.
 fn session_of<'g>(
     alloc: Global,
     game: &'g Game,
@@ -93,7 +93,7 @@ fn opened(
 }
 
 impl<'g, W: Wire + Drop> Side<'g, W> {
-    /// A player's side of a game, in which it enters these key lines. The error stands for any fault.
+    /// A player's side of a game, in which it enters these key lines. Any fault is the error.
     pub(crate) fn new(
         alloc: Global,
         game: &'g Game,

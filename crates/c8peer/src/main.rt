@@ -1,5 +1,5 @@
-//! c8peer: the commands `peer`, `play` and `watch` of c8play alone, in a program that is built sooner. The
-//! script `c8play` takes it where one of them is asked for.
+//! c8peer: the commands `peer`, `play` and `watch` of c8play in a program of their own, which takes less time to prove
+//! and build. The script `c8play` starts it for these commands.
 #![tactic(auto)]
 
 use c8_command::Status;
@@ -32,7 +32,7 @@ fn main(rt: HostRuntime) -> ExitCode {
     status_at(ended, &mut rt.stderr()).into()
 }
 
-/// Does what the arguments ask for. The error is that of a writer, or want of memory.
+/// Does what the arguments ask for. The error is a writer's, or that memory ran out.
 fn obey<R, I, W: Write, E: Write + Send>(
     rt: &R,
     args: io::Result<Args>,

@@ -1,6 +1,6 @@
-//! c8play: CHIP-8 programs, played together by two to four people over UDP.
+//! c8play: two to four people play CHIP-8 programs together over UDP.
 //!
-//! The command line and what it asks for are c8_cli's.
+//! c8_cli has the command line, and runs what it asks for.
 #![tactic(auto)]
 
 use std::env;

@@ -1,22 +1,21 @@
-//! How a case is written.
+//! The form of a case.
 //!
-//! The lines up to the first one that begins with `== ` say what the case is about. Then come
-//! sections, each with such a line as its head, and all lines up to the next head as its text:
+//! The lines before the first one that begins with `== ` say what the case is about. Then come sections; each has such
+//! a line as its head, and all lines up to the next head as its text:
 //!
-//! - `words`: a command; its words stand one a line, without the program's own name. An empty line is
-//!   an empty word. The sections after it, up to the next `words`, are of this command.
-//! - `file NAME`: a file that the command finds. It has another name than the files of the folder.
+//! - `words`: a command, one word a line, without the program's own name. An empty line is an empty word. The following
+//!   sections, up to the next `words`, belong to this command.
+//! - `file NAME`: a file that the command finds. The folder has no file of this name.
 //! - `input`: standard input.
-//! - `printed`, `refused`: what is written to standard output and to standard error, whole. Without
-//!   such a section it is nothing.
-//! - `refused some`: what is written to standard error is something, in words that no case says.
-//! - `status N`: the exit status. Without such a section it is 0.
+//! - `printed`, `refused`: all that is written to standard output and to standard error. Default nothing.
+//! - `refused some`: something is written to standard error; the case does not say what.
+//! - `status N`: the exit status. Default 0.
 //! - `length NAME N`: the file has N bytes after the command.
 //!
-//! After `file NAME`, `input`, `printed` and `refused` may stand `bare`, for the text without its last
-//! line feed; `times N`, for N times the text; `bare times N`; or `from NAME`, for the text of a file
-//! of the folder. Several sections of one target follow one another in it. The commands of a case
-//! run in order, in one place: what one leaves the next one finds, but for files that are given anew.
+//! After `file NAME`, `input`, `printed` and `refused` may stand `bare`, for the text without its last line feed;
+//! `times N`, for N times the text; `bare times N`; or `from NAME`, for the text of a file of the folder. Several
+//! sections with one target are joined. The commands of a case run in order in one folder: each finds the files that
+//! earlier ones left, except those that its own sections replace.
 
 use crate::command::Command;
 use std::alloc::Global;
@@ -30,7 +29,7 @@ struct Section<'a> {
     text: Vec<u8>,
 }
 
-/// The commands of a case. The error is that of a text that is no case.
+/// The commands of a case. The error is that the text is no case.
 pub fn commands_in(rt: &HostRuntime, text: &[u8], given: &[String]) -> io::Result<Vec<Command>> {
     let mut commands = Vec::new(rt.alloc());
     for section in sections_of(rt.alloc(), text)? {
@@ -49,7 +48,7 @@ pub fn commands_in(rt: &HostRuntime, text: &[u8], given: &[String]) -> io::Resul
     Ok(commands)
 }
 
-/// Why a file that is no case is not run.
+/// The error of a file that is no case.
 fn no_case() -> io::Error {
     ErrorKind::InvalidData.into()
 }
@@ -68,7 +67,7 @@ fn sections_of(alloc: Global, text: &[u8]) -> io::Result<Vec<Section<'_>>> {
     Ok(sections)
 }
 
-/// Adds what a section says to its command.
+/// Adds a section to its command.
 fn add(
     rt: &HostRuntime,
     command: &mut Command,
@@ -100,7 +99,7 @@ fn add(
     Ok(())
 }
 
-/// What is made of a section's text, as the last words of its head say.
+/// The text of a section, changed as the last words of its head say.
 fn text_in(rt: &HostRuntime, how: &[&str], text: Vec<u8>) -> io::Result<Vec<u8>> {
     match how {
         [] => Ok(text),
@@ -112,7 +111,7 @@ fn text_in(rt: &HostRuntime, how: &[&str], text: Vec<u8>) -> io::Result<Vec<u8>>
     }
 }
 
-/// So many times a text without its last line feed.
+/// The text without its last line feed, repeated.
 fn bare(alloc: Global, text: &[u8], times: usize) -> io::Result<Vec<u8>> {
     match text.strip_suffix(b"\n".as_slice()) {
         Some(text) => Ok(text.repeat(alloc, times)?),

@@ -1,4 +1,4 @@
-//! A command of a case: what it is given, what is wanted of it, and what differs from that.
+//! A command of a case: its input, its expected output, and how the real output differs.
 
 use std::alloc::{AllocError, Global};
 use std::fs::File;
@@ -10,7 +10,7 @@ use std::thread::Threads;
 use std::time::Clock;
 use std::{fs, io};
 
-/// What a command is given, and what is wanted of it.
+/// The input of a command, and its expected output.
 #[derive(Drop)]
 pub struct Command {
     words: Vec<String>,
@@ -19,7 +19,7 @@ pub struct Command {
     pub input: Vec<u8>,
     pub printed: Vec<u8>,
     pub refused: Vec<u8>,
-    /// Something is refused, in words that are not said.
+    /// Whether something must be written to standard error, whatever it is.
     pub refuses_somehow: bool,
     pub status: usize,
     /// Names of files, and how many bytes each has afterwards.
@@ -27,7 +27,7 @@ pub struct Command {
 }
 
 impl Command {
-    /// The command of these words, one a line, which prints nothing.
+    /// The command of these words, one a line. It expects no output.
     pub fn new(alloc: Global, lines: &[u8]) -> Result<Command, AllocError> {
         let mut words = vec![in alloc; "c8play".to_string(alloc)?]?;
         for line in str::from_utf8(lines).unwrap_or("no text").lines() {
@@ -45,7 +45,7 @@ impl Command {
         })
     }
 
-    /// Gives it a file too, or more of one that it has.
+    /// Adds a file, or appends to one that was added before.
     pub fn give(&mut self, name: String, text: Vec<u8>) -> Result<(), AllocError> {
         for file in self.files.iter_mut() {
             if file.0 == name {
@@ -57,7 +57,7 @@ impl Command {
     }
 }
 
-/// Runs a command, and tells what differs.
+/// Runs a command, and describes what differs.
 pub fn differences<R>(rt: &R, command: Command) -> io::Result<Vec<u8>>
 where
     R: Files<File = File> + Net + Clock + Threads + Wait + Sync + AllocGlobal,
@@ -84,7 +84,7 @@ where
     Ok(told)
 }
 
-/// Tells both texts, where they differ.
+/// Describes two texts if they differ.
 fn compare(told: &mut Vec<u8>, what: &str, wanted: &[u8], came: &[u8]) -> io::Result<()> {
     if wanted == came {
         return Ok(());
@@ -95,7 +95,7 @@ fn compare(told: &mut Vec<u8>, what: &str, wanted: &[u8], came: &[u8]) -> io::Re
     told.write_all(came)
 }
 
-/// Tells both numbers, where they differ.
+/// Describes two numbers if they differ.
 fn compare_numbers(told: &mut Vec<u8>, what: &str, wanted: usize, came: usize) -> io::Result<()> {
     if wanted == came {
         return Ok(());

@@ -2,7 +2,7 @@
 
 use std::{fs, io};
 
-/// The names of all that lies here, in order.
+/// The names of all files here, in order.
 pub fn names_here(rt: &HostRuntime) -> io::Result<Vec<String>> {
     let mut names = Vec::new(rt.alloc());
     for entry in fs::read_dir(rt, ".")? {
@@ -12,7 +12,7 @@ pub fn names_here(rt: &HostRuntime) -> io::Result<Vec<String>> {
     Ok(names)
 }
 
-/// Removes the files that were not given, so that each case begins with those that were.
+/// Removes the files that were not here at the start, so that each case begins with the same ones.
 pub fn clear(rt: &HostRuntime, given: &[String]) -> io::Result<()> {
     for name in names_here(rt)? {
         if given.binary_search(&name).is_err() {

@@ -1,10 +1,9 @@
-//! Cases of the command line, each a file NAME.case in the folder that the program runs in (`data/`):
-//! what a command is given, and all that it prints, tells on standard error and ends with. Each case
-//! is run by c8_cli, and has a line in what is printed: `NAME: holds`; or `NAME: differs`, and then
-//! what was wanted and what came; or `NAME: no case`. A new case is a new file, and a line in the
-//! file `stdout`.
+//! Cases of the command line, each a file NAME.case in the folder that the program runs in (`data/`): a command's
+//! input, all that it writes to standard output and standard error, and its exit status. c8_cli runs each case. For
+//! each case one line is printed: `NAME: holds`; `NAME: differs`, followed by the expected and the real output; or
+//! `NAME: no case`. A new case is a new file, and a line in the file `stdout`.
 //!
-//! `case` says how a case is written. `command` runs one command of it and compares.
+//! `case` has the form of a case. `command` runs one command of it and compares.
 #![tactic(auto)]
 
 mod case;
@@ -35,13 +34,13 @@ fn main(rt: HostRuntime) -> io::Result<()> {
     Ok(())
 }
 
-/// The commands of the case in a file. The error is that of a file that is no case.
+/// The commands of the case in a file. The error is that the file is no case.
 fn commands_at(rt: &HostRuntime, file: &str, given: &[String]) -> io::Result<Vec<Command>> {
     let text = fs::read(rt, file)?;
     commands_in(rt, &text, given)
 }
 
-/// What differs in a case, one command after the other.
+/// What differs in a case, one command after another.
 fn differences_of<R>(rt: &R, commands: io::Result<Vec<Command>>) -> io::Result<Vec<u8>>
 where
     R: Files<File = File> + Net + Clock + Threads + Wait + Sync + AllocGlobal,
@@ -57,7 +56,7 @@ where
     Ok(told)
 }
 
-/// Prints what was found of a case.
+/// Prints the result of a case.
 fn tell(rt: &HostRuntime, name: &str, found: io::Result<Vec<u8>>) -> io::Result<()> {
     match found {
         Ok(told) if told.is_empty() => println!(rt; "{name}: holds"),

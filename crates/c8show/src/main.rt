@@ -1,5 +1,5 @@
-//! c8show: the command `show` of c8play alone, in a program that is built sooner. The script
-//! `c8play` takes it where that command is asked for.
+//! c8show: the command `show` of c8play in a program of its own, which takes less time to prove and build. The script
+//! `c8play` starts it for that command.
 #![tactic(auto)]
 
 use c8_command::Status;
@@ -14,7 +14,7 @@ fn main(rt: HostRuntime) -> ExitCode {
     status_at(ended, &mut rt.stderr()).into()
 }
 
-/// Does what the arguments ask for. The error is that of a writer, or want of memory.
+/// Does what the arguments ask for. The error is a writer's, or that memory ran out.
 fn obey<W: Write, E: Write>(rt: &HostRuntime, out: &mut W, refused: &mut E) -> io::Result<Status> {
     let alloc = rt.alloc();
     let Some(words) = words_in(alloc, env::args(rt), refused)? else {

@@ -1,4 +1,4 @@
-//! The calls of its peer that a session makes, and what becomes of the peer by each.
+//! The calls of its peer that a session makes, and what each does to the peer.
 
 ghost use Rattle.std.specs.Prelude.{◌≡◌, List, ℕ, [], ◌∷◌, Some, Err};
 ghost use Rattle.c8_disk.specs.declared.error.DiskError.{DiskError};
@@ -19,7 +19,7 @@ use c8_peer::{Check, CheckError, DecideError, Heard, LeaveError, Refused, TickEr
 use c8_wire::Datagram;
 
 impl<'g, D: Disk> Session<'g, D> {
-    /// The peer hears a datagram. What it runs anew by that is a rollback.
+    /// Delivers a datagram to the peer. Frames that it simulates again count as a rollback.
     pub(super) fn peer_hears(&mut self, datagram: &Datagram<'_>) -> Result<Heard, Refused>
         requires { IsPacket (packet_of datagram.now) }
         ensures ran { (bytes : List ℕ) → Spells bytes (packet_of datagram.now)
@@ -35,7 +35,7 @@ impl<'g, D: Disk> Session<'g, D> {
         answer
     }
 
-    /// The peer enters a key set.
+    /// Enters a key set.
     pub(super) fn peer_ticks(&mut self, keys: Keys) -> Result<(), TickError>
         ensures ran { HasDoneOnce D.Disk Ticks self.old.peer self.new.peer }
         ensures answered { IsAnswered D.Disk self.old.peer (Tick keys.0) (Ticked result) self.new.peer }
@@ -49,7 +49,7 @@ impl<'g, D: Disk> Session<'g, D> {
         self.peer.tick(keys)
     }
 
-    /// The peer lets a player go, if it is player one's.
+    /// Drops a player; every peer but player 1's refuses.
     pub(super) fn peer_lets_go(&mut self, leaver: Player) -> Result<(), LeaveError>
         ensures ran { HasDone D.Disk LetsGo self.old.peer self.new.peer }
         ensures stopped { (why : DiskError) → result ≡ Err (LeaveError.Disk why)
@@ -60,8 +60,8 @@ impl<'g, D: Disk> Session<'g, D> {
         self.peer.leave(leaver)
     }
 
-    /// The peer cuts a leaver whose drop round is ready, if it is player one's. What it runs anew by
-    /// that is a rollback.
+    /// Cuts a leaver whose drop round is ready; every peer but player 1's refuses. Frames that the peer simulates again
+    /// count as a rollback.
     pub(super) fn peer_cuts(&mut self, leaver: Player) -> Result<u32, DecideError>
         ensures ran { HasDone D.Disk Cuts self.old.peer self.new.peer }
         ensures stopped { (why : DiskError) → result ≡ Err (DecideError.Disk why)
@@ -79,7 +79,7 @@ impl<'g, D: Disk> Session<'g, D> {
         answer
     }
 
-    /// The peer records what comes next of a checkpoint.
+    /// Records the next part of a checkpoint.
     pub(super) fn peer_saves(&mut self) -> Result<Check, CheckError>
         ensures ran { HasDoneOnce D.Disk Saves self.old.peer self.new.peer }
         ensures stopped { (why : DiskError) → result ≡ Err (CheckError.Disk why)
@@ -91,7 +91,7 @@ impl<'g, D: Disk> Session<'g, D> {
     }
 }
 
-/// How many frames a delivery ran that is answered so, if its record was the last to run some.
+/// How many frames a delivery with this answer simulated; 0 unless it kept a record.
 fn frames_of(answer: Result<Heard, Refused>, last_run: u32) -> u32 {
     match answer {
         Ok(Heard::Kept) => last_run,

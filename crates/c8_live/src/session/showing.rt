@@ -1,4 +1,4 @@
-//! What player one shows those who watch.
+//! What player 1 shows to watchers.
 
 ghost use Rattle.std.specs.Prelude.{◌≡◌};
 ghost use Rattle.c8_live.specs.Turns.{HasSpoken};
@@ -10,7 +10,7 @@ use crate::wire::Wire;
 use c8_disk::Disk;
 use c8_wire::{LONGEST_DATAGRAM, Seat, Watcher};
 
-/// Which seats of watchers are taken.
+/// Which watcher seats are taken.
 #[derive(Clone, Copy, Debug, Default)]
 pub(super) struct Watchers {
     five: bool,
@@ -18,8 +18,8 @@ pub(super) struct Watchers {
 }
 
 impl<'g, D: Disk> Session<'g, D> {
-    /// From now on a watcher is shown what is confirmed: one SHOW a turn, from the first row on that it has
-    /// not told it has. Where this is not player one nothing is shown.
+    /// From now on shows a watcher what is confirmed: one SHOW a turn, from the first row that it has not acknowledged.
+    /// A peer other than player 1's shows nothing.
     pub fn show_to(&mut self, watcher: Watcher)
         ensures { self.new.peer ≡ self.old.peer }
     {
@@ -44,7 +44,7 @@ impl<'g, D: Disk> Session<'g, D> {
         Ok(())
     }
 
-    /// Shows a watcher the rows that come next there, if that can be said.
+    /// Shows a watcher its next rows, unless the peer refuses to say them.
     fn show_one<W: Wire>(&self, wire: &mut W, watcher: Watcher) -> Result<(), WireFailed>
         ensures spoke { HasSpoken D.Disk W.Wire self.now.peer wire.old wire.new }
     {

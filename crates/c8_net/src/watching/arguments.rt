@@ -1,4 +1,4 @@
-//! What the command `watch` takes, and what it is asked to watch by that.
+//! The options of the command `watch`, and what they ask for.
 
 use crate::arguments::{number, number_of};
 use crate::help::WATCH_ENDING;
@@ -7,27 +7,27 @@ use c8_wire::Watcher;
 use clap::{Arg, ArgAction, ArgMatches, Command, value_parser};
 use std::alloc::{AllocError, Global};
 
-/// What `watch` is asked to watch.
+/// What the command line of `watch` asks for.
 #[derive(Clone, Copy)]
 pub struct WatchAsked<'a> {
     /// The path of the game's text.
     pub game: &'a str,
     pub seat: Watcher,
     pub local: &'a str,
-    /// Player one's address.
+    /// Player 1's address.
     pub remote: &'a str,
     pub room: u64,
-    /// The most turns that are made.
+    /// How many turns the watcher makes at most.
     pub turns: u64,
-    /// How many frames are enough to end, if any are.
+    /// It ends once it has this many frames; `None` for never.
     pub stop: Option<u64>,
-    /// Whether the screen is drawn as the match goes on.
+    /// Whether to draw the screen during the match.
     pub screen: bool,
-    /// Whether a second line says where the fault of a refusal is.
+    /// Whether to print a second line that says where a refusal's fault is.
     pub explain: bool,
 }
 
-/// What `watch` takes.
+/// The command `watch` with its arguments and options.
 pub fn watch_command<'a>(alloc: Global) -> Result<Command<'a>, AllocError> {
     let command = Command::new(alloc, "watch")
         .about("Watches a match over UDP, and prints the machine after the frames that it saw")
@@ -35,12 +35,12 @@ pub fn watch_command<'a>(alloc: Global) -> Result<Command<'a>, AllocError> {
     with_options(alloc, with_match(alloc, command)?)
 }
 
-/// The arguments of `watch` that say what is watched.
+/// Adds the arguments of `watch`: game, seat and addresses.
 fn with_match<'a>(alloc: Global, command: Command<'a>) -> Result<Command<'a>, AllocError> {
     let game = "The path of the game's text, the same as the players'";
     let command = with_place(alloc, command, "GAME", game)?;
     let seat = Arg::new(alloc, "SEAT")
-        .help("The seat, 5 or 6, as player 1's --watch5 and --watch6 have it")
+        .help("The seat, 5 or 6, as in player 1's --watch5 or --watch6")
         .required(true)
         .value_parser(value_parser!(u8).range(5..7));
     let command = command.arg(seat)?;
@@ -49,17 +49,21 @@ fn with_match<'a>(alloc: Global, command: Command<'a>) -> Result<Command<'a>, Al
     with_place(alloc, command, "REMOTE", "Player 1's address")
 }
 
-/// The options of `watch`.
+/// Adds the options of `watch`.
 fn with_options<'a>(alloc: Global, command: Command<'a>) -> Result<Command<'a>, AllocError> {
-    let room = number(alloc, "room", "The match, the same as its players'");
+    let room = number(
+        alloc,
+        "room",
+        "The number of the match, the same as its players'",
+    );
     let command = command.arg(room.default_value("0"))?;
     let turns = number(
         alloc,
         "turns",
-        "The most turns, of a millisecond and more each",
+        "Ends after N turns, of at least a millisecond each",
     );
     let command = command.arg(turns.default_value("100000"))?;
-    let stop = "Ends once it has so many frames [default: never]";
+    let stop = "Ends once it has N frames [default: never]";
     let command = command.arg(number(alloc, "stop", stop))?;
     let screen = Arg::new(alloc, "screen")
         .long("screen")
@@ -68,8 +72,7 @@ fn with_options<'a>(alloc: Global, command: Command<'a>) -> Result<Command<'a>, 
     with_explain(alloc, command.arg(screen)?)
 }
 
-/// What `watch` is asked to watch by a command line, whose reader has seen that each argument is there
-/// and in its range.
+/// What a parsed command line asks for; the parser has checked that each argument is there and in its range.
 pub(super) fn asked_of<'a>(given: &ArgMatches<'a>) -> Option<WatchAsked<'a>> {
     let seat = Watcher::new(given.get_one::<u8>("SEAT")?)?;
     Some(WatchAsked {

@@ -1,4 +1,4 @@
-//! The screen of a match that is watched, drawn on a terminal.
+//! The screen of a watched match, drawn on a terminal.
 
 use crate::beat::Beat;
 use c8_machine::Machine;
@@ -11,18 +11,18 @@ use std::time::{Clock, Duration};
 /// How many pictures are due a second.
 const RATE: u8 = 60;
 
-/// Draws the screen, if that is wanted, sixty times a second by the clock, and each picture by one write:
-/// the rows of text that have changed, and of every sixtieth all, since a window that has changed its size
-/// tells nothing. A terminal that takes no more is left alone.
+/// Draws the screen, if wanted, sixty times a second by the clock, each picture by one write of the rows of text that
+/// have changed. Every sixtieth picture is drawn whole, because the terminal does not report a changed window size.
+/// After a write has failed it draws no more.
 #[derive(Drop)]
 pub(super) struct Drawing<'r, 'w, R, W> {
     rt: &'r R,
     out: &'w mut W,
     painter: Painter,
     beat: Beat,
-    /// What the clock said last.
+    /// The last time that the clock gave.
     last: Duration,
-    /// How many pictures there were since the screen was painted whole.
+    /// How many pictures were drawn since the last whole one.
     since_whole: u8,
     is_wanted: bool,
     /// Whether it is wanted, and the terminal has taken all so far.
@@ -30,7 +30,7 @@ pub(super) struct Drawing<'r, 'w, R, W> {
 }
 
 impl<'r, 'w, R: Clock, W: Write> Drawing<'r, 'w, R, W> {
-    /// Nothing is drawn yet; where pictures are wanted the terminal is made ready for them.
+    /// Prepares the terminal, if pictures are wanted; nothing is drawn yet.
     pub(super) fn new(rt: &'r R, out: &'w mut W, is_wanted: bool) -> Drawing<'r, 'w, R, W> {
         let is_on = is_wanted && out.write_all(ENTER).is_ok();
         let last = rt.monotonic().unwrap_or(Duration::from_secs(0));
@@ -46,7 +46,7 @@ impl<'r, 'w, R: Clock, W: Write> Drawing<'r, 'w, R, W> {
         }
     }
 
-    /// Gives the terminal back, as it was, also where it took no more.
+    /// Restores the terminal, even after a write has failed.
     pub(super) fn end(self) {
         if self.is_wanted {
             let _ = self.out.write_all(LEAVE);
@@ -54,7 +54,7 @@ impl<'r, 'w, R: Clock, W: Write> Drawing<'r, 'w, R, W> {
         }
     }
 
-    /// The time; where the clock cannot be read none has gone by.
+    /// The time; the last one if the clock cannot be read.
     fn now(&mut self) -> Duration {
         self.last = self.rt.monotonic().unwrap_or(self.last);
         self.last

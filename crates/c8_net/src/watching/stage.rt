@@ -1,4 +1,4 @@
-//! The two threads of one who watches: the caller's makes the turns, and one looks at the board.
+//! The two threads of a watcher: the caller's makes the turns, and one looks at the board.
 ghost use Rattle.std.specs.Prelude.{◌≡◌, ◌≤◌, ℕ, IfOk};
 ghost use Rattle.c8_watch.specs.Published.{MayShow};
 ghost use Rattle.c8_watch.specs.Turns.{AreTurns};
@@ -39,7 +39,7 @@ struct Shared<'r, R> {
 }
 
 impl Stage {
-    /// A board with one viewer. The error is want of memory.
+    /// Opens a board with one viewer. The error is that memory ran out.
     pub(super) fn open(alloc: Global, spectator: &Spectator<'_>) -> Result<Stage, AllocError>
         ensures { IfOk result (λ stage. MayShow spectator.now stage.pen) }
     {
@@ -50,8 +50,8 @@ impl Stage {
         Ok(Stage { board, pen, viewer })
     }
 
-    /// Watches over a wire, until there is every row, the turns are made, the viewer has asked for the end,
-    /// or the wire fails. Both threads are joined then.
+    /// Watches over a wire, until it has every row, its turns are made, the viewer has asked for the end, or the wire
+    /// fails. Both threads are then joined.
     pub(super) fn watch<'g, R, W, O>(
         self,
         rt: &R,
@@ -86,7 +86,7 @@ impl Stage {
     }
 }
 
-/// The caller's thread: the turns, and the picture.
+/// Runs the caller's thread: the turns, and the picture.
 fn make_turns<'g, R, W, O>(
     rt: &R,
     asked: &WatchAsked<'_>,
@@ -122,8 +122,8 @@ where
     (spectator, turns)
 }
 
-/// The viewer's thread: asks for the end once there are as many frames as are asked for, until the turns
-/// are over.
+/// Runs the viewer's thread until the turns are over: it asks for the end once there are as many frames as `--stop`
+/// asks for.
 fn look_on<R: Clock + Wait>(
     rt: &R,
     enough: Option<u64>,

@@ -9,7 +9,7 @@ pub record IsHindmostBelow {D : Type 0} (peer : PeerValue D) (end player : ℕ) 
   pub other : IsOther peer player
   pub fewest : (q : ℕ) → q < end → IsOther peer q → count_in (known_by peer) player ≤ count_in (known_by peer) q
 
--- what was found, if there is one
+-- what was found, if anything
 abbrev pub FoundBelow : {D : Type 0} → PeerValue D → ℕ → Option Player → Type 0
 FoundBelow peer end None = (q : ℕ) → q < end → ¬ IsOther peer q
 FoundBelow peer end (Some player) = IsHindmostBelow peer end player.number

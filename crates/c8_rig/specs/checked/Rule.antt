@@ -1,4 +1,4 @@
--- Checked, not believed: what the keeper of a log and the owners of its parts know of each other, whatever the threads do.
+-- Checked, not believed: what a log's keeper and the owners of its parts know of each other, whatever the threads do.
 use Rattle.std.specs.Prelude.{◌≡◌, ℕ, ◌+◌, ◌<◌, ◌≤◌, List, [], ◌∷◌, ◌++◌}
 use mathlib.Core.Option.{some}
 use lib.ListN.{get_elem?}
@@ -7,8 +7,8 @@ use Rattle.c8_rig.specs.declared.views.View.{View}
 use Rattle.c8_rig.specs.declared.views.View.TheVariants.{Keeper, Own, Both, Spent}
 use Rattle.c8_rig.specs.Log.{NoteValue, part_of}
 
--- The first seat is the keeper's, with the number of players who have an entry, and the whole log; each own list is its player's
--- part of that.
+-- The first seat is the keeper's: it has the number of players with an entry, and the whole log. Each own list is its
+-- player's part of the log.
 abbrev pub Fits : ℕ → List NoteValue → ℕ → View → Type 0
 Fits players log seat (Keeper n all) = (seat ≡ 0) × (n ≡ players) × (all ≡ log)
 Fits players log seat (Own p own) = (p ≤ players) × (own ≡ part_of p log)
@@ -22,7 +22,7 @@ Owns p (Own q own) = q ≡ p
 Owns p (Both n all q own) = q ≡ p
 Owns p Spent = ⊥
 
--- The rule: there is one log. Each view fits it, each list has one owner, and who has no entry has no part.
+-- The rule: there is one log. Each view fits it, each list has one owner, and a player without an entry has no notes.
 pub record Keeps {S : Type 0} (s : State S View) : Type 0 where
   pub players : ℕ
   pub log : List NoteValue
@@ -30,9 +30,9 @@ pub record Keeps {S : Type 0} (s : State S View) : Type 0 where
   pub alone : (p a b : ℕ) (v w : View) → get_elem? s.views a ≡ some v → get_elem? s.views b ≡ some w → Owns p v → Owns p w → a ≡ b
   pub later : (p : ℕ) → players < p → part_of p log ≡ []
 
--- ---- the steps: what becomes of a view
+-- ---- the steps: what they do to a view
 
--- a player more has an entry
+-- one more player gets an entry
 abbrev pub with_player : View → View
 with_player (Keeper n all) = Keeper (n + 1) all
 with_player (Own p own) = Own p own
@@ -58,14 +58,14 @@ abbrev pub entry_of : View → View
 entry_of (Both n all p own) = Own p own
 entry_of v = Spent
 
--- a note more
+-- one more note
 abbrev pub noted : NoteValue → View → View
 noted note (Both n all p own) = Both n (all ++ note ∷ []) p (own ++ note ∷ [])
 noted note (Keeper n all) = Keeper n all
 noted note (Own p own) = Own p own
 noted note Spent = Spent
 
--- what is seen with both in one hand
+-- what keeper and entry show while they are joined
 abbrev pub TellsPart : View → Type 0
 TellsPart (Both n all p own) = (p ≤ n) × (own ≡ part_of p all)
 TellsPart (Keeper n all) = Unit

@@ -1,4 +1,4 @@
--- Checked, not believed: how a token has what clauses see of it.
+-- Checked, not believed: how clauses see a token.
 use Rattle.std.specs.Prelude.{◌≡◌, ℕ, List, [], Option, Some, None}
 use Rattle.atomic_table.specs.Table.{Me}
 use Rattle.atomic_table.specs.Seated.{TableId}
@@ -33,7 +33,7 @@ own_value ether Spent = record { ether = ether; player = 0; notes = [] }
 abbrev pub no_ether : TableId
 no_ether = record { words = 0; slots = 0; views_name = 0; atom = 0; block = 0; offset = 0; slot_names = [] }
 
--- of an entry: its player, the player's notes, and its part, which it always has
+-- an entry by its player, the player's notes, and its part, which is always there
 abbrev pub entry_value : ℕ → List NoteValue → Option EntryValue → EntryValue
 entry_value player notes (Some part) = record { ether = part.ether; player = player; notes = notes }
 entry_value player notes None = record { ether = no_ether; player = player; notes = notes }

@@ -1,5 +1,5 @@
--- How the code reads the words of a script's line. Only contracts of private functions cite this file: no reader has to
--- believe it.
+-- How the code reads the words of a script's line. Only contracts of private functions cite this file, so no reader has
+-- to believe it.
 use Rattle.std.specs.Prelude.{ℕ, zero, suc, ◌-◌, ◌^◌, ◌==◌, ◌&&◌, ◌||◌, Bool, is_some, nat_lt, List, [], ◌∷◌, codes, Option, Some, None, option_map, if◌then◌else◌}
 use Rattle.std.proofs.Common.{lit≤}
 use Rattle.std.specs.List.{slice_split}
@@ -19,7 +19,7 @@ use Rattle.c8_world.specs.declared.event.Event.{Event}
 use Rattle.c8_script.specs.Script.{may_be_held}
 use Rattle.c8_world.specs.declared.event.Event.TheVariants.{Do, Stop, Fail}
 
--- the player of a number
+-- the player with a number
 abbrev pub player_of : ℕ → Option Player
 player_of zero = None
 player_of (suc zero) = Some (record { number = 1; from_one = lit≤ tt; to_four = lit≤ tt })
@@ -33,7 +33,7 @@ player_in [] = None
 player_in (digit ∷ []) = player_of (digit - 48)
 player_in (digit ∷ next ∷ more) = None
 
--- the watcher of a number
+-- the watcher with a number
 abbrev pub watcher_of : ℕ → Option Watcher
 watcher_of zero = None
 watcher_of (suc zero) = None
@@ -68,19 +68,19 @@ kind_in what (leaver ∷ []) =
     else None
 kind_in what (leaver ∷ next ∷ more) = None
 
--- an act of two, and of three parts
+-- an act of two parts, and of three parts
 abbrev pub act_of : {A B : Type 0} → (A → B → Act) → Option A → Option B → Option Act
 act_of make one other = option_and_then (λ a. option_map (make a) other) one
 
 abbrev pub said_of : Option Player → Option Player → Option Kind → Option Act
 said_of player to what = option_and_then (λ p. act_of (Say p) to what) player
 
--- the first act, if there is one, else the other
+-- the first act, if there is one, otherwise the other
 abbrev pub act_or : Option Act → Option Act → Option Act
 act_or None other = other
 act_or (Some act) other = Some act
 
--- what player one says to a watcher, and a watcher to player one
+-- what player 1 says to a watcher, and a watcher to player 1
 abbrev pub shown_in : List ℕ → List ℕ → List ℕ → List (List ℕ) → Option Act
 shown_in one other what [] =
     if bytes_eq what (codes "show") && bytes_eq one (codes "1") then option_map Show (watcher_in other)

@@ -59,7 +59,7 @@ fn held_in(words: &[&[u8]]) -> Option<Act>
     }
 }
 
-/// Whether a stop or a failure may hold an act: a watcher has no disk.
+/// Whether a stop or a failure may hold an act; a watcher has no disk.
 fn may_be_held(act: Act) -> bool
     ensures { result ≡ may_be_held act }
 {
@@ -113,7 +113,7 @@ fn saying_in(verb: &[u8], one: &[u8], other: &[u8], what: &[u8], more: &[&[u8]])
     }
 }
 
-/// The act of one who is given a datagram.
+/// The delivery of a datagram to a player or watcher.
 fn given_in(number: &[u8], to: &[u8]) -> Option<Act>
     ensures { result ≡ act_or (act_of Give (number_in number.now) (player_in to.now)) (act_of Hear (number_in number.now) (watcher_in to.now)) }
 {
@@ -124,7 +124,7 @@ fn given_in(number: &[u8], to: &[u8]) -> Option<Act>
     }
 }
 
-/// What one says to another.
+/// What a player or watcher says to another.
 fn spoken_in(one: &[u8], other: &[u8], what: &[u8], more: &[&[u8]]) -> Option<Act>
     ensures { result ≡ act_or (said_of (player_in one.now) (player_in other.now)
         (kind_in what.now (map (λ word. word.now) more.now)))
@@ -144,7 +144,7 @@ fn said_in(player: &[u8], to: &[u8], what: &[u8], leaver: &[&[u8]]) -> Option<Ac
     Some(Act::Say(player_in(player)?, player_in(to)?, kind_in(what, leaver)?))
 }
 
-/// What player one says to a watcher, or a watcher to player one.
+/// What player 1 says to a watcher, or a watcher to player 1.
 fn shown_in(one: &[u8], other: &[u8], what: &[u8], more: &[&[u8]]) -> Option<Act>
     ensures { result ≡ shown_in one.now other.now what.now (map (λ word. word.now) more.now) }
 {
@@ -179,7 +179,7 @@ fn player_act_in(verb: &[u8], player: &[u8]) -> Option<Act>
     }
 }
 
-/// What is said: by its word, and for some of them the word of a leaver.
+/// The kind that a word spells, for some kinds with the word of a leaver.
 fn kind_in(what: &[u8], leaver: &[&[u8]]) -> Option<Kind>
     ensures { result ≡ kind_in what.now (map (λ word. word.now) leaver.now) }
 {
@@ -218,7 +218,7 @@ fn watcher_in(word: &[u8]) -> Option<Watcher>
     }
 }
 
-/// The number of 1 to 20 digits, if 64 bits hold it.
+/// The number of 1 to 20 digits, if it fits in 64 bits.
 fn number_in(word: &[u8]) -> Option<u64>
     ensures { result ≡ number_in word.now }
 {

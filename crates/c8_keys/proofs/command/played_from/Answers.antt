@@ -1,7 +1,7 @@
 use Rattle.std.proofs.Common.{rules}
 use Rattle.c8_keys.proofs.command.played_from.Goals as goal
 
--- what is wrong here is refused at once
+-- a fault found here is returned at once
 pub returns : goal.returns
 returns c = search rules
 

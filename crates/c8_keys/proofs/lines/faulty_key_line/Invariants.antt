@@ -5,7 +5,7 @@ use Rattle.c8_game.specs.Lines.{lines_left}
 use Rattle.c8_keys.specs.KeyLines.{key_line_fault}
 use Rattle.c8_keys.proofs.lines.faulty_key_line.Given as goal
 
--- the lines so far have no fault, and each stands for a frame
+-- the lines so far have no fault, and each is a frame
 abbrev pub invariant-loop-line : goal.invariant-loop-line
 invariant-loop-line l = record {
   seen : List (List ℕ);

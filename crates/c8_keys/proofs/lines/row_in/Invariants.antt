@@ -3,7 +3,7 @@ use Rattle.std.specs.List.{list_all, range_with_len}
 use Rattle.c8_keys.specs.KeyLines.{are_keys_at, keys_at}
 use Rattle.c8_keys.proofs.lines.row_in.Given as goal
 
--- the places so far have a set each, and these are they
+-- each place so far has a set, and these are the sets
 abbrev pub invariant-loop-place : goal.invariant-loop-place
 invariant-loop-place l = record {
   found : list_all (are_keys_at l.line) (range_with_len 0 l.place) ≡ true;

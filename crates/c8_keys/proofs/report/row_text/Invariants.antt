@@ -3,7 +3,7 @@ use Rattle.c8_screen.specs.Points.{points_of}
 use Rattle.c8_keys.specs.Report.{mark_of}
 use Rattle.c8_keys.proofs.report.row_text.Given as goal
 
--- the columns so far are marked, and the line feed stands behind them
+-- the columns so far are marked, and the line feed comes after them
 abbrev pub invariant-loop-x : goal.invariant-loop-x
 invariant-loop-x l = record {
   length : length l.text ≡ 65;

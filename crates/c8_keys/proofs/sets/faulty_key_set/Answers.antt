@@ -9,7 +9,7 @@ use Rattle.c8_keys.specs.declared.error.KeysError.TheVariants.{Line}
 use Rattle.c8_keys.proofs.KeyLineLemmas.{found_some, found_none}
 use Rattle.c8_keys.proofs.sets.faulty_key_set.Goals as goal
 
--- there is room to count the line
+-- the line count does not overflow
 pub overflow_add-place : goal.overflow_add-place
 overflow_add-place c =
     let before = c.loop-line.invariant in

@@ -42,7 +42,7 @@ publish-requires-in-loop-turn-clause-rows g c =
     (sym (ap (λ (pen : PenValue). pen.rows) (c.stop_asked.ensures ∙ c.loop-turn.invariant.shown)))
     (c.confirmed_rows_grow.ensures c.loop-turn.session.peer c.turn.new.self.peer c.loop-turn.invariant.sound c.in_ok-turn.ensures.ran))
 
--- where a pen's run begins, of one that shows other rows
+-- where the run of a pen begins that shows other rows
 still_from : (first old new : PenValue) (rows : List Row) → old ≡ record first { rows = rows } → new ≡ old → new.from ≡ first.from
 still_from first old new rows shown same = ap (λ (pen : PenValue). pen.from) (same ∙ shown)
 

@@ -8,7 +8,7 @@ use Rattle.c8_play.proofs.DeskLemmas.{forgets_more}
 use Rattle.c8_play.proofs.FrameLemmas.{alone_more}
 use Rattle.c8_play.proofs.alone.play_alone.Goals as goal
 
--- a frame more, in which one person holds the keys
+-- one more frame, in which one person holds the keys
 pub loop-frame-preserved : goal.loop-frame-preserved
 loop-frame-preserved g c =
     let before = c.loop-frame.invariant in

@@ -5,7 +5,7 @@ use Rattle.c8_machine.specs.Serial.{serial}
 use Rattle.c8_play.specs.Alone.{AreFramesAlone}
 use Rattle.c8_play.proofs.alone.play_alone.Given as goal
 
--- the frames so far were played on some rows, which were held down
+-- the frames so far were played on the rows that were held down
 abbrev pub invariant-loop-frame : goal.invariant-loop-frame
 invariant-loop-frame g l = record {
   rows : List Row;

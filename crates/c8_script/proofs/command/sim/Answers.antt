@@ -16,7 +16,7 @@ use Rattle.c8_script.proofs.command.sim.Goals as goal
 Wrote : List Answer → Option (List ℕ) → Option (List ℕ) → Type 0
 Wrote told u v = (text : List ℕ) × AreLines 1 told text × Appends u v text
 
--- the match was played to its end, and all was written
+-- the match was played to its end, and everything was written
 finished : (game script : List ℕ) (u v w : Option (List ℕ)) (transcript : Transcript) (told : List Answer) → IsOutcomeOfSim game script (Ok transcript) → told ≡ transcript.answers.items → Wrote told u v
     → Appends v w (ends_text transcript.ends.players.items transcript.watched transcript.ends.agree) → HasEnded game script Done u w
 unfolding Wrote
@@ -31,7 +31,7 @@ finished game script u v w transcript told is same wrote ends =
       appended = appends_then u v w wrote.0 text wrote.2 ends;
     }
 
--- it was not, and the answers until then were written
+-- the match was not played to its end, and the answers so far were written
 cut_short : {E : Type 0} → (game script : List ℕ) (u v : Option (List ℕ)) (unfinished : Unfinished) (told : List Answer) (result : Result Status E) → IsUnfinished game script unfinished
     → told ≡ unfinished.answers.items → Wrote told u v → IfOk result (λ status. status ≡ status_of (sim_part unfinished.error)) → IfOk result (λ status. HasEnded game script status u v)
 unfolding Wrote

@@ -8,7 +8,7 @@ use Rattle.c8_script.specs.declared.error.ScriptError.{ScriptError}
 use Rattle.c8_script.specs.declared.error.ScriptError.TheVariants.{Line, Memory}
 use Rattle.c8_script.proofs.script.event_of.Goals as goal
 
--- what is found is what is spelt, and what is not found is a line at fault
+-- an event that is found is the one that is spelled; if none is found, the line is at fault
 told : (found spelt : Option Event) (answer : Result Event ScriptError) → found ≡ spelt → answer ≡ ok_or found Line
     → MatchResult answer (λ event. spelt ≡ Some event) (λ error. (error ≡ Memory) ⊎ ((error ≡ Line) × (spelt ≡ None)))
 told None spelt answer same is = rw is (inr (refl, sym same))

@@ -10,7 +10,7 @@ use Rattle.c8_script.specs.declared.error.ScriptError.TheVariants.{Line}
 use Rattle.c8_script.proofs.FaultyLines.{event_fault, are_event_lines, first_no_event}
 use Rattle.c8_script.proofs.script.faulty_event.Goals as goal
 
--- there is room to count the line
+-- the line count does not overflow
 pub overflow_add-place : goal.overflow_add-place
 overflow_add-place c =
     let before = c.loop-line.invariant in
@@ -29,7 +29,7 @@ loop-line-preserved c =
       here = omega (arith, before.here, length-append before.seen (line ∷ []));
     }
 
--- the line is not taken, and those before it are
+-- the line is faulty, and those before it are not
 pub returns-then-not-branch : goal.returns-then-not-branch
 returns-then-not-branch c =
     let line = c.in-Some.line.now in

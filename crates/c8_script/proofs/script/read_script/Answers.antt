@@ -28,7 +28,7 @@ loop-line-preserved c =
           ∙ ap (map Some) (sym c.in-Ok.ensures.items);
     }
 
--- the line is kept and spells no event, or memory ran out
+-- the line is not skipped and spells no event, or memory ran out
 pub returns-in_err-event-clause-spelled : goal.returns-in_err-event-clause-spelled
 returns-in_err-event-clause-spelled c =
     let line = c.in-Some.line.now in

@@ -12,17 +12,17 @@ use Rattle.c8_show.specs.declared.error.ShowError.TheVariants as errors
 use Rattle.c8_command.specs.declared.status.Status.{Status}
 use Rattle.c8_show.proofs.command.show.Goals as goal
 
--- what the told status makes true
+-- what holds of the status that is answered
 told : {T E : Type 0} → (answer : Result T E) (status : T) {Q : T → Type 0} → ((x : T) → x ≡ status → Q x) → IfOk answer (λ x. x ≡ status) → IfOk answer Q
 told (Ok x) status then same = then x same
 told (Err e) status then same = tt
 
--- a refusal of the bytes that a word spells is one of the word
+-- if the bytes that a word spells are refused, the word is
 of_word : (word bytes : List ℕ) (why : ShowError) → decode_of word ≡ Ok bytes → IsRefusalOfBytes bytes why → IsRefusalOfShow word why
 of_word word bytes (errors.Wire error) decoded refused = (bytes, decoded, refused)
 of_word word bytes (errors.Hex error) decoded refused = absurd refused
 
--- the status that is told of what stands in the bytes is that of what the word spells
+-- the status for the bytes is the status for the word that spells them
 told_of : {E : Type 0} → (word bytes : List ℕ) (found : Result Datagram ShowError) (answer : Result Status E) → decode_of word ≡ Ok bytes
     → MatchResult found (λ datagram. Spells bytes (packet_of datagram)) (IsRefusalOfBytes bytes) → IfOk answer (λ status. status ≡ status_of_outcome show_part found)
     → IfOk answer (λ status. (outcome : Result Packet ShowError) × IsOutcomeOfShow word outcome × (status ≡ status_of_outcome show_part outcome))

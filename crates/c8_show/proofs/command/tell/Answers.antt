@@ -1,6 +1,6 @@
 use Rattle.std.proofs.Common.{rules}
 use Rattle.c8_show.proofs.command.tell.Goals as goal
 
--- what is wrong here is refused at once
+-- a fault found here is returned at once
 pub returns-in-Err : goal.returns-in-Err
 returns-in-Err g c = search rules

@@ -3,7 +3,7 @@ use Rattle.c8_play.specs.Desk.{typing}
 use Rattle.c8_play.proofs.TypingLemmas.{paused_after}
 use Rattle.c8_play.proofs.desk.Desk.read.Goals as goal
 
--- an escape after which nothing came was the key of that name
+-- after a silence, an escape was the key itself
 pub returns-then-eq-clause-read : goal.returns-then-eq-clause-read
 returns-then-eq-clause-read g c =
     let came = c.read_waiting.new.self in

@@ -3,7 +3,7 @@ use Rattle.c8_play.specs.Typing.{HasCome}
 use Rattle.c8_play.specs.Desk.{typing, drawn_at, MayForget}
 use Rattle.c8_play.proofs.desk.Desk.read_waiting.Given as goal
 
--- what came so far is taken
+-- the bytes so far are taken
 abbrev pub invariant-loop : goal.invariant-loop
 invariant-loop g l = record {
   bytes : List ℕ;
