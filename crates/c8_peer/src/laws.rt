@@ -165,8 +165,8 @@ pub fn a_peers_word_stands()
         → rows_below (known_at rules me t) n ≡ rows_below (known_at rules me s) n }
 {}
 
-/// The answer to a call gives the peer's mode after it: down if the disk refused the record, else
-/// open. After an opening the peer is open or away.
+/// The answer of an open peer to a call gives its mode after it: down if the disk refused the record,
+/// else open. The answer to an opening does too: open or away.
 pub fn answers_tell_modes()
     ensures calls { (rules : Rules) (me : ℕ) (s : State) (call : Call) (luck : Luck)
         → s.mode ≡ Open → (step rules me s call luck).state.mode
