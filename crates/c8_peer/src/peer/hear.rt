@@ -88,7 +88,7 @@ impl<'g, D: Disk> Peer<'g, D> {
         ensures { IsAnswered D.Disk self.old (Deliver (Ok (packet_of datagram.now)))
             (Delivered result) self.new }
     {
-        // For the proof: what is so of every peer.
+        // For the proof: what holds for every peer.
         let _down = self.is_down();
         let sender = self.sender_of(datagram);
         match self.judge(sender, datagram) {
@@ -117,7 +117,7 @@ impl<'g, D: Disk> Peer<'g, D> {
         ensures from { result.number ≡ (packet_of datagram.now).head.from }
         ensures plays { Plays (known_by self.now) result.number }
     {
-        // For the proof: what is so of every peer.
+        // For the proof: what holds for every peer.
         let _down = self.is_down();
         let Some(sender) = datagram.header().from().player() else {
             unreachable!();
@@ -178,7 +178,7 @@ impl<'g, D: Disk> Peer<'g, D> {
         ensures { IsAnswered D.Disk self.old (Deliver (Ok (packet_of datagram.now)))
             (Delivered result) self.new }
     {
-        // For the proof: what is so of every peer.
+        // For the proof: what holds for every peer.
         let _down = self.is_down();
         let Some(watcher) = datagram.header().from().watcher() else {
             unreachable!();
