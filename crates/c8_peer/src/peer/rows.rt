@@ -32,6 +32,7 @@ impl<'a> Rows<'a> {
         self.known.confirmed()
     }
 
+    /// Returns whether no frame is confirmed yet.
     pub fn is_empty(&self) -> bool
         ensures { result ≡ (confirmed self.now == 0) }
     {
