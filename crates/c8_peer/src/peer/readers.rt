@@ -101,8 +101,8 @@ impl<'g, D: Disk> Peer<'g, D> {
         self.plays(player) && self.known.frozen(player)
     }
 
-    /// Returns whether the journal has a LEAVE of a player. At player one it means that player one has
-    /// dropped the player; at the player itself, that it knows so.
+    /// Returns whether the journal has a LEAVE of a player. Player one records it when it drops the
+    /// player, and the dropped player when it receives its own CUT. Other peers never have one.
     pub fn leaving(&self, player: Player) -> bool
         ensures { result ≡ (player_in (known_by self.now) player.number).leaving }
     {
