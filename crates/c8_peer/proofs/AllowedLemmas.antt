@@ -1,4 +1,4 @@
--- What a call of an open peer records is allowed after the records before it.
+-- The rules allow each record that a call of an open peer adds.
 use Rattle.std.proofs.Common.{◌≡◌, ◌≢◌, ℕ, zero, suc, ◌+◌, ◌-◌, ◌^◌, ◌<◌, ◌≤◌, List, [], ◌∷◌, length, drop, Bool, true, false, cond, Option, Some, None, refl, sym, ap, subst, ◌∙◌, inl, inr, arith}
 use Rattle.std.specs.Prelude.{◌==◌, ◌||◌, ◌&&◌, not, nat_le, nat_lt, is_some, Result, Ok, Err}
 use Rattle.std.proofs.lemmas.Bool.{cases_lt, cases_eq, both_ways, not-false, ltb-false, leb-true, leb-false, eqb-true, eqb-false, eq-eqb, and_parts, or_parts}
@@ -35,14 +35,14 @@ use Rattle.c8_peer.specs.Lawful.{IsMemory, IsCall}
 use Rattle.c8_peer.proofs.Tests.{failed, either_way}
 use Rattle.c8_peer.proofs.CheckpointLemmas.{adds_next, next_may, next_player}
 
--- ---- what the records before say
+-- ---- what the earlier records say
 
 record IsPast (past : Past) : Type 0 where
   known : IsKnown past.known
   orderly : IsOrderly past.known
   some : past.count ≢ 0
 
--- no LEAVE of the own player stands, or it is player one
+-- the journal has no LEAVE of the own player, or the own player is player one
 abbrev Stays : KnownValue → Type 0
 Stays k = k.me ≢ 1 → (player_in k k.me).leaving ≡ false
 
@@ -56,7 +56,7 @@ past_hand : (m : Memory) (o : Option HandError) (others : Outcome) (r : Record) 
 past_hand m None others r is = (refl, is)
 past_hand m (Some error) others r is = absurd cc
 
--- what is recorded is the record
+-- the outcome's record is this record
 the_record : (rules : Rules) (room : ℕ) (past : Past) (r s : Record) → Some r ≡ Some s → IsAllowedAfter rules room past r → IsAllowedAfter rules room past s
 the_record rules room past r s is may = let same : r ≡ s = cc in subst (λ (one : Record). IsAllowedAfter rules room past one) same may
 
@@ -83,7 +83,7 @@ allowed rules room past r is stays plays spelled may = record {
   dropped = λ other leaving. absurd (both_ways (player_in past.known past.known.me).leaving (stays other) leaving);
 }
 
--- players and counts fit their places
+-- players and counts fit into their fields
 to_four : (k : KnownValue) (q : ℕ) → IsKnown k → Plays k q → q ≤ 4
 to_four k q known plays = omega (arith, known.at_most_four, plays.in_game)
 
@@ -160,7 +160,7 @@ got_allowed rules room past m q (word ∷ words) r is stays plays other uncut ne
     } in
     the_record rules room past got_these r kept (allowed rules room past got_these is stays plays spelled (record { other = other; next = refl; within = new.within; uncut = uncut }))
 
--- ---- what player one does by itself
+-- ---- leave and decide, of player one
 
 leave_allowed : (rules : Rules) (room : ℕ) (past : Past) (m : Memory) (leaver : ℕ) (r : Record) → IsPast past
     → (leave past.known m leaver).keeps ≡ Some r → IsAllowedAfter rules room past r
@@ -188,7 +188,7 @@ leave_allowed rules room past m leaver r is kept =
       once = already.0;
     }))
 
--- who leaves is a player of the game: of others nothing is known
+-- a leaver is a player of the game: nothing is known of others
 leaver_place : (k : KnownValue) (q : ℕ) → (player_in k q).leaving ≡ true → q - 1 < length k.players
 leaver_place k q leaving =
     elim (cases_lt (q - 1) (length k.players)) [
@@ -198,7 +198,7 @@ leaver_place k q leaving =
           absurd (both_ways true (sym leaving ∙ ap (λ (p : PlayerValue). p.leaving) none) refl)
     ]
 
--- and not player one, for whom player 0 is taken here
+-- a leaver is not player one; player 0 has player one's entry here
 leaver_from_two : (k : KnownValue) (q : ℕ) → IsOrderly k → (player_in k q).leaving ≡ true → 2 ≤ q
 leaver_from_two k zero orderly leaving = absurd (both_ways (player_in k 1).leaving ((orderly 1 (omega arith)).one_stays refl).1 leaving)
 leaver_from_two k (suc zero) orderly leaving = absurd (both_ways (player_in k 1).leaving ((orderly 1 (omega arith)).one_stays refl).1 leaving)
@@ -238,9 +238,9 @@ decide_allowed rules room past m leaver r is kept =
       once = uncut_by_test (player_in k leaver).cut already.0;
     }))
 
--- ---- inputs of a player from itself
+-- ---- inputs that a player sends itself
 
--- of whom neither a FREEZE nor a LEAVE stands, the list is not cut
+-- if the journal has no FREEZE and no LEAVE of a player, its list is not cut
 no_number : (o : Option ℕ) → ((K : ℕ) → o ≡ Some K → ⊥) → o ≡ None
 no_number None none = refl
 no_number (Some K) none = absurd (none K refl)
@@ -327,7 +327,7 @@ frozen_allowed rules room past m q f r is stays frozen_is fits kept =
     (λ same. omega (arith, same, one, from_two)) (uncut_by_test (player_in k f.leaver).cut whole.0)
     (new_words k f.leaver f.start f.words is.known held.0 frozen_is.run.short fits) held.1
 
--- what is judged of a CUT of another player, elsewhere than at player one
+-- what the tests of a CUT of another player leave, at a peer that is not player one and has not cut the list
 record IsCutHere (k : KnownValue) (c : LeaverMessage) : Type 0 where
   plays : Plays k c.leaver
   other : c.leaver ≢ k.me
@@ -378,7 +378,7 @@ end_allowed rules room past m c None r is stays cut_is fits here kept =
     cut_or_got_allowed rules room past m c (fresh_words k c.leaver c.start c.words) r is stays cut_is (here refl)
     (new_words k c.leaver c.start c.words is.known held.0 cut_is.run.short fits) held.1
 
--- the own player has been cut by player one
+-- player one has cut the own player
 out_allowed : (rules : Rules) (room : ℕ) (past : Past) (r : Record) → IsPast past → past.known.me ≢ 1 → (player_in past.known past.known.me).leaving ≡ false
     → Some (Leave past.known.me) ≡ Some r → IsAllowedAfter rules room past r
 out_allowed rules room past r is elsewhere stays kept =
@@ -444,7 +444,7 @@ seen_allowed rules room past m head ack r kept =
     let none = few.1 in
     absurd cc
 
--- who is heard is another player of the game
+-- each sender that the links admit is another player of the game
 FromOthers : KnownValue → Memory → Type 0
 FromOthers k m = (head : HeadValue) → links.refusal m.links head ≡ None → IsFromOther k head.from
 
@@ -503,7 +503,7 @@ call_allowed rules t room past m (calls.Leave leaver) r is others checkpoints ca
 call_allowed rules t room past m (Decide leaver) r is others checkpoints call_is kept = decide_allowed rules room past m leaver r is kept
 call_allowed rules t room past m Checkpoint r is others checkpoints call_is kept = checkpoints kept
 
--- a journal that has had an epoch has a record
+-- a journal with an epoch has a record
 some_record : (number : ℕ) (journal : List Record) → had_epoch number journal ≡ true → length journal ≢ 0
 unfolding had_epoch epochs
 some_record number [] had = absurd (both_ways true (sym had) refl)

@@ -1,4 +1,4 @@
--- What every call answers for, at each of its ends.
+-- The contract that all calls share, at each end of a call.
 use Rattle.std.proofs.Common.{◌≡◌, ◌<◌, ◌≤◌, ◌+◌, ◌*◌, ◌++◌, ℕ, [], ◌∷◌, length, Some, None, Ok, Err, refl, sym, ap, subst, ◌∙◌, arith}
 use Rattle.c8_game.specs.Rules.{Rules}
 use Rattle.c8_disk.specs.declared.disk.Disk.{Ghosts}
@@ -20,7 +20,7 @@ use Rattle.c8_peer.specs.checked.Held.{IsPeer}
 use Rattle.c8_peer.proofs.PeerLemmas.{view}
 use Rattle.c8_peer.proofs.RoomLemmas.{had_room}
 
--- what a call comes to, by what the peer knows inside and as it is seen
+-- the outcome of a call, by the parts of the peer and by its model
 pub outcome_seen : {D : Type 0} {ran : ℕ} (v : PeerValue D) (rules : Rules) (room : ℕ) (j : JournalValue D) (k : KnownValue) (m : Memory) → IsPeer rules room j k m → view rules room k.me j m ran ≡ v
     → (call : Call) (o : Memory → Outcome) → outcome rules (told_of rules k.me (records_of j.bodies)) k m call ≡ o m → outcome v.rules (told_by v) (known_by v) v.state.memory call ≡ o v.state.memory
 outcome_seen {D} {ran} v rules room j k m is seen call o comes =
@@ -28,7 +28,7 @@ outcome_seen {D} {ran} v rules room j k m is seen call o comes =
     (subst (λ (known : KnownValue). outcome rules (told_of rules k.me (records_of j.bodies)) known m call ≡ o m) is.known comes)
 
 module _ {D : Type 0} (g : Ghosts D) where
-  -- the disk is left alone
+  -- the call does not touch the disk
   quiet : (v : PeerValue D) (m : Memory) (call : Call) (reply : Reply) → IsSound g v → added v call ≡ None → luck_of reply ≡ Works
       → IsStep v call reply (record v { state = record v.state { memory = m } }) → IsAnswered g v call reply (record v { state = record v.state { memory = m } })
   quiet v m call reply sound none luck step = record {
@@ -44,7 +44,7 @@ module _ {D : Type 0} (g : Ghosts D) where
     same = record { rules = refl; room = refl; me = refl; disk_is = record { capacity = refl; arms = refl; no_fewer = omega arith } };
   }
 
-  -- nothing is recorded; the memory may change
+  -- the call records nothing; the memory may change
   pub answers : (v : PeerValue D) (m : Memory) (call : Call) (reply : Reply) → IsSound g v → v.state.mode ≡ Open → outcome v.rules (told_by v) (known_by v) v.state.memory call ≡ answered m reply
       → luck_of reply ≡ Works → IsAnswered g v call reply (record v { state = record v.state { memory = m } })
   answers v m call reply sound mode comes luck = quiet v m call reply sound (rw (mode, comes) refl) luck (rw (mode, comes) refl)
@@ -62,7 +62,7 @@ module _ {D : Type 0} (g : Ghosts D) where
   abbrev pub without_record : PeerValue D → D → Record → PeerValue D
   without_record v disk r = record v { disk = disk; state = record v.state { pending = Some r; mode = Down } }
 
-  -- where there is no room for a record, no other word is said of it
+  -- if there is no room for a record, the refusal is Full
   must_be_full : (old new : PeerValue D) (why : DiskError) → HasAppendCause g old new why → g.capacity old.disk < slot_length * (length old.state.journal + 1) + 1 → why ≡ errors.Full
   must_be_full old new errors.Failed cause few = let room = cause.0 in absurd (omega (arith, few, room))
   must_be_full old new errors.Full cause few = refl
@@ -87,7 +87,7 @@ module _ {D : Type 0} (g : Ghosts D) where
     same = record { rules = refl; room = refl; me = refl; disk_is = kept.same };
   }
 
-  -- the disk refuses it
+  -- the disk refuses the record
   pub is_refused : (v : PeerValue D) (disk : D) (m : Memory) (call : Call) (reply said : Reply) (r : Record) (why : DiskError) → v.state.mode ≡ Open
       → outcome v.rules (told_by v) (known_by v) v.state.memory call ≡ recorded m said r → reply ≡ refused_by_disk call why → luck_of reply ≡ Refuses why → Kept v r (Err why) disk
       → HasAppendCause g v (without_record v disk r) why → LeavesJournal g (without_record v disk r) → IsAnswered g v call reply (without_record v disk r)

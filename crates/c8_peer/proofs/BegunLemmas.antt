@@ -1,4 +1,4 @@
--- However many calls a peer makes, its machine began where it did.
+-- Calls do not change where a peer's machine began.
 use Rattle.std.proofs.Common.{◌≡◌, ℕ, ◌^◌, ◌<◌, ◌≤◌, List, [], ◌∷◌, map, false, Option, Some, None, refl, sym, ap, ◌∙◌}
 use Rattle.c8_game.specs.Rules.{Rules, AreInRange}
 use Rattle.c8_known.specs.Journal.{Record}

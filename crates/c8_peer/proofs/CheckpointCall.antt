@@ -1,4 +1,4 @@
--- What a call that records of a checkpoint comes to, and what it makes of the checkpoints that are kept.
+-- What a checkpoint call does, and how it changes the kept checkpoints.
 use Rattle.std.proofs.Common.{◌≡◌, ◌≢◌, inl, inr, ℕ, ◌+◌, ◌*◌, ◌<◌, ◌≤◌, ◌↔◌, List, [], ◌∷◌, ◌++◌, length, take, Bool, true, false, Option, Some, None, Ok, Err, refl, sym, ap, subst, ◌∙◌, arith}
 use Rattle.std.specs.Prelude.{IsErrOf}
 use Rattle.std.proofs.lemmas.Bool.{cases_lt, cases_eq, le-leb, lt-leb, eq-eqb, ne_eqb}
@@ -45,8 +45,8 @@ use Rattle.c8_peer.proofs.CheckpointLemmas.{saved_is, saved_stays, saved_origin,
 use Rattle.c8_peer.proofs.PeerLemmas.{view, may_record, leaves_records, asks_records}
 use Rattle.c8_peer.proofs.AnswerLemmas.{Kept, without_record}
 
--- The checkpoints that are kept are the journal's, and their bytes those of the machine and the marks at their frames, which are
--- confirmed: all that are, where none is under way.
+-- The kept checkpoints are the journal's. Their bytes are those of the machine and the marks at their frames, which are
+-- confirmed. If none is under way, these are all confirmed frames.
 pub record IsCut (rules : Rules) (me : ℕ) (journal : List Record) (c : Checks) : Type 0 where
   pub same : value_of c ≡ checks_of journal
   pub low : c.frames ≤ confirmed (known_of rules me journal)
@@ -54,7 +54,7 @@ pub record IsCut (rules : Rules) (me : ℕ) (journal : List Record) (c : Checks)
   pub planned : plan_of c ≡ (told_of rules me journal).saved c.frames
   pub first : c.count ≡ 0 → (c.frames ≡ confirmed (known_of rules me journal)) × (frames_of (value_of c).last < confirmed (known_of rules me journal))
 
--- the bytes are those of what may be the state and the marks of a machine
+-- the bytes are those of a possible state and marks of a machine
 plan_is : (rules : Rules) (me room : ℕ) (journal : List Record) (c : Checks) → AreInRange rules → 1 ≤ me → me ≤ rules.players → IsJournal rules me room journal → IsCut rules me journal c
     → (at : Origin) × IsOrigin at × (plan_of c ≡ save_bytes at)
 plan_is rules me room journal c range from to is cut =
@@ -110,9 +110,9 @@ checkpoint_comes rules me room journal m c range from to is cut stays =
     ] in
     rw stays (ap (next_piece t k m) under ∙ next)
 
--- ---- what is cut
+-- ---- the start of a checkpoint
 
--- the checkpoints that are kept, once what comes next is cut
+-- the kept checkpoints, once the bytes of the next record are cut
 pub is_cut : (rules : Rules) (me room : ℕ) (journal : List Record) (k : KnownValue) (v : RollValue) (old c : Checks) → AreInRange rules → 1 ≤ me → me ≤ rules.players → IsJournal rules me room journal → IsSaving rules me journal
     → k ≡ known_of rules me journal → v ≡ roll_since rules (begun_at rules journal) k → value_of old ≡ checks_of journal → IsPlanned rules me journal old
     → value_of c ≡ value_of old → (old.count ≢ 0 → c ≡ old) → (old.count ≡ 0 → frames_of (value_of old).last < confirmed k)
@@ -148,9 +148,9 @@ is_cut rules me room journal k v old c range from to is saving known rolls noted
       })
 ]
 
--- ---- what it makes of them
+-- ---- how the record changes the kept checkpoints
 
--- a record of a checkpoint makes nothing known, and begins no epoch
+-- a record of a checkpoint adds nothing to what is known, and begins no epoch
 pub next_quiet : (k : KnownValue) (me : ℕ) (c : Checks) → with_record k (next_record me c) ≡ k
 next_quiet k me c = elim (cases_eq c.count 36) [
   | inl all ↦ rw (eq-eqb c.count 36 all) refl
@@ -171,7 +171,7 @@ whole_may rules me room own journal c same may all =
     let stands = (subst (IsAllowed rules me room journal) is may).may.whole in
     subst (λ (x : ChecksValue). MayCheck x c.frames (digest_of (plan_of c))) (sym same) (subst (MayCheck (checks_of journal) c.frames) (digest_words (plan_of c)) stands)
 
--- once the record stands the kept ones are the longer journal's
+-- once the record stands, the kept checkpoints are the longer journal's
 pub noted_next : (rules : Rules) (me room own : ℕ) (journal : List Record) (c new : Checks) → AreInRange rules → 1 ≤ me → me ≤ rules.players → IsJournal rules me room journal → IsCut rules me journal c → c.count ≤ 36
     → (c.count ≢ 36 → value_of new ≡ with_piece (value_of c) c.frames c.count (piece_in c.count (plan_of c))) → (c.count ≡ 36 → value_of new ≡ with_whole (value_of c))
     → value_of new ≡ checks_of (journal ++ next_record own c ∷ [])
@@ -189,7 +189,7 @@ noted_next rules me room own journal c new range from to is cut few piece whole 
       ∙ sym (checks_more journal (next_record own c) ∙ ap (with_check (checks_of journal)) record_is)
 ]
 
--- and the bytes that are kept are still those of their frames
+-- once the record stands, the kept bytes are still those of their frames
 pub planned_next : (rules : Rules) (me room : ℕ) (journal : List Record) (r : Record) (c new : Checks) → AreInRange rules → 1 ≤ me → me ≤ rules.players → IsJournal rules me room journal → IsAllowed rules me room journal r → IsNext rules me journal r
     → IsCut rules me journal c → (new.count ≢ 0 → (plan_of new ≡ plan_of c) × (new.frames ≡ c.frames)) → IsPlanned rules me (journal ++ r ∷ []) new
 planned_next rules me room journal r c new range from to is may next cut kept =
@@ -226,7 +226,7 @@ none_run : (k : KnownValue) (ran : ℕ) (oldest : Option ℕ) → IsOldestWrong 
 none_run k ran None is all = omega (arith, all)
 none_run k ran (Some frame) is all = absurd (is.2 refl)
 
--- nothing is run where nothing is known anew
+-- if nothing new is known, no frame is run
 pub runs_none : (k : KnownValue) (ran : ℕ) → RunsFromOldest k k ran → ran ≤ 0
 runs_none k ran runs = none_run k ran runs.oldest runs.is runs.all
 
@@ -239,7 +239,7 @@ module _ {D : Type 0} where
       subst (λ (x : KnownValue). checkpoint (told_of rules k.me journal) x m ≡ recorded m (Checked (Ok (next_said c))) (next_record x.me c)) (sym is.known)
       (checkpoint_comes rules k.me room journal m c is.range is.from_one is.in_game is.bodies.journal cut stays_known)
 
-  -- what comes next, by what is known inside
+  -- the next record, by the parts of the peer
   pub next_inside : (rules : Rules) (room : ℕ) (j : JournalValue D) (k : KnownValue) (m : Memory) (c : Checks) → IsPeer rules room j k m → IsCut rules k.me (records_of j.bodies) c → (player_in k k.me).leaving ≡ false
       → IsNext rules k.me (records_of j.bodies) (next_record k.me c)
   next_inside rules room j k m c is cut stays =
@@ -264,7 +264,7 @@ module _ {D : Type 0} where
       let many = length-map j.bodies record_of in
       subst (λ (x : PeerValue D). HasAppendCause g x (without_record g x new r) errors.Full) seen (let lacks = full.0 refl in omega (arith, many, lacks), left refl)
 
-  -- ---- all that is so once what comes next is cut
+  -- ---- what holds once the bytes of the next record are cut
 
   pub record IsReady (rules : Rules) (room : ℕ) (j : JournalValue D) (k : KnownValue) (m : Memory) (c : Checks) : Type 0 where
     pub cut : IsCut rules k.me (records_of j.bodies) c
@@ -301,7 +301,7 @@ module _ {D : Type 0} where
     asks = asks_records {ran = ran} g v rules room me j new m r body answer seen spelled asks;
   }
 
-  -- no frame is run
+  -- a checkpoint runs no frame
   pub runs_of : {ran : ℕ} (v : PeerValue D) (rules : Rules) (room : ℕ) (j : JournalValue D) (k : KnownValue) (m : Memory) (r : Record) (now : ℕ) → view rules room k.me j m ran ≡ v → IsPeer rules room j k m
       → IsAllowed rules k.me room (records_of j.bodies) r → with_record k r ≡ k → RunsFromOldest k k now
       → RunsFrames 0 (known_by v) (known_of v.rules v.me (v.state.journal ++ r ∷ [])) now

@@ -1,4 +1,4 @@
--- A checkpoint that a peer records: each of its records is allowed and true, and the journal with it lets the next one be recorded.
+-- A checkpoint that a peer records: the rules allow each of its records, each is true, and the next one may follow it.
 use Rattle.std.proofs.Common.{◌≡◌, ◌≢◌, ◌⊎◌, inl, inr, ℕ, ◌+◌, ◌-◌, ◌*◌, ◌/◌, ◌%◌, ◌^◌, ◌<◌, ◌≤◌, List, [], ◌∷◌, ◌++◌, take, true, false, Option, Some, None, refl, sym, ap, subst, ◌∙◌, arith}
 use Rattle.std.specs.Prelude.{◌==◌, nat_le}
 use Rattle.std.proofs.lemmas.Bool.{and_from, cases_eq, eqb-true, eqb-false, leb-false, eq-eqb, ne_eqb, lt-ltb}
@@ -40,7 +40,7 @@ use Rattle.c8_peer.specs.checked.TruthLaws.{rows_same}
 use Rattle.c8_peer.specs.checked.TrueCheckLaws.{play_checks, play_begins}
 use Rattle.c8_peer.proofs.Tests.{failed, either_way, this_record}
 
--- ---- the machine and the marks at a frame that is confirmed stay
+-- ---- the machine and the marks at a confirmed frame stay
 
 origin_stays : (rules : Rules) (from : Origin) (early late : KnownValue) (n : ℕ) → IsStillKnown early late → n ≤ confirmed early → origin_at rules from late n ≡ origin_at rules from early n
 origin_stays rules from early late n still within =
@@ -52,7 +52,7 @@ origin_stays rules from early late n still within =
     (λ i low to. ap (λ (rows : List Row). record { frame = 32 * i; mark = mark_of (run_since rules from rows) }) (rows_same early late (32 * i) still (omega (arith, low, to, within))))) in
     λ i. record { frames = n; machine = machine i; marks = marks i }
 
--- the bytes that are saved of it
+-- the bytes that a checkpoint there saves
 pub saved_is : (rules : Rules) (me : ℕ) (journal : List Record) (n : ℕ) → (told_of rules me journal).saved n ≡ save_bytes (origin_at rules (begun_at rules journal) (known_of rules me journal) n)
 unfolding told_of
 saved_is rules me journal n = refl
@@ -84,7 +84,7 @@ saving_play rules me room journal r range from to is may play saving =
           saving.bytes p (was p e) ∙ ap (take (before_piece p.count)) (sym (saved_stays rules me p.frames journal (journal ++ r ∷ []) begun still pieces.confirmed_is));
     }
 
--- the bytes that are kept of one that is under way are at frames that are confirmed
+-- the frames of a checkpoint under way are confirmed
 pub planned_low : (rules : Rules) (me room : ℕ) (journal : List Record) (c : Checks) → AreInRange rules → 1 ≤ me → me ≤ rules.players → IsJournal rules me room journal → value_of c ≡ checks_of journal → c.count ≢ 0
     → c.frames ≤ confirmed (known_of rules me journal)
 planned_low rules me room journal c range from to is same some =
@@ -98,7 +98,7 @@ planned_play rules me room journal r c range from to is may play same planned =
     let still : IsStillKnown (known_of rules me journal) (known_of rules me (journal ++ r ∷ [])) = journal_grows rules me room journal (r ∷ []) range from to (journal_more rules me room journal r is may) in
     λ some. planned some ∙ sym (saved_stays rules me c.frames journal (journal ++ r ∷ []) (play_begins rules journal r play) still (planned_low rules me room journal c range from to is same some))
 
--- ---- what is recorded
+-- ---- the next record
 
 -- the piece that comes next
 pub record IsPiece (rules : Rules) (me : ℕ) (journal : List Record) (r : Record) : Type 0 where
@@ -127,7 +127,7 @@ IsNext rules me journal r = IsPiece rules me journal r ⊎ IsEnd rules me journa
 none_so_far : (bytes : List ℕ) → take (before_piece 0) bytes ≡ []
 none_so_far bytes = ap (λ (n : ℕ). take n bytes) none_before
 
--- by what is under way
+-- which of them comes next, by the pieces under way
 next_is : (rules : Rules) (me room : ℕ) (journal : List Record) (m : Memory) (o : Option Pieces) (r : Record) → AreInRange rules → 1 ≤ me → me ≤ rules.players → IsJournal rules me room journal → IsSaving rules me journal
     → (checks_of journal).under_way ≡ o → (next_piece (told_of rules me journal) (known_of rules me journal) m o).keeps ≡ Some r → IsNext rules me journal r
 next_is rules me room journal m None r range from to is saving under keeps =
@@ -183,9 +183,9 @@ adds_next rules me room journal m r range from to is saving keeps =
     let stays = failed (player_in k k.me).leaving m _ _ r keeps in
     (stays.0, next_is rules me room journal m t.checks.under_way r range from to is saving (ap (λ (c : ChecksValue). c.under_way) (sym (checks_told rules me journal))) stays.1)
 
--- ---- it is allowed
+-- ---- the rules allow it
 
--- what a checkpoint at a frame saves can be the state and the marks of a machine
+-- a checkpoint saves a possible state and marks of a machine
 pub saved_origin : (rules : Rules) (me room : ℕ) (journal : List Record) (n : ℕ) → AreInRange rules → 1 ≤ me → me ≤ rules.players → IsJournal rules me room journal → (begun_at rules journal).frames ≤ n
     → IsOrigin (origin_at rules (begun_at rules journal) (known_of rules me journal) n)
 saved_origin rules me room journal n range from to is starts =
@@ -257,7 +257,7 @@ pub next_player : (rules : Rules) (me : ℕ) (journal : List Record) (r : Record
 next_player rules me journal r (inl next) = ap player_of next.is
 next_player rules me journal r (inr next) = ap player_of next.is
 
--- ---- what the journal says with it
+-- ---- what the journal with it says
 
 -- nothing more is known, and the machine began where it did
 pub record LeavesRest (rules : Rules) (me : ℕ) (journal : List Record) (r : Record) : Type 0 where
@@ -271,7 +271,7 @@ next_leaves rules me journal r (inl next) =
 next_leaves rules me journal r (inr next) =
     subst (LeavesRest rules me journal) (sym next.is) (record { begun = ap (or_first rules) (opened_more journal _); known = refl })
 
--- one piece more, of bytes that are saved
+-- one more piece, of the saved bytes
 piece_more : (rules : Rules) (me room : ℕ) (journal : List Record) (r : Record) → AreInRange rules → 1 ≤ me → me ≤ rules.players → IsJournal rules me room journal → (next : IsPiece rules me journal r)
     → with_check (checks_of journal) r ≡ record (checks_of journal) { under_way = Some (record { frames = next.frames; count = next.piece + 1; bytes = take (before_piece (next.piece + 1)) ((told_of rules me journal).saved next.frames) }) }
 piece_more rules me room journal r range from to is next =
@@ -289,7 +289,7 @@ piece_more rules me room journal r range from to is next =
     ∙ ap (λ (bytes : List ℕ). record c { under_way = Some (record { frames = next.frames; count = next.piece + 1; bytes = bytes }) })
     (ap (λ (bytes : List ℕ). bytes_so_far c.under_way ++ bytes) words ∙ ap (λ (bytes : List ℕ). bytes ++ piece_in next.piece saved) next.before ∙ more)
 
--- the checkpoint is whole
+-- the digest completes the checkpoint
 end_more : (rules : Rules) (me room : ℕ) (journal : List Record) (r : Record) → AreInRange rules → 1 ≤ me → me ≤ rules.players → IsJournal rules me room journal → (next : IsEnd rules me journal r)
     → with_check (checks_of journal) r ≡ record (checks_of journal) { under_way = None; last = Some (origin_at rules (begun_at rules journal) (known_of rules me journal) next.p.frames) }
 end_more rules me room journal r range from to is next =
@@ -328,14 +328,14 @@ saving_next rules me room journal r range from to is may saving (inr next) =
 
 -- ---- it is true
 
--- what a checkpoint saves of a machine that began on the way is the serial run
+-- if a machine began on the way, what a checkpoint saves of it is that of the serial run
 saved_serial : (rules : Rules) (k : KnownValue) (from : Origin) (n : ℕ) → IsOnTheWay rules k from → from.frames ≤ n → origin_at rules from k n ≡ serial_at rules k n
 saved_serial rules k from n way starts =
     let machine = confirmed_is_serial rules k from n way starts in
     let marks = marks_on_the_way rules k from n way starts in
     λ i. record { frames = n; machine = machine i; marks = marks i }
 
--- what the journal says of checkpoints is true of what is known
+-- the journal's checkpoints are true of what is known
 record TrueOf (rules : Rules) (k : KnownValue) (journal : List Record) : Type 0 where
   begun : IsOnTheWay rules k (begun_at rules journal)
   last : (from : Origin) → (checks_of journal).last ≡ Some from → IsOnTheWay rules k from

@@ -30,7 +30,7 @@ use Rattle.c8_peer.proofs.AllowedLemmas.{keeps_allowed}
 use Rattle.c8_peer.proofs.MemoryLemmas.{memory_kept}
 use Rattle.c8_peer.proofs.SayingLemmas.{own_player}
 
--- nobody acknowledges more than there is when there is more
+-- an acknowledgement that was within what is known stays so when more is known
 acks_more : (early late : KnownValue) → IsStillKnown early late → (message : Message) → AcksWithin early message → AcksWithin late message
 acks_more early late still Hello within = within
 acks_more early late still (Welcome ack) within =
@@ -58,7 +58,7 @@ no_seen l head (Cut c) kind none = refl
 no_seen l head (Show m) kind none = refl
 no_seen l head (Seen ack) kind none = absurd ((admitted_players l head none).1 kind)
 
--- a packet acknowledges rows to player one where it is a SEEN, and nowhere else
+-- only a SEEN acknowledges rows to player one
 kind_seen : (message : Message) (ack : ℕ) → seen_in message ≡ Some ack → kind_of message ≡ kinds.Seen
 kind_seen Hello ack seen = absurd cc
 kind_seen (Welcome n) ack seen = absurd cc
@@ -91,7 +91,7 @@ player_passes l p is none admitted = sym (by_player l p is none) ∙ admitted
 pub watcher_passes : (l : LinksValue) (p : Packet) (ack : ℕ) → IsPacket p → seen_in p.message ≡ Some ack → admission l p.head ≡ None → refusal_of_seen l p.head ≡ None
 watcher_passes l p ack is seen admitted = sym (by_watcher l p ack is seen) ∙ admitted
 
--- what the links do not admit comes to their refusal
+-- a packet that the links refuse is refused with their error
 pub hand_refuses : (rules : Rules) (t : Told) (k : KnownValue) (m : Memory) (p : Packet) (error : HandError) (seen : Option ℕ) → IsPacket p → seen_in p.message ≡ seen → admission m.links p.head ≡ Some error
     → hear_from rules t k m p seen ≡ refused m (refusals.Hand error)
 hand_refuses rules t k m p error (Some ack) is seen judged =
@@ -103,12 +103,12 @@ pub heard_later : (verdict found : Verdict) → IsLater found → found ≡ verd
 heard_later verdict found later same = subst IsLater same later
 
 module _ {D : Type 0} where
-  -- what it comes to is what its message does
+  -- the outcome of an admitted packet is that of its message
   pub heard_is : (v : PeerValue D) (p : Packet) → IsPacket p → (player_in (known_by v) v.me).leaving ≡ false → is_of_other_wire v.rules p.head ≡ false → refusal v.state.memory.links p.head ≡ None
       → outcome v.rules (told_by v) (known_by v) v.state.memory (Deliver (Ok p)) ≡ hear_message v.rules (told_by v) (known_by v) v.state.memory p.head p.message
   heard_is v p is stays wire admitted = rw (own_player v.rules v.me v.state.journal, stays, wire, no_seen v.state.memory.links p.head p.message is.kind admitted, admitted) refl
 
-  -- what a SEEN comes to
+  -- the outcome of a SEEN
   pub seen_is : (v : PeerValue D) (p : Packet) (ack : ℕ) → seen_in p.message ≡ Some ack → (player_in (known_by v) v.me).leaving ≡ false → is_of_other_wire v.rules p.head ≡ false
       → outcome v.rules (told_by v) (known_by v) v.state.memory (Deliver (Ok p)) ≡ hear_from_watcher (known_by v) v.state.memory p.head ack
   seen_is v p ack seen stays wire = rw (own_player v.rules v.me v.state.journal, stays, wire, seen) refl

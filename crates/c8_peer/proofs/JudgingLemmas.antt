@@ -1,4 +1,4 @@
--- How inputs that differ and a CUT are judged.
+-- The judgement of inputs that differ, and of a CUT.
 use Rattle.std.proofs.Common.{◌≡◌, ◌≢◌, ◌≤◌, ℕ, List, [], ◌∷◌, length, Bool, true, false, not, refl, ap, ◌∙◌, arith}
 use Rattle.std.specs.Prelude.{◌==◌, ◌&&◌, ◌||◌, nat_eq}
 use Rattle.std.specs.Cmp.Lexicographic.{pointwise}
@@ -13,7 +13,7 @@ not_both : (a b : Bool) → not (a && b) ≡ not a || not b
 not_both true b = refl
 not_both false b = refl
 
--- of lists of one length
+-- for lists of the same length
 pub differ_is : (xs ys : List ℕ) → length xs ≡ length ys → not (pointwise nat_eq xs ys) ≡ differ xs ys
 unfolding differ
 differ_is [] [] same = refl
@@ -21,7 +21,7 @@ differ_is [] (y ∷ ys) same = absurd (omega (arith, same))
 differ_is (x ∷ xs) [] same = absurd (omega (arith, same))
 differ_is (x ∷ xs) (y ∷ ys) same = not_both (x == y) (pointwise nat_eq xs ys) ∙ ap (λ (rest : Bool). not (x == y) || rest) (differ_is xs ys (omega (arith, same)))
 
--- what is judged of a CUT that is not the own one, before the list's end is
+-- a CUT of another player that passes the first tests is judged by the end of the list
 pub cut_goes_on : (k : KnownValue) (m : Memory) (q : ℕ) (c : LeaverMessage) → q ≡ 1 → c.leaver ≢ k.me → is_player k c.leaver ≡ true → (player_in k c.leaver).frozen ≡ true
     → hear_cut k m q c ≡ hear_end k m c (player_in k c.leaver).cut
 unfolding hear_cut

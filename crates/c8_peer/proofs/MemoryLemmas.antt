@@ -1,4 +1,4 @@
--- A peer's memory stays in order, whatever it is called to do.
+-- Each call keeps a peer's memory in order.
 use Rattle.std.proofs.Common.{◌≡◌, ℕ, zero, suc, ◌+◌, ◌^◌, ◌<◌, ◌≤◌, List, [], ◌∷◌, ◌++◌, length, Bool, true, false, Option, Some, None, Ok, Err, refl, ap, arith}
 use Rattle.std.specs.Prelude.{◌==◌, ◌||◌, not, nat_lt, nat_le, is_some, if◌then◌else◌, Result}
 use Rattle.std.proofs.lemmas.Bool.{ltb-false, ne_eqb}
@@ -50,7 +50,7 @@ link_past : (l : LinksValue) (player : ℕ) → 4 < player → link_to l player 
 link_past l player past =
     rw (ne_eqb player 1 (λ e. omega arith), ne_eqb player 2 (λ e. omega arith), ne_eqb player 3 (λ e. omega arith), ne_eqb player 4 (λ e. omega arith)) refl
 
--- an epoch that is low is put for another
+-- epochs stay low when a low one replaces another
 low_with : (l : LinksValue) (player other bound : ℕ) (link : LinkValue) → ((q : ℕ) → (link_to l q).known < bound) → link.known < bound → (link_to (with_link l player link) other).known < bound
 low_with l player zero bound link low is = low 0
 low_with l player (suc zero) bound link low is = low_of (player == 1) link l.one bound is (low 1)
@@ -96,7 +96,7 @@ few_more w player other n bound few is =
 
 -- ---- the memory
 
--- what else is kept does not matter
+-- drop rounds and the alarm do not matter
 with_rest : (rules : Rules) (room me : ℕ) (journal : List Record) (m : Memory) (chair : ChairValue) (stayer : StayerValue) (alarm : Bool)
     → IsMemory rules room me journal m → IsMemory rules room me journal (record m { chair = chair; stayer = stayer; alarm = alarm })
 with_rest rules room me journal m chair stayer alarm is = record {
@@ -161,7 +161,7 @@ with_shown rules room me journal m watcher n is few = record {
   saving = is.saving;
 }
 
--- ---- what calls come to
+-- ---- the outcomes of calls
 
 pub either : (M : Outcome → Type 0) (test : Bool) (x y : Outcome) → M x → M y → M (if test then x else y)
 either M true x y is other = is
@@ -171,7 +171,8 @@ pub unless : (M : Outcome → Type 0) (test : Bool) (x y : Outcome) → M x → 
 unless M true x y is other = is
 unless M false x y is other = other refl
 
--- With this memory after the call it holds, whatever is answered and recorded. Each call below leaves one of a few memories.
+-- M holds with this memory after the call, whatever the call answers and records. Each call below leaves one of a few
+-- memories.
 abbrev Ticks : (Outcome → Type 0) → Memory → Type 0
 Ticks M m = (answer : Result (Unit {0}) TickError) (keeps : Option Record) → M (record { reply = Ticked answer; keeps = keeps; memory = m })
 
@@ -262,7 +263,7 @@ cut_is M k m q c is =
     either M (not (q == 1)) _ _ (is _ _) (either M (c.leaver == k.me) _ _ (is _ _) (either M (not (is_player k c.leaver)) _ _ (is _ _)
     (either M (not (player_in k c.leaver).frozen) _ _ (is _ _) (end_is M k m c (player_in k c.leaver).cut is))))
 
--- the memories with which something holds after a delivery, whatever it is
+-- M holds with each memory that a delivery can leave
 pub record Changes (M : Outcome → Type 0) (m : Memory) (head : HeadValue) (own sure : ℕ) : Type 0 where
   pub rest : (chair : ChairValue) (stayer : StayerValue) (alarm : Bool) → Delivers M (record m { chair = chair; stayer = stayer; alarm = alarm })
   pub acks : (n : ℕ) → n ≤ own → Delivers M (record m { acks = acked_more m.acks head.from n })
@@ -333,7 +334,7 @@ changes rules room me journal m head own is low all =
       seen = λ n few answer keeps. with_shown rules room me journal m head.from n is few;
     }
 
--- what is known of the own player has as many inputs as its journal says
+-- the count of the own player's known inputs is the journal's
 pub own_count : (rules : Rules) (me : ℕ) (journal : List Record) → 1 ≤ me → me ≤ rules.players → count_in (known_of rules me journal) (known_of rules me journal).me ≡ count rules me journal
 unfolding known_of
 own_count rules me journal from to = ap (λ (p : PlayerValue). length p.held) (player_known rules me me journal from to)
@@ -354,7 +355,7 @@ memory_kept rules me room journal m (Leave leaver) range from to journal_is is f
 memory_kept rules me room journal m (Decide leaver) range from to journal_is is fits = decide_is (Keeps rules room me journal) (known_of rules me journal) m leaver (λ answer keeps. is)
 memory_kept rules me room journal m Checkpoint range from to journal_is is fits = checkpoint_is (Keeps rules room me journal) (told_of rules me journal) (known_of rules me journal) m (λ answer keeps. is)
 
--- it stays so with a record more, if that leaves checkpoints in order
+-- the memory stays in order with one more record, if that leaves the checkpoints in order
 pub memory_more : (rules : Rules) (room me : ℕ) (journal : List Record) (r : Record) (m : Memory) → AreInRange rules → 1 ≤ me → me ≤ rules.players → IsJournal rules me room (journal ++ r ∷ []) → IsMemory rules room me journal m → IsSaving rules me (journal ++ r ∷ [])
     → IsMemory rules room me (journal ++ r ∷ []) m
 memory_more rules room me journal r m range from to journal_is is saving = record {

@@ -42,7 +42,7 @@ one_opening rules room me found Spent (NotWritten why) one other served also = a
 one_opening rules room me found Spent NoMemory one other served also = absurd also
 one_opening rules room me found Spent (NotRead why) one other served also = absurd also
 
--- a record that the disk refused would have stood
+-- an opening whose record the disk refused would otherwise have succeeded
 pub would_stand : (rules : Rules) (room me : ℕ) (found : List Record) (why : DiskError) (other : Opening) → MayBecome rules room me found (NotWritten why) → MayBecome rules room me found other → IsServed other
     → other ≡ Stands
 would_stand rules room me found why other may is served = one_opening rules room me found other Stands is may served tt

@@ -1,4 +1,4 @@
--- What the parts of an opening come to together.
+-- The parts of an opening make its contract.
 use Rattle.std.proofs.Common.{◌≡◌, ◌<◌, ◌≤◌, ◌+◌, ◌^◌, ℕ, List, [], ◌∷◌, ◌++◌, length, true, Some, Ok, Err, option_map, refl, sym, ap, subst, ◌∙◌, inl, inr, ⊎_elim, arith}
 use Rattle.std.specs.Prelude.{Result, IfErr}
 use Rattle.c8_game.specs.Rules.{Rules, AreInRange, id_of}
@@ -39,21 +39,21 @@ use Rattle.c8_peer.proofs.PeerLemmas.{one_body_more, bodies_more, view}
 use Rattle.c8_peer.proofs.ReaderLemmas.{ticks_are}
 use Rattle.c8_peer.proofs.RoomLemmas.{had_room_after}
 
--- ---- the record that is added
+-- ---- the opening's record
 
 pub next_epoch : (rules : Rules) (room me : ℕ) (journal : List Record) (last : ℕ) → last ≡ epoch journal → last + 1 ≡ epoch (journal ++ opening_record rules room me journal ∷ [])
 unfolding epochs
 next_epoch rules room me [] last is = ap (λ (n : ℕ). n + 1) is ∙ sym (epoch_more [] (Head me second_form (id_of rules) room))
 next_epoch rules room me (r ∷ rest) last is = ap (λ (n : ℕ). n + 1) is ∙ sym (epoch_more (r ∷ rest) (Epoch me (epoch (r ∷ rest) + 1) second_form))
 
--- an opening's record makes nothing known
+-- an opening's record adds nothing to what is known
 nothing_known : (rules : Rules) (room me : ℕ) (journal : List Record) (k : KnownValue) → with_record k (opening_record rules room me journal) ≡ k
 nothing_known rules room me [] k = refl
 nothing_known rules room me (r ∷ rest) k = refl
 
 -- ---- where the machine begins
 
--- the last checkpoint before it, whatever the opening's record
+-- at the last checkpoint before the opening, whatever its record is
 new_beginning : (rules : Rules) (room me : ℕ) (journal : List Record) → begun_at rules (journal ++ opening_record rules room me journal ∷ []) ≡ or_first rules (checks_of journal).last
 new_beginning rules room me [] = ap (or_first rules) (opened_more [] (Head me second_form (id_of rules) room))
 new_beginning rules room me (r ∷ rest) = ap (or_first rules) (opened_more (r ∷ rest) (Epoch me (epoch (r ∷ rest) + 1) second_form))
@@ -62,7 +62,7 @@ new_form : (rules : Rules) (room me : ℕ) (journal : List Record) → checks_of
 new_form rules room me [] = checks_more [] (Head me second_form (id_of rules) room)
 new_form rules room me (r ∷ rest) = checks_more (r ∷ rest) (Epoch me (epoch (r ∷ rest) + 1) second_form)
 
--- ---- which calls of the disk lead to what was read
+-- ---- the disk calls of the read
 
 module _ {D : Type 0} (g : Ghosts D) (disk : D) (rules : Rules) (room me : ℕ) where
   pub read_run : (mid left : D) (result : Result ℕ ReplayError) (answer : Answer) → Asks g (OpenLog (g.seen disk)) (Ok tt) disk mid → bodies_found g mid ≡ bodies_found g disk
@@ -76,14 +76,14 @@ module _ {D : Type 0} (g : Ghosts D) (disk : D) (rules : Rules) (room me : ℕ) 
   open_refused left why asks =
       asks_refused g (OpenLog (g.seen disk)) (ReplayRun rules me room (bodies_found g disk) (Err (replays.Disk why))) disk left why asks
 
--- ---- why a journal that was read is refused
+-- ---- the refusal of a journal that was read
 
 module _ {D : Type 0} (g : Ghosts D) (reads_now : (disk : D) → g.may_leave disk (g.seen disk)) where
-  -- where all is settled nothing is decided that was open
+  -- a settled disk keeps what some image kept before
   settled_unread : (disk left : D) → IsSettled g disk left → IsUnread g disk left
   settled_unread disk left settled image leaves = (g.seen disk, reads_now disk, settled.keeps image leaves)
 
-  -- a log that is at rest, and then is only read, leaves what was found
+  -- a log that is at rest and then only read leaves what was found
   settled_after : (disk mid left : D) → bodies_found g mid ≡ bodies_found g disk → g.seen mid ≡ repaired (g.seen disk) → AllKeep (bodies_found g mid) (g.may_leave mid)
       → ReadsOnly g mid left → IsSettled g disk left
   settled_after disk mid left same mended rests reads = record {
@@ -105,7 +105,7 @@ module _ {D : Type 0} (g : Ghosts D) (reads_now : (disk : D) → g.may_leave dis
     refused_reading checks (replays.Disk Failed) asks fails is = inl (omega (arith, fails refl, first.no_fewer), settled_unread disk left (settled_after disk mid left same mended rests reads), asks)
     refused_reading checks (replays.Disk Full) asks fails is = absurd (let why = is.0 in cc)
 
--- ---- what the record comes to, on the disk as it was found
+-- ---- the append of the record, in terms of the disk as it was found
 
 module _ {D : Type 0} (g : Ghosts D) (disk mid : D) (rules : Rules) (room me : ℕ) (same : bodies_found g mid ≡ bodies_found g disk) where
   not_written : (left : D) → IsNotWritten g mid rules room me left → IsNotWritten g disk rules room me left
@@ -115,7 +115,7 @@ module _ {D : Type 0} (g : Ghosts D) (disk mid : D) (rules : Rules) (room me : �
     leaves = subst (λ (bodies : List (List ℕ)). AllKeepBodies bodies (Some (opening_body rules room me bodies)) (g.may_leave left)) same is.leaves;
   }
 
-  -- the same calls, by the disk as it was found
+  -- the disk calls of the append, in terms of the disk as it was found
   pub begin_run : (left : D) (answer : Answer) → g.capacity mid ≡ g.capacity disk → Asks g (BeginRun g mid rules room me) answer mid left → Asks g (BeginRun g disk rules room me) answer mid left
   begin_run left answer capacity asks =
       subst (λ (c : ℕ). Asks g (AppendWithin c (length (bodies_found g disk)) (opening_body rules room me (bodies_found g disk))) answer mid left) capacity
@@ -165,7 +165,7 @@ module _ {D : Type 0} (g : Ghosts D) (disk mid : D) (rules : Rules) (room me : �
 
 -- ---- the peer
 
--- it begins at frames that are confirmed
+-- the frames of its checkpoint are confirmed
 pub begins_confirmed : {D : Type 0} (g : Ghosts D) (disk : D) (rules : Rules) (room me : ℕ) (k : KnownValue) (checks : ChecksValue) (log : LogValue D) (last : ℕ) (from : Origin) → IsRead g disk rules room me k checks log last
     → from ≡ or_first rules checks.last → AreInOrder (checks_of (records_of (bodies_found g disk))) (known_of rules me (records_of (bodies_found g disk))) → from.frames ≤ confirmed k
 begins_confirmed g disk rules room me k checks log last from read at are =
@@ -238,7 +238,7 @@ module _ {D : Type 0} (g : Ghosts D) (disk : D) (rules : Rules) (room me : ℕ) 
     asks = asks;
   }
 
--- ---- the refusal of a player of the game
+-- ---- refusals for a player of the game
 
 pub refused_player : {D : Type 0} (g : Ghosts D) (disk : D) (rules : Rules) (room me : ℕ) → me ≤ rules.players → (result : Result (PeerValue D) (OpenError × D))
     → IfErr result (λ refusal. IsRefusedFor g disk rules room me refusal.0 refusal.1) → IfErr result (λ refusal. IsRefusedOpening g disk rules room me refusal.0 refusal.1)

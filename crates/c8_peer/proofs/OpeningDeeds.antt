@@ -27,7 +27,7 @@ module _ {D : Type 0} (g : Ghosts D) where
     is = ap as_answered (sym (is.opening s ∙ ap (λ (f : List Record). opened rules room me s f Stands) reads));
   }
 
-  -- what was found is refused: nothing is pending
+  -- the opening refuses what it found, and nothing is pending
   unfit_deed : (disk left : D) (rules : Rules) (room me : ℕ) (s : State) (finds : Bool) (error : ReplayError) → me ≤ rules.players → IsUnfit g disk rules room me error left → (s.mode ≡ Open → ⊥)
       → Keeps (found s finds) (g.seen disk) → IsDone rules room me s (Opens finds (Unfit error)) (Some (opened rules room me s (found s finds) (Unfit error)).reply) (opened rules room me s (found s finds) (Unfit error)).state
   unfit_deed disk left rules room me s finds error within is shut keeps = record {

@@ -1,5 +1,5 @@
--- What an opening records is allowed after the journal that it finds, and the memory of a peer that
--- has just been opened is in order.
+-- The rules allow the record of an opening after the journal that it finds, and the memory of the opened peer is in
+-- order.
 use Rattle.std.proofs.Common.{◌≡◌, ℕ, ◌+◌, ◌^◌, ◌<◌, ◌≤◌, List, [], ◌∷◌, ◌++◌, length, Bool, true, false, cond, inr, refl, sym, ap, ◌∙◌, arith, length-append, replicate}
 use Rattle.std.specs.Prelude.{◌==◌}
 use Rattle.std.specs.List.{flat_map, list_any}
@@ -70,7 +70,7 @@ opening_allowed rules me room (r ∷ rest) range from to low is few = record {
   dropped = λ other leaving. tt;
 }
 
--- with it the checkpoints are true, where the last one is
+-- with the record the checkpoints are true, if the last one was
 pub opening_stays : (rules : Rules) (me room : ℕ) (found : List Record) → AreInRange rules → 1 ≤ me → me ≤ rules.players → room < 2 ^ 64
     → IsJournal rules me room found → epoch found < last_epoch → HasTrueLast rules me found → HasTrueChecks rules me (found ++ opening_record rules room me found ∷ [])
 opening_stays rules me room found range from to low is few true_checks =
@@ -102,7 +102,7 @@ begun rules room me (r ∷ rest) few = record {
   fits = omega (arith, few);
 }
 
--- one of two links of which nothing is known
+-- one of two links without a known epoch
 both_none : (test : Bool) (one other : LinkValue) → one.known ≡ 0 → other.known ≡ 0 → (cond test one other).known ≡ 0
 both_none true one other e f = e
 both_none false one other e f = f
@@ -133,7 +133,7 @@ opening_saving rules room me (r ∷ rest) =
     let checks = checks_more (r ∷ rest) (Epoch me (epoch (r ∷ rest) + 1) second_form) in
     record { form = ap (λ (c : ChecksValue). c.form) checks; starts = λ p e. absurd (let none = ap (λ (c : ChecksValue). c.under_way) (sym checks) ∙ e in cc); bytes = λ p e. absurd (let none = ap (λ (c : ChecksValue). c.under_way) (sym checks) ∙ e in cc) }
 
--- no watcher has told anything
+-- no watcher has acknowledged anything
 none_of : (test : Bool) (a b n : ℕ) → a ≤ n → b ≤ n → cond test a b ≤ n
 none_of true a b n one other = one
 none_of false a b n one other = other

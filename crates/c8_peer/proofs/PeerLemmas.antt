@@ -1,4 +1,4 @@
--- What holds of a peer's parts goes on through its calls.
+-- Calls keep what holds for a peer's parts.
 use Rattle.std.proofs.Common.{◌≡◌, ◌≤◌, ◌+◌, ℕ, List, [], ◌∷◌, ◌++◌, length, map, option_map, Some, true, false, refl, sym, ap, subst, ◌∙◌, inl, inr, ⊎_elim, arith, None, Bool}
 use Rattle.std.proofs.lemmas.Bool.{cases_Bool}
 use Rattle.std.proofs.lemmas.List.{map-append, length-map}
@@ -35,7 +35,7 @@ use Rattle.c8_peer.proofs.MemoryLemmas.{memory_more}
 use Rattle.c8_peer.specs.Peer.{PeerValue, known_by, mode_of, state_of, RunsFrames, KeepsWithOrWithout}
 use Rattle.c8_peer.specs.checked.Held.{IsPeer, IsRolled, is_play, is_entry, most_run_with, WasRoll}
 
--- what players do begins no epoch
+-- a record of what players do begins no epoch
 pub same_epoch : (journal : List Record) (r : Record) → is_play r ≡ true → epoch (journal ++ r ∷ []) ≡ epoch journal
 same_epoch journal (Head player form id room) other = absurd cc
 same_epoch journal (Epoch player number form) other = absurd cc
@@ -62,7 +62,7 @@ bodies_more rules me room bodies r are may =
     subst (AreJournalBodies rules me room) (spellings_more rules me room bodies r are)
     (journal_bodies rules me room (records_of bodies ++ r ∷ []) (journal_more rules me room (records_of bodies) r are.journal may))
 
--- what a crash leaves, in the words of the records
+-- what a crash leaves, in terms of records
 pub keeps_records : (rules : Rules) (me room : ℕ) (bodies : List (List ℕ)) (r : Record) → AreJournalBodies rules me room bodies
     → (image : List ℕ) → KeepsBodies bodies (Some (body_of r)) image → KeepsWithOrWithout (records_of bodies) (Some r) image
 keeps_records rules me room bodies r are image =
@@ -154,7 +154,7 @@ no_tick k (Cut player length start words) other = refl
 no_tick k (journals.State player frames piece words) other = refl
 no_tick k (Check player frames words) other = refl
 
--- a roll within the window runs no more than the record is worth
+-- a roll within the window runs no more frames than the record allows
 pub runs_few : (rules : Rules) (k later : KnownValue) (r : Record) (ran : ℕ) → later ≡ with_record k r → ran ≤ rules.window + 1 → (later.ticks ≤ k.ticks → ran ≤ rules.window)
     → ran ≤ most_run_with rules r
 runs_few rules k later r ran more most settled = elim (cases_Bool (is_entry r)) [
@@ -164,7 +164,7 @@ runs_few rules k later r ran more most settled = elim (cases_Bool (is_entry r)) 
       rw other (settled (omega (arith, same)))
 ]
 
--- the rows that a roll kept are those of what was known
+-- a roll that kept the rows of what was known runs from the oldest frame whose best guess changed
 pub runs_anew : (rules : Rules) (journal : List Record) (v : RollValue) (checks : ChecksValue) (rows : List Row) (k later : KnownValue) (was ran : ℕ) → IsRolled rules journal k checks v was → KeepsRows rules.window k rows
     → IsWithinWindow v → RunsFromWhatWasKnown v rows later ran → RunsFromOldest k later ran
 runs_anew rules journal v checks rows k later was ran is keeps few again =
@@ -180,7 +180,7 @@ was_roll rules journal v checks k later r was is more still = record {
   one_tick = rw more (one_tick k r);
 }
 
--- with one more thing done the roll is that of what is known now
+-- with one more record the roll is that of what is known now
 pub rolled_more : (rules : Rules) (before now : List Record) (checks noted : ChecksValue) (v next : RollValue) (k later : KnownValue) (r : Record) (was ran : ℕ) → IsRolled rules before k checks v was
     → begun_at rules (before ++ r ∷ []) ≡ begun_at rules before → noted ≡ checks_of (before ++ r ∷ []) → now ≡ before ++ r ∷ []
     → IsStillKnown k later → GrowsTo v next later → ran ≤ v.rules.window + 1 → IsRolled rules now later noted next ran
@@ -195,7 +195,7 @@ rolled_more rules before now checks noted v next k later r was ran is same_start
       bound = inl (subst (λ (one : Rules). ran ≤ one.window + 1) game few);
     }
 
--- ---- the peer as it is seen
+-- ---- the peer's model
 
 module _ {D : Type 0} where
   abbrev pub view : Rules → ℕ → ℕ → JournalValue D → Memory → ℕ → PeerValue D
@@ -237,7 +237,7 @@ module _ {D : Type 0} where
         last_run = ran;
       })
 
-  -- how many frames the call runs that adds a record
+  -- how many frames a call runs that adds a record
   pub runs_frames : {before : ℕ} (v : PeerValue D) (rules : Rules) (room : ℕ) (j : JournalValue D) (k later : KnownValue) (m : Memory) (r : Record) (ran : ℕ) → view rules room k.me j m before ≡ v
       → IsPeer rules room j k m → IsAllowed rules k.me room (records_of j.bodies) r → later ≡ with_record k r → ran ≤ most_run_with rules r → RunsFromOldest k later ran
       → RunsFrames (most_run_with v.rules r) (known_by v) (known_of v.rules v.me (v.state.journal ++ r ∷ [])) ran
@@ -248,7 +248,7 @@ module _ {D : Type 0} where
       subst (λ (x : KnownValue). RunsFromOldest x (known_of rules k.me (journal ++ r ∷ [])) ran) is.known (subst (λ (x : KnownValue). RunsFromOldest k x ran) longer again) in
       subst (λ (x : PeerValue D). RunsFrames (most_run_with x.rules r) (known_by x) (known_of x.rules x.me (x.state.journal ++ r ∷ [])) ran) seen (record { few = few; from_oldest = from })
 
-  -- a crash inside the call that adds a record
+  -- a crash inside a call that adds a record
   pub leaves_records : {ran : ℕ} (g : Ghosts D) (v : PeerValue D) (rules : Rules) (room me : ℕ) (old : JournalValue D) (new : D) (m : Memory) (r : Record) (body : List ℕ)
       → view rules room me old m ran ≡ v → AreJournalBodies rules me room old.bodies → body ≡ body_of r
       → LeavesOnly g old.disk new (KeepsBodies old.bodies (Some body)) → LeavesOnly g v.disk new (KeepsWithOrWithout v.state.journal (Some r))
@@ -257,7 +257,7 @@ module _ {D : Type 0} where
       (weaker g old.disk new (KeepsBodies old.bodies (Some body)) (KeepsWithOrWithout (records_of old.bodies) (Some r)) run
       (λ image keeps. keeps_records rules me room old.bodies r are image (subst (λ (one : List ℕ). KeepsBodies old.bodies (Some one) image) spelled keeps)))
 
-  -- what the disk was asked, in the words of the records
+  -- the disk calls, in terms of records
   pub asks_records : {ran : ℕ} (g : Ghosts D) (v : PeerValue D) (rules : Rules) (room me : ℕ) (old : JournalValue D) (new : D) (m : Memory) (r : Record) (body : List ℕ) (answer : Answer)
       → view rules room me old m ran ≡ v → body ≡ body_of r → Asks g (AppendWithin (g.capacity old.disk) (length old.bodies) body) answer old.disk new
       → Asks g (AppendWithin (g.capacity v.disk) (length v.state.journal) (body_of r)) answer v.disk new
@@ -269,7 +269,7 @@ module _ {D : Type 0} where
   pub allowed_outside : {v w : PeerValue D} (r : Record) → v ≡ w → IsAllowed v.rules v.me v.room v.state.journal r → IsAllowed w.rules w.me w.room w.state.journal r
   allowed_outside r is may = subst (λ (x : PeerValue D). IsAllowed x.rules x.me x.room x.state.journal r) is may
 
-  -- what a call records may be recorded
+  -- the rules allow what a call records
   pub may_record : (rules : Rules) (room : ℕ) (j : JournalValue D) (k : KnownValue) (m : Memory) → IsPeer rules room j k m → (call : Call) → IsCall call
       → (noted : Memory) (reply : Reply) (r : Record) → outcome rules (told_of rules k.me (records_of j.bodies)) k m call ≡ recorded noted reply r → IsAllowed rules k.me room (records_of j.bodies) r
   may_record rules room j k m is call may noted reply r comes =

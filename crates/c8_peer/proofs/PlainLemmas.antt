@@ -1,4 +1,4 @@
--- What a call comes to blames no disk; so the answer tells whether the peer is down after it.
+-- The outcome of a call never blames the disk, so the answer tells whether the peer is down after it.
 use Rattle.std.proofs.Common.{◌≡◌, ◌⊎◌, inl, inr, ⊎_elim, ◌+◌, ◌≤◌, ℕ, List, [], ◌∷◌, ◌++◌, length, Bool, true, Option, Some, None, Ok, Err, refl, sym, ap, ◌∙◌}
 use Rattle.std.specs.Prelude.{Result, ◌==◌, ◌||◌, not, nat_le, nat_lt, is_some}
 use Rattle.c8_game.specs.Rules.{Rules, AreInRange}
@@ -35,12 +35,12 @@ use Rattle.c8_peer.proofs.AllowedLemmas.{keeps_allowed}
 use Rattle.c8_peer.proofs.MemoryLemmas.{either, say_is, show_is, memory_kept, memory_more}
 use Rattle.c8_record.specs.checked.JournalLaws.{journal_more}
 
--- what is recorded is what players do
+-- the record, if there is one, is one of what players do
 abbrev pub are_plays : Option Record → Bool
 are_plays None = true
 are_plays (Some r) = is_play r
 
--- no disk is blamed, and it is no opening and no checkpoint
+-- the answer blames no disk, and the record is none of an opening or a checkpoint
 record IsPlain (o : Outcome) : Type 0 where
   told : mode_told o.reply ≡ Open
   plays : are_plays o.keeps ≡ true
@@ -182,7 +182,7 @@ call_plain rules t k m (Leave leaver) = (leave_plain k m leaver).told
 call_plain rules t k m (Decide leaver) = (decide_plain k m leaver).told
 call_plain rules t k m Checkpoint = checkpoint_told t k m
 
--- what any call records is what players do, or comes next of a checkpoint
+-- what a call records is what players do, or the next record of a checkpoint
 abbrev Adds : Rules → ℕ → List Record → Record → Type 0
 Adds rules me journal r = (is_play r ≡ true) ⊎ IsNext rules me journal r
 
@@ -201,7 +201,7 @@ call_adds rules me room journal m (Leave leaver) r range from to is memory keeps
 call_adds rules me room journal m (Decide leaver) r range from to is memory keeps = inl (a_play _ r keeps (decide_plain (known_of rules me journal) m leaver))
 call_adds rules me room journal m Checkpoint r range from to is memory keeps = inr (adds_next rules me room journal m r range from to is memory.saving keeps).1
 
--- so the machine began where it did
+-- a call's record does not change where the machine began
 pub keeps_begun : (rules : Rules) (me room : ℕ) (journal : List Record) (m : Memory) (call : Call) (r : Record) → AreInRange rules → 1 ≤ me → me ≤ rules.players → IsJournal rules me room journal → IsMemory rules room me journal m
     → (outcome rules (told_of rules me journal) (known_of rules me journal) m call).keeps ≡ Some r → begun_at rules (journal ++ r ∷ []) ≡ begun_at rules journal
 keeps_begun rules me room journal m call r range from to is memory keeps =
@@ -210,7 +210,7 @@ keeps_begun rules me room journal m call r range from to is memory keeps =
     (λ next. (next_leaves rules me journal r next).begun)
     (call_adds rules me room journal m call r range from to is memory keeps)
 
--- and what the journal says of checkpoints stays true with it
+-- true checkpoints stay true with a call's record
 pub keeps_true : (rules : Rules) (me room : ℕ) (journal : List Record) (m : Memory) (call : Call) (r : Record) → AreInRange rules → 1 ≤ me → me ≤ rules.players → IsJournal rules me room journal → IsMemory rules room me journal m → IsCall call
     → HasTrueChecks rules me journal → (outcome rules (told_of rules me journal) (known_of rules me journal) m call).keeps ≡ Some r → HasTrueChecks rules me (journal ++ r ∷ [])
 keeps_true rules me room journal m call r range from to is memory fits true_checks keeps =
@@ -220,7 +220,7 @@ keeps_true rules me room journal m call r range from to is memory fits true_chec
     (λ next. next_true rules me room journal r range from to is may next true_checks)
     (call_adds rules me room journal m call r range from to is memory keeps)
 
--- and the memory stays in order
+-- the memory stays in order with a call's record
 pub keeps_memory : (rules : Rules) (me room : ℕ) (journal : List Record) (m : Memory) (call : Call) (r : Record) → AreInRange rules → 1 ≤ me → me ≤ rules.players → IsJournal rules me room journal → IsMemory rules room me journal m → IsCall call
     → (outcome rules (told_of rules me journal) (known_of rules me journal) m call).keeps ≡ Some r → IsMemory rules room me (journal ++ r ∷ []) (outcome rules (told_of rules me journal) (known_of rules me journal) m call).memory
 keeps_memory rules me room journal m call r range from to is memory fits keeps =
@@ -231,7 +231,7 @@ keeps_memory rules me room journal m call r range from to is memory fits keeps =
     (λ next. saving_next rules me room journal r range from to is may memory.saving next)
     (call_adds rules me room journal m call r range from to is memory keeps))
 
--- only what is no saying is refused by the disk
+-- the disk never refuses a saying
 refused_tells : (rules : Rules) (t : Told) (k : KnownValue) (m : Memory) (call : Call) (r : Record) (why : DiskError) → (outcome rules t k m call).keeps ≡ Some r → Down ≡ mode_told (refused_by_disk call why)
 refused_tells rules t k m (Tick keys) r why keeps = refl
 refused_tells rules t k m (Deliver told) r why keeps = refl

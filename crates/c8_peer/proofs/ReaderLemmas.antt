@@ -1,4 +1,4 @@
--- What is so of every peer between two calls, and what its readers rest on.
+-- What holds for every peer between two calls, and what its readers use.
 use Rattle.std.proofs.Common.{◌≡◌, ◌⊎◌, ◌≤◌, ℕ, List, [], ◌∷◌, ◌++◌, map, option_map, Option, Some, None, Bool, true, false, refl, sym, ap, subst, ◌∙◌, inl, inr, ⊎_elim, length, arith}
 use Rattle.std.specs.Prelude.{option_to_list, if◌then◌else◌}
 use Rattle.std.proofs.lemmas.List.{append-nil}
@@ -30,7 +30,7 @@ use Rattle.c8_peer.specs.checked.Held.{IsPeer, IsRolled}
 use Rattle.c8_peer.proofs.PeerLemmas.{view}
 use Rattle.c8_peer.proofs.MemoryLemmas.{own_count}
 
--- ---- what a crash leaves, in the words of the records
+-- ---- what a crash leaves, in terms of records
 
 -- each pending body spells a record
 abbrev SpellsPending : Option (List ℕ) → Type 0
@@ -57,7 +57,7 @@ up_if_open : (is_down : Bool) → mode_of is_down ≡ Open → is_down ≡ false
 up_if_open true is = absurd cc
 up_if_open false is = refl
 
--- what a reading finds is a journal
+-- a read of the disk finds a journal
 found_journal : (rules : Rules) (me room : ℕ) (journal : List Record) (pending : Option (List ℕ)) → IsJournal rules me room journal
     → ((body : List ℕ) → pending ≡ Some body → IsAllowed rules me room journal (record_of body)) → (finds : Bool) → IsJournal rules me room (if finds then journal ++ option_to_list (option_map record_of pending) else journal)
 found_journal rules me room journal pending is may false = is
@@ -94,7 +94,7 @@ module _ {D : Type 0} where
 
   -- ---- readers
 
-  -- what a reader finds of the parts, in the words of the peer
+  -- what the parts tell a reader, in terms of the peer's model
   pub known_is : {ran : ℕ} (v : PeerValue D) (rules : Rules) (room : ℕ) (j : JournalValue D) (k : KnownValue) (m : Memory) → view rules room k.me j m ran ≡ v → IsPeer rules room j k m → k ≡ known_by v
   known_is v rules room j k m seen is = is.known ∙ ap known_by seen
 
@@ -116,11 +116,11 @@ module _ {D : Type 0} where
       let known : k ≡ known_by v = known_is v rules room j k m seen is in
       rolled.roll ∙ (λ i. roll_since (same i) (begun_by (seen i)) (known i))
 
-  -- where what the journal says of checkpoints is true it is the roll that is run from the first frame on
+  -- if the journal's checkpoints are true, the roll is that of a run from the first frame on
   pub true_roll : (v : PeerValue D) (roll : RollValue) → roll ≡ roll_since v.rules (begun_by v) (known_by v) → HasTrueChecks v.rules v.me v.state.journal → roll ≡ roll_of v.rules (known_by v)
   true_roll v roll is true_checks = is ∙ on_the_way v.rules (known_by v) (begun_by v) true_checks.begun
 
-  -- ---- how much there can be
+  -- ---- upper bounds
 
   pub ticks_few : {ran : ℕ} (v : PeerValue D) (rules : Rules) (room : ℕ) (j : JournalValue D) (k : KnownValue) (m : Memory) → view rules room k.me j m ran ≡ v → IsPeer rules room j k m → k.ticks ≤ v.rules.frames
   ticks_few v rules room j k m seen is =

@@ -1,4 +1,4 @@
--- A call that is refused changes nothing, but where the disk refuses a record, and where a machine is seen to differ.
+-- A refused call changes nothing, unless the disk refuses a record or the sender's machine differs.
 use Rattle.std.proofs.Common.{◌≡◌, ◌≢◌, ℕ, List, [], ◌∷◌, length, true, Option, Some, None, Ok, Err, refl, ap}
 use Rattle.std.specs.Prelude.{◌+◌, ◌==◌, ◌||◌, not, nat_le, nat_lt, is_some, Result}
 use Rattle.c8_game.specs.Rules.{Rules}
@@ -26,9 +26,9 @@ use Rattle.c8_peer.specs.Hearing.{refused, unless_misfit, got, is_desync, hear_d
 use Rattle.c8_peer.specs.Steps.{outcome, Luck, Works, Refuses, refused_by_disk, when_down, Stepped, done, at_mode, step, IsPlainRefusal}
 use Rattle.c8_peer.proofs.MemoryLemmas.{either, say_is, show_is}
 
--- ---- what calls come to
+-- ---- the outcomes of calls
 
--- it records nothing, and this is the memory after it
+-- the outcome records nothing, and this is the memory after it
 record RecordsNothing (m : Memory) (o : Outcome) : Type 0 where
   none : o.keeps ≡ None
   same : o.memory ≡ m
@@ -42,7 +42,7 @@ record OutcomeFits (m : Memory) (o : Outcome) : Type 0 where
 taken_fits : (m : Memory) (o : Outcome) → (IsPlainRefusal o.reply → ⊥) → o.reply ≢ Delivered (Err refusals.Desync) → OutcomeFits m o
 taken_fits m o taken other = record { plain = λ is. absurd (taken is); desync = λ is. absurd (other is) }
 
--- a refusal but Desync
+-- a refusal other than Desync
 answered_fits : (m : Memory) (reply : Reply) → reply ≢ Delivered (Err refusals.Desync) → OutcomeFits m (answered m reply)
 answered_fits m reply other = record { plain = λ is. record { none = refl; same = refl }; desync = λ is. absurd (other is) }
 
@@ -86,7 +86,7 @@ misfit_fits : (m : Memory) (error : Option KnownError) (o : Outcome) → Outcome
 misfit_fits m None o fits = fits
 misfit_fits m (Some error) o fits = refused_fits m (refusals.Known error) (λ e. cc e)
 
--- whatever memory it leaves
+-- new inputs fit, whatever memory they leave
 got_fits : (k : KnownValue) (m left : Memory) (q : ℕ) (words : List ℕ) → OutcomeFits m (got k left q words)
 got_fits k m left q [] = taken_fits m _ (λ none. none) (λ e. cc e)
 got_fits k m left q (word ∷ words) = taken_fits m _ (λ none. none) (λ e. cc e)
@@ -174,7 +174,7 @@ call_fits rules t k m (Leave leaver) = leave_fits k m leaver
 call_fits rules t k m (Decide leaver) = decide_fits k m leaver
 call_fits rules t k m Checkpoint = checkpoint_fits t k m
 
--- ---- what the disk refuses
+-- ---- refusals of the disk
 
 say_keeps_none : (rules : Rules) (t : Told) (k : KnownValue) (m : Memory) (to : ℕ) (what : Saying) → (say rules t k m to what).keeps ≡ None
 say_keeps_none rules t k m to what = say_is (λ o. o.keeps ≡ None) rules t k m to what (λ answer. refl)

@@ -1,5 +1,5 @@
--- Over every run of a peer its journal stays one of the rules and only grows, and what it said stays true; and what a crash
--- leaves of its disk is what a run finds.
+-- In every run of a peer its journal follows the rules and only grows, and what it said stays true. What a crash leaves
+-- on its disk is what a run finds.
 use Rattle.std.proofs.Common.{◌≡◌, ◌≢◌, ℕ, zero, suc, ◌^◌, ◌<◌, ◌≤◌, List, [], ◌∷◌, ◌++◌, Option, Some, None, Bool, true, false, Ok, refl, sym, ap, subst, ◌∙◌, ⊎_elim, append_assoc}
 use Rattle.std.specs.Prelude.{option_to_list}
 use Rattle.std.specs.List.{slice_get}
@@ -45,7 +45,7 @@ record IsMatch (rules : Rules) (room me : ℕ) : Type 0 where
 match_of : (rules : Rules) (room me : ℕ) → AreInRange rules → 1 ≤ me → me ≤ rules.players → room < 2 ^ 64 → IsMatch rules room me
 match_of rules room me range from to low = record { range = range; from = from; to = to; low = low }
 
--- What holds between two deeds: what a reading finds is a journal, and while the peer is open its memory is in order and
+-- What holds between two deeds: a read of the disk finds a journal. If the peer is open, its memory is in order and
 -- nothing is pending.
 record IsHeld (rules : Rules) (room me : ℕ) (s : State) : Type 0 where
   journal : IsJournal rules me room s.journal
@@ -267,9 +267,9 @@ run_lawful rules room me s t deeds answers range from to low lawful run =
 pub reached_lawful : (rules : Rules) (room me : ℕ) (s : State) → AreInRange rules → 1 ≤ me → me ≤ rules.players → room < 2 ^ 64 → IsReached rules room me s → IsLawful rules room me s
 reached_lawful rules room me s range from to low reached = run_lawful rules room me never_opened s reached.deeds reached.answers range from to low (never_lawful rules room me) reached.run
 
--- ---- what is said of checkpoints stays true
+-- ---- true checkpoints stay true
 
--- the journal's word on checkpoints is true, with the pending record and without
+-- the journal's checkpoints are true, with the pending record and without
 record AreChecked (rules : Rules) (me : ℕ) (s : State) : Type 0 where
   journal : HasTrueChecks rules me s.journal
   longer : HasTrueChecks rules me (s.journal ++ option_to_list s.pending)
@@ -418,7 +418,7 @@ after_says rules room me s Closes packet game held are may said = absurd cc
 after_says rules room me s (Stops call luck leaves) packet game held are may said = absurd cc
 after_says rules room me s (StopsOpening finds opening leaves) packet game held are may said = absurd cc
 
--- what is true at a moment is so at each later one
+-- what is true at one moment is true at each later one
 stays_true : (rules : Rules) (room me : ℕ) (s t : State) (packet : Packet) → IsMatch rules room me → Grows s t → IsHeld rules room me t → IsTrue rules me s.journal packet → IsTrue rules me t.journal packet
 stays_true rules room me s t packet game (rest, same) held is =
     subst (λ (journal : List Record). IsTrue rules me journal packet) (sym same)
@@ -444,7 +444,7 @@ said_stands rules room me s t deeds answers packet range from to low lawful tell
 
 -- ---- what is confirmed stays
 
--- the later journal is one of the rules, and the earlier one begins it
+-- the later journal follows the rules and begins with the earlier one
 later_journal : (rules : Rules) (room me : ℕ) (s t : State) (deeds : List Deed) (answers : List (Option Reply)) → IsMatch rules room me → IsLawful rules room me s → (run : IsRun rules room me s deeds answers t)
     → IsJournal rules me room (s.journal ++ (run_grows rules room me s t deeds answers run).0)
 later_journal rules room me s t deeds answers game lawful run =
@@ -465,9 +465,9 @@ run_keeps_rows rules room me n s t deeds answers range from to low lawful run wi
     subst (λ (journal : List Record). rows_below (known_of rules me journal) n ≡ rows_below (known_of rules me s.journal) n) (sym more.1)
     (confirmed_stays rules me room n s.journal more.0 range from to (later_journal rules room me s t deeds answers (match_of rules room me range from to low) lawful run) within)
 
--- ---- what disks tell
+-- ---- what a crash leaves on a disk
 
--- a crash inside a call leaves what a stop finds
+-- a crash inside a call leaves what a stop in a run finds
 inside_done : (s : State) (call : Call) (o : Outcome) (keeps : Option Record) (image : List ℕ) → KeepsWithOrWithout s.journal (or_pending keeps s.pending) image
     → (luck : Luck) × (leaves : Bool) × Keeps (found (done s call o keeps luck).state leaves) image
 inside_done s call o None image = ⊎_elim (λ without. (Works, false, without)) (λ with. (Works, true, with))

@@ -36,9 +36,9 @@ use Rattle.c8_peer.specs.Lawful.{IsMemory, IsCall}
 use Rattle.c8_peer.proofs.MemoryLemmas.{unless, tick_is, leave_is, decide_is, checkpoint_is, deliver_is, no_packet_is}
 use Rattle.std.proofs.lemmas.List.FromFn.{length-map-range_with_len}
 
--- ---- what was judged of what is said
+-- ---- the judgement of a saying
 
--- This was asked, and nothing refused it.
+-- The peer was asked to say this, and nothing refused it.
 pub record IsSaid (rules : Rules) (t : Told) (k : KnownValue) (m : Memory) (p : Packet) : Type 0 where
   pub to : ℕ
   pub what : Saying
@@ -82,7 +82,7 @@ show_said k m watcher p said =
       | inr other ↦ let told = rw (ne_eqb k.me 1 other) at said in absurd cc
     ]
 
--- nothing but a saying is answered by a packet
+-- only a saying is answered with a packet
 pub what_is_said : (rules : Rules) (t : Told) (k : KnownValue) (m : Memory) (call : Call) (p : Packet) → (outcome rules t k m call).reply ≡ Said (Ok p) → IsSaid rules t k m p ⊎ IsShown k m call p
 what_is_said rules t k m (Tick keys) p said = inl (tick_is (Tells rules t k m p) rules k m keys (λ answer keeps e. absurd cc) said)
 what_is_said rules t k m (Deliver (Err error)) p said = inl (no_packet_is (Tells rules t k m p) rules t k m error (λ answer keeps e. absurd cc) said)
@@ -113,7 +113,7 @@ leaver_plays k q is = let from = is.from_two in record { from_one = omega (arith
 one_remains : (k : KnownValue) → IsOrderly k → is_frozen_in k 1 ≡ false
 one_remains k orderly = let stays = (orderly 1 (omega arith)).one_stays refl in rw (stays.0, stays.1) refl
 
--- of nobody else a FREEZE or a LEAVE stands
+-- the journal has no FREEZE or LEAVE of anyone else
 pub is_leaver : (k : KnownValue) (q : ℕ) → IsOrderly k → is_frozen_in k q ≡ true → IsLeaver k q
 is_leaver k zero orderly leaves = absurd (both_ways (is_frozen_in k 1) (one_remains k orderly) leaves)
 is_leaver k (suc zero) orderly leaves = absurd (both_ways (is_frozen_in k 1) (one_remains k orderly) leaves)
@@ -168,7 +168,7 @@ frozen_at rules q journal n is all =
     let whole : count rules q journal ≡ count rules q (at.before ++ journals.Freeze q ∷ at.rest) = ap (count rules q) at.is in
     record { before = at.before; rest = at.rest; is = at.is; few = omega (arith, longer, whole, all) }
 
--- ---- what is known, in the words of the journal
+-- ---- what is known, in terms of the journal
 
 pub own_player : (rules : Rules) (me : ℕ) (journal : List Record) → (known_of rules me journal).me ≡ me
 own_player rules me journal = (of_game rules me journal).player
@@ -189,7 +189,7 @@ stands_in xs ys n start same from =
       is = subst (λ zs. Begins (take n (drop start xs)) (drop start zs)) same (begins_take n (drop start xs));
     }
 
--- a beginning of inputs that stand stands too
+-- if inputs stand, so does each front of them
 stands_less : (start n : ℕ) (words ys : List ℕ) → Stands start words ys → Stands start (take n words) ys
 stands_less start n words ys stands =
     let fewer = begins_take n words in

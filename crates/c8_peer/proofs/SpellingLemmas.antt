@@ -1,4 +1,4 @@
--- What an open peer says can be spelled.
+-- What an open peer says has a spelling.
 use Rattle.std.proofs.Common.{◌+◌, ◌≡◌, ◌≢◌, ℕ, zero, suc, ◌^◌, ◌<◌, ◌≤◌, List, [], ◌∷◌, ◌++◌, length, take, drop, replicate, get_or, Bool, true, false, Option, Some, Ok, refl, sym, ap, subst, ◌∙◌, arith, None, inl, inr}
 use Rattle.std.specs.Prelude.{◌-◌, ◌==◌, slice_index, unwrap_or, if◌then◌else◌, IfSome, nat_le, map}
 use Rattle.std.specs.Int.{from_be_bytes, to_be_bytes, w64}
@@ -117,7 +117,7 @@ left_within xs start end from to = omega (arith, length-drop start xs, from, to)
 
 -- ---- each kind
 
--- the message has room where it is spelled, in that version of datagrams, and may be said
+-- the message fits into a datagram of this wire version and may be said
 record IsSpelled (version : WireVersion) (m : Message) : Type 0 where
   fits : Fits m
   may : IsMessage m
@@ -129,7 +129,7 @@ few k q known =
     let limit = known.limit in
     omega (arith, within, limit)
 
--- the newest mark is one of a frame that is confirmed
+-- the newest mark is that of a confirmed frame
 newest_of_marks : (frames : ℕ) (marks : List FrameMark) (default : FrameMark) → AreMarksAfter frames marks → (m : FrameMark) × (unwrap_or (newest_of marks) default ≡ m) × IsMark m.mark × (m.frame ≤ frames)
 newest_of_marks frames marks default are =
     let last : ℕ = length marks - 1 in
@@ -184,7 +184,7 @@ freeze_spelled rules t k m to leaver known leaves =
     let within = leaves.in_game in
     record { fits = tt; may = record { leaver_from_two = leaves.from_two; leaver_to_four = omega (arith, four, within); have = few k leaver known }; room = refl }
 
--- FROZEN and CUT bring inputs of a leaver up to a length, from a place on that is not past it
+-- FROZEN and CUT carry inputs of a leaver from a start that is not past the length
 leaver_spelled : (rules : Rules) (k : KnownValue) (leaver : ℕ) (end start : ℕ) → IsKnown k → IsLeaver k leaver → count_in k leaver ≡ end → start ≤ end
     → IsLeaverMessage (record { leaver = leaver; length = end; start = start; words = run_from rules k leaver start })
 leaver_spelled rules k leaver end start known leaves all from =
@@ -233,7 +233,7 @@ message_spelled rules me room journal m to (Cut leaver) range from within is mem
 
 -- ---- the head, and all of it
 
--- one player's kinds to another
+-- the seats of kinds from one player to another
 are_players : (from to : ℕ) → 1 ≤ from → from ≤ 4 → 1 ≤ to → to ≤ 4 → from ≢ to → are_two_players from to ≡ true
 are_players from to from_one from_four to_one to_four apart = rw (le-leb 1 from from_one, le-leb from 4 from_four, le-leb 1 to to_one, le-leb to 4 to_four, ne_eqb from to apart) refl
 
@@ -289,7 +289,7 @@ set_low : (p : PlayerValue) (frame : ℕ) → AreWords p.held → or_empty (inpu
 unfolding input_of
 set_low p frame words = input_low (slice_get p.held frame) (past_cut p.cut frame) (item_low p.held frame words) (past_low p.cut frame)
 
--- the inputs of one who is not in the game are empty sets
+-- the held inputs of any seat are key sets; a player who is not in the game has none
 seat_words : (rules : Rules) (me room q : ℕ) (journal : List Record) → IsJournal rules me room journal → 1 ≤ q → AreWords (player_in (known_of rules me journal) q).held
 seat_words rules me room q journal is from =
     let k : KnownValue = known_of rules me journal in

@@ -1,4 +1,4 @@
--- No peer is further ahead than the window, so that none runs many frames again.
+-- No peer is further ahead than the window, so none runs many frames again.
 use Rattle.std.proofs.Common.{◌≡◌, ℕ, ◌+◌, ◌≤◌, List, sym, ap, subst, arith}
 use Rattle.c8_game.specs.Rules.{Rules, AreInRange}
 use Rattle.c8_log.specs.Journal.{JournalValue}
@@ -14,7 +14,7 @@ use Rattle.c8_roll.specs.Rollback.{IsWithinWindow}
 use Rattle.c8_peer.specs.State.{Memory}
 use Rattle.c8_peer.specs.checked.Held.{IsPeer}
 
--- what c8_record says of every journal
+-- the law of c8_record about every journal
 abbrev pub StayWithin : Type 0
 StayWithin = (rules : Rules) (me room : ℕ) (journal : List Record) → AreInRange rules → 1 ≤ me → me ≤ rules.players → IsJournal rules me room journal
     → (known_of rules me journal).ticks ≤ confirmed (known_of rules me journal) + rules.window

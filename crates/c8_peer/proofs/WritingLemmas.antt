@@ -1,4 +1,4 @@
--- What is said: the part of a list that is lent, and that what is written is true and has a spelling.
+-- Sayings: the part of a list that a datagram carries, and that what is written is true and has a spelling.
 use Rattle.std.proofs.Common.{◌≡◌, ◌≢◌, true, ℕ, ◌-◌, List, length, take, drop, Ok, Err, refl, sym, ap, subst, ◌∙◌, arith}
 use Rattle.std.proofs.lemmas.List.{take_all, length-drop}
 use Rattle.c8_game.specs.Rules.{Rules}
@@ -28,7 +28,7 @@ use Rattle.c8_peer.proofs.AnswerLemmas.{outcome_seen}
 use Rattle.std.proofs.lemmas.Bool.{eq-eqb, ne_eqb}
 use Rattle.c8_wire.specs.Seats.{is_watcher}
 
--- from a start on, to the end
+-- the rest of a list from `start` on
 pub rest_from : (xs : List ℕ) (start to : ℕ) → to ≡ length xs → take (to - start) (drop start xs) ≡ drop start xs
 rest_from xs start to all = take_all (to - start) (drop start xs) (omega (arith, all, length-drop start xs))
 
@@ -65,7 +65,7 @@ unfolding show
 shows_nothing k m watcher other = rw (ne_eqb k.me 1 other) refl
 
 module _ {D : Type 0} where
-  -- what the journal inside tells
+  -- what the journal of the parts tells
   abbrev told_in : Rules → JournalValue D → KnownValue → Told
   told_in rules j k = told_of rules k.me (records_of j.bodies)
 

@@ -1,4 +1,4 @@
--- What the code's kinds ask a peer to say.
+-- The kinds of the code as the sayings and the wire kinds of the definitions.
 use Rattle.c8_wire.specs.declared.kinds.DatagramKind as wire
 use Rattle.c8_wire.specs.declared.kinds.DatagramKind.TheVariants as wires
 use Rattle.c8_peer.specs.declared.kind.Kind.{Kind}

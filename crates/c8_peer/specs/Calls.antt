@@ -1,4 +1,4 @@
--- A tick, what player one does of a drop round by itself, and a checkpoint. Each line is a refusal, in the order in which they are judged.
+-- The calls tick, leave, decide and checkpoint. Their refusals stand in the order of judging.
 use Rattle.std.specs.Prelude.{ℕ, ◌+◌, ◌==◌, ◌||◌, not, nat_le, [], Option, Some, None, is_some, Ok, Err, if◌then◌else◌}
 use Rattle.c8_game.specs.Rules.{Rules}
 use Rattle.c8_wire.specs.Reading.{words_of}
@@ -15,7 +15,7 @@ use Rattle.c8_peer.specs.declared.check.Check.TheVariants.{Piece, Done}
 use Rattle.c8_peer.specs.Told.{Told}
 use Rattle.c8_peer.specs.State.{Memory, Ticked, Left, Decided, Checked, Outcome, answered, recorded}
 
--- the own player enters a key set, for the frame of its tick and the delay
+-- the own player enters a key set, for the frame of its tick plus the delay
 unfoldable pub tick : Rules → KnownValue → Memory → ℕ → Outcome
 tick rules k m keys =
     if (player_in k k.me).leaving then answered m (Ticked (Err ticks.Dropped))
@@ -23,7 +23,7 @@ tick rules k m keys =
     else (if nat_le (confirmed k + rules.window) k.ticks then answered m (Ticked (Err ticks.Threshold))
     else recorded m (Ticked (Ok tt)) (records.Own k.me (count_in k k.me) keys)))
 
--- player one lets a player go
+-- player one drops a player
 unfoldable pub leave : KnownValue → Memory → ℕ → Outcome
 leave k m leaver =
     if not (k.me == 1) then answered m (Left (Err leaves.NotChair))
@@ -32,7 +32,7 @@ leave k m leaver =
     else (if (player_in k leaver).leaving then answered m (Left (Err leaves.Already))
     else recorded m (Left (Ok tt)) (records.Leave leaver))))
 
--- player one cuts a leaver's list at what it holds itself
+-- player one cuts a leaver's list at the number of inputs that it holds itself
 unfoldable pub decide : KnownValue → Memory → ℕ → Outcome
 decide k m leaver =
     if not (k.me == 1) || not (player_in k leaver).leaving then answered m (Decided (Err decides.NotLeaving))
@@ -40,8 +40,8 @@ decide k m leaver =
     else (if not (is_ready m.chair k leaver) then answered m (Decided (Err decides.NotReady))
     else recorded m (Decided (Ok (count_in k leaver))) (records.Cut leaver (count_in k leaver) (count_in k leaver) [])))
 
--- The next record of a checkpoint: where none is under way its first piece, at the frames that are confirmed now; then each piece of
--- the machine and the marks of that moment; and after the last one their digest.
+-- The next record of a checkpoint. If none is under way, it is the first piece of one at the frames that are confirmed
+-- now. Then come the other pieces of the machine and the marks at that frame, and after the last piece their digest.
 abbrev pub next_piece : Told → KnownValue → Memory → Option Pieces → Outcome
 next_piece t k m None =
     if nat_le (confirmed k) (frames_of t.checks.last) then answered m (Checked (Err checks.Nothing))

@@ -1,4 +1,4 @@
--- What a delivery does. Each line is a refusal, in the order in which they are judged.
+-- What a delivery does. Its refusals stand in the order of judging.
 use Rattle.std.specs.Prelude.{ℕ, ◌+◌, ◌==◌, ◌||◌, List, [], ◌∷◌, length, Bool, true, false, not, nat_lt, is_some, Option, Some, None, Result, Ok, Err, if◌then◌else◌}
 use Rattle.c8_game.specs.Rules.{Rules}
 use Rattle.c8_game.specs.Wire.{version_number}
@@ -33,19 +33,19 @@ taken m what = answered m (Delivered (Ok what))
 
 -- ---- inputs
 
--- where inputs cannot be held that is the answer
+-- refuses inputs that cannot be held
 abbrev pub unless_misfit : Memory → Option KnownError → Outcome → Outcome
 unless_misfit m None outcome = outcome
 unless_misfit m (Some error) outcome = refused m (refusals.Known error)
 
--- inputs of a player that are new are recorded; of none there is nothing to record
+-- records new inputs of a player, if there are any
 abbrev pub got : KnownValue → Memory → ℕ → List ℕ → Outcome
 got k m q [] = taken m heards.Nothing
 got k m q (word ∷ words) = recorded m (Delivered (Ok heards.Kept)) (records.Got q (count_in k q) (word ∷ words))
 
 -- ---- DATA
 
--- This peer keeps a mark of the same frame, and it differs.
+-- this peer keeps a mark of the same frame, and it differs
 abbrev pub differs_from : Option (List ℕ) → List ℕ → Bool
 differs_from None mark = false
 differs_from (Some own) mark = differ own mark
@@ -53,7 +53,7 @@ differs_from (Some own) mark = differ own mark
 unfoldable pub is_desync : Told → DataMessage → Bool
 is_desync t d = differs_from (mark_at d.mark_frame t.marks) d.mark
 
--- From player q. An acknowledgement is kept last, when nothing refuses any more.
+-- From player q. The acknowledgement is kept only if nothing refuses the datagram.
 unfoldable pub hear_data : Told → KnownValue → Memory → ℕ → DataMessage → Outcome
 hear_data t k m q d =
     if is_from_leaver k q q then refused m (refusals.Known knowns.FromLeaver)
@@ -71,7 +71,7 @@ hear_welcome k m head ack =
 
 -- ---- the drop round
 
--- player one lets a player go; the first one is recorded
+-- Player one has dropped a player. The first FREEZE of the player is recorded.
 unfoldable pub hear_freeze : KnownValue → Memory → ℕ → FreezeMessage → Outcome
 hear_freeze k m q f =
     if not (q == 1) then refused m refusals.NotChair
@@ -79,7 +79,7 @@ hear_freeze k m q f =
     else (if (player_in k f.leaver).frozen then taken (record m { stayer = with_have m.stayer f.leaver f.have }) heards.Nothing
     else recorded (record m { stayer = with_have m.stayer f.leaver f.have }) (Delivered (Ok heards.Kept)) (records.Freeze f.leaver)))
 
--- player q answers player one how many of the leaver's inputs it holds, and brings some
+-- player q answers player one: it holds this many inputs of the leaver, and brings some
 unfoldable pub hear_frozen : KnownValue → Memory → ℕ → LeaverMessage → Outcome
 hear_frozen k m q f =
     if not (k.me == 1) then refused m refusals.NotChair
@@ -90,20 +90,20 @@ hear_frozen k m q f =
     else unless_misfit m (misfit k f.leaver f.start f.words)
     (got k (record m { chair = with_report m.chair f.leaver q f.length }) f.leaver (fresh_words k f.leaver f.start f.words))))))
 
--- new inputs of a leaver with which its list may be whole: then it is cut
+-- New inputs of a leaver. If they complete its list, the list is cut.
 abbrev pub cut_or_got : KnownValue → Memory → ℕ → ℕ → List ℕ → Outcome
 cut_or_got k m leaver K words =
     if count_in k leaver + length words == K then recorded m (Delivered (Ok heards.Kept)) (records.Cut leaver K (count_in k leaver) words)
     else got k m leaver words
 
--- a leaver's list ends at a length; before it is cut here, and after
+-- The end of a leaver's list, by the length at which it is cut here, if it is.
 abbrev pub hear_end : KnownValue → Memory → LeaverMessage → Option ℕ → Outcome
 hear_end k m c (Some K) = if K == c.length then taken m heards.Nothing else refused m (refusals.Known knowns.Differs)
 hear_end k m c None =
     if nat_lt c.length (count_in k c.leaver) then refused m (refusals.Known knowns.Differs)
     else unless_misfit m (misfit k c.leaver c.start c.words) (cut_or_got k m c.leaver c.length (fresh_words k c.leaver c.start c.words))
 
--- player one has cut a leaver's list; the leaver itself is out
+-- Player one has cut a leaver's list. If the leaver is this player, it is out.
 unfoldable pub hear_cut : KnownValue → Memory → ℕ → LeaverMessage → Outcome
 hear_cut k m q c =
     if not (q == 1) then refused m refusals.NotChair
@@ -114,7 +114,7 @@ hear_cut k m q c =
 
 -- ---- SEEN
 
--- A watcher tells player one how many rows it has; the last one counts.
+-- A watcher acknowledges rows to player one. The last number counts, even if it is lower.
 unfoldable pub hear_seen : KnownValue → Memory → HeadValue → ℕ → Outcome
 hear_seen k m head ack =
     if nat_lt (confirmed k) ack then refused m refusals.BadAck
@@ -122,7 +122,7 @@ hear_seen k m head ack =
 
 -- ---- any delivery
 
--- SHOW and SEEN are no player's to a player, so that the links admit none of them.
+-- No player says SHOW or SEEN to another, so the links admit neither of them.
 abbrev pub hear_message : Rules → Told → KnownValue → Memory → HeadValue → Message → Outcome
 hear_message rules t k m head packets.Hello = taken (record m { links = heard m.links head }) heards.Nothing
 hear_message rules t k m head (packets.Welcome ack) = hear_welcome k m head ack
@@ -133,7 +133,7 @@ hear_message rules t k m head (packets.Cut c) = hear_cut k m head.from c
 hear_message rules t k m head (packets.Show shown) = refused m (refusals.Hand hands.NotMine)
 hear_message rules t k m head (packets.Seen ack) = refused m (refusals.Hand hands.NotMine)
 
--- a datagram in another version of the format than the game's
+-- the datagram has another wire version than the game
 abbrev pub is_of_other_wire : Rules → HeadValue → Bool
 is_of_other_wire rules head = not (version_number head.version == version_number rules.wire)
 
@@ -141,7 +141,7 @@ abbrev pub unless_hand : Memory → Option HandError → Outcome → Outcome
 unless_hand m None outcome = outcome
 unless_hand m (Some error) outcome = refused m (refusals.Hand error)
 
--- how many rows a SEEN tells of
+-- how many rows a SEEN acknowledges
 abbrev pub seen_in : Message → Option ℕ
 seen_in packets.Hello = None
 seen_in (packets.Welcome ack) = None
@@ -152,7 +152,7 @@ seen_in (packets.Cut c) = None
 seen_in (packets.Show shown) = None
 seen_in (packets.Seen ack) = Some ack
 
--- what comes from a watcher needs no link
+-- a SEEN of a watcher needs no link
 abbrev pub hear_from_watcher : KnownValue → Memory → HeadValue → ℕ → Outcome
 hear_from_watcher k m head ack = unless_hand m (links.refusal_of_seen m.links head) (hear_seen k m head ack)
 
@@ -167,6 +167,6 @@ abbrev pub hear_told : Rules → Told → KnownValue → Memory → Result Packe
 hear_told rules t k m (Ok p) = hear rules t k m p
 hear_told rules t k m (Err error) = refused m (refusals.Wire error)
 
--- what bytes say, to a peer that is open: one that has been dropped hears nothing
+-- The delivery of a packet, or of bytes that are none, to an open peer. A peer that is out hears nothing.
 abbrev pub deliver : Rules → Told → KnownValue → Memory → Result Packet WireError → Outcome
 deliver rules t k m told = if (player_in k k.me).leaving then refused m refusals.Dropped else hear_told rules t k m told

@@ -1,4 +1,4 @@
--- What holds of a peer's memory as long as it is open, and what is asked of a call: both are so by the types of the code.
+-- What holds for the memory of an open peer, and which calls there are. The types of the code ensure both.
 use Rattle.std.specs.Prelude.{◌≡◌, ℕ, ◌^◌, ◌<◌, ◌≤◌, true, List, take, Some, Ok, Err}
 use Rattle.c8_game.specs.Rules.{Rules, session_of}
 use Rattle.c8_wire.specs.Seats.{is_watcher}
@@ -12,16 +12,16 @@ use Rattle.c8_check.specs.Checks.{Pieces, before_piece, checks_of, begun_at}
 use Rattle.c8_peer.specs.Told.{told_of}
 use Rattle.c8_peer.specs.State.{Memory, seen_by, Call, Tick, Deliver, Say, Show, Leave, Decide, Checkpoint}
 
--- The journal of an open peer: its last opening began the second form, and pieces that are under way are the first of those of its
--- machine and marks, where these have begun to run.
+-- The checkpoints in the journal of an open peer. Its last opening began the second form. The pieces under way are the
+-- first pieces of the machine and the marks at their frame, which is not before the frame where the machine began.
 pub record IsSaving (rules : Rules) (me : ℕ) (journal : List Record) : Type 0 where
   pub form : (checks_of journal).form ≡ 2
   pub starts : (p : Pieces) → (checks_of journal).under_way ≡ Some p → (begun_at rules journal).frames ≤ p.frames
   pub bytes : (p : Pieces) → (checks_of journal).under_way ≡ Some p → p.bytes ≡ take (before_piece p.count) ((told_of rules me journal).saved p.frames)
 
--- The links are those of this player in this match, in the game's version of datagrams and in an epoch that the journal has
--- had; all epochs fit 32 bits; nobody has acknowledged more than the own inputs,
--- and no watcher has more rows than are confirmed; and so for checkpoints.
+-- The memory is in order. The links are those of this player in this match, with the game's wire version and an epoch
+-- that the journal has had. All epochs fit 32 bits. Nobody has acknowledged more than the own inputs, and no watcher
+-- more rows than are confirmed. The checkpoints are in order too.
 pub record IsMemory (rules : Rules) (room me : ℕ) (journal : List Record) (m : Memory) : Type 0 where
   pub player : m.links.me ≡ me
   pub players : m.links.players ≡ rules.players
@@ -34,7 +34,7 @@ pub record IsMemory (rules : Rules) (room me : ℕ) (journal : List Record) (m :
   pub shown : (watcher : ℕ) → seen_by m.seen watcher ≤ confirmed (known_of rules me journal)
   pub saving : IsSaving rules me journal
 
--- keys are a set of 16 keys, bytes that are a datagram tell a packet, and watchers sit in seats 5 and 6
+-- a key set has 16 bits, a delivered packet is well formed, and watchers sit in seats 5 and 6
 abbrev pub IsCall : Call → Type 0
 IsCall (Tick keys) = keys < 2 ^ 16
 IsCall (Deliver (Ok packet)) = IsPacket packet

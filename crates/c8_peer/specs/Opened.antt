@@ -1,4 +1,4 @@
--- What an opening makes of a disk: the peer that it opens there, or why it is refused and what it leaves.
+-- What an opening does with a disk: it opens a peer there, or it is refused and leaves the disk in a known state.
 use Rattle.std.specs.Prelude.{◌≡◌, ◌⊎◌, ℕ, ◌+◌, ◌*◌, ◌<◌, ◌≤◌, List, length, [], ◌∷◌, ◌++◌, false, Some, Result, Ok, Err}
 use Rattle.c8_game.specs.Rules.{Rules}
 use Rattle.c8_disk.specs.declared.disk.Disk.{Ghosts}
@@ -22,52 +22,53 @@ use Rattle.c8_peer.specs.State.{State, Opened}
 use Rattle.c8_peer.specs.Opening.{last_epoch, opening_record, Stands, opened, MayBecome}
 use Rattle.c8_peer.specs.Peer.{PeerValue, stepped, IsSound}
 
--- the disk after an opening, which a refused one gives back
+-- the disk after an opening; a refused one returns it
 abbrev pub disk_after : {D : Type 0} → Result (PeerValue D) (OpenError × D) → D
 disk_after (Ok peer) = peer.disk
 disk_after (Err refusal) = refusal.1
 
--- what an opening adds to a journal of these bodies
+-- the body that an opening adds to a journal of these bodies
 abbrev pub opening_body : Rules → ℕ → ℕ → List (List ℕ) → List ℕ
 opening_body rules room me bodies = body_of (opening_record rules room me (records_of bodies))
 
--- these bodies are a journal of this match and player, whose epochs are not spent
+-- these bodies are a journal of this match and player, and its epochs are not spent
 abbrev pub MayBegin : Rules → ℕ → ℕ → List (List ℕ) → Type 0
 MayBegin rules room me bodies = AreJournalBodies rules me room bodies × (epoch (records_of bodies) < last_epoch)
 
 -- ---- the disk
 
 module _ {D : Type 0} (g : Ghosts D) (disk : D) where
-  -- the bodies that it keeps when the opening begins
+  -- the bodies that the disk keeps when the opening begins
   abbrev pub bodies_found : List (List ℕ)
   bodies_found = kept (g.seen disk)
 
-  -- Settled: each image that a crash may leave keeps just what was found, and a read gives the bytes that it gave before, with
-  -- a closed gate after the kept bodies.
+  -- The disk is settled: each image that a crash may leave keeps exactly what was found. A read gives the same bytes as
+  -- before, with a closed gate after the kept bodies.
   pub record IsSettled (left : D) : Type 0 where
     pub keeps : AllKeep bodies_found (g.may_leave left)
     pub seen : g.seen left ≡ repaired (g.seen disk)
 
-  -- nothing is decided: each image that a crash may leave keeps what some image kept before
+  -- The opening has settled nothing new: each image that a crash may leave keeps what some image kept before.
   abbrev pub IsUnread : D → Type 0
   IsUnread left = (image : List ℕ) → g.may_leave left image → KeepsOneOf (g.may_leave disk) image
 
-  -- why the disk refuses before all of its journal is read: it failed; or it did not, and has no room for the gate after the kept
-  -- bodies, which is open or missing
+  -- Why the disk refuses before all of its journal is read. Failed: a call failed. Full: none failed, the gate after
+  -- the kept bodies is open or missing, and there is no room for it.
   abbrev pub HasReadingCause : DiskError → D → Type 0
   HasReadingCause errors.Failed left = g.failures disk < g.failures left
   HasReadingCause errors.Full left = (has_closed_gate (g.seen disk) ≡ false) × (g.capacity disk < slot_length * length bodies_found + 1) × (g.failures left ≡ g.failures disk)
 
-  -- why it refuses the opening's record: it has no room for it and the gate after it, and did not fail; or it has, and failed
+  -- Why the disk refuses the opening's record. Failed: it has room, and a call failed. Full: it has no room for the
+  -- record and the gate after it, and no call failed.
   abbrev pub HasWritingCause : DiskError → D → Type 0
   HasWritingCause errors.Failed left = (slot_length * (length bodies_found + 1) + 1 ≤ g.capacity disk) × (g.failures disk < g.failures left)
   HasWritingCause errors.Full left = (g.capacity disk < slot_length * (length bodies_found + 1) + 1) × (g.failures left ≡ g.failures disk)
 
--- ---- the opening of a player's peer, in a game and a room
+-- ---- the opening of a player's peer in a match
 
 module _ {D : Type 0} (g : Ghosts D) (disk : D) (rules : Rules) (room me : ℕ) where
-  -- which calls of the disk an opening makes: those that open the log and replay its journal, with this result, and the append of
-  -- its record after that
+  -- The disk calls of an opening: it opens the log and replays the journal with this result, then it appends its
+  -- record.
   abbrev pub ReadRun : Result ℕ ReplayError → Run
   ReadRun result = Then (OpenLog (g.seen disk)) (ReplayRun rules me room (bodies_found g disk) result)
 
@@ -80,17 +81,16 @@ module _ {D : Type 0} (g : Ghosts D) (disk : D) (rules : Rules) (room me : ℕ) 
   abbrev pub OpenRun : Run
   OpenRun = After AllRead WriteRun
 
-  -- What is so of a peer that was opened there.
+  -- What holds for a peer that was opened there.
   --
-  -- - `rules_are`, `room_is`, `me_is`: it is of this match and player.
-  -- - `opening`: its epoch as the answer, and its state, are those of an opening whose record stands, whatever the state was
-  --   before.
+  -- - `rules_are`, `room_is`, `me_is`: it is the peer of this match and player.
+  -- - `opening`: its epoch and its state are those after an opening whose record stands, from any state before.
   -- - `may`: what was found is a journal of this match and player, and its epochs are not spent.
   -- - `bodies`: the bodies found are those of that journal.
-  -- - `sound`: what is so of every peer is so of this one.
-  -- - `ran`: as many frames were run as the journal has ticks after the last checkpoint that was found.
-  -- - `has_room`: there was room for one slot more and the gate after it.
-  -- - `same`, `asks`: it stands on the same disk, to which these calls led.
+  -- - `sound`: what holds for every peer holds for this one.
+  -- - `ran`: it ran as many frames as the journal has ticks after the last checkpoint that was found.
+  -- - `has_room`: the disk had room for one more slot and the gate after it.
+  -- - `same`, `asks`: it has the same disk, after these calls.
   pub record IsOpened (p : PeerValue D) : Type 0 where
     pub rules_are : p.rules ≡ rules
     pub room_is : p.room ≡ room
@@ -104,25 +104,26 @@ module _ {D : Type 0} (g : Ghosts D) (disk : D) (rules : Rules) (room me : ℕ) 
     pub same : IsSameDisk g disk p.disk
     pub asks : Asks g OpenRun (Ok tt) disk p.disk
 
-  -- what was found is no journal of this match and player
+  -- what was found is not a journal of this match and player
   abbrev pub IsUnfit : ReplayError → D → Type 0
   IsUnfit error left = IsRefusal rules me room (bodies_found g disk) error × IsSettled g disk left × Asks g (ReadRun (Err error)) (Ok tt) disk left
 
-  -- What was found is such a journal, and its epochs are spent.
+  -- What was found is a journal of this match and player, and its epochs are spent.
   pub record IsSpent (left : D) : Type 0 where
     pub bodies : AreJournalBodies rules me room (bodies_found g disk)
     pub spent : last_epoch ≤ epoch (records_of (bodies_found g disk))
     pub settled : IsSettled g disk left
     pub asks : Asks g AllRead (Ok tt) disk left
 
-  -- What was found may be opened, and the opening's record is pending: each image keeps what was found, with it or without.
+  -- What was found may be opened, and the opening's record is pending: each image keeps what was found, with the record
+  -- or without.
   pub record IsNotWritten (left : D) : Type 0 where
     pub bodies : AreJournalBodies rules me room (bodies_found g disk)
     pub not_spent : epoch (records_of (bodies_found g disk)) < last_epoch
     pub leaves : AllKeepBodies (bodies_found g disk) (Some (opening_body rules room me (bodies_found g disk))) (g.may_leave left)
 
-  -- Why a player of the game is refused, and what is left of the disk then. Memory is refused before the disk is touched, and
-  -- what is wrong with the journal is told before anything is added to it. The disk refuses before all is read, or after that.
+  -- Why a player of the game is refused, and how the disk is then. Memory is refused before the disk is touched. A
+  -- journal is refused before anything is added to it. The disk refuses before all is read, or after that.
   abbrev pub IsRefusedFor : OpenError → D → Type 0
   IsRefusedFor opens.WrongGame left = IsUnfit replays.WrongGame left
   IsRefusedFor opens.WrongPlayer left = IsUnfit replays.WrongPlayer left
@@ -133,13 +134,13 @@ module _ {D : Type 0} (g : Ghosts D) (disk : D) (rules : Rules) (room me : ℕ) 
       (HasReadingCause g disk why left × IsUnread g disk left × Asks g (ReadRun (Err (replays.Disk why))) (Err why) disk left)
       ⊎ (HasWritingCause g disk why left × IsNotWritten left × Asks g OpenRun (Err why) disk left)
 
-  -- Why an opening is refused: there is no such player in the game, and the disk is as it was; or else for one of these.
+  -- Why an opening is refused: the game has no such player, and the disk is as it was; or one of the reasons above.
   abbrev pub IsRefusedOpening : OpenError → D → Type 0
   IsRefusedOpening error left =
       ((rules.players < me) × (error ≡ opens.WrongPlayer) × (left ≡ disk)) ⊎ ((me ≤ rules.players) × IsRefusedFor error left)
 
-  -- What a crash at any moment of it may leave: an image that keeps what some image kept before; or, where a new epoch may
-  -- begin in what was found, that and then the opening's record.
+  -- What a crash at any moment of an opening may leave: an image that keeps what some image kept before; or, if a new
+  -- epoch may begin in what was found, an image that keeps that and the opening's record.
   abbrev pub OpeningLeaves : List ℕ → Type 0
   OpeningLeaves image =
       KeepsOneOf (g.may_leave disk) image ⊎ (MayBegin rules room me (bodies_found g disk) × (kept image ≡ bodies_found g disk ++ opening_body rules room me (bodies_found g disk) ∷ []))

@@ -1,4 +1,4 @@
--- What an opening comes to.
+-- What an opening does: its record, its answer, and the state after it.
 use Rattle.std.specs.Prelude.{ℕ, ◌+◌, ◌<◌, ◌≤◌, List, [], ◌∷◌, ◌++◌, map, Option, Some, None, Ok, Err, Bool, if◌then◌else◌, option_to_list}
 use Rattle.c8_game.specs.Rules.{Rules, id_of}
 use Rattle.c8_disk.specs.declared.error.DiskError.{DiskError}
@@ -17,7 +17,7 @@ use Rattle.c8_peer.specs.Steps.{Stepped}
 abbrev pub last_epoch : ℕ
 last_epoch = 4294967295
 
--- what a reading of the disk finds: the journal without the pending record or with it
+-- what a read of the disk finds: the journal, with the pending record or without
 abbrev pub found : State → Bool → List Record
 found s with_pending = if with_pending then s.journal ++ option_to_list s.pending else s.journal
 
@@ -25,14 +25,19 @@ found s with_pending = if with_pending then s.journal ++ option_to_list s.pendin
 abbrev pub second_form : ℕ
 second_form = 2
 
--- an empty journal gets a HEAD, another one the next epoch
+-- an empty journal gets a HEAD, any other an EPOCH with the next number
 abbrev pub opening_record : Rules → ℕ → ℕ → List Record → Record
 opening_record rules room me [] = Head me second_form (id_of rules) room
 opening_record rules room me (r ∷ rest) = Epoch me (epoch (r ∷ rest) + 1) second_form
 
--- What became of an opening: there is no such player in the game; its record stands; the disk refused its record; memory was
--- refused or the disk failed before all was read, and nothing is settled; what was found is no journal that this peer may
--- open; or its epochs are spent.
+-- How an opening ends.
+--
+-- - `NoPlayer`: the game has no such player.
+-- - `Stands`: its record stands.
+-- - `NotWritten`: the disk refused its record.
+-- - `NoMemory`, `NotRead`: memory was refused, or the disk refused before all was read. Nothing new is settled.
+-- - `Unfit`: what was found is not a journal that this peer may open.
+-- - `Spent`: the journal's epochs are spent.
 pub data Opening : Type 0 where
   NoPlayer : Opening
   Stands : Opening
@@ -45,14 +50,14 @@ pub data Opening : Type 0 where
 abbrev pub away : State → List Record → Option Record → State
 away s journal pending = record s { journal = journal; pending = pending; mode = Away }
 
--- the refusal of a journal as that of an opening
+-- turns the refusal of a journal into that of an opening
 abbrev pub unfit : ReplayError → OpenError
 unfit replays.WrongGame = opens.WrongGame
 unfit replays.WrongPlayer = opens.WrongPlayer
 unfit (replays.BadRecord n) = opens.BadRecord n
 unfit (replays.Disk why) = opens.Disk why
 
--- the answer and the state after it, of an opening that finds a journal
+-- the answer and the next state of an opening that found these records
 abbrev pub opened : Rules → ℕ → ℕ → State → List Record → Opening → Stepped
 opened rules room me s found Stands = record {
   reply = Opened (Ok (epoch (found ++ opening_record rules room me found ∷ [])));
@@ -70,8 +75,9 @@ opened rules room me s found (NotRead why) = record { reply = Opened (Err (opens
 opened rules room me s found (Unfit error) = record { reply = Opened (Err (unfit error)); state = away s found None }
 opened rules room me s found Spent = record { reply = Opened (Err opens.EpochsSpent); state = away s found None }
 
--- What may become of it, for a player of the game: the record is written, or tried, only over a journal of this player, game
--- and room whose epochs are not spent; a journal is refused only for what is wrong with its bodies.
+-- How an opening may end. A record is written, or tried, only over a journal of this match and player whose epochs are
+-- not spent. A journal is refused only for a fault in its bodies. Only NoPlayer is for a player that the game does not
+-- have.
 abbrev pub MayBecome : Rules → ℕ → ℕ → List Record → Opening → Type 0
 MayBecome rules room me found NoPlayer = rules.players < me
 MayBecome rules room me found Stands = IsJournal rules me room found × (epoch found < last_epoch) × (me ≤ rules.players)
@@ -81,7 +87,7 @@ MayBecome rules room me found (NotRead why) = me ≤ rules.players
 MayBecome rules room me found (Unfit error) = IsRefusal rules me room (map body_of found) error × (me ≤ rules.players)
 MayBecome rules room me found Spent = IsJournal rules me room found × (last_epoch ≤ epoch found) × (me ≤ rules.players)
 
--- the disk and the memory served the opening to its end
+-- neither the disk nor the memory refused
 abbrev pub IsServed : Opening → Type 0
 IsServed NoPlayer = Unit {0}
 IsServed Stands = Unit {0}

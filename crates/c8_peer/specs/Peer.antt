@@ -1,4 +1,4 @@
--- A peer as its calls are seen, what the disk did by what a call answered, and what a crash may leave.
+-- A peer as its callers see it, the contract that its calls share, and what a crash may leave.
 use Rattle.std.specs.Prelude.{◌≡◌, ◌⊎◌, ℕ, ◌+◌, ◌*◌, ◌^◌, ◌<◌, ◌≤◌, List, length, ◌++◌, map, Bool, Option, Some, None, Result, Ok, Err, option_map, option_to_list, if◌then◌else◌}
 use Rattle.c8_game.specs.Rules.{Rules, AreInRange}
 use Rattle.c8_disk.specs.declared.disk.Disk.{Ghosts}
@@ -38,8 +38,8 @@ use Rattle.c8_peer.specs.Steps.{Luck, Works, Refuses, Stepped, outcome, step}
 
 -- ---- the peer
 
--- the match and the player, the disk that holds the journal, the peer's state, and how many frames were run when it last
--- recorded something
+-- the match and the player, the disk that holds the journal, the peer's state, and how many frames its last record made
+-- it run
 pub record PeerValue (D : Type 0) : Type 0 where
   pub rules : Rules
   pub room : ℕ
@@ -51,7 +51,7 @@ pub record PeerValue (D : Type 0) : Type 0 where
 abbrev pub mode_of : Bool → Mode
 mode_of is_down = if is_down then Down else Open
 
--- the state of a peer whose journal keeps these bodies, and of which the disk refused one
+-- the state of a peer whose journal keeps these bodies, with the pending body if the disk refused one
 abbrev pub state_of : List (List ℕ) → Option (List ℕ) → Bool → Memory → State
 state_of bodies pending is_down m = record {
   journal = records_of bodies;
@@ -60,7 +60,7 @@ state_of bodies pending is_down m = record {
   memory = m;
 }
 
--- what a peer knows by its journal
+-- what a peer knows from its journal
 abbrev pub known_by : {D : Type 0} → PeerValue D → KnownValue
 known_by p = known_of p.rules p.me p.state.journal
 
@@ -68,11 +68,11 @@ known_by p = known_of p.rules p.me p.state.journal
 abbrev pub begun_by : {D : Type 0} → PeerValue D → Origin
 begun_by p = begun_at p.rules p.state.journal
 
--- what its journal tells beside
+-- what else its journal tells
 abbrev pub told_by : {D : Type 0} → PeerValue D → Told
 told_by p = told_of p.rules p.me p.state.journal
 
--- it is a peer of the same match and player, on the same disk
+-- both are the peer of one match and player, on the same disk
 pub record IsSamePeer {D : Type 0} (disk : Ghosts D) (old new : PeerValue D) : Type 0 where
   pub rules : new.rules ≡ old.rules
   pub room : new.room ≡ old.room
@@ -81,7 +81,7 @@ pub record IsSamePeer {D : Type 0} (disk : Ghosts D) (old new : PeerValue D) : T
 
 -- ---- a call is a step
 
--- what the disk did with a record, by the answer
+-- what the disk did with the record of a call, read from the answer
 abbrev pub luck_of_tick : Result (Unit {0}) TickError → Luck
 luck_of_tick (Ok done) = Works
 luck_of_tick (Err ticks.Threshold) = Works
@@ -138,17 +138,17 @@ luck_of (Left result) = luck_of_leave result
 luck_of (Decided result) = luck_of_decision result
 luck_of (Checked result) = luck_of_check result
 
--- an answer, and the state after it
+-- an answer and the state after it
 abbrev pub stepped : {D : Type 0} → Reply → PeerValue D → Stepped
 stepped reply p = record { reply = reply; state = p.state }
 
--- The call that is answered so is the one step of the definitions.
+-- A call with this answer is exactly the step of the definitions.
 abbrev pub IsStep : {D : Type 0} → PeerValue D → Call → Reply → PeerValue D → Type 0
 IsStep old call reply new = stepped reply new ≡ step old.rules old.me old.state call (luck_of reply)
 
 -- ---- the disk, and the frames that are run
 
--- the record that a call adds, where the disk takes it
+-- the record that a call adds if the disk takes it
 abbrev pub added_at : Mode → Option Record → Option Record
 added_at Open keeps = keeps
 added_at Down keeps = None
@@ -157,7 +157,7 @@ added_at Away keeps = None
 abbrev pub added : {D : Type 0} → PeerValue D → Call → Option Record
 added p call = added_at p.state.mode (outcome p.rules (told_by p) (known_by p) p.state.memory call).keeps
 
--- the most frames that a call runs: the window's, and for a tick its own one more; for a checkpoint none
+-- the most frames that a call runs: a window, in a tick one more, and none for a checkpoint
 abbrev pub most_run : Rules → Call → ℕ
 most_run rules (Tick keys) = rules.window + 1
 most_run rules (Deliver told) = rules.window
@@ -167,13 +167,13 @@ most_run rules (Leave leaver) = rules.window
 most_run rules (Decide leaver) = rules.window
 most_run rules Checkpoint = 0
 
--- How many frames a call runs whose record stands: those from the oldest on whose best guess it changes, or, where it changes none,
--- those that are new; and no more than that.
+-- How many frames a call runs if its record stands: those from the oldest whose best guess it changes; if it changes
+-- none, the new ones. Never more than `most`.
 pub record RunsFrames (most : ℕ) (before now : KnownValue) (ran : ℕ) : Type 0 where
   pub few : ran ≤ most
   pub from_oldest : RunsFromOldest before now ran
 
--- How many frames are told as run, before a call and after it: where its record stands, those that it runs; else the number stays.
+-- The number of frames run last, before and after a call: those that the call ran if its record stands; else unchanged.
 abbrev pub IsLastRun : Option Record → Luck → ℕ → KnownValue → KnownValue → ℕ → ℕ → Type 0
 IsLastRun (Some r) Works most before now was is = RunsFrames most before now is
 IsLastRun (Some r) (Refuses why) most before now was is = is ≡ was
@@ -182,51 +182,51 @@ IsLastRun None luck most before now was is = is ≡ was
 abbrev pub TellsFrames : {D : Type 0} → PeerValue D → Call → Reply → PeerValue D → Type 0
 TellsFrames old call reply new = IsLastRun (added old call) (luck_of reply) (most_run old.rules call) (known_by old) (known_by new) old.last_run new.last_run
 
--- the image keeps just these records
+-- the image keeps exactly these records
 abbrev pub Keeps : List Record → List ℕ → Type 0
 Keeps journal image = kept image ≡ map body_of journal
 
--- the records of the journal, with one more or without
+-- the image keeps the records of the journal, with one more or without
 abbrev pub KeepsWithOrWithout : List Record → Option Record → List ℕ → Type 0
 KeepsWithOrWithout journal more image = Keeps journal image ⊎ Keeps (journal ++ option_to_list more) image
 
--- one record or the other
+-- the record if there is one, else the pending one
 abbrev pub or_pending : Option Record → Option Record → Option Record
 or_pending (Some r) pending = Some r
 or_pending None pending = pending
 
--- What a crash inside a call may leave: the journal as it was, with the record that the call adds or without; where it adds
--- none, with the pending one or without.
+-- What a crash inside a call may leave: the journal as it was, with the record that the call adds or without; if it
+-- adds none, with the pending record or without.
 abbrev pub MayLeave : {D : Type 0} → PeerValue D → Call → List ℕ → Type 0
 MayLeave p call = KeepsWithOrWithout p.state.journal (or_pending (added p call) p.state.pending)
 
--- What a crash now leaves: the journal, with the pending record or without; none is pending at a peer that is open.
+-- What a crash now leaves: the journal, with the pending record or without. An open peer has no pending record.
 abbrev pub LeavesJournal : {D : Type 0} → Ghosts D → PeerValue D → Type 0
 LeavesJournal {D} disk p = (image : List ℕ) → disk.may_leave p.disk image → KeepsWithOrWithout p.state.journal p.state.pending image
 
--- When the disk refuses a record, and with which word: it has no room for one slot more and the gate after it, and then it is
--- not called; or it has, and it failed in the call.
+-- Why the disk refuses a record. Failed: it has room for one more slot and the gate after it, and it failed in the
+-- call. Full: it has no room, and was not called.
 abbrev pub HasAppendCause : {D : Type 0} → Ghosts D → PeerValue D → PeerValue D → DiskError → Type 0
 HasAppendCause disk old new errors.Failed = (slot_length * (length old.state.journal + 1) + 1 ≤ disk.capacity old.disk) × (disk.failures old.disk < disk.failures new.disk)
 HasAppendCause disk old new errors.Full = (disk.capacity old.disk < slot_length * (length old.state.journal + 1) + 1) × (new.disk ≡ old.disk)
 
--- what the disk answers to a record, by what it did with it
+-- the disk's answer to a record
 abbrev pub disk_answer : Luck → Answer
 disk_answer Works = Ok tt
 disk_answer (Refuses why) = Err why
 
--- What a tick, a delivery, a leave, a decision and a checkpoint answer for, of a peer before the call and after it. The record that it adds is
--- that of `added`.
+-- The contract of a tick, a delivery, a leave, a decision and a checkpoint, for a peer before and after the call.
+-- `added` is the record that the call adds.
 --
--- - `step`: it is the one step of the definitions.
--- - `cause`: the disk is blamed for a refusal only where it has one.
--- - `full`: where it has no room for the record and the gate after it, it refuses the record as Full.
+-- - `step`: the call is exactly the step of the definitions.
+-- - `cause`: the answer blames the disk only if the disk had a cause.
+-- - `full`: if the disk has no room for the record and the gate after it, the answer is Full.
 -- - `any_moment`: what a crash inside the call may leave.
--- - `journal`: what a crash after it may leave.
--- - `asks`: where it adds a record the disk is asked to append that, after those of the journal.
--- - `untouched`: where it adds none the disk is not called.
--- - `changes`: at most four writes and syncs in all.
--- - `ran`: how many frames it tells as run.
+-- - `journal`: what a crash after the call may leave.
+-- - `asks`: if the call adds a record, it asks the disk to append that record to the journal, and nothing else.
+-- - `untouched`: if it adds none, it does not call the disk.
+-- - `changes`: it makes at most four writes and syncs.
+-- - `ran`: how many frames it ran.
 -- - `same`: match, player and disk stay.
 pub record IsAnswered {D : Type 0} (disk : Ghosts D) (old : PeerValue D) (call : Call) (reply : Reply) (new : PeerValue D) : Type 0 where
   pub step : IsStep old call reply new
@@ -241,14 +241,14 @@ pub record IsAnswered {D : Type 0} (disk : Ghosts D) (old : PeerValue D) (call :
   pub ran : TellsFrames old call reply new
   pub same : IsSamePeer disk old new
 
--- What is so of every peer between two calls.
+-- What holds for every peer between two calls.
 --
--- - `range`, `low`, `plays`: its rules are those of a game, its room is one of 64 bits, and it is the peer of a player.
--- - `is_journal`, `found_is`: its journal is one of this match and player, with the pending record too.
+-- - `range`, `low`, `plays`: its rules are those of a game, its room has 64 bits, and it is the peer of a player.
+-- - `is_journal`, `found_is`: its journal is one of this match and player, also with the pending record.
 -- - `memory`, `epoch_is`: the memory is in order, and its epoch is the journal's last.
--- - `held`, `none_pending`: it is open, and then no record is pending, or down.
+-- - `held`, `none_pending`: it is open and has no pending record, or it is down.
 -- - `leaves`: what a crash now leaves.
--- - `still`: the same as a run of no calls, so that it joins to the runs of calls.
+-- - `still`: `leaves` as a run of no disk calls, so that it joins to the runs of calls.
 pub record IsSound {D : Type 0} (disk : Ghosts D) (p : PeerValue D) : Type 0 where
   pub range : AreInRange p.rules
   pub low : p.room < 2 ^ 64
@@ -262,8 +262,8 @@ pub record IsSound {D : Type 0} (disk : Ghosts D) (p : PeerValue D) : Type 0 whe
   pub leaves : LeavesJournal disk p
   pub still : LeavesOnly disk p.disk p.disk (KeepsWithOrWithout p.state.journal p.state.pending)
 
--- What is said: a packet that the bytes spell, which is the answer to the call, and true of the journal. The mark that DATA carries is
--- true where the journal's checkpoints are.
+-- The bytes that a peer says spell a packet. The packet is the answer to the call, and true of the journal. DATA
+-- carries a mark, so it is true if the journal's checkpoints are.
 pub record IsSaid {D : Type 0} (p : PeerValue D) (call : Call) (bytes : List ℕ) : Type 0 where
   pub packet : Packet
   pub spelled : Spells bytes packet

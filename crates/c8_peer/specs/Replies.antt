@@ -1,4 +1,4 @@
--- What an answer tells of the peer that gave it.
+-- Which mode a peer is in, read from its answer.
 use Rattle.std.specs.Prelude.{Ok, Err}
 use Rattle.c8_peer.specs.State.{Mode, Open, Down, Away, Reply, Opened, Ticked, Delivered, Said, Left, Decided, Checked}
 use Rattle.c8_peer.specs.Steps.{Luck, Works, Refuses}
@@ -8,8 +8,8 @@ abbrev pub mode_by : Luck → Mode
 mode_by Works = Open
 mode_by (Refuses why) = Down
 
--- How a peer stands that has answered so: open or away after an opening; and open after a call, unless it tells that the disk
--- refused the record.
+-- The mode of a peer after this answer. After an opening it is open or away. After a call it is down if the disk
+-- refused the record, else open.
 abbrev pub mode_told : Reply → Mode
 mode_told (Opened (Ok epoch)) = Open
 mode_told (Opened (Err error)) = Away

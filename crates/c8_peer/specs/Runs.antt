@@ -1,4 +1,4 @@
--- A run of one peer: what is done to it, one deed after another, and what it answers.
+-- A run of one peer: its deeds, one after another, and its answers.
 use Rattle.std.specs.Prelude.{◌≡◌, ◌≢◌, ℕ, List, [], ◌∷◌, Bool, false, Option, Some, None, Ok, Err}
 use Rattle.std.specs.List.{slice_get}
 use Rattle.c8_game.specs.Rules.{Rules}
@@ -19,7 +19,7 @@ use Rattle.c8_record.specs.Allowed.{IsJournal}
 use Rattle.c8_peer.specs.TrueChecks.{HasTrueChecks}
 use Rattle.c8_peer.specs.Lawful.{IsMemory, IsCall}
 
--- a peer that was never opened: nothing is asked of its memory
+-- a peer that was never opened; its memory does not matter
 abbrev pub never_opened : State
 never_opened = record {
   journal = [];
@@ -37,9 +37,13 @@ never_opened = record {
 
 -- ---- deeds
 
--- A call, and what the disk does with its record; an opening, by whether the reading finds the pending record and what
--- becomes of it; a close; or a call or an opening inside which a crash stops the peer, by whether it leaves the pending record.
--- A disk may refuse in any of them: that it has a cause is said of real calls.
+-- What can happen to a peer. A disk may refuse in any deed; that it had a cause stands in the contracts of the calls.
+--
+-- - `Does`: a call, and what the disk does with its record.
+-- - `Opens`: an opening. `finds`: whether its read finds the pending record. `opening`: how it ends.
+-- - `Closes`: a close.
+-- - `Stops`, `StopsOpening`: a call or an opening, then a crash. `leaves`: whether the crash leaves the record that is
+--   pending then.
 pub data Deed : Type 0 where
   Does : (call : Call) → (luck : Luck) → Deed
   Opens : (finds : Bool) → (opening : Opening) → Deed
@@ -47,7 +51,7 @@ pub data Deed : Type 0 where
   Stops : (call : Call) → (luck : Luck) → (leaves : Bool) → Deed
   StopsOpening : (finds : Bool) → (opening : Opening) → (leaves : Bool) → Deed
 
--- what is answered, if anything is, and the state after it
+-- the answer, if there is one, and the state after it
 pub record After : Type 0 where
   pub answer : Option Reply
   pub state : State
@@ -55,11 +59,11 @@ pub record After : Type 0 where
 abbrev pub as_answered : Stepped → After
 as_answered stepped = record { answer = Some stepped.reply; state = stepped.state }
 
--- a crash makes a peer away, with its journal as a reading of the disk finds it; nothing is pending then
+-- After a crash the peer is away, its journal is what a read of the disk finds, and nothing is pending.
 abbrev pub crashed : State → Bool → State
 crashed s leaves = away s (found s leaves) None
 
--- A stop is the call or the opening and then a crash, whatever it came to.
+-- The answer and the state after a deed. A stop does the whole call or opening and then crashes, without an answer.
 abbrev pub after : Rules → ℕ → ℕ → State → Deed → After
 after rules room me s (Does call luck) = as_answered (step rules me s call luck)
 after rules room me s (Opens finds opening) = as_answered (opened rules room me s (found s finds) opening)
@@ -67,7 +71,7 @@ after rules room me s Closes = record { answer = None; state = away s s.journal 
 after rules room me s (Stops call luck leaves) = record { answer = None; state = crashed (step rules me s call luck).state leaves }
 after rules room me s (StopsOpening finds opening leaves) = record { answer = None; state = crashed (opened rules room me s (found s finds) opening).state leaves }
 
--- only a peer that is down or away is opened, and an opening comes to what it may
+-- only a peer that is down or away is opened, and the opening ends in a possible way
 abbrev pub MayOpen : Rules → ℕ → ℕ → State → Bool → Opening → Type 0
 MayOpen rules room me s finds opening = (s.mode ≢ states.Open) × MayBecome rules room me (found s finds) opening
 
@@ -78,48 +82,48 @@ MayDo rules room me s Closes = Unit {0}
 MayDo rules room me s (Stops call luck leaves) = IsCall call
 MayDo rules room me s (StopsOpening finds opening leaves) = MayOpen rules room me s finds opening
 
--- a deed may be answered so and leave this state
+-- the deed is possible, and has this answer and this next state
 pub record IsDone (rules : Rules) (room me : ℕ) (s : State) (deed : Deed) (answer : Option Reply) (t : State) : Type 0 where
   pub may : MayDo rules room me s deed
   pub is : after rules room me s deed ≡ record { answer = answer; state = t }
 
 -- ---- runs
 
--- a list of deeds, one answer each, leads from a state to another
+-- the deeds, with one answer each, lead from one state to another
 abbrev pub IsRun : Rules → ℕ → ℕ → State → List Deed → List (Option Reply) → State → Type 0
 IsRun rules room me s [] [] t = t ≡ s
 IsRun rules room me s [] (answer ∷ answers) t = ⊥
 IsRun rules room me s (deed ∷ deeds) [] t = ⊥
 IsRun rules room me s (deed ∷ deeds) (answer ∷ answers) t = (u : State) × IsDone rules room me s deed answer u × IsRun rules room me u deeds answers t
 
--- some run leads to this state, from before the peer is first opened
+-- some run leads to this state from before the first opening
 pub record IsReached (rules : Rules) (room me : ℕ) (s : State) : Type 0 where
   pub deeds : List Deed
   pub answers : List (Option Reply)
   pub run : IsRun rules room me never_opened deeds answers s
 
--- A state from which a run may begin: what a reading of the disk finds is a journal of the rules; and while the peer is open its
--- memory is in order, and nothing is pending.
+-- A state from which a run may begin. A read of the disk finds a journal of the rules. If the peer is open, its memory
+-- is in order and nothing is pending.
 pub record IsLawful (rules : Rules) (room me : ℕ) (s : State) : Type 0 where
   pub journal : (finds : Bool) → IsJournal rules me room (found s finds)
   pub memory : s.mode ≡ states.Open → IsMemory rules room me s.journal s.memory
   pub settled : s.mode ≡ states.Open → s.pending ≡ None
 
--- what a reading of the disk finds of checkpoints is true
+-- the checkpoints that a read of the disk finds are true
 abbrev pub TellsTruly : Rules → ℕ → State → Type 0
 TellsTruly rules me s = (finds : Bool) → HasTrueChecks rules me (found s finds)
 
--- the packet is said in one of these answers
+-- one of the answers says the packet
 abbrev pub IsAmong : List (Option Reply) → Packet → Type 0
 IsAmong answers packet = (n : ℕ) × (slice_get answers n ≡ Some (Some (Said (Ok packet))))
 
--- what the player knows by the journal of a state
+-- what the player knows from the journal of a state
 abbrev pub known_at : Rules → ℕ → State → KnownValue
 known_at rules me s = known_of rules me s.journal
 
--- ---- what disks tell
+-- ---- what a crash leaves on a disk
 
--- An image that a crash inside an opening left keeps what a stop in a run finds.
+-- An image that a crash inside an opening left: it keeps what a stop in a run finds.
 pub record IsStoppedOpening (rules : Rules) (room me : ℕ) (s : State) (image : List ℕ) : Type 0 where
   pub finds : Bool
   pub opening : Opening
@@ -128,12 +132,11 @@ pub record IsStoppedOpening (rules : Rules) (room me : ℕ) (s : State) (image :
   pub keeps : Keeps (found (opened rules room me s (found s finds) opening).state leaves) image
 
 module _ {D : Type 0} (disk : Ghosts D) where
-  -- each image that a crash now leaves of a disk keeps the journal of a state, with its pending record or without
+  -- each image that a crash of the disk may leave now keeps the journal of a state, with its pending record or without
   abbrev pub Tells : State → D → Type 0
   Tells s d = (image : List ℕ) → disk.may_leave d image → (finds : Bool) × Keeps (found s finds) image
 
-  -- An opening that a disk with this journal refused: the answer is one of the definitions', and what is left of the disk tells
-  -- the state then.
+  -- A refused opening. It is a deed with this answer, and the disk that is left has the journal of the state after it.
   pub record IsRefusedDeed (rules : Rules) (room me : ℕ) (s : State) (finds : Bool) (error : OpenError) (left : D) : Type 0 where
     pub opening : Opening
     pub deed : IsDone rules room me s (Opens finds opening) (Some (Opened (Err error))) (opened rules room me s (found s finds) opening).state

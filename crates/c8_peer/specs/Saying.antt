@@ -1,4 +1,4 @@
--- What a peer says when it is asked to, or why it does not. Each line is a refusal, in the order in which they are judged.
+-- What a peer says when it is asked to, or why it refuses. The refusals stand in the order of judging.
 use Rattle.std.specs.Prelude.{ℕ, ◌==◌, ◌||◌, List, take, drop, replicate, unwrap_or, Bool, false, not, is_none, Option, Some, None, Ok, Err, if◌then◌else◌}
 use Rattle.c8_game.specs.Rules.{Rules}
 use Rattle.c8_wire.specs.Sizes.{most_rows}
@@ -17,9 +17,9 @@ use Rattle.c8_refusals.specs.declared.error.Unsayable.TheVariants as unsayables
 use Rattle.c8_peer.specs.Told.{Told}
 use Rattle.c8_peer.specs.State.{Memory, seen_by, Saying, Hello, Welcome, Data, Freeze, Frozen, Cut, Said, Outcome, answered}
 
--- ---- what may not be said
+-- ---- what a peer refuses to say
 
--- FREEZE and CUT are player one's, FROZEN the others' to player one, and FREEZE is not for the leaver
+-- Only player one says FREEZE and CUT, and no FREEZE to the leaver. Only the others say FROZEN, and only to player one.
 abbrev pub is_not_mine : KnownValue → ℕ → Saying → Bool
 is_not_mine k to Hello = false
 is_not_mine k to Welcome = false
@@ -28,7 +28,7 @@ is_not_mine k to (Freeze leaver) = not (k.me == 1) || to == leaver
 is_not_mine k to (Frozen leaver) = k.me == 1 || not (to == 1)
 is_not_mine k to (Cut leaver) = not (k.me == 1)
 
--- the journal has no record of what would be told
+-- the journal has no record of what the saying would tell
 abbrev pub lacks_record : KnownValue → Saying → Bool
 lacks_record k Hello = false
 lacks_record k Welcome = false
@@ -37,7 +37,7 @@ lacks_record k (Freeze leaver) = not (player_in k leaver).leaving
 lacks_record k (Frozen leaver) = not (player_in k leaver).frozen
 lacks_record k (Cut leaver) = is_none (player_in k leaver).cut
 
--- a WELCOME wants an epoch of the other player, and what is no HELLO either an open link
+-- A HELLO needs no link, a WELCOME the other player's epoch, and all else an open link.
 abbrev pub lacks_link : Memory → ℕ → Saying → Bool
 lacks_link m to Hello = false
 lacks_link m to Welcome = (link_to m.links to).known == 0
@@ -46,17 +46,17 @@ lacks_link m to (Freeze leaver) = not (link_to m.links to).is_open
 lacks_link m to (Frozen leaver) = not (link_to m.links to).is_open
 lacks_link m to (Cut leaver) = not (link_to m.links to).is_open
 
--- ---- what is said
+-- ---- what a peer says
 
--- a player's held inputs from a start on, as many as one datagram carries
+-- a player's held inputs from `start` on, as many as one datagram carries
 abbrev pub run_from : Rules → KnownValue → ℕ → ℕ → List ℕ
 run_from rules k q start = carried rules.wire (drop start (player_in k q).held)
 
--- the newest mark that is kept: that at the greatest multiple of 32 confirmed frames (there always is one)
+-- the newest mark: the one at the greatest multiple of 32 confirmed frames, which always exists
 abbrev pub newest_mark : Told → FrameMark
 newest_mark t = unwrap_or (newest_of t.marks) (record { frame = 0; mark = replicate mark_length 0 })
 
--- the length at which a list is cut (a list that is not cut is not asked for)
+-- the length at which a list is cut; never used for a list that is not cut
 abbrev pub cut_length : Option ℕ → ℕ
 cut_length None = 0
 cut_length (Some K) = K
@@ -97,9 +97,9 @@ say rules t k m to what =
     else (if lacks_link m to what then answered m (Said (Err unsayables.NoLink))
     else answered m (Said (Ok (packet rules t k m to what)))))))
 
--- ---- what is said to a watcher
+-- ---- what a peer says to a watcher
 
--- the confirmed rows from the first one on that the watcher has not, as many as one datagram has
+-- the confirmed rows from the first that the watcher has not acknowledged, as many as one datagram has
 abbrev pub rows_for : KnownValue → Memory → ℕ → Message
 rows_for k m watcher = packets.Show (record {
   start = seen_by m.seen watcher;

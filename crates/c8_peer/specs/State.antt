@@ -1,4 +1,4 @@
--- What a peer is: its journal, whether it is open, and what it keeps in memory.
+-- The state of a peer: its journal, its mode, and its memory. Then its calls and their answers.
 use Rattle.std.specs.Prelude.{ℕ, ◌==◌, List, Option, Some, None, Bool, false, Result, if◌then◌else◌}
 use Rattle.c8_game.specs.Rules.{Rules}
 use Rattle.c8_wire.specs.declared.error.WireError.{WireError}
@@ -19,7 +19,7 @@ use Rattle.c8_peer.specs.declared.heard.Heard.{Heard}
 
 -- ---- the state
 
--- how many rows the watchers in seats 5 and 6 have told that they have
+-- how many rows the watchers in seats 5 and 6 have acknowledged
 pub record SeenValue : Type 0 where
   pub five : ℕ
   pub six : ℕ
@@ -33,8 +33,8 @@ seen_by s watcher = if watcher == 5 then s.five else (if watcher == 6 then s.six
 abbrev pub with_seen : SeenValue → ℕ → ℕ → SeenValue
 with_seen s watcher rows = record { five = if watcher == 5 then rows else s.five; six = if watcher == 6 then rows else s.six }
 
--- What begins anew with each opening: the links, how many of the own inputs each player has acknowledged, what is kept of
--- a drop round, whether another peer's machine was seen to differ, and how many rows each watcher has.
+-- What a peer loses with each opening: the links, how many own inputs each player has acknowledged, the answers of drop
+-- rounds, whether another peer's machine differed, and how many rows each watcher has acknowledged.
 pub record Memory : Type 0 where
   pub links : LinksValue
   pub acks : WindowValue
@@ -43,21 +43,21 @@ pub record Memory : Type 0 where
   pub alarm : Bool
   pub seen : SeenValue
 
--- open; down, since the disk refused a record; or away
+-- open; down, after the disk refused a record; or away
 pub data Mode : Type 0 where
   Open : Mode
   Down : Mode
   Away : Mode
 
--- The journal is what has been recorded. A record that the disk refused is pending: the next reading of the disk finds the
--- journal without it or with it.
+-- The journal has all records that stand. A record that the disk refused is pending: the next read of the disk finds
+-- the journal with it or without.
 pub record State : Type 0 where
   pub journal : List Record
   pub pending : Option Record
   pub mode : Mode
   pub memory : Memory
 
--- the memory of a peer that has just been opened in an epoch
+-- the memory of a peer right after its opening, in an epoch
 abbrev pub fresh_memory : Rules → ℕ → ℕ → ℕ → Memory
 fresh_memory rules room me epoch = record {
   links = no_links rules me room epoch;
@@ -68,9 +68,9 @@ fresh_memory rules room me epoch = record {
   seen = none_seen;
 }
 
--- ---- what happens to an open peer, and what it answers
+-- ---- calls and answers
 
--- what a peer may be asked to say; a leaver is a player's number
+-- what a peer can be asked to say; a leaver is a player's number
 pub data Saying : Type 0 where
   Hello : Saying
   Welcome : Saying
@@ -79,19 +79,20 @@ pub data Saying : Type 0 where
   Frozen : (leaver : ℕ) → Saying
   Cut : (leaver : ℕ) → Saying
 
--- A call; what is delivered is what the bytes say, a packet or the wire's refusal. A checkpoint is recorded piece by piece, one a call.
+-- The calls. A delivery has what the bytes spell: a packet, or the refusal of the wire format. Each checkpoint call
+-- records one piece.
 pub data Call : Type 0 where
   Tick : (keys : ℕ) → Call
   Deliver : (told : Result Packet WireError) → Call
   Say : (to : ℕ) → (what : Saying) → Call
-  -- rows for a watcher
+  -- says rows to a watcher
   Show : (watcher : ℕ) → Call
   Leave : (leaver : ℕ) → Call
   Decide : (leaver : ℕ) → Call
   Checkpoint : Call
 
--- The answer to an opening and to each call: an opening answers its epoch, a saying the packet that is said, a decision the
--- length at which it cuts, a checkpoint the piece that was recorded or that it is whole.
+-- The answers. An opening answers its epoch, a saying its packet, a decision the length of the cut list, and a
+-- checkpoint which record it added.
 pub data Reply : Type 0 where
   Opened : Result ℕ OpenError → Reply
   Ticked : Result (Unit {0}) TickError → Reply
@@ -101,7 +102,7 @@ pub data Reply : Type 0 where
   Decided : Result ℕ DecideError → Reply
   Checked : Result Check CheckError → Reply
 
--- What a call comes to where the disk takes what it records: the answer, at most one record, and the memory after it.
+-- What a call does if the disk takes its record: the answer, at most one record, and the memory after it.
 pub record Outcome : Type 0 where
   pub reply : Reply
   pub keeps : Option Record

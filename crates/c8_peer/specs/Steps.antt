@@ -1,4 +1,4 @@
--- The step of a peer: what a call comes to, and what the disk makes of it.
+-- The step of a peer: what a call does, with a disk that takes or refuses its record.
 use Rattle.std.specs.Prelude.{◌≢◌, ℕ, [], ◌∷◌, ◌++◌, Option, Some, None, Err, IsErr, IsErrAnd}
 use Rattle.c8_game.specs.Rules.{Rules}
 use Rattle.c8_disk.specs.declared.error.DiskError.{DiskError}
@@ -16,7 +16,7 @@ use Rattle.c8_peer.specs.Calls.{tick, leave, decide, checkpoint}
 use Rattle.c8_peer.specs.Hearing.{deliver}
 use Rattle.c8_peer.specs.Saying.{say, show}
 
--- what a call of an open peer comes to, by what its journal tells
+-- what a call of an open peer does, given what its journal tells
 abbrev pub outcome : Rules → Told → KnownValue → Memory → Call → Outcome
 outcome rules t k m (Tick keys) = tick rules k m keys
 outcome rules t k m (Deliver told) = deliver rules t k m told
@@ -26,12 +26,12 @@ outcome rules t k m (Leave leaver) = leave k m leaver
 outcome rules t k m (Decide leaver) = decide k m leaver
 outcome rules t k m Checkpoint = checkpoint t k m
 
--- What the disk does with a record: it takes it, or it refuses. Where there is nothing to record this says nothing.
+-- What the disk does with the record of a call: it takes or refuses it. Without a record it has no meaning.
 pub data Luck : Type 0 where
   Works : Luck
   Refuses : DiskError → Luck
 
--- the answer where the disk refused the record (a saying records nothing)
+-- the answer if the disk refused the record; a saying records nothing, so its answer is never used
 abbrev pub refused_by_disk : Call → DiskError → Reply
 refused_by_disk (Tick keys) why = Ticked (Err (ticks.Disk why))
 refused_by_disk (Deliver told) why = Delivered (Err (refusals.Disk why))
@@ -56,8 +56,8 @@ pub record Stepped : Type 0 where
   pub reply : Reply
   pub state : State
 
--- A record that the disk takes stands, and the memory is the call's. One that it refuses is pending: the peer is down, and
--- all else is as it was.
+-- If the disk takes the record, it stands, and the memory is the call's. If the disk refuses it, it is pending, the
+-- peer is down, and nothing else changes.
 abbrev pub done : State → Call → Outcome → Option Record → Luck → Stepped
 done s call o None luck = record { reply = o.reply; state = record s { memory = o.memory } }
 done s call o (Some r) Works = record { reply = o.reply; state = record s { journal = s.journal ++ r ∷ []; memory = o.memory } }
@@ -74,7 +74,7 @@ step rules me s call luck = at_mode s call (outcome rules (told_of rules me s.jo
 
 -- ---- refusals
 
--- A call is refused, but not by the disk, and not by Desync. An opening is no call.
+-- The answer refuses a call, but not with Disk or Desync. An opening is no call.
 abbrev pub IsPlainRefusal : Reply → Type 0
 IsPlainRefusal (Opened result) = ⊥
 IsPlainRefusal (Ticked result) = IsErrAnd result (λ error. (why : DiskError) → error ≢ ticks.Disk why)

@@ -1,5 +1,5 @@
--- What a journal tells beside the inputs that are known by it: the machine that its player runs, which begins where the last opening
--- found a checkpoint, and what it says of checkpoints.
+-- What a journal tells besides inputs: the player's machine, which begins at the last checkpoint that the last opening
+-- found, and the journal's checkpoints.
 use Rattle.std.specs.Prelude.{ℕ, List}
 use Rattle.c8_game.specs.Rules.{Rules}
 use Rattle.c8_digest.specs.declared.marks.FrameMark.{FrameMark}
@@ -10,7 +10,7 @@ use Rattle.c8_known.specs.Confirmed.{confirmed}
 use Rattle.c8_check.specs.Checks.{ChecksValue, checks_of, save_bytes, begun_at}
 use Rattle.c8_roll.specs.Roll.{marks_since, origin_at}
 
--- the marks that are kept, what is said of checkpoints, and the bytes of a checkpoint at a number of confirmed frames
+-- the marks, the checkpoints of the journal, and the bytes that a checkpoint after n confirmed frames saves
 pub record Told : Type 0 where
   pub marks : List FrameMark
   pub checks : ChecksValue

@@ -1,4 +1,4 @@
--- When the checkpoints of a journal are true: a machine that begins at one goes on as the one that was never stopped.
+-- When the checkpoints of a journal are true: a machine that begins at one runs as if it had never stopped.
 use Rattle.std.specs.Prelude.{◌≡◌, ◌≤◌, ℕ, Bool, true, false, List, take, Some}
 use Rattle.std.specs.List.{list_all}
 use Rattle.c8_game.specs.Rules.{Rules}
@@ -10,16 +10,16 @@ use Rattle.c8_known.specs.Confirmed.{confirmed, rows_below}
 use Rattle.c8_check.specs.Checks.{Pieces, checks_of, begun_at, save_bytes, before_piece}
 use Rattle.c8_roll.specs.Roll.{marks_up_to, IsOnTheWay}
 
--- the machine and the marks after so many confirmed frames, all of them run from the first on
+-- the machine and the marks after n confirmed frames, run from the first frame on
 abbrev pub serial_at : Rules → KnownValue → ℕ → Origin
 serial_at rules k n = record { frames = n; machine = serial rules (rows_below k n); marks = marks_up_to rules k n }
 
--- the pieces are the first of that machine and its marks
+-- the pieces under way are the first pieces of that machine and its marks
 pub record AreTruePieces (rules : Rules) (k : KnownValue) (p : Pieces) : Type 0 where
   pub confirmed_is : p.frames ≤ confirmed k
   pub bytes_are : p.bytes ≡ take (before_piece p.count) (save_bytes (serial_at rules k p.frames))
 
--- no record is one of a checkpoint
+-- the record is not one of a checkpoint
 abbrev pub is_no_check : Record → Bool
 is_no_check (Head player form id room) = true
 is_no_check (Epoch player number form) = true
@@ -38,8 +38,8 @@ SaysNoCheck journal = list_all is_no_check journal ≡ true
 abbrev pub HasTrueLast : Rules → ℕ → List Record → Type 0
 HasTrueLast rules me journal = (from : Origin) → (checks_of journal).last ≡ Some from → IsOnTheWay rules (known_of rules me journal) from
 
--- What a peer keeps true of its own journal: where its machine began at the last opening, where it would begin at the next, and the
--- pieces that it has recorded since.
+-- What each peer keeps true for its own journal: where its machine began at the last opening, where it would begin at
+-- the next, and the pieces recorded since.
 pub record HasTrueChecks (rules : Rules) (me : ℕ) (journal : List Record) : Type 0 where
   pub begun : IsOnTheWay rules (known_of rules me journal) (begun_at rules journal)
   pub last : HasTrueLast rules me journal

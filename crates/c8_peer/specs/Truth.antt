@@ -1,4 +1,4 @@
--- When a datagram is true of a journal of its sender.
+-- When a datagram is true: its sender's journal holds what it says.
 use Rattle.std.specs.Prelude.{◌≡◌, ℕ, ◌*◌, ◌≤◌, List, ◌∷◌, ◌++◌, true, Some}
 use Rattle.c8_game.specs.Rules.{Rules}
 use Rattle.c8_machine.specs.Serial.{serial}
@@ -11,21 +11,21 @@ use Rattle.c8_known.specs.Confirmed.{confirmed, rows_below, confirmed_rows}
 use Rattle.c8_known.specs.Growth.{Stands}
 use Rattle.c8_digest.specs.Marks.{mark_step}
 
--- the mark is that of the machine after so many first confirmed rows, a multiple of 32
+-- the mark is that of the machine after the first `frame` confirmed rows, a multiple of 32
 pub record IsTrueMark (rules : Rules) (me : ℕ) (journal : List Record) (frame : ℕ) (mark : List ℕ) : Type 0 where
   pub steps : ℕ
   pub at : frame ≡ mark_step * steps
   pub confirmed : frame ≤ confirmed (known_of rules me journal)
   pub is : mark ≡ mark_of (serial rules (rows_below (known_of rules me journal) frame))
 
--- A FREEZE of the player stands, and the records before it hold at most so many of its inputs.
+-- The journal has a FREEZE of the leaver, and the records before it hold at most n of its inputs.
 pub record IsFrozenAt (rules : Rules) (leaver n : ℕ) (journal : List Record) : Type 0 where
   pub before : List Record
   pub rest : List Record
   pub is : journal ≡ before ++ Freeze leaver ∷ rest
   pub few : count rules leaver before ≤ n
 
--- what a message says to a player or a watcher is true of a journal of `me`; no player says SEEN
+-- What a message says to player or watcher `to` is true of the journal of `me`. No player says SEEN.
 abbrev pub IsTrueMessage : Rules → ℕ → ℕ → List Record → Message → Type 0
 IsTrueMessage rules me to journal packets.Hello = Unit {0}
 IsTrueMessage rules me to journal (packets.Welcome ack) = ack ≤ count rules to journal
@@ -38,7 +38,7 @@ IsTrueMessage rules me to journal (packets.Cut c) = (me ≡ 1) × (cut_of c.leav
 IsTrueMessage rules me to journal (packets.Show m) = (me ≡ 1) × Stands m.start m.rows (confirmed_rows (known_of rules me journal))
 IsTrueMessage rules me to journal (packets.Seen ack) = ⊥
 
--- DATA alone carries a mark, and so speaks of the machine.
+-- Only DATA carries a mark, so only DATA says something about the machine.
 abbrev pub CarriesMark : Message → Type 0
 CarriesMark packets.Hello = ⊥
 CarriesMark (packets.Welcome ack) = ⊥

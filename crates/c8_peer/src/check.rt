@@ -1,11 +1,11 @@
-//! How far a checkpoint is.
+//! The progress of a checkpoint.
 
-/// What a call recorded of a checkpoint.
+/// Which record of a checkpoint a call added.
 #[derive(Clone, Copy, Debug, PartialEq, Eq, Hash)]
 pub enum Check {
-    /// The piece of this number, 0 to 35.
+    /// The piece with this number, 0 to 35.
     Piece(u32),
-    /// The digest of all pieces: the checkpoint, after so many frames, is whole, and the next opening begins
-    /// there.
+    /// The digest of all pieces. The checkpoint after this number of frames is complete, and the
+    /// next opening begins there.
     Done(u32),
 }

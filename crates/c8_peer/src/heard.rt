@@ -1,14 +1,14 @@
-//! What a delivery did.
+//! The answer to a datagram that the peer took.
 
 /// What a datagram that was taken did.
 #[derive(Clone, Copy, Debug, PartialEq, Eq, Hash)]
 pub enum Heard {
-    /// It brought nothing for the journal; links, acknowledgements and what is kept of a drop round
-    /// may have changed.
+    /// It added no record. The memory may have changed: links, acknowledgements, a drop round, or a
+    /// watcher's rows.
     Nothing,
-    /// It brought something that is in the journal now, as one record.
+    /// It added one record to the journal.
     Kept,
-    /// This peer's player has been dropped: its journal says so now, and only readers serve from
-    /// now on.
+    /// Player one has dropped this peer's player. The journal has the record, and only readers work
+    /// from now on.
     Out,
 }

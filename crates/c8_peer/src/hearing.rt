@@ -1,4 +1,4 @@
-//! What an admitted datagram comes to, or why it is refused. Nothing here changes anything.
+//! Decides what to do with an admitted datagram, or why to refuse it. Nothing here changes the peer.
 ghost use Rattle.std.specs.Prelude.{◌≡◌, ℕ, ◌+◌, ◌≤◌, ◌<◌, false, MatchResult, IfOk, IfErr, OnOk};
 ghost use Rattle.c8_game.specs.Rules.{Rules};
 ghost use Rattle.c8_wire.specs.Packet.{HeadValue};
@@ -27,7 +27,7 @@ use c8_record::Record;
 use c8_refusals::Refused;
 use c8_wire::{Cut, Data, Datagram, Freeze, Frozen, Run, Welcome};
 
-/// What a datagram of player q comes to.
+/// Judges an admitted datagram of player `q`.
 pub(crate) fn judge<'a>(
     known: &Known,
     marks: &Marks,
@@ -53,7 +53,7 @@ pub(crate) fn judge<'a>(
     }
 }
 
-/// How many rows a SEEN tells of.
+/// Returns how many rows a SEEN acknowledges; `None` for other kinds.
 pub(crate) fn rows_seen(datagram: &Datagram<'_>) -> Option<u32>
     ensures { result ≡ seen_in (packet_of datagram.now).message }
 {
@@ -99,7 +99,7 @@ fn judge_welcome<'a>(known: &Known, welcome: &Welcome<'a>) -> Result<Verdict<'a>
     Ok(Verdict::Nothing)
 }
 
-/// The sender's inputs, and its mark.
+/// Judges the sender's inputs, its acknowledgement and its mark.
 #[tactic(auto, unfolding(crate::specs::Hearing::hear_data, crate::specs::Hearing::is_desync))]
 fn judge_data<'a>(
     known: &Known,
@@ -126,7 +126,8 @@ fn judge_data<'a>(
     Ok(got(known, q, fresh))
 }
 
-/// Whether the sender's mark differs from the own one of the same frame, where that is kept.
+/// Returns whether the sender's mark differs from the own mark of the same frame. A frame without an
+/// own mark never differs.
 fn differs(marks: &Marks, data: &Data<'_>) -> bool
     ensures { result ≡ differs_from (mark_at (data_of data.now).mark_frame marks.now)
         (data_of data.now).mark }
@@ -143,7 +144,7 @@ fn are_apart(own: &[u8; MARK_LENGTH], theirs: &[u8; MARK_LENGTH]) -> bool
     *own != *theirs
 }
 
-/// Player one lets a player go.
+/// Judges a FREEZE: player one has dropped a player.
 #[tactic(auto, unfolding(crate::specs::Hearing::hear_freeze))]
 fn judge_freeze<'a>(known: &Known, q: Player, freeze: &Freeze<'a>) -> Result<Verdict<'a>, Refused>
     ensures { (m : Memory)
@@ -166,7 +167,7 @@ fn judge_freeze<'a>(known: &Known, q: Player, freeze: &Freeze<'a>) -> Result<Ver
     Ok(Verdict::Keep(Record::Freeze { player: leaver }, Heard::Kept))
 }
 
-/// A player answers player one what it holds of a leaver.
+/// Judges a FROZEN: a player answers how many inputs of a leaver it holds, and brings some.
 #[tactic(auto, unfolding(crate::specs::Hearing::hear_frozen))]
 fn judge_frozen<'a>(known: &Known, q: Player, frozen: &Frozen<'a>) -> Result<Verdict<'a>, Refused>
     ensures { (m : Memory)
@@ -196,7 +197,7 @@ fn judge_frozen<'a>(known: &Known, q: Player, frozen: &Frozen<'a>) -> Result<Ver
     Ok(got(known, leaver, fresh))
 }
 
-/// Player one has cut a leaver's list.
+/// Judges a CUT: player one has cut a leaver's list. If it is the own player's, the peer is out.
 #[tactic(auto, unfolding(crate::specs::Hearing::hear_cut))]
 fn judge_cut<'a>(known: &Known, q: Player, cut: &Cut<'a>) -> Result<Verdict<'a>, Refused>
     ensures { (m : Memory)
@@ -218,7 +219,7 @@ fn judge_cut<'a>(known: &Known, q: Player, cut: &Cut<'a>) -> Result<Verdict<'a>,
     judge_end(known, q, leaver, cut)
 }
 
-/// Where the list of a leaver ends.
+/// Judges the end of another leaver's list, once the sender and the leaver are right.
 fn judge_end<'a>(
     known: &Known,
     q: Player,
@@ -238,7 +239,7 @@ fn judge_end<'a>(
     }
 }
 
-/// The same of a list that is not cut here yet.
+/// Judges the end of a list that is not cut here yet.
 fn judge_first_end<'a>(
     known: &Known,
     q: Player,
@@ -257,7 +258,7 @@ fn judge_first_end<'a>(
     Ok(cut_or_got(known, leaver, cut.length(), fresh))
 }
 
-/// The new inputs of a player, where its list may be whole with them: then it is cut.
+/// Keeps new inputs of a leaver. If they complete its list, cuts the list in the same record.
 fn cut_or_got<'a>(known: &Known, player: Player, length: u32, run: Run<'a>) -> Verdict<'a>
     requires { Plays known.now player.number }
     ensures value { (m noted : Memory)
@@ -278,7 +279,7 @@ fn cut_or_got<'a>(known: &Known, player: Player, length: u32, run: Run<'a>) -> V
     got(known, player, run)
 }
 
-/// The new inputs of a player.
+/// Keeps new inputs of a player, if there are any.
 fn got<'a>(known: &Known, player: Player, run: Run<'a>) -> Verdict<'a>
     requires { Plays known.now player.number }
     ensures value { (m noted : Memory)
@@ -292,7 +293,7 @@ fn got<'a>(known: &Known, player: Player, run: Run<'a>) -> Verdict<'a>
     Verdict::Keep(Record::Got { player, start, run }, Heard::Kept)
 }
 
-/// The part of a player's inputs that is not held yet, where they fit what is held.
+/// Returns the part of a player's inputs that is not held yet, or the refusal if they do not fit.
 fn fresh_part<'a>(
     known: &Known,
     player: Player,

@@ -1,4 +1,4 @@
-//! Which calls of an open peer are refused, and why. Nothing here changes anything.
+//! Decides whether an open peer refuses a call, and why. Nothing here changes the peer.
 ghost use Rattle.std.specs.Prelude.{◌≡◌, ℕ, [], MatchResult, IfErr, Ok, Err};
 ghost use Rattle.c8_known.specs.Journal.{Own, Leave, Cut};
 ghost use Rattle.c8_known.specs.Known.{count_in};
@@ -13,7 +13,8 @@ use c8_game::{Game, Player};
 use c8_known::Known;
 use c8_refusals::{DecideError, LeaveError, TickError};
 
-/// Whether the own player may tick.
+/// Checks whether the own player may tick. The refusals are found in the order `Dropped`, `End`,
+/// `Threshold`.
 #[tactic(auto, unfolding(crate::specs::Calls::tick))]
 pub(crate) fn judge_tick(game: &Game, known: &Known) -> Result<(), TickError>
     ensures judged { (m : states.Memory) (keys : ℕ) → MatchResult result
@@ -34,7 +35,8 @@ pub(crate) fn judge_tick(game: &Game, known: &Known) -> Result<(), TickError>
     Ok(())
 }
 
-/// Whether player one may let a player go.
+/// Checks whether this peer may drop `leaver`. The refusals are found in the order `NotChair`,
+/// `Myself`, `NotPlaying`, `Already`.
 #[tactic(auto, unfolding(crate::specs::Calls::leave))]
 pub(crate) fn judge_leave(known: &Known, leaver: Player) -> Result<(), LeaveError>
     ensures judged { (m : states.Memory) → MatchResult result
@@ -58,7 +60,8 @@ pub(crate) fn judge_leave(known: &Known, leaver: Player) -> Result<(), LeaveErro
     Ok(())
 }
 
-/// Whether player one may cut a leaver's list, and at which length.
+/// Returns the length at which player one may cut the leaver's list: as many inputs as it holds.
+/// The refusals are found in the order `NotLeaving`, `Already`, `NotReady`.
 #[tactic(auto, unfolding(crate::specs::Calls::decide))]
 pub(crate) fn judge_decide(
     known: &Known,

@@ -1,31 +1,32 @@
-//! What a peer may be asked to say.
+//! The datagrams that a caller can ask a peer to say to another player.
 ghost use Rattle.std.specs.Prelude.{◌≡◌};
 ghost use Rattle.c8_peer.specs.Asked.{wire_of};
 
 use c8_game::Player;
 
-/// What a peer may be asked to say, each with the leaver of whom it tells.
+/// A kind of datagram for another player. `Freeze`, `Frozen` and `Cut` name the leaver that they are
+/// about.
 #[derive(Clone, Copy, Debug, PartialEq, Eq, Hash)]
 pub enum Kind {
-    /// It asks for a link.
+    /// Asks for a link.
     Hello,
-    /// It answers a HELLO.
+    /// Answers a HELLO, and acknowledges the other player's inputs.
     Welcome,
-    /// The first of its own inputs that the other has not acknowledged, as many as
-    /// one datagram carries.
+    /// Carries own inputs from the first that the other player has not acknowledged, as many as one
+    /// datagram has room for; acknowledges the other player's inputs; has the newest mark.
     Data,
-    /// Player one lets a player go.
+    /// Player one announces that it has dropped the leaver, and how many of its inputs it holds.
     Freeze(Player),
-    /// How many inputs of a leaver it holds, and the first of those that player one lacks, as
-    /// many as one datagram carries.
+    /// Tells player one how many inputs of the leaver this peer holds, and carries those that player
+    /// one lacks, as many as one datagram has room for.
     Frozen(Player),
-    /// Where a leaver's list ends, and the first inputs before that which the other lacks, as
-    /// many as one datagram carries.
+    /// Player one announces the length of the leaver's list, and carries the inputs that the other
+    /// player lacks, as many as one datagram has room for.
     Cut(Player),
 }
 
 impl Kind {
-    /// The kind of the datagram that says it.
+    /// Returns the wire format's kind.
     pub(crate) fn wire(self) -> c8_wire::DatagramKind
         ensures { result ≡ wire_of self }
     {

@@ -1,4 +1,4 @@
-//! What callers may rest on that is no single call's: laws of peers, each the contract of a
+//! Laws of peers: facts about whole runs that no single call can promise. Each is the contract of a
 //! function that does nothing.
 ghost use Rattle.std.specs.Prelude.{◌≡◌, ℕ, ◌^◌, ◌<◌, ◌≤◌, List, [], ◌∷◌, ◌++◌, map, Bool, true, Option, Ok, Err, Some};
 ghost use Rattle.c8_game.specs.Rules.{Rules, AreInRange};
@@ -29,7 +29,8 @@ use c8_disk::Disk;
 use c8_refusals::{OpenError, Refused, Unsayable};
 use c8_wire::laws::what_is_read_is_spelled;
 
-/// What is true of a journal stays true of every journal that the rules allow and that it begins.
+/// A true datagram stays true. If a journal makes it true, so does every longer journal that the
+/// rules allow.
 pub fn what_is_true_stays()
     ensures { (rules : Rules) (me room : ℕ) (journal rest : List Record) (p : Packet)
         → AreInRange rules → 1 ≤ me → me ≤ rules.players
@@ -37,8 +38,7 @@ pub fn what_is_true_stays()
         → IsTrue rules me (journal ++ rest) p }
 {}
 
-/// Frames that are confirmed by a journal are so by every journal that the rules allow and that it
-/// begins, with the same rows.
+/// Confirmed frames stay confirmed, with the same rows, in every longer journal that the rules allow.
 pub fn what_is_confirmed_stays()
     ensures counts { (rules : Rules) (me room : ℕ) (journal rest : List Record)
         → AreInRange rules → 1 ≤ me → me ≤ rules.players
@@ -52,9 +52,9 @@ pub fn what_is_confirmed_stays()
         ≡ rows_below (known_of rules me journal) n }
 {}
 
-/// An opening adds a record that the rules allow, and begins with a memory that is in order. Where the
-/// last checkpoint found is true, all that the peer rests on is true; pieces without a CHECK do not
-/// matter, since the opening discards them.
+/// An opening adds a record that the rules allow, and begins with a memory that is in order. If the
+/// last checkpoint found is true, the checkpoints of the opened journal are true. Pieces without a
+/// CHECK do not matter, since the opening discards them.
 pub fn openings_are_lawful()
     ensures keeps { (rules : Rules) (me room : ℕ) (found : List Record)
         → AreInRange rules → 1 ≤ me → me ≤ rules.players → room < 2 ^ 64
@@ -72,9 +72,10 @@ pub fn openings_are_lawful()
         → HasTrueChecks rules me (found ++ opening_record rules room me found ∷ []) }
 {}
 
-/// The rules allow what an open peer records. Its memory stays in order, with that record too
-/// (`grows`). True checkpoints stay true. What it says has a spelling and is true of its journal; the
-/// mark that DATA carries is true where the checkpoints are.
+/// The steps of an open peer follow the rules. `keeps`: the rules allow what it records. `memory`,
+/// `grows`: its memory stays in order, also with that record. `checks`: true checkpoints stay true.
+/// `says`, `spelled`: what it says is true of its journal and has a spelling. DATA needs true
+/// checkpoints for this, since it carries a mark.
 pub fn steps_are_lawful()
     ensures keeps { (rules : Rules) (me room : ℕ) (journal : List Record) (m : Memory)
         (call : Call) (r : Record)
@@ -115,8 +116,8 @@ pub fn steps_are_lawful()
         → IsPacket p }
 {}
 
-/// What a refused call changes. `plain`: nothing, unless the disk refuses or the answer is `Desync`.
-/// `desync`: `Desync` raises the alarm, and changes nothing else.
+/// A refused call changes nothing (`plain`), unless the disk refuses or the answer is `Desync`.
+/// `desync`: `Desync` raises the alarm and changes nothing else.
 pub fn refusals_change_nothing()
     ensures plain { (rules : Rules) (me : ℕ) (s : State) (call : Call) (luck : Luck)
         → IsPlainRefusal (step rules me s call luck).reply
@@ -127,11 +128,14 @@ pub fn refusals_change_nothing()
         ≡ record s { memory = record s.memory { alarm = true } } }
 {}
 
-/// Every run of a peer, from before it is first opened, over openings, closes, disks that refuse
-/// and crashes. What a reading of the disk finds, with the pending record or without, is a journal
-/// of the rules. The journal only grows. What was said at any moment is true of the journal from
-/// then on. Frames that are confirmed stay confirmed, with the same rows. What the journal says of
-/// checkpoints is true (`checks`), so that the machine is that of the serial run.
+/// What a peer has said stays true, in every run from before its first opening: over openings,
+/// closes, disks that refuse, and crashes.
+///
+/// - `journal`: a read of the disk finds a journal of the rules, with the pending record or without.
+/// - `grows`: the journal only grows.
+/// - `said`: what the peer said at any moment is true of the journal from then on.
+/// - `checks`: the journal's checkpoints are true, so the machine is that of the serial run.
+/// - `confirmed`, `rows`: confirmed frames stay confirmed, with the same rows.
 pub fn a_peers_word_stands()
     ensures journal { (rules : Rules) (room me : ℕ) (s : State) (finds : Bool)
         → AreInRange rules → 1 ≤ me → me ≤ rules.players → room < 2 ^ 64
@@ -161,8 +165,8 @@ pub fn a_peers_word_stands()
         → rows_below (known_at rules me t) n ≡ rows_below (known_at rules me s) n }
 {}
 
-/// An answer tells how the peer stands after it: open, unless it tells that the disk refused the
-/// record, which takes the peer down; and open or away after an opening.
+/// The answer of an open peer to a call gives its mode after it: down if the disk refused the record,
+/// else open. The answer to an opening does too: open or away.
 pub fn answers_tell_modes()
     ensures calls { (rules : Rules) (me : ℕ) (s : State) (call : Call) (luck : Luck)
         → s.mode ≡ Open → (step rules me s call luck).state.mode
@@ -172,10 +176,12 @@ pub fn answers_tell_modes()
         ≡ mode_told (opened rules room me s found opening).reply }
 {}
 
-/// An opening that is served to its end has one answer: what a reading finds decides it and the
-/// state after it. `served`: of what is found all openings that the disk and the memory
-/// serve to their end are one. `answer`: so they answer the same and leave the same state.
-/// `refused`: one whose record the disk refused would have stood.
+/// If the disk and the memory serve an opening to its end, what a read of the disk finds decides its
+/// answer and the state after it.
+///
+/// - `served`: two such openings of the same journal are the same.
+/// - `answer`: so they give the same answer and leave the same state.
+/// - `refused`: an opening whose record the disk refused would otherwise have succeeded.
 pub fn an_opening_has_one_answer()
     ensures served { (rules : Rules) (room me : ℕ) (found : List Record) (one other : Opening)
         → MayBecome rules room me found one → MayBecome rules room me found other
@@ -191,12 +197,15 @@ pub fn an_opening_has_one_answer()
         → IsServed other → other ≡ Stands }
 {}
 
-/// The same from any lawful state, such as that of a peer on a journal that was brought from
-/// elsewhere: in which what a reading of the disk finds is a journal of the rules (`IsLawful`).
-/// `sound`: each peer is in such a state; `reached`: so is one that a run from the start leads to;
-/// `stays`: so it is after every run. Where what the journal says of checkpoints is true it stays so
-/// (`checks`), and then what is said is true; it is true of a journal that says nothing of them, such
-/// as one of the first form (`first_form`).
+/// What a peer has said stays true, in every run from a lawful state (`IsLawful`): one in which a read
+/// of the disk finds a journal of the rules. The journal can have been copied from elsewhere.
+///
+/// - `sound`: each peer is in a lawful state. `reached`: so is each state that a run from the start
+///   leads to. `stays`: every run from a lawful state ends in one.
+/// - `said`: what the peer said is true. DATA needs true checkpoints at the start for this.
+/// - `checks`: true checkpoints stay true. `first_form`: a journal without checkpoint records, such as
+///   one of the first form, has true checkpoints.
+/// - `confirmed`, `rows`: confirmed frames stay confirmed, with the same rows.
 pub fn a_word_stands_from_any_journal<D: Disk>()
     ensures sound { (p : PeerValue D) → IsSound D.Disk p
         → IsLawful p.rules p.room p.me p.state }
@@ -233,7 +242,7 @@ pub fn a_word_stands_from_any_journal<D: Disk>()
         → rows_below (known_at rules me t) n ≡ rows_below (known_at rules me s) n }
 {}
 
-/// A machine begins where its peer was last opened: no call moves that.
+/// No call changes where a machine began: only an opening does.
 pub fn a_machine_begins_at_an_opening()
     ensures { (rules : Rules) (room me : ℕ) (s t : State) (calls : List (Call × Luck))
         (answers : List (Option Reply))
@@ -243,14 +252,14 @@ pub fn a_machine_begins_at_an_opening()
         → begun_at rules t.journal ≡ begun_at rules s.journal }
 {}
 
-/// A delivery of any bytes is a call of the definitions.
+/// The definitions cover a delivery of any bytes.
 pub fn deliveries_are_calls()
     ensures { (bytes : List ℕ) → AreBytes bytes → IsCall (Deliver (read bytes)) }
 {
     what_is_read_is_spelled();
 }
 
-/// One run after another is a run.
+/// Two runs in a row are one run.
 pub fn runs_join()
     ensures run { (rules : Rules) (room me : ℕ) (s t u : State) (deeds more : List Deed)
         (answers others : List (Option Reply))
@@ -262,7 +271,7 @@ pub fn runs_join()
         → IsReached rules room me t }
 {}
 
-/// Each call of a peer is a deed of a run, by what its contract says of it.
+/// Each call of a peer that meets its contract is a deed of a run.
 pub fn calls_are_deeds<D: Disk>()
     ensures answered { (old new : PeerValue D) (call : Call) (reply : Reply)
         → IsCall call → IsAnswered D.Disk old call reply new
@@ -277,10 +286,12 @@ pub fn calls_are_deeds<D: Disk>()
         → IsDone p.rules p.room p.me p.state (Does call Works) (Some (Said (Err error))) p.state }
 {}
 
-/// What the disk of a peer tells a reading. `reading`: a read now gives the journal, with the
-/// pending record or without. `bodies`: each image that a crash now leaves keeps one of the two.
-/// `records`: so an opening finds one of the two. `inside`: each image
-/// that a crash inside a call leaves keeps one of those that a stop in a run finds.
+/// What a read of a peer's disk finds.
+///
+/// - `reading`: a read now gives the journal, with the pending record or without.
+/// - `bodies`, `records`: a crash now leaves an image that keeps one of these two, and the next
+///   opening finds it.
+/// - `inside`: a crash inside a call leaves an image that keeps what a stop in a run finds.
 pub fn what_disks_tell<D: Disk>()
     ensures reading { (p : PeerValue D) → IsSound D.Disk p
         → (finds : Bool) × Keeps (found p.state finds) (D.seen p.disk) }
@@ -295,11 +306,15 @@ pub fn what_disks_tell<D: Disk>()
         × Keeps (found (step p.rules p.me p.state call luck).state leaves) image }
 {}
 
-/// Each opening of a peer is a deed of a run, by what its contract says of it: of a disk whose
-/// journal, as a read gives it, is that of a state with the pending record or without. What a
-/// refused opening leaves of the disk tells the state after it, and what a crash inside an opening
-/// leaves (`inside`) is what a stop in a run finds. A disk of which a crash leaves only what a read
-/// gives tells each state of which a read gives the journal (`settled`).
+/// Each opening that meets its contract is a deed of a run, if a read of its disk gives the journal of
+/// the state before, with the pending record or without.
+///
+/// - `settled`: if a crash of a disk leaves only what a read gives, the disk has the journal of each
+///   state whose journal a read gives (`Tells`).
+/// - `opened`: an opening that succeeds is such a deed.
+/// - `refused`: so is one that is refused, and the disk that it leaves has the journal of the state
+///   after it.
+/// - `inside`: a crash inside an opening leaves an image that keeps what a stop in a run finds.
 pub fn openings_are_deeds<D: Disk>()
     ensures settled { (disk : D) (s : State) (finds : Bool)
         → Only (D.seen disk) (D.may_leave disk) → Keeps (found s finds) (D.seen disk)

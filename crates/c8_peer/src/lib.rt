@@ -1,12 +1,15 @@
-//! One peer: what it is, what each of its calls does, and what is true of what it says.
+//! One player's peer: its state, its calls, and the proof that the datagrams it says are true.
 //!
-//! A peer is its journal and what it keeps in memory; each call is one step, which answers, adds at
-//! most one record to the journal and says at most one datagram. The definitions are in `specs/`
-//! (the state in `State.antt`, deliveries in `Hearing.antt`, sayings in `Saying.antt`, the other
-//! calls in `Calls.antt`, the step in `Steps.antt`, openings in `Opening.antt`, the truth of a
-//! datagram in `Truth.antt`), and `Peer.antt` says what every call of the code answers for. In the
-//! code `judging`, `hearing` and `saying` say what a call comes to and change nothing; `peer` does
-//! it. `laws` has what follows from the definitions.
+//! A peer is a journal on a disk and a memory that it loses at each restart. Each call is one step:
+//! it answers, adds at most one record to the journal and says at most one datagram.
+//!
+//! The definitions are in `specs/`: the state in `State.antt`, deliveries in `Hearing.antt`, sayings
+//! in `Saying.antt`, the other calls in `Calls.antt`, the step in `Steps.antt`, openings in
+//! `Opening.antt`, and when a datagram is true in `Truth.antt`. `Peer.antt` has the contract that
+//! all calls share.
+//!
+//! In the code, `judging`, `hearing` and `saying` decide what a call does and change nothing; `peer`
+//! does it. `laws` has what follows from the definitions.
 #![tactic(auto)]
 
 mod check;

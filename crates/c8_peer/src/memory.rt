@@ -1,4 +1,4 @@
-//! What a peer keeps in memory alone.
+//! What a peer keeps in memory and not in its journal.
 ghost use Rattle.std.specs.Prelude.{◌≡◌, true, None};
 ghost use Rattle.c8_wire.specs.Lent.{packet_of};
 ghost use Rattle.c8_wire.specs.Saying.{head_value};
@@ -19,14 +19,14 @@ use c8_window::Window;
 use c8_wire::{Datagram, DatagramKind, Head, Seat, Watcher};
 use std::marker::Model;
 
-/// What begins anew with each opening.
+/// What a peer loses with each opening.
 #[derive(Debug, Drop)]
 pub(crate) struct Memory {
     pub(crate) links: Links,
     pub(crate) window: Window,
     pub(crate) chair: Chair,
     pub(crate) stayer: Stayer,
-    /// Another peer's machine was seen to differ.
+    /// The machine of another peer differed.
     pub(crate) alarm: bool,
     pub(crate) watchers: Watchers,
 }
@@ -60,7 +60,7 @@ impl Memory {
         }
     }
 
-    /// The header of a datagram to another player.
+    /// Returns the header of a datagram to another player.
     pub(crate) fn head(&self, to: Player, kind: Kind) -> Head
         requires { are_seats (wire_of kind) self.now.links.me to.number ≡ true }
         ensures { head_value result ≡ head_to self.now.links to.number (wire_of kind) }
@@ -68,7 +68,7 @@ impl Memory {
         self.links.head(Seat::from(to), kind.wire())
     }
 
-    /// The header of a SHOW to a watcher.
+    /// Returns the header of a SHOW to a watcher.
     pub(crate) fn show_head(&self, watcher: Watcher) -> Head
         requires { self.now.links.me ≡ 1 }
         ensures { head_value result ≡ head_to self.now.links watcher.number wires.Show }
@@ -76,7 +76,7 @@ impl Memory {
         self.links.head(Seat::from(watcher), DatagramKind::Show)
     }
 
-    /// Keeps what a datagram of player q says beside inputs, once nothing refuses it.
+    /// Keeps what a datagram of player `q` says besides inputs. Call it after the last refusal.
     pub(crate) fn note(&mut self, known: &Known, q: Player, datagram: &Datagram<'_>)
         requires admitted { refusal self.old.links (packet_of datagram.now).head ≡ None }
         requires from { q.number ≡ (packet_of datagram.now).head.from }
@@ -98,7 +98,7 @@ impl Memory {
         }
     }
 
-    /// A watcher has so many rows now.
+    /// Notes how many rows a watcher has acknowledged.
     pub(crate) fn seen(&mut self, watcher: Watcher, rows: u32)
         ensures { self.new ≡ record self.old {
           seen = with_seen self.old.seen watcher.number rows;
@@ -107,7 +107,7 @@ impl Memory {
         self.watchers.tell(watcher, rows);
     }
 
-    /// Another peer's machine differs.
+    /// Notes that the machine of another peer differs.
     pub(crate) fn raise_alarm(&mut self)
         ensures { self.new ≡ record self.old { alarm = true } }
     {

@@ -1,4 +1,4 @@
-//! One peer, and how a record comes into its journal.
+//! The peer, and how it adds a record to its journal.
 ghost use Rattle.std.specs.Prelude.{◌≡◌, ◌≤◌, ◌<◌, ◌+◌, ◌*◌, [], ◌∷◌, ◌++◌, length, true, Some, Ok, Err, MatchResult, OnOk, OnErr, IsErrOf};
 ghost use Rattle.c8_disk.specs.Disk.{AddsNone};
 ghost use Rattle.c8_disk.specs.Runs.{LeavesOnly, IsSameDisk};
@@ -36,13 +36,15 @@ pub use rows::Rows;
 use std::fmt;
 use std::marker::Model;
 
-/// One player's peer, over a disk that holds its journal.
+/// The peer of one player, over the disk that holds its journal.
 ///
-/// A call is one step: it answers, adds at most one record to the journal, and says at most one
-/// datagram. What it adds is recorded before anything that rests on it is said or counted. Where
-/// the disk refuses a record the peer is down, its readers answer as before the call, and it is to
-/// be closed and opened again; the next opening that reads the journal decides whether the record
-/// stands. No call but the opening takes memory.
+/// A call is one step: it answers, adds at most one record to the journal and says at most one
+/// datagram. It persists a record before it says or counts anything that depends on the record.
+///
+/// If the disk refuses a record, the peer is down and its readers answer as before the call. Close
+/// it and open it again: the next opening that reads the journal finds whether the record stands.
+///
+/// Only the opening takes memory.
 #[derive(Drop)]
 pub struct Peer<'g, D: Disk> {
     game: &'g Game,
@@ -80,7 +82,7 @@ impl<'g, D: Disk> Model for Peer<'g, D> {
         × IsPlanned p.game.now p.known.me (records_of p.journal.bodies) p.checks };
 }
 
-/// Whose it is, its epoch, its ticks and confirmed frames, and whether it is down.
+/// Shows the player, the epoch, the ticks, the confirmed frames, and whether the peer is down.
 impl<'g, D: Disk> fmt::Debug for Peer<'g, D> {
     fn fmt<W: fmt::Write>(&self, f: &mut fmt::Formatter<W>) -> fmt::Result {
         let (me, epoch) = (self.me(), self.epoch());
@@ -96,8 +98,8 @@ impl<'g, D: Disk> fmt::Debug for Peer<'g, D> {
 impl<'g, D: Disk> Peer<'g, D> {
     ghost use Rattle.c8_peer.specs.Peer.{KeepsWithOrWithout, LeavesJournal, IsSound, RunsFrames, known_by, mode_of};
 
-    /// Whether the disk refused a record. The peer is to be closed then, and its disk opened again.
-    /// With the answer comes what is so of every peer.
+    /// Returns whether the disk refused a record. If so, close the peer and open its disk again.
+    /// Proofs also get from here what holds for every peer (`IsSound`).
     pub fn is_down(&self) -> bool
         ensures value { self.now.state.mode ≡ mode_of result }
         ensures sound { IsSound D.Disk self.now }
@@ -106,7 +108,7 @@ impl<'g, D: Disk> Peer<'g, D> {
         self.journal.is_down()
     }
 
-    /// Says when the disk's calls fail from now on.
+    /// Arms the disk: chooses which of its calls fail from now on.
     pub fn arm(&mut self, arm: Arm)
         ensures value { self.new ≡ record self.old { disk = self.new.disk } }
         ensures arms { D.arms self.new.disk ≡ D.arms self.old.disk ++ arm ∷ [] }
@@ -123,8 +125,8 @@ impl<'g, D: Disk> Peer<'g, D> {
         self.journal.arm(arm);
     }
 
-    /// Gives the disk back. Whether the pending record stands, the next opening that reads the
-    /// journal decides.
+    /// Closes the peer and returns its disk. If a record is pending, the next opening that reads the
+    /// journal finds whether it stands.
     pub fn close(self) -> D
         ensures disk { result ≡ self.entry.disk }
         ensures sound { IsSound D.Disk self.entry }
@@ -133,7 +135,8 @@ impl<'g, D: Disk> Peer<'g, D> {
         self.journal.close()
     }
 
-    /// Adds what players do to the journal, and makes it known.
+    /// Appends a record of what players do, then updates what is known and the machine. If the disk
+    /// refuses the record, the peer is down with the record pending, and nothing else has changed.
     fn keep(&mut self, lent: &Record<'_>) -> Result<(), DiskError>
         requires up { self.old.state.mode ≡ Open }
         requires allowed { IsAllowed self.old.rules self.old.me self.old.room
@@ -173,7 +176,7 @@ impl<'g, D: Disk> Peer<'g, D> {
             self.old.disk self.new.disk) }
         ensures journal { LeavesJournal D.Disk self.new }
     {
-        // For the proof: none is pending at a journal that is up, and no peer is too far ahead.
+        // For the proof: a journal that is up has no pending body, and no peer is too far ahead.
         let _up = self.journal.is_down();
         journals_stay_within_the_window();
         match self.journal.append(&body_of(lent)) {
@@ -191,7 +194,7 @@ impl<'g, D: Disk> Peer<'g, D> {
     }
 }
 
-/// Takes what is known now.
+/// Brings the roll up to what is known now: one tick more, or rows that changed or were confirmed.
 fn go_on(roll: &mut Roll<'_>, known: &Known)
     requires { WasRoll (seen roll.old) known.now }
     ensures grown { GrowsTo (seen roll.old) (seen roll.new) known.now }

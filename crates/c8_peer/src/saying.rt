@@ -1,4 +1,4 @@
-//! What a peer says, or why it does not. Nothing here changes anything.
+//! Decides what a peer says, or why it refuses. Nothing here changes the peer.
 ghost use Rattle.std.specs.Prelude.{◌≡◌, ◌≢◌, ℕ, ◌≤◌, false, take, drop, MatchResult, OnOk, Ok, Err};
 ghost use Rattle.c8_game.specs.Rules.{Rules};
 ghost use Rattle.c8_wire.specs.Saying.{message_of};
@@ -20,7 +20,8 @@ use c8_known::Known;
 use c8_refusals::Unsayable;
 use c8_wire::{Body, MOST_ROWS, fits};
 
-/// Whether this may be said.
+/// Checks whether the peer may say `kind` to player `to`. The refusals are in the order of
+/// `Unsayable`, after `Down`.
 #[tactic(auto, unfolding(crate::specs::Saying::say))]
 pub(crate) fn judge_saying(
     known: &Known,
@@ -91,7 +92,7 @@ fn lacks_link(memory: &Memory, to: Player, kind: Kind) -> bool
     }
 }
 
-/// What is said, where nothing speaks against it; its inputs are lent from what is known.
+/// Builds the body of a datagram that [`judge_saying`] accepts. Its inputs are lent from `known`.
 pub(crate) fn message<'a>(
     known: &'a Known,
     memory: &Memory,
@@ -130,7 +131,7 @@ pub(crate) fn message<'a>(
     }
 }
 
-/// What is held of a leaver, for player one.
+/// Builds a FROZEN: how many inputs of the leaver this peer holds, for player one.
 fn frozen<'a>(known: &'a Known, memory: &Memory, wire: WireVersion, leaver: Player) -> Body<'a>
     requires { Plays known.now leaver.number }
     ensures { (rules : Rules) (t : Told) (to : ℕ) → wire ≡ rules.wire → message_of result
@@ -145,7 +146,7 @@ fn frozen<'a>(known: &'a Known, memory: &Memory, wire: WireVersion, leaver: Play
     }
 }
 
-/// Where a leaver's list ends, for a player who stays.
+/// Builds a CUT: the length of the leaver's list, for another player.
 fn cut<'a>(
     known: &'a Known,
     memory: &Memory,
@@ -166,7 +167,7 @@ fn cut<'a>(
     }
 }
 
-/// A player's inputs from a start on, as many as one datagram carries.
+/// Returns the held inputs of a player from `start` on, as many as one datagram carries.
 fn run_from(known: &Known, wire: WireVersion, player: Player, start: u32) -> &[u16]
     requires plays { Plays known.now player.number }
     requires within { start ≤ count_in known.now player.number }
@@ -176,7 +177,7 @@ fn run_from(known: &Known, wire: WireVersion, player: Player, start: u32) -> &[u
     carried(wire, known.inputs(player, start, known.count(player)))
 }
 
-/// The longest beginning of inputs that one datagram carries.
+/// Returns the longest front of `inputs` that one datagram carries.
 fn carried(wire: WireVersion, inputs: &[u16]) -> &[u16]
     ensures { result.now ≡ carried wire inputs.entry.now }
 {
@@ -184,7 +185,7 @@ fn carried(wire: WireVersion, inputs: &[u16]) -> &[u16]
     front
 }
 
-/// The confirmed rows from a frame on, as many as one datagram has.
+/// Copies the confirmed rows from frame `start` on, at most 16: as many as one SHOW has.
 pub(crate) fn rows_from(known: &Known, start: u32) -> ArrayVec<Row, MOST_ROWS>
     requires { start ≤ confirmed known.now }
     ensures { result.items ≡ take most_rows (drop start (confirmed_rows known.now)) }

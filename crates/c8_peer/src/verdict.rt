@@ -1,14 +1,15 @@
-//! What a delivery comes to.
+//! What a peer does with a datagram that it takes.
 use crate::heard::Heard;
 use c8_record::Record;
 
-/// What is to be done about a delivery that nothing refuses, beside what memory keeps of it.
+/// What to do with a datagram that nothing refuses. The memory notes the rest of it, except after
+/// `Alarm`.
 #[derive(Clone, Copy, Debug, PartialEq, Eq)]
 pub(crate) enum Verdict<'a> {
-    /// Nothing is to be recorded.
+    /// Record nothing.
     Nothing,
-    /// The sender's machine differs: the alarm is raised, and nothing else is kept.
+    /// The sender's machine differs: raise the alarm, and keep nothing else.
     Alarm,
-    /// This is to be recorded, and then answered.
+    /// Record this, then give this answer.
     Keep(Record<'a>, Heard),
 }

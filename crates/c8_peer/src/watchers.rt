@@ -1,11 +1,11 @@
-//! How many rows each watcher has.
+//! How many rows each watcher has acknowledged.
 ghost use Rattle.std.specs.Prelude.{◌≡◌};
 ghost use Rattle.c8_peer.specs.State.{none_seen, seen_by, with_seen};
 
 use c8_wire::Watcher;
 use std::marker::Model;
 
-/// How many rows the watchers in seats 5 and 6 have told that they have, since the opening.
+/// How many rows the watchers in seats 5 and 6 have acknowledged since the last opening.
 #[derive(Debug, Drop)]
 pub(crate) struct Watchers {
     five: u32,
@@ -27,7 +27,7 @@ impl Watchers {
         Watchers { five: 0, six: 0 }
     }
 
-    /// How many rows a watcher has.
+    /// Returns how many rows a watcher has acknowledged; at first 0.
     pub(crate) fn rows(&self, watcher: Watcher) -> u32
         ensures { result ≡ seen_by self.now watcher.number }
     {
@@ -38,7 +38,8 @@ impl Watchers {
         }
     }
 
-    /// A watcher has so many rows now.
+    /// Notes that a watcher has acknowledged this number of rows. The last number counts, even if it
+    /// is lower.
     pub(crate) fn tell(&mut self, watcher: Watcher, rows: u32)
         ensures { self.new ≡ with_seen self.old watcher.number rows }
     {

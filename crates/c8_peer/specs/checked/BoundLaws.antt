@@ -1,4 +1,4 @@
--- Checked, not believed: numbers that fit where they are spelled.
+-- Checked, not believed: numbers that fit into their fields.
 use Rattle.std.proofs.Common.{ℕ, ◌<◌, ◌≤◌, ◌^◌, List, ◌++◌, take, arith}
 use Rattle.std.specs.Int.{from_be_bytes, to_be_bytes, w64}
 use Rattle.sha2.specs.Sha256.{sha256}

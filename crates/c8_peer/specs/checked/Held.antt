@@ -1,4 +1,4 @@
--- Checked, not believed: what holds of the parts of every peer.
+-- Checked, not believed: what holds for the parts of every peer.
 use Rattle.std.specs.Prelude.{◌≡◌, ◌≢◌, ◌⊎◌, ℕ, ◌+◌, ◌^◌, ◌<◌, ◌≤◌, ◌==◌, Some, List, Bool, true, false, if◌then◌else◌}
 use Rattle.c8_game.specs.Rules.{Rules, AreInRange}
 use Rattle.c8_log.specs.Journal.{JournalValue}
@@ -21,8 +21,8 @@ use Rattle.c8_peer.specs.Told.{told_of}
 use Rattle.c8_peer.specs.State.{Memory}
 use Rattle.c8_peer.specs.Lawful.{IsMemory}
 
--- The journal keeps the bodies of a journal of this player, and the rules allow the pending record; what is known is what it says;
--- and the memory is in order, in the last epoch.
+-- The bodies on the disk are a journal of this player, and the rules allow the pending record. What is known is what
+-- the journal says. The memory is in order, in the last epoch.
 pub record IsPeer {D : Type 0} (rules : Rules) (room : ℕ) (journal : JournalValue D) (k : KnownValue) (m : Memory) : Type 0 where
   pub range : AreInRange rules
   pub low : room < 2 ^ 64
@@ -35,26 +35,26 @@ pub record IsPeer {D : Type 0} (rules : Rules) (room : ℕ) (journal : JournalVa
   pub memory : IsMemory rules room k.me (records_of journal.bodies) m
   pub last : m.links.epoch ≡ epoch (records_of journal.bodies)
 
--- The roll is that of what is known, run from where the machine began when the peer was opened, and what is kept of checkpoints is
--- what the journal says of them. This many frames were run last: no more than the window's and one, or all since that beginning.
+-- The roll is that of what is known, run from where the machine began at the opening. The kept checkpoints are the
+-- journal's. `ran` frames were run last: at most a window and one, or all since that beginning.
 pub record IsRolled (rules : Rules) (journal : List Record) (k : KnownValue) (checks : ChecksValue) (v : RollValue) (ran : ℕ) : Type 0 where
   pub starts : (begun_at rules journal).frames ≤ confirmed k
   pub roll : v ≡ roll_since rules (begun_at rules journal) k
   pub checks_are : checks ≡ checks_of journal
   pub bound : (ran ≤ rules.window + 1) ⊎ (ran + (begun_at rules journal).frames ≡ k.ticks)
 
--- The bytes that are kept of a checkpoint under way are those of the machine and the marks after its frames.
+-- The kept bytes of a checkpoint under way are those of the machine and the marks after its frames.
 abbrev pub IsPlanned : Rules → ℕ → List Record → Checks → Type 0
 IsPlanned rules me journal c = c.count ≢ 0 → plan_of c ≡ (told_of rules me journal).saved c.frames
 
--- the record of a checkpoint that comes next, as its bytes are cut, and what is said of it
+-- the next record of a checkpoint, from the kept bytes, and the answer to it
 abbrev pub next_record : ℕ → Checks → Record
 next_record me c = if c.count == all_pieces then Check me c.frames (words_of (digest_of (plan_of c))) else State me c.frames c.count (words_of (piece_in c.count (plan_of c)))
 
 abbrev pub next_said : Checks → said.Check
 next_said c = if c.count == all_pieces then Done c.frames else Piece c.count
 
--- what the own player entered, as a test
+-- the record is an input that the own player entered
 abbrev pub is_entry : Record → Bool
 is_entry (Head player form id room) = false
 is_entry (Epoch player number form) = false
@@ -66,7 +66,7 @@ is_entry (Cut player length start words) = false
 is_entry (State player frames piece words) = false
 is_entry (Check player frames words) = false
 
--- what players do, as a test: a record that neither an opening nor a checkpoint adds
+-- the record is one of what players do: neither an opening nor a checkpoint adds it
 abbrev pub is_play : Record → Bool
 is_play (Head player form id room) = false
 is_play (Epoch player number form) = false
@@ -78,11 +78,11 @@ is_play (Cut player length start words) = true
 is_play (State player frames piece words) = false
 is_play (Check player frames words) = false
 
--- the most frames that are run with a record: the window's, and what the own player entered is one frame more
+-- the most frames that a record makes the peer run: a window, and one more for an input that the own player entered
 abbrev pub most_run_with : Rules → Record → ℕ
 most_run_with rules r = if is_entry r then rules.window + 1 else rules.window
 
--- The roll was that of what was known before, and is still known, with one tick less at most.
+-- The roll is that of what was known before. All of that is still known, and there is at most one more tick now.
 pub record WasRoll (v : RollValue) (k : KnownValue) : Type 0 where
   pub from : Origin
   pub before : KnownValue

@@ -1,4 +1,4 @@
--- Checked, not believed: what the parts of an opening come to.
+-- Checked, not believed: the contracts of an opening's parts.
 use Rattle.std.specs.Prelude.{◌≡◌, ◌⊎◌, ℕ, ◌<◌, ◌≤◌, List, length, [], ◌∷◌, ◌++◌, false, None, Result, Ok, Err}
 use Rattle.c8_game.specs.Rules.{Rules}
 use Rattle.c8_disk.specs.declared.disk.Disk.{Ghosts}
@@ -17,18 +17,18 @@ use Rattle.c8_disk.specs.Asks.{Run, Asks}
 use Rattle.c8_log.specs.Asked.{AppendWithin}
 use Rattle.c8_peer.specs.Opened.{opening_body, bodies_found, AllRead, IsSettled, MayBegin, HasWritingCause, IsNotWritten}
 
--- the disk after a journal was read, or was to be
+-- the disk after a read of the journal, complete or not
 abbrev pub disk_read : {D : Type 0} → Result (LogValue D × ℕ) (OpenError × D) → D
 disk_read (Ok read) = read.0.disk
 disk_read (Err refusal) = refusal.1
 
--- the disk after the opening's record was added, or was to be
+-- the disk after the append of the opening's record, complete or not
 abbrev pub disk_begun : {D : Type 0} → Result (JournalValue D × ℕ) (OpenError × D) → D
 disk_begun (Ok begun) = begun.0.disk
 disk_begun (Err refusal) = refusal.1
 
 module _ {D : Type 0} (g : Ghosts D) (disk : D) (rules : Rules) (room me : ℕ) where
-  -- What was found is a journal of this match and player, all that it says is known, and the disk is settled.
+  -- What was found is a journal of this match and player, all that it says is known now, and the disk is settled.
   pub record IsRead (k : KnownValue) (checks : ChecksValue) (log : LogValue D) (last : ℕ) : Type 0 where
     pub bodies : AreJournalBodies rules me room (bodies_found g disk)
     pub known : k ≡ known_of rules me (records_of (bodies_found g disk))
@@ -40,11 +40,11 @@ module _ {D : Type 0} (g : Ghosts D) (disk : D) (rules : Rules) (room me : ℕ) 
     pub unfailed : g.failures log.disk ≡ g.failures disk
     pub asks : Asks g (AllRead g disk rules room me) (Ok tt) disk log.disk
 
-  -- which calls the record takes
+  -- the disk calls that append the record
   abbrev pub BeginRun : Run
   BeginRun = AppendWithin (g.capacity disk) (length (bodies_found g disk)) (opening_body rules room me (bodies_found g disk))
 
-  -- The opening's record stands, and this is its epoch.
+  -- The opening's record stands, and `number` is its epoch.
   pub record IsBegun (journal : JournalValue D) (number : ℕ) : Type 0 where
     pub bodies : journal.bodies ≡ bodies_found g disk ++ opening_body rules room me (bodies_found g disk) ∷ []
     pub none_pending : journal.pending ≡ None
@@ -52,7 +52,7 @@ module _ {D : Type 0} (g : Ghosts D) (disk : D) (rules : Rules) (room me : ℕ) 
     pub number_is : number ≡ epoch (records_of (bodies_found g disk) ++ opening_record rules room me (records_of (bodies_found g disk)) ∷ [])
     pub not_spent : epoch (records_of (bodies_found g disk)) < last_epoch
 
-  -- why it does not stand
+  -- why the opening's record does not stand
   abbrev pub IsNotBegun : OpenError → D → Type 0
   IsNotBegun opens.WrongGame left = ⊥
   IsNotBegun opens.WrongPlayer left = ⊥
@@ -61,7 +61,7 @@ module _ {D : Type 0} (g : Ghosts D) (disk : D) (rules : Rules) (room me : ℕ) 
   IsNotBegun opens.Memory left = ⊥
   IsNotBegun (opens.Disk why) left = HasWritingCause g disk why left × IsNotWritten g disk rules room me left × Asks g BeginRun (Err why) disk left
 
-  -- What a crash leaves while the record is added: what was found, or that and the record, where an epoch may begin.
+  -- What a crash leaves while the record is appended: what was found; or, if an epoch may begin, that and the record.
   abbrev pub BeginningLeaves : List ℕ → Type 0
   BeginningLeaves image =
       (kept image ≡ bodies_found g disk) ⊎ (MayBegin rules room me (bodies_found g disk) × (kept image ≡ bodies_found g disk ++ opening_body rules room me (bodies_found g disk) ∷ []))

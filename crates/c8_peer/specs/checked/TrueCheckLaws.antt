@@ -1,4 +1,4 @@
--- Checked, not believed: what a journal says of checkpoints stays true with each record more.
+-- Checked, not believed: the checkpoints of a journal stay true with each new record.
 use Rattle.std.proofs.Common.{◌≡◌, ℕ, ◌*◌, ◌/◌, ◌+◌, ◌≤◌, List, [], ◌∷◌, ◌++◌, take, true, Option, Some, None, refl, sym, ap, subst, ◌∙◌, arith}
 use Rattle.std.specs.Prelude.{fold}
 use Rattle.std.specs.List.{list_all}
@@ -64,7 +64,7 @@ none_true rules me = record {
   under_way = λ p is. absurd cc;
 }
 
--- nothing was said of checkpoints
+-- the journal has no checkpoint so far
 record IsNone (c : ChecksValue) (before : Option Origin) : Type 0 where
   last : c.last ≡ None
   under_way : c.under_way ≡ None
@@ -145,7 +145,7 @@ play_true rules me room journal r range from to is may play are =
 
 -- ---- an opening
 
--- the last checkpoint before it, and none is under way
+-- After an opening the machine begins at the last checkpoint before it, and none is under way.
 record IsOpeningOf (rules : Rules) (journal : List Record) (new : Record) : Type 0 where
   begins : begun_at rules (journal ++ new ∷ []) ≡ or_first rules (checks_of journal).last
   last : (checks_of (journal ++ new ∷ [])).last ≡ (checks_of journal).last

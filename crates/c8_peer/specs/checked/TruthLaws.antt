@@ -1,4 +1,4 @@
--- Checked, not believed: what is true of a journal stays true of every longer one.
+-- Checked, not believed: what is true of a journal stays true of each longer one.
 use Rattle.std.proofs.Common.{◌≡◌, ℕ, ◌≤◌, List, ◌∷◌, ◌++◌, drop, sym, ap, ◌∙◌, append_assoc, arith}
 use Rattle.c8_game.specs.Rules.{Rules, AreInRange}
 use Rattle.c8_game.specs.declared.row.Row.{Row}
@@ -17,7 +17,7 @@ use Rattle.c8_record.specs.Allowed.{IsJournal}
 use Rattle.c8_record.specs.checked.JournalLaws.{journal_grows}
 use Rattle.c8_peer.specs.Truth.{IsTrueMark, IsFrozenAt, IsTrueMessage, IsTrue}
 
--- rows that are confirmed stay
+-- confirmed rows stay
 pub rows_same : (early late : KnownValue) (n : ℕ) → IsStillKnown early late → n ≤ confirmed early → rows_below late n ≡ rows_below early n
 rows_same early late n still within = map_same (row late) (row early) 0 n (λ frame below. row_stays early late still frame (omega (arith, below, within)))
 

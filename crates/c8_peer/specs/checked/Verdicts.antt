@@ -1,5 +1,5 @@
--- Checked, not believed: deliveries in two parts, what is judged and what is kept in memory once nothing refuses. Contracts
--- of private functions cite it, and no other.
+-- Checked, not believed: a delivery in two parts, its verdict and what the memory notes if nothing refuses it. Only the
+-- contracts of private functions cite it.
 use Rattle.std.specs.Prelude.{◌≡◌, ◌≤◌, true, false, Result, Ok, Err}
 use Rattle.c8_wire.specs.Packet.{HeadValue, Message, Packet}
 use Rattle.c8_wire.specs.Packet as packets
@@ -33,7 +33,7 @@ memory_after_message m head (packets.Seen ack) = m
 abbrev pub memory_after : Memory → Packet → Memory
 memory_after m p = memory_after_message m p.head p.message
 
--- nobody acknowledges more than there is
+-- the message acknowledges no more inputs than there are
 abbrev pub AcksWithin : KnownValue → Message → Type 0
 AcksWithin k packets.Hello = Unit {0}
 AcksWithin k (packets.Welcome ack) = ack ≤ count_in k k.me
@@ -44,20 +44,20 @@ AcksWithin k (packets.Cut c) = Unit {0}
 AcksWithin k (packets.Show shown) = Unit {0}
 AcksWithin k (packets.Seen ack) = Unit {0}
 
--- What a delivery comes to by its verdict, where the memory is one before it, and another once the datagram is noted. A
--- machine that differs raises the alarm.
+-- What a delivery does, by its verdict. `m` is the memory before it, and `noted` the memory once the datagram is noted.
+-- A machine that differs raises the alarm.
 abbrev pub by_verdict : Verdict → Memory → Memory → Outcome
 by_verdict verdicts.Nothing m noted = taken noted heards.Nothing
 by_verdict verdicts.Alarm m noted = answered (record m { alarm = true }) (Delivered (Err refusals.Desync))
 by_verdict (verdicts.Keep lent what) m noted = recorded noted (Delivered (Ok what)) (value_of lent)
 
--- a verdict records what players do, but what the own one enters
+-- a verdict records only what players do, and no input that the own player entered
 abbrev pub IsLater : Verdict → Type 0
 IsLater verdicts.Nothing = Unit {0}
 IsLater verdicts.Alarm = Unit {0}
 IsLater (verdicts.Keep lent what) = (is_play (value_of lent) ≡ true) × (is_entry (value_of lent) ≡ false)
 
--- A judgement: what is to be done, or the refusal, which is not the disk's.
+-- The result of judging a delivery: the verdict, or a refusal that does not blame the disk.
 abbrev pub Judges : Outcome → Memory → Memory → Result Verdict Refused → Type 0
 Judges outcome m noted (Ok verdict) = (outcome ≡ by_verdict verdict m noted) × IsLater verdict
 Judges outcome m noted (Err error) = (outcome ≡ refused m error) × (luck_of_refusal error ≡ Works)

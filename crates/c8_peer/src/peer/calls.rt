@@ -1,4 +1,4 @@
-//! A tick, and what player one does of a drop round by itself.
+//! The calls `tick`, `leave` and `decide`.
 ghost use Rattle.std.specs.Prelude.{◌≡◌, [], Ok, Err};
 ghost use Rattle.c8_known.specs.Journal.{Cut};
 ghost use Rattle.c8_record.specs.Lent.{value_of};
@@ -15,7 +15,9 @@ use c8_wire::Run;
 impl<'g, D: Disk> Peer<'g, D> {
     ghost use Rattle.c8_peer.specs.Peer.{IsAnswered};
 
-    /// Enters the own player's key set, for the frame of this tick and the game's delay.
+    /// Enters the own player's next key set. It counts for the frame of this tick plus the game's
+    /// delay. Refusals are found in the order `Down`, `Dropped`, `End`, `Threshold`, `Disk`. After
+    /// `Disk` the peer is down; any other refusal changes nothing.
     pub fn tick(&mut self, keys: Keys) -> Result<(), TickError>
         ensures { IsAnswered D.Disk self.old (Tick keys.0) (Ticked result) self.new }
     {
@@ -39,7 +41,9 @@ impl<'g, D: Disk> Peer<'g, D> {
         }
     }
 
-    /// Lets a player go, at player one: from here on its inputs are taken from those who stay.
+    /// Drops a player. Only player one can, and from now on it takes the leaver's inputs from the
+    /// players who stay. Refusals are found in the order `Down`, `NotChair`, `Myself`, `NotPlaying`,
+    /// `Already`, `Disk`. After `Disk` the peer is down; any other refusal changes nothing.
     pub fn leave(&mut self, leaver: Player) -> Result<(), LeaveError>
         ensures { IsAnswered D.Disk self.old (Leave leaver.number) (Left result) self.new }
     {
@@ -56,8 +60,10 @@ impl<'g, D: Disk> Peer<'g, D> {
         }
     }
 
-    /// Ends a leaver's list, at player one, and answers the length at which it ends: as many inputs
-    /// as player one holds, once all who stay have answered that they hold no more.
+    /// Cuts a leaver's list and returns its length: as many inputs as player one holds. Only player
+    /// one can, once all who stay have answered that they hold no more. Refusals are found in the
+    /// order `Down`, `NotLeaving`, `Already`, `NotReady`, `Disk`. After `Disk` the peer is down; any
+    /// other refusal changes nothing.
     pub fn decide(&mut self, leaver: Player) -> Result<u32, DecideError>
         ensures { IsAnswered D.Disk self.old (Decide leaver.number) (Decided result) self.new }
     {
@@ -75,7 +81,7 @@ impl<'g, D: Disk> Peer<'g, D> {
     }
 }
 
-/// The end of a player's list where it ends now.
+/// Builds the record that cuts a player's list at `length`, with no inputs.
 #[tactic(auto, unfolding(c8_wire::specs::Reading::words_of))]
 fn end_at(player: Player, length: u32) -> Record<'static>
     ensures { value_of result ≡ Cut player.number length length [] }

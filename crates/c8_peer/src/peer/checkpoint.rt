@@ -1,4 +1,4 @@
-//! A checkpoint, recorded piece by piece.
+//! The call `checkpoint`, which records one piece of a checkpoint.
 ghost use Rattle.std.specs.Prelude.{◌≡◌, ◌≢◌, ◌<◌, ◌≤◌, MatchResult, OnOk, Ok, Err};
 ghost use Rattle.c8_known.specs.Confirmed.{confirmed};
 ghost use Rattle.c8_check.specs.Checks.{all_pieces, piece_in, save_bytes, digest_of, frames_of, with_piece, with_whole, MayCheck};
@@ -24,14 +24,18 @@ use c8_wire::Run;
 impl<'g, D: Disk> Peer<'g, D> {
     ghost use Rattle.c8_peer.specs.Peer.{IsAnswered};
 
-    /// Records the next piece of a checkpoint, at which later openings begin, or, after all 36 pieces, their
-    /// digest: 37 calls make it whole, among which others may come. Where none is under way a
-    /// new one begins, of the machine and the marks after the frames that are confirmed now. An opening ends
-    /// what is under way. Refusals are found in the order Down, Dropped, Nothing.
+    /// Records the next of a checkpoint's 36 pieces, or their digest after the last one. So 37 calls
+    /// complete a checkpoint; other calls may come between them. Later openings begin there.
+    ///
+    /// If no checkpoint is under way, the call begins one: the machine and the marks after the frames
+    /// that are confirmed now. An opening discards a checkpoint that is under way.
+    ///
+    /// Refusals are found in the order `Down`, `Dropped`, `Nothing`, `Disk`. After `Disk` the peer is
+    /// down; any other refusal changes nothing.
     pub fn checkpoint(&mut self) -> Result<Check, CheckError>
         ensures { IsAnswered D.Disk self.old Checkpoint (Checked result) self.new }
     {
-        // For the proof: none is pending at a journal that is up, and no peer is too far ahead.
+        // For the proof: a journal that is up has no pending body, and no peer is too far ahead.
         let _up = self.journal.is_down();
         journals_stay_within_the_window();
         if self.is_down() {
@@ -61,7 +65,8 @@ impl<'g, D: Disk> Peer<'g, D> {
     }
 }
 
-/// Where no checkpoint is under way, cuts the one after the frames that are confirmed.
+/// Begins a checkpoint of the machine after the confirmed frames, unless one is under way. Fails with
+/// `Nothing` if no frame was confirmed after the last checkpoint.
 fn cut(checks: &mut Checks, known: &Known, roll: &Roll<'_>) -> Result<(), CheckError>
     ensures value { value_of checks.new ≡ value_of checks.old }
     ensures under_way { checks.old.count ≢ 0 → (result ≡ Ok tt) × (checks.new ≡ checks.old) }
@@ -88,7 +93,7 @@ fn cut(checks: &mut Checks, known: &Known, roll: &Roll<'_>) -> Result<(), CheckE
     Ok(())
 }
 
-/// What is said of the record that comes next.
+/// Returns the answer to the record that comes next.
 fn next_said(checks: &Checks) -> Check
     ensures { result ≡ next_said checks.now }
 {
@@ -99,7 +104,7 @@ fn next_said(checks: &Checks) -> Check
     }
 }
 
-/// The body of that record, of bytes as they were cut.
+/// Builds the body of the record that comes next, from the bytes that `cut` saved.
 fn next_body(checks: &Checks, player: Player) -> [u8; BODY_LENGTH]
     ensures { result ≡ body_of (next_record player.number checks.now) }
 {
@@ -123,7 +128,7 @@ fn next_body(checks: &Checks, player: Player) -> [u8; BODY_LENGTH]
     })
 }
 
-/// Notes that it stands.
+/// Notes that the record stands.
 fn note(checks: &mut Checks)
     requires { checks.old.count ≡ all_pieces
         → MayCheck (value_of checks.old) checks.old.frames (digest_of (plan_of checks.old)) }

@@ -1,4 +1,4 @@
-//! A delivery.
+//! The calls `deliver` and `deliver_datagram`.
 ghost use Rattle.std.specs.Prelude.{◌≡◌, ◌≤◌, true, false, Some, None, Ok, OnOk};
 ghost use Rattle.c8_wire.specs.Packet.{IsPacket};
 ghost use Rattle.c8_wire.specs.Lent.{packet_of};
@@ -23,9 +23,10 @@ use c8_wire::{Datagram, Watcher, view};
 impl<'g, D: Disk> Peer<'g, D> {
     ghost use Rattle.c8_peer.specs.Peer.{IsAnswered, known_by, told_by};
 
-    /// Takes what came over the network: any bytes, of any length. They are read where they are.
-    /// What they say is judged in this order: `Down`, `Dropped`, `Wire`, `OtherWire`, `Hand`, then by
-    /// kind, in the order of the lines in `specs/Hearing.antt`. A SEEN needs no link.
+    /// Processes a received datagram: any bytes, of any length, read in place. Refusals are found in
+    /// the order `Down`, `Dropped`, `Wire`, `OtherWire`, `Hand`, then by kind in the order of the
+    /// lines in `specs/Hearing.antt`. A SEEN needs no link. After `Disk` the peer is down, `Desync`
+    /// raises the alarm, and any other refusal changes nothing.
     pub fn deliver(&mut self, bytes: &[u8]) -> Result<Heard, Refused>
         ensures { IsAnswered D.Disk self.old (Deliver (read bytes.now)) (Delivered result)
             self.new }
@@ -43,8 +44,8 @@ impl<'g, D: Disk> Peer<'g, D> {
         Err(Refused::Wire(error))
     }
 
-    /// The same of bytes in which [`c8_wire::view`] has found a datagram, for one who has looked at
-    /// it already.
+    /// Processes a datagram that [`c8_wire::view`] has found, as [`Peer::deliver`] does its bytes. It
+    /// saves callers who have looked at the datagram a second reading.
     pub fn deliver_datagram(&mut self, datagram: &Datagram<'_>) -> Result<Heard, Refused>
         requires { IsPacket (packet_of datagram.now) }
         ensures { IsAnswered D.Disk self.old (Deliver (Ok (packet_of datagram.now)))
@@ -68,7 +69,7 @@ impl<'g, D: Disk> Peer<'g, D> {
         }
     }
 
-    /// Whether a datagram is in another version than the one that the game names.
+    /// Returns whether a datagram has another wire version than the game.
     fn is_of_other_wire(&self, datagram: &Datagram<'_>) -> bool
         ensures { result ≡ is_of_other_wire self.now.rules (packet_of datagram.now).head }
     {
@@ -87,7 +88,7 @@ impl<'g, D: Disk> Peer<'g, D> {
         ensures { IsAnswered D.Disk self.old (Deliver (Ok (packet_of datagram.now)))
             (Delivered result) self.new }
     {
-        // For the proof: what is so of every peer.
+        // For the proof: what holds for every peer.
         let _down = self.is_down();
         let sender = self.sender_of(datagram);
         match self.judge(sender, datagram) {
@@ -110,13 +111,13 @@ impl<'g, D: Disk> Peer<'g, D> {
         }
     }
 
-    /// Who says a datagram that the links admit.
+    /// Returns the sender of a datagram that the links admit.
     fn sender_of(&self, datagram: &Datagram<'_>) -> Player
         requires { IsForMe self.now.state.memory.links (packet_of datagram.now).head }
         ensures from { result.number ≡ (packet_of datagram.now).head.from }
         ensures plays { Plays (known_by self.now) result.number }
     {
-        // For the proof: what is so of every peer.
+        // For the proof: what holds for every peer.
         let _down = self.is_down();
         let Some(sender) = datagram.header().from().player() else {
             unreachable!();
@@ -124,7 +125,7 @@ impl<'g, D: Disk> Peer<'g, D> {
         sender
     }
 
-    /// What a datagram of a player comes to.
+    /// Judges an admitted datagram of a player.
     fn judge<'a>(&self, sender: Player, datagram: &Datagram<'a>) -> Result<Verdict<'a>, Refused>
         requires from { sender.number ≡ (packet_of datagram.now).head.from }
         requires plays { Plays (known_by self.now) sender.number }
@@ -137,7 +138,8 @@ impl<'g, D: Disk> Peer<'g, D> {
         judge(&self.known, self.roll.marks(), sender, datagram)
     }
 
-    /// Keeps in memory what a datagram of a player says that nothing refuses.
+    /// Notes in memory what a datagram of a player says besides inputs. Call it after the last
+    /// refusal.
     fn note(&mut self, sender: Player, datagram: &Datagram<'_>)
         requires from { sender.number ≡ (packet_of datagram.now).head.from }
         requires admitted { refusal self.old.state.memory.links (packet_of datagram.now).head
@@ -164,7 +166,7 @@ impl<'g, D: Disk> Peer<'g, D> {
         self.memory.raise_alarm();
     }
 
-    /// Takes a SEEN of the game's version: a watcher tells how many rows it has.
+    /// Takes a SEEN of the game's version, in which a watcher acknowledges rows.
     fn hear_seen(&mut self, datagram: &Datagram<'_>, rows: u32) -> Result<Heard, Refused>
         requires up { self.old.state.mode ≡ Open }
         requires stays { (player_in (known_by self.old) self.old.me).leaving ≡ false }
@@ -176,7 +178,7 @@ impl<'g, D: Disk> Peer<'g, D> {
         ensures { IsAnswered D.Disk self.old (Deliver (Ok (packet_of datagram.now)))
             (Delivered result) self.new }
     {
-        // For the proof: what is so of every peer.
+        // For the proof: what holds for every peer.
         let _down = self.is_down();
         let Some(watcher) = datagram.header().from().watcher() else {
             unreachable!();
@@ -190,7 +192,7 @@ impl<'g, D: Disk> Peer<'g, D> {
         }
     }
 
-    /// Keeps how many rows a watcher has.
+    /// Notes how many rows a watcher has acknowledged.
     fn note_seen(&mut self, watcher: Watcher, rows: u32)
         requires { rows ≤ confirmed (known_by self.old) }
         ensures { self.new ≡ record self.old {

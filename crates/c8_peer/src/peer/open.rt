@@ -1,5 +1,4 @@
-//! The opening of a peer on a disk: the room is reserved, the journal is read, and a new epoch
-//! begins in it.
+//! The call `open`: it reserves the memory, reads the journal and begins a new epoch in it.
 ghost use Rattle.std.specs.Prelude.{◌≡◌, ◌==◌, ◌≤◌, ◌<◌, ◌+◌, ℕ, List, [], length, false, Some, Ok, IfOk, IfErr};
 ghost use Rattle.c8_disk.specs.Runs.{LeavesOnly, IsSameDisk};
 ghost use Rattle.c8_disk.specs.Asks.{Asks};
@@ -37,13 +36,13 @@ const LAST_EPOCH: u32 = u32::MAX;
 const FORM: u32 = 2;
 
 impl<'g, D: Disk> Peer<'g, D> {
-    /// Opens the peer of player `me` in a game and a room, on the disk that holds its journal; on
-    /// one that keeps no record the journal begins. Each opening records a new epoch.
+    /// Opens the peer of player `me` in a game and a room (the match id), on the disk that holds its
+    /// journal. If the disk has no record, a new journal begins. Each opening records a new epoch.
     ///
-    /// Each refusal gives the disk back. `WrongPlayer` is told first of all where the game has no
-    /// such player. All memory is reserved then, before the disk is touched. What is wrong with the
-    /// journal is told before anything is added to it: it keeps what it had, and no byte of the disk
-    /// changes but the gate after its last body, which is closed if it was open or missing.
+    /// Each refusal returns the disk. `WrongPlayer` comes first if the game has no such player. Then
+    /// the call reserves all memory, or fails with `Memory` before it touches the disk. Then it reads
+    /// the journal. If the journal is refused, nothing is added to it, and no byte of the disk changes
+    /// except the gate after the last body, which is closed if it was open or missing.
     pub fn open(
         alloc: Global,
         disk: D,
@@ -70,7 +69,7 @@ impl<'g, D: Disk> Peer<'g, D> {
     }
 }
 
-/// All the memory that a peer has: for what it knows, and for its roll.
+/// Reserves all memory of a peer: for what it knows, and for its roll.
 fn reserve(alloc: Global, game: &Game, me: Player) -> Result<(Known, Buffers), AllocError>
     requires { me.number ≤ game.now.players }
     ensures known { IfOk result (λ reserved. reserved.0 ≡ known_of game.now me.number []) }
@@ -80,7 +79,7 @@ fn reserve(alloc: Global, game: &Game, me: Player) -> Result<(Known, Buffers), A
     Ok((Known::new(alloc, game, me)?, Buffers::new(alloc, game)?))
 }
 
-/// Opens the peer in memory that was reserved for it.
+/// Opens the peer in the memory that [`reserve`] got for it.
 fn open_in<'g, D: Disk>(
     disk: D,
     game: &'g Game,
@@ -106,7 +105,7 @@ fn open_in<'g, D: Disk>(
     game.in_range();
     let (log, last) = read_journal(disk, game, room, &mut known, &mut checks)?;
     let (journal, epoch) = begin_epoch(log, game, room, me, last)?;
-    // For the proof: what was found is confirmed.
+    // For the proof: the frames of the last checkpoint are confirmed.
     checkpoints_are_in_order();
     let roll = Roll::over(game, &known, &beginning(game, &checks), buffers);
     checks.open(FORM);
@@ -120,12 +119,12 @@ fn open_in<'g, D: Disk>(
         roll,
         memory,
     };
-    // For the proof: it is sound.
+    // For the proof: the peer is sound.
     let _down = peer.is_down();
     Ok(peer)
 }
 
-/// Where the machine begins: at the last checkpoint, or at the first frame.
+/// Returns where the machine begins: at the last checkpoint, else before the first frame.
 fn beginning(game: &Game, checks: &Checks) -> Checkpoint
     ensures { origin_of result ≡ or_first game.now (checked checks.now).last }
 {
@@ -135,8 +134,8 @@ fn beginning(game: &Game, checks: &Checks) -> Checkpoint
     }
 }
 
-/// Reads the journal that a disk keeps into `known`, which knows nothing yet, and into `checks`,
-/// which are new, and answers the last epoch.
+/// Reads the journal on a disk into the empty `known` and the new `checks`. Returns the log and the
+/// last epoch.
 fn read_journal<D: Disk>(
     disk: D,
     game: &Game,
@@ -169,7 +168,7 @@ fn read_journal<D: Disk>(
     }
 }
 
-/// Adds the opening's record to the journal that a log keeps, and answers its epoch.
+/// Appends the opening's record to the journal of a log. Returns the journal and the new epoch.
 fn begin_epoch<D: Disk>(
     log: Log<D>,
     game: &Game,
@@ -204,8 +203,8 @@ fn begin_epoch<D: Disk>(
     }
 }
 
-/// The body of the record that an opening adds to a journal: a HEAD to the first, and to another one
-/// the epoch after the last.
+/// Builds the body of an opening's record: a HEAD for a new journal, else an EPOCH with the number
+/// after `last`.
 fn opening_body(game: &Game, room: u64, me: Player, last: u32, is_first: bool) -> [u8; BODY_LENGTH]
     requires { last < last_epoch }
     ensures { (bodies : List (List ℕ)) → is_first ≡ (length bodies == 0)
@@ -230,7 +229,7 @@ fn opening_body(game: &Game, room: u64, me: Player, last: u32, is_first: bool) -
     body_of(&record)
 }
 
-/// Why an opening is refused whose journal is.
+/// Turns the refusal of a journal into the refusal of its opening.
 fn refused_as(error: ReplayError) -> OpenError
     ensures { result ≡ unfit error }
 {

@@ -1,4 +1,4 @@
-//! What a peer tells of itself.
+//! The readers of a peer. They change nothing and also work when the peer is down or dropped.
 ghost use Rattle.std.specs.Prelude.{◌≡◌, ◌≤◌, ◌+◌, ◌⊎◌};
 ghost use Rattle.c8_game.specs.Rules.{limit_of};
 ghost use Rattle.c8_machine.specs.State.{state};
@@ -21,14 +21,14 @@ use c8_record::laws::journals_stay_within_the_window;
 impl<'g, D: Disk> Peer<'g, D> {
     ghost use Rattle.c8_peer.specs.Peer.{known_by, begun_by};
 
-    /// Whose peer it is.
+    /// Returns the own player.
     pub fn me(&self) -> Player
         ensures { result.number ≡ self.now.me }
     {
         self.known.me()
     }
 
-    /// How many players the game has.
+    /// Returns how many players the game has, 2 to 4.
     pub fn players(&self) -> u8
         ensures value { result ≡ self.now.rules.players }
         ensures most { result ≤ 4 }
@@ -36,21 +36,21 @@ impl<'g, D: Disk> Peer<'g, D> {
         self.known.players()
     }
 
-    /// Whether a player is one of the game.
+    /// Returns whether the game has this player.
     fn plays(&self, player: Player) -> bool
         ensures { result ≡ is_player (known_by self.now) player.number }
     {
         player.number <= self.known.players()
     }
 
-    /// How many ticks the own player has made.
+    /// Returns how many ticks the own player has made.
     pub fn now(&self) -> u32
         ensures { result ≡ journals.ticks self.now.state.journal }
     {
         self.known.ticks()
     }
 
-    /// How many frames are confirmed.
+    /// Returns how many frames are confirmed.
     pub fn confirmed(&self) -> u32
         ensures value { result ≡ confirmed (known_by self.now) }
         ensures within { result ≤ self.now.rules.frames }
@@ -58,15 +58,15 @@ impl<'g, D: Disk> Peer<'g, D> {
         self.known.confirmed()
     }
 
-    /// The epoch that began with the last opening.
+    /// Returns the epoch that began with the last opening; the first is 1.
     pub fn epoch(&self) -> u32
         ensures { result ≡ journals.epoch self.now.state.journal }
     {
         self.memory.links.epoch()
     }
 
-    /// How many inputs are held of a player, those of the delay included; 0 of one who is not in the
-    /// game.
+    /// Returns how many inputs of a player the peer holds, with the empty ones of the delay; 0 if the
+    /// game has no such player.
     pub fn count(&self, player: Player) -> u32
         ensures value { result ≡ count_in (known_by self.now) player.number }
         ensures within { result ≤ limit_of self.now.rules }
@@ -77,7 +77,7 @@ impl<'g, D: Disk> Peer<'g, D> {
         self.known.count(player)
     }
 
-    /// How many of the own inputs a player has acknowledged since the last opening; at first those
+    /// Returns how many own inputs a player has acknowledged since the last opening; at first those
     /// of the delay.
     pub fn acked(&self, player: Player) -> u32
         ensures value { result ≡ acked_of self.now.state.memory.acks player.number }
@@ -86,29 +86,30 @@ impl<'g, D: Disk> Peer<'g, D> {
         self.memory.window.acked(player)
     }
 
-    /// Whether the link to a player is open, so that DATA may be said to it.
+    /// Returns whether the link to a player is open. DATA needs an open link.
     pub fn is_linked(&self, player: Player) -> bool
         ensures { result ≡ (link_to self.now.state.memory.links player.number).is_open }
     {
         self.memory.links.open(player).is_some()
     }
 
-    /// Whether a player's inputs are no longer taken from itself.
+    /// Returns whether the journal has a FREEZE or a LEAVE of a player. If so, the peer refuses the
+    /// player's own DATA.
     pub fn frozen(&self, player: Player) -> bool
         ensures { result ≡ is_frozen_in (known_by self.now) player.number }
     {
         self.plays(player) && self.known.frozen(player)
     }
 
-    /// Whether a LEAVE of a player stands: at player one that it was let go, at the player itself
-    /// that it has been dropped.
+    /// Returns whether the journal has a LEAVE of a player. Player one records it when it drops the
+    /// player, and the dropped player when it receives its own CUT. Other peers never have one.
     pub fn leaving(&self, player: Player) -> bool
         ensures { result ≡ (player_in (known_by self.now) player.number).leaving }
     {
         self.plays(player) && self.known.leaving(player)
     }
 
-    /// The length at which a player's list is cut.
+    /// Returns the length at which a player's list is cut; `None` if it is not cut.
     pub fn cut_of(&self, player: Player) -> Option<u32>
         ensures { result ≡ (player_in (known_by self.now) player.number).cut }
     {
@@ -118,23 +119,23 @@ impl<'g, D: Disk> Peer<'g, D> {
         self.known.cut_of(player)
     }
 
-    /// Whether this peer's player has been dropped: only readers serve from then on.
+    /// Returns whether the own player has been dropped. From then on only readers work.
     pub fn dropped(&self) -> bool
         ensures { result ≡ (player_in (known_by self.now) self.now.me).leaving }
     {
         self.known.leaving(self.known.me())
     }
 
-    /// Whether a player's machine was seen to differ since the last opening.
+    /// Returns whether the machine of another peer has differed since the last opening.
     pub fn alarm(&self) -> bool
         ensures { result ≡ self.now.state.memory.alarm }
     {
         self.memory.alarm
     }
 
-    /// The machine that the player sees: the run of the best guess at each frame's inputs. It began
-    /// at the last checkpoint that the opening found; where that is true (`HasTrueChecks`) it is the
-    /// run from the first frame on.
+    /// Returns the machine that the player sees: the run of the best guess at each frame's inputs. It
+    /// began at the last checkpoint that the opening found. If the journal's checkpoints are true
+    /// (`HasTrueChecks`), it equals the run from the first frame on.
     pub fn shown(&self) -> &Machine
         ensures value { state result.now
             ≡ run_since self.now.rules (begun_by self.now) (best_rows (known_by self.now)) }
@@ -144,10 +145,13 @@ impl<'g, D: Disk> Peer<'g, D> {
         self.roll.shown()
     }
 
-    /// How many frames were run when the peer last recorded something: at the opening as many as the
-    /// journal has ticks after the last checkpoint that was found; in a call those from the oldest on whose best guess the record changed, or
-    /// the new one alone, at most the window's, since no peer is further ahead than that, and in a
-    /// tick one more. A call that records nothing runs none.
+    /// Returns how many frames the last record made the peer simulate. A call that records nothing
+    /// simulates none and leaves the number.
+    ///
+    /// An opening simulates as many as the journal has ticks after the last checkpoint. A call
+    /// simulates all frames from the oldest whose best guess the record changed; if it changed none,
+    /// only a tick's new frame. These are at most `window`, in a tick one more, and none for a
+    /// checkpoint.
     pub fn last_run(&self) -> u32
         ensures value { result ≡ self.now.last_run }
         ensures ahead { (known_by self.now).ticks
@@ -159,16 +163,16 @@ impl<'g, D: Disk> Peer<'g, D> {
         self.roll.last_run()
     }
 
-    /// At how many frames the last checkpoint is that is whole, at which the next opening begins; 0 where
-    /// there is none.
+    /// Returns after how many frames the last complete checkpoint is, where the next opening begins;
+    /// 0 if there is none.
     pub fn last_checkpoint(&self) -> u32
         ensures { result ≡ frames_of (checks_of self.now.state.journal).last }
     {
         self.checks.last_frames()
     }
 
-    /// How many frames are confirmed, and the machine after them, which is said of as that of
-    /// [`Peer::shown`] is.
+    /// Returns how many frames are confirmed, and the machine after them. It began where the machine
+    /// of [`Peer::shown`] did, and equals the run from the first frame on under the same condition.
     pub fn base(&self) -> (u32, &Machine)
         ensures confirmed { result.0 ≡ confirmed (known_by self.now) }
         ensures machine { state result.1.now

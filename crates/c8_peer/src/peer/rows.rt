@@ -1,4 +1,4 @@
-//! The confirmed rows.
+//! The call `rows`, which lends the confirmed rows.
 ghost use Rattle.std.specs.Prelude.{◌≡◌, ◌≤◌, ◌<◌, ◌==◌, take, length};
 ghost use Rattle.c8_known.specs.Known.{player_in};
 ghost use Rattle.c8_known.specs.Confirmed.{confirmed, row};
@@ -9,13 +9,13 @@ use c8_game::{Player, Row};
 use c8_known::Known;
 use std::marker::Model;
 
-/// The inputs of the frames that are confirmed at a peer, lent: they never change again.
+/// The confirmed rows of a peer, lent. They never change again.
 #[derive(Drop)]
 pub struct Rows<'a> {
     known: &'a Known,
 }
 
-/// It is seen as what the peer knows.
+/// The model is what the peer knows.
 impl<'a> Model for Rows<'a> {
     ghost use Rattle.c8_known.specs.Known.{KnownValue};
 
@@ -25,27 +25,28 @@ impl<'a> Model for Rows<'a> {
 }
 
 impl<'a> Rows<'a> {
-    /// How many frames are confirmed.
+    /// Returns how many frames are confirmed.
     pub fn len(&self) -> u32
         ensures { result ≡ confirmed self.now }
     {
         self.known.confirmed()
     }
 
+    /// Returns whether no frame is confirmed yet.
     pub fn is_empty(&self) -> bool
         ensures { result ≡ (confirmed self.now == 0) }
     {
         self.len() == 0
     }
 
-    /// How many players have inputs in a row.
+    /// Returns how many players have inputs in a row.
     pub fn players(&self) -> u8
         ensures { result ≡ length self.now.players }
     {
         self.known.players()
     }
 
-    /// The inputs of all players at a frame.
+    /// Returns the inputs of all players at a confirmed frame, counted from 0.
     pub fn row(&self, frame: u32) -> Row
         requires { frame < confirmed self.now }
         ensures { result ≡ row self.now frame }
@@ -53,9 +54,9 @@ impl<'a> Rows<'a> {
         self.known.row(frame)
     }
 
-    /// A player's inputs, one a frame, as far as they are held. From the length on at which its
-    /// list is cut its inputs are empty sets, which are not lent: then fewer are lent than frames
-    /// are confirmed.
+    /// Lends a player's inputs of the confirmed frames, one per frame, as far as they are held. Past
+    /// the end of a cut list the inputs are empty sets and are not lent, so there can be fewer than
+    /// confirmed frames.
     pub fn inputs(&self, player: Player) -> &'a [u16]
         requires { player.number ≤ length self.now.players }
         ensures { result.now ≡ take (confirmed self.now) (player_in self.now player.number).held }
@@ -68,7 +69,7 @@ impl<'a> Rows<'a> {
 impl<'g, D: Disk> Peer<'g, D> {
     ghost use Rattle.c8_peer.specs.Peer.{known_by};
 
-    /// The confirmed rows.
+    /// Lends the confirmed rows.
     pub fn rows(&self) -> Rows<'_>
         ensures known { result ≡ known_by self.now }
         ensures players { length result.players ≡ self.now.rules.players }

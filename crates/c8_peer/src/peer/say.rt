@@ -1,4 +1,4 @@
-//! A saying.
+//! The calls `say` and `say_show`.
 ghost use Rattle.std.specs.Prelude.{◌≡◌, ◌≤◌, take, drop, IfOk, IfErr, OnErr, Err};
 ghost use Rattle.c8_peer.specs.State as states;
 ghost use Rattle.c8_peer.specs.Asked.{saying_of};
@@ -16,8 +16,8 @@ use c8_wire::{Body, LONGEST_DATAGRAM, Said, Watcher, write};
 impl<'g, D: Disk> Peer<'g, D> {
     ghost use Rattle.c8_peer.specs.Peer.{IsStep, IsSaid, told_by};
 
-    /// Writes a datagram to another player to the front of `out`, and answers its length, 24 to
-    /// 174. Refusals are found in the order of `Unsayable`; after one `out` is as it was.
+    /// Writes a datagram for another player to the front of `out`. Returns its length, 24 to 174
+    /// bytes. Refusals are found in the order of `Unsayable` and leave `out` as it was.
     pub fn say(
         &self,
         to: Player,
@@ -51,9 +51,9 @@ impl<'g, D: Disk> Peer<'g, D> {
         Ok(write(&Said { head, body }, out))
     }
 
-    /// Writes a SHOW to a watcher to the front of `out`, and answers its length, 30 to 158: the confirmed
-    /// rows from the first one on that it has not told it has, at most 16. Refusals are `Down`, and then
-    /// `NotMine` where this is not player one; after one `out` is as it was.
+    /// Writes a SHOW for a watcher to the front of `out`: the confirmed rows from the first that it has
+    /// not acknowledged, at most 16. Returns its length, 30 to 158 bytes. The refusals are `Down`, then
+    /// `NotMine` if this is not player one. They leave `out` as it was.
     pub fn say_show(
         &self,
         watcher: Watcher,
@@ -84,7 +84,7 @@ impl<'g, D: Disk> Peer<'g, D> {
         Ok(write(&said, out))
     }
 
-    /// The mark of the greatest multiple of 32 confirmed frames.
+    /// Returns the mark at the greatest multiple of 32 confirmed frames.
     fn newest_mark(&self) -> FrameMark
         ensures { result ≡ newest_mark (told_by self.now) }
     {

@@ -2,7 +2,7 @@ use Rattle.std.proofs.Common.{rules}
 use Rattle.c8_peer.specs.Hearing.{hear_data, is_desync}
 use Rattle.c8_peer.proofs.hearing.judge_data.Goals as goal
 
--- what is wrong here is refused at once
+-- these ends follow from the definition alone
 pub returns-then-ack-count-clause-judged : goal.returns-then-ack-count-clause-judged
 unfolding hear_data is_desync
 returns-then-ack-count-clause-judged c = search rules

@@ -2,7 +2,7 @@ use Rattle.std.proofs.Common.{rules}
 use Rattle.c8_peer.specs.Calls.{decide}
 use Rattle.c8_peer.proofs.judging.judge_decide.Goals as goal
 
--- what is wrong here is refused at once
+-- these refusals follow from the definition alone
 pub returns-clause-judged : goal.returns-clause-judged
 unfolding decide
 returns-clause-judged c = search rules
