@@ -10,7 +10,7 @@ use Rattle.c8_wire.specs.Packet as packets
 use Rattle.c8_hand.specs.declared.error.HandError.{HandError}
 use Rattle.c8_hand.specs.Links.{LinksValue, link_to, heard}
 use Rattle.c8_hand.specs.Links as links
-use Rattle.c8_hand.specs.checked.LinkLaws.{is_for_me, opens_by_welcome}
+use Rattle.c8_hand.specs.checked.LinkLaws.{is_for_me, player_admitted, opens_by_welcome}
 use Rattle.c8_known.specs.declared.error.KnownError.{KnownError}
 use Rattle.c8_known.specs.declared.error.KnownError.TheVariants as knowns
 use Rattle.c8_known.specs.Journal.{Record, held, count, has_freeze, has_leave, cut_of}
@@ -343,7 +343,7 @@ named_heard said p l packet me among admitted named q opens =
       sender_epoch = welcome.theirs;
       addressee_epoch = welcome.mine;
     })
-    (opens_by_welcome l packet.head admitted q opens)
+    (opens_by_welcome l packet.head (player_admitted l packet.head admitted) q opens)
 
 good_welcome : (rules : Rules) (room : ℕ) (J : ℕ → List Record) (said : List Packet) (p : ℕ) (m : Memory) (packet : Packet) (ack : ℕ) → IsAwake rules room J said p m → IsAmong said packet
     → links.refusal m.links packet.head ≡ None → IsGood rules room J said p (hear_welcome (known_of rules p (J p)) m packet.head ack)
