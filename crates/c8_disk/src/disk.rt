@@ -1,5 +1,5 @@
 //! A disk as a journal sees it: what a read gives, and what a crash may leave.
-ghost use Rattle.std.specs.Prelude.{◌≡◌, ◌+◌, ◌<◌, ◌≤◌, List, [], ◌∷◌, ◌++◌, ℕ, length, take, drop, IfSome, OnOk, IsErrOf};
+ghost use Rattle.std.specs.Prelude.{◌≡◌, ◌+◌, ◌<◌, ◌≤◌, List, [], ◌∷◌, ◌++◌, ℕ, Bool, length, take, drop, is_some, IfSome, OnOk, IsErrOf};
 ghost use Rattle.c8_disk.specs.declared.disk.Arm.{Arm};
 ghost use Rattle.c8_disk.specs.Disk.{DiskCall, Reading, Writing, Syncing, AddsNone, Only, Writes, WritesImages, Elapses, HasCause, longest_write};
 
@@ -45,6 +45,9 @@ pub trait Disk {
     /// How many bytes fit.
     ghost capacity: { Self → ℕ };
 
+    /// Whether disks of this kind lend their bytes in place.
+    ghost lends: { Bool };
+
     /// The values given to `arm`, oldest first.
     ghost arms: { Self → List Arm };
 
@@ -62,12 +65,13 @@ pub trait Disk {
     fn capacity(&self) -> u32
         ensures { result ≡ capacity self.now };
 
-    /// Lends the bytes that a read gives, if the disk holds them all in memory; otherwise `None`.
+    /// Lends the bytes that a read gives. A kind of disk that does not hold them in memory always answers `None`.
     ///
     /// This is not a read: it asks nothing of the disk, never fails, and does not count for `arm`. So it does not show
     /// whether a read would fail; a caller that has to know makes the read as well.
     fn held(&self) -> Option<&[u8]>
-        ensures { IfSome result (λ bytes. bytes.now ≡ seen self.now) };
+        ensures bytes { IfSome result (λ bytes. bytes.now ≡ seen self.now) }
+        ensures lent { is_some result ≡ lends };
 
     /// Reads as many bytes as `buffer` has, from place `at` on. After an error `buffer` may hold anything.
     fn read_at(&mut self, at: u32, buffer: &mut [u8]) -> Result<(), DiskError>

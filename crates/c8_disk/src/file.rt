@@ -1,5 +1,5 @@
 //! A disk in a file of the operating system.
-ghost use Rattle.std.specs.Prelude.{◌≡◌, ◌≤◌, ◌<◌, ◌+◌, ◌↔◌, [], ◌∷◌, ◌++◌, true, false, length, take, drop, vec_len, vec_capacity, IsSome, IfSome, IfOk, IfErr, OnOk, OnErr, IsErrOf};
+ghost use Rattle.std.specs.Prelude.{◌≡◌, ◌≤◌, ◌<◌, ◌+◌, ◌↔◌, [], ◌∷◌, ◌++◌, true, false, length, take, drop, vec_len, vec_capacity, is_some, IfSome, IfOk, IfErr, OnOk, OnErr, IsErrOf};
 ghost use Rattle.c8_disk.specs.Disk.{Reading, Writing, Syncing, Only, AddsNone, Writes, WritesImages, Elapses, HasCause, longest_write};
 ghost use Rattle.c8_disk.specs.Past.{IsImage, LeftSince, AddsWrite};
 ghost use Rattle.c8_disk.specs.checked.PastLaws.{reads_image, counts, only};
@@ -163,6 +163,8 @@ impl<S: SystemFile> Disk for FileDisk<S> {
 
     ghost capacity = { λ d. d.held.room };
 
+    ghost lends = { true };
+
     ghost arms = { λ d. d.arms.items };
 
     ghost does = { λ d call e. IsFileCall d call e };
@@ -187,7 +189,7 @@ impl<S: SystemFile> Disk for FileDisk<S> {
     /// Lends all bytes, even if the disk is down.
     fn held(&self) -> Option<&[u8]>
         ensures bytes { IfSome result (λ bytes. bytes.now ≡ file_bytes self.now) }
-        ensures there { IsSome result }
+        ensures lent { is_some result ≡ true }
     {
         Some(&self.held.bytes)
     }

@@ -1,5 +1,5 @@
 //! A disk in memory that can fail, stop and crash.
-ghost use Rattle.std.specs.Prelude.{◌≡◌, ◌≤◌, ◌<◌, ◌+◌, ◌^◌, ◌↔◌, true, [], ◌∷◌, ◌++◌, length, vec_len, vec_capacity, take, drop, IsSome, IfSome, IfOk, OnOk, OnErr, IsErrOf, refl, false};
+ghost use Rattle.std.specs.Prelude.{◌≡◌, ◌≤◌, ◌<◌, ◌+◌, ◌^◌, ◌↔◌, true, [], ◌∷◌, ◌++◌, length, vec_len, vec_capacity, take, drop, is_some, IfSome, IfOk, OnOk, OnErr, IsErrOf, refl, false};
 ghost use Rattle.c8_disk.specs.AtOnce.{IsBetweenSyncs};
 ghost use Rattle.c8_disk.specs.Disk.{Reading, Writing, Syncing, Only, AddsNone, Writes, WritesImages, Elapses, HasCause, longest_write};
 ghost use Rattle.c8_disk.specs.Past.{content, synced, are_lawful, fit, IsImage, LeftSince};
@@ -190,6 +190,8 @@ impl Disk for MemDisk {
 
     ghost capacity = { λ d. d.room };
 
+    ghost lends = { true };
+
     ghost arms = { λ d. d.arms.items };
 
     ghost does = { λ d call e. IsMemoryCall (value_of d) call (value_of e) };
@@ -214,7 +216,7 @@ impl Disk for MemDisk {
     /// Lends all bytes, even if the next read is to fail.
     fn held(&self) -> Option<&[u8]>
         ensures bytes { IfSome result (λ bytes. bytes.now ≡ bytes_of self.now) }
-        ensures there { IsSome result }
+        ensures lent { is_some result ≡ true }
     {
         Some(&self.bytes)
     }

@@ -1,5 +1,5 @@
 -- Which calls of its disk a log makes.
-use Rattle.std.specs.Prelude.{◌≡◌, ◌⊎◌, ◌<◌, ◌≤◌, ℕ, min, ◌+◌, ◌*◌, ◌/◌, true, false, List, [], ◌∷◌, ◌++◌, length, Result, Ok, Err}
+use Rattle.std.specs.Prelude.{◌≡◌, ◌⊎◌, ◌<◌, ◌≤◌, ℕ, min, ◌+◌, ◌*◌, ◌/◌, if◌then◌else◌, Bool, true, false, List, [], ◌∷◌, ◌++◌, length, Result, Ok, Err}
 use Rattle.c8_disk.specs.declared.error.DiskError.TheVariants.{Failed as DiskFailed, Full as DiskFull}
 use Rattle.c8_disk.specs.Asks.{Answer, Run, Nothing, Write, Sync, Reads, Then}
 use Rattle.c8_log.specs.declared.error.LogError.{LogError}
@@ -29,9 +29,13 @@ Repair image calls answer =
 abbrev pub blocks_to_gate : List ℕ → ℕ
 blocks_to_gate image = (min (slot_length * kept_count image + 1) (length image) + 4607) / block_length
 
--- an opening: a sync, a read of each of these blocks, and the repair
-abbrev pub Opening : List ℕ → Run
-Opening image = Then Sync (Then (Reads (blocks_to_gate image)) (Repair image))
+-- how many reads find the end: none of a disk that lends its bytes, one for each of these blocks of any other
+abbrev pub end_reads : Bool → List ℕ → ℕ
+end_reads lends image = if lends then 0 else blocks_to_gate image
+
+-- an opening: a sync, these reads, and the repair
+abbrev pub Opening : Bool → List ℕ → Run
+Opening lends image = Then Sync (Then (Reads (end_reads lends image)) (Repair image))
 
 -- what the disk answered, by what the log answers
 abbrev pub told_by : {T : Type 0} → Result T LogError → Answer

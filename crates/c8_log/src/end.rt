@@ -1,13 +1,13 @@
 //! Where the kept slots of a disk end.
-ghost use Rattle.std.specs.Prelude.{◌≡◌, ◌<◌, ◌≤◌, ◌+◌, ◌*◌, ◌/◌, ◌^◌, ◌-◌, min, length, take, drop, IfSome, IfOk, IsErrOf};
+ghost use Rattle.std.specs.Prelude.{◌≡◌, ◌<◌, ◌≤◌, ◌+◌, ◌*◌, ◌/◌, ◌^◌, false, length, take, drop, is_some, IfSome, IfOk, IsErrOf};
 ghost use Rattle.c8_disk.specs.Disk.{HasCause};
 ghost use Rattle.c8_disk.specs.Runs.{ReadsOnly};
 ghost use Rattle.c8_disk.specs.Asks.{Asks, Reads, answer_of};
-ghost use Rattle.c8_log.specs.Asked.{blocks_to_gate};
+ghost use Rattle.c8_log.specs.Asked.{blocks_to_gate, end_reads};
 ghost use Rattle.c8_log.specs.Slots.{kept_count, slot_length, block_slots};
 ghost use Rattle.c8_log.specs.Log.{has_closed_gate};
 
-use crate::block::{BLOCK, BLOCK_LENGTH, BLOCK_SLOTS, Block};
+use crate::block::{BLOCK, BLOCK_SLOTS, Block};
 use crate::image::kept_len;
 use crate::slot::{OPEN_GATE, SLOT, SLOT_LENGTH};
 use c8_disk::{Disk, DiskError};
@@ -19,8 +19,40 @@ pub(crate) struct End {
     pub(crate) closed: bool,
 }
 
-/// Where they end, read a block at a time.
+/// Finds the end of the kept slots: in place on a disk that lends its bytes, else by reading blocks.
 pub(crate) fn find_end<D: Disk>(disk: &mut D) -> Result<End, DiskError>
+    ensures count { IfOk result (λ end. end.count ≡ kept_count (D.seen disk.old)) }
+    ensures closed { IfOk result (λ end. end.closed ≡ has_closed_gate (D.seen disk.old)) }
+    ensures fits { IfOk result (λ end. slot_length * end.count < 2 ^ 32) }
+    ensures reads { ReadsOnly D.Disk disk.old disk.new }
+    ensures asks { Asks D.Disk (Reads (end_reads D.lends (D.seen disk.old)))
+        (answer_of result) disk.old disk.new }
+    ensures cause { HasCause (D.failures disk.old) (D.failures disk.new) result }
+    ensures never_full { IsErrOf result DiskError.Full → ⊥ }
+{
+    match end_held(disk) {
+        Some(end) => Ok(end),
+        None => read_end(disk),
+    }
+}
+
+/// Finds it in the bytes that a disk lends. `None` if the disk lends none.
+fn end_held<D: Disk>(disk: &D) -> Option<End>
+    ensures lent { is_some result ≡ D.lends }
+    ensures count { IfSome result (λ end. end.count ≡ kept_count (D.seen disk.now)) }
+    ensures closed { IfSome result (λ end. end.closed ≡ has_closed_gate (D.seen disk.now)) }
+    ensures fits { IfSome result (λ end. slot_length * end.count < 2 ^ 32) }
+{
+    // For the proof: the bytes of a disk are fewer than 2^32.
+    let _length = disk.len();
+    match disk.held() {
+        Some(bytes) => Some(end_of(bytes)),
+        None => None,
+    }
+}
+
+/// Finds it by reads, a block at a time, up to the block in which it lies.
+fn read_end<D: Disk>(disk: &mut D) -> Result<End, DiskError>
     ensures count { IfOk result (λ end. end.count ≡ kept_count (D.seen disk.old)) }
     ensures closed { IfOk result (λ end. end.closed ≡ has_closed_gate (D.seen disk.old)) }
     ensures fits { IfOk result (λ end. slot_length * end.count < 2 ^ 32) }
@@ -47,7 +79,7 @@ pub(crate) fn find_end<D: Disk>(disk: &mut D) -> Result<End, DiskError>
     })
 }
 
-/// The same of one block alone, which the disk's end may cut short.
+/// Reads one block, which the disk's end may cut short, and finds the end of its kept slots.
 fn end_in<D: Disk>(disk: &mut D, at: u32, block: &mut Block) -> Result<End, DiskError>
     requires { at ≤ length (D.seen disk.old) }
     ensures count { IfOk result (λ end.
@@ -60,42 +92,22 @@ fn end_in<D: Disk>(disk: &mut D, at: u32, block: &mut Block) -> Result<End, Disk
     ensures never_full { IsErrOf result DiskError.Full → ⊥ }
 {
     let size = (disk.len() - at).min(BLOCK) as usize;
-    if let Some(end) = end_held(disk, at as usize, size) {
-        // The read is made all the same, of no byte: the disk may refuse it.
-        disk.read_at(at, &mut [])?;
-        return Ok(end);
-    }
     let part = &mut block.bytes[..size];
     disk.read_at(at, part)?;
     Ok(end_of(part))
 }
 
-/// The same of a disk that lends its bytes, judged in place: `None` of one that doesn't. It makes no
-/// call that reads.
-fn end_held<D: Disk>(disk: &D, at: usize, size: usize) -> Option<End>
-    requires place { at ≤ length (D.seen disk.now) }
-    requires size { size ≡ min (length (D.seen disk.now) - at) (slot_length * block_slots) }
-    ensures count { IfSome result (λ end.
-        end.count ≡ kept_count (take (slot_length * block_slots) (drop at (D.seen disk.now)))) }
-    ensures closed { IfSome result (λ end.
-        end.closed ≡ has_closed_gate (take (slot_length * block_slots) (drop at (D.seen disk.now)))) }
+/// Finds the end of the kept slots of some bytes.
+fn end_of(bytes: &[u8]) -> End
+    requires { length bytes.now < 2 ^ 32 }
+    ensures count { result.count ≡ kept_count bytes.now }
+    ensures closed { result.closed ≡ has_closed_gate bytes.now }
+    ensures fits { slot_length * result.count ≤ length bytes.now }
 {
-    match disk.held() {
-        Some(bytes) => Some(end_of(&bytes[at..at + size])),
-        None => None,
-    }
-}
-
-/// The same of bytes that a block has room for.
-fn end_of(part: &[u8]) -> End
-    requires { length part.now ≤ slot_length * block_slots }
-    ensures count { result.count ≡ kept_count part.now }
-    ensures closed { result.closed ≡ has_closed_gate part.now }
-{
-    let count = kept_len(part);
+    let count = kept_len(bytes);
     let gate = SLOT_LENGTH * count;
     End {
         count: count as u32,
-        closed: gate < part.len() && part[gate] != OPEN_GATE,
+        closed: gate < bytes.len() && bytes[gate] != OPEN_GATE,
     }
 }

@@ -4,9 +4,9 @@
 //! [`Log`] is the list, over any [`c8_disk::Disk`]; its slots are read a [`Block`] at a time.
 //! [`kept_body`] lends a body out of the bytes of a disk. Crates above take a [`Journal`] over a log
 //! that is open: its contract speaks of lists of bodies alone. What the bytes keep stands in
-//! `specs/Slots.antt`, what a call leaves of a disk in `specs/Log.antt`, which calls of a disk a log
-//! makes in `specs/Asked.antt`, what a journal is in `specs/Journal.antt`. What crates above
-//! conclude from the contracts stands in [`laws`].
+//! `specs/Slots.antt`, what a call leaves of a disk in `specs/Log.antt`, what a read does in
+//! `specs/Read.antt`, which calls of a disk a log makes in `specs/Asked.antt`, what a journal is in
+//! `specs/Journal.antt`. What crates above conclude from the contracts stands in [`laws`].
 #![tactic(auto)]
 
 mod append;

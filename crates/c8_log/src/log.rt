@@ -1,8 +1,8 @@
 //! The log, over a disk that it owns.
 ghost use Rattle.std.specs.Prelude.{◌≡◌, ◌≢◌, ◌<◌, ◌≤◌, ◌+◌, ◌*◌, ◌^◌, ◌++◌, [], ◌∷◌, ◌↔◌, ◌==◌, true, false, ℕ, length, take, drop, slice_get, Some, IfOk, OnOk, IfErr, OnErr, IsErrOf};
 ghost use Rattle.c8_disk.specs.Disk.{AddsNone};
-ghost use Rattle.c8_disk.specs.Runs.{LeavesOnly, IsSameDisk, ReadsOnly};
-ghost use Rattle.c8_disk.specs.Asks.{Asks, Reads};
+ghost use Rattle.c8_disk.specs.Runs.{LeavesOnly, IsSameDisk};
+ghost use Rattle.c8_disk.specs.Asks.{Asks};
 ghost use Rattle.c8_log.specs.Asked.{AppendWithin, Opening, told_by, told_by_opening};
 ghost use Rattle.c8_log.specs.Slots.{body_of, kept, kept_count, slot_length, block_slots, slots_from};
 
@@ -46,11 +46,13 @@ impl<D: Disk> fmt::Debug for Log<D> {
 
 impl<D: Disk> Log<D> {
     ghost use Rattle.c8_log.specs.Log.{KeepsOneOf, KeepsWithOrWithout, IsAtRest, IsLeftByOpening, IsLeftByAppend, disk_after, has_closed_gate, repaired, with_slot};
+    ghost use Rattle.c8_log.specs.Read.{HasRead};
 
     /// Opens the log that a disk holds, and closes the gate after its last body if that was left
-    /// open or is missing. At an error the disk is given back, and it keeps what it kept. A disk
-    /// that a failure takes down for good, as it does a [`c8_disk::FileDisk`], is to be dropped
-    /// then, and opened anew by its path.
+    /// open or is missing. It finds the last body in the bytes that the disk lends; of a disk that
+    /// lends none it reads block after block. At an error the disk is given back, and it keeps what
+    /// it kept. Drop a disk that a failure takes down for good, as it does a
+    /// [`c8_disk::FileDisk`], and open it again by its path.
     pub fn open(disk: D) -> Result<Log<D>, (LogError, D)>
         ensures at_rest { IfOk result (λ log. IsAtRest D.Disk log) }
         ensures up { IfOk result (λ log. log.down ≡ false) }
@@ -79,7 +81,7 @@ impl<D: Disk> Log<D> {
         ensures same { IsSameDisk D.Disk disk (disk_after result) }
 
         // Which calls of the disk it makes, until one of them is refused.
-        ensures asks { Asks D.Disk (Opening (D.seen disk)) (told_by_opening result)
+        ensures asks { Asks D.Disk (Opening D.lends (D.seen disk)) (told_by_opening result)
             disk (disk_after result) }
     {
         let mut disk = disk;
@@ -178,24 +180,7 @@ impl<D: Disk> Log<D> {
 
         ensures body { IfOk result (λ slot.
             slice_get (kept (D.seen self.old.disk)) n ≡ Some slot.body.now) }
-        ensures ok { OnOk result (self.new ≡ record self.old { disk = self.new.disk }) }
-        ensures unfailed { OnOk result (D.failures self.new.disk ≡ D.failures self.old.disk) }
-        ensures at_rest { OnOk result (IsAtRest D.Disk self.new) }
-
-        // Nothing is written, and a crash at any moment of the call leaves what a crash before it
-        // could have left.
-        ensures reads { ReadsOnly D.Disk self.old.disk self.new.disk }
-        ensures asks { self.old.down ≡ false
-            → Asks D.Disk (Reads 1) (told_by result) self.old.disk self.new.disk }
-
-        // When each error comes, and what it leaves.
-        ensures down { IsErrOf result LogError.Down ↔ (self.old.down ≡ true) }
-        ensures down_leaves { IsErrOf result LogError.Down → self.new ≡ self.old }
-        ensures never_full { IsErrOf result LogError.Full → ⊥ }
-        ensures failed { IsErrOf result LogError.Failed
-            → D.failures self.old.disk < D.failures self.new.disk }
-        ensures err { OnErr result
-            (self.new ≡ record self.old { disk = self.new.disk; down = true }) }
+        ensures does { HasRead D.Disk self.old self.new result }
     {
         match self.read_slots(n, 1, block) {
             Ok(slots) => Ok(slots.get(0)),
@@ -203,8 +188,8 @@ impl<D: Disk> Log<D> {
         }
     }
 
-    /// Reads the slots from `n` on into the block, 32 of them or as many as there are, and lends them
-    /// out of it. After an error the log is down.
+    /// Reads the slots from `n` on into the block, up to 32 of them, and lends them out of it. After an
+    /// error the log is down.
     pub fn read_block<'b>(&mut self, n: u32, block: &'b mut Block) -> Result<Slots<'b>, LogError>
         requires { n < self.old.count }
 
@@ -213,30 +198,13 @@ impl<D: Disk> Log<D> {
         ensures bytes { IfOk result (λ slots. slots.bytes.now
             ≡ take (slot_length * slots_from n self.old.count) (drop (slot_length * n) (D.seen self.old.disk))) }
         ensures len { IfOk result (λ slots. length slots.bytes.now ≡ slot_length * slots_from n self.old.count) }
-        ensures ok { OnOk result (self.new ≡ record self.old { disk = self.new.disk }) }
-        ensures unfailed { OnOk result (D.failures self.new.disk ≡ D.failures self.old.disk) }
-        ensures at_rest { OnOk result (IsAtRest D.Disk self.new) }
-
-        // Nothing is written, and a crash at any moment of the call leaves what a crash before it
-        // could have left.
-        ensures reads { ReadsOnly D.Disk self.old.disk self.new.disk }
-        ensures asks { self.old.down ≡ false
-            → Asks D.Disk (Reads 1) (told_by result) self.old.disk self.new.disk }
-
-        // When each error comes, and what it leaves.
-        ensures down { IsErrOf result LogError.Down ↔ (self.old.down ≡ true) }
-        ensures down_leaves { IsErrOf result LogError.Down → self.new ≡ self.old }
-        ensures never_full { IsErrOf result LogError.Full → ⊥ }
-        ensures failed { IsErrOf result LogError.Failed
-            → D.failures self.old.disk < D.failures self.new.disk }
-        ensures err { OnErr result
-            (self.new ≡ record self.old { disk = self.new.disk; down = true }) }
+        ensures does { HasRead D.Disk self.old self.new result }
     {
         let many = (self.count - n).min(BLOCK_SLOTS as u32);
         self.read_slots(n, many, block)
     }
 
-    /// Reads so many slots from `n` on into the block, and lends them out of it.
+    /// Reads `many` slots from `n` on into the block, and lends them out of it.
     fn read_slots<'b>(
         &mut self,
         n: u32,
@@ -251,24 +219,7 @@ impl<D: Disk> Log<D> {
         ensures bytes { IfOk result (λ slots. slots.bytes.now
             ≡ take (slot_length * many) (drop (slot_length * n) (D.seen self.old.disk))) }
         ensures len { IfOk result (λ slots. length slots.bytes.now ≡ slot_length * many) }
-        ensures ok { OnOk result (self.new ≡ record self.old { disk = self.new.disk }) }
-        ensures unfailed { OnOk result (D.failures self.new.disk ≡ D.failures self.old.disk) }
-        ensures at_rest { OnOk result (IsAtRest D.Disk self.new) }
-
-        // Nothing is written, and a crash at any moment of the call leaves what a crash before it
-        // could have left.
-        ensures reads { ReadsOnly D.Disk self.old.disk self.new.disk }
-        ensures asks { self.old.down ≡ false
-            → Asks D.Disk (Reads 1) (told_by result) self.old.disk self.new.disk }
-
-        // When each error comes, and what it leaves.
-        ensures down { IsErrOf result LogError.Down ↔ (self.old.down ≡ true) }
-        ensures down_leaves { IsErrOf result LogError.Down → self.new ≡ self.old }
-        ensures never_full { IsErrOf result LogError.Full → ⊥ }
-        ensures failed { IsErrOf result LogError.Failed
-            → D.failures self.old.disk < D.failures self.new.disk }
-        ensures err { OnErr result
-            (self.new ≡ record self.old { disk = self.new.disk; down = true }) }
+        ensures does { HasRead D.Disk self.old self.new result }
     {
         if self.down {
             return Err(LogError::Down);

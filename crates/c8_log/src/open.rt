@@ -28,7 +28,7 @@ pub(crate) fn settle<D: Disk>(disk: &mut D) -> Result<u32, DiskError>
     ensures no_repair { has_closed_gate (D.seen disk.old) ≡ true
         → D.changes disk.new ≡ D.changes disk.old + 1 }
     ensures same { IsSameDisk D.Disk disk.old disk.new }
-    ensures asks { Asks D.Disk (Opening (D.seen disk.old)) (answer_of result) disk.old disk.new }
+    ensures asks { Asks D.Disk (Opening D.lends (D.seen disk.old)) (answer_of result) disk.old disk.new }
 {
     disk.sync()?;
     let end = find_end(disk)?;

@@ -11,3 +11,5 @@ mod file;
 mod log;
 #[cfg(test)]
 mod texts;
+#[cfg(test)]
+mod unlent;

@@ -65,16 +65,16 @@ new_form rules room me (r ∷ rest) = checks_more (r ∷ rest) (Epoch me (epoch 
 -- ---- the disk calls of the read
 
 module _ {D : Type 0} (g : Ghosts D) (disk : D) (rules : Rules) (room me : ℕ) where
-  pub read_run : (mid left : D) (result : Result ℕ ReplayError) (answer : Answer) → Asks g (OpenLog (g.seen disk)) (Ok tt) disk mid → bodies_found g mid ≡ bodies_found g disk
+  pub read_run : (mid left : D) (result : Result ℕ ReplayError) (answer : Answer) → Asks g (OpenLog g.lends (g.seen disk)) (Ok tt) disk mid → bodies_found g mid ≡ bodies_found g disk
       → Asks g (ReplayRun rules me room (bodies_found g mid) result) answer mid left → Asks g (ReadRun g disk rules room me result) answer disk left
   read_run mid left result answer opens same replays =
-      asks_then g (OpenLog (g.seen disk)) (ReplayRun rules me room (bodies_found g disk) result) disk mid left answer opens
+      asks_then g (OpenLog g.lends (g.seen disk)) (ReplayRun rules me room (bodies_found g disk) result) disk mid left answer opens
       (subst (λ (bodies : List (List ℕ)). Asks g (ReplayRun rules me room bodies result) answer mid left) same replays)
 
   -- the log was not opened
-  pub open_refused : (left : D) (why : DiskError) → Asks g (OpenLog (g.seen disk)) (Err why) disk left → Asks g (ReadRun g disk rules room me (Err (replays.Disk why))) (Err why) disk left
+  pub open_refused : (left : D) (why : DiskError) → Asks g (OpenLog g.lends (g.seen disk)) (Err why) disk left → Asks g (ReadRun g disk rules room me (Err (replays.Disk why))) (Err why) disk left
   open_refused left why asks =
-      asks_refused g (OpenLog (g.seen disk)) (ReplayRun rules me room (bodies_found g disk) (Err (replays.Disk why))) disk left why asks
+      asks_refused g (OpenLog g.lends (g.seen disk)) (ReplayRun rules me room (bodies_found g disk) (Err (replays.Disk why))) disk left why asks
 
 -- ---- the refusal of a journal that was read
 

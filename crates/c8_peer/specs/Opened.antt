@@ -70,7 +70,7 @@ module _ {D : Type 0} (g : Ghosts D) (disk : D) (rules : Rules) (room me : ℕ) 
   -- The disk calls of an opening: it opens the log and replays the journal with this result, then it appends its
   -- record.
   abbrev pub ReadRun : Result ℕ ReplayError → Run
-  ReadRun result = Then (OpenLog (g.seen disk)) (ReplayRun rules me room (bodies_found g disk) result)
+  ReadRun result = Then (OpenLog g.lends (g.seen disk)) (ReplayRun rules me room (bodies_found g disk) result)
 
   abbrev pub AllRead : Run
   AllRead = ReadRun (Ok (epoch (records_of (bodies_found g disk))))

@@ -6,14 +6,14 @@ use c8_peer::OpenError;
 use c8_table::{Answer, Deed, ONE, Row, Table};
 use std::test::Fail;
 
-/// The disk serves the seven calls that an opening of one record makes.
+/// The disk serves the six calls that an opening of one record makes.
 const READY: [Row; 3] = [
     (ONE, Deed::Disk(1000, 100), Answer::Done),
     (ONE, Deed::Add(HEAD_OF_SHORT), Answer::Done),
-    (ONE, Deed::Arm(Arm::Stop(7)), Answer::Done),
+    (ONE, Deed::Arm(Arm::Stop(6)), Answer::Done),
 ];
 
-/// The bytes have not changed, and all seven calls are left.
+/// The bytes have not changed, and all six calls are left.
 const UNTOUCHED: [Row; 4] = [
     (ONE, Deed::Length, Answer::Is(145)),
     (ONE, Deed::Slot(0, HEAD_OF_SHORT), Answer::Tells(true)),

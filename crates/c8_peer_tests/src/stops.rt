@@ -165,12 +165,12 @@ const A_TICK_AFTER: Told = Told { epoch: 3, ..A_TICK };
 
 /// A tick makes four calls of the disk: it writes the record and syncs, writes its gate and syncs. The
 /// opening of an empty disk makes three before that: a sync, and the first closed gate with a sync. The
-/// opening of two records makes a sync and two reads before it.
+/// opening of two records makes a sync and a read before it.
 #[rattlefmt::skip]
 const ALONE_TRIALS: [Trial; 3] = [
     Trial { place: 1, gate: 6, bare: FIRST, kept: SECOND },
     Trial { place: 2, gate: 3, bare: SECOND, kept: A_TICK },
-    Trial { place: 3, gate: 6, bare: A_TICK, kept: A_TICK_AFTER },
+    Trial { place: 3, gate: 5, bare: A_TICK, kept: A_TICK_AFTER },
 ];
 
 #[test]

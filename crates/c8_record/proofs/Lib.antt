@@ -1,6 +1,3 @@
 pub mod TakenLemmas
 pub mod ReplayLemmas
 mod WindowLemmas
-mod FieldLemmas
-mod ZeroLemmas
-mod HeadLemmas

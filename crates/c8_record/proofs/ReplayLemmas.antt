@@ -21,7 +21,7 @@ use Rattle.c8_check.specs.Checks.{ChecksValue, no_checks, with_check, checks_of}
 use Rattle.c8_record.specs.Body.{Spells, record_of, records_of}
 use Rattle.c8_record.specs.Allowed.{Past, past_of, IsAllowedAfter, IsAllowed, IsJournal}
 use Rattle.c8_record.specs.checked.Taken.{epoch_after, IsOfOtherGame, IsOfOtherPlayer, IsUnfitBody, IsTaken, IsReadTo, AreNext}
-use Rattle.c8_record.specs.Replay.{AreJournalBodies, IsRefusal, is_failed, taken_before, told_by, IsReplayed, IsReplayedFromDisk, LooksAt, ReplayRun}
+use Rattle.c8_record.specs.Replay.{AreJournalBodies, IsRefusal, is_failed, taken_before, told_by, AreSaid, IsReplayed, IsReplayedFromDisk, LooksAt, ReplayRun}
 use Rattle.c8_record.specs.checked.JournalLaws.{journal_none, journal_more, checks_more, epoch_more, known_more, of_game}
 
 one_holds : {X : Type 0} (P : X → Type 0) (x : X) → P x → All P (x ∷ [])
@@ -102,20 +102,25 @@ module _ (rules : Rules) (me room : ℕ) (bodies : List (List ℕ)) where
   other_player body (State player frames piece words) first spells other = absurd other
   other_player body (Check player frames words) first spells other = absurd other
 
+  -- what is known and noted, where the bodies before are these
+  said : (n : ℕ) (now : KnownValue) (checks : ChecksValue) (last : ℕ) → IsReadTo rules me room bodies n now checks last → (some : List (List ℕ)) → take n bodies ≡ some → AreSaid rules me some now checks
+  said n now checks last read some is =
+      (read.known ∙ ap (λ (before : List (List ℕ)). known_of rules me (records_of before)) is, read.saved ∙ ap (λ (before : List (List ℕ)). checks_of (records_of before)) is)
+
   -- why a body is refused after those before it
-  pub read_bad : (n : ℕ) (now : KnownValue) (checks saved : ChecksValue) (last : ℕ) (body : List ℕ) (error : ReplayError) → IsReadTo rules me room bodies n now checks last → slice_get bodies n ≡ Some body
-      → IsUnfitBody rules room (record { count = n; epoch = last; checks = checks; known = now }) body error → IsReplayed rules me room bodies (Err error) now saved
-  read_bad n now checks saved last body WrongGame read is unfit =
+  pub read_bad : (n : ℕ) (now : KnownValue) (checks : ChecksValue) (last : ℕ) (body : List ℕ) (error : ReplayError) → IsReadTo rules me room bodies n now checks last → slice_get bodies n ≡ Some body
+      → IsUnfitBody rules room (record { count = n; epoch = last; checks = checks; known = now }) body error → IsReplayed rules me room bodies (Err error) now checks
+  read_bad n now checks last body WrongGame read is unfit =
       let none : take n bodies ≡ [] = ap (λ (m : ℕ). take m bodies) unfit.0 in
       let first : slice_get bodies 0 ≡ Some body = subst (λ (m : ℕ). slice_get bodies m ≡ Some body) unfit.0 is in
-      (other_game body unfit.1 first unfit.2 unfit.3, read.known ∙ ap (λ (some : List (List ℕ)). known_of rules me (records_of some)) none)
-  read_bad n now checks saved last body WrongPlayer read is unfit =
+      (other_game body unfit.1 first unfit.2 unfit.3, said n now checks last read [] none)
+  read_bad n now checks last body WrongPlayer read is unfit =
       let none : take n bodies ≡ [] = ap (λ (m : ℕ). take m bodies) unfit.0 in
       let first : slice_get bodies 0 ≡ Some body = subst (λ (m : ℕ). slice_get bodies m ≡ Some body) unfit.0 is in
-      (other_player body unfit.1 first unfit.2 (subst (λ (q : ℕ). IsOfOtherPlayer rules q room unfit.1) read.whose unfit.3), read.known ∙ ap (λ (some : List (List ℕ)). known_of rules me (records_of some)) none)
-  read_bad n now checks saved last body (BadRecord m) read is unfit =
+      (other_player body unfit.1 first unfit.2 (subst (λ (q : ℕ). IsOfOtherPlayer rules q room unfit.1) read.whose unfit.3), said n now checks last read [] none)
+  read_bad n now checks last body (BadRecord m) read is unfit =
       let at : m ≡ n = unfit.0 in
-      subst (λ (k : ℕ). IsReplayed rules me room bodies (Err (BadRecord k)) now saved) (sym at) (
+      subst (λ (k : ℕ). IsReplayed rules me room bodies (Err (BadRecord k)) now checks) (sym at) (
         (
           record {
             within = omega (arith, slice_get_within bodies n body is);
@@ -132,9 +137,9 @@ module _ (rules : Rules) (me room : ℕ) (bodies : List (List ℕ)) where
               let same : b ≡ body = cc in
               unfit.1 (Head player form id named) (subst (λ (one : List ℕ). Spells one (Head player form id named)) same begins.3) none tt,
         ),
-        read.known,
+        (read.known, read.saved),
       )
-  read_bad n now checks saved last body (Disk why) read is unfit = absurd unfit
+  read_bad n now checks last body (Disk why) read is unfit = absurd unfit
 
 -- a body is refused at its own place
 pub refused_there : (rules : Rules) (room : ℕ) (past : Past) (body : List ℕ) (error : ReplayError) → IsUnfitBody rules room past body error → taken_before error ≡ past.count

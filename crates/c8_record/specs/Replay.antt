@@ -1,5 +1,5 @@
 -- What a list of bodies says when it is replayed, or why it is refused.
-use Rattle.std.specs.Prelude.{ℕ, ◌+◌, ◌-◌, ◌≡◌, ◌≢◌, ◌<◌, ◌≤◌, ◌⊎◌, List, length, take, Result, Ok, Err, Some, Bool, true, false}
+use Rattle.std.specs.Prelude.{ℕ, ◌+◌, ◌-◌, ◌*◌, ◌≡◌, ◌≢◌, ◌<◌, ◌≤◌, ◌⊎◌, List, length, take, Result, Ok, Err, Some, Bool, true, false}
 use Rattle.std.specs.List.{slice_get, All}
 use Rattle.c8_game.specs.Rules.{Rules, id_of}
 use Rattle.c8_known.specs.Journal.{Record, Head, epoch}
@@ -9,7 +9,7 @@ use Rattle.c8_record.specs.Body.{Spells, record_of, records_of}
 use Rattle.c8_record.specs.Allowed.{IsAllowed, IsJournal}
 use Rattle.c8_disk.specs.declared.error.DiskError.TheVariants.{Failed}
 use Rattle.c8_disk.specs.Asks.{Answer, Run, Reads}
-use Rattle.c8_log.specs.Slots.{blocks_of}
+use Rattle.c8_log.specs.Slots.{block_slots, blocks_of}
 use Rattle.c8_record.specs.declared.error.ReplayError.{ReplayError}
 use Rattle.c8_record.specs.declared.error.ReplayError.TheVariants.{WrongGame, WrongPlayer, BadRecord, Disk}
 
@@ -46,13 +46,17 @@ taken_before WrongPlayer = 0
 taken_before (BadRecord n) = n
 taken_before (Disk why) = 0
 
--- What a replay answers and makes known: what the records say, of checkpoints too, and the last epoch, 0 if there is none; or the
--- refusal, and what the records before the refused one make known.
+-- what the records of these bodies make known, and what they say of checkpoints
+abbrev pub AreSaid : Rules → ℕ → List (List ℕ) → KnownValue → ChecksValue → Type 0
+AreSaid rules me bodies known checks = (known ≡ known_of rules me (records_of bodies)) × (checks ≡ checks_of (records_of bodies))
+
+-- What a replay answers, makes known and notes of checkpoints: what all records say, and the last epoch, 0 if there is none;
+-- or the refusal, and what the records before the refused one say.
 abbrev pub IsReplayed : Rules → ℕ → ℕ → List (List ℕ) → Result ℕ ReplayError → KnownValue → ChecksValue → Type 0
 IsReplayed rules me room bodies (Ok last) known checks =
     AreJournalBodies rules me room bodies × (known ≡ known_of rules me (records_of bodies)) × (last ≡ epoch (records_of bodies)) × (checks ≡ checks_of (records_of bodies))
 IsReplayed rules me room bodies (Err error) known checks =
-    IsRefusal rules me room bodies error × (known ≡ known_of rules me (records_of (take (taken_before error) bodies)))
+    IsRefusal rules me room bodies error × AreSaid rules me (take (taken_before error) bodies) known checks
 
 -- the disk failed
 abbrev pub is_failed : Result ℕ ReplayError → Bool
@@ -70,11 +74,12 @@ told_by (Err WrongPlayer) = Ok tt
 told_by (Err (BadRecord n)) = Ok tt
 told_by (Err (Disk why)) = Err why
 
--- The same of bodies that are read from a disk, which may fail at one of them: then what is known is what some first
--- records say, which are all in order.
+-- The same of bodies that are read from a disk, block after block. If the disk fails, the bodies of the blocks before were
+-- taken: they are in order, and what is known and noted is what they say.
 abbrev pub IsReplayedFromDisk : Rules → ℕ → ℕ → List (List ℕ) → Result ℕ ReplayError → KnownValue → ChecksValue → Type 0
 IsReplayedFromDisk rules me room bodies (Err (Disk why)) known checks =
-    (why ≡ Failed) × (n : ℕ) × (n < length bodies) × AreJournalBodies rules me room (take n bodies) × (known ≡ known_of rules me (records_of (take n bodies)))
+    (why ≡ Failed) × (k : ℕ) × (block_slots * k < length bodies) × AreJournalBodies rules me room (take (block_slots * k) bodies)
+    × AreSaid rules me (take (block_slots * k) bodies) known checks
 IsReplayedFromDisk rules me room bodies (Err WrongGame) known checks = IsReplayed rules me room bodies (Err WrongGame) known checks
 IsReplayedFromDisk rules me room bodies (Err WrongPlayer) known checks = IsReplayed rules me room bodies (Err WrongPlayer) known checks
 IsReplayedFromDisk rules me room bodies (Err (BadRecord n)) known checks = IsReplayed rules me room bodies (Err (BadRecord n)) known checks

@@ -8,76 +8,71 @@ ghost use Rattle.c8_record.specs.Allowed.{MayEpoch, MayOwn, MayGot, MayFreeze, M
 ghost use Rattle.c8_record.specs.Body.{HasSpelling};
 ghost use Rattle.c8_record.specs.Lent.{value_of, IsOfWords};
 ghost use Rattle.c8_check.specs.Seen.{value_of as value_in};
-ghost use Rattle.c8_record.specs.checked.Taken.{IsUnfit};
+ghost use Rattle.c8_record.specs.checked.Taken.{past_in, IsUnfit};
 
 use crate::error::ReplayError;
+use crate::progress::Replay;
 use crate::record::Record;
 use c8_check::Checks;
 use c8_game::{Game, Player};
 use c8_known::Known;
 use c8_wire::Run;
 
-/// Judges a record after `count` others, of which `epoch` is the last epoch, which say this of checkpoints,
-/// and by which this is known.
+/// Judges the next record of a replay that knows and notes this.
 pub(crate) fn judge(
-    game: &Game,
-    room: u64,
-    count: usize,
-    epoch: u32,
+    replay: &Replay<'_>,
     checks: &Checks,
     known: &Known,
     lent: &Record<'_>,
 ) -> Result<(), ReplayError>
-    requires of_game { IsOfGame game.now known.now.me known.now }
+    requires of_game { IsOfGame replay.now.game.now known.now.me known.now }
     requires spelled { HasSpelling (value_of lent.now) }
     requires words { IsOfWords lent.now }
     ensures known { IsKnown known.now }
     ensures judged { MatchResult result
-        (λ _. IsAllowedAfter game.now room
-        (record { count = count; epoch = epoch; checks = value_in checks.now; known = known.now }) (value_of lent.now))
-        (λ error. IsUnfit game.now room
-        (record { count = count; epoch = epoch; checks = value_in checks.now; known = known.now }) (value_of lent.now) error) }
+        (λ _. IsAllowedAfter replay.now.game.now replay.now.room
+        (past_in replay.now (value_in checks.now) known.now) (value_of lent.now))
+        (λ error. IsUnfit replay.now.game.now replay.now.room
+        (past_in replay.now (value_in checks.now) known.now) (value_of lent.now) error) }
 {
-    let me = known.me();
-    if count == 0 {
-        return judge_first(game, room, epoch, checks, known, me, lent);
+    // For the proof: what is known is sound.
+    let _me = known.me();
+    if replay.count == 0 {
+        return judge_first(replay, checks, known, lent);
     }
-    if may_follow(game, room, count, epoch, checks, known, lent) {
+    if may_follow(replay, checks, known, lent) {
         Ok(())
     } else {
-        Err(ReplayError::BadRecord(count))
+        Err(ReplayError::BadRecord(replay.count))
     }
 }
 
 /// Judges the first record.
 fn judge_first(
-    game: &Game,
-    room: u64,
-    epoch: u32,
+    replay: &Replay<'_>,
     checks: &Checks,
     known: &Known,
-    me: Player,
     lent: &Record<'_>,
 ) -> Result<(), ReplayError>
-    requires me { me.number ≡ known.now.me }
-    requires plays { Plays known.now me.number }
+    requires first { replay.now.count ≡ 0 }
     requires spelled { HasSpelling (value_of lent.now) }
     ensures { MatchResult result
-        (λ _. IsAllowedAfter game.now room
-        (record { count = 0; epoch = epoch; checks = value_in checks.now; known = known.now }) (value_of lent.now))
-        (λ error. IsUnfit game.now room
-        (record { count = 0; epoch = epoch; checks = value_in checks.now; known = known.now }) (value_of lent.now) error) }
+        (λ _. IsAllowedAfter replay.now.game.now replay.now.room
+        (past_in replay.now (value_in checks.now) known.now) (value_of lent.now))
+        (λ error. IsUnfit replay.now.game.now replay.now.room
+        (past_in replay.now (value_in checks.now) known.now) (value_of lent.now) error) }
 {
+    let me = known.me();
     let Record::Head {
         player,
         form: _,
         id,
-        room: named,
+        room,
     } = *lent
     else {
         return Err(ReplayError::BadRecord(0));
     };
-    if *id != game.id() || named != room {
+    if *id != replay.game.id() || room != replay.room {
         return Err(ReplayError::WrongGame);
     }
     if player.number != me.number {
@@ -87,20 +82,12 @@ fn judge_first(
 }
 
 /// Whether a record may stand after others.
-fn may_follow(
-    game: &Game,
-    room: u64,
-    count: usize,
-    epoch: u32,
-    checks: &Checks,
-    known: &Known,
-    lent: &Record<'_>,
-) -> bool
-    requires later { count ≢ 0 }
+fn may_follow(replay: &Replay<'_>, checks: &Checks, known: &Known, lent: &Record<'_>) -> bool
+    requires later { replay.now.count ≢ 0 }
     requires spelled { HasSpelling (value_of lent.now) }
     requires words { IsOfWords lent.now }
-    ensures { (result ≡ true) ↔ IsAllowedAfter game.now room
-        (record { count = count; epoch = epoch; checks = value_in checks.now; known = known.now }) (value_of lent.now) }
+    ensures { (result ≡ true) ↔ IsAllowedAfter replay.now.game.now replay.now.room
+        (past_in replay.now (value_in checks.now) known.now) (value_of lent.now) }
 {
     let me = known.me();
     let dropped = me.number != 1 && known.leaving(me);
@@ -112,10 +99,10 @@ fn may_follow(
             player,
             number,
             form,
-        } => may_epoch(known, epoch, checks, player, number, form),
+        } => may_epoch(known, replay.epoch, checks, player, number, form),
         Record::Head { .. } => false,
         _ if dropped => false,
-        Record::Own { player, start, .. } => may_own(game, known, player, start),
+        Record::Own { player, start, .. } => may_own(replay.game, known, player, start),
         Record::Got { player, start, run } => may_got(known, player, start, run),
         Record::Freeze { player } => may_freeze(known, player),
         Record::Leave { player } => may_leave(known, player),

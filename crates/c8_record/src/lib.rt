@@ -12,6 +12,7 @@ mod allowed;
 mod error;
 mod knowing;
 pub mod laws;
+mod progress;
 mod reading;
 mod record;
 mod replaying;

@@ -8,11 +8,12 @@ ghost use Rattle.c8_check.specs.Checks.{no_checks, with_check};
 ghost use Rattle.c8_check.specs.Seen.{value_of as value_in};
 ghost use Rattle.c8_record.specs.Lent.{value_of, IsOfWords};
 ghost use Rattle.c8_record.specs.Replay.{IsReplayed, IsReplayedFromDisk, ReplayRun, is_failed, taken_before, told_by};
-ghost use Rattle.c8_record.specs.checked.Taken.{epoch_after, MaySay, IsUnfitBody, IsTaken, IsReadTo, AreNext, HasNext};
+ghost use Rattle.c8_record.specs.checked.Taken.{past_in, epoch_after, MaySay, IsUnfitBody, IsTaken, IsReadTo, AreNext, HasNext};
 
 use crate::allowed::judge;
 use crate::error::ReplayError;
 use crate::knowing::make_known;
+use crate::progress::Replay;
 use crate::reading::view;
 use crate::record::Record;
 use c8_check::Checks;
@@ -22,12 +23,12 @@ use c8_known::Known;
 use c8_log::{BLOCK_SLOTS, BODY_LENGTH, Block, Log, Slots, kept_body, kept_len};
 
 /// Reads the journal that a log keeps into `known`, which knows nothing yet, and into `checks`, which are
-/// new, one block of slots after the other. The answer is the last epoch, 0 if the log keeps no record.
+/// new. It reads a block of slots at a time. The answer is the last epoch, 0 if the log keeps no record.
 ///
 /// `WrongGame` and `WrongPlayer` are judged first of all, by the first record; `BadRecord` names
-/// the first body that spells no record or one that the rules don't allow there. After an error
-/// `known` has what the records before it say. Nothing is written; where the disk fails the log is
-/// down.
+/// the first body that spells no record or one that the rules don't allow there. After one of these
+/// `known` and `checks` have what the records before that body say; after `Disk`, what the records of
+/// the blocks before the one that failed say. Nothing is written; after `Disk` the log is down.
 pub fn replay<D: Disk>(
     log: &mut Log<D>,
     game: &Game,
@@ -58,12 +59,18 @@ pub fn replay<D: Disk>(
             Ok(slots) => slots,
             Err(_) => return Err(ReplayError::Disk(DiskError::Failed)),
         };
-        epoch = take_slots(game, room, first as usize, epoch, known, checks, slots)?;
+        let replay = Replay {
+            game,
+            room,
+            count: first as usize,
+            epoch,
+        };
+        epoch = take_slots(&replay, known, checks, slots)?;
     }
     Ok(epoch)
 }
 
-/// The same of the bodies that the bytes of a disk keep. It never answers `Disk`.
+/// Does the same with the bodies that the bytes of a disk keep. It never answers `Disk`.
 pub fn replay_bytes(
     image: &[u8],
     game: &Game,
@@ -78,79 +85,80 @@ pub fn replay_bytes(
 {
     let mut epoch = 0;
     for n in 0..kept_len(image) {
-        epoch = take_body(game, room, n, epoch, known, checks, kept_body(image, n))?;
+        let replay = Replay {
+            game,
+            room,
+            count: n,
+            epoch,
+        };
+        epoch = take_body(&replay, known, checks, kept_body(image, n))?;
     }
     Ok(epoch)
 }
 
-/// Takes the bodies of slots that were read together, after `count` others, of which `epoch` is the
-/// last epoch, and answers the last epoch then. Of whatever bodies these are the next ones
-/// (`AreNext`), so many more are taken.
+/// Takes the next bodies, those of slots that were read together, and answers the last epoch then. What
+/// it ensures holds for whatever bodies have these next (`AreNext`).
 fn take_slots(
-    game: &Game,
-    room: u64,
-    count: usize,
-    epoch: u32,
+    replay: &Replay<'_>,
     known: &mut Known,
     checks: &mut Checks,
     slots: Slots<'_>,
 ) -> Result<u32, ReplayError>
-    requires next { HasNext game.now room count epoch known.old (value_in checks.old) slots.bytes.now }
-    requires fits { count + length slots.bytes.now / slot_length < 2 ^ 64 }
+    requires next { HasNext replay.now.game.now replay.now.room replay.now.count replay.now.epoch
+        known.old (value_in checks.old) slots.bytes.now }
+    requires fits { replay.now.count + length slots.bytes.now / slot_length < 2 ^ 64 }
     ensures taken { IfOk result (λ last. (me : ℕ) (bodies : List (List ℕ))
-        → IsReadTo game.now me room bodies count known.old (value_in checks.old) epoch
-        → AreNext bodies count slots.entry.bytes.now
-        → IsReadTo game.now me room bodies (count + length slots.entry.bytes.now / slot_length)
+        → IsReadTo replay.now.game.now me replay.now.room bodies replay.now.count
+        known.old (value_in checks.old) replay.now.epoch
+        → AreNext bodies replay.now.count slots.entry.bytes.now
+        → IsReadTo replay.now.game.now me replay.now.room bodies
+        (replay.now.count + length slots.entry.bytes.now / slot_length)
         known.new (value_in checks.new) last) }
     ensures unfit { IfErr result (λ error. (me : ℕ) (bodies : List (List ℕ))
-        → IsReadTo game.now me room bodies count known.old (value_in checks.old) epoch
-        → AreNext bodies count slots.entry.bytes.now
-        → IsReplayed game.now me room bodies (Err error) known.new (value_in checks.new)) }
-    ensures among { IfErr result (λ error. (count ≤ taken_before error)
-        × (taken_before error < count + length slots.entry.bytes.now / slot_length)) }
+        → IsReadTo replay.now.game.now me replay.now.room bodies replay.now.count
+        known.old (value_in checks.old) replay.now.epoch
+        → AreNext bodies replay.now.count slots.entry.bytes.now
+        → IsReplayed replay.now.game.now me replay.now.room bodies (Err error)
+        known.new (value_in checks.new)) }
+    ensures among { IfErr result (λ error. (replay.now.count ≤ taken_before error)
+        × (taken_before error < replay.now.count + length slots.entry.bytes.now / slot_length)) }
 {
-    let mut epoch = epoch;
+    let mut epoch = replay.epoch;
     for i in 0..slots.len() {
-        epoch = take_body(
-            game,
-            room,
-            count + i,
+        let next = Replay {
+            game: replay.game,
+            room: replay.room,
+            count: replay.count + i,
             epoch,
-            known,
-            checks,
-            slots.get(i).body,
-        )?;
+        };
+        epoch = take_body(&next, known, checks, slots.get(i).body)?;
     }
     Ok(epoch)
 }
 
-/// Takes a body after `count` others, of which `epoch` is the last epoch, and answers the last
-/// epoch then.
+/// Takes the next body, and answers the last epoch then. A body that is refused changes nothing.
 fn take_body(
-    game: &Game,
-    room: u64,
-    count: usize,
-    epoch: u32,
+    replay: &Replay<'_>,
     known: &mut Known,
     checks: &mut Checks,
     body: &[u8; BODY_LENGTH],
 ) -> Result<u32, ReplayError>
-    requires { IsOfGame game.now known.old.me known.old }
-    ensures taken { IfOk result (λ last. IsTaken game.now room
-        (record { count = count; epoch = epoch; checks = value_in checks.old; known = known.old })
+    requires { IsOfGame replay.now.game.now known.old.me known.old }
+    ensures taken { IfOk result (λ last. IsTaken replay.now.game.now replay.now.room
+        (past_in replay.now (value_in checks.old) known.old)
         body.now known.new (value_in checks.new) last) }
-    ensures unfit { IfErr result (λ error. IsUnfitBody game.now room
-        (record { count = count; epoch = epoch; checks = value_in checks.old; known = known.old })
-        body.now error) }
-    ensures stays { OnErr result (known.new ≡ known.old) }
+    ensures unfit { IfErr result (λ error. IsUnfitBody replay.now.game.now replay.now.room
+        (past_in replay.now (value_in checks.old) known.old) body.now error) }
+    ensures known_stays { OnErr result (known.new ≡ known.old) }
+    ensures checks_stay { OnErr result (value_in checks.new ≡ value_in checks.old) }
 {
     let Some(lent) = view(body) else {
-        return Err(ReplayError::BadRecord(count));
+        return Err(ReplayError::BadRecord(replay.count));
     };
-    judge(game, room, count, epoch, checks, known, &lent)?;
+    judge(replay, checks, known, &lent)?;
     note(checks, &lent);
     make_known(known, &lent);
-    Ok(epoch_after(epoch, &lent))
+    Ok(epoch_after(replay.epoch, &lent))
 }
 
 /// Notes what a record says of checkpoints that may be said after those that have said this.

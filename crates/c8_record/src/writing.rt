@@ -1,23 +1,21 @@
 //! The body that spells a record.
-ghost use Rattle.std.specs.Prelude.{◌≡◌, ◌≤◌, ◌*◌, ◌/◌, ◌↔◌, ◌∷◌, ◌++◌, true, drop, length, replicate};
+ghost use Rattle.std.specs.Prelude.{◌≡◌, ◌≤◌, ◌*◌, ◌/◌, ◌↔◌, ◌∷◌, ◌++◌, true, drop, length};
 ghost use Rattle.c8_known.specs.Journal.{Head, Epoch, Own, Got, Cut, State, Check};
-ghost use Rattle.c8_game.specs.declared.wire.WireVersion.TheVariants as versions;
 ghost use Rattle.c8_wire.specs.Packet.{AreWords};
 ghost use Rattle.c8_wire.specs.Spelling.{words_bytes};
-ghost use Rattle.c8_wire.specs.Lent.{version_of, words, words_left};
+ghost use Rattle.c8_wire.specs.Lent.{words, words_left};
 ghost use Rattle.byteorder.specs.Endian.{big_bytes};
 ghost use Rattle.c8_wire.specs.Sizes.{longest_run};
-ghost use Rattle.c8_record.specs.Body.{field_bytes, body_of, Spells, run_place, IsForm, digest_words};
-ghost use Rattle.c8_record.specs.Lent.{value_of, IsComplete, IsOfWords};
+ghost use Rattle.c8_record.specs.Body.{field_bytes, body_of, Spells, IsForm, digest_words};
+ghost use Rattle.c8_record.specs.Lent.{value_of, IsComplete};
 
 use crate::record::{RUN_PLACE, Record};
 use c8_check::PIECES;
 use c8_game::{Keys, Player};
 use c8_log::BODY_LENGTH;
-use c8_wire::{Inputs, Run, u16_at, u32_at};
+use c8_wire::{Inputs, Run};
 
-/// The body that spells a record. The body of a `Got` without inputs spells
-/// no record.
+/// The body that spells a record. The body of a `Got` without inputs spells no record.
 #[tactic(auto, unfolding(crate::specs::Body::body_of))]
 pub fn body_of(lent: &Record<'_>) -> [u8; BODY_LENGTH]
     ensures body { result ≡ body_of (value_of lent.now) }
@@ -63,138 +61,18 @@ pub fn body_of(lent: &Record<'_>) -> [u8; BODY_LENGTH]
     }
 }
 
-/// Whether this is the body that spells a record which was lent from one.
-#[tactic(auto, unfolding(crate::specs::Body::body_of))]
+/// Whether a body is the one that spells a record.
 pub(crate) fn is_body_of(body: &[u8; BODY_LENGTH], lent: &Record<'_>) -> bool
-    requires { IsOfWords lent.now }
     ensures is { (result ≡ true) ↔ (body.now ≡ body_of (value_of lent.now)) }
     ensures spells { result ≡ true → IsComplete lent.now → Spells body.now (value_of lent.now) }
 {
-    match *lent {
-        Record::Head {
-            player,
-            form,
-            id,
-            room,
-        } => is_head_body(body, player, form, id, room),
-        Record::Epoch {
-            player,
-            number,
-            form,
-        } => is_epoch_body(body, player, number, form),
-        Record::Own {
-            player,
-            start,
-            keys,
-        } => is_own_body(body, player, start, keys),
-        Record::Got { player, start, run } => is_got_body(body, player, start, run),
-        Record::Freeze { player } => has_fields(body, 5, player, 0, 0, &[]),
-        Record::Leave { player } => has_fields(body, 6, player, 0, 0, &[]),
-        Record::Cut {
-            player,
-            length,
-            start,
-            run,
-        } => is_cut_body(body, player, length, start, run),
-        Record::State {
-            player,
-            frames,
-            piece,
-            run,
-        } => is_state_body(body, player, frames, piece, run),
-        Record::Check {
-            player,
-            frames,
-            run,
-        } => is_check_body(body, player, frames, run),
-    }
+    is_same(body, &body_of(lent))
 }
 
-#[tactic(auto, unfolding(crate::specs::Body::body_of))]
-fn is_head_body(
-    body: &[u8; BODY_LENGTH],
-    player: Player,
-    form: u32,
-    id: &[u8; 32],
-    room: u64,
-) -> bool
-    ensures is { (result ≡ true) ↔ (body.now ≡ body_of (Head player.number form id.now room)) }
-    ensures spells { result ≡ true → IsForm form
-        → Spells body.now (Head player.number form id.now room) }
+fn is_same(bytes: &[u8], others: &[u8]) -> bool
+    ensures { (result ≡ true) ↔ (bytes.now ≡ others.now) }
 {
-    has_fields(body, 1, player, 1, form, &match_run(id, room))
-}
-
-#[tactic(auto, unfolding(crate::specs::Body::body_of))]
-fn is_epoch_body(body: &[u8; BODY_LENGTH], player: Player, number: u32, form: u32) -> bool
-    ensures is { (result ≡ true) ↔ (body.now ≡ body_of (Epoch player.number number form)) }
-    ensures spells { result ≡ true → IsForm form
-        → Spells body.now (Epoch player.number number form) }
-{
-    has_fields(body, 2, player, number, form, &[])
-}
-
-#[tactic(auto, unfolding(crate::specs::Body::body_of))]
-fn is_own_body(body: &[u8; BODY_LENGTH], player: Player, start: u32, keys: Keys) -> bool
-    ensures is { (result ≡ true) ↔ (body.now ≡ body_of (Own player.number start keys.0)) }
-    ensures spells { result ≡ true → Spells body.now (Own player.number start keys.0) }
-{
-    has_fields(body, 3, player, 0, start, &keys.0.to_be_bytes())
-}
-
-#[tactic(auto, unfolding(crate::specs::Body::body_of))]
-fn is_got_body(body: &[u8; BODY_LENGTH], player: Player, start: u32, run: Run<'_>) -> bool
-    requires { version_of run ≡ versions.One }
-    ensures is { (result ≡ true) ↔ (body.now ≡ body_of (Got player.number start (words run.entry))) }
-    ensures spells { result ≡ true → 1 ≤ length (words run.entry)
-        → Spells body.now (Got player.number start (words run.entry)) }
-{
-    has_fields(body, 4, player, 0, start, run.bytes())
-}
-
-#[tactic(auto, unfolding(crate::specs::Body::body_of))]
-fn is_cut_body(
-    body: &[u8; BODY_LENGTH],
-    player: Player,
-    length: u32,
-    start: u32,
-    run: Run<'_>,
-) -> bool
-    requires { version_of run ≡ versions.One }
-    ensures is { (result ≡ true)
-        ↔ (body.now ≡ body_of (Cut player.number length start (words run.entry))) }
-    ensures spells { result ≡ true
-        → Spells body.now (Cut player.number length start (words run.entry)) }
-{
-    has_fields(body, 7, player, length, start, run.bytes())
-}
-
-#[tactic(auto, unfolding(crate::specs::Body::body_of))]
-fn is_state_body(
-    body: &[u8; BODY_LENGTH],
-    player: Player,
-    frames: u32,
-    piece: u32,
-    run: Run<'_>,
-) -> bool
-    requires { version_of run ≡ versions.One }
-    ensures is { (result ≡ true)
-        ↔ (body.now ≡ body_of (State player.number frames piece (words run.entry))) }
-    ensures spells { result ≡ true
-        → Spells body.now (State player.number frames piece (words run.entry)) }
-{
-    has_fields(body, 8, player, frames, piece, run.bytes())
-}
-
-#[tactic(auto, unfolding(crate::specs::Body::body_of))]
-fn is_check_body(body: &[u8; BODY_LENGTH], player: Player, frames: u32, run: Run<'_>) -> bool
-    requires { version_of run ≡ versions.One }
-    ensures is { (result ≡ true)
-        ↔ (body.now ≡ body_of (Check player.number frames (words run.entry))) }
-    ensures spells { result ≡ true → length (words run.entry) ≡ digest_words
-        → Spells body.now (Check player.number frames (words run.entry)) }
-{
-    has_fields(body, 9, player, frames, PIECES, run.bytes())
+    bytes == others
 }
 
 #[tactic(auto, unfolding(crate::specs::Body::body_of))]
@@ -323,35 +201,6 @@ fn put_inputs(mut inputs: Inputs<'_>, out: &mut [u8])
     put_inputs(inputs, rest);
 }
 
-/// Whether a body has these fields, and zeros after its run.
-fn has_fields(
-    body: &[u8; BODY_LENGTH],
-    kind: u8,
-    player: Player,
-    number: u32,
-    start: u32,
-    run: &[u8],
-) -> bool
-    requires { length run.now ≤ 2 * longest_run }
-    ensures { (result ≡ true) ↔ (body.now ≡ field_bytes (record {
-      kind = kind;
-      player = player.number;
-      number = number;
-      start = start;
-      run = run.now;
-    })) }
-{
-    let (head, rest) = body.split_at(RUN_PLACE);
-    let (words, zeros) = rest.split_at(run.len());
-    if !is_head(head, kind, player, number, start, run.len()) {
-        return false;
-    }
-    if !is_same(words, run) {
-        return false;
-    }
-    are_zeros(zeros)
-}
-
 /// What stands before the run: the other fields, and how many words the run has.
 fn head_of(kind: u8, player: Player, number: u32, start: u32, length: usize) -> [u8; RUN_PLACE]
     requires { length ≤ 2 * longest_run }
@@ -362,38 +211,4 @@ fn head_of(kind: u8, player: Player, number: u32, start: u32, length: usize) -> 
     let [s0, s1, s2, s3] = start.to_be_bytes();
     let [c0, c1] = ((length / 2) as u16).to_be_bytes();
     [kind, player.number, n0, n1, n2, n3, s0, s1, s2, s3, c0, c1]
-}
-
-/// Whether these bytes are what stands before the run.
-fn is_head(head: &[u8], kind: u8, player: Player, number: u32, start: u32, size: usize) -> bool
-    requires whole { length head.now ≡ run_place }
-    requires short { size ≤ 2 * longest_run }
-    ensures { (result ≡ true) ↔ (head.now ≡ kind ∷ player.number ∷ big_bytes 4 number
-        ++ big_bytes 4 start ++ big_bytes 2 (size / 2)) }
-{
-    let found = (
-        head[0],
-        head[1],
-        u32_at(head, 2),
-        u32_at(head, 6),
-        u16_at(head, 10),
-    );
-    found == (kind, player.number, number, start, (size / 2) as u16)
-}
-
-fn is_same(bytes: &[u8], others: &[u8]) -> bool
-    ensures { (result ≡ true) ↔ (bytes.now ≡ others.now) }
-{
-    bytes == others
-}
-
-/// Whether each byte is 0. The loop has no way out, so that many bytes are tested at once.
-fn are_zeros(bytes: &[u8]) -> bool
-    ensures { (result ≡ true) ↔ (bytes.now ≡ replicate (length bytes.now) 0) }
-{
-    let mut found = 0;
-    for byte in bytes {
-        found |= *byte;
-    }
-    found == 0
 }

@@ -8,12 +8,8 @@ use Rattle.byteorder.specs.Endian.{big_bytes, big_number}
 use Rattle.byteorder.specs.Numbers.{big_number-reads_back}
 use Rattle.c8_wire.specs.Packet.{AreBytes, AreWords}
 use Rattle.c8_wire.specs.Reading.{number_at, words_of}
-use Rattle.c8_game.specs.declared.wire.WireVersion.TheVariants as versions
-use Rattle.c8_wire.specs.declared.run.Run.{Run}
-use Rattle.c8_wire.specs.declared.run.Run.TheVariants as runs
-use Rattle.c8_wire.specs.Lent.{version_of, words, spelled, touched}
-use Rattle.c8_wire.specs.Spelling.{words_bytes, inputs_bytes}
-use Rattle.c8_wire.specs.checked.WordLaws.{length-spelled_words, words_of-spelled, words_of-lt}
+use Rattle.c8_wire.specs.Spelling.{words_bytes}
+use Rattle.c8_wire.specs.checked.WordLaws.{length-spelled_words, words_of-spelled}
 use Rattle.c8_known.specs.Journal.{Record, Head, Epoch, Own, Got, Freeze, Leave, Cut, State, Check}
 use Rattle.c8_record.specs.declared.record.Record.{Record as Lent}
 use Rattle.c8_record.specs.declared.record.Record.TheVariants as lents
@@ -175,24 +171,6 @@ own_spells bytes player start word is from to low fits = record {
   has = record { from_one = from; to_four = to; number = omega arith; start = low; short = omega arith; parts = fits };
   is = is;
 }
-
-are_bytes : (words : List ℕ) → AreBytes (words_bytes words)
-are_bytes [] i = omega arith
-are_bytes (word ∷ words) zero = omega arith
-are_bytes (word ∷ words) (suc zero) = omega arith
-are_bytes (word ∷ words) (suc (suc i)) = are_bytes words i
-
--- bytes of words that are lent, in version 1
-pub record AreOfWords (run : Run) (bytes : List ℕ) : Type 0 where
-  pub spells : bytes ≡ words_bytes (words run)
-  pub sets : AreWords (words run)
-  pub few : length (words run) ≤ 64
-
-pub of_words : (run : Run) (bytes : List ℕ) → version_of run ≡ versions.One → inputs_bytes (version_of run) (touched run) ≡ bytes → bytes ≡ spelled run → length bytes ≤ 128 → AreOfWords run bytes
-of_words (runs.Words run) bytes one spells slice short =
-    let are : AreBytes run.bytes.now = subst AreBytes slice (subst AreBytes spells (are_bytes (words_of run.bytes.now))) in
-    record { spells = sym spells; sets = words_of-lt run.bytes.now are; few = omega (arith, short, ap length spells, length-spelled_words (words_of run.bytes.now)) }
-of_words (runs.Pairs run) bytes one spells slice short = absurd cc
 
 -- what spells a run's words
 pub got_spells : (bytes : List ℕ) (player start : ℕ) (words : List ℕ) → bytes ≡ body_of (Got player start words)

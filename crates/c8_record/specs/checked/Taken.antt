@@ -10,8 +10,13 @@ use Rattle.c8_wire.specs.Spelling.{words_bytes}
 use Rattle.c8_record.specs.Body.{Spells, record_of, records_of}
 use Rattle.c8_record.specs.Replay.{AreJournalBodies}
 use Rattle.c8_record.specs.Allowed.{Past, IsHead, IsAllowedAfter}
+use Rattle.c8_record.specs.declared.progress.Replay.{Replay}
 use Rattle.c8_record.specs.declared.error.ReplayError.{ReplayError}
 use Rattle.c8_record.specs.declared.error.ReplayError.TheVariants.{WrongGame, WrongPlayer, BadRecord, Disk}
+
+-- what stands before the record that a replay takes next
+abbrev pub past_in : Replay → ChecksValue → KnownValue → Past
+past_in replay checks known = record { count = replay.count; epoch = replay.epoch; checks = checks; known = known }
 
 -- the last epoch after the record
 abbrev pub epoch_after : ℕ → Record → ℕ

@@ -8,28 +8,19 @@ use Rattle.c8_log.proofs.end.end_in.Given as given
 use Rattle.c8_log.proofs.end.end_in.Goals.{After-end_of}
 use Rattle.c8_log.proofs.end.end_in.Goals as goal
 
+-- what was read is the block
+is_block : (g : given.Over) (c : After-end_of g) → c.read_at.new.buffer ≡ take 4608 (drop c.args.at (g.D.Disk.seen c.args.disk.now))
+is_block g c =
+    let image = g.D.Disk.seen c.args.disk.now in
+    let many : c.min-size.result ≡ min (length image - c.args.at) 4608 = search rules in
+    let size : length (take c.min-size.result c.args.block.now.bytes) ≡ c.min-size.result = search rules in
+    c.in_ok-read_at.ensures.read ∙ ap (λ (n : ℕ). take n (drop c.args.at image)) size ∙ cut_block image c.args.at c.min-size.result many
+
 pub returns-in_err-read_at-clause-asks : goal.returns-in_err-read_at-clause-asks
 returns-in_err-read_at-clause-asks g c =
     let error = err_from_is_err_and c.from_residual.result c.from_residual.ensures.1 in
     let why = c.in_err-read_at.field-0.0 in
     rw (error.1, error.2) (asks_read g.D.Disk c.args.disk.now c.read_at.new.self _ _ c.read_at.result (Err why) c.in_err-read_at.was c.read_at.ensures.does)
-
-pub returns-in-Some-clause-asks : goal.returns-in-Some-clause-asks
-returns-in-Some-clause-asks g c = asks_read g.D.Disk c.args.disk.now c.read_at.new.self _ _ c.read_at.result (Ok tt) c.in_ok-read_at.was c.read_at.ensures.does
-
--- what was read is the block
-is_block : (g : given.Over) (c : After-end_of g) → c.read_at-2.new.buffer ≡ take 4608 (drop c.args.at (g.D.Disk.seen c.args.disk.now))
-is_block g c =
-    let image = g.D.Disk.seen c.args.disk.now in
-    let many : c.min-size.result ≡ min (length image - c.args.at) 4608 = search rules in
-    let size : length (take c.min-size.result c.args.block.now.bytes) ≡ c.min-size.result = search rules in
-    c.in_ok-read_at-2.ensures.read ∙ ap (λ (n : ℕ). take n (drop c.args.at image)) size ∙ cut_block image c.args.at c.min-size.result many
-
-pub returns-in_err-read_at-2-clause-asks : goal.returns-in_err-read_at-2-clause-asks
-returns-in_err-read_at-2-clause-asks g c =
-    let error = err_from_is_err_and c.from_residual-in_err-read_at-2.result c.from_residual-in_err-read_at-2.ensures.1 in
-    let why = c.in_err-read_at-2.field-0.0 in
-    rw (error.1, error.2) (asks_read g.D.Disk c.args.disk.now c.read_at-2.new.self _ _ c.read_at-2.result (Err why) c.in_err-read_at-2.was c.read_at-2.ensures.does)
 
 pub returns-clause-count : goal.returns-clause-count
 returns-clause-count g c = c.end_of.ensures.count ∙ ap kept_count (is_block g c)
@@ -38,4 +29,4 @@ pub returns-clause-closed : goal.returns-clause-closed
 returns-clause-closed g c = c.end_of.ensures.closed ∙ ap has_closed_gate (is_block g c)
 
 pub returns-clause-asks : goal.returns-clause-asks
-returns-clause-asks g c = asks_read g.D.Disk c.args.disk.now c.read_at-2.new.self _ _ c.read_at-2.result (Ok tt) c.in_ok-read_at-2.was c.read_at-2.ensures.does
+returns-clause-asks g c = asks_read g.D.Disk c.args.disk.now c.read_at.new.self _ _ c.read_at.result (Ok tt) c.in_ok-read_at.was c.read_at.ensures.does

@@ -7,34 +7,48 @@ use Rattle.c8_log.proofs.end.end_of.Goals as goal
 pub overflow_mul-gate : goal.overflow_mul-gate
 overflow_mul-gate c =
     let count = c.kept_len-count.ensures in
-    let kept = length_of_kept c.args.part.now in
-    let within = kept_within c.args.part.now in
+    let kept = length_of_kept c.args.bytes.now in
+    let within = kept_within c.args.bytes.now in
     omega (arith, count, kept, within, c.requires)
 
 pub overflow_cast-result : goal.overflow_cast-result
 overflow_cast-result c =
     let count = c.kept_len-count.ensures in
-    let kept = length_of_kept c.args.part.now in
-    let within = kept_within c.args.part.now in
+    let kept = length_of_kept c.args.bytes.now in
+    let within = kept_within c.args.bytes.now in
     omega (arith, count, kept, within, c.requires)
 
-pub returns-then-gate-part-clause-count : goal.returns-then-gate-part-clause-count
-returns-then-gate-part-clause-count c = c.kept_len-count.ensures ∙ length_of_kept c.args.part.now
+pub returns-then-gate-bytes-clause-count : goal.returns-then-gate-bytes-clause-count
+returns-then-gate-bytes-clause-count c = c.kept_len-count.ensures ∙ length_of_kept c.args.bytes.now
 
-pub returns-else-gate-part-clause-count : goal.returns-else-gate-part-clause-count
-returns-else-gate-part-clause-count c = c.kept_len-count.ensures ∙ length_of_kept c.args.part.now
+pub returns-else-gate-bytes-clause-count : goal.returns-else-gate-bytes-clause-count
+returns-else-gate-bytes-clause-count c = c.kept_len-count.ensures ∙ length_of_kept c.args.bytes.now
 
-pub returns-then-gate-part-clause-closed : goal.returns-then-gate-part-clause-closed
-returns-then-gate-part-clause-closed c =
-    let part = c.args.part.now in
+pub returns-then-gate-bytes-clause-closed : goal.returns-then-gate-bytes-clause-closed
+returns-then-gate-bytes-clause-closed c =
+    let bytes = c.args.bytes.now in
     let n = c.kept_len-count.result in
-    ap (λ (there : Bool). there && not (slice_index part (144 * n) == 0xa5)) (sym (lt-ltb (144 * n) (length part) c.if-gate-part.true))
-    ∙ ap (has_closed_gate_at part) (c.kept_len-count.ensures ∙ length_of_kept part)
+    ap (λ (there : Bool). there && not (slice_index bytes (144 * n) == 0xa5)) (sym (lt-ltb (144 * n) (length bytes) c.if-gate-bytes.true))
+    ∙ ap (has_closed_gate_at bytes) (c.kept_len-count.ensures ∙ length_of_kept bytes)
 
-pub returns-else-gate-part-clause-closed : goal.returns-else-gate-part-clause-closed
-returns-else-gate-part-clause-closed c =
-    let part = c.args.part.now in
+pub returns-else-gate-bytes-clause-closed : goal.returns-else-gate-bytes-clause-closed
+returns-else-gate-bytes-clause-closed c =
+    let bytes = c.args.bytes.now in
     let n = c.kept_len-count.result in
-    let past = le-ltb (144 * n) (length part) c.if-gate-part.false in
-    past ∙ ap (λ (there : Bool). there && not (slice_index part (144 * n) == 0xa5)) (sym past)
-    ∙ ap (has_closed_gate_at part) (c.kept_len-count.ensures ∙ length_of_kept part)
+    let past = le-ltb (144 * n) (length bytes) c.if-gate-bytes.false in
+    past ∙ ap (λ (there : Bool). there && not (slice_index bytes (144 * n) == 0xa5)) (sym past)
+    ∙ ap (has_closed_gate_at bytes) (c.kept_len-count.ensures ∙ length_of_kept bytes)
+
+pub returns-then-gate-bytes-clause-fits : goal.returns-then-gate-bytes-clause-fits
+returns-then-gate-bytes-clause-fits c =
+    let count = c.kept_len-count.ensures in
+    let kept = length_of_kept c.args.bytes.now in
+    let within = kept_within c.args.bytes.now in
+    omega (arith, count, kept, within)
+
+pub returns-else-gate-bytes-clause-fits : goal.returns-else-gate-bytes-clause-fits
+returns-else-gate-bytes-clause-fits c =
+    let count = c.kept_len-count.ensures in
+    let kept = length_of_kept c.args.bytes.now in
+    let within = kept_within c.args.bytes.now in
+    omega (arith, count, kept, within)

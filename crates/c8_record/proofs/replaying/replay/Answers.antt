@@ -62,13 +62,13 @@ loop-number-preserved g c =
           (read_at_block c.args.game.now c.args.known.now.me c.args.room (kept (g.D.Disk.seen c.args.log.now.disk)) c.loop-number.number c.len-count.result c.loop-number.known (value_in c.loop-number.checks) c.loop-number.epoch c.loop-number.invariant.taken (omega (arith, c.loop-number-test.true, blocks)))
           (are_next (g.D.Disk.seen c.args.log.now.disk) (g.D.Disk.seen c.loop-number.log.disk) (32 * c.loop-number.number) (slots_from (32 * c.loop-number.number) c.loop-number.log.count) c.in-Ok.slots.bytes.now c.loop-number.invariant.reads.seen c.in-Ok.ensures.len c.in-Ok.ensures.bodies));
       all = c.loop-number.invariant.all;
-      count = ap (λ log. log.count) c.in-Ok.ensures.ok ∙ c.loop-number.invariant.count;
+      count = ap (λ log. log.count) c.in-Ok.ensures.does.ok ∙ c.loop-number.invariant.count;
       counted = c.loop-number.invariant.counted;
-      up = ap (λ log. log.down) c.in-Ok.ensures.ok ∙ c.loop-number.invariant.up;
-      reads = reads_then g.D.Disk c.args.log.now.disk c.loop-number.log.disk c.read_block.new.self.disk c.loop-number.invariant.reads c.in-Ok.ensures.reads;
+      up = ap (λ log. log.down) c.in-Ok.ensures.does.ok ∙ c.loop-number.invariant.up;
+      reads = reads_then g.D.Disk c.args.log.now.disk c.loop-number.log.disk c.read_block.new.self.disk c.loop-number.invariant.reads c.in-Ok.ensures.does.reads;
       asks = asks_reads g.D.Disk c.args.log.now.disk c.loop-number.log.disk c.read_block.new.self.disk k 1 (Ok tt) c.loop-number.invariant.asks
-          (c.in-Ok.ensures.asks c.loop-number.invariant.up);
-      unfailed = c.in-Ok.ensures.unfailed ∙ c.loop-number.invariant.unfailed;
+          (c.in-Ok.ensures.does.asks c.loop-number.invariant.up);
+      unfailed = c.in-Ok.ensures.does.unfailed ∙ c.loop-number.invariant.unfailed;
     }
 
 pub returns-clause-replayed : goal.returns-clause-replayed
@@ -86,7 +86,14 @@ returns-clause-asks g c =
     (omega (arith, c.loop-number.auto.number-end, c.loop-number-test.false, blocks, all)) c.loop-number.invariant.asks
 
 pub returns-in-Err-clause-reads : goal.returns-in-Err-clause-reads
-returns-in-Err-clause-reads g c = reads_then g.D.Disk c.args.log.now.disk c.loop-number.log.disk c.read_block.new.self.disk c.loop-number.invariant.reads c.in-Err.ensures.reads
+returns-in-Err-clause-reads g c = reads_then g.D.Disk c.args.log.now.disk c.loop-number.log.disk c.read_block.new.self.disk c.loop-number.invariant.reads c.in-Err.ensures.does.reads
+
+pub returns-in-Err-clause-replayed : goal.returns-in-Err-clause-replayed
+returns-in-Err-clause-replayed g c =
+    let blocks = c.div_ceil-number-end.ensures in
+    let all = c.loop-number.invariant.all in
+    let read = read_at_block c.args.game.now c.args.known.now.me c.args.room (kept (g.D.Disk.seen c.args.log.now.disk)) c.loop-number.number c.len-count.result c.loop-number.known (value_in c.loop-number.checks) c.loop-number.epoch c.loop-number.invariant.taken (omega (arith, c.loop-number-test.true, blocks)) in
+    (refl, c.loop-number.number, omega (arith, c.loop-number-test.true, blocks, all), read.journal, (read.known, read.saved))
 
 pub returns-in-Err-clause-asks : goal.returns-in-Err-clause-asks
 returns-in-Err-clause-asks g c =
@@ -98,11 +105,11 @@ returns-in-Err-clause-asks g c =
     (omega (arith, c.loop-number-test.true, blocks, all))
     (asks_reads g.D.Disk c.args.log.now.disk c.loop-number.log.disk c.read_block.new.self.disk c.loop-number.number 1 (Err Failed) c.loop-number.invariant.asks
     (asks_as g.D.Disk (Reads 1) c.loop-number.log.disk c.read_block.new.self.disk _ (Err Failed)
-    (read_failed c.in-Err.field-0 (λ is. c.in-Err.ensures.never_full (ap Err is)) (λ is. true≢false (sym (c.in-Err.ensures.down.0 (ap Err is)) ∙ c.loop-number.invariant.up)))
-    (c.in-Err.ensures.asks c.loop-number.invariant.up)))
+    (read_failed c.in-Err.field-0 (λ is. c.in-Err.ensures.does.never_full (ap Err is)) (λ is. true≢false (sym (c.in-Err.ensures.does.down.0 (ap Err is)) ∙ c.loop-number.invariant.up)))
+    (c.in-Err.ensures.does.asks c.loop-number.invariant.up)))
 
 pub returns-in_err-epoch-clause-reads : goal.returns-in_err-epoch-clause-reads
-returns-in_err-epoch-clause-reads g c = reads_then g.D.Disk c.args.log.now.disk c.loop-number.log.disk c.read_block.new.self.disk c.loop-number.invariant.reads c.in-Ok.ensures.reads
+returns-in_err-epoch-clause-reads g c = reads_then g.D.Disk c.args.log.now.disk c.loop-number.log.disk c.read_block.new.self.disk c.loop-number.invariant.reads c.in-Ok.ensures.does.reads
 
 pub returns-in_err-epoch-clause-replayed : goal.returns-in_err-epoch-clause-replayed
 returns-in_err-epoch-clause-replayed g c =
@@ -129,4 +136,4 @@ returns-in_err-epoch-clause-asks g c =
     (are_next (g.D.Disk.seen c.args.log.now.disk) (g.D.Disk.seen c.loop-number.log.disk) (32 * k) (slots_from (32 * k) c.loop-number.log.count) c.in-Ok.slots.bytes.now c.loop-number.invariant.reads.seen c.in-Ok.ensures.len c.in-Ok.ensures.bodies))
     (omega (arith, among.0)) (omega (arith, among.1, long))
     (asks_reads g.D.Disk c.args.log.now.disk c.loop-number.log.disk c.read_block.new.self.disk k 1 (Ok tt) c.loop-number.invariant.asks
-    (c.in-Ok.ensures.asks c.loop-number.invariant.up)))
+    (c.in-Ok.ensures.does.asks c.loop-number.invariant.up)))

@@ -28,7 +28,7 @@ returns-in-Err-Failed-default-clause-refused g c = inl (
   search rules,
   search rules,
   open_refused g.D.Disk c.args.disk c.args.game.now c.args.room c.args.known.now.me c.in-Err-Failed-default.disk Failed
-      (asks_as g.D.Disk (OpenLog (g.D.Disk.seen c.args.disk)) c.args.disk c.in-Err-Failed-default.disk _ (Err Failed) (ap (λ (e : LogError). told_by_log {T = Unit {0}} (Err e)) c.in-Err-Failed-default.field-0-0-is)
+      (asks_as g.D.Disk (OpenLog g.D.Disk.lends (g.D.Disk.seen c.args.disk)) c.args.disk c.in-Err-Failed-default.disk _ (Err Failed) (ap (λ (e : LogError). told_by_log {T = Unit {0}} (Err e)) c.in-Err-Failed-default.field-0-0-is)
       c.in-Err-Failed-default.ensures.asks),
 )
 
@@ -37,7 +37,7 @@ returns-in-Err-Full-default-clause-refused g c = inl (
   search rules,
   search rules,
   open_refused g.D.Disk c.args.disk c.args.game.now c.args.room c.args.known.now.me c.in-Err-Full-default.disk Full
-      (asks_as g.D.Disk (OpenLog (g.D.Disk.seen c.args.disk)) c.args.disk c.in-Err-Full-default.disk _ (Err Full) (ap (λ (e : LogError). told_by_log {T = Unit {0}} (Err e)) c.in-Err-Full-default.field-0-0-is)
+      (asks_as g.D.Disk (OpenLog g.D.Disk.lends (g.D.Disk.seen c.args.disk)) c.args.disk c.in-Err-Full-default.disk _ (Err Full) (ap (λ (e : LogError). told_by_log {T = Unit {0}} (Err e)) c.in-Err-Full-default.field-0-0-is)
       c.in-Err-Full-default.ensures.asks),
 )
 

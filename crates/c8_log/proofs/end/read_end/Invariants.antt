@@ -2,7 +2,7 @@ use Rattle.std.proofs.Common.{◌≡◌, ◌*◌, Ok}
 use Rattle.c8_disk.specs.Runs.{ReadsOnly}
 use Rattle.c8_disk.specs.Asks.{Asks, Reads}
 use Rattle.c8_log.proofs.Blocks.{AreOpen}
-use Rattle.c8_log.proofs.end.find_end.Given as goal
+use Rattle.c8_log.proofs.end.read_end.Given as goal
 
 abbrev pub invariant-loop-number : goal.invariant-loop-number
 invariant-loop-number g l = record {
