@@ -1,4 +1,4 @@
-//! The checkpoints that records tell of.
+//! The checkpoints in a journal's records.
 ghost use Rattle.std.specs.Prelude.{◌≡◌, ◌≢◌, ◌↔◌, IfSome, List, ◌<◌, ◌≤◌, ◌+◌, ◌++◌, ◌==◌, ℕ, true, None, length, take, drop, replicate, option_map, if◌then◌else◌};
 ghost use Rattle.c8_digest.specs.Origin.{origin_of};
 ghost use Rattle.c8_machine.specs.State.{State, IsState, state};
@@ -13,16 +13,16 @@ use c8_digest::{
 use c8_machine::Machine;
 use sha2::{Digest, Sha256};
 
-/// How many pieces a checkpoint is cut in.
+/// The pieces of a checkpoint.
 pub const PIECES: u32 = 36;
 
-/// How many bytes they have: those of the machine, one more, and those of the marks.
+/// The bytes of all pieces: the machine's, one zero, and the marks'.
 const SAVE_LENGTH: usize = 4548;
 
-/// From where on they are those of the marks.
+/// Where the bytes of the marks begin.
 const MARKS_PLACE: usize = 4420;
 
-/// How many bytes of the digest there are.
+/// The bytes of the digest that are recorded.
 const DIGEST_LENGTH: usize = 8;
 
 /// The last piece of the machine's bytes.
@@ -31,15 +31,16 @@ const LAST_OF_STATE: u32 = 34;
 /// The piece of the marks' bytes.
 const PIECE_OF_MARKS: u32 = 35;
 
-/// The checkpoints that records tell of: the one whose pieces are under way, and the last that is whole.
-#[derive(Clone, Copy)]
+/// The checkpoints in the records so far: the one whose pieces are being taken, and the last whole one.
+/// It has 9 KB, so it is not `Copy`.
+#[derive(Drop)]
 pub struct Checks {
     /// The form of the records since the last opening.
     form: u32,
-    /// At how many frames the one under way is, and how many of its pieces there are; of none there are 0.
+    /// The frames of the checkpoint under way, and how many of its pieces there are; 0 if none is under way.
     frames: u32,
     count: u32,
-    /// Its bytes, those of the pieces first.
+    /// Its bytes, those of the pieces first; the bytes after these are left over or planned.
     bytes: [u8; SAVE_LENGTH],
     last: Option<Checkpoint>,
     ghost count_in: { count ≤ all_pieces },
@@ -61,11 +62,11 @@ impl Checks {
         }
     }
 
-    /// The last checkpoint that is whole.
-    pub fn last(&self) -> Option<Checkpoint>
-        ensures { option_map origin_of result ≡ (value_of self.now).last }
+    /// Lends the last checkpoint that is whole.
+    pub fn last(&self) -> Option<&Checkpoint>
+        ensures { option_map (λ last. origin_of last.now) result ≡ (value_of self.now).last }
     {
-        self.last
+        self.last.as_ref()
     }
 
     /// The form of the records since the last opening.
@@ -75,7 +76,7 @@ impl Checks {
         self.form
     }
 
-    /// An opening, whose record says of which form the records are from there on.
+    /// Takes the record of an opening: the records after it have this form. It ends a checkpoint under way.
     pub fn open(&mut self, form: u32)
         ensures value { value_of self.new ≡ with_form (value_of self.old) form }
         ensures none { self.new.count ≡ 0 }
@@ -84,7 +85,7 @@ impl Checks {
         self.count = 0;
     }
 
-    /// Whether a piece may stand next, where so many frames are confirmed.
+    /// Whether a piece may be the next record while `sure` frames are confirmed.
     pub fn may_take(&self, sure: u32, frames: u32, piece: u32, bytes: &[u8]) -> bool
         ensures { result ≡ may_take (value_of self.now) sure frames piece bytes.now }
     {
@@ -98,17 +99,17 @@ impl Checks {
         }
     }
 
-    /// At how many frames the last checkpoint is, 0 where there is none.
+    /// The frames of the last whole checkpoint; 0 if there is none.
     pub fn last_frames(&self) -> u32
         ensures { result ≡ frames_of (value_of self.now).last }
     {
-        match self.last {
+        match &self.last {
             None => 0,
             Some(last) => last.frames,
         }
     }
 
-    /// A piece that may stand.
+    /// Takes a piece that may stand.
     pub fn take(&mut self, frames: u32, piece: u32, bytes: &[u8])
         requires { (sure : ℕ) × (may_take (value_of self.old) sure frames piece bytes.now ≡ true) }
         ensures { value_of self.new ≡ with_piece (value_of self.old) frames piece bytes.now }
@@ -118,7 +119,7 @@ impl Checks {
         self.count = piece + 1;
     }
 
-    /// Cuts a checkpoint after so many frames into pieces, of which none has been taken.
+    /// Cuts a checkpoint after `frames` frames into pieces. None of them is taken yet.
     pub fn begin(&mut self, frames: u32, machine: &Machine, marks: &Marks)
         requires { self.old.count ≡ 0 }
         ensures value { value_of self.new ≡ value_of self.old }
@@ -138,22 +139,22 @@ impl Checks {
         self.frames = frames;
     }
 
-    /// How many pieces are under way, 0 where none is.
+    /// The number of pieces taken of the checkpoint under way; 0 if none is under way.
     pub fn count(&self) -> u32
         ensures { result ≡ self.now.count }
     {
         self.count
     }
 
-    /// At how many frames the checkpoint is whose pieces are under way, or were cut.
+    /// The frames of the checkpoint under way, or of the one that was cut.
     pub fn frames(&self) -> u32
         ensures { result ≡ self.now.frames }
     {
         self.frames
     }
 
-    /// The bytes of the next piece.
-    pub fn next(&self) -> &[u8]
+    /// The bytes of the piece that `advance` takes next.
+    pub fn next_piece(&self) -> &[u8]
         requires { self.now.count < all_pieces }
         ensures bytes { result.now ≡ piece_in self.now.count (plan_of self.now) }
         ensures length { length result.now ≡ piece_length self.now.count }
@@ -165,7 +166,7 @@ impl Checks {
         )
     }
 
-    /// Takes the next piece, as it was cut.
+    /// Takes `next_piece`, as it was cut.
     pub fn advance(&mut self)
         requires { self.old.count < all_pieces }
         ensures value { value_of self.new ≡ with_piece (value_of self.old) self.old.frames
@@ -177,15 +178,15 @@ impl Checks {
         self.count += 1;
     }
 
-    /// The digest of the pieces as they were cut.
+    /// The digest of all pieces, as they were cut.
     pub fn digest(&self) -> [u8; DIGEST_LENGTH]
         ensures { result ≡ digest_of (plan_of self.now) }
     {
         digest_of(&self.bytes)
     }
 
-    /// Whether a digest may stand next: all pieces are under way, it is that of their bytes, and a machine
-    /// has these.
+    /// Whether a digest may be the next record: all pieces are there, it is their digest, and their bytes
+    /// spell a machine.
     pub fn may_check(&self, frames: u32, digest: &[u8]) -> bool
         ensures { (result ≡ true) ↔ MayCheck (value_of self.now) frames digest.now }
     {
@@ -195,13 +196,13 @@ impl Checks {
         if frames != self.frames {
             return false;
         }
-        if !is_same(digest, &digest_of(&self.bytes)) {
+        if digest != digest_of(&self.bytes).as_slice() {
             return false;
         }
         machine_in(&self.bytes).is_some()
     }
 
-    /// A digest that may stand: the checkpoint is whole.
+    /// Takes a digest that may stand: now the checkpoint is whole.
     pub fn check(&mut self)
         requires { (frames : ℕ) × (digest : List ℕ) × MayCheck (value_of self.old) frames digest }
         ensures value { value_of self.new ≡ with_whole (value_of self.old) }
@@ -221,7 +222,7 @@ impl Checks {
     }
 }
 
-/// So many bytes from a place on.
+/// `size` bytes from `place` on.
 fn part_of(bytes: &[u8; SAVE_LENGTH], place: usize, size: usize) -> &[u8]
     requires { place + size ≤ save_length }
     ensures bytes { result.now ≡ take size (drop place bytes.now) }
@@ -242,13 +243,7 @@ fn saved(state: &[u8; STATE_LENGTH], marks: &[u8; MARKS_LENGTH]) -> [u8; SAVE_LE
     bytes
 }
 
-fn is_same(bytes: &[u8], others: &[u8]) -> bool
-    ensures { (result ≡ true) ↔ (bytes.now ≡ others.now) }
-{
-    bytes == others
-}
-
-/// The machine whose bytes stand in front.
+/// The machine that the first bytes spell.
 fn machine_in(bytes: &[u8; SAVE_LENGTH]) -> Option<Machine>
     ensures found { IfSome result (λ machine. HasBytes (take state_length bytes.now) (state machine)) }
     ensures none { result ≡ None → (s : State) → IsState s
@@ -271,7 +266,7 @@ fn marks_in(bytes: &[u8; SAVE_LENGTH]) -> [u8; MARKS_LENGTH]
     }
 }
 
-/// The beginning of the digest of the machine's bytes and the marks'.
+/// The first 8 bytes of the digest over the machine's bytes and the marks'.
 fn digest_of(bytes: &[u8; SAVE_LENGTH]) -> [u8; DIGEST_LENGTH]
     ensures { result ≡ digest_of bytes.now }
 {
@@ -294,7 +289,7 @@ fn both_parts(bytes: &[u8; SAVE_LENGTH]) -> [u8; STATE_LENGTH + MARKS_LENGTH]
     parts
 }
 
-/// How many bytes stand before a piece.
+/// The number of bytes before a piece.
 #[tactic(auto, unfolding(crate::specs::Checks::before_piece))]
 fn before_piece(piece: u32) -> usize
     requires { piece ≤ all_pieces }
@@ -308,7 +303,7 @@ fn before_piece(piece: u32) -> usize
     }
 }
 
-/// How many bytes a piece has.
+/// The number of bytes of a piece.
 #[tactic(auto, unfolding(crate::specs::Checks::piece_length))]
 fn piece_length(piece: u32) -> usize
     ensures value { result ≡ piece_length piece }
@@ -317,14 +312,14 @@ fn piece_length(piece: u32) -> usize
     if piece == LAST_OF_STATE { 68 } else { 128 }
 }
 
-/// Whether a piece is as long as it has to be, and has zeros where they have to be.
+/// Whether a piece has the right length, and zeros where they belong.
 fn has_shape(frames: u32, piece: u32, bytes: &[u8]) -> bool
     ensures { result ≡ has_shape frames piece bytes.now }
 {
     bytes.len() == piece_length(piece) && ends_well(frames, piece, bytes)
 }
 
-/// Whether a piece that is as long as it has to be has zeros where they have to be.
+/// Whether a piece of the right length has zeros where they belong.
 #[tactic(auto, unfolding(crate::specs::Checks::piece_length))]
 fn ends_well(frames: u32, piece: u32, bytes: &[u8]) -> bool
     requires { length bytes.now ≡ piece_length piece }
@@ -342,7 +337,7 @@ fn ends_well(frames: u32, piece: u32, bytes: &[u8]) -> bool
     }
 }
 
-/// Writes bytes from a place on.
+/// Writes bytes to `out` from `place` on.
 fn put_at(out: &mut [u8; SAVE_LENGTH], place: usize, bytes: &[u8])
     requires { place + length bytes.now ≤ save_length }
     ensures { out.new ≡ take place out.old ++ bytes.now

@@ -1,9 +1,8 @@
-//! Checkpoints in a journal: the bytes of a machine and its marks, in pieces of a record each, and their
-//! digest, by which they count.
+//! Checkpoints in a journal: the bytes of a machine and its marks in 36 records, one for each piece, and a
+//! last record with their digest. Without the digest they do not count.
 //!
-//! `Checks` follows the records, one after the other: it tells which piece or digest may stand next, and
-//! holds the last checkpoint that is whole (`specs/Checks.antt`); and it cuts the pieces of a new one.
-//! Nothing here takes memory.
+//! `Checks` follows the records in order. It says which piece or digest may come next, keeps the last whole
+//! checkpoint (`specs/Checks.antt`), and cuts a new one into pieces. Nothing here takes memory.
 #![tactic(auto)]
 
 mod checks;

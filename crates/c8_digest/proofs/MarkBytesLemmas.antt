@@ -144,3 +144,8 @@ zeros_again frames marks are =
 pub one_mark : (bytes mark : List ℕ) → take 8 bytes ≡ mark → marks_in 0 bytes ≡ mark_of_frame 0 mark ∷ []
 unfolding marks_in
 one_mark bytes mark is = ap (λ (m : List ℕ). mark_of_frame 0 m ∷ []) is
+
+-- and zeros follow its bytes
+pub one_mark_bytes : (mark : List ℕ) → marks_bytes (mark_of_frame 0 mark ∷ []) ≡ mark ++ replicate 120 0
+unfolding marks_bytes
+one_mark_bytes mark = ap (λ (front : List ℕ). front ++ replicate 120 0) (append-nil mark)

@@ -1,5 +1,6 @@
 //! Where a run of the machine begins: at the first frame, or at a checkpoint.
-ghost use Rattle.std.specs.Prelude.{◌≡◌, take};
+ghost use Rattle.std.specs.Prelude.{◌≡◌, ◌++◌, replicate};
+ghost use Rattle.c8_digest.specs.Marks.{marks_bytes};
 ghost use Rattle.c8_digest.specs.Origin.{origin_of, first_origin};
 
 use crate::digest::{MARK_LENGTH, mark};
@@ -16,9 +17,10 @@ pub struct Checkpoint {
 }
 
 impl Checkpoint {
-    /// Makes the checkpoint before the first frame.
+    /// Makes the checkpoint before the first frame: the first machine and its mark.
     pub fn start(game: &Game) -> Self
-        ensures { origin_of result ≡ first_origin game.now }
+        ensures origin { origin_of result ≡ first_origin game.now }
+        ensures marks { result.marks ≡ marks_bytes (first_origin game.now).marks }
     {
         let machine = Machine::start(game);
         Checkpoint {
@@ -29,9 +31,9 @@ impl Checkpoint {
     }
 }
 
-/// Returns the bytes of a single mark.
+/// Returns the bytes of a single mark: zeros follow it.
 fn alone(mark: &[u8; MARK_LENGTH]) -> [u8; MARKS_LENGTH]
-    ensures { take 8 result ≡ mark.now }
+    ensures { result ≡ mark.now ++ replicate 120 0 }
 {
     let mut marks = [0; MARKS_LENGTH];
     marks[..MARK_LENGTH].copy_from_slice(mark);

@@ -12,5 +12,5 @@ mod run;
 mod stretches;
 
 pub use pair::Pair;
-pub use run::{LONGEST_RUN, MOST_PAIRS, Pairs, PairsIter, is_run};
+pub use run::{LONGEST_RUN, MOST_PAIRS, Pairs, PairsIter};
 pub use stretches::{Stretches, fits};

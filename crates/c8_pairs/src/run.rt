@@ -49,8 +49,8 @@ impl<'a> Pairs<'a> {
         }
     }
 
-    /// The run of so many inputs that these bytes spell. None where a pair is of no inputs, two
-    /// neighbours have the same key set, or they are not of so many inputs in all.
+    /// The run of `count` inputs that these bytes spell. `None` if a pair has no inputs, if two neighbours
+    /// have the same key set, or if all pairs together do not have `count` inputs.
     pub fn read(bytes: &'a [u8], count: usize) -> Option<Pairs<'a>>
         requires whole { length bytes.now % 3 ≡ 0 }
         requires short { length bytes.now ≤ 3 * MOST_PAIRS }
@@ -212,10 +212,11 @@ fn first_of(bytes: &[u8]) -> Option<First<'_>>
     }
 }
 
-/// Whether bytes are the pairs of a run of so many inputs: none is of no inputs, no two neighbours have
-/// the same key set, and they are of so many inputs in all. One or two bytes that are left over after
-/// the last pair say nothing.
-pub fn is_run(bytes: &[u8], count: usize) -> bool
+/// Whether bytes are the pairs of a run of `count` inputs: each pair has an input, no two neighbours have
+/// the same key set, and all pairs together have `count` inputs. It ignores one or two bytes after the
+/// last pair. It walks at most 42 pairs, and is private: other crates call [`Pairs::read`].
+fn is_run(bytes: &[u8], count: usize) -> bool
+    requires { length bytes.now ≤ 3 * MOST_PAIRS }
     ensures { result ≡ are_run (pairs_at bytes.now) count }
 {
     is_run_after(None, bytes, count)

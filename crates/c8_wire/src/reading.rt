@@ -1,5 +1,5 @@
 //! Bytes are a datagram, or refused.
-ghost use Rattle.std.specs.Prelude.{◌≡◌, ◌+◌, ◌<◌, ◌≤◌, not, length, Option, Some, None, Ok, Err, MatchResult, IfOk, IfErr, OnOk, IsOkAnd};
+ghost use Rattle.std.specs.Prelude.{◌≡◌, ◌+◌, ◌<◌, ◌≤◌, not, false, length, Option, Some, None, Ok, Err, MatchResult, IfOk, IfErr, OnOk, IsOkAnd};
 ghost use Rattle.c8_wire.specs.Kinds.{fixed_size};
 ghost use Rattle.std.specs.Bool.{OnFalse};
 ghost use Rattle.c8_wire.specs.Packet.{Packet};
@@ -26,7 +26,7 @@ use crate::showing::{Seen, Show};
 use crate::sizes::{HEADER_LENGTH, LONGEST_RUN, MOST_ROWS};
 use crate::version::version_in;
 use c8_game::{MOST_FRAMES, MOST_INPUTS, WireVersion};
-use c8_pairs::{MOST_PAIRS, is_run};
+use c8_pairs::{MOST_PAIRS, Pairs};
 
 /// The datagram that the bytes spell, lent from them; else the first refusal of `WireError`.
 pub fn view(bytes: &[u8]) -> Result<Datagram<'_>, WireError>
@@ -247,14 +247,17 @@ fn has_wrong_size(version: WireVersion, count: usize, size: usize) -> bool
     }
 }
 
-/// Whether what ends the body are not the pairs of a run, in version 2.
+/// Whether the bytes that end the body are not the pairs of a run, in version 2. There are few of them:
+/// `miscounts` refused more.
 fn mispairs(kind: DatagramKind, bytes: &[u8]) -> bool
-    requires { HEADER_LENGTH + fixed_size kind ≤ length bytes.now }
+    requires long { HEADER_LENGTH + fixed_size kind ≤ length bytes.now }
+    requires fits { is_misfit kind bytes.now ≡ false }
+    requires counted { miscounts kind bytes.now ≡ false }
     ensures { result ≡ mispairs kind bytes.now }
 {
     let count = usize::from(u16_at(bytes, COUNT_PAST_FIXED + kind.fixed_size()));
     let (_, run) = bytes.split_at(HEADER_LENGTH + kind.fixed_size());
-    kind.has_run() && version_in(bytes) == WireVersion::Two && !is_run(run, count)
+    kind.has_run() && version_in(bytes) == WireVersion::Two && Pairs::read(run, count).is_none()
 }
 
 /// Whether a number of inputs or of rows is above what a game may have, or a run or rows go past the end.

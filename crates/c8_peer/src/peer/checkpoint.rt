@@ -119,7 +119,7 @@ fn next_body(checks: &Checks, player: Player) -> [u8; BODY_LENGTH]
         });
     }
     let piece = checks.count();
-    let run = Run::new(checks.next());
+    let run = Run::new(checks.next_piece());
     body_of(&Record::State {
         player,
         frames,

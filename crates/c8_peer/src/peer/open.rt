@@ -129,7 +129,7 @@ fn beginning(game: &Game, checks: &Checks) -> Checkpoint
     ensures { origin_of result ≡ or_first game.now (checked checks.now).last }
 {
     match checks.last() {
-        Some(last) => last,
+        Some(last) => *last,
         None => Checkpoint::start(game),
     }
 }

@@ -3,7 +3,7 @@ use Rattle.c8_peer.proofs.CheckpointLemmas.{piece_even, piece_few}
 use Rattle.c8_peer.proofs.peer.checkpoint.next_body.Goals as goal
 
 pub new-run-requires-2-clause-even : goal.new-run-requires-2-clause-even
-new-run-requires-2-clause-even c = ap (λ (n : ℕ). n % 2) c.next.ensures.length ∙ piece_even c.args.checks.now.count
+new-run-requires-2-clause-even c = ap (λ (n : ℕ). n % 2) c.next_piece.ensures.length ∙ piece_even c.args.checks.now.count
 
 pub new-run-requires-2-clause-short : goal.new-run-requires-2-clause-short
-new-run-requires-2-clause-short c = subst (λ (n : ℕ). n ≤ 128) (sym c.next.ensures.length) (piece_few c.args.checks.now.count)
+new-run-requires-2-clause-short c = subst (λ (n : ℕ). n ≤ 128) (sym c.next_piece.ensures.length) (piece_few c.args.checks.now.count)

@@ -1,6 +1,6 @@
 use Rattle.std.proofs.Common.{◌+◌, ◌∙◌, arith}
 use Rattle.c8_check.specs.checked.PieceLaws.{piece_ends, before_within}
-use Rattle.c8_check.proofs.checks.Checks.next.Goals as goal
+use Rattle.c8_check.proofs.checks.Checks.next_piece.Goals as goal
 
 pub part_of-requires : goal.part_of-requires
 part_of-requires c =
