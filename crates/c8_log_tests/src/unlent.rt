@@ -1,6 +1,7 @@
 //! A log on a disk that lends no bytes, whose end is found by reads.
-ghost use Rattle.std.specs.Prelude.{false};
+ghost use Rattle.std.specs.Prelude.{◌≡◌, false};
 ghost use Rattle.c8_disk.specs.Memory.{bytes_of, images_of, moment_of, left_since, room_of, arms_of, failures_of, changes_of, value_of, IsMemoryCall, with_arm};
+ghost use Rattle.c8_disk.specs.checked.PastLaws.{reads_image, counts, only};
 
 use crate::calls::writes;
 use crate::log::new_disk;
@@ -37,11 +38,12 @@ impl Disk for Unlent {
 
     ghost told = { λ d arm e. value_of e.disk ≡ with_arm arm (value_of d.disk) };
 
-    ghost reads_now = { λ d. ⟦<MemDisk as Disk>⟧.reads_now d.disk };
+    ghost reads_now = { λ d. reads_image d.disk.first.items d.disk.calls.items
+        d.disk.bytes.items d.disk.lawful d.disk.replayed };
 
-    ghost counts_now = { λ d. ⟦<MemDisk as Disk>⟧.counts_now d.disk };
+    ghost counts_now = { λ d. counts d.disk.first.items d.disk.calls.items };
 
-    ghost only_now = { λ d. ⟦<MemDisk as Disk>⟧.only_now d.disk };
+    ghost only_now = { λ d. only d.disk.first.items d.disk.calls.items };
 
     fn len(&self) -> u32 {
         self.disk.len()
@@ -72,8 +74,8 @@ impl Disk for Unlent {
     }
 }
 
-/// A disk with so many open slots and a closed gate.
-fn filled(alloc: Global, count: usize) -> Option<MemDisk> {
+/// A disk with `count` open slots and a closed gate.
+fn filled(alloc: Global, count: u32) -> Option<MemDisk> {
     let mut disk = new_disk(alloc, 10_000)?;
     for _ in 0..count {
         let at = disk.len();
@@ -89,7 +91,7 @@ fn filled(alloc: Global, count: usize) -> Option<MemDisk> {
     }
 }
 
-/// How many bodies a log counts that is opened on a disk, or why it is refused. The disk serves so many calls.
+/// Opens a log on a disk that serves this many calls, and answers how many bodies it counts.
 fn counted<D: Disk + Drop>(mut disk: D, calls: u64) -> Result<u32, LogError> {
     disk.arm(Arm::Stop(calls));
     match Log::open(disk) {
@@ -98,9 +100,9 @@ fn counted<D: Disk + Drop>(mut disk: D, calls: u64) -> Result<u32, LogError> {
     }
 }
 
-/// Whether a log with so many bodies is opened by a sync alone where the disk lends its bytes, and else by a sync and so
-/// many reads.
-fn is_opened(alloc: Global, count: usize, reads: u64) -> bool {
+/// Whether a sync is enough to open a log of `count` bodies on a disk that lends them, and a sync and
+/// this many reads, but no fewer, on one that lends none.
+fn is_opened(alloc: Global, count: u32, reads: u64) -> bool {
     let (Some(lent), Some(unlent), Some(stopped)) = (
         filled(alloc, count),
         filled(alloc, count),
@@ -108,13 +110,13 @@ fn is_opened(alloc: Global, count: usize, reads: u64) -> bool {
     ) else {
         return false;
     };
-    counted(lent, 1) == Ok(count as u32)
-        && counted(Unlent { disk: unlent }, 1 + reads) == Ok(count as u32)
+    counted(lent, 1) == Ok(count)
+        && counted(Unlent { disk: unlent }, reads.saturating_add(1)) == Ok(count)
         && counted(Unlent { disk: stopped }, reads) == Err(LogError::Failed)
 }
 
 /// Numbers of bodies, and of the blocks up to the gate after them.
-const LOGS: [(usize, u64); 6] = [(0, 1), (1, 1), (31, 1), (32, 2), (33, 2), (64, 3)];
+const LOGS: [(u32, u64); 6] = [(0, 1), (1, 1), (31, 1), (32, 2), (33, 2), (64, 3)];
 
 #[test]
 fn the_end_is_found_in_place_or_by_blocks(rt: HostRuntime) {
