@@ -39,8 +39,8 @@ impl Clock for Still {
 /// What a terminal sends, and in which frame, counted from 0. Where it sends nothing it hangs up.
 pub type Sent = (u32, &'static [u8]);
 
-/// How often a console was made ready, written on, and given back.
-pub type Marks = (u32, u32, u32);
+/// How often a console was made ready, written on, given back, and handed a wire that is to wake it.
+pub type Marks = (u32, u32, u32, u32);
 
 /// What was seen at a console.
 #[derive(Drop)]
@@ -57,7 +57,7 @@ impl Log {
         Log {
             begun: Vec::new(alloc),
             drawn: Vec::new(alloc),
-            marks: (0, 0, 0),
+            marks: (0, 0, 0, 0),
         }
     }
 }
@@ -133,7 +133,9 @@ impl<'r, R: Clock> Console for Written<'r, R> {
         Ok(())
     }
 
-    fn wake_at(&mut self, _wire: &mut Udp) {}
+    fn wake_at(&mut self, _wire: &mut Udp) {
+        self.log.marks.3 = self.log.marks.3.saturating_add(1);
+    }
 
     fn rest(&mut self, time: Duration) {
         thread::sleep(self.rt, time);

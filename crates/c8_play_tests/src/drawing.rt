@@ -19,7 +19,7 @@ use std::time::{Clock, Duration};
 use std::{fs, io};
 
 /// Each frame turns one point of the uppermost row, the leftmost first, and after the last that again.
-const GAME: &str =
+pub(crate) const GAME: &str =
     "players 2\nipf 3\nframes 5000\ndelay 0\nwindow 8\nseed 0\nmask1 ffff\nmask2 ffff\ncode a208d0117001120280\n";
 
 /// Whose sleep after a turn is no time to wait for, but a millisecond of a clock that counts these alone.
@@ -61,7 +61,7 @@ impl<'r, R: Clock> Clock for Counted<'r, R> {
 
 /// A way on which one more row comes each turn, in which no key is held.
 #[derive(Drop)]
-struct Shows {
+pub(crate) struct Shows {
     show: [u8; 38],
     frame: u32,
     has_come: bool,
@@ -70,7 +70,7 @@ struct Shows {
 
 impl Shows {
     /// The rows of a match in room 3, to seat 5.
-    fn new(game: &Game) -> Shows {
+    pub(crate) fn new(game: &Game) -> Shows {
         let mut show = [0; 38];
         show[..4].copy_from_slice(b"C8\x01\x07");
         show[4..12].copy_from_slice(&game.session(3).to_be_bytes());

@@ -2,7 +2,7 @@
 //!
 //! `console` has consoles whose keys are written down. `alone` plays a game at one, `waits` a match in which
 //! nobody else is there, `pair` one of two over the loopback. `rows` has the row below the screen, `drawing` the
-//! pictures of a match that is watched.
+//! pictures of a match that is watched, `stop` one that is watched until enough frames were seen.
 #![tactic(auto)]
 
 #[cfg(test)]
@@ -15,5 +15,7 @@ mod drawing;
 mod pair;
 #[cfg(test)]
 mod rows;
+#[cfg(test)]
+mod stop;
 #[cfg(test)]
 mod waits;
