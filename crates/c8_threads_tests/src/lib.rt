@@ -2,6 +2,7 @@
 //! end, and what it refuses.
 #![tactic(auto)]
 
+mod counts;
 mod refusals;
 mod replays;
 mod verdicts;
