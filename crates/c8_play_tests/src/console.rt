@@ -70,6 +70,8 @@ pub struct Written<'r, R> {
     /// How many of these the desk has read, and in which frame it is.
     told: usize,
     frame: u32,
+    /// After how long a packet ends a rest.
+    pub longest_rest: Duration,
     log: &'r mut Log,
     exchange: Exchange,
 }
@@ -81,6 +83,7 @@ impl<'r, R: Clock> Written<'r, R> {
             sent,
             told: 0,
             frame: 0,
+            longest_rest: Duration::MAX,
             log,
             exchange: Exchange::new(),
         }
@@ -138,7 +141,7 @@ impl<'r, R: Clock> Console for Written<'r, R> {
     }
 
     fn rest(&mut self, time: Duration) {
-        thread::sleep(self.rt, time);
+        thread::sleep(self.rt, time.min(self.longest_rest));
     }
 
     fn sleep(&mut self, time: Duration) {

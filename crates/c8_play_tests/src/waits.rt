@@ -12,6 +12,7 @@ use c8_peer::Peer;
 use c8_play::{Desk, Pace, play_frames};
 use c8_wire::Seat;
 use std::alloc::Global;
+use std::time::Duration;
 
 /// How many frames are due a second.
 const RATE: u8 = 60;
@@ -113,8 +114,15 @@ fn asked_for(row: Row) -> Asked<'static, 'static> {
     }
 }
 
-/// How many turns player 1 makes, how many frames it ticks, and how often it asks for a packet.
-fn played(alloc: Global, game: &Game, row: Row, log: &mut Log) -> Option<(u64, u32, u32)> {
+/// How many turns player 1 makes, how many frames it ticks, and how often it asks for a packet, where packets end a rest
+/// after this long.
+fn played(
+    alloc: Global,
+    game: &Game,
+    row: Row,
+    longest_rest: Duration,
+    log: &mut Log,
+) -> Option<(u64, u32, u32)> {
     let disk = MemDisk::new(alloc, 100_000, 4_000).ok()?;
     let Ok(peer) = Peer::open(alloc, disk, game, Player::CHAIR, 0) else {
         return None;
@@ -125,7 +133,9 @@ fn played(alloc: Global, game: &Game, row: Row, log: &mut Log) -> Option<(u64, u
         rate: RATE,
         hold: 9,
     };
-    let mut desk = Desk::new(Written::new(&clock, sent_of(row.typed), log), pace);
+    let mut console = Written::new(&clock, sent_of(row.typed), log);
+    console.longest_rest = longest_rest;
+    let mut desk = Desk::new(console, pace);
     let asked = asked_for(row);
     let made = play_frames(&mut session, &mut wire, &mut desk, game, RATE, &asked);
     let _lateness = desk.end();
@@ -152,7 +162,7 @@ fn gets_as_far_as_the_window(alloc: Global) -> bool {
         return false;
     };
     let mut log = Log::new(alloc);
-    let made = played(alloc, &game, TEN, &mut log);
+    let made = played(alloc, &game, TEN, Duration::MAX, &mut log);
     let (mut wanted, again) = (whole(alloc), whole(alloc));
     let _ = wanted.extend_from_slice(FIRST);
     let _ = wanted.extend_from_slice(WAITS);
@@ -166,6 +176,22 @@ fn gets_as_far_as_the_window(alloc: Global) -> bool {
 #[test]
 fn who_is_alone_gets_as_far_as_the_window(rt: HostRuntime) {
     assert!(rt; gets_as_far_as_the_window(rt.alloc()));
+}
+
+/// Whether frames begin when they are due though packets end each rest after 10 microseconds. Player 1 rests 1000 times
+/// before a frame at most.
+fn are_due(alloc: Global) -> bool {
+    let Ok(game) = Game::read(alloc, DRAWS) else {
+        return false;
+    };
+    let mut log = Log::new(alloc);
+    let made = played(alloc, &game, TEN, Duration::from_micros(10), &mut log);
+    made == Some((TEN.made, TEN.ticked, 9_010)) && log.begun.as_slice() == TIMES.as_slice()
+}
+
+#[test]
+fn many_packets_hasten_no_frame(rt: HostRuntime) {
+    assert!(rt; are_due(rt.alloc()));
 }
 
 /// Player 1 drops player 2 in turn 3, so that a frame a turn is ticked and confirmed.
@@ -191,7 +217,7 @@ fn ends_so(alloc: Global, row: Row) -> bool {
         return false;
     };
     let mut log = Log::new(alloc);
-    match played(alloc, &game, row, &mut log) {
+    match played(alloc, &game, row, Duration::MAX, &mut log) {
         Some((made, ticked, _)) => made == row.made && ticked == row.ticked,
         None => false,
     }
