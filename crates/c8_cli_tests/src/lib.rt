@@ -13,6 +13,8 @@ mod arguments;
 #[cfg(test)]
 mod loopback;
 #[cfg(test)]
+mod progress;
+#[cfg(test)]
 mod readers;
 #[cfg(test)]
 mod refusals;

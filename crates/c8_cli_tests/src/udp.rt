@@ -3,8 +3,11 @@ use c8_game::Player;
 use c8_live::{LONGEST_PACKET, Wire, WireFailed};
 use c8_net::{Addresses, SocketError, Udp};
 use c8_wire::Seat;
+use mio::{Events, Poll, Token};
+use std::alloc::Global;
 use std::net::{Ipv4Addr, SocketAddr, UdpSocket};
 use std::test::Fail;
+use std::time::Duration;
 
 const TWO: Player = Player { number: 2 };
 
@@ -75,6 +78,24 @@ fn carries_packets_and_never_waits(rt: HostRuntime) -> Result<(), Fail> {
     assert!(rt; is_quiet(&mut wire) && sends(&mut wire));
     assert!(rt; answer_twice(&other)?);
     assert!(rt; hears_twice(&mut wire));
+    Ok(())
+}
+
+/// Whether a wait of two seconds ends with news of a packet.
+fn is_woken(poll: &mut Poll, events: &mut Events<Global>) -> bool {
+    poll.poll(events, Some(Duration::from_secs(2))).is_ok() && !events.is_empty()
+}
+
+/// A packet ends a wait.
+#[test]
+fn a_packet_wakes_who_waits(rt: HostRuntime) -> Result<(), Fail> {
+    let other = other_socket(&rt)?;
+    let mut wire = wire_to(&rt, other.local_addr()?)?;
+    let mut poll = Poll::new(&rt)?;
+    let mut events = Events::with_capacity(rt.alloc(), 1)?;
+    wire.wake(poll.registry(), Token(0))?;
+    assert!(rt; sends(&mut wire) && answer_twice(&other)?);
+    assert!(rt; is_woken(&mut poll, &mut events) && hears_twice(&mut wire));
     Ok(())
 }
 

@@ -125,7 +125,7 @@ fn is_played(alloc: Global, rate: u8, sent: &'static [Sent], asked: u64, frames:
         return false;
     };
     let (found, marks) = played_by(alloc, &game, rate, sent, asked);
-    found.frames as usize == frames && found.machine == wanted.machine && marks == (1, 1, 1)
+    found.frames as usize == frames && found.machine == wanted.machine && marks == (1, 1, 1, 0)
 }
 
 #[test]

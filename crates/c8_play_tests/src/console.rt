@@ -39,8 +39,8 @@ impl Clock for Still {
 /// What a terminal sends, and in which frame, counted from 0. If it sends nothing it hangs up.
 pub type Sent = (u32, &'static [u8]);
 
-/// How often a console was prepared, written on, and restored.
-pub type Marks = (u32, u32, u32);
+/// How often a console was prepared, written on, restored, and given a wire to wake it.
+pub type Marks = (u32, u32, u32, u32);
 
 /// What was seen at a console.
 #[derive(Drop)]
@@ -57,7 +57,7 @@ impl Log {
         Log {
             begun: Vec::new(alloc),
             drawn: Vec::new(alloc),
-            marks: (0, 0, 0),
+            marks: (0, 0, 0, 0),
         }
     }
 }
@@ -70,6 +70,8 @@ pub struct Written<'r, R> {
     /// How many of these the desk has read, and in which frame it is.
     told: usize,
     frame: u32,
+    /// After how long a packet ends a rest.
+    pub longest_rest: Duration,
     log: &'r mut Log,
     exchange: Exchange,
 }
@@ -81,6 +83,7 @@ impl<'r, R: Clock> Written<'r, R> {
             sent,
             told: 0,
             frame: 0,
+            longest_rest: Duration::MAX,
             log,
             exchange: Exchange::new(),
         }
@@ -133,10 +136,12 @@ impl<'r, R: Clock> Console for Written<'r, R> {
         Ok(())
     }
 
-    fn wake_at(&mut self, _wire: &mut Udp) {}
+    fn wake_at(&mut self, _wire: &mut Udp) {
+        self.log.marks.3 = self.log.marks.3.saturating_add(1);
+    }
 
     fn rest(&mut self, time: Duration) {
-        thread::sleep(self.rt, time);
+        thread::sleep(self.rt, time.min(self.longest_rest));
     }
 
     fn sleep(&mut self, time: Duration) {

@@ -19,7 +19,7 @@ use std::time::{Clock, Duration};
 use std::{fs, io};
 
 /// Each frame flips one point of the uppermost row, from left to right, and then from the left again.
-const GAME: &str =
+pub(crate) const GAME: &str =
     "players 2\nipf 3\nframes 5000\ndelay 0\nwindow 8\nseed 0\nmask1 ffff\nmask2 ffff\ncode a208d0117001120280\n";
 
 /// A runtime whose sleeps do not wait, and whose clock counts each of them as a millisecond.
@@ -61,7 +61,7 @@ impl<'r, R: Clock> Clock for Counted<'r, R> {
 
 /// A wire on which one more row comes each turn, with no key held.
 #[derive(Drop)]
-struct Shows {
+pub(crate) struct Shows {
     show: [u8; 38],
     frame: u32,
     has_come: bool,
@@ -70,7 +70,7 @@ struct Shows {
 
 impl Shows {
     /// The rows of a match in room 3, for seat 5.
-    fn new(game: &Game) -> Shows {
+    pub(crate) fn new(game: &Game) -> Shows {
         let mut show = [0; 38];
         show[..4].copy_from_slice(b"C8\x01\x07");
         show[4..12].copy_from_slice(&game.session(3).to_be_bytes());

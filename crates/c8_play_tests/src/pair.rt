@@ -30,8 +30,12 @@ fn free(rt: &HostRuntime) -> Result<String, Fail> {
     Ok(format!(in rt.alloc(); "{}", socket.local_addr()?)?)
 }
 
-/// What a player prints that plays at one address with one at another, nothing if it is refused; and how often its
-/// console was used.
+/// The lines on standard error of a match that ends before its first frame.
+const TOLD: &[u8] =
+    b"frames were late by 0 ms in the median, by 0 ms at most\n0 of 60 frames after 0 turns\n";
+
+/// What a player prints that plays at one address with one at another, nothing if it is refused; what it writes on
+/// standard error; and how often its console was used.
 fn printed<'x, R>(
     rt: &'x R,
     number: u8,
@@ -40,7 +44,7 @@ fn printed<'x, R>(
     local: &'x str,
     remote: &'x str,
     stop: Option<u64>,
-) -> (Vec<u8>, Marks)
+) -> (Vec<u8>, Vec<u8>, Marks)
 where
     R: Files<File = File> + Net + Clock + AllocGlobal,
 {
@@ -56,7 +60,7 @@ where
         patience: None,
         stop,
         checkpoint: 0,
-        progress: false,
+        progress: true,
         explain: false,
     };
     let mut log = Log::new(rt.alloc());
@@ -66,7 +70,7 @@ where
     };
     let (mut report, mut refused) = (Vec::new(rt.alloc()), Vec::new(rt.alloc()));
     let _ended = perform(rt, &asked, live, &mut report, &mut refused);
-    (report, log.marks)
+    (report, refused, log.marks)
 }
 
 /// The value of a register in a report, in its line `v 00 3f ...`; 0 if there is no such line.
@@ -91,9 +95,9 @@ fn is_of_some(report: &[u8], register: usize) -> bool {
     count > 0 && count < count_of(report, 0) / 2
 }
 
-/// Whether a console was prepared, written on, and restored.
+/// Whether a console was prepared, written on, restored, and given its wire.
 fn is_given_back(marks: Marks) -> bool {
-    marks.0 == 1 && marks.1 >= 2 && marks.2 == 1
+    marks.0 == 1 && marks.1 >= 2 && marks.2 == 1 && marks.3 == 1
 }
 
 /// Removes the game's file and all journals, and returns whether they were there.
@@ -109,7 +113,7 @@ fn two_at_consoles_print_one_report(rt: HostRuntime) -> Result<(), Fail> {
     fs::write(&rt, GAME_FILE, GAME)?;
     let (here, there) = (free(&rt)?, free(&rt)?);
     let (here, there) = (here.as_str(), there.as_str());
-    let ((one, first), (two, second)) = join(
+    let ((one, _, first), (two, _, second)) = join(
         &rt,
         || printed(&rt, 1, &ONE, "play_one.journal", here, there, None),
         || printed(&rt, 2, &TWO, "play_two.journal", there, here, None),
@@ -120,8 +124,9 @@ fn two_at_consoles_print_one_report(rt: HostRuntime) -> Result<(), Fail> {
     assert!(rt; is_of_some(&one, 1) && is_of_some(&one, 3));
     assert!(rt; is_given_back(first) && is_given_back(second));
     // 0 frames are enough: nobody answers, and it ends at once
-    let (stopped, _) = printed(&rt, 1, &ONE, "play_none.journal", here, there, Some(0));
+    let (stopped, told, _) = printed(&rt, 1, &ONE, "play_none.journal", here, there, Some(0));
     assert!(rt; stopped.starts_with(b"frames 0\n"));
+    assert!(rt; told.as_slice() == TOLD);
     assert!(rt; are_removed(&rt));
     Ok(())
 }

@@ -1,9 +1,9 @@
-//! A match without other players: how far a player gets, when, and what is seen of it.
+//! A match without other players: how far a player gets, when, what is seen of it, and what ends it.
 
 ghost use Rattle.std.specs.Prelude.{[]};
 
 use crate::alone::{DRAWS, whole};
-use crate::console::{Log, Still, Written};
+use crate::console::{Log, Sent, Still, Written};
 use c8_disk::MemDisk;
 use c8_game::{Game, Player};
 use c8_live::{LONGEST_PACKET, Session, Wire, WireFailed};
@@ -12,6 +12,7 @@ use c8_peer::Peer;
 use c8_play::{Desk, Pace, play_frames};
 use c8_wire::Seat;
 use std::alloc::Global;
+use std::time::Duration;
 
 /// How many frames are due a second.
 const RATE: u8 = 60;
@@ -28,7 +29,10 @@ static TIMES: [u64; 10] = [
 
 /// A wire that leads nowhere.
 #[derive(Drop)]
-struct Nowhere;
+struct Nowhere {
+    /// How often a packet was asked for.
+    asked: u32,
+}
 
 impl Wire for Nowhere {
     ghost sent = { λ _. [] };
@@ -40,12 +44,59 @@ impl Wire for Nowhere {
     }
 
     fn receive(&mut self, _: &mut [u8; LONGEST_PACKET]) -> Result<Option<usize>, WireFailed> {
+        self.asked = self.asked.saturating_add(1);
         Ok(None)
     }
 }
 
-/// The command line: ten turns.
-fn asked_for() -> Asked<'static, 'static> {
+/// What a person does in frame 4, counted from 0.
+#[derive(Clone, Copy)]
+enum Typed {
+    Nothing,
+    /// Control-L, in frame 9: the screen is to be painted again, and the row below it.
+    Repaint,
+    ControlC,
+    /// An escape that stands alone. It counts once nothing has come for 25 milliseconds, in frame 6.
+    Escape,
+    /// The terminal is closed.
+    HangUp,
+}
+
+static REPAINT: [Sent; 1] = [(9, b"\x0c")];
+
+static CONTROL_C: [Sent; 1] = [(4, b"\x03")];
+
+static ESCAPE: [Sent; 1] = [(4, b"\x1b")];
+
+static HANG_UP: [Sent; 1] = [(4, b"")];
+
+/// What the terminal sends.
+fn sent_of(typed: Typed) -> &'static [Sent] {
+    match typed {
+        Typed::Nothing => &[],
+        Typed::Repaint => &REPAINT,
+        Typed::ControlC => &CONTROL_C,
+        Typed::Escape => &ESCAPE,
+        Typed::HangUp => &HANG_UP,
+    }
+}
+
+/// What may end a match, and when it ends.
+#[derive(Clone, Copy)]
+struct Row {
+    typed: Typed,
+    turns: u64,
+    /// How many confirmed frames are enough, if any are.
+    stop: Option<u64>,
+    /// After how many turns player 1 drops player 2, if it does.
+    patience: Option<u64>,
+    /// How many turns are made, and how many frames ticked.
+    made: u64,
+    ticked: u32,
+}
+
+/// What is asked for in a row.
+fn asked_for(row: Row) -> Asked<'static, 'static> {
     Asked {
         game: "",
         player: Player::CHAIR,
@@ -54,48 +105,70 @@ fn asked_for() -> Asked<'static, 'static> {
         remotes: None,
         watchers: [None, None],
         room: 0,
-        turns: 10,
-        patience: None,
-        stop: None,
+        turns: row.turns,
+        patience: row.patience,
+        stop: row.stop,
         checkpoint: 0,
         progress: false,
         explain: false,
     }
 }
 
-/// How many turns player 1 makes, and how many frames it ticks.
-fn played(alloc: Global, game: &Game, log: &mut Log) -> Option<(u64, u32)> {
+/// How many turns player 1 makes, how many frames it ticks, and how often it asks for a packet, where packets end a rest
+/// after this long.
+fn played(
+    alloc: Global,
+    game: &Game,
+    row: Row,
+    longest_rest: Duration,
+    log: &mut Log,
+) -> Option<(u64, u32, u32)> {
     let disk = MemDisk::new(alloc, 100_000, 4_000).ok()?;
     let Ok(peer) = Peer::open(alloc, disk, game, Player::CHAIR, 0) else {
         return None;
     };
-    let mut session = Session::new(peer, game, Vec::new(alloc), None, 0);
-    let (mut wire, clock) = (Nowhere, Still::new());
+    let mut session = Session::new(peer, game, Vec::new(alloc), row.patience, 0);
+    let (mut wire, clock) = (Nowhere { asked: 0 }, Still::new());
     let pace = Pace {
         rate: RATE,
         hold: 9,
     };
-    let mut desk = Desk::new(Written::new(&clock, &[], log), pace);
-    let made = play_frames(&mut session, &mut wire, &mut desk, game, RATE, &asked_for());
+    let mut console = Written::new(&clock, sent_of(row.typed), log);
+    console.longest_rest = longest_rest;
+    let mut desk = Desk::new(console, pace);
+    let asked = asked_for(row);
+    let made = play_frames(&mut session, &mut wire, &mut desk, game, RATE, &asked);
     let _lateness = desk.end();
     match made {
-        Ok(made) => Some((made, session.peer().now())),
+        Ok(made) => Some((made, session.peer().now(), wire.asked)),
         Err(_) => None,
     }
 }
 
-/// Whether player 1 ticks as many frames as the window has, and all that is seen of ten is the picture of the first
-/// one, and that it waits.
+/// Ten turns, of which the window lets eight tick.
+static TEN: Row = Row {
+    typed: Typed::Repaint,
+    turns: 10,
+    stop: None,
+    patience: None,
+    made: 10,
+    ticked: 8,
+};
+
+/// Whether player 1 ticks as many frames as the window has, asks for packets in each turn and before each but the
+/// first, and all that is seen of ten is the picture of the first one, that it waits, and both again in the last one.
 fn gets_as_far_as_the_window(alloc: Global) -> bool {
     let Ok(game) = Game::read(alloc, DRAWS) else {
         return false;
     };
     let mut log = Log::new(alloc);
-    let made = played(alloc, &game, &mut log);
-    let mut wanted = whole(alloc);
+    let made = played(alloc, &game, TEN, Duration::MAX, &mut log);
+    let (mut wanted, again) = (whole(alloc), whole(alloc));
     let _ = wanted.extend_from_slice(FIRST);
     let _ = wanted.extend_from_slice(WAITS);
-    made == Some((10, 8))
+    let _ = wanted.extend_from_slice(again.as_slice());
+    let _ = wanted.extend_from_slice(WAITS);
+    made == Some((TEN.made, TEN.ticked, 19))
         && log.drawn.as_slice() == wanted.as_slice()
         && log.begun.as_slice() == TIMES.as_slice()
 }
@@ -103,4 +176,56 @@ fn gets_as_far_as_the_window(alloc: Global) -> bool {
 #[test]
 fn who_is_alone_gets_as_far_as_the_window(rt: HostRuntime) {
     assert!(rt; gets_as_far_as_the_window(rt.alloc()));
+}
+
+/// Whether frames begin when they are due though packets end each rest after 10 microseconds. Player 1 rests 1000 times
+/// before a frame at most.
+fn are_due(alloc: Global) -> bool {
+    let Ok(game) = Game::read(alloc, DRAWS) else {
+        return false;
+    };
+    let mut log = Log::new(alloc);
+    let made = played(alloc, &game, TEN, Duration::from_micros(10), &mut log);
+    made == Some((TEN.made, TEN.ticked, 9_010)) && log.begun.as_slice() == TIMES.as_slice()
+}
+
+#[test]
+fn many_packets_hasten_no_frame(rt: HostRuntime) {
+    assert!(rt; are_due(rt.alloc()));
+}
+
+/// Player 1 drops player 2 in turn 3, so that a frame a turn is ticked and confirmed.
+#[rattlefmt::skip]
+static ENDS: [Row; 7] = [
+    // all 30 frames are confirmed in turn 30, and the session goes on for 120 turns
+    Row { typed: Typed::Nothing, turns: 1_000, stop: None, patience: Some(3), made: 150, ticked: 30 },
+    Row { typed: Typed::Nothing, turns: 20, stop: None, patience: Some(3), made: 20, ticked: 20 },
+    Row { typed: Typed::Nothing, turns: 1_000, stop: Some(12), patience: Some(3), made: 12, ticked: 12 },
+    Row { typed: Typed::Nothing, turns: 1_000, stop: Some(0), patience: Some(3), made: 0, ticked: 0 },
+    Row { typed: Typed::ControlC, turns: 1_000, stop: None, patience: Some(3), made: 5, ticked: 5 },
+    Row { typed: Typed::Escape, turns: 1_000, stop: None, patience: Some(3), made: 7, ticked: 7 },
+    Row { typed: Typed::HangUp, turns: 1_000, stop: None, patience: Some(3), made: 5, ticked: 5 },
+];
+
+fn ends() -> &'static [Row] {
+    &ENDS
+}
+
+/// Whether a match ends as a row says.
+fn ends_so(alloc: Global, row: Row) -> bool {
+    let Ok(game) = Game::read(alloc, DRAWS) else {
+        return false;
+    };
+    let mut log = Log::new(alloc);
+    match played(alloc, &game, row, Duration::MAX, &mut log) {
+        Some((made, ticked, _)) => made == row.made && ticked == row.ticked,
+        None => false,
+    }
+}
+
+#[test]
+fn a_match_ends_when_it_should(rt: HostRuntime) {
+    for (place, row) in ends().iter().enumerate() {
+        assert!(rt; ends_so(rt.alloc(), *row), "row {place}");
+    }
 }

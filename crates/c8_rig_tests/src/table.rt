@@ -155,6 +155,14 @@ impl<'a> List<'a> {
         self.has(Act::Give(number, me), bytes).then_some(bytes)
     }
 
+    /// Whether nothing was said before the last note that was found. Else a hearing after that note finds something.
+    fn is_quiet(&self) -> bool {
+        match self.own.get(self.next.saturating_sub(1)) {
+            Some((_, before)) => *before == 0,
+            None => true,
+        }
+    }
+
     fn is_at_end(&self) -> bool {
         self.next == self.own.len()
     }
@@ -217,7 +225,10 @@ fn follows(
     for _ in 0..TURNS {
         let turn = words.turn();
         match turn {
-            Turn::Hear(_) if silent > 0 => silent -= 1,
+            Turn::Hear(_) if silent > 0 => {
+                silent -= 1;
+                is_so = is_so && list.is_quiet();
+            }
             _ => is_so = is_so && is_made(&mut peer, &mut list, turn),
         }
     }

@@ -2,6 +2,7 @@
 //! refuses.
 #![tactic(auto)]
 
+mod counts;
 mod refusals;
 mod replays;
 mod verdicts;

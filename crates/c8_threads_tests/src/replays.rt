@@ -6,6 +6,7 @@ use c8_peer::{Kind, Peer};
 use c8_rig::{Gathering, Note, Watch, rig};
 use c8_script::{Transcript, play_script, read_script, write_act};
 use c8_threads::write_script;
+use c8_wire::Watcher;
 use c8_world::{Act, Event, Tally};
 use std::alloc::Global;
 use std::io;
@@ -134,7 +135,11 @@ const THREE: Player = Player { number: 3 };
 
 const FOUR: Player = Player { number: 4 };
 
-const ACTS: [Act; 11] = [
+const FIVE: Watcher = Watcher { number: 5 };
+
+const SIX: Watcher = Watcher { number: 6 };
+
+const ACTS: [Act; 16] = [
     Act::Open(FOUR),
     Act::Tick(TWO, Keys(0x0a1f)),
     Act::Say(ONE, THREE, Kind::Hello),
@@ -146,6 +151,11 @@ const ACTS: [Act; 11] = [
     Act::Give(18_446_744_073_709_551_615, THREE),
     Act::Leave(TWO),
     Act::Decide(THREE),
+    Act::Check(FOUR),
+    Act::Show(FIVE),
+    Act::Hear(19, SIX),
+    Act::Seen(SIX),
+    Act::Fresh(FIVE),
 ];
 
 const LINES: &str = "open 4
@@ -159,6 +169,11 @@ say 1 4 cut 2
 give 18446744073709551615 3
 leave 2
 decide 3
+check 4
+say 1 5 show
+give 19 6
+say 6 1 seen
+fresh 5
 ";
 
 fn write_acts(out: &mut Vec<u8>) -> io::Result<()> {

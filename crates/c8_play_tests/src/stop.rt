@@ -1,0 +1,47 @@
+//! A match that is watched until enough frames were seen.
+
+use crate::drawing::{GAME, Shows};
+use c8_game::Game;
+use c8_net::{WatchAsked, watch_on};
+use c8_wire::Watcher;
+use std::sync::Wait;
+use std::thread::Threads;
+use std::time::Clock;
+
+/// More turns than are made, of a millisecond and more each. A frame is seen in each.
+const TURNS: u64 = 2_000;
+
+/// How many frames are enough.
+const ENOUGH: u64 = 3;
+
+/// How many frames are watched; none where watching fails.
+fn watched<R>(rt: &R) -> u64
+where
+    R: Clock + Threads + Wait + Sync + AllocGlobal,
+{
+    let Ok(game) = Game::read(rt.alloc(), GAME.as_bytes()) else {
+        return 0;
+    };
+    let asked = WatchAsked {
+        game: "",
+        seat: Watcher { number: 5 },
+        local: "",
+        remote: "",
+        room: 3,
+        turns: TURNS,
+        stop: Some(ENOUGH),
+        screen: false,
+        explain: false,
+    };
+    let mut out = Vec::new(rt.alloc());
+    match watch_on(rt, &asked, &game, Shows::new(&game), &mut out) {
+        Ok(played) => u64::from(played.frames),
+        Err(_) => 0,
+    }
+}
+
+#[test]
+fn who_watches_stops_at_enough_frames(rt: HostRuntime) {
+    let frames = watched(&rt);
+    assert!(rt; frames >= ENOUGH && frames < TURNS);
+}
