@@ -73,19 +73,22 @@ const FIRST: &[u8] = b"ticked ";
 /// The end of the last line that is due each second, and the last line of all.
 const LAST: &[u8] = b"000 ms\n0 of 30 frames after 100 turns\n";
 
-/// What a peer to whom nobody answers writes on standard error.
-fn told<R>(rt: &R) -> Vec<u8>
-where
-    R: Net + Clock + Threads + Wait + Sync + AllocGlobal,
-{
-    let mut told = Vec::new(rt.alloc());
-    let (local, remotes) = ("127.0.0.1:0", &["127.0.0.1:4999"]);
-    let asked = Asked {
+const LOCAL: &str = "127.0.0.1:0";
+
+static REMOTES: [&str; 1] = ["127.0.0.1:4999"];
+
+fn remotes() -> &'static [&'static str] {
+    &REMOTES
+}
+
+/// What is asked of the peer.
+fn asked_for() -> Asked<'static, 'static> {
+    Asked {
         game: "",
         player: Player::CHAIR,
         journal: "",
-        local,
-        remotes: Some(remotes),
+        local: LOCAL,
+        remotes: Some(remotes()),
         watchers: [None, None],
         room: 9,
         turns: TURNS,
@@ -94,17 +97,17 @@ where
         checkpoint: 0,
         progress: true,
         explain: false,
-    };
-    let keys = b"".as_slice();
-    let Ok(it) = prepare(
-        rt.alloc(),
-        GAME,
-        keys,
-        Player::CHAIR,
-        local,
-        remotes,
-        [None, None],
-    ) else {
+    }
+}
+
+/// What a peer to whom nobody answers writes on standard error.
+fn told<R>(rt: &R) -> Vec<u8>
+where
+    R: Net + Clock + Threads + Wait + Sync + AllocGlobal,
+{
+    let mut told = Vec::new(rt.alloc());
+    let (me, keys) = (Player::CHAIR, b"".as_slice());
+    let Ok(it) = prepare(rt.alloc(), GAME, keys, me, LOCAL, remotes(), [None, None]) else {
         return told;
     };
     let Ok(disk) = MemDisk::new(rt.alloc(), 100_000, 4_000) else {
@@ -114,7 +117,7 @@ where
         rt,
         looks: AtomicU64::new(0),
     };
-    let _ended = play_on(&clock, &asked, it, disk, &mut told);
+    let _ended = play_on(&clock, &asked_for(), it, disk, &mut told);
     told
 }
 
