@@ -18,7 +18,7 @@ use c8_game::{Game, Player};
 use c8_known::Known;
 use c8_wire::Run;
 
-/// Judges the next record of a replay that knows and notes this.
+/// Judges the next record of a replay, by what is known and noted so far.
 pub(crate) fn judge(
     replay: &Replay<'_>,
     checks: &Checks,

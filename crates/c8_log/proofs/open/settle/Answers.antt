@@ -1,4 +1,4 @@
-use Rattle.std.proofs.Common.{◌/◌, ◌∙◌, ◌+◌, ℕ, List, Ok, Err, ap, subst, arith}
+use Rattle.std.proofs.Common.{◌∙◌, ℕ, List, Ok, Err, ap, subst, arith}
 use Rattle.c8_log.specs.Log.{has_closed_gate}
 use Rattle.c8_log.proofs.Disks.{settles}
 use Rattle.std.proofs.lemmas.Result.{err_from_is_err_and}
