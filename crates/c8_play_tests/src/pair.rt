@@ -113,18 +113,20 @@ fn two_at_consoles_print_one_report(rt: HostRuntime) -> Result<(), Fail> {
     fs::write(&rt, GAME_FILE, GAME)?;
     let (here, there) = (free(&rt)?, free(&rt)?);
     let (here, there) = (here.as_str(), there.as_str());
-    let ((one, _, first), (two, _, second)) = join(
+    let (one, two) = join(
         &rt,
         || printed(&rt, 1, &ONE, "play_one.journal", here, there, None),
         || printed(&rt, 2, &TWO, "play_two.journal", there, here, None),
     );
+    let (one, _told, first) = one;
+    let (two, _told, second) = two;
     assert!(rt; one.starts_with(b"frames 60\n"));
     assert!(rt; one.as_slice() == two.as_slice());
     // the keys of both had their effect, for as long as strokes count
     assert!(rt; is_of_some(&one, 1) && is_of_some(&one, 3));
     assert!(rt; is_given_back(first) && is_given_back(second));
     // 0 frames are enough: nobody answers, and it ends at once
-    let (stopped, told, _) = printed(&rt, 1, &ONE, "play_none.journal", here, there, Some(0));
+    let (stopped, told, _marks) = printed(&rt, 1, &ONE, "play_none.journal", here, there, Some(0));
     assert!(rt; stopped.starts_with(b"frames 0\n"));
     assert!(rt; told.as_slice() == TOLD);
     assert!(rt; are_removed(&rt));
