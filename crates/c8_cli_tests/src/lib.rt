@@ -13,8 +13,6 @@ mod arguments;
 #[cfg(test)]
 mod loopback;
 #[cfg(test)]
-mod progress;
-#[cfg(test)]
 mod readers;
 #[cfg(test)]
 mod refusals;
