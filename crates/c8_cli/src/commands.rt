@@ -9,6 +9,8 @@ use c8_front::{
 use c8_keys::run_files;
 use c8_net::{peer_command, peer_given, watch_command, watch_given};
 use c8_play::{play_command, play_given};
+use c8_program::{game_command, game_given};
+use c8_replay::{replay_command, replay_given};
 use c8_script::sim_files;
 use c8_show::show;
 use c8_threads::{rig_command, rig_given};
@@ -77,9 +79,11 @@ fn command<'a>(alloc: Global) -> Result<Command<'a>, AllocError> {
     let command = command.subcommand(peer_command(alloc)?)?;
     let command = command.subcommand(play_command(alloc)?)?;
     let command = command.subcommand(watch_command(alloc)?)?;
+    let command = command.subcommand(replay_command(alloc)?)?;
     let command = command.subcommand(sim_command(alloc)?)?;
     let command = command.subcommand(rig_command(alloc)?)?;
-    command.subcommand(show_command(alloc)?)
+    let command = command.subcommand(show_command(alloc)?)?;
+    command.subcommand(game_command(alloc)?)
 }
 
 fn sim_command<'a>(alloc: Global) -> Result<Command<'a>, AllocError> {
@@ -112,6 +116,7 @@ where
         Some(("peer", given)) => peer_given(rt, given, input, out, refused),
         Some(("play", given)) => play_given(rt, given, out, refused),
         Some(("watch", given)) => watch_given(rt, given, is_terminal, out, refused),
+        Some(("replay", given)) => replay_given(rt, given, out, refused),
         Some(("sim", given)) => {
             let (game, script) = (word_of(given, "GAME"), word_of(given, "SCRIPT"));
             sim_files(rt, game, script, is_explained(given), out, refused)
@@ -121,6 +126,7 @@ where
             let word = word_of(given, "HEX");
             show(rt.alloc(), word, is_explained(given), out, refused)
         }
+        Some(("game", given)) => game_given(rt, given, out, refused),
         _ => Ok(Status::CommandLine),
     }
 }

@@ -1,11 +1,9 @@
 //! Tests of c8_command, c8_keys, c8_show, c8_script, c8_front, c8_net and c8_cli that neither a contract nor a case in
-//! crates/c8play_cases/data covers: texts that no command prints there, readers and writers that fail, and sockets.
+//! crates/c8play_cases/data covers: texts that no command prints there, readers and writers that fail, and whole matches over sockets.
 //!
 //! Functions without contracts lend the tables, so that a proof holds for any rows.
 #![tactic(auto)]
 
-#[cfg(test)]
-mod addresses;
 #[cfg(test)]
 mod answers;
 #[cfg(test)]
@@ -16,9 +14,5 @@ mod loopback;
 mod readers;
 #[cfg(test)]
 mod refusals;
-#[cfg(test)]
-mod udp;
-#[cfg(test)]
-mod udp_loss;
 #[cfg(test)]
 mod writers;

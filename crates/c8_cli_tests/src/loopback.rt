@@ -84,6 +84,7 @@ where
         remotes: Some(&[remote]),
         watchers,
         room: 9,
+        has_room: true,
         turns: 10_000,
         patience: None,
         stop: None,

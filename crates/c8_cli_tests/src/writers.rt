@@ -1,6 +1,7 @@
 //! Writers that fail, and how the commands end then.
 use c8_command::Text;
 use c8_keys::run;
+use c8_program::{Settings, list, make};
 use c8_script::sim;
 use c8_show::show;
 use std::alloc::Global;
@@ -70,16 +71,20 @@ struct Given {
     calls: u32,
 }
 
-/// A game and no keys; a game and a script; a line that each refuses; and a word of each kind, and one for each
-/// refusal.
+/// A game and no keys; a game and a script; a line that each refuses; a program and none; and a word of each kind, and
+/// one for each refusal.
 #[rattlefmt::skip]
-static COMMANDS: [Given; 14] = [
+static COMMANDS: [Given; 18] = [
     Given { command: "run", first: GAME, second: "", calls: 200 },
     Given { command: "run", first: "", second: "", calls: 20 },
     Given { command: "run", first: GAME, second: "0000\n", calls: 60 },
     Given { command: "sim", first: GAME, second: "open 1\ntick 1 0000\n", calls: 80 },
     Given { command: "sim", first: "", second: "", calls: 20 },
     Given { command: "sim", first: GAME, second: "open 5\n", calls: 60 },
+    Given { command: "game", first: "abc", second: "", calls: 20 },
+    Given { command: "game", first: "", second: "", calls: 20 },
+    Given { command: "list", first: "abc", second: "", calls: 120 },
+    Given { command: "list", first: "", second: "", calls: 20 },
     Given { command: "show", first: "4338010301020304050607080102001800000001000000010000000000000000a1a2a3a4a5a6a7a80000000000010020", second: "", calls: 60 },
     Given { command: "show", first: "433801050000cafe0000f00d040100100000000d0000000e020000000bb8000000640002000aff00", second: "", calls: 60 },
     Given { command: "show", first: "433801060000000000000c0d0103000e0000000f00000010040000001388000007d000010e0f", second: "", calls: 60 },
@@ -107,6 +112,11 @@ fn ends_well(alloc: Global, given: &Given, to: &mut Writers) -> bool {
     let ended = match given.command {
         "run" => run(alloc, first, second, true, &mut to.out, &mut to.refused),
         "sim" => sim(alloc, first, second, true, &mut to.out, &mut to.refused),
+        "game" => {
+            let settings = Settings::usual();
+            make(alloc, &settings, first, true, &mut to.out, &mut to.refused)
+        }
+        "list" => list(first, true, &mut to.out, &mut to.refused),
         _ => show(alloc, given.first, true, &mut to.out, &mut to.refused),
     };
     ended.is_ok()

@@ -1,7 +1,7 @@
 -- How parts of a queue join.
 use Rattle.std.proofs.Common.{◌≡◌, inl, inr, ℕ, List, [], ◌∷◌, ◌++◌, refl, sym, ap, ◌∙◌, append-nil, append_assoc}
 use Rattle.c8_live.specs.Parts.{IsPart, IsHandedOn}
-use Rattle.c8_live.specs.Wire.{MayTake}
+use Rattle.c8_transport.specs.Wire.{MayTake}
 
 skip : (part : List (List ℕ)) (one : List ℕ) (whole : List (List ℕ)) → IsPart part whole → IsPart part (one ∷ whole)
 skip [] one whole is = tt

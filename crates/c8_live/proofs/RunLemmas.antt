@@ -1,7 +1,7 @@
 -- How runs of one peer join.
-use Rattle.std.proofs.Common.{◌≡◌, ℕ, List, [], ◌∷◌, ◌++◌, true, false, Option, Some, None, refl, sym, ap, subst, ◌∙◌, map, append_assoc, arith}
+use Rattle.std.proofs.Common.{◌≡◌, ℕ, List, [], ◌∷◌, ◌++◌, length, true, false, Option, Some, None, refl, sym, ap, subst, ◌∙◌, map, append_assoc, arith, suc}
 use Rattle.std.specs.Prelude.{option_to_list}
-use Rattle.std.proofs.lemmas.List.{map-append, append-nil}
+use Rattle.std.proofs.lemmas.List.{map-append, append-nil, length-append}
 use Rattle.c8_game.specs.Rules.{Rules}
 use Rattle.c8_disk.specs.declared.disk.Disk.{Ghosts}
 use Rattle.c8_disk.specs.checked.RunLaws.{same_then}
@@ -54,6 +54,19 @@ joined disk join first middle last one two =
           (join first.rules first.room first.me first.state middle.state last.state (map does one.calls) (map does two.calls) one.answers two.answers one.run more);
       disk_is = same_then disk first.disk middle.disk last.disk one.disk_is two.disk_is;
     }
+
+-- rows that begin others of the same number are these
+more_than_none : (n : ℕ) → suc n ≡ 0 → ⊥
+more_than_none n none = omega (arith, none)
+
+nothing_left : (rest : List Row) → length rest ≡ 0 → rest ≡ []
+nothing_left [] none = refl
+nothing_left (x ∷ rest) none = absurd (more_than_none (length rest) none)
+
+pub begins_whole : (early late : List Row) → Begins early late → length late ≡ length early → late ≡ early
+begins_whole early late begins same =
+    begins.is ∙ ap (λ (rest : List Row). early ++ rest) (nothing_left begins.rest (omega (arith, same, length-append early begins.rest, ap length begins.is)))
+    ∙ append-nil early
 
 -- one call
 abbrev pub once : {D : Type 0} (disk : Ghosts D) (old new : PeerValue D) (call : Call) (reply : Reply) → IsAnswered disk old call reply new

@@ -7,10 +7,10 @@ use Rattle.c8_peer.specs.State.{Call, Reply, Said}
 use Rattle.c8_peer.specs.Steps.{Luck, Works}
 use Rattle.c8_peer.specs.Peer.{PeerValue, IsAnswered, IsSaid, luck_of}
 use Rattle.c8_peer.specs.Runs.{Does, IsDone}
-use Rattle.c8_live.specs.declared.wire.Wire.{Ghosts as WireGhosts}
+use Rattle.c8_transport.specs.declared.wire.Wire.{Ghosts as WireGhosts}
 use Rattle.c8_live.specs.Runs.{HasRunOn}
-use Rattle.c8_live.specs.Turns.{Doing, Hears, Ticks, LetsGo, Cuts, Saves, Speaks, doing, HasDone, HasDoneOnce, AreDeliveriesOf, HasHeardOf, HasHeard, most_packets, WereSaid, HasSpoken, IsTurn, AreTurns}
-use Rattle.c8_live.specs.Wire.{MayTake}
+use Rattle.c8_live.specs.Turns.{Doing, Hears, Ticks, LetsGo, Cuts, Saves, Speaks, doing, HasDone, HasDoneOnce, AreDeliveriesOf, HasHeardOf, HasHeard, WereSaid, HasSpoken, IsTurn, AreTurns}
+use Rattle.c8_transport.specs.Wire.{MayTake, most_packets}
 use Rattle.c8_live.proofs.RunLemmas.{RunsJoin, still, joined, once, says}
 
 -- ---- calls of one kind

@@ -6,7 +6,7 @@ use Rattle.c8_refusals.specs.declared.error.TickError.{TickError}
 use Rattle.c8_peer.specs.State.{Call, Tick, Deliver, Say, Show, Leave, Decide, Checkpoint, Reply, Ticked}
 use Rattle.c8_peer.specs.Steps.{Luck}
 use Rattle.c8_peer.specs.Peer.{PeerValue, IsAnswered}
-use Rattle.c8_live.specs.declared.wire.Wire.{Ghosts as WireGhosts}
+use Rattle.c8_transport.specs.declared.wire.Wire.{Ghosts as WireGhosts}
 use Rattle.c8_live.specs.Runs.{HasRunOn}
 use Rattle.c8_live.specs.Turns.{IsTurn}
 

@@ -7,7 +7,8 @@ use Rattle.c8_wire.specs.Spelling.{Spells}
 use Rattle.c8_peer.specs.State.{Call, Reply, Tick, Deliver, Say, Show, Leave, Decide, Checkpoint, Said}
 use Rattle.c8_peer.specs.Steps.{Luck}
 use Rattle.c8_peer.specs.Peer.{PeerValue}
-use Rattle.c8_live.specs.declared.wire.Wire.{Ghosts as WireGhosts}
+use Rattle.c8_transport.specs.Wire.{most_packets}
+use Rattle.c8_transport.specs.declared.wire.Wire.{Ghosts as WireGhosts}
 use Rattle.c8_live.specs.Runs.{HasRunOn}
 
 -- ---- which calls
@@ -82,10 +83,6 @@ pub record HasSpoken {D W : Type 0} (disk : DiskGhosts D) (wire : WireGhosts W) 
   pub received : wire.received after ≡ wire.received before
 
 -- ---- turns
-
--- how many packets a turn takes from its wire at most, so that it reaches its tick however many wait
-abbrev pub most_packets : ℕ
-most_packets = 256
 
 -- A turn: the peer hears at most `most_packets` packets of the wire, ticks at most once, drops players, cuts, records
 -- at most one part of a checkpoint, and speaks. If the disk or the wire fails, nothing more follows.

@@ -2,6 +2,7 @@
 use crate::session::Session;
 use c8_disk::Disk;
 use c8_game::{MOST_PLAYERS, Player};
+use c8_transport::Losses;
 use std::sync::atomic::{AtomicBool, AtomicU64, Ordering};
 
 /// How far a peer is, beside what is confirmed, which its board shows.
@@ -17,8 +18,10 @@ pub struct Standing {
     pub heard: [u64; MOST_PLAYERS],
     /// Whether another player's machine differed.
     pub is_alarmed: bool,
-    /// How many packets were lost because an inlet was full.
+    /// How many packets were lost: an inlet was full, or the network reported an error that passes.
     pub lost: u64,
+    /// How many packets came from elsewhere than a player or watcher of the match.
+    pub foreign: u64,
 }
 
 /// Counters that the threads of a peer share. A reading during a turn may mix values of that turn and of the one
@@ -30,9 +33,11 @@ pub struct Counters {
     longest: AtomicU64,
     heard: [AtomicU64; MOST_PLAYERS],
     is_alarmed: AtomicBool,
-    /// Packets lost by the outbox and by the inbox.
+    /// Packets lost by the outbox, by the inbox and by the wire.
     lost_out: AtomicU64,
     lost_in: AtomicU64,
+    lost_there: AtomicU64,
+    foreign: AtomicU64,
 }
 
 impl Counters {
@@ -51,6 +56,8 @@ impl Counters {
             is_alarmed: AtomicBool::new(false),
             lost_out: AtomicU64::new(0),
             lost_in: AtomicU64::new(0),
+            lost_there: AtomicU64::new(0),
+            foreign: AtomicU64::new(0),
         }
     }
 
@@ -81,10 +88,17 @@ impl Counters {
         self.lost_in.fetch_add(packets, Ordering::SeqCst);
     }
 
+    /// Notes what the wire to the network has lost and turned away so far.
+    pub fn note_wire(&self, losses: Losses) {
+        self.lost_there.store(losses.lost, Ordering::SeqCst);
+        self.foreign.store(losses.foreign, Ordering::SeqCst);
+    }
+
     /// Returns how far the peer is, and resets the longest rollback to 0.
     pub fn take(&self) -> Standing {
         let [one, two, three, four] = &self.heard;
         let lost_out = self.lost_out.load(Ordering::SeqCst);
+        let lost_there = self.lost_there.load(Ordering::SeqCst);
         Standing {
             ticked: self.ticked.load(Ordering::SeqCst),
             rollbacks: self.rollbacks.load(Ordering::SeqCst),
@@ -96,7 +110,10 @@ impl Counters {
                 four.load(Ordering::SeqCst),
             ],
             is_alarmed: self.is_alarmed.load(Ordering::SeqCst),
-            lost: lost_out.saturating_add(self.lost_in.load(Ordering::SeqCst)),
+            lost: lost_out
+                .saturating_add(self.lost_in.load(Ordering::SeqCst))
+                .saturating_add(lost_there),
+            foreign: self.foreign.load(Ordering::SeqCst),
         }
     }
 }

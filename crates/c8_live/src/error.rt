@@ -4,12 +4,8 @@ ghost use Rattle.std.specs.Prelude.{◌≡◌};
 ghost use Rattle.c8_live.specs.declared.error.SessionError.TheVariants.{Disk, Wire};
 
 use c8_disk::DiskError;
+use c8_transport::WireFailed;
 use thiserror::Error;
-
-/// The transport failed for good.
-#[derive(Clone, Copy, Debug, PartialEq, Eq, Error)]
-#[error("the other players cannot be reached any more")]
-pub struct WireFailed;
 
 /// Why a session cannot go on.
 #[derive(Clone, Copy, Debug, PartialEq, Eq, Error)]

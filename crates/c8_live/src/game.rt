@@ -11,30 +11,40 @@ ghost use Rattle.c8_digest.specs.Origin.{run_since};
 ghost use Rattle.c8_peer.specs.Peer.{known_by, begun_by, IsSound};
 ghost use Rattle.c8_live.specs.Published.{IsShown, MayShow, pen_at, viewer_at};
 ghost use Rattle.c8_live.specs.Runs.{HasRunOn, IsEnd};
-ghost use Rattle.c8_live.specs.Turns.{AreTurns};
+ghost use Rattle.c8_live.specs.Turns.{IsTurn, AreTurns};
 
 use crate::counters::Counters;
 use crate::error::SessionError;
-use crate::gate::{Gate, Worker};
 use crate::laws::{confirmed_rows_grow, machines_begin_where_they_did, peers_run_on, turns_join};
 use crate::session::Session;
-use crate::wire::Wire;
 use c8_board::laws::starts_tell_origins;
 use c8_board::{Board, Pen, Viewer};
 use c8_disk::Disk;
-use c8_game::Game;
+use c8_game::{Game, Keys};
 use c8_machine::Machine;
 use c8_peer::Peer;
 use c8_record::laws::checkpoints_are_in_order;
+use c8_transport::{Gate, Wire, Worker};
 use std::alloc::{AllocError, Global};
 
-/// Makes at most `turns` turns of a session, until it is over, a viewer of the board asks for the end, or the gate ends
-/// it. Returns how many it made. Before the first turn and after each, the pen publishes what is confirmed; after each,
-/// the counters note it. The board's run begins where the peer's machine began, so if the checkpoints of the peer's
+/// Gives the key sets of a player, one a turn.
+pub trait KeySource {
+    /// The key set to enter in the next turn, or `None` to leave out the tick.
+    fn next_keys(&mut self) -> Option<Keys>;
+
+    /// Notes that the peer took the key set that `next_keys` gave last. Without this call the set was refused, and is
+    /// wanted again.
+    fn taken(&mut self);
+}
+
+/// Makes at most `turns` turns of a session, each with the next key set of a source, until the session is over, a
+/// viewer of the board asks for the end, or the gate ends it. Returns how many it made. The pen publishes what is
+/// confirmed before the first turn, and after each that confirmed more; after each turn the counters note it. The board's run begins where the peer's machine began, so if the checkpoints of the peer's
 /// journal are true, the board shows the serial run (`true_checks_show_the_serial_run`). The error is the disk's or the
 /// wire's; the pen then still shows what was confirmed before that turn.
-pub fn game_worker<D: Disk, W: Wire, G: Gate>(
+pub fn game_worker<D: Disk, K: KeySource, W: Wire, G: Gate>(
     session: &mut Session<'_, D>,
+    keys: &mut K,
     wire: &mut W,
     board: &Board,
     pen: &mut Pen,
@@ -60,18 +70,34 @@ pub fn game_worker<D: Disk, W: Wire, G: Gate>(
     confirmed_rows_grow::<D>();
     machines_begin_where_they_did::<D>();
     let mut made: u64 = 0;
-    publish(session.peer(), board, pen);
+    let mut published = publish(session.peer(), board, pen);
     for turn in 0..turns {
         if session.is_over() || board.stop_asked(pen) || !gate.before(Worker::Game, turn) {
             break;
         }
-        session.turn(wire)?;
-        publish(session.peer(), board, pen);
-        counters.note(session, wire.lost());
+        turn_with(session, keys, wire)?;
+        published = publish_more(session.peer(), published, board, pen);
+        counters.note(session, wire.losses().lost);
         gate.after(Worker::Game, turn);
         made = turn + 1;
     }
     Ok(made)
+}
+
+/// Makes a turn with the next key set of a source.
+fn turn_with<D: Disk, K: KeySource, W: Wire>(
+    session: &mut Session<'_, D>,
+    keys: &mut K,
+    wire: &mut W,
+) -> Result<(), SessionError>
+    ensures turn { IsTurn D.Disk W.Wire session.old.peer session.new.peer wire.old wire.new }
+    ensures ran { HasRunOn D.Disk session.old.peer session.new.peer }
+    ensures end { IfErr result (IsEnd D.Disk session.old.peer session.new.peer) }
+{
+    if session.turn(keys.next_keys(), wire)? {
+        keys.taken();
+    }
+    Ok(())
 }
 
 /// Opens a board that shows what is confirmed at a peer, with its pen and 1 to 4 viewers. The board's run begins where
@@ -128,13 +154,34 @@ fn open_at<D: Disk>(
     Board::open(alloc, game, count, machine, viewers)
 }
 
-/// Publishes what is confirmed at a peer.
-fn publish<D: Disk>(peer: &Peer<'_, D>, board: &Board, pen: &mut Pen)
+/// Publishes what is confirmed at a peer, unless these are the frames that were published last. Returns how many frames
+/// are published then. To publish takes a hash of the machine's state, so it is done only where the count has moved.
+fn publish_more<D: Disk>(peer: &Peer<'_, D>, published: u32, board: &Board, pen: &mut Pen) -> u32
+    requires published { published ≡ length pen.old.rows }
     requires board { pen.old.board ≡ board.now }
     requires game { pen.old.game ≡ peer.now.rules }
     requires from { origin_from pen.old.from ≡ begun_by peer.now }
     requires rows { Begins pen.old.rows (confirmed_rows (known_by peer.now)) }
     ensures shown { IsShown peer.now pen.old pen.new }
+    ensures published { result ≡ length pen.new.rows }
+    ensures sound { IsSound D.Disk peer.now }
+{
+    // For the proof: the peer is sound.
+    let _down = peer.is_down();
+    if peer.confirmed() == published {
+        return published;
+    }
+    publish(peer, board, pen)
+}
+
+/// Publishes what is confirmed at a peer, and returns how many frames these are.
+fn publish<D: Disk>(peer: &Peer<'_, D>, board: &Board, pen: &mut Pen) -> u32
+    requires board { pen.old.board ≡ board.now }
+    requires game { pen.old.game ≡ peer.now.rules }
+    requires from { origin_from pen.old.from ≡ begun_by peer.now }
+    requires rows { Begins pen.old.rows (confirmed_rows (known_by peer.now)) }
+    ensures shown { IsShown peer.now pen.old pen.new }
+    ensures published { result ≡ length pen.new.rows }
     ensures sound { IsSound D.Disk peer.now }
 {
     // For the proof: the peer is sound, and its frames are within the game's.
@@ -142,6 +189,7 @@ fn publish<D: Disk>(peer: &Peer<'_, D>, board: &Board, pen: &mut Pen)
     let _confirmed = peer.confirmed();
     let (count, machine) = peer.base();
     show(peer, count, machine, board, pen);
+    count
 }
 
 /// The part of `publish` that needs the proof: count and machine are the peer's.

@@ -20,9 +20,8 @@ ghost use Rattle.c8_live.specs.Entered.{entered_by, HasEntered};
 ghost use Rattle.c8_live.specs.Parts.{IsHandedOn};
 ghost use Rattle.c8_live.specs.Runs.{HasRunOn, IsEnd};
 ghost use Rattle.c8_live.specs.Turns.{Doing, Ticks, Speaks, doing, HasDone, HasHeardOf, HasHeard, HasSpoken, IsTurn, AreTurns};
-ghost use Rattle.c8_live.specs.Wire.{MayTake};
+ghost use Rattle.c8_transport.specs.Wire.{MayTake};
 
-use crate::wire::Wire;
 use c8_disk::Disk;
 use c8_peer::laws::{
     a_machine_begins_at_an_opening, a_peers_word_stands, a_word_stands_from_any_journal,
@@ -30,6 +29,7 @@ use c8_peer::laws::{
 };
 use c8_record::laws::what_a_journal_says_stays;
 use c8_roll::laws::a_run_may_begin_on_the_way;
+use c8_transport::Wire;
 
 /// Runs of a peer: no call (`still`), one more call (`call`), one run after another (`joined`). What ends a session
 /// after the second part ends it after both (`ended`).

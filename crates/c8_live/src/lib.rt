@@ -1,21 +1,20 @@
 //! The live session of one peer: it plays a game with others, turn by turn, over a network that may lose, delay or
 //! repeat datagrams.
 //!
-//! [`Session`] is the loop, [`Wire`] the transport, and [`Silence`] counts the silent turns of each player.
-//! [`Progress`] and [`tell_end`] print how far the peer is and how it ended. c8_peer decides what each call does; this
-//! crate decides only which call comes when. The contract of `Session::turn` says that a turn changes its peer by these
-//! calls alone, in their order, and that its wire takes nothing but what the peer said.
+//! [`Session`] is the loop: each call of [`Session::turn`] hears, enters a key set and speaks over a `Wire` of
+//! c8_transport. [`Silence`] counts the silent turns of each player. [`Progress`] and [`tell_end`] print how far the peer
+//! is and how it ended. c8_peer decides what each call does; this crate decides only which call comes when. The contract
+//! of `Session::turn` says that a turn changes its peer by these calls alone, in their order, and that its wire takes
+//! nothing but what the peer said.
 //!
-//! A peer may run in two threads. [`game_worker`] makes the turns of a session and publishes on a board what is
-//! confirmed ([`open_board`] opens a board for a peer). [`net_worker`] moves packets between a wire and the inlets of a
-//! [`Relay`], the wire of the game thread. A [`Gate`] paces both threads and ends them; [`Counters`] show others how
-//! far they are.
+//! A peer may run in two threads. [`game_worker`] makes the turns of a session with the key sets of a [`KeySource`], and
+//! publishes on a board what is confirmed ([`open_board`] opens a board for a peer). [`net_worker`] moves packets between
+//! a wire and the inlets of a [`Relay`], the wire of the game thread. [`Counters`] show others how far they are.
 #![tactic(auto)]
 
 mod counters;
 mod error;
 mod game;
-mod gate;
 pub mod laws;
 mod net;
 mod progress;
@@ -23,18 +22,13 @@ mod relay;
 mod rollbacks;
 mod session;
 mod silence;
-mod traffic;
-mod wire;
 
 pub use counters::{Counters, Standing};
-pub use error::{SessionError, WireFailed};
-pub use game::{game_worker, open_board};
-pub use gate::{Gate, Worker};
+pub use error::SessionError;
+pub use game::{KeySource, game_worker, open_board};
 pub use net::{PLACES, net_worker};
 pub use progress::{Progress, tell_end};
 pub use relay::Relay;
 pub use rollbacks::Rollbacks;
 pub use session::Session;
 pub use silence::Silence;
-pub use traffic::Traffic;
-pub use wire::{LONGEST_PACKET, Wire};

@@ -1,22 +1,25 @@
 //! The thread that moves packets, so that the network never waits for the machine.
 ghost use Rattle.std.specs.Prelude.{◌≡◌, ◌≤◌, length};
 ghost use Rattle.c8_live.specs.Parts.{IsHandedOn};
-ghost use Rattle.c8_live.specs.Wire.{MayTake};
+ghost use Rattle.c8_transport.specs.Wire.{MayTake};
 
 use crate::counters::Counters;
-use crate::error::WireFailed;
-use crate::gate::{Gate, Worker};
 use crate::laws::handings_on_join;
-use crate::wire::{LONGEST_PACKET, Wire};
 use c8_inlet::{Packet, Putter, Taker};
+use c8_transport::{Gate, LONGEST_PACKET, Wire, WireFailed, Worker};
 use c8_wire::{LONGEST_DATAGRAM, Seat, view};
 use std::sync::Wait;
+use std::time::Duration;
 
 /// How many packets an inlet between the two workers holds.
 pub const PLACES: usize = 64;
 
+/// How many milliseconds the net worker waits for a packet at most, before it looks whether it has to end.
+const LONGEST_WAIT: u64 = 20;
+
 /// Moves packets until the gate ends it: from the wire into the inbox, and from the outbox to the wire. If the inbox is
-/// full, the packet is lost and counted. The error is the wire's; what was moved before it stays moved.
+/// full, the packet is lost and counted. Once it has taken all packets that had come, it waits at the wire for more; whoever
+/// fills the outbox ends this wait, if it has to. The error is the wire's; what was moved before it stays moved.
 pub fn net_worker<R: Wait, W: Wire, G: Gate>(
     rt: &R,
     wire: &mut W,
@@ -38,16 +41,38 @@ pub fn net_worker<R: Wait, W: Wire, G: Gate>(
         if !gate.before(Worker::Net, turn) {
             break;
         }
-        counters.lose(take_in(wire, inbox)?);
+        let taken = take_in(wire, inbox)?;
+        counters.lose(taken.lost);
         send_out(wire, outbox)?;
+        counters.note_wire(wire.losses());
+        rest(wire, taken.is_all);
         gate.after(Worker::Net, turn);
         turn = turn.saturating_add(1);
     }
     Ok(())
 }
 
-/// Moves at most `PLACES` packets from the wire into the inbox, and returns how many of them were lost.
-fn take_in<W: Wire>(wire: &mut W, inbox: &mut Putter) -> Result<u64, WireFailed>
+/// Waits for the next packet, if all that had come were taken.
+fn rest<W: Wire>(wire: &mut W, is_all: bool)
+    ensures sent { W.sent wire.new ≡ W.sent wire.old }
+    ensures received { W.received wire.new ≡ W.received wire.old }
+{
+    if is_all {
+        wire.wait(Duration::from_millis(LONGEST_WAIT));
+    }
+}
+
+/// What one turn took from the wire.
+#[derive(Clone, Copy)]
+struct Taken {
+    /// How many packets had no place in the inbox.
+    lost: u64,
+    /// Whether no packet was left.
+    is_all: bool,
+}
+
+/// Moves at most `PLACES` packets from the wire into the inbox.
+fn take_in<W: Wire>(wire: &mut W, inbox: &mut Putter) -> Result<Taken, WireFailed>
     ensures received { IsHandedOn (W.received wire.old) (W.received wire.new)
         inbox.old.put inbox.new.put }
     ensures sent { W.sent wire.new ≡ W.sent wire.old }
@@ -63,10 +88,13 @@ fn take_in<W: Wire>(wire: &mut W, inbox: &mut Putter) -> Result<u64, WireFailed>
                     lost = lost.saturating_add(1);
                 }
             }
-            None => break,
+            None => return Ok(Taken { lost, is_all: true }),
         }
     }
-    Ok(lost)
+    Ok(Taken {
+        lost,
+        is_all: false,
+    })
 }
 
 /// Puts a packet in, and returns whether there was a place for it.

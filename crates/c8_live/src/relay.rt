@@ -1,9 +1,8 @@
 //! The game thread's way to the net thread.
 ghost use Rattle.std.specs.Prelude.{◌≡◌};
 
-use crate::error::WireFailed;
-use crate::wire::{LONGEST_PACKET, Wire};
 use c8_inlet::{Packet, Putter, Taker};
+use c8_transport::{LONGEST_PACKET, Losses, Wire, WireFailed};
 use c8_wire::{LONGEST_DATAGRAM, Seat};
 
 /// A wire of two inlets: it sends into one and receives from the other. If the outbox is full, the datagram is lost and
@@ -59,7 +58,10 @@ impl Wire for Relay {
         Ok(Some(bytes.len()))
     }
 
-    fn lost(&self) -> u64 {
-        self.lost
+    fn losses(&self) -> Losses {
+        Losses {
+            lost: self.lost,
+            foreign: 0,
+        }
     }
 }

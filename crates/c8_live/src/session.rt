@@ -5,42 +5,37 @@ ghost use Rattle.std.specs.Prelude.{◌≡◌, ◌≤◌, ◌↔◌, [], ◌∷�
 ghost use Rattle.c8_live.specs.Entered.{entered_of, HasEntered, HasTicked, HasHandedIn};
 ghost use Rattle.c8_live.specs.Over.{IsOver};
 ghost use Rattle.c8_live.specs.Runs.{HasRunOn, IsEnd};
-ghost use Rattle.c8_live.specs.Turns.{Ticks, LetsGo, Cuts, Saves, HasDone, HasDoneOnce, HasHeardOf, HasHeard, HasSpoken, most_packets, IsTurn};
+ghost use Rattle.c8_live.specs.Turns.{Ticks, LetsGo, Cuts, Saves, HasDone, HasDoneOnce, HasHeardOf, HasHeard, HasSpoken, IsTurn};
+ghost use Rattle.c8_transport.specs.Wire.{most_packets};
 
 mod calls;
 mod showing;
 
-use crate::error::{SessionError, WireFailed};
+use crate::error::SessionError;
 use crate::laws::{
     a_packet_is_heard, doings_join, entries_join, hearings_join, peers_run_on, sayings_join,
     turns_run_on,
 };
 use crate::rollbacks::Rollbacks;
 use crate::silence::Silence;
-use crate::wire::{LONGEST_PACKET, Wire};
 use c8_disk::Disk;
 use c8_game::{Game, Keys, MOST_PLAYERS, Player};
 use c8_peer::{Check, CheckError, DecideError, Heard, Kind, LeaveError, Peer, Refused, TickError};
+use c8_transport::{LONGEST_PACKET, MOST_PACKETS, Wire, WireFailed};
 use c8_wire::{Header, LONGEST_DATAGRAM, Seat, view};
 use showing::Watchers;
 use std::fmt;
-
-/// How many packets one turn takes from the wire at most.
-const MOST_PACKETS: u16 = 256;
 
 /// How many turns a peer goes on after everything is confirmed and acknowledged, so that the other peers get its last
 /// acknowledgements.
 const REST: u32 = 120;
 
-/// A peer with its key sets, its turns and its patience.
+/// A peer with its turns and its patience.
 #[derive(Drop)]
 pub struct Session<'g, D: Disk> {
     peer: Peer<'g, D>,
     /// The number of frames of the game.
     frames: u32,
-    /// The key sets to enter, one a tick, and how many of them have been entered.
-    keys: Vec<Keys>,
-    entered: usize,
     /// After how many silent turns player 1 drops a player; `None` for never.
     patience: Option<u64>,
     /// A checkpoint begins once this many frames were confirmed since the last one (0: never), and whether one is under
@@ -52,18 +47,17 @@ pub struct Session<'g, D: Disk> {
     greeters: [bool; MOST_PLAYERS],
     /// The watchers to which player 1 shows the confirmed rows.
     watchers: Watchers,
-    /// The rollbacks of the last `turn`, `play` or `listen`.
+    /// The rollbacks of the last `turn` or `listen`.
     rollbacks: Rollbacks,
     /// The number of turns that ended with everything confirmed and acknowledged.
     rested: u32,
 }
 
-/// Prints the peer, and how many of the key sets it has entered.
+/// Prints the peer.
 impl<'g, D: Disk> fmt::Debug for Session<'g, D> {
     fn fmt<W: fmt::Write>(&self, f: &mut fmt::Formatter<W>) -> fmt::Result {
         let peer = &self.peer;
-        let entered = self.entered;
-        write!(f, "Session {{ peer: {peer:?}, entered: {entered} }}")
+        write!(f, "Session {{ peer: {peer:?} }}")
     }
 }
 
@@ -74,7 +68,6 @@ impl<'g, D: Disk> Session<'g, D> {
     pub fn new(
         peer: Peer<'g, D>,
         game: &Game,
-        keys: Vec<Keys>,
         patience: Option<u64>,
         interval: u32,
     ) -> Session<'g, D>
@@ -83,8 +76,6 @@ impl<'g, D: Disk> Session<'g, D> {
         Session {
             peer,
             frames: game.frames(),
-            keys,
-            entered: 0,
             patience,
             interval,
             is_saving: false,
@@ -108,7 +99,7 @@ impl<'g, D: Disk> Session<'g, D> {
         self.frames
     }
 
-    /// The rollbacks of the last `turn`, `play` or `listen`.
+    /// The rollbacks of the last `turn` or `listen`.
     pub fn rollbacks(&self) -> Rollbacks {
         self.rollbacks
     }
@@ -125,26 +116,11 @@ impl<'g, D: Disk> Session<'g, D> {
         self.peer.dropped() || self.rested > REST
     }
 
-    /// Makes one turn. The peer hears at most 256 packets of the wire, enters its next key set (an empty one after the
-    /// last), drops players and cuts if it is player 1, records at most one part of a checkpoint, and speaks. If a key
-    /// set is refused, the next turn enters it again. An error of the disk or of the wire ends the session.
-    pub fn turn<W: Wire>(&mut self, wire: &mut W) -> Result<(), SessionError>
-        ensures turn { IsTurn D.Disk W.Wire self.old.peer self.new.peer wire.old wire.new }
-        ensures ran { HasRunOn D.Disk self.old.peer self.new.peer }
-        ensures end { IfErr result (IsEnd D.Disk self.old.peer self.new.peer) }
-    {
-        let next = self.keys.get(self.entered).copied();
-        let is_taken = self.play(Some(next.unwrap_or_default()), wire)?;
-        if is_taken && next.is_some() {
-            self.entered = self.entered.saturating_add(1);
-        }
-        Ok(())
-    }
-
-    /// Makes a turn of a player without a list of key sets: it enters `keys`, and with `None` it does not tick. Returns
-    /// whether the key set was taken. The peer refuses it at the window's limit, after the last frame, and when it is
-    /// down or dropped.
-    pub fn play<W: Wire>(&mut self, keys: Option<Keys>, wire: &mut W) -> Result<bool, SessionError>
+    /// Makes one turn. The peer hears at most 256 packets of the wire, enters `keys` (with `None` it does not tick), drops
+    /// silent players and cuts if it is player 1, records at most one part of a checkpoint, and speaks. Returns whether
+    /// the key set was taken: the peer refuses it at the window's limit, after the last frame, and when it is down or
+    /// dropped; enter it again in the next turn. An error of the disk or of the wire ends the session.
+    pub fn turn<W: Wire>(&mut self, keys: Option<Keys>, wire: &mut W) -> Result<bool, SessionError>
         ensures turn { IsTurn D.Disk W.Wire self.old.peer self.new.peer wire.old wire.new }
         ensures handed_in { IfOk result (λ taken. HasHandedIn D.Disk W.Wire keys taken
             self.old.peer self.new.peer wire.old wire.new) }

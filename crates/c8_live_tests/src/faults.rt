@@ -3,8 +3,9 @@ use crate::players::{TWO, opened};
 use crate::table::none_is;
 use crate::way::Way;
 use c8_disk::{Arm, DiskError, MemDisk};
-use c8_game::{Game, Player};
-use c8_live::{Session, SessionError, WireFailed};
+use c8_game::{Game, Keys, Player};
+use c8_live::{Session, SessionError};
+use c8_transport::WireFailed;
 use std::alloc::Global;
 use std::test::Fail;
 
@@ -38,7 +39,7 @@ fn session_on<'g>(alloc: Global, game: &'g Game, fault: &Fault) -> Option<Sessio
     let disk = MemDisk::new(alloc, fault.capacity, 4000).ok()?;
     let mut peer = opened(alloc, disk, game, Player::CHAIR)?;
     peer.arm(fault.arm);
-    Some(Session::new(peer, game, Vec::new(alloc), None, 0))
+    Some(Session::new(peer, game, None, 0))
 }
 
 /// Whether a fault ends a session in its first turn.
@@ -52,7 +53,7 @@ fn ends(alloc: Global, fault: &Fault) -> bool {
     let mut way = Way::new(alloc);
     way.fails_to_send = fault.fails_to_send;
     way.fails_to_receive = fault.fails_to_receive;
-    session.turn(&mut way) == Err(fault.error)
+    session.turn(Some(Keys::default()), &mut way) == Err(fault.error)
 }
 
 fn first_wrong(alloc: Global) -> Option<usize> {

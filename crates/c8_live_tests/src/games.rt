@@ -1,6 +1,6 @@
 //! Whole games, played by one thread that gives the sessions turns in order.
 use crate::letter::Letter;
-use crate::players::{FOUR, THREE, TWO, is_turn_made, session_of};
+use crate::players::{FOUR, Hand, THREE, TWO, session_of};
 use crate::table::{none_is, place_of};
 use crate::way::Way;
 use c8_disk::MemDisk;
@@ -67,10 +67,11 @@ fn played_alone(game: &Game) -> Machine {
     machine
 }
 
-/// A session, and its wire.
+/// A session, the key sets of its player, and its wire.
 #[derive(Drop)]
 struct Side<'g> {
     session: Session<'g, MemDisk>,
+    hand: Hand,
     way: Way,
 }
 
@@ -80,9 +81,10 @@ fn side_of<'g>(alloc: Global, game: &'g Game, number: u8) -> Option<Side<'g>> {
     } else {
         None
     };
-    let session = session_of(alloc, game, number, patience, entered(number))?;
+    let session = session_of(alloc, game, number, patience)?;
     Some(Side {
         session,
+        hand: Hand::new(alloc, entered(number)),
         way: Way::new(alloc),
     })
 }
@@ -139,7 +141,7 @@ impl<'g> Match<'g> {
         if side.session.is_over() {
             return;
         }
-        let is_made = is_turn_made(&mut side.session, &mut side.way);
+        let is_made = side.hand.makes_turn(&mut side.session, &mut side.way);
         let sent = std::mem::replace(&mut side.way.sent, Vec::new(alloc));
         self.has_failed = self.has_failed || !is_made;
         for (to, letter) in &sent {

@@ -1,5 +1,5 @@
 //! Packets on their way.
-use c8_live::LONGEST_PACKET;
+use c8_transport::LONGEST_PACKET;
 
 /// A packet on its way.
 #[derive(Clone, Copy)]

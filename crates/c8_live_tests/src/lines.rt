@@ -7,7 +7,8 @@ use std::time::Duration;
 /// All that a line can have, for player 3 of four. The longest rollback is that of both calls.
 const LINE: &[u8] = b"\
     ticked 21, confirmed 19, rollbacks 4, longest 5, player 1 silent for 200 ms, \
-    player 2 silent for 1000 ms, player 4 silent for 0 ms, 7 packets lost, the machines differ\n";
+    player 2 silent for 1000 ms, player 4 silent for 0 ms, 7 packets lost, 3 packets from elsewhere, \
+    the machines differ\n";
 
 /// Whether two calls print that line.
 fn is_printed(alloc: Global) -> bool {
@@ -18,6 +19,7 @@ fn is_printed(alloc: Global) -> bool {
         heard: [2, 0, 3, 1],
         is_alarmed: true,
         lost: 7,
+        foreign: 3,
     };
     let mut told = Vec::new(alloc);
     let mut progress = Progress::new(Duration::from_millis(100), Player { number: 3 }, 4);

@@ -39,17 +39,45 @@ pub(crate) fn new_peer<'g>(alloc: Global, game: &'g Game, number: u8) -> Option<
     opened(alloc, disk, game, me)
 }
 
-/// The session of a player who enters these key sets. It makes no checkpoint.
+/// The session of a player. It makes no checkpoint.
 pub(crate) fn session_of<'g>(
     alloc: Global,
     game: &'g Game,
     number: u8,
     patience: Option<u64>,
-    keys: &[u16],
 ) -> Option<Session<'g, MemDisk>> {
     let peer = new_peer(alloc, game, number)?;
-    let sets = sets_of(alloc, keys);
-    Some(Session::new(peer, game, sets, patience, 0))
+    Some(Session::new(peer, game, patience, 0))
+}
+
+/// The key sets that a player enters, one a tick. After the last one no key is held.
+#[derive(Drop)]
+pub(crate) struct Hand {
+    sets: Vec<Keys>,
+    taken: usize,
+}
+
+impl Hand {
+    pub(crate) fn new(alloc: Global, keys: &[u16]) -> Hand {
+        Hand {
+            sets: sets_of(alloc, keys),
+            taken: 0,
+        }
+    }
+
+    /// Makes a turn with the next key set, and returns whether it succeeded. A set that is refused is entered again.
+    pub(crate) fn makes_turn(&mut self, session: &mut Session<'_, MemDisk>, way: &mut Way) -> bool {
+        let next = self.sets.get(self.taken).copied().unwrap_or_default();
+        match session.turn(Some(next), way) {
+            Ok(is_taken) => {
+                if is_taken {
+                    self.taken = self.taken.saturating_add(1);
+                }
+                true
+            }
+            Err(_) => false,
+        }
+    }
 }
 
 fn sets_of(alloc: Global, keys: &[u16]) -> Vec<Keys> {
@@ -58,9 +86,4 @@ fn sets_of(alloc: Global, keys: &[u16]) -> Vec<Keys> {
         let _kept = sets.push(Keys(*set));
     }
     sets
-}
-
-/// Makes a turn, and returns whether it succeeded.
-pub(crate) fn is_turn_made(session: &mut Session<'_, MemDisk>, way: &mut Way) -> bool {
-    session.turn(way).is_ok()
 }

@@ -1,6 +1,6 @@
 //! A session whose datagrams are read, and peers of the other players, whose datagrams the test carries.
 use crate::letter::{Letter, letter_of};
-use crate::players::{is_turn_made, new_peer, opened, session_of};
+use crate::players::{Hand, new_peer, opened, session_of};
 use crate::step::{DATA, FREEZE, FROZEN, HELLO, Step, WELCOME};
 use crate::way::Way;
 use c8_disk::MemDisk;
@@ -120,6 +120,7 @@ fn deliver(others: &mut Vec<Option<Peer<'_, MemDisk>>>, to: u8, letter: &Letter)
 struct Table<'g> {
     game: &'g Game,
     session: Session<'g, MemDisk>,
+    hand: Hand,
     /// By place; none at the session's own place.
     others: Vec<Option<Peer<'g, MemDisk>>>,
     way: Way,
@@ -140,11 +141,12 @@ impl<'g> Table<'g> {
         patience: Option<u64>,
         keys: &[u16],
     ) -> Option<Table<'g>> {
-        let session = session_of(alloc, game, number, patience, keys)?;
+        let session = session_of(alloc, game, number, patience)?;
         let me = session.peer().me();
         Some(Table {
             game,
             session,
+            hand: Hand::new(alloc, keys),
             others: others_of(alloc, game, number),
             way: Way::new(alloc),
             kept: letter_of(b""),
@@ -258,7 +260,7 @@ impl<'g> Table<'g> {
     }
 
     fn turn(&mut self, alloc: Global, wanted: &str) -> bool {
-        is_turn_made(&mut self.session, &mut self.way) && self.has_sent(alloc, wanted)
+        self.hand.makes_turn(&mut self.session, &mut self.way) && self.has_sent(alloc, wanted)
     }
 
     fn listens(&mut self, alloc: Global, wanted: &str) -> bool {
@@ -266,7 +268,7 @@ impl<'g> Table<'g> {
     }
 
     fn plays(&mut self, alloc: Global, keys: Option<u16>, is_taken: bool, wanted: &str) -> bool {
-        match self.session.play(keys.map(Keys), &mut self.way) {
+        match self.session.turn(keys.map(Keys), &mut self.way) {
             Ok(taken) => taken == is_taken && self.has_sent(alloc, wanted),
             Err(_) => false,
         }

@@ -2,7 +2,7 @@
 ghost use Rattle.std.specs.Prelude.{[]};
 
 use crate::letter::{Letter, letter_of};
-use c8_live::{LONGEST_PACKET, Traffic, Wire, WireFailed};
+use c8_transport::{LONGEST_PACKET, Traffic, Wire, WireFailed};
 use c8_wire::Seat;
 use std::alloc::Global;
 

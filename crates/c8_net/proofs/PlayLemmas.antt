@@ -41,10 +41,11 @@ module _ {D : Type 0} (g : Ghosts D) (disk : D) (rules : Rules) (room me : ℕ) 
   pub opened_still : (peer now : PeerValue D) → now ≡ peer → IsOpened g disk rules room me peer → IsOpened g disk rules room me now
   opened_still peer now same opened = subst (IsOpened g disk rules room me) (sym same) opened
 
-  -- after the opening, memory or the socket is missing
+  -- after the opening, memory, the socket or a thread is missing
   pub unopened_failed : (peer : PeerValue D) (error : Unopened) → IsOpened g disk rules room me peer → HasFailed g disk rules room me (error_of_unopened error)
   unopened_failed peer unopened.Memory opened = inr (refl, peer, opened)
-  unopened_failed peer unopened.Socket opened = tt
+  unopened_failed peer (unopened.Socket why) opened = tt
+  unopened_failed peer unopened.Thread opened = (peer, opened)
 
   -- c8_live's laws: a machine still begins where it did; true checkpoints stay true, and show the serial run
   abbrev pub BeginsThere : Type 0

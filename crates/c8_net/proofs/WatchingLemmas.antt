@@ -7,8 +7,8 @@ use Rattle.c8_machine.specs.Serial.{serial}
 use Rattle.c8_spectator.specs.Growth.{IsStillWatched}
 use Rattle.c8_spectator.specs.Watching.{WatchValue, first_watch}
 use Rattle.c8_keys.specs.declared.lines.Played.{Played}
-use Rattle.c8_live.specs.declared.error.WireFailed.{WireFailed}
-use Rattle.c8_live.specs.declared.wire.Wire.{Ghosts}
+use Rattle.c8_transport.specs.declared.error.WireFailed.{WireFailed}
+use Rattle.c8_transport.specs.declared.wire.Wire.{Ghosts}
 use Rattle.c8_watch.specs.Turns.{AreTurns}
 use Rattle.c8_net.specs.Match.{HasWatched}
 

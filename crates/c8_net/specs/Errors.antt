@@ -11,15 +11,11 @@ use Rattle.c8_live.specs.declared.error.SessionError.{SessionError}
 use Rattle.c8_live.specs.declared.error.SessionError.TheVariants as sessions
 use Rattle.c8_net.specs.declared.error.PeerError.{PeerError}
 use Rattle.c8_net.specs.declared.error.PeerError.TheVariants.{Game, Keys, Open, Disk, Socket}
-use Rattle.c8_net.specs.declared.error.SocketError.{SocketError}
-use Rattle.c8_net.specs.declared.error.SocketError.TheVariants as sockets
+use Rattle.c8_udp.specs.Errors.{socket_error_number}
+use Rattle.c8_udp.specs.declared.error.SocketError.TheVariants as sockets
+use Rattle.c8_udp.specs.declared.error.SocketFault.TheVariants as faults
 use Rattle.c8_net.specs.declared.error.Unopened.{Unopened}
 use Rattle.c8_net.specs.declared.error.Unopened.TheVariants as unopened
-
-abbrev pub socket_error_number : SocketError → ℕ
-socket_error_number sockets.Failed = 1
-socket_error_number sockets.Remotes = 2
-socket_error_number sockets.Address = 3
 
 -- if the disk refused an opening, the refusal is the disk's
 abbrev pub opening_part : OpenError → Part
@@ -56,9 +52,10 @@ peer_error_number (Socket error) = socket_error_number error
 -- the error of a session that the disk or the wire ended
 abbrev pub error_of_session : SessionError → PeerError
 error_of_session (sessions.Disk error) = Disk error
-error_of_session (sessions.Wire failed) = Socket sockets.Failed
+error_of_session (sessions.Wire failed) = Socket (sockets.Failed faults.Closed)
 
--- the error of a session for which memory or the socket is missing
+-- the error of a session for which memory, the socket or a thread is missing
 abbrev pub error_of_unopened : Unopened → PeerError
 error_of_unopened unopened.Memory = Open openings.Memory
-error_of_unopened unopened.Socket = Socket sockets.Failed
+error_of_unopened (unopened.Socket why) = Socket (sockets.Failed why)
+error_of_unopened unopened.Thread = Socket sockets.Thread

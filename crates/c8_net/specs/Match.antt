@@ -21,11 +21,11 @@ use Rattle.c8_keys.specs.declared.lines.Played.{Played}
 use Rattle.c8_live.specs.declared.error.SessionError.{SessionError}
 use Rattle.c8_live.specs.Runs.{HasRunOn, IsStopped, IsEnd}
 use Rattle.c8_spectator.specs.Watching.{WatchValue, first_watch}
-use Rattle.c8_live.specs.declared.wire.Wire.{Ghosts as WireGhosts}
+use Rattle.c8_transport.specs.declared.wire.Wire.{Ghosts as WireGhosts}
 use Rattle.c8_watch.specs.Turns.{AreTurns}
 use Rattle.c8_net.specs.declared.error.PeerError.{PeerError}
 use Rattle.c8_net.specs.declared.error.PeerError.TheVariants.{Game, Keys, Open, Disk, Socket}
-use Rattle.c8_net.specs.declared.error.SocketError.TheVariants as sockets
+use Rattle.c8_udp.specs.declared.error.SocketError.TheVariants as sockets
 
 -- ---- before the journal is opened
 
@@ -42,10 +42,11 @@ abbrev pub IsGameFor : List ℕ → ℕ → Type 0
 IsGameFor game remotes = (rules : Rules) × Spells game rules × (remotes + 1 ≡ rules.players)
 
 -- Why a match cannot begin, in this order: the text's first fault, or out of memory; a wrong number of addresses of
--- other players; an address that cannot be read, without saying which; a fault of standard input.
+-- other players; an address that is refused, without saying which; a fault of standard input.
 abbrev pub IsNoMatch : List ℕ → Option (List ℕ) → ℕ → PeerError → Type 0
 IsNoMatch game input remotes (Game error) = (error ≡ games.Memory) ⊎ IsRefused game error
-IsNoMatch game input remotes (Socket sockets.Failed) = ⊥
+IsNoMatch game input remotes (Socket (sockets.Failed why)) = ⊥
+IsNoMatch game input remotes (Socket sockets.Thread) = ⊥
 IsNoMatch game input remotes (Socket sockets.Remotes) = (rules : Rules) × Spells game rules × (remotes + 1 ≢ rules.players)
 IsNoMatch game input remotes (Socket sockets.Address) = IsGameFor game remotes
 IsNoMatch game input remotes (Keys error) = IsGameFor game remotes × IsNoKeys input (Keys error)
@@ -80,13 +81,15 @@ module _ {D : Type 0} (g : Ghosts D) (disk : D) (rules : Rules) (room me : ℕ) 
   IsWithoutRoom error = (error ≡ opens.Memory) × (first : PeerValue D) × IsOpened g disk rules room me first
 
   -- The journal's opening was refused; or memory for the rest ran out; or the peer ran on until its disk failed and
-  -- refused a record. About a socket that failed this says nothing.
+  -- refused a record; or the system started no thread, and the journal was opened alone. About a socket that failed this
+  -- says nothing.
   abbrev pub HasFailed : PeerError → Type 0
   HasFailed (Game error) = ⊥
   HasFailed (Keys error) = ⊥
   HasFailed (Open error) = ((left : D) × IsRefusedOpening g disk rules room me error left) ⊎ IsWithoutRoom error
   HasFailed (Disk why) = (first : PeerValue D) × (last : PeerValue D) × IsOpened g disk rules room me first × IsStopped g first last why
-  HasFailed (Socket sockets.Failed) = Unit {0}
+  HasFailed (Socket (sockets.Failed why)) = Unit {0}
+  HasFailed (Socket sockets.Thread) = (first : PeerValue D) × IsOpened g disk rules room me first
   HasFailed (Socket sockets.Remotes) = ⊥
   HasFailed (Socket sockets.Address) = ⊥
 

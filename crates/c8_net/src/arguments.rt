@@ -1,9 +1,9 @@
 //! The options of the command `peer`, and what they ask for.
 
-use crate::addresses::MOST_WATCHERS;
 use crate::help::PEER_ENDING;
 use c8_front::{is_explained, with_explain, with_place, word_of};
 use c8_game::Player;
+use c8_udp::MOST_WATCHERS;
 use clap::{Arg, ArgAction, ArgMatches, Command, value_parser};
 use std::alloc::{AllocError, Global};
 
@@ -13,7 +13,7 @@ pub struct Asked<'m, 'a> {
     /// The path of the game's text.
     pub game: &'a str,
     pub player: Player,
-    /// The path of the journal.
+    /// The path of the journal, or `-` for one in memory.
     pub journal: &'a str,
     pub local: &'a str,
     /// The other players' addresses, in order of number, if any.
@@ -21,6 +21,8 @@ pub struct Asked<'m, 'a> {
     /// The addresses of the watchers in seats 5 and 6, if any; for player 1 only.
     pub watchers: [Option<&'a str>; MOST_WATCHERS],
     pub room: u64,
+    /// Whether the command line names the room.
+    pub has_room: bool,
     /// How many turns the session makes at most.
     pub turns: u64,
     /// After how many silent turns player 1 drops a player; `None` for never.
@@ -33,6 +35,25 @@ pub struct Asked<'m, 'a> {
     pub progress: bool,
     /// Whether to print a second line that says where a refusal's fault is.
     pub explain: bool,
+}
+
+/// The journal that stands for none: it is kept in memory.
+const NO_JOURNAL: &str = "-";
+
+impl Asked<'_, '_> {
+    /// Whether the journal is kept in memory, and lost at the end.
+    pub fn has_no_journal(&self) -> bool {
+        self.journal == NO_JOURNAL
+    }
+
+    /// After how many confirmed frames the peer makes the next checkpoint; 0 for never, as without a journal.
+    pub(crate) fn interval(&self) -> u32 {
+        if self.has_no_journal() {
+            0
+        } else {
+            self.checkpoint
+        }
+    }
 }
 
 /// The command `peer` with its arguments and options.
@@ -62,7 +83,7 @@ fn with_players<'a>(alloc: Global, command: Command<'a>) -> Result<Command<'a>, 
         .required(true)
         .value_parser(value_parser!(u8).range(1..5));
     let command = command.arg(player)?;
-    let journal = "The path of the own journal, created if it is missing";
+    let journal = "The path of the own journal, created if it is missing; - for none";
     let command = with_place(alloc, command, "JOURNAL", journal)?;
     let local = "The own address, as 127.0.0.1:4001";
     let command = with_place(alloc, command, "LOCAL", local)?;
@@ -82,9 +103,9 @@ pub fn with_options<'a>(
     let room = number(
         alloc,
         "room",
-        "The number of the match, the same for all its players",
+        "The number of the match, the same for all its players [default: 0]",
     );
-    let command = command.arg(room.default_value("0"))?;
+    let command = command.arg(room)?;
     let command = command.arg(turns)?;
     let patience = "Player 1 drops a player after N silent turns [default: never]";
     let command = command.arg(number(alloc, "patience", patience))?;
@@ -142,6 +163,7 @@ pub fn asked_for<'m, 'a>(given: &'m ArgMatches<'a>, player: Player) -> Asked<'m,
         remotes: given.get_strs("REMOTE"),
         watchers: [given.get_str("watch5"), given.get_str("watch6")],
         room: number_of(given, "room").unwrap_or(0),
+        has_room: given.contains_id("room"),
         turns: number_of(given, "turns").unwrap_or(u64::MAX),
         patience: number_of(given, "patience"),
         stop: number_of(given, "stop"),

@@ -8,16 +8,17 @@ ghost use Rattle.c8_keys.specs.declared.lines.Played.{Played};
 ghost use Rattle.c8_net.specs.Errors.{peer_part};
 ghost use Rattle.c8_net.specs.declared.error.PeerError.{PeerError};
 
-use crate::addresses::no_address;
 use crate::arguments::{Asked, asked_of};
 use crate::error::PeerError;
 use crate::fault::{Fault, INPUT};
+use crate::journal::{Journal, journal_at};
 use crate::performance::Performance;
 use crate::play::{Prepared, Unprepared, perform_on, play_on, prepare};
 use c8_command::{Refusal, Status, TextError, read_file};
-use c8_disk::{DiskError, FileDisk, FileError};
+use c8_disk::DiskError;
 use c8_keys::{Played, write_report};
 use c8_peer::OpenError;
+use c8_udp::refused_address;
 use clap::ArgMatches;
 use std::alloc::Global;
 use std::fs::File;
@@ -28,9 +29,6 @@ use std::rt::Files;
 use std::sync::Wait;
 use std::thread::Threads;
 use std::time::Clock;
-
-/// How many bytes a journal may have.
-const JOURNAL_CAPACITY: u32 = 1_073_741_824;
 
 /// Runs `peer` as the command line asks. The error is a writer's.
 pub fn peer_given<R, I, W, E>(
@@ -47,13 +45,15 @@ where
     E: Write + Send,
 {
     match asked_of(given) {
-        Some(asked) if !may_be_watched(&asked) => refuse_watchers(refused),
-        Some(asked) => peer(rt, &asked, input, out, refused),
+        Some(asked) => match mistake_in(&asked) {
+            Some(mistake) => refuse_line(mistake, refused),
+            None => peer(rt, &asked, input, out, refused),
+        },
         None => Ok(Status::CommandLine),
     }
 }
 
-/// Plays what a command line asks for by a performance. It refuses watchers for any player but player 1. The error is a
+/// Plays what a command line asks for by a performance, unless [`peer_given`] would refuse the line. The error is a
 /// writer's.
 pub fn perform_given<R, P, W, E>(
     rt: &R,
@@ -68,26 +68,29 @@ where
     W: Write,
     E: Write,
 {
-    if may_be_watched(asked) {
-        perform(rt, asked, performance, out, refused)
-    } else {
-        refuse_watchers(refused)
+    match mistake_in(asked) {
+        Some(mistake) => refuse_line(mistake, refused),
+        None => perform(rt, asked, performance, out, refused),
     }
 }
 
-/// Writes that only player 1 shows the match to watchers.
-fn refuse_watchers<E: Write>(refused: &mut E) -> io::Result<Status> {
-    writeln!(
-        refused,
-        "error: --watch5 and --watch6 are for player 1 alone"
-    )?;
+/// Refuses a command line.
+fn refuse_line<E: Write>(mistake: &str, refused: &mut E) -> io::Result<Status> {
+    writeln!(refused, "error: {mistake}")?;
     Ok(Status::CommandLine)
 }
 
-/// Whether there are no watchers, or the player is player 1.
-fn may_be_watched(asked: &Asked<'_, '_>) -> bool {
+/// Why what was asked for does not fit together, if it does not.
+fn mistake_in(asked: &Asked<'_, '_>) -> Option<&'static str> {
     let [five, six] = asked.watchers;
-    asked.player.is_chair() || five.is_none() && six.is_none()
+    if !asked.player.is_chair() && (five.is_some() || six.is_some()) {
+        return Some("--watch5 and --watch6 are for player 1 alone");
+    }
+    // A journal in memory is empty at each start: in a room that was used before, the others take its epochs for old ones.
+    if asked.has_no_journal() && !asked.has_room {
+        return Some("without a journal ('-') --room has to be given, a new one for each match");
+    }
+    None
 }
 
 /// Plays a game with others, in threads. It reads the key sets from `input` and writes the report of the confirmed
@@ -109,11 +112,13 @@ where
         × (status ≡ status_of_outcome peer_part outcome)) }
 {
     let outcome = match begun(rt, asked, input) {
-        Ok((it, disk)) => play_on(rt, asked, it, disk, refused).map_err(|error| Fault::new(
-            rt.alloc(),
-            error,
-            asked.journal,
-        )),
+        Ok((it, journal)) => {
+            let played = match journal {
+                Journal::File(disk) => play_on(rt, asked, it, disk, refused),
+                Journal::Memory(disk) => play_on(rt, asked, it, disk, refused),
+            };
+            played.map_err(|error| Fault::new(rt.alloc(), error, asked.journal))
+        }
         Err(fault) => Err(fault),
     };
     tell_outcome(rt.alloc(), asked, outcome, out, refused)
@@ -136,9 +141,13 @@ where
         × (status ≡ status_of_outcome peer_part outcome)) }
 {
     let outcome = match begun(rt, asked, io::empty()) {
-        Ok((it, disk)) => perform_on(rt, asked, it, disk, performance, refused).map_err(
-            |error| Fault::new(rt.alloc(), error, asked.journal),
-        ),
+        Ok((it, journal)) => {
+            let played = match journal {
+                Journal::File(disk) => perform_on(rt, asked, it, disk, performance, refused),
+                Journal::Memory(disk) => perform_on(rt, asked, it, disk, performance, refused),
+            };
+            played.map_err(|error| Fault::new(rt.alloc(), error, asked.journal))
+        }
         Err(fault) => Err(fault),
     };
     tell_outcome(rt.alloc(), asked, outcome, out, refused)
@@ -162,14 +171,14 @@ fn tell_outcome<W: Write, E: Write>(
         }
         Err(fault) => {
             let remotes = asked.remotes.unwrap_or(&[]);
-            let word = no_address(asked.local, remotes, asked.watchers);
+            let word = refused_address(asked.local, remotes, asked.watchers);
             refuse(alloc, asked.explain, word, &fault, refused)
         }
     }
 }
 
-/// Writes the line of a refusal, and its explanation if asked for; `no_address` is the first word that is no address,
-/// if any.
+/// Writes the line of a refusal, and its explanation if asked for; `no_address` is the first word that is refused as an
+/// address, if any.
 pub fn refuse<E: Write>(
     alloc: Global,
     explain: bool,
@@ -191,12 +200,13 @@ pub fn refuse<E: Write>(
 }
 
 /// Prepares a match, and opens the disk of its journal. Faults are found in this order: the game's file, all that
-/// `prepare` checks, the journal's file. The journal's opening and the socket come later.
+/// `prepare` checks, a player that the game does not have, the journal's file. The journal's opening and the socket come
+/// later.
 fn begun<'a, R, I>(
     rt: &R,
     asked: &Asked<'_, 'a>,
     input: I,
-) -> Result<(Prepared, FileDisk), Fault<'a>>
+) -> Result<(Prepared, Journal), Fault<'a>>
 where
     R: Files<File = File> + AllocGlobal,
     I: Read + Drop,
@@ -218,8 +228,13 @@ where
         Ok(it) => it,
         Err(it) => return Err(at_start(asked.game, text, it)),
     };
-    match journal_at(rt, asked.journal) {
-        Ok(disk) => Ok((it, disk)),
+    // The opening would refuse it too, but only after a journal was made.
+    if asked.player.number > it.game.players() {
+        let error = PeerError::Open(OpenError::WrongPlayer);
+        return Err(Fault::new(rt.alloc(), error, asked.journal));
+    }
+    match journal_at(rt, asked, &it.game) {
+        Ok(journal) => Ok((it, journal)),
         Err(error) => Err(Fault::new(rt.alloc(), error, asked.journal)),
     }
 }
@@ -238,16 +253,4 @@ fn at_start<'a>(game: &'a str, text: Vec<u8>, it: Unprepared) -> Fault<'a> {
         text,
         unread,
     }
-}
-
-/// Opens the journal at a path, and creates it if it is missing.
-fn journal_at<R>(rt: &R, path: &str) -> Result<FileDisk, PeerError>
-where
-    R: Files<File = File> + AllocGlobal,
-{
-    FileDisk::open(rt, path, JOURNAL_CAPACITY).map_err(|error| match error {
-        FileError::Failed => PeerError::Disk(DiskError::Failed),
-        FileError::Full => PeerError::Disk(DiskError::Full),
-        FileError::Memory => PeerError::Open(OpenError::Memory),
-    })
 }

@@ -1,7 +1,7 @@
 //! The refusals of the commands `peer` and `watch`.
 
 ghost use Rattle.std.specs.Prelude.{◌≡◌};
-ghost use Rattle.c8_net.specs.Errors.{socket_error_number, peer_part, peer_error_number, error_of_session, error_of_unopened};
+ghost use Rattle.c8_net.specs.Errors.{peer_part, peer_error_number, error_of_session, error_of_unopened};
 
 use c8_command::{Part, Refusal};
 use c8_disk::DiskError;
@@ -9,40 +9,8 @@ use c8_game::GameError;
 use c8_keys::KeysError;
 use c8_live::SessionError;
 use c8_peer::OpenError;
+use c8_udp::{SocketError, SocketFault};
 use thiserror::Error;
-
-/// Why the other players cannot be reached.
-#[derive(Clone, Copy, Debug, PartialEq, Eq, Error)]
-pub enum SocketError {
-    #[error("the socket cannot be used")]
-    Failed,
-    #[error("more or fewer addresses than there are other players")]
-    Remotes,
-    #[error("an address that is not written as 127.0.0.1:4001")]
-    Address,
-}
-
-impl SocketError {
-    /// The number of the refusal.
-    pub fn number(self) -> u8
-        ensures { result ≡ socket_error_number self }
-    {
-        match self {
-            SocketError::Failed => 1,
-            SocketError::Remotes => 2,
-            SocketError::Address => 3,
-        }
-    }
-
-    /// The name of the refusal.
-    pub fn name(self) -> &'static str {
-        match self {
-            SocketError::Failed => "Failed",
-            SocketError::Remotes => "Remotes",
-            SocketError::Address => "Address",
-        }
-    }
-}
 
 /// Why the command `peer` refuses, or ends before its game does.
 #[derive(Clone, Copy, Debug, PartialEq, Eq, Error)]
@@ -60,7 +28,7 @@ pub enum PeerError {
     /// A file cannot be read or is too long for a text, or the disk of the journal failed.
     #[error("{0}")]
     Disk(DiskError),
-    /// The addresses have a fault, or the socket failed.
+    /// The addresses have a fault, the socket failed, or the system starts no thread.
     #[error("{0}")]
     Socket(SocketError),
 }
@@ -71,7 +39,9 @@ pub enum Unopened {
     /// Memory ran out.
     Memory,
     /// The socket cannot be opened.
-    Socket,
+    Socket(SocketFault),
+    /// The system starts no thread. Nothing was played.
+    Thread,
 }
 
 /// If memory ran out, the refusal is that of an opening.
@@ -81,7 +51,8 @@ impl From<Unopened> for PeerError {
     fn from(error: Unopened) -> PeerError {
         match error {
             Unopened::Memory => PeerError::Open(OpenError::Memory),
-            Unopened::Socket => PeerError::Socket(SocketError::Failed),
+            Unopened::Socket(fault) => PeerError::Socket(SocketError::Failed(fault)),
+            Unopened::Thread => PeerError::Socket(SocketError::Thread),
         }
     }
 }
@@ -93,7 +64,7 @@ impl From<SessionError> for PeerError {
     fn from(error: SessionError) -> PeerError {
         match error {
             SessionError::Disk(error) => PeerError::Disk(error),
-            SessionError::Wire(_) => PeerError::Socket(SocketError::Failed),
+            SessionError::Wire(_) => PeerError::Socket(SocketError::Failed(SocketFault::Closed)),
         }
     }
 }

@@ -1,11 +1,12 @@
 //! Why nothing was played, and where the fault is.
 
-use crate::error::{PeerError, SocketError};
+use crate::error::PeerError;
 use c8_command::{Site, Text, TextError, read_file};
 use c8_disk::DiskError;
 use c8_game::{Game, GameError};
 use c8_keys::{KeysError, game_site, key_sets_site};
 use c8_peer::OpenError;
+use c8_udp::SocketError;
 use std::alloc::Global;
 use std::fs::File;
 use std::rt::Files;

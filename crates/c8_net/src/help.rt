@@ -13,6 +13,11 @@ Two players, each in a terminal of their own:
   ./c8play peer games/duel.game 1 one.journal 127.0.0.1:4001 127.0.0.1:4002 < games/duel.1.keys
   ./c8play peer games/duel.game 2 two.journal 127.0.0.1:4002 127.0.0.1:4001 < games/duel.2.keys
 
+With - in the place of JOURNAL nothing is written: a player whose program ends cannot come back. Such a
+match needs a --room that no match before it had; the others may have journals.
+
+Packets are taken from the addresses of the players and watchers alone; --progress counts others.
+
 Player 1 shows the match to its watchers: each gets the confirmed key sets, and reports how many it
 has. A watcher is no player, and nothing that it does or fails to do changes the match.
 
@@ -27,9 +32,11 @@ Refusals, each one line on standard error, as 'refused: game 5 Hex':
   open 5 Memory       out of memory at the start
   disk 1 Failed       a file that cannot be read or written, or a text above 16777216 bytes
   disk 2 Full         the journal is at its greatest length, 1073741824 bytes
-  socket 1 Failed     the socket cannot be opened or used
+  socket 1 Failed     the socket cannot be opened, or was closed
   socket 2 Remotes    not one REMOTE for each other player
-  socket 3 Address    an address that is not written as 127.0.0.1:4001
+  socket 3 Address    an address that is not written as 127.0.0.1:4001; another player's or a
+                      watcher's with port 0, or of another IP version than LOCAL
+  socket 4 Thread     the system starts no more threads
 
 Exit status: 0 done, 1 refused, 2 a mistake in the command line, 3 a disk or a socket failed";
 
@@ -54,7 +61,9 @@ Refusals, each one line on standard error, as 'refused: game 5 Hex':
   game 1 Line to 6 Memory: those of the command run
   open 5 Memory       out of memory at the start
   disk 1 Failed       a file that cannot be read, or a text above 16777216 bytes
-  socket 1 Failed     the socket cannot be opened or used
-  socket 3 Address    an address that is not written as 127.0.0.1:4001
+  socket 1 Failed     the socket cannot be opened, or was closed
+  socket 3 Address    an address that is not written as 127.0.0.1:4001; or a REMOTE with port 0, or
+                      of another IP version than LOCAL
+  socket 4 Thread     the system starts no more threads
 
 Exit status: 0 done, 1 refused, 2 a mistake in the command line, 3 a disk or a socket failed";

@@ -2,32 +2,29 @@
 //!
 //! `arguments` has the options, and `command` opens the files. `play` begins the match ([`prepare`], [`play_on`]), and
 //! `stage` plays it in threads: the workers of c8_live, paced by `pace`, and a viewer. A [`Performance`] plays a match
-//! in the caller's thread instead ([`perform_on`]). `udp` is the transport, `addresses` has the addresses of players
-//! and watchers. `watching` is the command `watch`. A [`Beat`] says when its pictures are due, and when the frames of a
-//! game are.
+//! in the caller's thread instead ([`perform_on`]). The transport is c8_udp. `watching` is the command `watch`. A [`Beat`]
+//! says when its pictures are due, and when the frames of a game are.
 #![tactic(auto)]
 
-mod addresses;
 mod arguments;
 mod beat;
 mod command;
 mod error;
 mod fault;
 mod help;
+mod journal;
+mod key_list;
 mod pace;
 mod performance;
 mod play;
 mod stage;
-mod udp;
 mod watching;
 
-pub use addresses::{Addresses, MOST_WATCHERS};
 pub use arguments::{Asked, asked_for, number, number_of, peer_command, with_options};
 pub use beat::{Beat, Lateness};
 pub use command::{peer, peer_given, perform, perform_given, refuse};
-pub use error::{PeerError, SocketError, Unopened};
+pub use error::{PeerError, Unopened};
 pub use fault::{Fault, game_at};
 pub use performance::{Ended, Performance};
 pub use play::{Prepared, Unprepared, perform_on, play_on, prepare};
-pub use udp::Udp;
 pub use watching::{WatchAsked, watch, watch_command, watch_given, watch_on};

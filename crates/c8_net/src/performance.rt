@@ -4,12 +4,13 @@ ghost use Rattle.std.specs.Prelude.{◌≡◌, IfOk};
 ghost use Rattle.c8_peer.specs.Peer.{PeerValue};
 ghost use Rattle.c8_net.specs.Match.{HasEnded};
 
-use crate::addresses::Addresses;
 use crate::arguments::Asked;
 use crate::error::Unopened;
 use c8_disk::Disk;
 use c8_game::Game;
-use c8_live::{Session, SessionError, WireFailed};
+use c8_live::{Session, SessionError};
+use c8_transport::WireFailed;
+use c8_udp::Addresses;
 use std::io::Write;
 use std::net::Net;
 

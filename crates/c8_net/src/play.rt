@@ -8,12 +8,11 @@ ghost use Rattle.c8_peer.specs.Opened.{IsOpened};
 ghost use Rattle.c8_peer.specs.Peer.{PeerValue};
 ghost use Rattle.c8_net.specs.Match.{IsNoKeys, IsNoMatch, HasEnded, HasPlayed, HasFailed};
 
-use crate::addresses::{Addresses, MOST_WATCHERS};
 use crate::arguments::Asked;
 use crate::error::{PeerError, Unopened};
+use crate::key_list::KeyList;
 use crate::performance::{Ended, Performance};
 use crate::stage::Stage;
-use crate::udp::Udp;
 use c8_command::{TextError, text_of};
 use c8_disk::{Disk, DiskError};
 use c8_game::{Game, Keys, Player};
@@ -21,9 +20,10 @@ use c8_keys::{KeysError, Played, key_sets};
 use c8_live::laws::{machines_begin_where_they_did, true_checks_show_the_serial_run};
 use c8_live::{Session, tell_end};
 use c8_peer::{OpenError, Peer};
+use c8_udp::{Addresses, Bell, MOST_WATCHERS, PolledUdp, SocketError, SocketFault, Udp};
 use c8_wire::Watcher;
 use std::alloc::Global;
-use std::io::{Read, Write};
+use std::io::{ErrorKind, Read, Write};
 use std::net::Net;
 use std::sync::Wait;
 use std::thread::Threads;
@@ -148,12 +148,31 @@ where
     let Ok(stage) = Stage::open(rt.alloc(), &game, &peer) else {
         return Err(PeerError::from(Unopened::Memory));
     };
-    let Ok(wire) = Udp::open(rt, &addresses) else {
-        return Err(PeerError::from(Unopened::Socket));
+    let wire = match polled_wire(rt, &addresses) {
+        Ok(wire) => wire,
+        Err(error) => return Err(PeerError::from(error)),
     };
-    let session = session_of(peer, &game, keys, asked);
-    let (ended, moved) = stage.play(rt, asked, session, wire, progress);
-    outcome_of(asked, ended.after(moved), progress)
+    let session = session_of(peer, &game, asked);
+    match stage.play(rt, asked, session, KeyList::new(keys), wire, progress) {
+        Ok(ended) => outcome_of(asked, ended, progress),
+        Err(error) => Err(PeerError::from(error)),
+    }
+}
+
+/// Opens the socket of a match, and lets it wait; with its bell.
+fn polled_wire<R>(rt: &R, addresses: &Addresses) -> Result<(PolledUdp, Bell), Unopened>
+where
+    R: Net + AllocGlobal,
+{
+    let udp = match Udp::open(rt, addresses) {
+        Ok(udp) => udp,
+        Err(fault) => return Err(Unopened::Socket(fault)),
+    };
+    match PolledUdp::over(rt, udp) {
+        Ok(wire) => Ok(wire),
+        Err(error) if error.kind() == ErrorKind::OutOfMemory => Err(Unopened::Memory),
+        Err(error) => Err(Unopened::Socket(SocketFault::of(&error))),
+    }
 }
 
 /// Plays a match by a performance, in the caller's thread; otherwise as `play_on`.
@@ -178,13 +197,13 @@ where
     let Prepared {
         game,
         addresses,
-        keys,
+        ..
     } = it;
     let peer = match Peer::open(rt.alloc(), disk, &game, asked.player, asked.room) {
         Ok(peer) => peer,
         Err((error, _disk)) => return Err(PeerError::Open(error)),
     };
-    let session = session_of(peer, &game, keys, asked);
+    let session = session_of(peer, &game, asked);
     match performance.perform(rt, asked, &addresses, &game, session, progress) {
         Ok(ended) => outcome_of(asked, ended, progress),
         Err(error) => Err(PeerError::from(error)),
@@ -224,15 +243,10 @@ fn outcome_of<D: Disk + Drop, E: Write>(
 }
 
 /// The session of a peer; it shows the match to the watchers in seats 5 and 6 that have an address.
-fn session_of<'g, D: Disk>(
-    peer: Peer<'g, D>,
-    game: &Game,
-    keys: Vec<Keys>,
-    asked: &Asked<'_, '_>,
-) -> Session<'g, D>
+fn session_of<'g, D: Disk>(peer: Peer<'g, D>, game: &Game, asked: &Asked<'_, '_>) -> Session<'g, D>
     ensures { result.peer ≡ peer.entry }
 {
-    let mut session = Session::new(peer, game, keys, asked.patience, asked.checkpoint);
+    let mut session = Session::new(peer, game, asked.patience, asked.interval());
     let [five, six] = asked.watchers;
     if five.is_some() {
         session.show_to(Watcher { number: 5 });

@@ -4,6 +4,7 @@ ghost use Rattle.c8_live.specs.Published.{MayShow};
 ghost use Rattle.c8_net.specs.Match.{HasEnded};
 
 use crate::arguments::Asked;
+use crate::error::Unopened;
 use crate::pace::Pace;
 use crate::performance::Ended;
 use c8_board::{Board, Pen, Viewer};
@@ -11,10 +12,11 @@ use c8_disk::Disk;
 use c8_game::Game;
 use c8_inlet::{Putter, Taker, inlet};
 use c8_live::{
-    Counters, PLACES, Progress, Relay, Session, SessionError, Wire, WireFailed, Worker,
-    game_worker, net_worker, open_board,
+    Counters, KeySource, PLACES, Progress, Relay, Session, game_worker, net_worker, open_board,
 };
 use c8_peer::Peer;
+use c8_transport::{Wire, WireFailed, Worker};
+use c8_udp::Bell;
 use std::alloc::{AllocError, Global};
 use std::io::Write;
 use std::sync::Wait;
@@ -89,25 +91,28 @@ impl Stage {
         })
     }
 
-    /// Plays a session over a wire: the caller's thread makes its turns, one thread moves its packets, and one prints
-    /// the progress. It ends when the session is over, its turns are made, the viewer has asked for the end, or the
-    /// wire fails. All threads are then joined. Returns how the session ended, and whether the net thread could use the
-    /// wire to the end.
-    pub(crate) fn play<'g, R, D, W, E>(
+    /// Plays a session with the key sets of a source over a wire and its bell: the caller's thread makes its turns, one
+    /// thread moves its packets, and one prints the progress. It ends when the session is over, its turns are made, the
+    /// viewer has asked for the end, or the wire fails. All threads are then joined. If the system starts no thread, no
+    /// turn is made (`Thread`).
+    pub(crate) fn play<'g, R, D, K, W, E>(
         self,
         rt: &R,
         asked: &Asked<'_, '_>,
         session: Session<'g, D>,
-        wire: W,
+        keys: K,
+        wire: (W, Bell),
         progress: &mut E,
-    ) -> (Ended<'g, D>, Result<(), WireFailed>)
+    ) -> Result<Ended<'g, D>, Unopened>
     where
         R: Clock + Threads + Wait + Sync,
         D: Disk + Drop,
+        K: KeySource + Drop,
         W: Wire + Drop + Send,
         E: Write + Send,
         requires { MayShow session.peer self.pen }
-        ensures { HasEnded D.Disk session.entry.peer result.0.session.peer result.0.turns }
+        ensures { IfOk result (λ ended.
+            HasEnded D.Disk session.entry.peer ended.session.peer ended.turns) }
     {
         let Stage {
             relay,
@@ -117,10 +122,11 @@ impl Stage {
             pen,
             viewer,
         } = self;
+        let (wire, bell) = wire;
         let shared = Shared {
             board,
             counters: Counters::new(),
-            pace: Pace::new(rt),
+            pace: Pace::new(rt, Some(bell)),
         };
         let post = Post {
             wire,
@@ -132,18 +138,70 @@ impl Stage {
             board: &shared.board,
             viewer,
         };
-        let (moved, ended) = thread::join(
+        let common = &shared;
+        let ((), ended) = thread::join(
             rt,
-            || move_and_watch(rt, asked, post, onlooker, told, progress, &shared),
-            || make_turns(session, relay, pen, asked.turns, &shared),
+            || watch(rt, asked, onlooker, told, progress, common),
+            || -> Result<Ended<'_, D>, Unopened>
+                requires board { pen.board ≡ common.now.board }
+                requires shows { MayShow session.peer pen }
+                ensures { IfOk result (λ ended.
+                    HasEnded D.Disk session.entry.peer ended.session.peer ended.turns) }
+            { move_and_turn(rt, asked.turns, session, keys, relay, pen, post, common) },
         );
-        (ended, moved)
+        ended
     }
 }
 
-/// Runs the game thread, which is the caller's.
-fn make_turns<'g, R: Clock, D: Disk>(
+/// Starts the net thread, and runs the game thread, which is the caller's. If the viewer's thread or the net thread does
+/// not start, no turn is made.
+fn move_and_turn<'g, R, D, K, W>(
+    rt: &R,
+    turns: u64,
     session: Session<'g, D>,
+    keys: K,
+    relay: Relay,
+    pen: Pen,
+    post: Post<W>,
+    shared: &Shared<'_, R>,
+) -> Result<Ended<'g, D>, Unopened>
+where
+    R: Clock + Threads + Wait + Sync,
+    D: Disk + Drop,
+    K: KeySource + Drop,
+    W: Wire + Drop + Send,
+    requires board { pen.board ≡ shared.now.board }
+    requires shows { MayShow session.peer pen }
+    ensures { IfOk result (λ ended.
+        HasEnded D.Disk session.entry.peer ended.session.peer ended.turns) }
+{
+    thread::scope(
+        thread::scope_env(),
+        rt,
+        |scope| -> Result<Ended<'_, D>, Unopened>
+            requires board { pen.board ≡ shared.now.board }
+            requires shows { MayShow session.peer pen }
+            ensures { IfOk result (λ ended.
+                HasEnded D.Disk session.entry.peer ended.session.peer ended.turns) }
+        {
+            if !shared.pace.has_viewer() {
+                shared.pace.end(Worker::Game);
+                return Err(Unopened::Thread);
+            }
+            let Ok(mover) = scope.spawn(move || move_packets(rt, post, shared)) else {
+                shared.pace.end(Worker::Game);
+                return Err(Unopened::Thread);
+            };
+            let ended = make_turns(session, keys, relay, pen, turns, shared);
+            Ok(ended.after(mover.join(rt)))
+        },
+    )
+}
+
+/// Runs the game thread, which is the caller's.
+fn make_turns<'g, R: Clock, D: Disk, K: KeySource + Drop>(
+    session: Session<'g, D>,
+    keys: K,
     relay: Relay,
     pen: Pen,
     turns: u64,
@@ -158,9 +216,10 @@ fn make_turns<'g, R: Clock, D: Disk>(
         counters,
         pace,
     } = shared;
-    let (mut session, mut relay, mut pen) = (session, relay, pen);
+    let (mut session, mut keys, mut relay, mut pen) = (session, keys, relay, pen);
     let turns = game_worker(
         &mut session,
+        &mut keys,
         &mut relay,
         board,
         &mut pen,
@@ -170,29 +229,6 @@ fn make_turns<'g, R: Clock, D: Disk>(
     );
     pace.end(Worker::Game);
     Ended { session, turns }
-}
-
-/// Runs the net thread and the viewer's thread.
-fn move_and_watch<R, W, E>(
-    rt: &R,
-    asked: &Asked<'_, '_>,
-    post: Post<W>,
-    onlooker: Onlooker<'_>,
-    told: Progress,
-    progress: &mut E,
-    shared: &Shared<'_, R>,
-) -> Result<(), WireFailed>
-where
-    R: Clock + Threads + Wait + Sync,
-    W: Wire + Drop + Send,
-    E: Write,
-{
-    let (moved, ()) = thread::join(
-        rt,
-        || move_packets(rt, post, shared),
-        || watch(rt, asked, onlooker, told, progress, shared),
-    );
-    moved
 }
 
 /// Runs the net thread.
@@ -229,6 +265,7 @@ fn watch<R: Clock + Wait, E: Write>(
     shared: &Shared<'_, R>,
 ) {
     let (mut onlooker, mut told) = (onlooker, told);
+    shared.pace.greet();
     for _ in rt.forever() {
         if shared.pace.is_game_over() {
             break;

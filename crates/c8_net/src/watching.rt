@@ -13,19 +13,18 @@ mod arguments;
 mod drawing;
 mod stage;
 
-use crate::addresses::{Addresses, no_address};
 use crate::command::refuse;
-use crate::error::{PeerError, SocketError};
+use crate::error::PeerError;
 use crate::fault::{Fault, game_at};
-use crate::udp::Udp;
 use arguments::asked_of;
 pub use arguments::{WatchAsked, watch_command};
 use c8_command::Status;
 use c8_game::Game;
 use c8_keys::{Played, write_report};
-use c8_live::Wire;
 use c8_peer::OpenError;
 use c8_spectator::Spectator;
+use c8_transport::Wire;
+use c8_udp::{Addresses, SocketError, SocketFault, Udp, refused_address};
 use c8_watch::laws::turns_take_nothing_back;
 use clap::ArgMatches;
 use stage::Stage;
@@ -83,7 +82,7 @@ where
             Ok(Status::Done)
         }
         Err(fault) => {
-            let word = no_address(asked.local, &[asked.remote], [None, None]);
+            let word = refused_address(asked.local, &[asked.remote], [None, None]);
             refuse(rt.alloc(), asked.explain, word, &fault, refused)
         }
     }
@@ -117,12 +116,12 @@ where
     };
     match Udp::open(rt, &addresses) {
         Ok(wire) => watch_on(rt, asked, game, wire, out),
-        Err(error) => Err(PeerError::Socket(error)),
+        Err(fault) => Err(PeerError::Socket(SocketError::Failed(fault))),
     }
 }
 
 /// Watches a match of a game over a wire; the machine at the end is the serial run of the rows that were taken. `Open`
-/// means that memory ran out, `Socket` that the wire failed.
+/// means that memory ran out, `Socket` that the wire failed or that the system starts no thread.
 pub fn watch_on<R, W, O>(
     rt: &R,
     asked: &WatchAsked<'_>,
@@ -144,9 +143,11 @@ where
     let Ok(stage) = Stage::open(rt.alloc(), &spectator) else {
         return Err(PeerError::Open(OpenError::Memory));
     };
-    let (spectator, turns) = stage.watch(rt, asked, spectator, wire, out);
+    let Ok((spectator, turns)) = stage.watch(rt, asked, spectator, wire, out) else {
+        return Err(PeerError::Socket(SocketError::Thread));
+    };
     if turns.is_err() {
-        return Err(PeerError::Socket(SocketError::Failed));
+        return Err(PeerError::Socket(SocketError::Failed(SocketFault::Closed)));
     }
     Ok(Played {
         frames: spectator.count(),

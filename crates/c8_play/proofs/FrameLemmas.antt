@@ -6,7 +6,7 @@ use Rattle.c8_disk.specs.declared.disk.Disk.{Ghosts as DiskGhosts}
 use Rattle.c8_peer.specs.Peer.{PeerValue}
 use Rattle.c8_live.specs.Entered.{HasHandedIn}
 use Rattle.c8_live.specs.Turns.{HasHeard}
-use Rattle.c8_live.specs.declared.wire.Wire.{Ghosts as WireGhosts}
+use Rattle.c8_transport.specs.declared.wire.Wire.{Ghosts as WireGhosts}
 use Rattle.c8_play.specs.declared.console.Console.{Ghosts as ConsoleGhosts}
 use Rattle.c8_play.specs.declared.desk.Desk.{Desk}
 use Rattle.c8_play.specs.Alone.{IsFrameAlone, AreFramesAlone}

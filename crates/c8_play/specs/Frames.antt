@@ -6,7 +6,7 @@ use Rattle.c8_digest.specs.Origin.{run_since}
 use Rattle.c8_known.specs.Confirmed.{best_rows, confirmed}
 use Rattle.c8_peer.specs.Peer.{PeerValue, known_by, begun_by}
 use Rattle.c8_screen.specs.Points.{Points}
-use Rattle.c8_live.specs.declared.wire.Wire.{Ghosts as WireGhosts}
+use Rattle.c8_transport.specs.declared.wire.Wire.{Ghosts as WireGhosts}
 use Rattle.c8_live.specs.Entered.{HasHandedIn}
 use Rattle.c8_live.specs.Over.{IsOver}
 use Rattle.c8_live.specs.Turns.{HasHeard}

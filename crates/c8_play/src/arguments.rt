@@ -52,7 +52,7 @@ fn with_players<'a>(alloc: Global, command: Command<'a>) -> Result<Command<'a>, 
     let command = with_place(alloc, command, "GAME", game)?;
     let player = "The number of the own player, 1 to 4, or alone";
     let command = with_place(alloc, command, "PLAYER", player)?;
-    let journal = "The path of the own journal, created if it is missing";
+    let journal = "The path of the own journal, created if it is missing; - for none";
     let command = command.arg(Arg::new(alloc, "JOURNAL").help(journal))?;
     let local = "The own address, as 127.0.0.1:4001";
     let command = command.arg(Arg::new(alloc, "LOCAL").help(local))?;

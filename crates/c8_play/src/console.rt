@@ -2,7 +2,7 @@
 
 ghost use Rattle.std.specs.Prelude.{◌≡◌, ◌≤◌, ◌++◌, ℕ, List, take, IfOk, OnErr};
 
-use c8_net::Udp;
+use mio::event::Source;
 use std::time::Duration;
 
 /// How many bytes of keys one read takes at most.
@@ -45,8 +45,8 @@ pub trait Console {
         ensures typed { typed self.new ≡ typed self.old }
         ensures drawn { IfOk result (λ _. drawn self.new ≡ drawn self.old ++ text.now) };
 
-    /// From now on a packet that comes over this wire ends a rest.
-    fn wake_at(&mut self, wire: &mut Udp)
+    /// From now on a packet that comes to this source ends a rest.
+    fn wake_at<S: Source>(&mut self, source: &mut S)
         ensures typed { typed self.new ≡ typed self.old }
         ensures drawn { drawn self.new ≡ drawn self.old };
 

@@ -12,9 +12,10 @@ ghost use Rattle.c8_play.specs.Desk.{typing, seen_at, drawn_at, IsSameDesk, MayF
 
 use crate::console::{Console, KEY_BYTES};
 use c8_game::Keys;
-use c8_net::{Beat, Lateness, Udp};
+use c8_net::{Beat, Lateness};
 use c8_screen::Screen;
 use c8_terminal::{Decoder, Held, Painter, Signal};
+use mio::event::Source;
 use std::time::Duration;
 
 /// How many reads of the keys one frame makes at most, so that a flood of them cannot stop it.
@@ -69,11 +70,11 @@ impl<C: Console> Desk<C> {
         }
     }
 
-    /// From now on a packet that comes over this wire ends a rest.
-    pub fn wake_at(&mut self, wire: &mut Udp)
+    /// From now on a packet that comes to this source ends a rest.
+    pub fn wake_at<S: Source>(&mut self, source: &mut S)
         ensures { IsSameDesk C.Console self.old self.new }
     {
-        self.console.wake_at(wire);
+        self.console.wake_at(source);
     }
 
     /// The time by the console's clock.

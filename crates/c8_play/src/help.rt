@@ -25,5 +25,9 @@ Alone, and two players, each in a terminal of their own:
   ./c8play play games/rally.game 1 one.journal 127.0.0.1:4001 127.0.0.1:4002
   ./c8play play games/rally.game 2 two.journal 127.0.0.1:4002 127.0.0.1:4001
 
+In each frame the journal takes at most two records for each player, and each record waits for the disk
+twice. With - in the place of JOURNAL and a new --room nothing is written, and no frame waits for a disk;
+a player whose program ends cannot come back.
+
 A turn is a frame; --rate says how many are made a second. The other options, the refusals and the exit
 statuses are those of the command peer; standard input is not read.";

@@ -13,9 +13,11 @@ use crate::status::StatusRow;
 use c8_disk::Disk;
 use c8_game::Game;
 use c8_live::laws::{hearings_join, peers_run_on};
-use c8_live::{Session, SessionError, Wire};
-use c8_net::{Addresses, Asked, Ended, Lateness, Performance, Udp, Unopened};
+use c8_live::{Session, SessionError};
+use c8_net::{Asked, Ended, Lateness, Performance, Unopened};
 use c8_peer::Peer;
+use c8_transport::{Losses, Wire};
+use c8_udp::{Addresses, Udp};
 use std::io;
 use std::io::Write;
 use std::net::Net;
@@ -40,8 +42,9 @@ impl<C: Console + Drop> Performance for Live<C> {
         session: Session<'g, D>,
         progress: &mut E,
     ) -> Result<Ended<'g, D>, Unopened> {
-        let Ok(mut wire) = Udp::open(rt, addresses) else {
-            return Err(Unopened::Socket);
+        let mut wire = match Udp::open(rt, addresses) {
+            Ok(wire) => wire,
+            Err(error) => return Err(Unopened::Socket(error)),
         };
         let Live { console, pace } = self;
         let mut desk = Desk::new(console, pace);
@@ -51,6 +54,7 @@ impl<C: Console + Drop> Performance for Live<C> {
         let lateness = desk.end();
         if asked.progress {
             let _ = tell_lateness(progress, &lateness);
+            let _ = tell_foreign(progress, wire.losses());
         }
         Ok(Ended { session, turns })
     }
@@ -63,6 +67,15 @@ pub(crate) fn tell_lateness<E: Write>(out: &mut E, lateness: &Lateness) -> io::R
         out,
         "frames were late by {median} ms in the median, by {most} ms at most"
     )
+}
+
+/// Writes how many packets came from elsewhere, if any did.
+fn tell_foreign<E: Write>(out: &mut E, losses: Losses) -> io::Result<()> {
+    let Losses { foreign, .. } = losses;
+    if foreign > 0 {
+        writeln!(out, "{foreign} packets from elsewhere")?;
+    }
+    Ok(())
 }
 
 /// Plays a session of this game at a desk, one turn a frame, until it is over, its turns are made, as many frames are
@@ -184,10 +197,10 @@ fn enter<D: Disk, W: Wire, C: Console>(
 {
     let keys = desk.begin();
     if lead.leaves_out(session.peer()) {
-        let _taken = session.play(None, wire)?;
+        let _taken = session.turn(None, wire)?;
         return Ok(Entry::LeftOut);
     }
-    if session.play(Some(keys), wire)? {
+    if session.turn(Some(keys), wire)? {
         desk.entered();
         Ok(Entry::Taken)
     } else {

@@ -2,9 +2,9 @@
 
 use crate::console::{Console, Gone, KEY_BYTES};
 use crate::exchange::Exchange;
-use c8_net::Udp;
 use c8_terminal::{ENTER, LEAVE};
-use mio::{Events, Poll, Token};
+use mio::event::Source;
+use mio::{Events, Interest, Poll, Token};
 use std::fs::{File, OpenOptions};
 use std::io::{ErrorKind, Read, Write};
 use std::net::Net;
@@ -108,9 +108,12 @@ impl<'r, R: Clock> Console for Terminal<'r, R> {
         Ok(())
     }
 
-    fn wake_at(&mut self, wire: &mut Udp) {
+    fn wake_at<S: Source>(&mut self, source: &mut S) {
         // If this fails, packets are taken when the next frame is due.
-        let _ = wire.wake(self.poll.registry(), Token(0));
+        let _ = self
+            .poll
+            .registry()
+            .register(source, Token(0), Interest::READABLE);
     }
 
     fn rest(&mut self, time: Duration) {

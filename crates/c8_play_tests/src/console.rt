@@ -1,7 +1,7 @@
 //! Consoles with written-down keys, and a clock that only sleeps move.
 
-use c8_net::Udp;
 use c8_play::{Console, Exchange, Gone, KEY_BYTES};
+use mio::event::Source;
 use std::alloc::Global;
 use std::sync::atomic::{AtomicU64, Ordering};
 use std::time::{Clock, Duration};
@@ -136,7 +136,7 @@ impl<'r, R: Clock> Console for Written<'r, R> {
         Ok(())
     }
 
-    fn wake_at(&mut self, _wire: &mut Udp) {
+    fn wake_at<S: Source>(&mut self, _source: &mut S) {
         self.log.marks.3 = self.log.marks.3.saturating_add(1);
     }
 

@@ -2,9 +2,9 @@
 ghost use Rattle.std.specs.Prelude.{◌≡◌};
 
 use c8_game::Game;
-use c8_live::{LONGEST_PACKET, Traffic, Wire, WireFailed};
 use c8_net::{WatchAsked, watch_command, watch_given, watch_on};
 use c8_terminal::{ENTER, LEAVE};
+use c8_transport::{LONGEST_PACKET, Traffic, Wire, WireFailed};
 use c8_wire::{Seat, Watcher};
 use std::alloc::Global;
 use std::fs::File;

@@ -56,6 +56,7 @@ where
         remotes: Some(&[remote]),
         watchers: [None, None],
         room: 3,
+        has_room: true,
         turns: 10_000,
         patience: None,
         stop,

@@ -185,6 +185,7 @@ fn are_told(number: u8, players: u8, looks: &[Look]) -> bool {
             heard: look.heard,
             is_alarmed: look.is_alarmed,
             lost: 0,
+            foreign: 0,
         };
         let now = Duration::from_millis(look.millis);
         let waits = look.waits.and_then(Player::new);

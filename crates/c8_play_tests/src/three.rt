@@ -5,10 +5,11 @@ ghost use Rattle.std.specs.Prelude.{[]};
 use crate::console::{Log, Still, Written};
 use c8_disk::MemDisk;
 use c8_game::{Game, Keys, Player};
-use c8_live::{LONGEST_PACKET, Session, Traffic, Wire, WireFailed};
+use c8_live::Session;
 use c8_net::Asked;
 use c8_peer::{Kind, Peer};
 use c8_play::{Desk, Pace, play_frames};
+use c8_transport::{LONGEST_PACKET, Traffic, Wire, WireFailed};
 use c8_wire::{LONGEST_DATAGRAM, Seat};
 use std::alloc::Global;
 
@@ -99,6 +100,7 @@ fn asked_for() -> Asked<'static, 'static> {
         remotes: None,
         watchers: [None, None],
         room: 0,
+        has_room: true,
         turns: 12,
         patience: None,
         stop: None,
@@ -122,7 +124,7 @@ fn ends_with(alloc: Global, number: u8, row: &[u8]) -> bool {
     let Ok(peer) = Peer::open(alloc, disk, &game, Player::CHAIR, 0) else {
         return false;
     };
-    let mut session = Session::new(peer, &game, Vec::new(alloc), None, 0);
+    let mut session = Session::new(peer, &game, None, 0);
     let (clock, mut log) = (Still::new(), Log::new(alloc));
     let pace = Pace {
         rate: RATE,

@@ -6,10 +6,11 @@ use crate::alone::{DRAWS, whole};
 use crate::console::{Log, Sent, Still, Written};
 use c8_disk::MemDisk;
 use c8_game::{Game, Player};
-use c8_live::{LONGEST_PACKET, Session, Wire, WireFailed};
+use c8_live::Session;
 use c8_net::Asked;
 use c8_peer::Peer;
 use c8_play::{Desk, Pace, play_frames};
+use c8_transport::{LONGEST_PACKET, Wire, WireFailed};
 use c8_wire::Seat;
 use std::alloc::Global;
 use std::time::Duration;
@@ -105,6 +106,7 @@ fn asked_for(row: Row) -> Asked<'static, 'static> {
         remotes: None,
         watchers: [None, None],
         room: 0,
+        has_room: true,
         turns: row.turns,
         patience: row.patience,
         stop: row.stop,
@@ -127,7 +129,7 @@ fn played(
     let Ok(peer) = Peer::open(alloc, disk, game, Player::CHAIR, 0) else {
         return None;
     };
-    let mut session = Session::new(peer, game, Vec::new(alloc), row.patience, 0);
+    let mut session = Session::new(peer, game, row.patience, 0);
     let (mut wire, clock) = (Nowhere { asked: 0 }, Still::new());
     let pace = Pace {
         rate: RATE,

@@ -1,7 +1,7 @@
 //! What paces the players of a match in threads, and sees how far they are.
 
 use c8_game::Player;
-use c8_live::Gate;
+use c8_transport::Gate;
 
 /// A gate of the players' threads that also sees how the log grows.
 pub trait Watch: Gate {

@@ -1,7 +1,7 @@
 //! Gates.
 use c8_game::Player;
-use c8_live::{Gate, Worker};
 use c8_rig::Watch;
+use c8_transport::{Gate, Worker};
 use std::sync::atomic::{AtomicU64, Ordering};
 use std::thread::sleep;
 use std::time::{Clock, Duration};

@@ -21,6 +21,7 @@ use clap::ArgMatches;
 use std::alloc::{AllocError, Global};
 use std::fs::File;
 use std::io::Write;
+use std::os::unix::fs::MetadataExt;
 use std::rt::Files;
 use std::sync::Wait;
 use std::thread::Threads;
@@ -72,12 +73,20 @@ where
     if let Err(error) = Game::read(rt.alloc(), game.bytes) {
         return refuse(rt.alloc(), asked, game, RigError::Game(error), refused);
     }
-    if path == asked.game {
+    if is_same_file(rt, path, asked.game) {
         return refuse(rt.alloc(), asked, game, RigError::Script, refused);
     }
     match fs::create(rt, path) {
         Ok(mut script) => rig(rt, asked, game, Some(&mut script), out, refused),
         Err(_) => refuse(rt.alloc(), asked, game, RigError::Script, refused),
+    }
+}
+
+/// Whether two paths lead to one file, whatever their names.
+fn is_same_file<R: Files<File = File>>(rt: &R, one: &str, other: &str) -> bool {
+    match (fs::metadata(rt, one), fs::metadata(rt, other)) {
+        (Ok(one), Ok(other)) => one.dev() == other.dev() && one.ino() == other.ino(),
+        _ => false,
     }
 }
 

@@ -1,8 +1,8 @@
 //! How the log of a match grows, for the person who waits.
 
 use c8_game::{MOST_PLAYERS, Player};
-use c8_live::{Gate, Worker};
 use c8_rig::Watch;
+use c8_transport::{Gate, Worker};
 use std::io::Write;
 use std::sync::Wait;
 use std::sync::atomic::{AtomicBool, AtomicU64, Ordering};

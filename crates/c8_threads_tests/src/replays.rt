@@ -1,11 +1,11 @@
 //! A match in threads, written as a script, and played again in one thread.
 use c8_disk::MemDisk;
 use c8_game::{Game, Keys, Player};
-use c8_live::{Gate, Worker};
 use c8_peer::{Kind, Peer};
 use c8_rig::{Gathering, Note, Watch, rig};
 use c8_script::{Transcript, play_script, read_script, write_act};
 use c8_threads::write_script;
+use c8_transport::{Gate, Worker};
 use c8_wire::Watcher;
 use c8_world::{Act, Event, Tally};
 use std::alloc::Global;

@@ -7,7 +7,7 @@ use Rattle.c8_wire.specs.Packet.{Packet}
 use Rattle.c8_wire.specs.checked.Read.{read}
 use Rattle.c8_spectator.specs.Growth.{IsStillWatched}
 use Rattle.c8_spectator.specs.Watching.{WatchValue, hear}
-use Rattle.c8_live.specs.declared.wire.Wire.{Ghosts}
+use Rattle.c8_transport.specs.declared.wire.Wire.{Ghosts}
 use Rattle.c8_watch.specs.Turns.{after_hearing, HasHeard, IsTurn, AreTurns}
 
 -- ---- what was heard

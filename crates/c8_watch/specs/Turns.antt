@@ -3,8 +3,8 @@ use Rattle.std.specs.Prelude.{◌≡◌, ◌⊎◌, ◌≤◌, ℕ, zero, suc, L
 use Rattle.c8_wire.specs.Spelling.{Spells}
 use Rattle.c8_wire.specs.checked.Read.{read}
 use Rattle.c8_spectator.specs.Watching.{WatchValue, hear, seen}
-use Rattle.c8_live.specs.declared.wire.Wire.{Ghosts}
-use Rattle.c8_live.specs.Turns.{most_packets}
+use Rattle.c8_transport.specs.declared.wire.Wire.{Ghosts}
+use Rattle.c8_transport.specs.Wire.{most_packets}
 
 -- the watcher after it has heard these packets, one after another, whatever they spell
 abbrev pub after_hearing : WatchValue → List (List ℕ) → WatchValue

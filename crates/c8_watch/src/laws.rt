@@ -12,12 +12,12 @@ ghost use Rattle.c8_spectator.specs.Watching.{WatchValue, first_watch, hear};
 ghost use Rattle.c8_watch.specs.Turns.{after_hearing, HasHeard, IsTurn, AreTurns};
 ghost use Rattle.c8_watch.specs.Shown.{ShowsWereSaid};
 
-use c8_live::Wire;
 use c8_peer::laws::a_peers_word_stands;
 use c8_spectator::laws::{
     what_is_heard_takes_nothing_back, what_is_shown_of_one_list_begins_it,
     what_is_still_watched_chains,
 };
+use c8_transport::Wire;
 
 /// What a watcher hears: nothing (`none`), one more packet (`more`), nothing more (`still`), and a smaller number of
 /// packets under a larger bound (`fewer`).

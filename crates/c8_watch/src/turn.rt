@@ -1,16 +1,13 @@
 //! A turn of a watcher: it hears, and says how many rows it has.
 ghost use Rattle.std.specs.Prelude.{◌≡◌};
-ghost use Rattle.c8_live.specs.Turns.{most_packets};
+ghost use Rattle.c8_transport.specs.Wire.{most_packets};
 ghost use Rattle.c8_watch.specs.Turns.{HasHeard, IsTurn};
 
 use crate::laws::hearings_join;
 use c8_game::Player;
-use c8_live::{LONGEST_PACKET, Wire, WireFailed};
 use c8_spectator::Spectator;
+use c8_transport::{LONGEST_PACKET, MOST_PACKETS, Wire, WireFailed};
 use c8_wire::{LONGEST_DATAGRAM, Seat};
-
-/// How many packets one turn takes from the wire at most.
-const MOST_PACKETS: u16 = 256;
 
 /// Makes one turn: the spectator hears at most 256 packets of the wire, whatever they are, and then tells player 1 how
 /// many rows it has. The error is the wire's; what was heard before it stays.

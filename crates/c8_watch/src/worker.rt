@@ -15,9 +15,9 @@ use crate::turn::watch_turn;
 use c8_board::laws::the_first_start_is_serial;
 use c8_board::{Board, Pen, Viewer};
 use c8_game::Game;
-use c8_live::{Gate, Wire, WireFailed, Worker};
 use c8_machine::Machine;
 use c8_spectator::Spectator;
+use c8_transport::{Gate, Wire, WireFailed, Worker};
 use std::alloc::{AllocError, Global};
 
 /// Sees the machine of a watched match, in the thread that makes the turns.

@@ -1,5 +1,5 @@
 //! Gates.
-use c8_live::{Gate, Worker};
+use c8_transport::{Gate, Worker};
 use std::sync::atomic::{AtomicBool, AtomicU64, Ordering};
 use std::thread::sleep;
 use std::time::{Clock, Duration};

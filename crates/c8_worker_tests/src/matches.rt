@@ -2,7 +2,8 @@
 use crate::gates::{Meeting, Turns};
 use crate::sides::{GAME, Outcome, Side, relays};
 use c8_game::Game;
-use c8_live::{Counters, Gate, PLACES, Relay, net_worker};
+use c8_live::{Counters, PLACES, Relay, net_worker};
+use c8_transport::Gate;
 use std::alloc::Global;
 use std::test::Fail;
 use std::thread::join;

@@ -2,7 +2,8 @@
 use crate::gates::Turns;
 use crate::sides::relays;
 use c8_game::Player;
-use c8_live::{Counters, LONGEST_PACKET, Relay, Wire, net_worker};
+use c8_live::{Counters, Relay, net_worker};
+use c8_transport::{LONGEST_PACKET, Wire};
 use c8_wire::{LONGEST_DATAGRAM, Seat};
 use std::alloc::{AllocError, Global};
 use std::sync::Wait;
@@ -59,7 +60,7 @@ fn are_moved<R: Wait>(rt: &R, alloc: Global) -> Result<bool, AllocError> {
     Ok(
         is_posted
             && moved.is_ok()
-            && game.lost() == 1
+            && game.losses().lost == 1
             && counters.take().lost == 1
             && have_come(&mut world, HELLO, b"")
             && have_come(&mut game, &[3], &[2]),

@@ -7,12 +7,13 @@ ghost use Rattle.c8_live.specs.Published.{MayShow, pen_at};
 
 use c8_board::{Board, Look, Pen, Viewer};
 use c8_disk::MemDisk;
-use c8_game::{Game, Player};
+use c8_game::{Game, Keys, Player};
 use c8_inlet::inlet;
 use c8_keys::key_sets;
-use c8_live::{Counters, Gate, Relay, Session, Standing, Wire, game_worker, open_board};
+use c8_live::{Counters, KeySource, Relay, Session, Standing, game_worker, open_board};
 use c8_machine::Machine;
 use c8_peer::Peer;
+use c8_transport::{Gate, Wire};
 use std::alloc::{AllocError, Global};
 
 /// A game of two players and 20 frames. V0 counts the loops, V1 those in which key 5 is down.
@@ -23,6 +24,7 @@ pub(crate) const GAME: &str =
 #[derive(Drop)]
 pub(crate) struct Side<'g, W> {
     session: Session<'g, MemDisk>,
+    hand: Hand,
     wire: W,
     board: Board,
     pen: Pen,
@@ -57,20 +59,43 @@ fn session_of<'g>(
     alloc: Global,
     game: &'g Game,
     number: u8,
-    keys: &str,
 ) -> Result<Session<'g, MemDisk>, AllocError>
     ensures { IfOk result (λ session. session.peer.rules ≡ game.entry.now) }
 {
     let Some(me) = Player::new(number) else {
         return Err(AllocError);
     };
-    let Ok(keys) = key_sets(alloc, keys.as_bytes()) else {
-        return Err(AllocError);
-    };
     let disk = MemDisk::new(alloc, 100_000, 4000)?;
     match Peer::open(alloc, disk, game, me, 7) {
-        Ok(peer) => Ok(Session::new(peer, game, keys, None, 0)),
+        Ok(peer) => Ok(Session::new(peer, game, None, 0)),
         Err(_) => Err(AllocError),
+    }
+}
+
+/// The key sets of key lines, one a tick. After the last one no key is held.
+#[derive(Drop)]
+pub(crate) struct Hand {
+    sets: Vec<Keys>,
+    taken: usize,
+}
+
+impl Hand {
+    /// Reads key lines. Any fault is the error.
+    fn of(alloc: Global, lines: &str) -> Result<Hand, AllocError> {
+        match key_sets(alloc, lines.as_bytes()) {
+            Ok(sets) => Ok(Hand { sets, taken: 0 }),
+            Err(_) => Err(AllocError),
+        }
+    }
+}
+
+impl KeySource for Hand {
+    fn next_keys(&mut self) -> Option<Keys> {
+        Some(self.sets.get(self.taken).copied().unwrap_or_default())
+    }
+
+    fn taken(&mut self) {
+        self.taken = self.taken.saturating_add(1);
     }
 }
 
@@ -101,10 +126,12 @@ impl<'g, W: Wire + Drop> Side<'g, W> {
         keys: &str,
         wire: W,
     ) -> Result<Side<'g, W>, AllocError> {
-        let session = session_of(alloc, game, number, keys)?;
+        let session = session_of(alloc, game, number)?;
+        let hand = Hand::of(alloc, keys)?;
         let (board, pen, viewer) = opened(alloc, game, session.peer())?;
         Ok(Side {
             session,
+            hand,
             wire,
             board,
             pen,
@@ -121,6 +148,7 @@ impl<'g, W: Wire + Drop> Side<'g, W> {
     pub(crate) fn work<G: Gate>(self, turns: u64, gate: &G) -> Outcome {
         let Side {
             mut session,
+            mut hand,
             mut wire,
             board,
             mut pen,
@@ -129,6 +157,7 @@ impl<'g, W: Wire + Drop> Side<'g, W> {
         let counters = Counters::new();
         let made = game_worker(
             &mut session,
+            &mut hand,
             &mut wire,
             &board,
             &mut pen,

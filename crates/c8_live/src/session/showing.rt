@@ -4,10 +4,9 @@ ghost use Rattle.std.specs.Prelude.{◌≡◌};
 ghost use Rattle.c8_live.specs.Turns.{HasSpoken};
 
 use super::Session;
-use crate::error::WireFailed;
 use crate::laws::sayings_join;
-use crate::wire::Wire;
 use c8_disk::Disk;
+use c8_transport::{Wire, WireFailed};
 use c8_wire::{LONGEST_DATAGRAM, Seat, Watcher};
 
 /// Which watcher seats are taken.

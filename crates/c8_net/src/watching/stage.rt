@@ -8,8 +8,8 @@ use super::drawing::Drawing;
 use crate::pace::Pace;
 use crate::stage::Onlooker;
 use c8_board::{Board, Pen, Viewer};
-use c8_live::{Wire, WireFailed, Worker};
 use c8_spectator::Spectator;
+use c8_transport::{Wire, WireFailed, Worker};
 use c8_watch::{open_watch_board, watch_worker};
 use std::alloc::{AllocError, Global};
 use std::io::Write;
@@ -31,6 +31,10 @@ pub(super) struct Stage {
     ghost watches: { viewer.board ≡ board },
 }
 
+/// The system starts no thread.
+#[derive(Clone, Copy)]
+pub(super) struct NoThread;
+
 /// What the two threads share.
 #[derive(Drop)]
 struct Shared<'r, R> {
@@ -51,7 +55,7 @@ impl Stage {
     }
 
     /// Watches over a wire, until it has every row, its turns are made, the viewer has asked for the end, or the wire
-    /// fails. Both threads are then joined.
+    /// fails. Both threads are then joined. If the system starts no thread, no turn is made.
     pub(super) fn watch<'g, R, W, O>(
         self,
         rt: &R,
@@ -59,30 +63,41 @@ impl Stage {
         spectator: Spectator<'g>,
         wire: W,
         out: &mut O,
-    ) -> (Spectator<'g>, Result<u64, WireFailed>)
+    ) -> Result<(Spectator<'g>, Result<u64, WireFailed>), NoThread>
     where
         R: Clock + Threads + Wait + Sync,
         W: Wire + Drop,
         O: Write,
         requires { MayShow spectator self.pen }
-        ensures { (n : ℕ) × (last : W) × n ≤ asked.now.turns × IfOk result.1 (λ made. made ≡ n)
-            × AreTurns W.Wire n spectator.entry result.0 wire last }
+        ensures { IfOk result (λ r. (n : ℕ) × (last : W) × n ≤ asked.now.turns × IfOk r.1 (λ made. made ≡ n)
+            × AreTurns W.Wire n spectator.entry r.0 wire last) }
     {
         let Stage { board, pen, viewer } = self;
         let shared = Shared {
             board,
-            pace: Pace::new(rt),
+            pace: Pace::new(rt, None),
         };
         let onlooker = Onlooker {
             board: &shared.board,
             viewer,
         };
-        let ((), ended) = thread::join(
+        let common = &shared;
+        thread::scope(
+            thread::scope_env(),
             rt,
-            || look_on(rt, asked.stop, onlooker, &shared.pace),
-            || make_turns(rt, asked, spectator, wire, pen, out, &shared),
-        );
-        ended
+            |scope| -> Result<(Spectator<'_>, Result<u64, WireFailed>), NoThread>
+                requires board { pen.board ≡ common.now.board }
+                requires shows { MayShow spectator pen }
+                ensures { IfOk result (λ r. (n : ℕ) × (last : W) × n ≤ asked.entry.now.turns
+                    × IfOk r.1 (λ made. made ≡ n) × AreTurns W.Wire n spectator.entry r.0 wire last) }
+            {
+                let viewer = scope.spawn(move || look_on(rt, asked.stop, onlooker, &common.pace));
+                if viewer.is_err() {
+                    return Err(NoThread);
+                }
+                Ok(make_turns(rt, asked, spectator, wire, pen, out, common))
+            },
+        )
     }
 }
 

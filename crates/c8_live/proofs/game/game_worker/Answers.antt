@@ -1,4 +1,4 @@
-use Rattle.std.proofs.Common.{◌≡◌, ◌+◌, List, ap, subst, sym, ◌∙◌}
+use Rattle.std.proofs.Common.{◌≡◌, ◌+◌, length, List, ap, subst, sym, ◌∙◌}
 use Rattle.std.proofs.lemmas.Result.{err_from_is_err_and}
 use Rattle.c8_game.specs.declared.row.Row.{Row}
 use Rattle.c8_board.specs.Starts.{origin_from}
@@ -18,52 +18,53 @@ shown_rows pen rows early is begins = subst (λ (l : List Row). Begins early l) 
 show_again : (first old new : PenValue) (one two : List Row) → old ≡ record first { rows = one } → new ≡ record old { rows = two } → new ≡ record first { rows = two }
 show_again first old new one two shown again = again ∙ ap (λ (pen : PenValue). record pen { rows = two }) shown
 
-pub returns-in_err-turn-clause-turns : goal.returns-in_err-turn-clause-turns
-returns-in_err-turn-clause-turns g c = (
+pub returns-in_err-turn_with-clause-turns : goal.returns-in_err-turn_with-clause-turns
+returns-in_err-turn_with-clause-turns g c = (
   c.loop-turn.turn + 1,
-  c.turns_join.ensures.more c.loop-turn.turn c.args.session.now.peer c.loop-turn.session.peer c.turn.new.self.peer c.args.wire.now c.loop-turn.wire c.turn.new.wire c.loop-turn.invariant.turns c.in_err-turn.ensures.turn,
+  c.turns_join.ensures.more c.loop-turn.turn c.args.session.now.peer c.loop-turn.session.peer c.turn_with.new.session.peer c.args.wire.now c.loop-turn.wire c.turn_with.new.wire c.loop-turn.invariant.turns c.in_err-turn_with.ensures.turn,
 )
 
-pub returns-in_err-turn-clause-end : goal.returns-in_err-turn-clause-end
-returns-in_err-turn-clause-end g c =
+pub returns-in_err-turn_with-clause-end : goal.returns-in_err-turn_with-clause-end
+returns-in_err-turn_with-clause-end g c =
     let error = err_from_is_err_and c.from_residual.result c.from_residual.ensures.1 in
     rw (error.1, error.2)
-    (c.peers_run_on.ensures.ended c.args.session.now.peer c.loop-turn.session.peer c.turn.new.self.peer c.in_err-turn.field-0.0 c.loop-turn.invariant.ran c.in_err-turn.ensures.end)
+    (c.peers_run_on.ensures.ended c.args.session.now.peer c.loop-turn.session.peer c.turn_with.new.session.peer c.in_err-turn_with.field-0.0 c.loop-turn.invariant.ran c.in_err-turn_with.ensures.end)
 
-pub returns-in_err-turn-clause-begins : goal.returns-in_err-turn-clause-begins
-returns-in_err-turn-clause-begins g c =
+pub returns-in_err-turn_with-clause-begins : goal.returns-in_err-turn_with-clause-begins
+returns-in_err-turn_with-clause-begins g c =
     shown_rows c.stop_asked.new.pen (confirmed_rows (known_by c.loop-turn.session.peer)) c.args.pen.now.rows
     (ap (λ (pen : PenValue). pen.rows) (c.stop_asked.ensures ∙ c.loop-turn.invariant.shown)) c.loop-turn.invariant.begins
 
-pub publish-requires-in-loop-turn-clause-rows : goal.publish-requires-in-loop-turn-clause-rows
-publish-requires-in-loop-turn-clause-rows g c =
+pub publish_more-published-requires-clause-rows : goal.publish_more-published-requires-clause-rows
+publish_more-published-requires-clause-rows g c =
     subst (λ (peer : PeerValue g.row.D.Denot). Begins c.stop_asked.new.pen.rows (confirmed_rows (known_by peer))) (sym c.peer-in-loop-turn.ensures)
-    (subst (λ (rows : List Row). Begins rows (confirmed_rows (known_by c.turn.new.self.peer)))
+    (subst (λ (rows : List Row). Begins rows (confirmed_rows (known_by c.turn_with.new.session.peer)))
     (sym (ap (λ (pen : PenValue). pen.rows) (c.stop_asked.ensures ∙ c.loop-turn.invariant.shown)))
-    (c.confirmed_rows_grow.ensures c.loop-turn.session.peer c.turn.new.self.peer c.loop-turn.invariant.sound c.in_ok-turn.ensures.ran))
+    (c.confirmed_rows_grow.ensures c.loop-turn.session.peer c.turn_with.new.session.peer c.loop-turn.invariant.sound c.in_ok-turn_with.ensures.ran))
 
 -- where the run of a pen begins that shows other rows
 still_from : (first old new : PenValue) (rows : List Row) → old ≡ record first { rows = rows } → new ≡ old → new.from ≡ first.from
 still_from first old new rows shown same = ap (λ (pen : PenValue). pen.from) (same ∙ shown)
 
-pub publish-requires-in-loop-turn-clause-from : goal.publish-requires-in-loop-turn-clause-from
-publish-requires-in-loop-turn-clause-from g c =
+pub publish_more-published-requires-clause-from : goal.publish_more-published-requires-clause-from
+publish_more-published-requires-clause-from g c =
     ap origin_from (still_from c.args.pen.now c.loop-turn.pen c.stop_asked.new.pen (confirmed_rows (known_by c.loop-turn.session.peer)) c.loop-turn.invariant.shown c.stop_asked.ensures)
     ∙ c.requires.from ∙ sym c.loop-turn.invariant.begun
-    ∙ sym (c.machines_begin_where_they_did.ensures c.loop-turn.session.peer c.turn.new.self.peer c.loop-turn.invariant.sound c.in_ok-turn.ensures.ran)
+    ∙ sym (c.machines_begin_where_they_did.ensures c.loop-turn.session.peer c.turn_with.new.session.peer c.loop-turn.invariant.sound c.in_ok-turn_with.ensures.ran)
     ∙ ap begun_by (sym c.peer-in-loop-turn.ensures)
 
 pub loop-turn-preserved : goal.loop-turn-preserved
 loop-turn-preserved g c = record {
-  turns = c.turns_join.ensures.more c.loop-turn.turn c.args.session.now.peer c.loop-turn.session.peer c.turn.new.self.peer c.args.wire.now c.loop-turn.wire c.turn.new.wire c.loop-turn.invariant.turns c.in_ok-turn.ensures.turn;
-  ran = c.peers_run_on.ensures.joined c.args.session.now.peer c.loop-turn.session.peer c.turn.new.self.peer c.loop-turn.invariant.ran c.in_ok-turn.ensures.ran;
-  sound = subst (IsSound g.D.Disk) c.peer-in-loop-turn.ensures c.publish-in-loop-turn.ensures.sound;
-  begun = c.machines_begin_where_they_did.ensures c.loop-turn.session.peer c.turn.new.self.peer c.loop-turn.invariant.sound c.in_ok-turn.ensures.ran ∙ c.loop-turn.invariant.begun;
-  shown = subst (λ (peer : PeerValue g.row.D.Denot). IsShown peer c.args.pen.now c.publish-in-loop-turn.new.pen) c.peer-in-loop-turn.ensures
-      (show_again c.args.pen.now c.stop_asked.new.pen c.publish-in-loop-turn.new.pen (confirmed_rows (known_by c.loop-turn.session.peer)) (confirmed_rows (known_by c.peer-in-loop-turn.result.now))
-      (c.stop_asked.ensures ∙ c.loop-turn.invariant.shown) c.publish-in-loop-turn.ensures.shown);
-  begins = begins_then c.args.pen.now.rows (confirmed_rows (known_by c.loop-turn.session.peer)) (confirmed_rows (known_by c.turn.new.self.peer)) c.loop-turn.invariant.begins
-      (c.confirmed_rows_grow.ensures c.loop-turn.session.peer c.turn.new.self.peer c.loop-turn.invariant.sound c.in_ok-turn.ensures.ran);
+  turns = c.turns_join.ensures.more c.loop-turn.turn c.args.session.now.peer c.loop-turn.session.peer c.turn_with.new.session.peer c.args.wire.now c.loop-turn.wire c.turn_with.new.wire c.loop-turn.invariant.turns c.in_ok-turn_with.ensures.turn;
+  published = c.publish_more-published.ensures.published;
+  ran = c.peers_run_on.ensures.joined c.args.session.now.peer c.loop-turn.session.peer c.turn_with.new.session.peer c.loop-turn.invariant.ran c.in_ok-turn_with.ensures.ran;
+  sound = subst (IsSound g.D.Disk) c.peer-in-loop-turn.ensures c.publish_more-published.ensures.sound;
+  begun = c.machines_begin_where_they_did.ensures c.loop-turn.session.peer c.turn_with.new.session.peer c.loop-turn.invariant.sound c.in_ok-turn_with.ensures.ran ∙ c.loop-turn.invariant.begun;
+  shown = subst (λ (peer : PeerValue g.row.D.Denot). IsShown peer c.args.pen.now c.publish_more-published.new.pen) c.peer-in-loop-turn.ensures
+      (show_again c.args.pen.now c.stop_asked.new.pen c.publish_more-published.new.pen (confirmed_rows (known_by c.loop-turn.session.peer)) (confirmed_rows (known_by c.peer-in-loop-turn.result.now))
+      (c.stop_asked.ensures ∙ c.loop-turn.invariant.shown) c.publish_more-published.ensures.shown);
+  begins = begins_then c.args.pen.now.rows (confirmed_rows (known_by c.loop-turn.session.peer)) (confirmed_rows (known_by c.turn_with.new.session.peer)) c.loop-turn.invariant.begins
+      (c.confirmed_rows_grow.ensures c.loop-turn.session.peer c.turn_with.new.session.peer c.loop-turn.invariant.sound c.in_ok-turn_with.ensures.ran);
 }
 
 pub returns-after-loop-turn-clause-begins : goal.returns-after-loop-turn-clause-begins
@@ -79,3 +80,6 @@ returns-then-is_over-clause-begins g c =
       | then-is_over-via-else-is_over+else-stop_asked+then-not-before w ↦ ap (λ (pen : PenValue). pen.rows) (w.pen-is ∙ w.stop_asked.ensures ∙ c.loop-turn.invariant.shown)
     ])
     c.loop-turn.invariant.begins
+
+pub publish_more-published-requires-clause-published : goal.publish_more-published-requires-clause-published
+publish_more-published-requires-clause-published g c = c.loop-turn.invariant.published ∙ ap (λ (pen : PenValue). length pen.rows) (sym c.stop_asked.ensures)

@@ -1,4 +1,4 @@
-use Rattle.std.specs.Prelude.{◌≡◌}
+use Rattle.std.specs.Prelude.{◌≡◌, length}
 use Rattle.c8_board.specs.Tokens.{Begins}
 use Rattle.c8_known.specs.Confirmed.{confirmed_rows}
 use Rattle.c8_peer.specs.Peer.{known_by, begun_by, IsSound}
@@ -13,6 +13,7 @@ invariant-loop-turn g l = record {
   ran : HasRunOn g.D.Disk l.initial.session.peer l.session.peer;
   sound : IsSound g.D.Disk l.session.peer;
   begun : begun_by l.session.peer ≡ begun_by l.initial.session.peer;
+  published : l.published ≡ length l.pen.rows;
   shown : IsShown l.session.peer l.fn.pen l.pen;
   begins : Begins l.fn.pen.rows (confirmed_rows (known_by l.session.peer));
 }

@@ -1,5 +1,6 @@
-use Rattle.std.proofs.Common.{refl, sym, ap, ◌∙◌, arith}
+use Rattle.std.proofs.Common.{length, refl, sym, ap, ◌∙◌, arith}
 use Rattle.std.proofs.lemmas.List.FromFn.{length-map-range_with_len}
+use Rattle.c8_board.specs.Tokens.{PenValue}
 use Rattle.c8_game.specs.Rules.{Rules}
 use Rattle.c8_digest.specs.Origin.{Origin, run_since}
 use Rattle.c8_known.specs.Confirmed.{row, confirmed, confirmed_rows}
@@ -35,3 +36,8 @@ show-requires g c κs within =
         ),
       ),
     )
+
+pub returns-clause-published : goal.returns-clause-published
+returns-clause-published g c =
+    c.base-count.ensures.confirmed ∙ sym (length-map-range_with_len (row (known_by c.args.peer.now)) 0 (confirmed (known_by c.args.peer.now)))
+    ∙ ap (λ (pen : PenValue). length pen.rows) (sym c.show.ensures)

@@ -1,5 +1,5 @@
 use Rattle.std.proofs.lemmas.Result.{err_from_is_err_and}
-use Rattle.c8_live.specs.Turns.{most_packets}
+use Rattle.c8_transport.specs.Wire.{most_packets}
 use Rattle.c8_play.proofs.FrameLemmas.{waited_more}
 use Rattle.c8_play.proofs.live.wait.Goals as goal
 

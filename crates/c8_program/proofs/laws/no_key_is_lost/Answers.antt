@@ -1,0 +1,5 @@
+use Rattle.c8_program.proofs.KeyLemmas.{key_kept}
+use Rattle.c8_program.proofs.laws.no_key_is_lost.Goals as goal
+
+pub returns : goal.returns
+returns c = key_kept

@@ -1,0 +1,7 @@
+use Rattle.std.proofs.Common.{refl}
+use Rattle.c8_program.specs.Asked.{masks_of}
+use Rattle.c8_program.proofs.KeyLemmas.{shared_found, shared_told}
+use Rattle.c8_program.proofs.laws.shared_keys.Goals as goal
+
+pub returns : goal.returns
+returns c = λ settings. (shared_found (masks_of settings), shared_told (masks_of settings) refl)

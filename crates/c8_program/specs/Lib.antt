@@ -1,0 +1,6 @@
+pub mod Asked
+pub mod Errors
+pub mod Faults
+pub mod KeyLists
+pub mod Outcomes
+pub mod checked

@@ -1,0 +1,4 @@
+pub mod Errors
+pub mod Journal
+pub mod KeyText
+pub mod Replay

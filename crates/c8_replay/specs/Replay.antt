@@ -1,0 +1,87 @@
+-- What `replay` answers to the text of a game and the bytes of a journal.
+use Rattle.std.specs.Prelude.{◌≡◌, ◌⊎◌, ◌<◌, ◌≤◌, ℕ, List, length, Option, Some, None, Result, Ok, Err}
+use Rattle.std.specs.Io.KnownBytes.{Appends}
+use Rattle.c8_command.specs.declared.status.Status.{Status}
+use Rattle.c8_command.specs.declared.status.Status.TheVariants.{Done, Refused}
+use Rattle.c8_game.specs.GameFaults.{IsRefused}
+use Rattle.c8_game.specs.GameText.{Spells}
+use Rattle.c8_game.specs.Rules.{Rules}
+use Rattle.c8_game.specs.declared.error.GameError.{GameError}
+use Rattle.c8_game.specs.declared.error.GameError.TheVariants as games
+use Rattle.c8_game.specs.declared.row.Row.{Row}
+use Rattle.c8_keys.specs.declared.lines.Played.{Played}
+use Rattle.c8_known.specs.Confirmed.{confirmed, rows_below}
+use Rattle.c8_known.specs.Known.{KnownValue}
+use Rattle.c8_log.specs.Slots.{kept}
+use Rattle.c8_machine.specs.Serial.{serial}
+use Rattle.c8_machine.specs.State.{state}
+use Rattle.c8_replay.specs.Journal.{IsJournalOf, IsRefusalOfJournal}
+use Rattle.c8_replay.specs.KeyText.{keys_text, SpellRows}
+use Rattle.c8_replay.specs.declared.arguments.Form.{Form}
+use Rattle.c8_replay.specs.declared.arguments.Form.TheVariants as forms
+use Rattle.c8_replay.specs.declared.arguments.Wish.{Wish}
+use Rattle.c8_replay.specs.declared.error.ReplayFault.{ReplayFault}
+use Rattle.c8_replay.specs.declared.error.ReplayFault.TheVariants.{Game, Journal, Beyond}
+use Rattle.c8_replay.specs.declared.showing.Shown.{Shown}
+use Rattle.c8_replay.specs.declared.showing.Shown.TheVariants.{Report, Keys, Page}
+
+-- how many of the confirmed frames are shown: all, or as many as are asked for
+abbrev pub IsFrames : ℕ → Option ℕ → ℕ → Type 0
+IsFrames confirmed None frames = frames ≡ confirmed
+IsFrames confirmed (Some to) frames = (frames ≡ to) × (to ≤ confirmed)
+
+-- more are asked for than are confirmed
+abbrev pub IsBeyond : ℕ → Option ℕ → ℕ → Type 0
+IsBeyond confirmed None count = ⊥
+IsBeyond confirmed (Some to) count = (count ≡ confirmed) × (confirmed < to)
+
+-- the machine is that of the serial run of these rows
+pub record IsRunOfRows (rules : Rules) (rows : List Row) (played : Played) : Type 0 where
+  pub frames : played.frames ≡ length rows
+  pub machine : state played.machine ≡ serial rules rows
+
+-- In the form that is asked for: the serial run of the rows; or the rows as key lines, which spell them. Nothing is said of
+-- what a page has besides the run.
+abbrev pub IsShown : Rules → Form → List Row → Shown → Type 0
+IsShown rules form rows (Report played) = (form ≡ forms.Report) × IsRunOfRows rules rows played
+IsShown rules form rows (Keys text) = (form ≡ forms.Keys) × (text.items ≡ keys_text rules.players rows) × SpellRows rules text.items rows
+IsShown rules form rows (Page played page) = (form ≡ forms.Page) × IsRunOfRows rules rows played
+
+-- The image keeps a journal, and this is shown of its first confirmed rows.
+pub record IsShownOf (rules : Rules) (image : List ℕ) (wish : Wish) (shown : Shown) : Type 0 where
+  pub known : KnownValue
+  pub journal : IsJournalOf rules wish.room (kept image) known
+  pub frames : ℕ
+  pub frames_is : IsFrames (confirmed known) wish.to frames
+  pub shown_is : IsShown rules wish.form (rows_below known frames) shown
+
+-- for a game that was read, or why it was not: what is shown of the journal, or why it is refused, or too few frames
+abbrev pub IsOutcomeOfRead : Result Rules GameError → List ℕ → Wish → Result Shown ReplayFault → Type 0
+IsOutcomeOfRead (Err error) image wish outcome = outcome ≡ Err (Game error)
+IsOutcomeOfRead (Ok rules) image wish (Ok shown) = IsShownOf rules image wish shown
+IsOutcomeOfRead (Ok rules) image wish (Err (Game error)) = ⊥
+IsOutcomeOfRead (Ok rules) image wish (Err (Journal error)) = IsRefusalOfJournal rules wish.room (kept image) error
+IsOutcomeOfRead (Ok rules) image wish (Err (Beyond count)) =
+    (known : KnownValue) × IsJournalOf rules wish.room (kept image) known × IsBeyond (confirmed known) wish.to count
+
+-- The text spells a game, and this is the outcome for it; or this is the text's first fault, or memory ran out.
+abbrev pub IsOutcome : List ℕ → List ℕ → Wish → Result Shown ReplayFault → Type 0
+IsOutcome game image wish outcome =
+    ((rules : Rules) × Spells game rules × IsOutcomeOfRead (Ok rules) image wish outcome)
+    ⊎ ((error : GameError) × ((error ≡ games.Memory) ⊎ IsRefused game error) × (outcome ≡ Err (Game error)))
+
+-- the command is done, and the key lines are written, if they are shown
+abbrev pub IsPrinted : Shown → Option (List ℕ) → Option (List ℕ) → Status → Type 0
+IsPrinted (Report played) old new status = status ≡ Done
+IsPrinted (Keys text) old new status = (status ≡ Done) × Appends old new text.items
+IsPrinted (Page played page) old new status = status ≡ Done
+
+-- what is shown is printed; a refusal leaves the output as it was
+abbrev pub IsTold : Result Shown ReplayFault → Option (List ℕ) → Option (List ℕ) → Status → Type 0
+IsTold (Ok shown) old new status = IsPrinted shown old new status
+IsTold (Err fault) old new status = (status ≡ Refused) × (new ≡ old)
+
+-- the command ends with such an outcome
+abbrev pub HasReplayed : List ℕ → List ℕ → Wish → Option (List ℕ) → Option (List ℕ) → Status → Type 0
+HasReplayed game image wish old new status =
+    (outcome : Result Shown ReplayFault) × IsOutcome game image wish outcome × IsTold outcome old new status

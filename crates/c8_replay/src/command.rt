@@ -1,0 +1,182 @@
+//! `c8play replay`: shows the match that a journal confirms.
+
+ghost use Rattle.std.specs.Prelude.{◌≡◌, IfOk};
+ghost use Rattle.c8_command.specs.declared.status.Status.TheVariants as statuses;
+ghost use Rattle.c8_replay.specs.Replay.{HasReplayed, IsPrinted};
+
+use crate::arguments::{Asked, asked_of};
+use crate::error::{JournalError, ReplayFault};
+use crate::image::read_image;
+use crate::screening::screen_journal;
+use crate::showing::{Shown, show_journal};
+use c8_command::{Refusal, Site, Status, Text, TextsError, both, read_file};
+use c8_game::GameError;
+use c8_keys::{game_site, write_report};
+use c8_play::Terminal;
+use clap::ArgMatches;
+use std::alloc::Global;
+use std::fs::File;
+use std::io::Write;
+use std::net::Net;
+use std::rt::Files;
+use std::time::Clock;
+use std::{fs, io};
+
+/// Reads the files of the command line, and shows the journal, as `replay` does with their bytes. If a file cannot be
+/// read, the refusal is the disk's, whatever the other file says. The error is a writer's.
+pub fn replay_given<R, W: Write, E: Write>(
+    rt: &R,
+    given: &ArgMatches<'_>,
+    out: &mut W,
+    refused: &mut E,
+) -> io::Result<Status>
+where
+    R: Files<File = File> + Net + Clock + AllocGlobal,
+{
+    let asked = asked_of(given);
+    match both(read_file(rt, asked.game), read_image(rt, asked.journal)) {
+        Ok((text, image)) => replay_files(rt, &asked, &text, &image, out, refused),
+        Err(error) => refuse_files(&asked, error, refused),
+    }
+}
+
+/// Does the same with the bytes of the files, and writes the page, if one is asked for.
+fn replay_files<R, W: Write, E: Write>(
+    rt: &R,
+    asked: &Asked<'_>,
+    game: &[u8],
+    image: &[u8],
+    out: &mut W,
+    refused: &mut E,
+) -> io::Result<Status>
+where
+    R: Files<File = File> + Net + Clock + AllocGlobal,
+{
+    if let Some(rate) = asked.screen {
+        return screen_files(rt, asked, rate, game, image, out, refused);
+    }
+    let Some(path) = asked.page else {
+        return replay(rt.alloc(), asked, game, image, out, refused);
+    };
+    let shown = match show_journal(rt.alloc(), game, image, &asked.wish) {
+        Ok(shown) => shown,
+        Err(fault) => return refuse(rt.alloc(), asked, game, fault, refused),
+    };
+    if let Shown::Page(_, page) = &shown
+        && !is_written(rt, asked, path, page)
+    {
+        let site = asked.explain.then_some(Site::File(path));
+        return Refusal::DISK.tell_at(site, &"a file that cannot be written", refused);
+    }
+    print(shown, out)
+}
+
+/// Shows the match in the terminal of the process, and then prints the report. Without a terminal it refuses the command
+/// line.
+fn screen_files<R, W: Write, E: Write>(
+    rt: &R,
+    asked: &Asked<'_>,
+    rate: u8,
+    game: &[u8],
+    image: &[u8],
+    out: &mut W,
+    refused: &mut E,
+) -> io::Result<Status>
+where
+    R: Files<File = File> + Net + Clock + AllocGlobal,
+{
+    let Ok(console) = Terminal::open(rt) else {
+        writeln!(refused, "error: --screen wants a terminal")?;
+        return Ok(Status::CommandLine);
+    };
+    match screen_journal(rt.alloc(), game, image, &asked.wish, rate.max(1), console) {
+        Ok(()) => replay(rt.alloc(), asked, game, image, out, refused),
+        Err(fault) => refuse(rt.alloc(), asked, game, fault, refused),
+    }
+}
+
+/// Writes a page to its file. A page in the file of the game or of the journal is not written.
+fn is_written<R: Files + AllocGlobal>(rt: &R, asked: &Asked<'_>, path: &str, page: &[u8]) -> bool {
+    path != asked.game && path != asked.journal && fs::write(rt, path, page).is_ok()
+}
+
+/// Writes why the two files were not read.
+fn refuse_files<E: Write>(
+    asked: &Asked<'_>,
+    error: TextsError,
+    refused: &mut E,
+) -> io::Result<Status> {
+    let site = asked
+        .explain
+        .then_some(error.site(asked.game, asked.journal));
+    match error {
+        TextsError::FirstFailed => Refusal::DISK.tell_at(site, &error, refused),
+        TextsError::SecondFailed => {
+            let sentence = "a file that cannot be read, or has more than 1073741824 bytes";
+            Refusal::DISK.tell_at(site, &sentence, refused)
+        }
+        TextsError::FirstMemory => ReplayFault::Game(GameError::Memory).tell_at(site, refused),
+        TextsError::SecondMemory => {
+            ReplayFault::Journal(JournalError::Memory).tell_at(site, refused)
+        }
+    }
+}
+
+/// Shows the journal that the bytes of an image keep, by the game that a text spells: writes the report of the machine, or
+/// the key lines, to `out`, and no page. A refusal is one line on `refused`, with a second one for `--explain`, and leaves `out` as it
+/// was. The error is a writer's.
+pub fn replay<W: Write, E: Write>(
+    alloc: Global,
+    asked: &Asked<'_>,
+    game: &[u8],
+    image: &[u8],
+    out: &mut W,
+    refused: &mut E,
+) -> io::Result<Status>
+    ensures { IfOk result
+        (HasReplayed game.now image.now asked.now.wish (W.contents out.old) (W.contents out.new)) }
+{
+    match show_journal(alloc, game, image, &asked.wish) {
+        Ok(shown) => print(shown, out),
+        Err(fault) => refuse(alloc, asked, game, fault, refused),
+    }
+}
+
+/// Writes why nothing is shown.
+fn refuse<E: Write>(
+    alloc: Global,
+    asked: &Asked<'_>,
+    game: &[u8],
+    fault: ReplayFault,
+    refused: &mut E,
+) -> io::Result<Status>
+    ensures { IfOk result (λ status. status ≡ statuses.Refused) }
+{
+    let site = asked.explain.then_some(site_of(alloc, asked, game, fault));
+    fault.tell_at(site, refused)
+}
+
+/// Writes what is shown; of a page, the report of its machine.
+fn print<W: Write>(shown: Shown, out: &mut W) -> io::Result<Status>
+    ensures { IfOk result (IsPrinted shown (W.contents out.old) (W.contents out.new)) }
+{
+    match shown {
+        Shown::Report(played) | Shown::Page(played, _) => {
+            write_report(out, played.frames, &played.machine)?
+        }
+        Shown::Keys(text) => out.write_all(&text)?,
+    }
+    Ok(Status::Done)
+}
+
+/// Where a fault is.
+fn site_of<'a>(alloc: Global, asked: &Asked<'a>, game: &'a [u8], fault: ReplayFault) -> Site<'a> {
+    match fault {
+        ReplayFault::Game(error) => {
+            let (file, bytes) = (asked.game, game);
+            game_site(alloc, Text { file, bytes }, error)
+        }
+        ReplayFault::Journal(JournalError::Memory) => Site::Nowhere,
+        ReplayFault::Journal(_) | ReplayFault::Beyond(_) => Site::File(asked.journal),
+    }
+}

@@ -1,0 +1,28 @@
+//! The command `replay`: reads the journal of a player, and shows the match that it confirms.
+//!
+//! [`show_journal`] is the command over values: it takes the text of a game and the bytes of a journal, and answers the machine
+//! after the confirmed frames, their rows as key lines, or a page that shows them. [`replay`] prints that;
+//! [`replay_given`] reads both files first. The definitions are in `specs/`: `Journal.antt` says which journal an image keeps and why it is refused,
+//! `KeyText.antt` how rows are printed, `Replay.antt` what the command answers. [`laws`] has what follows.
+#![tactic(auto)]
+
+mod arguments;
+mod command;
+mod error;
+mod help;
+mod image;
+mod journal;
+mod key_text;
+pub mod laws;
+mod page;
+mod page_text;
+mod screening;
+mod seat;
+mod showing;
+mod strokes;
+
+pub use arguments::{Asked, Form, Wish, replay_command};
+pub use command::{replay, replay_given};
+pub use error::{JournalError, ReplayFault, Unfit};
+pub use image::{LONGEST_IMAGE, image_of};
+pub use showing::{Shown, show_journal};

@@ -1,0 +1,126 @@
+//! The page that shows a match in a browser.
+
+ghost use Rattle.std.specs.Prelude.{◌≡◌, ◌≤◌, ◌<◌, IfOk, length};
+ghost use Rattle.c8_known.specs.Confirmed.{confirmed, rows_below};
+ghost use Rattle.c8_known.specs.Known.{IsOfGame};
+ghost use Rattle.c8_replay.specs.Replay.{IsRunOfRows};
+
+use crate::key_text::digits_of;
+use crate::page_text::{
+    AFTER_PICTURES, BEFORE_DROPS, BEFORE_KEYS, BEFORE_PICTURES, BEFORE_PLAYERS,
+};
+use c8_game::{Game, Keys, Player};
+use c8_keys::Played;
+use c8_known::Known;
+use c8_machine::Machine;
+use c8_screen::{HEIGHT, Screen};
+use std::alloc::{AllocError, Global};
+use std::io::Write;
+
+/// How many bytes of a screen are a row of it.
+const ROW_BYTES: u8 = 8;
+
+/// Adds a page that shows the first confirmed rows: the key sets as entered, where players were dropped, and how each frame
+/// changes the screen. Answers the machine after the rows.
+pub(crate) fn add_page(
+    alloc: Global,
+    game: &Game,
+    known: &Known,
+    frames: u32,
+) -> Result<(Played, Vec<u8>), AllocError>
+    requires { frames ≤ confirmed known.now }
+    ensures { IfOk result (λ made. IsRunOfRows game.now (rows_below known.now frames) made.0) }
+{
+    let mut page = Vec::new(alloc);
+    page.extend_from_slice(BEFORE_PLAYERS.as_bytes())?;
+    page.push(b'0' + game.players())?;
+    page.extend_from_slice(BEFORE_DROPS.as_bytes())?;
+    add_drops(&mut page, known)?;
+    page.extend_from_slice(BEFORE_KEYS.as_bytes())?;
+    add_keys(&mut page, game, known, frames)?;
+    page.extend_from_slice(BEFORE_PICTURES.as_bytes())?;
+    let played = add_pictures(&mut page, game, known, frames)?;
+    page.extend_from_slice(AFTER_PICTURES.as_bytes())?;
+    Ok((played, page))
+}
+
+/// Adds a line for each player who was dropped: the player, and the first frame without its keys. Of the own player that is
+/// the frame after the confirmed ones.
+fn add_drops(page: &mut Vec<u8>, known: &Known) -> Result<(), AllocError> {
+    let (me, end) = (known.me(), known.confirmed());
+    for number in 1..known.players() + 1 {
+        let Some(player) = Player::new(number) else {
+            continue;
+        };
+        let cut = match known.cut_of(player) {
+            None if player == me && !me.is_chair() && known.leaving(me) => Some(end),
+            cut => cut,
+        };
+        if let Some(frame) = cut {
+            writeln!(page, "{player} {frame}").map_err(|_| AllocError)?;
+        }
+    }
+    Ok(())
+}
+
+/// Adds the key sets of the first confirmed rows.
+fn add_keys(page: &mut Vec<u8>, game: &Game, known: &Known, frames: u32) -> Result<(), AllocError>
+    requires { frames ≤ confirmed known.now }
+{
+    let players = usize::from(game.players());
+    for frame in 0..frames {
+        let row = known.row(frame);
+        add_sets(page, &row.sets[..players])?;
+    }
+    Ok(())
+}
+
+/// Adds four digits for each set.
+fn add_sets(page: &mut Vec<u8>, sets: &[Keys]) -> Result<(), AllocError> {
+    for set in sets {
+        page.extend_from_slice(&digits_of(*set))?;
+    }
+    Ok(())
+}
+
+/// Adds what each of the first confirmed rows changes of the screen. Answers the machine after them.
+fn add_pictures(
+    page: &mut Vec<u8>,
+    game: &Game,
+    known: &Known,
+    frames: u32,
+) -> Result<Played, AllocError>
+    requires { frames ≤ confirmed known.now }
+    ensures { IfOk result (IsRunOfRows game.now (rows_below known.now frames)) }
+{
+    let mut machine = Machine::start(game);
+    for frame in 0..frames {
+        let before = *machine.screen();
+        machine.frame(game, game.joined(&known.row(frame)));
+        add_changes(page, &before, machine.screen())?;
+    }
+    Ok(Played { frames, machine })
+}
+
+/// Adds the changes from one screen to another, and a comma.
+fn add_changes(page: &mut Vec<u8>, before: &Screen, after: &Screen) -> Result<(), AllocError> {
+    for y in 0..HEIGHT {
+        add_row(page, y, *before.row(y) ^ *after.row(y))?;
+    }
+    Ok(page.push(b',')?)
+}
+
+/// Adds the changes of a row of the screen, given the points that change.
+fn add_row(page: &mut Vec<u8>, y: u8, changed: u64) -> Result<(), AllocError>
+    requires { y < 32 }
+{
+    let bytes = changed.to_be_bytes();
+    for x in 0..ROW_BYTES {
+        let bits = bytes[usize::from(x)];
+        if bits != 0 {
+            let change = u16::from_be_bytes([ROW_BYTES * y + x, bits]);
+            page.extend_from_slice(&digits_of(Keys(change)))?;
+        }
+    }
+    Ok(())
+}

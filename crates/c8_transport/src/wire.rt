@@ -1,0 +1,56 @@
+//! The transport of datagrams between peers.
+
+ghost use Rattle.std.specs.Prelude.{◌≡◌, ◌≤◌, ℕ, List, length, IfOk, IfSome};
+ghost use Rattle.c8_transport.specs.Wire.{MayTake, Gives};
+
+use crate::error::WireFailed;
+use c8_wire::{LONGEST_DATAGRAM, Seat};
+use std::time::Duration;
+
+/// How many bytes of a packet are read at most: one more than the longest datagram, so that a longer packet is refused.
+pub const LONGEST_PACKET: usize = LONGEST_DATAGRAM + 1;
+
+/// How many packets one turn takes from a wire at most, so that a flood of them cannot stop it.
+pub const MOST_PACKETS: u16 = 256;
+
+/// What a wire has lost and turned away so far, as far as it counts.
+#[derive(Clone, Copy, Debug, Default, PartialEq, Eq)]
+pub struct Losses {
+    /// How many datagrams it lost: a queue was full, or the network reported an error that passes.
+    pub lost: u64,
+    /// How many packets came from elsewhere than a player or watcher of the match.
+    pub foreign: u64,
+}
+
+/// The way to the other players and to the watchers. It may lose, repeat or delay a datagram. No call but `wait` waits.
+pub trait Wire {
+    /// The datagrams that it took to send and did not lose at once, oldest first.
+    ghost sent: { Self → List (List ℕ) };
+
+    /// The packets that it gave, oldest first.
+    ghost received: { Self → List (List ℕ) };
+
+    /// Sends a datagram to a player or a watcher. `Ok` does not mean that it arrives.
+    fn send(&mut self, to: Seat, datagram: &[u8]) -> Result<(), WireFailed>
+        requires { length datagram.now ≤ LONGEST_DATAGRAM }
+        ensures sent { MayTake (sent self.old) datagram.now (sent self.new) }
+        ensures received { received self.new ≡ received self.old };
+
+    /// Takes the next packet that has come, from whatever sender, and returns its length; of a longer packet it gives
+    /// the first `LONGEST_PACKET` bytes. `None` if no packet waits.
+    fn receive(&mut self, packet: &mut [u8; LONGEST_PACKET]) -> Result<Option<usize>, WireFailed>
+        ensures within { IfOk result (λ next. IfSome next (λ size. size ≤ LONGEST_PACKET)) }
+        ensures received { Gives (received self.old) packet.new result (received self.new) }
+        ensures sent { sent self.new ≡ sent self.old };
+
+    /// Waits until a packet may have come, at most this long. A wire that cannot wait returns at once.
+    fn wait(&mut self, _most: Duration)
+        ensures received { received self.new ≡ received self.old }
+        ensures sent { sent self.new ≡ sent self.old }
+    {}
+
+    /// What it has lost and turned away so far.
+    fn losses(&self) -> Losses {
+        Losses::default()
+    }
+}

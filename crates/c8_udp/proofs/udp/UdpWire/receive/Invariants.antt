@@ -1,0 +1,8 @@
+use Rattle.std.proofs.Common.{◌≡◌}
+use Rattle.c8_udp.proofs.udp.UdpWire.receive.Given as goal
+
+abbrev pub invariant-loop : goal.invariant-loop
+invariant-loop g l = record {
+  sent : l.self.traffic.sent.items ≡ l.initial.self.traffic.sent.items;
+  received : l.self.traffic.received.items ≡ l.initial.self.traffic.received.items;
+}

@@ -1,0 +1,75 @@
+//! Why the other players cannot be reached.
+
+ghost use Rattle.std.specs.Prelude.{◌≡◌};
+ghost use Rattle.c8_udp.specs.Errors.{socket_error_number};
+
+use std::io;
+use std::io::ErrorKind;
+use thiserror::Error;
+
+/// Why the system refuses a socket.
+#[derive(Clone, Copy, Debug, PartialEq, Eq, Error)]
+pub enum SocketFault {
+    #[error("the own address is in use by another socket")]
+    InUse,
+    #[error("no interface of this machine has the own address")]
+    NotHere,
+    #[error("the system does not permit the own address; ports below 1024 are for the superuser")]
+    NotPermitted,
+    #[error("the socket was closed")]
+    Closed,
+    #[error("the system refuses the socket, by its error {0}")]
+    Other(i32),
+}
+
+impl SocketFault {
+    /// The fault of a socket that could not be opened with this error.
+    pub fn of(error: &io::Error) -> SocketFault {
+        match error.kind() {
+            ErrorKind::AddrInUse => SocketFault::InUse,
+            ErrorKind::AddrNotAvailable => SocketFault::NotHere,
+            ErrorKind::PermissionDenied => SocketFault::NotPermitted,
+            _ => SocketFault::Other(error.raw_os_error().unwrap_or(0)),
+        }
+    }
+}
+
+/// Why the other players cannot be reached.
+#[derive(Clone, Copy, Debug, PartialEq, Eq, Error)]
+pub enum SocketError {
+    /// The socket cannot be opened, or can no longer be used.
+    #[error("{0}")]
+    Failed(SocketFault),
+    #[error("more or fewer addresses than there are other players")]
+    Remotes,
+    /// An address cannot be read; or another player's or a watcher's cannot be reached from the own one.
+    #[error("not an address such as 127.0.0.1:4001, or one of port 0, or of another IP version than LOCAL")]
+    Address,
+    /// The system starts no thread that could move packets.
+    #[error("the system starts no more threads")]
+    Thread,
+}
+
+impl SocketError {
+    /// The number of the refusal.
+    pub fn number(self) -> u8
+        ensures { result ≡ socket_error_number self }
+    {
+        match self {
+            SocketError::Failed(_) => 1,
+            SocketError::Remotes => 2,
+            SocketError::Address => 3,
+            SocketError::Thread => 4,
+        }
+    }
+
+    /// The name of the refusal.
+    pub fn name(self) -> &'static str {
+        match self {
+            SocketError::Failed(_) => "Failed",
+            SocketError::Remotes => "Remotes",
+            SocketError::Address => "Address",
+            SocketError::Thread => "Thread",
+        }
+    }
+}

@@ -1,0 +1,76 @@
+//! A wire that can wait for packets.
+
+use crate::udp::Udp;
+use c8_transport::{LONGEST_PACKET, Losses, Wire, WireFailed};
+use c8_wire::Seat;
+use mio::event::Source;
+use mio::{Events, Interest, Poll, Token, Waker};
+use std::io;
+use std::net::Net;
+use std::time::Duration;
+
+/// The sources that a poll reports.
+const PACKETS: Token = Token(0);
+
+const RING: Token = Token(1);
+
+/// How many reports one poll makes at most; there are two sources.
+const MOST_EVENTS: usize = 2;
+
+/// A UDP wire whose `wait` ends when a packet comes, or when the bell rings.
+#[derive(Drop)]
+pub struct PolledUdp {
+    udp: Udp,
+    poll: Poll,
+    events: Events,
+}
+
+/// Ends the waiting of a [`PolledUdp`] from another thread.
+#[derive(Drop)]
+pub struct Bell {
+    waker: Waker,
+}
+
+impl Bell {
+    /// Ends the wait that is under way, or else the next one.
+    pub fn ring(&self) {
+        // If this fails, the wait ends when its time is up.
+        let _ = self.waker.wake();
+    }
+}
+
+impl PolledUdp {
+    /// Lets a wire wait, and returns its bell too. Fails if the system has no means of waiting, or if memory runs out
+    /// (`OutOfMemory`).
+    pub fn over<R: Net + AllocGlobal>(rt: &R, udp: Udp) -> io::Result<(PolledUdp, Bell)> {
+        let mut udp = udp;
+        let poll = Poll::new(rt)?;
+        let events = Events::with_capacity(rt.alloc(), MOST_EVENTS)?;
+        udp.register(poll.registry(), PACKETS, Interest::READABLE)?;
+        let waker = Waker::new(poll.registry(), RING)?;
+        Ok((PolledUdp { udp, poll, events }, Bell { waker }))
+    }
+}
+
+impl Wire for PolledUdp {
+    ghost sent = { λ it. it.udp.traffic.sent.items };
+
+    ghost received = { λ it. it.udp.traffic.received.items };
+
+    fn send(&mut self, to: Seat, datagram: &[u8]) -> Result<(), WireFailed> {
+        self.udp.send(to, datagram)
+    }
+
+    fn receive(&mut self, packet: &mut [u8; LONGEST_PACKET]) -> Result<Option<usize>, WireFailed> {
+        self.udp.receive(packet)
+    }
+
+    fn wait(&mut self, most: Duration) {
+        // If this fails, the wire waits for nothing.
+        let _ = self.poll.poll(&mut self.events, Some(most));
+    }
+
+    fn losses(&self) -> Losses {
+        self.udp.losses()
+    }
+}

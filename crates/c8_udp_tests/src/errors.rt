@@ -1,0 +1,141 @@
+//! Errors of the network, by a socket whose first call fails.
+use c8_game::Player;
+use c8_transport::{LONGEST_PACKET, Losses, Wire, WireFailed};
+use c8_udp::{Addresses, Socket, Udp};
+use c8_wire::Seat;
+use std::cell::Cell;
+use std::io;
+use std::net::{Ipv4Addr, SocketAddr};
+
+const TWO: Player = Player { number: 2 };
+
+/// A socket whose first call fails with an error of the system. Its second call succeeds: a packet of one byte has come
+/// from player 2. Later calls would wait.
+struct Failing {
+    number: i32,
+    calls: Cell<u8>,
+}
+
+impl Failing {
+    fn new(number: i32) -> Failing {
+        Failing {
+            number,
+            calls: Cell::new(0),
+        }
+    }
+
+    /// Counts a call, and returns how many came before it.
+    fn before(&self) -> u8 {
+        let before = self.calls.get();
+        self.calls.set(before.saturating_add(1));
+        before
+    }
+}
+
+fn two() -> SocketAddr {
+    SocketAddr::from((Ipv4Addr::LOCALHOST, 4002))
+}
+
+impl Socket for Failing {
+    fn send_to(&self, datagram: &[u8], _to: SocketAddr) -> io::Result<usize> {
+        match self.before() {
+            0 => Err(io::Error::from_raw_os_error(self.number)),
+            _ => Ok(datagram.len()),
+        }
+    }
+
+    fn recv_from(&self, packet: &mut [u8]) -> io::Result<(usize, SocketAddr)> {
+        match self.before() {
+            0 => Err(io::Error::from_raw_os_error(self.number)),
+            1 => match packet.first_mut() {
+                Some(first) => {
+                    *first = 7;
+                    Ok((1, two()))
+                }
+                None => Ok((0, two())),
+            },
+            _ => Err(io::Error::from_raw_os_error(libc::EAGAIN)),
+        }
+    }
+}
+
+fn wire_with(number: i32) -> Udp<Failing> {
+    let addresses = Addresses {
+        local: SocketAddr::from((Ipv4Addr::LOCALHOST, 4001)),
+        others: [None, Some(two()), None, None],
+        watchers: [None, None],
+    };
+    Udp::over(Failing::new(number), &addresses)
+}
+
+/// The errors that pass: interrupted, no memory, not permitted, the address gone, network down or unreachable, reset, no
+/// buffers, refused, host down or unreachable, and one that nobody knows.
+static PASSING: [i32; 13] = [4, 12, 1, 13, 99, 100, 101, 104, 105, 111, 112, 113, 4000];
+
+fn passing() -> &'static [i32] {
+    &PASSING
+}
+
+/// The errors of a socket that is gone: a bad descriptor, and no socket.
+static FATAL: [i32; 2] = [9, 88];
+
+fn fatal() -> &'static [i32] {
+    &FATAL
+}
+
+const LOST: Losses = Losses {
+    lost: 1,
+    foreign: 0,
+};
+
+/// Whether the error is a lost datagram when sending, and the next datagram goes.
+fn passes_sending(number: i32) -> bool {
+    let mut wire = wire_with(number);
+    wire.send(Seat::from(TWO), b"datagram").is_ok()
+        && wire.losses() == LOST
+        && wire.send(Seat::from(TWO), b"datagram").is_ok()
+        && wire.losses() == LOST
+}
+
+/// Whether the error is a lost datagram when receiving, and the packet behind it comes.
+fn passes_receiving(number: i32) -> bool {
+    let mut wire = wire_with(number);
+    let mut packet = [0; LONGEST_PACKET];
+    wire.receive(&mut packet) == Ok(Some(1))
+        && packet.starts_with(&[7, 0])
+        && wire.losses() == LOST
+        && wire.receive(&mut packet) == Ok(None)
+        && wire.losses() == LOST
+}
+
+/// Whether the error ends sending and receiving.
+fn ends(number: i32) -> bool {
+    let mut packet = [0; LONGEST_PACKET];
+    wire_with(number).send(Seat::from(TWO), b"datagram") == Err(WireFailed)
+        && wire_with(number).receive(&mut packet) == Err(WireFailed)
+}
+
+#[test]
+fn errors_of_the_network_pass(rt: HostRuntime) {
+    for number in passing() {
+        assert!(rt;
+            passes_sending(*number) && passes_receiving(*number),
+            "error {number}"
+        );
+    }
+}
+
+/// No room to send is a loss too; when receiving it says that nothing has come.
+#[test]
+fn a_call_that_would_wait_is_no_fault(rt: HostRuntime) {
+    let mut packet = [0; LONGEST_PACKET];
+    assert!(rt; passes_sending(libc::EAGAIN));
+    assert!(rt; wire_with(libc::EAGAIN).receive(&mut packet) == Ok(None));
+}
+
+#[test]
+fn a_closed_socket_ends_the_wire(rt: HostRuntime) {
+    for number in fatal() {
+        assert!(rt; ends(*number), "error {number}");
+    }
+}
