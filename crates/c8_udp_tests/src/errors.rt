@@ -9,8 +9,47 @@ use std::net::{Ipv4Addr, SocketAddr};
 
 const TWO: Player = Player { number: 2 };
 
+/// A socket at which a packet of one byte has come from an address that is IPv4 mapped into IPv6.
+#[derive(Drop)]
+struct Mapped {
+    from: SocketAddr,
+}
+
+impl Socket for Mapped {
+    fn send_to(&self, datagram: &[u8], _to: SocketAddr) -> io::Result<usize> {
+        Ok(datagram.len())
+    }
+
+    fn recv_from(&self, packet: &mut [u8]) -> io::Result<(usize, SocketAddr)> {
+        match packet.first_mut() {
+            Some(first) => {
+                *first = 7;
+                Ok((1, self.from))
+            }
+            None => Ok((0, self.from)),
+        }
+    }
+}
+
+/// Whether player 1, who knows player 2 by an IPv4 address, hears a packet from an address.
+fn hears(from: SocketAddr) -> bool {
+    let mut wire = Udp::over(Mapped { from }, &addresses());
+    let mut packet = [0; LONGEST_PACKET];
+    wire.receive(&mut packet) == Ok(Some(1))
+}
+
+/// The host and the port count, and nothing else.
+#[test]
+fn a_mapped_address_counts_as_ipv4(rt: HostRuntime) {
+    let mapped = Ipv4Addr::LOCALHOST.to_ipv6_mapped();
+    assert!(rt; hears(SocketAddr::from((mapped, 4002))));
+    assert!(rt; !hears(SocketAddr::from((mapped, 4003))));
+    assert!(rt; !hears(SocketAddr::from((Ipv4Addr::new(127, 0, 0, 2), 4002))));
+}
+
 /// A socket whose first call fails with an error of the system. Its second call succeeds: a packet of one byte has come
 /// from player 2. Later calls would wait.
+#[derive(Drop)]
 struct Failing {
     number: i32,
     calls: Cell<u8>,
@@ -59,13 +98,17 @@ impl Socket for Failing {
     }
 }
 
-fn wire_with(number: i32) -> Udp<Failing> {
-    let addresses = Addresses {
+/// The addresses of player 1, who plays with player 2.
+fn addresses() -> Addresses {
+    Addresses {
         local: SocketAddr::from((Ipv4Addr::LOCALHOST, 4001)),
         others: [None, Some(two()), None, None],
         watchers: [None, None],
-    };
-    Udp::over(Failing::new(number), &addresses)
+    }
+}
+
+fn wire_with(number: i32) -> Udp<Failing> {
+    Udp::over(Failing::new(number), &addresses())
 }
 
 /// The errors that pass: interrupted, no memory, not permitted, the address gone, network down or unreachable, reset, no

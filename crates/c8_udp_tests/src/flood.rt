@@ -7,8 +7,8 @@ use std::test::Fail;
 
 const LOCALHOST: Ipv4Addr = Ipv4Addr::LOCALHOST;
 
-/// How many packets come from elsewhere: more than a turn takes, and fewer than the system keeps for a socket.
-const MANY: u64 = 400;
+/// How many packets come from elsewhere before each of the match; the system keeps twice as many for a socket.
+const MANY: u64 = 60;
 
 /// Any free port.
 fn any() -> SocketAddr {

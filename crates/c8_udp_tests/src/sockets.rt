@@ -81,7 +81,9 @@ fn carries_packets_and_never_waits(rt: HostRuntime) -> Result<(), Fail> {
 }
 
 /// A wait that lasts this long was ended by nothing.
-const LONG: Duration = Duration::from_secs(20);
+fn long() -> Duration {
+    Duration::from_secs(20)
+}
 
 /// How long a wire waits.
 fn waited(rt: &HostRuntime, wire: &mut PolledUdp, most: Duration) -> io::Result<Duration> {
@@ -98,15 +100,17 @@ fn a_packet_or_the_bell_ends_a_wait(rt: HostRuntime) -> Result<(), Fail> {
     let short = Duration::from_millis(30);
     assert!(rt; waited(&rt, &mut wire, short)? >= short);
     assert!(rt; wire.send(Seat::from(TWO), b"datagram").is_ok() && answer_twice(&other)?);
-    assert!(rt; waited(&rt, &mut wire, LONG)? < LONG);
+    assert!(rt; waited(&rt, &mut wire, long())? < long());
     bell.ring();
-    assert!(rt; waited(&rt, &mut wire, LONG)? < LONG);
+    assert!(rt; waited(&rt, &mut wire, long())? < long());
     let ringing = thread::spawn(&rt, move || {
         thread::sleep(&rt, short);
         bell.ring();
+        // a bell that is gone before the wait ends has not rung
+        bell
     })?;
-    assert!(rt; waited(&rt, &mut wire, LONG)? < LONG);
-    ringing.join(&rt);
+    assert!(rt; waited(&rt, &mut wire, long())? < long());
+    drop(ringing.join(&rt));
     Ok(())
 }
 

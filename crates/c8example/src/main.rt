@@ -19,6 +19,7 @@ const GAME: &[u8] =
     code c001e09e1206710172011200\n";
 
 /// One end of the way between the players.
+#[derive(Drop)]
 struct Lossy {
     out: Putter,
     back: Taker,
