@@ -74,7 +74,7 @@ fn pairs() -> &'static [Pair] {
 }
 
 /// Whether `refused` alone is refused, as a player's address and as a watcher's.
-fn is_judged(local: &str, other: &str, refused: Option<&str>) -> bool {
+fn is_judged(local: &'static str, other: &'static str, refused: Option<&'static str>) -> bool {
     let two = Player { number: 2 };
     let read = Addresses::read(2, two, local, &[other]);
     let watched = Addresses::read(1, Player::CHAIR, local, &[]).and_then(|it| it.watched_by([
