@@ -3,8 +3,8 @@
 use crate::help::{ENDING, SIM_ENDING};
 use c8_command::Status;
 use c8_front::{
-    is_explained, run_command, show_command, status_at, tell, with_explain, with_place, word_of,
-    words_in,
+    Terminals, is_explained, run_command, show_command, status_at, tell, with_explain, with_place,
+    word_of, words_in,
 };
 use c8_keys::run_files;
 use c8_net::{peer_command, peer_given, watch_command, watch_given};
@@ -12,6 +12,7 @@ use c8_play::{play_command, play_given};
 use c8_program::{game_command, game_given};
 use c8_replay::{replay_command, replay_given};
 use c8_script::sim_files;
+use c8_secret::{secret_command, secret_given};
 use c8_show::show;
 use c8_threads::{rig_command, rig_given};
 use clap::{ArgMatches, Command};
@@ -27,20 +28,20 @@ use std::thread::Threads;
 use std::time::Clock;
 
 /// Runs the program with these arguments, and returns its exit status. `input` is standard input. Output goes to `out`,
-/// which may be a terminal, and refusals to `refused`.
+/// and refusals to `refused`.
 pub fn answer<R, I, W: Write, E: Write + Send>(
     rt: &R,
     args: io::Result<Args>,
     input: I,
     out: &mut W,
-    is_terminal: bool,
+    terminals: Terminals,
     refused: &mut E,
 ) -> Status
 where
     R: Files<File = File> + Net + Clock + Threads + Wait + Sync + AllocGlobal,
     I: Read + Drop,
 {
-    let ended = obey(rt, args, input, out, is_terminal, refused);
+    let ended = obey(rt, args, input, out, terminals, refused);
     status_at(ended, refused)
 }
 
@@ -50,7 +51,7 @@ fn obey<R, I, W: Write, E: Write + Send>(
     args: io::Result<Args>,
     input: I,
     out: &mut W,
-    is_terminal: bool,
+    terminals: Terminals,
     refused: &mut E,
 ) -> io::Result<Status>
 where
@@ -62,7 +63,7 @@ where
     };
     let command = command(rt.alloc())?;
     match command.try_get_matches_from(words.as_slice()) {
-        Ok(matches) => carry_out(rt, &matches, input, out, is_terminal, refused),
+        Ok(matches) => carry_out(rt, &matches, input, out, terminals, refused),
         Err(error) => tell(&error, out, refused),
     }
 }
@@ -83,6 +84,7 @@ fn command<'a>(alloc: Global) -> Result<Command<'a>, AllocError> {
     let command = command.subcommand(sim_command(alloc)?)?;
     let command = command.subcommand(rig_command(alloc)?)?;
     let command = command.subcommand(show_command(alloc)?)?;
+    let command = command.subcommand(secret_command(alloc)?)?;
     command.subcommand(game_command(alloc)?)
 }
 
@@ -101,7 +103,7 @@ fn carry_out<R, I, W: Write, E: Write + Send>(
     matches: &ArgMatches,
     input: I,
     out: &mut W,
-    is_terminal: bool,
+    terminals: Terminals,
     refused: &mut E,
 ) -> io::Result<Status>
 where
@@ -113,9 +115,9 @@ where
             let (game, keys) = (word_of(given, "GAME"), word_of(given, "KEYS"));
             run_files(rt, game, keys, is_explained(given), out, refused)
         }
-        Some(("peer", given)) => peer_given(rt, given, input, out, refused),
+        Some(("peer", given)) => peer_given(rt, given, input, terminals, out, refused),
         Some(("play", given)) => play_given(rt, given, out, refused),
-        Some(("watch", given)) => watch_given(rt, given, is_terminal, out, refused),
+        Some(("watch", given)) => watch_given(rt, given, terminals, out, refused),
         Some(("replay", given)) => replay_given(rt, given, out, refused),
         Some(("sim", given)) => {
             let (game, script) = (word_of(given, "GAME"), word_of(given, "SCRIPT"));
@@ -126,6 +128,7 @@ where
             let word = word_of(given, "HEX");
             show(rt.alloc(), word, is_explained(given), out, refused)
         }
+        Some(("secret", _)) => secret_given(rt, out, refused),
         Some(("game", given)) => game_given(rt, given, out, refused),
         _ => Ok(Status::CommandLine),
     }

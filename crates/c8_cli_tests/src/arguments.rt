@@ -1,6 +1,7 @@
 //! The command line when its words cannot be read, or its output cannot be written.
 use crate::writers::Short;
 use c8_cli::answer;
+use c8_front::Terminals;
 use std::alloc::Global;
 use std::env::Args;
 use std::fs::File;
@@ -33,7 +34,7 @@ fn status_of<R, E: Write + Send>(
 where
     R: Files<File = File> + Net + Clock + Threads + Wait + Sync + AllocGlobal,
 {
-    answer(rt, args, b"".as_slice(), out, false, refused).code()
+    answer(rt, args, b"".as_slice(), out, Terminals::NONE, refused).code()
 }
 
 /// The number of the error in place of the arguments, and the status and the line that follow.

@@ -9,6 +9,8 @@ mod answers;
 #[cfg(test)]
 mod arguments;
 #[cfg(test)]
+mod disks;
+#[cfg(test)]
 mod loopback;
 #[cfg(test)]
 mod readers;

@@ -28,6 +28,12 @@ pub enum Part {
     Disk,
     /// The addresses of a peer, or its socket.
     Socket,
+    /// The secret of a match.
+    Secret,
+    /// What `replay` is asked for, beside a journal that it can read.
+    Replay,
+    /// What the journals of a match say of each other.
+    Audit,
 }
 
 impl Part {
@@ -42,6 +48,9 @@ impl Part {
             Part::Open => "open",
             Part::Disk => "disk",
             Part::Socket => "socket",
+            Part::Secret => "secret",
+            Part::Replay => "replay",
+            Part::Audit => "audit",
         }
     }
 }
@@ -76,9 +85,8 @@ impl Refusal {
     {
         match self.part {
             Part::Disk | Part::Socket => Status::Failed,
-            Part::Game | Part::Keys | Part::Script | Part::Hex | Part::Wire | Part::Open => {
-                Status::Refused
-            }
+            Part::Game | Part::Keys | Part::Script | Part::Hex | Part::Wire => Status::Refused,
+            Part::Open | Part::Secret | Part::Replay | Part::Audit => Status::Refused,
         }
     }
 

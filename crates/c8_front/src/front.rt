@@ -15,6 +15,23 @@ use std::env::Args;
 use std::io;
 use std::io::Write;
 
+/// Which of the program's streams are a terminal.
+#[derive(Clone, Copy, Debug, PartialEq, Eq)]
+pub struct Terminals {
+    /// Standard input.
+    pub input: bool,
+    /// Standard output.
+    pub output: bool,
+}
+
+impl Terminals {
+    /// No stream is a terminal.
+    pub const NONE: Terminals = Terminals {
+        input: false,
+        output: false,
+    };
+}
+
 /// The status with which the program ends. If output cannot be written, that is the fault of a disk.
 pub fn status_at<E: Write>(ended: io::Result<Status>, refused: &mut E) -> Status
     ensures told { IfOk ended (λ status. result ≡ status) }

@@ -1,12 +1,14 @@
 //! What all command lines share: their words, the parser's messages, and the exit status (`front`); and the options of
-//! the commands `run` and `show` (`commands`).
+//! the commands `run` and `show` (`commands`). [`Unhurried`] is a standard error that nobody has to read.
 #![tactic(auto)]
 
 mod commands;
 mod front;
 mod help;
+mod stderr;
 
 pub use commands::{run_command, show_command};
 pub use front::{
-    is_explained, line_of, status_at, tell, with_explain, with_place, word_of, words_in,
+    Terminals, is_explained, line_of, status_at, tell, with_explain, with_place, word_of, words_in,
 };
+pub use stderr::Unhurried;

@@ -22,6 +22,8 @@ pub struct Standing {
     pub lost: u64,
     /// How many packets came from elsewhere than a player or watcher of the match.
     pub foreign: u64,
+    /// How many packets were not sealed with the key of the match.
+    pub unsealed: u64,
 }
 
 /// Counters that the threads of a peer share. A reading during a turn may mix values of that turn and of the one
@@ -38,6 +40,7 @@ pub struct Counters {
     lost_in: AtomicU64,
     lost_there: AtomicU64,
     foreign: AtomicU64,
+    unsealed: AtomicU64,
 }
 
 impl Counters {
@@ -58,6 +61,7 @@ impl Counters {
             lost_in: AtomicU64::new(0),
             lost_there: AtomicU64::new(0),
             foreign: AtomicU64::new(0),
+            unsealed: AtomicU64::new(0),
         }
     }
 
@@ -92,6 +96,7 @@ impl Counters {
     pub fn note_wire(&self, losses: Losses) {
         self.lost_there.store(losses.lost, Ordering::SeqCst);
         self.foreign.store(losses.foreign, Ordering::SeqCst);
+        self.unsealed.store(losses.unsealed, Ordering::SeqCst);
     }
 
     /// Returns how far the peer is, and resets the longest rollback to 0.
@@ -114,6 +119,7 @@ impl Counters {
                 .saturating_add(self.lost_in.load(Ordering::SeqCst))
                 .saturating_add(lost_there),
             foreign: self.foreign.load(Ordering::SeqCst),
+            unsealed: self.unsealed.load(Ordering::SeqCst),
         }
     }
 }

@@ -2,7 +2,7 @@
 ghost use Rattle.std.specs.Prelude.{◌≡◌};
 
 use c8_inlet::{Packet, Putter, Taker};
-use c8_transport::{LONGEST_PACKET, Losses, Wire, WireFailed};
+use c8_transport::{Losses, Wire, WireFailed};
 use c8_wire::{LONGEST_DATAGRAM, Seat};
 
 /// A wire of two inlets: it sends into one and receives from the other. If the outbox is full, the datagram is lost and
@@ -49,7 +49,7 @@ impl Wire for Relay {
         Ok(())
     }
 
-    fn receive(&mut self, packet: &mut [u8; LONGEST_PACKET]) -> Result<Option<usize>, WireFailed> {
+    fn receive(&mut self, packet: &mut [u8]) -> Result<Option<usize>, WireFailed> {
         let Some(taken) = self.inbox.take() else {
             return Ok(None);
         };
@@ -62,6 +62,7 @@ impl Wire for Relay {
         Losses {
             lost: self.lost,
             foreign: 0,
+            unsealed: 0,
         }
     }
 }

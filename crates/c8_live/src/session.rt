@@ -38,6 +38,8 @@ pub struct Session<'g, D: Disk> {
     frames: u32,
     /// After how many silent turns player 1 drops a player; `None` for never.
     patience: Option<u64>,
+    /// Whom player 1 drops in the next turn, by place.
+    given_up: [bool; MOST_PLAYERS],
     /// A checkpoint begins once this many frames were confirmed since the last one (0: never), and whether one is under
     /// way.
     interval: u32,
@@ -77,6 +79,7 @@ impl<'g, D: Disk> Session<'g, D> {
             peer,
             frames: game.frames(),
             patience,
+            given_up: [false; MOST_PLAYERS],
             interval,
             is_saving: false,
             silence: Silence::new(),
@@ -237,19 +240,32 @@ impl<'g, D: Disk> Session<'g, D> {
         }
     }
 
-    /// Drops the players who have been silent for `patience` turns, if this is player 1.
+    /// Player 1 drops this player in the next turn, however long it has been silent. At another player it changes nothing.
+    pub fn give_up(&mut self, player: Player)
+        ensures { self.new.peer ≡ self.old.peer }
+    {
+        self.given_up[player.place()] = true;
+    }
+
+    /// Whether a player has been silent for `patience` turns, or was given up.
+    fn is_given_up(&self, player: Player) -> bool {
+        let is_silent = match self.patience {
+            Some(patience) => self.silence.turns(player) >= patience,
+            None => false,
+        };
+        is_silent || self.given_up[player.place()]
+    }
+
+    /// Drops the players who have been silent for `patience` turns, or were given up, if this is player 1.
     fn let_go(&mut self) -> Result<(), SessionError>
         ensures ran { HasDone D.Disk LetsGo self.old.peer self.new.peer }
         ensures end { IfErr result (IsEnd D.Disk self.old.peer self.new.peer) }
     {
         peers_run_on::<D>();
         doings_join::<D>();
-        let Some(patience) = self.patience else {
-            return Ok(());
-        };
         for number in 1..self.peer.players() + 1 {
             if let Some(player) = self.other(number)
-                && self.silence.turns(player) >= patience
+                && self.is_given_up(player)
                 && let Err(LeaveError::Disk(error)) = self.peer_lets_go(player)
             {
                 return Err(SessionError::Disk(error));

@@ -8,7 +8,7 @@ use std::time::Duration;
 const LINE: &[u8] = b"\
     ticked 21, confirmed 19, rollbacks 4, longest 5, player 1 silent for 200 ms, \
     player 2 silent for 1000 ms, player 4 silent for 0 ms, 7 packets lost, 3 packets from elsewhere, \
-    the machines differ\n";
+    2 packets not sealed, the machines differ\n";
 
 /// Whether two calls print that line.
 fn is_printed(alloc: Global) -> bool {
@@ -20,6 +20,7 @@ fn is_printed(alloc: Global) -> bool {
         is_alarmed: true,
         lost: 7,
         foreign: 3,
+        unsealed: 2,
     };
     let mut told = Vec::new(alloc);
     let mut progress = Progress::new(Duration::from_millis(100), Player { number: 3 }, 4);

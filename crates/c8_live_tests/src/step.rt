@@ -32,6 +32,8 @@ pub(crate) enum Step {
     Enters(u8, u16),
     /// A player's peer restarts over its journal.
     Restarts(u8),
+    /// The session gives a player up.
+    GivesUp(u8),
     /// From now on the session shows the match to the watcher in this seat.
     Shows(u8),
     /// The session makes a turn, and sends exactly this.

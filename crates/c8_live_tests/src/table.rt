@@ -175,6 +175,7 @@ impl<'g> Table<'g> {
             Step::Noise(count) => self.noise(count),
             Step::Enters(number, keys) => self.enters(number, keys),
             Step::Restarts(number) => self.restarts(alloc, number),
+            Step::GivesUp(number) => self.gives_up(number),
             Step::Shows(seat) => self.shows(seat),
             Step::Turn(wanted) => self.turn(alloc, wanted),
             Step::Listens(wanted) => self.listens(alloc, wanted),
@@ -247,6 +248,16 @@ impl<'g> Table<'g> {
         let me = peer.me();
         *place = opened(alloc, peer.close(), game, me);
         true
+    }
+
+    fn gives_up(&mut self, number: u8) -> bool {
+        match Player::new(number) {
+            Some(player) => {
+                self.session.give_up(player);
+                true
+            }
+            None => false,
+        }
     }
 
     fn shows(&mut self, seat: u8) -> bool {

@@ -1,8 +1,8 @@
 //! What each turn sends, to whom and in which order: each script has all that its turns send.
 use crate::players::{FOUR, THREE, TWO};
 use crate::step::Step::{
-    Enters, Keeps, Listens, Noise, Plays, Prints, Repeats, Restarts, Sends, Shows, Silent, Stands,
-    Turn,
+    Enters, GivesUp, Keeps, Listens, Noise, Plays, Prints, Repeats, Restarts, Sends, Shows, Silent,
+    Stands, Turn,
 };
 use crate::step::{CUT, DATA, FREEZE, FROZEN, HELLO, Step, WELCOME, WHOLE};
 use crate::table::follows;
@@ -72,6 +72,34 @@ static DROPS: [Step; 28] = [
 #[test]
 fn player_one_sends_freeze_and_then_cut(rt: HostRuntime) -> Result<(), Fail> {
     follows(rt.alloc(), FOUR, 1, Some(4), &[], &DROPS)
+}
+
+/// Player 1 of three, without patience, gives up player 3 while it is heard. Another player gives up nobody.
+#[rattlefmt::skip]
+static GIVES_UP: [Step; 12] = [
+    Turn("2 HELLO, 3 HELLO"),
+    Sends(2, WELCOME, 0), Sends(2, HELLO, 0),
+    Sends(3, WELCOME, 0), Sends(3, HELLO, 0),
+    Turn("2 WELCOME, 3 WELCOME"),
+    GivesUp(3),
+    Sends(3, DATA, 0), Turn("2 DATA, 2 FREEZE 3, 3 DATA"),
+    Sends(2, FROZEN, 3), Turn("2 DATA, 2 CUT 3, 3 DATA, 3 CUT 3"),
+    Silent(3, 1),
+];
+
+#[rattlefmt::skip]
+static GIVES_UP_NOBODY: [Step; 8] = [
+    Turn("1 HELLO, 3 HELLO"),
+    Sends(1, WELCOME, 0), Sends(1, HELLO, 0),
+    Sends(3, WELCOME, 0), Sends(3, HELLO, 0),
+    Turn("1 WELCOME, 3 WELCOME"),
+    GivesUp(3), Turn("1 DATA, 3 DATA"),
+];
+
+#[test]
+fn player_one_gives_up_a_player(rt: HostRuntime) -> Result<(), Fail> {
+    follows(rt.alloc(), THREE, 1, None, &[], &GIVES_UP)?;
+    follows(rt.alloc(), THREE, 2, None, &[], &GIVES_UP_NOBODY)
 }
 
 /// A stayer sends FROZEN of each leaver to player 1 alone, from the FREEZE to the CUT. It shows the match to nobody.

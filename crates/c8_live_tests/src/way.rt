@@ -51,14 +51,14 @@ impl Wire for Way {
         }
     }
 
-    fn receive(&mut self, packet: &mut [u8; LONGEST_PACKET]) -> Result<Option<usize>, WireFailed> {
+    fn receive(&mut self, packet: &mut [u8]) -> Result<Option<usize>, WireFailed> {
         if self.fails_to_receive {
             return Err(WireFailed);
         }
         let Some(letter) = self.waiting.get(self.taken) else {
             return Ok(None);
         };
-        packet.copy_from_slice(&letter.bytes);
+        packet[..LONGEST_PACKET].copy_from_slice(&letter.bytes);
         let size = letter.size.min(LONGEST_PACKET);
         self.taken = self.taken.saturating_add(1);
         self.traffic.gave(&packet[..size]);

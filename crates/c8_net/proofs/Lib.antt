@@ -1,4 +1,3 @@
 pub mod PlayLemmas
 pub mod WatchingLemmas
 pub mod OutcomeLemmas
-pub mod BeatLemmas

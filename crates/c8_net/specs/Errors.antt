@@ -10,7 +10,8 @@ use Rattle.c8_refusals.specs.declared.error.OpenError.TheVariants as openings
 use Rattle.c8_live.specs.declared.error.SessionError.{SessionError}
 use Rattle.c8_live.specs.declared.error.SessionError.TheVariants as sessions
 use Rattle.c8_net.specs.declared.error.PeerError.{PeerError}
-use Rattle.c8_net.specs.declared.error.PeerError.TheVariants.{Game, Keys, Open, Disk, Socket}
+use Rattle.c8_net.specs.declared.error.PeerError.TheVariants.{Game, Secret, Keys, Open, Disk, Socket}
+use Rattle.c8_sealed.specs.Errors.{secret_error_number}
 use Rattle.c8_udp.specs.Errors.{socket_error_number}
 use Rattle.c8_udp.specs.declared.error.SocketError.TheVariants as sockets
 use Rattle.c8_udp.specs.declared.error.SocketFault.TheVariants as faults
@@ -37,6 +38,7 @@ opening_number (openings.Disk error) = disks.disk_number_of error
 -- the part and the number of each refusal of the command
 abbrev pub peer_part : PeerError → Part
 peer_part (Game error) = parts.Game
+peer_part (Secret error) = parts.Secret
 peer_part (Keys error) = parts.Keys
 peer_part (Open error) = opening_part error
 peer_part (Disk error) = parts.Disk
@@ -44,6 +46,7 @@ peer_part (Socket error) = parts.Socket
 
 abbrev pub peer_error_number : PeerError → ℕ
 peer_error_number (Game error) = games.number_of error
+peer_error_number (Secret error) = secret_error_number error
 peer_error_number (Keys error) = keys_error_number error
 peer_error_number (Open error) = opening_number error
 peer_error_number (Disk error) = disks.disk_number_of error

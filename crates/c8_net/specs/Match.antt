@@ -1,9 +1,6 @@
--- How `peer` ends: by the text of a game and standard input, and then on a journal.
+-- How `peer` ends: by a game, the addresses and standard input, and then on a journal.
 use Rattle.std.specs.Prelude.{◌≡◌, ◌≢◌, ◌≤◌, ◌⊎◌, ℕ, ◌+◌, List, length, Option, IfSome, Result, IfErr}
-use Rattle.c8_game.specs.GameFaults.{IsRefused}
-use Rattle.c8_game.specs.GameText.{Spells}
 use Rattle.c8_game.specs.Rules.{Rules}
-use Rattle.c8_game.specs.declared.error.GameError.TheVariants as games
 use Rattle.c8_machine.specs.State.{state}
 use Rattle.c8_machine.specs.Serial.{serial}
 use Rattle.c8_disk.specs.declared.disk.Disk.{Ghosts}
@@ -24,7 +21,7 @@ use Rattle.c8_spectator.specs.Watching.{WatchValue, first_watch}
 use Rattle.c8_transport.specs.declared.wire.Wire.{Ghosts as WireGhosts}
 use Rattle.c8_watch.specs.Turns.{AreTurns}
 use Rattle.c8_net.specs.declared.error.PeerError.{PeerError}
-use Rattle.c8_net.specs.declared.error.PeerError.TheVariants.{Game, Keys, Open, Disk, Socket}
+use Rattle.c8_net.specs.declared.error.PeerError.TheVariants.{Game, Secret, Keys, Open, Disk, Socket}
 use Rattle.c8_udp.specs.declared.error.SocketError.TheVariants as sockets
 
 -- ---- before the journal is opened
@@ -32,26 +29,24 @@ use Rattle.c8_udp.specs.declared.error.SocketError.TheVariants as sockets
 -- why standard input gives no key sets: a line spells none, memory ran out, or it cannot be read
 abbrev pub IsNoKeys : Option (List ℕ) → PeerError → Type 0
 IsNoKeys input (Game error) = ⊥
+IsNoKeys input (Secret error) = ⊥
 IsNoKeys input (Keys error) = IfSome input (λ text. IsFaultOfSets text error)
 IsNoKeys input (Open error) = ⊥
 IsNoKeys input (Disk why) = why ≡ disks.Failed
 IsNoKeys input (Socket error) = ⊥
 
--- the text spells a game for these addresses of the other players and one more player
-abbrev pub IsGameFor : List ℕ → ℕ → Type 0
-IsGameFor game remotes = (rules : Rules) × Spells game rules × (remotes + 1 ≡ rules.players)
-
--- Why a match cannot begin, in this order: the text's first fault, or out of memory; a wrong number of addresses of
--- other players; an address that is refused, without saying which; a fault of standard input.
-abbrev pub IsNoMatch : List ℕ → Option (List ℕ) → ℕ → PeerError → Type 0
-IsNoMatch game input remotes (Game error) = (error ≡ games.Memory) ⊎ IsRefused game error
-IsNoMatch game input remotes (Socket (sockets.Failed why)) = ⊥
-IsNoMatch game input remotes (Socket sockets.Thread) = ⊥
-IsNoMatch game input remotes (Socket sockets.Remotes) = (rules : Rules) × Spells game rules × (remotes + 1 ≢ rules.players)
-IsNoMatch game input remotes (Socket sockets.Address) = IsGameFor game remotes
-IsNoMatch game input remotes (Keys error) = IsGameFor game remotes × IsNoKeys input (Keys error)
-IsNoMatch game input remotes (Disk why) = IsGameFor game remotes × IsNoKeys input (Disk why)
-IsNoMatch game input remotes (Open error) = ⊥
+-- Why a match of a game of so many players cannot begin, in this order: a wrong number of addresses of other players; an
+-- address that is refused, without saying which; a fault of standard input.
+abbrev pub IsNoMatch : ℕ → Option (List ℕ) → ℕ → PeerError → Type 0
+IsNoMatch players input remotes (Game error) = ⊥
+IsNoMatch players input remotes (Secret error) = ⊥
+IsNoMatch players input remotes (Socket (sockets.Failed why)) = ⊥
+IsNoMatch players input remotes (Socket sockets.Thread) = ⊥
+IsNoMatch players input remotes (Socket sockets.Remotes) = remotes + 1 ≢ players
+IsNoMatch players input remotes (Socket sockets.Address) = remotes + 1 ≡ players
+IsNoMatch players input remotes (Keys error) = (remotes + 1 ≡ players) × IsNoKeys input (Keys error)
+IsNoMatch players input remotes (Disk why) = (remotes + 1 ≡ players) × IsNoKeys input (Disk why)
+IsNoMatch players input remotes (Open error) = ⊥
 
 -- ---- in threads
 
@@ -85,6 +80,7 @@ module _ {D : Type 0} (g : Ghosts D) (disk : D) (rules : Rules) (room me : ℕ) 
   -- says nothing.
   abbrev pub HasFailed : PeerError → Type 0
   HasFailed (Game error) = ⊥
+  HasFailed (Secret error) = ⊥
   HasFailed (Keys error) = ⊥
   HasFailed (Open error) = ((left : D) × IsRefusedOpening g disk rules room me error left) ⊎ IsWithoutRoom error
   HasFailed (Disk why) = (first : PeerValue D) × (last : PeerValue D) × IsOpened g disk rules room me first × IsStopped g first last why

@@ -20,6 +20,10 @@ pub struct Asked<'m, 'a> {
     pub remotes: Option<&'m [&'a str]>,
     /// The addresses of the watchers in seats 5 and 6, if any; for player 1 only.
     pub watchers: [Option<&'a str>; MOST_WATCHERS],
+    /// The path of the players' secret, if the match has one.
+    pub secret: Option<&'a str>,
+    /// The path of the watchers' secret, if the match has one; for player 1 only.
+    pub watch_secret: Option<&'a str>,
     pub room: u64,
     /// Whether the command line names the room.
     pub has_room: bool,
@@ -119,6 +123,10 @@ pub fn with_options<'a>(
     let command = command.arg(checkpoint.default_value("0"))?;
     let command = with_watcher(alloc, command, "watch5")?;
     let command = with_watcher(alloc, command, "watch6")?;
+    let secret = "The file of the players' secret: packets are sealed with it";
+    let command = command.arg(file(alloc, "secret", secret))?;
+    let watch_secret = "The file of the watchers' secret (player 1 only)";
+    let command = command.arg(file(alloc, "watch-secret", watch_secret))?;
     let progress = Arg::new(alloc, "progress")
         .long("progress")
         .help(progress)
@@ -136,6 +144,14 @@ fn with_watcher<'a>(
         "Shows the match to a watcher at this address (player 1 only)",
     );
     command.arg(watcher)
+}
+
+/// An option that takes the path of a file.
+pub(crate) fn file<'a>(alloc: Global, name: &'a str, help: &'a str) -> Arg<'a> {
+    Arg::new(alloc, name)
+        .long(name)
+        .value_name("FILE")
+        .help(help)
 }
 
 /// An option that takes a number.
@@ -162,6 +178,8 @@ pub fn asked_for<'m, 'a>(given: &'m ArgMatches<'a>, player: Player) -> Asked<'m,
         local: word_of(given, "LOCAL"),
         remotes: given.get_strs("REMOTE"),
         watchers: [given.get_str("watch5"), given.get_str("watch6")],
+        secret: given.get_str("secret"),
+        watch_secret: given.get_str("watch-secret"),
         room: number_of(given, "room").unwrap_or(0),
         has_room: given.contains_id("room"),
         turns: number_of(given, "turns").unwrap_or(u64::MAX),

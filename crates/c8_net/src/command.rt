@@ -10,12 +10,13 @@ ghost use Rattle.c8_net.specs.declared.error.PeerError.{PeerError};
 
 use crate::arguments::{Asked, asked_of};
 use crate::error::PeerError;
-use crate::fault::{Fault, INPUT};
-use crate::journal::{Journal, journal_at};
+use crate::fault::{Fault, INPUT, game_at};
+use crate::journal::{Journal, journal_at, warn_of_a_slow_disk};
 use crate::performance::Performance;
 use crate::play::{Prepared, Unprepared, perform_on, play_on, prepare};
-use c8_command::{Refusal, Status, TextError, read_file};
-use c8_disk::DiskError;
+use crate::seals::{seal_at, warn_of_secrets};
+use c8_command::{Refusal, Status, TextError};
+use c8_front::Terminals;
 use c8_keys::{Played, write_report};
 use c8_peer::OpenError;
 use c8_udp::refused_address;
@@ -30,11 +31,13 @@ use std::sync::Wait;
 use std::thread::Threads;
 use std::time::Clock;
 
-/// Runs `peer` as the command line asks. The error is a writer's.
+/// Runs `peer` as the command line asks. Says on `refused` that it reads keys, if nobody has redirected its input. The
+/// error is a writer's.
 pub fn peer_given<R, I, W, E>(
     rt: &R,
     given: &ArgMatches<'_>,
     input: I,
+    terminals: Terminals,
     out: &mut W,
     refused: &mut E,
 ) -> io::Result<Status>
@@ -47,7 +50,15 @@ where
     match asked_of(given) {
         Some(asked) => match mistake_in(&asked) {
             Some(mistake) => refuse_line(mistake, refused),
-            None => peer(rt, &asked, input, out, refused),
+            None => {
+                if terminals.input {
+                    writeln!(
+                        refused,
+                        "reading key sets, one a line, until the end of input (control-D)"
+                    )?;
+                }
+                peer(rt, &asked, input, out, refused)
+            }
         },
         None => Ok(Status::CommandLine),
     }
@@ -63,7 +74,7 @@ pub fn perform_given<R, P, W, E>(
     refused: &mut E,
 ) -> io::Result<Status>
 where
-    R: Files<File = File> + Net + AllocGlobal,
+    R: Files<File = File> + Net + Clock + AllocGlobal,
     P: Performance + Drop,
     W: Write,
     E: Write,
@@ -85,6 +96,9 @@ fn mistake_in(asked: &Asked<'_, '_>) -> Option<&'static str> {
     let [five, six] = asked.watchers;
     if !asked.player.is_chair() && (five.is_some() || six.is_some()) {
         return Some("--watch5 and --watch6 are for player 1 alone");
+    }
+    if asked.watch_secret.is_some() && (asked.secret.is_none() || !asked.player.is_chair()) {
+        return Some("--watch-secret is for player 1 alone, beside --secret");
     }
     // A journal in memory is empty at each start: in a room that was used before, the others take its epochs for old ones.
     if asked.has_no_journal() && !asked.has_room {
@@ -111,6 +125,7 @@ where
     ensures { IfOk result (λ status. (outcome : Result Played PeerError)
         × (status ≡ status_of_outcome peer_part outcome)) }
 {
+    warn_of_secrets(rt, asked, refused)?;
     let outcome = match begun(rt, asked, input) {
         Ok((it, journal)) => {
             let played = match journal {
@@ -133,15 +148,19 @@ pub fn perform<R, P, W, E>(
     refused: &mut E,
 ) -> io::Result<Status>
 where
-    R: Files<File = File> + Net + AllocGlobal,
+    R: Files<File = File> + Net + Clock + AllocGlobal,
     P: Performance + Drop,
     W: Write,
     E: Write,
     ensures { IfOk result (λ status. (outcome : Result Played PeerError)
         × (status ≡ status_of_outcome peer_part outcome)) }
 {
+    warn_of_secrets(rt, asked, refused)?;
     let outcome = match begun(rt, asked, io::empty()) {
         Ok((it, journal)) => {
+            if !asked.has_no_journal() {
+                warn_of_a_slow_disk(rt, asked.journal, refused)?;
+            }
             let played = match journal {
                 Journal::File(disk) => perform_on(rt, asked, it, disk, performance, refused),
                 Journal::Memory(disk) => perform_on(rt, asked, it, disk, performance, refused),
@@ -171,7 +190,8 @@ fn tell_outcome<W: Write, E: Write>(
         }
         Err(fault) => {
             let remotes = asked.remotes.unwrap_or(&[]);
-            let word = refused_address(asked.local, remotes, asked.watchers);
+            let may_learn = asked.secret.is_some();
+            let word = refused_address(asked.local, remotes, asked.watchers, may_learn);
             refuse(alloc, asked.explain, word, &fault, refused)
         }
     }
@@ -199,9 +219,9 @@ pub fn refuse<E: Write>(
     }
 }
 
-/// Prepares a match, and opens the disk of its journal. Faults are found in this order: the game's file, all that
-/// `prepare` checks, a player that the game does not have, the journal's file. The journal's opening and the socket come
-/// later.
+/// Prepares a match, and opens the disk of its journal. Faults are found in this order: the game's file, the game, the
+/// secrets, all that `prepare` checks, a player that the game does not have, the journal's file. The journal's opening and
+/// the socket come later.
 fn begun<'a, R, I>(
     rt: &R,
     asked: &Asked<'_, 'a>,
@@ -211,22 +231,21 @@ where
     R: Files<File = File> + AllocGlobal,
     I: Read + Drop,
 {
-    let text = match read_file(rt, asked.game) {
-        Ok(text) => text,
-        Err(error) => return Err(Fault::unread(rt.alloc(), error, asked.game)),
-    };
+    let game = game_at(rt, asked.game)?;
+    let seal = seal_at(rt, asked, &game)?;
     let remotes = asked.remotes.unwrap_or(&[]);
     let it = match prepare(
         rt.alloc(),
-        &text,
-        input,
+        game,
         asked.player,
         asked.local,
         remotes,
         asked.watchers,
+        seal,
+        input,
     ) {
         Ok(it) => it,
-        Err(it) => return Err(at_start(asked.game, text, it)),
+        Err(it) => return Err(at_start(it)),
     };
     // The opening would refuse it too, but only after a journal was made.
     if asked.player.number > it.game.players() {
@@ -240,17 +259,16 @@ where
 }
 
 /// Turns the refusal of `prepare` into a fault with its file.
-fn at_start<'a>(game: &'a str, text: Vec<u8>, it: Unprepared) -> Fault<'a> {
+fn at_start<'a>(it: Unprepared) -> Fault<'a> {
     let Unprepared { error, input } = it;
-    let (file, text, unread) = match error {
-        PeerError::Game(_) => (game, text, None),
-        PeerError::Disk(_) => (INPUT, input, Some(TextError::Failed)),
-        _ => (INPUT, input, None),
+    let unread = match error {
+        PeerError::Disk(_) => Some(TextError::Failed),
+        _ => None,
     };
     Fault {
         error,
-        file,
-        text,
+        file: INPUT,
+        text: input,
         unread,
     }
 }

@@ -9,6 +9,7 @@ use c8_game::GameError;
 use c8_keys::KeysError;
 use c8_live::SessionError;
 use c8_peer::OpenError;
+use c8_sealed::SecretError;
 use c8_udp::{SocketError, SocketFault};
 use thiserror::Error;
 
@@ -18,6 +19,9 @@ pub enum PeerError {
     /// The text of the game has a fault.
     #[error("{0}")]
     Game(GameError),
+    /// The text of a secret has a fault.
+    #[error("{0}")]
+    Secret(SecretError),
     /// The key sets of standard input have a fault.
     #[error("{0}")]
     Keys(KeysError),
@@ -75,6 +79,7 @@ impl From<PeerError> for Refusal {
     fn from(error: PeerError) -> Refusal {
         let (part, number, name) = match error {
             PeerError::Game(error) => (Part::Game, error.number(), error.name()),
+            PeerError::Secret(error) => (Part::Secret, error.number(), error.name()),
             PeerError::Keys(error) => (Part::Keys, error.number(), error.name()),
             PeerError::Disk(error) | PeerError::Open(OpenError::Disk(error)) => {
                 (Part::Disk, error.number(), error.name())

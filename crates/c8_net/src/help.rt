@@ -16,13 +16,22 @@ Two players, each in a terminal of their own:
 With - in the place of JOURNAL nothing is written: a player whose program ends cannot come back. Such a
 match needs a --room that no match before it had; the others may have journals.
 
-Packets are taken from the addresses of the players and watchers alone; --progress counts others.
+Packets are taken from the addresses of the players and watchers alone; --progress counts others. Who can
+send from such an address can forge packets. With --secret FILE, the same for all players, packets are
+sealed, and what does not open is dropped and counted:
+  umask 077; ./c8play secret > match.secret
+FILE has 64 hexadecimal digits. Then - may stand for a REMOTE or a watcher's ADDR: the address is learnt from
+the first packet of that player. Of each two players one has to name the other. A secret and room serve one
+set of journals: new journals, new --room.
 
 Player 1 shows the match to its watchers: each gets the confirmed key sets, and reports how many it
-has. A watcher is no player, and nothing that it does or fails to do changes the match.
+has. A watcher is no player, and nothing that it does or fails to do changes the match. In a match with a
+secret watchers have one of their own: player 1 takes it with --watch-secret.
 
 Refusals, each one line on standard error, as 'refused: game 5 Hex':
   game 1 Line to 6 Memory: those of the command run
+  secret 1 Bad        a secret that is not 64 hexadecimal digits and at most one line feed
+  secret 2 Same       one secret for players and watchers
   keys 1 Line         a line that is not four hexadecimal digits
   keys 3 Memory       out of memory for the keys
   open 1 WrongGame    the journal is of another game or room
@@ -33,9 +42,9 @@ Refusals, each one line on standard error, as 'refused: game 5 Hex':
   disk 1 Failed       a file that cannot be read or written, or a text above 16777216 bytes
   disk 2 Full         the journal is at its greatest length, 1073741824 bytes
   socket 1 Failed     the socket cannot be opened, or was closed
-  socket 2 Remotes    not one REMOTE for each other player
+  socket 2 Remotes    not one REMOTE for each other player; watchers and --secret without --watch-secret
   socket 3 Address    an address that is not written as 127.0.0.1:4001; another player's or a
-                      watcher's with port 0, or of another IP version than LOCAL
+                      watcher's with port 0, or of another IP version than LOCAL; - without --secret
   socket 4 Thread     the system starts no more threads
 
 Exit status: 0 done, 1 refused, 2 a mistake in the command line, 3 a disk or a socket failed";
@@ -49,7 +58,7 @@ turns after the players are done.
 The command ends when it has the whole game, once it has as many frames as --stop says, or after the
 last turn. It then prints the machine after the frames that it has. With --screen it draws the screen
 meanwhile, sixty times a second by the clock; standard output must then be a terminal of at least 64
-columns and 16 rows.
+columns and 16 rows. If player 1 has --watch-secret FILE, a watcher takes the same file as --secret.
 
 Two players and a watcher, each in a terminal of their own:
   ./c8play peer games/duel.game 1 one.journal 127.0.0.1:4001 127.0.0.1:4002 --watch5 127.0.0.1:4005 \\
@@ -59,6 +68,7 @@ Two players and a watcher, each in a terminal of their own:
 
 Refusals, each one line on standard error, as 'refused: game 5 Hex':
   game 1 Line to 6 Memory: those of the command run
+  secret 1 Bad        a secret that is not 64 hexadecimal digits and at most one line feed
   open 5 Memory       out of memory at the start
   disk 1 Failed       a file that cannot be read, or a text above 16777216 bytes
   socket 1 Failed     the socket cannot be opened, or was closed

@@ -8,7 +8,10 @@ use c8_log::SLOT_LENGTH;
 use c8_peer::OpenError;
 use std::alloc::{AllocError, Global};
 use std::fs::File;
+use std::io::Write;
 use std::rt::Files;
+use std::time::{Clock, Duration, SystemTime};
+use std::{fs, io};
 
 /// How many bytes a journal in a file may have.
 const JOURNAL_CAPACITY: u32 = 1_073_741_824;
@@ -20,6 +23,15 @@ const SPARE_RECORDS: u32 = 1024;
 const CALLS_OF_RECORD: u32 = 4;
 
 const CALLS_OF_OPENING: u32 = 16;
+
+/// How many syncs are timed.
+const TIMED: u32 = 3;
+
+/// How many syncs a frame of a match of two takes at most: two of each record, and a record of each player.
+const SYNCS_OF_FRAME: u32 = 4;
+
+/// How many frames a second has.
+const RATE: u32 = 60;
 
 /// The disk of a journal.
 #[derive(Drop)]
@@ -65,4 +77,44 @@ fn in_memory(alloc: Global, game: &Game) -> Result<MemDisk, AllocError> {
         .saturating_mul(CALLS_OF_RECORD)
         .saturating_add(CALLS_OF_OPENING);
     MemDisk::new(alloc, bytes, calls)
+}
+
+/// Writes a line to `out` if the disk of a journal is too slow for a match of two at sixty frames a second. The error is the
+/// writer's.
+pub(crate) fn warn_of_a_slow_disk<R, E>(rt: &R, journal: &str, out: &mut E) -> io::Result<()>
+where
+    R: Files<File = File> + Clock,
+    E: Write,
+{
+    if let Some(took) = syncs_at(rt, journal)
+        && let Some(millis) = slow_frame(took / TIMED)
+    {
+        writeln!(
+            out,
+            "this disk needs {millis} ms a frame: frames will be late; '-' plays without a journal"
+        )?;
+    }
+    Ok(())
+}
+
+/// How long `TIMED` syncs of a file take, each after its time has changed; `None` if that cannot be measured.
+fn syncs_at<R: Files<File = File> + Clock>(rt: &R, path: &str) -> Option<Duration> {
+    let file = fs::open(rt, path).ok()?;
+    let begun = rt.monotonic().ok()?;
+    for _ in 0..TIMED {
+        file.set_modified(SystemTime::now(rt).ok()?).ok()?;
+        file.sync_all().ok()?;
+    }
+    Some(rt.monotonic().ok()?.saturating_sub(begun))
+}
+
+/// How many milliseconds the journal takes in a frame of a match of two, if a sync takes so long and that is more than a
+/// frame has.
+pub fn slow_frame(sync: Duration) -> Option<u128> {
+    let frame = sync.saturating_mul(SYNCS_OF_FRAME);
+    if frame > Duration::from_secs(1) / RATE {
+        Some(frame.as_millis())
+    } else {
+        None
+    }
 }

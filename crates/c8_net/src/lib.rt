@@ -2,29 +2,31 @@
 //!
 //! `arguments` has the options, and `command` opens the files. `play` begins the match ([`prepare`], [`play_on`]), and
 //! `stage` plays it in threads: the workers of c8_live, paced by `pace`, and a viewer. A [`Performance`] plays a match
-//! in the caller's thread instead ([`perform_on`]). The transport is c8_udp. `watching` is the command `watch`. A [`Beat`]
-//! says when its pictures are due, and when the frames of a game are.
+//! in the caller's thread instead ([`perform_on`]). The transport is c8_udp, with c8_sealed over it in a match with a secret
+//! (`line`, `seals`). `watching` is the command `watch`.
 #![tactic(auto)]
 
 mod arguments;
-mod beat;
 mod command;
 mod error;
 mod fault;
 mod help;
 mod journal;
 mod key_list;
+mod line;
 mod pace;
 mod performance;
 mod play;
+mod seals;
 mod stage;
 mod watching;
 
 pub use arguments::{Asked, asked_for, number, number_of, peer_command, with_options};
-pub use beat::{Beat, Lateness};
 pub use command::{peer, peer_given, perform, perform_given, refuse};
 pub use error::{PeerError, Unopened};
 pub use fault::{Fault, game_at};
+pub use journal::slow_frame;
+pub use line::Line;
 pub use performance::{Ended, Performance};
 pub use play::{Prepared, Unprepared, perform_on, play_on, prepare};
 pub use watching::{WatchAsked, watch, watch_command, watch_given, watch_on};

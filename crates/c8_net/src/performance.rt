@@ -6,13 +6,14 @@ ghost use Rattle.c8_net.specs.Match.{HasEnded};
 
 use crate::arguments::Asked;
 use crate::error::Unopened;
+use crate::line::Line;
 use c8_disk::Disk;
 use c8_game::Game;
 use c8_live::{Session, SessionError};
 use c8_transport::WireFailed;
-use c8_udp::Addresses;
 use std::io::Write;
 use std::net::Net;
+use std::time::Clock;
 
 /// A session after its last turn, and how many turns were made or what ended them.
 #[derive(Drop)]
@@ -41,11 +42,11 @@ impl<'g, D: Disk> Ended<'g, D> {
 pub trait Performance {
     /// Opens the transport, and makes turns of a session of this game until the session is over or the performance
     /// ends. The error comes before the first turn.
-    fn perform<'g, R: Net, D: Disk + Drop, E: Write>(
+    fn perform<'g, R: Net + Clock, D: Disk + Drop, E: Write>(
         self,
         rt: &R,
         asked: &Asked<'_, '_>,
-        addresses: &Addresses,
+        line: Line,
         game: &Game,
         session: Session<'g, D>,
         progress: &mut E,

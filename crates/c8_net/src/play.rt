@@ -1,9 +1,9 @@
 //! A match over UDP: what it takes to begin, and how it is played on a journal.
 
 ghost use Rattle.std.specs.Prelude.{◌≡◌, ◌+◌, ℕ, length, IfOk, IfErr, IfSome};
-ghost use Rattle.c8_game.specs.GameText.{Spells};
 ghost use Rattle.c8_game.specs.Rules.{Rules};
 ghost use Rattle.c8_keys.specs.KeySets.{AreSetsOf};
+ghost use Rattle.c8_live.specs.Published.{MayShow};
 ghost use Rattle.c8_peer.specs.Opened.{IsOpened};
 ghost use Rattle.c8_peer.specs.Peer.{PeerValue};
 ghost use Rattle.c8_net.specs.Match.{IsNoKeys, IsNoMatch, HasEnded, HasPlayed, HasFailed};
@@ -11,6 +11,7 @@ ghost use Rattle.c8_net.specs.Match.{IsNoKeys, IsNoMatch, HasEnded, HasPlayed, H
 use crate::arguments::Asked;
 use crate::error::{PeerError, Unopened};
 use crate::key_list::KeyList;
+use crate::line::Line;
 use crate::performance::{Ended, Performance};
 use crate::stage::Stage;
 use c8_command::{TextError, text_of};
@@ -20,10 +21,11 @@ use c8_keys::{KeysError, Played, key_sets};
 use c8_live::laws::{machines_begin_where_they_did, true_checks_show_the_serial_run};
 use c8_live::{Session, tell_end};
 use c8_peer::{OpenError, Peer};
-use c8_udp::{Addresses, Bell, MOST_WATCHERS, PolledUdp, SocketError, SocketFault, Udp};
+use c8_sealed::{Seal, Sealed};
+use c8_udp::{Addresses, Bell, MOST_WATCHERS, PolledUdp};
 use c8_wire::Watcher;
 use std::alloc::Global;
-use std::io::{ErrorKind, Read, Write};
+use std::io::{Read, Write};
 use std::net::Net;
 use std::sync::Wait;
 use std::thread::Threads;
@@ -33,7 +35,7 @@ use std::time::Clock;
 #[derive(Drop)]
 pub struct Prepared {
     pub game: Game,
-    pub addresses: Addresses,
+    pub line: Line,
     /// The own player's key sets, one a tick.
     pub keys: Vec<Keys>,
 }
@@ -57,40 +59,34 @@ impl Unprepared {
     }
 }
 
-/// Reads what a match takes: the game that a text spells, the addresses of players and watchers, and the key sets of
-/// `input`. Faults are found in this order: the game, the number of remotes, the addresses, the reader, its key sets.
+/// Reads what a match of a game takes: the addresses of players and watchers, and the key sets of `input`; with a seal
+/// addresses may be learnt. Faults are found in this order: the number of remotes, the addresses, the reader, its key sets.
 pub fn prepare<I: Read + Drop>(
     alloc: Global,
-    text: &[u8],
-    input: I,
+    game: Game,
     me: Player,
     local: &str,
     remotes: &[&str],
     watchers: [Option<&str>; MOST_WATCHERS],
+    seal: Option<Seal>,
+    input: I,
 ) -> Result<Prepared, Unprepared>
-    ensures game { IfOk result (λ it. Spells text.now it.game) }
+    ensures game { IfOk result (λ it. it.game ≡ game) }
     ensures remotes { IfOk result (λ it. length remotes.now + 1 ≡ it.game.players) }
     ensures keys { IfOk result (λ it. IfSome (I.remaining input)
         (λ bytes. AreSetsOf bytes it.keys.items)) }
     ensures refused { IfErr result (λ it.
-        IsNoMatch text.now (I.remaining input) (length remotes.now) it.error) }
+        IsNoMatch game.players (I.remaining input) (length remotes.now) it.error) }
 {
-    let game = match Game::read(alloc, text) {
-        Ok(game) => game,
-        Err(error) => return Err(Unprepared::new(alloc, PeerError::Game(error))),
-    };
-    let addresses = match Addresses::read(game.players(), me, local, remotes) {
-        Ok(addresses) => addresses,
-        Err(error) => return Err(Unprepared::new(alloc, PeerError::Socket(error))),
-    };
-    let addresses = match addresses.watched_by(watchers) {
+    let may_learn = seal.is_some();
+    let addresses = match Addresses::read(game.players(), me, local, remotes, watchers, may_learn) {
         Ok(addresses) => addresses,
         Err(error) => return Err(Unprepared::new(alloc, PeerError::Socket(error))),
     };
     match keys_in(alloc, input) {
         Ok(keys) => Ok(Prepared {
             game,
-            addresses,
+            line: Line { addresses, seal },
             keys,
         }),
         Err(error) => Err(error),
@@ -136,11 +132,7 @@ where
     ensures refused { IfErr result
         (HasFailed D.Disk disk it.game asked.now.room asked.now.player.number) }
 {
-    let Prepared {
-        game,
-        addresses,
-        keys,
-    } = it;
+    let Prepared { game, line, keys } = it;
     let peer = match Peer::open(rt.alloc(), disk, &game, asked.player, asked.room) {
         Ok(peer) => peer,
         Err((error, _disk)) => return Err(PeerError::Open(error)),
@@ -148,30 +140,44 @@ where
     let Ok(stage) = Stage::open(rt.alloc(), &game, &peer) else {
         return Err(PeerError::from(Unopened::Memory));
     };
-    let wire = match polled_wire(rt, &addresses) {
+    let wire = match line.open_polled(rt) {
         Ok(wire) => wire,
         Err(error) => return Err(PeerError::from(error)),
     };
     let session = session_of(peer, &game, asked);
-    match stage.play(rt, asked, session, KeyList::new(keys), wire, progress) {
+    let keys = KeyList::new(keys);
+    match play_over(rt, asked, stage, session, keys, wire, line.seal, progress) {
         Ok(ended) => outcome_of(asked, ended, progress),
         Err(error) => Err(PeerError::from(error)),
     }
 }
 
-/// Opens the socket of a match, and lets it wait; with its bell.
-fn polled_wire<R>(rt: &R, addresses: &Addresses) -> Result<(PolledUdp, Bell), Unopened>
+/// Plays a session in threads over a socket, by sealed packets if there is a seal.
+fn play_over<'g, R, D, E>(
+    rt: &R,
+    asked: &Asked<'_, '_>,
+    stage: Stage,
+    session: Session<'g, D>,
+    keys: KeyList,
+    wire: (PolledUdp, Bell),
+    seal: Option<Seal>,
+    progress: &mut E,
+) -> Result<Ended<'g, D>, Unopened>
 where
-    R: Net + AllocGlobal,
+    R: Clock + Threads + Wait + Sync,
+    D: Disk + Drop,
+    E: Write + Send,
+    requires { MayShow session.peer stage.pen }
+    ensures { IfOk result (λ ended.
+        HasEnded D.Disk session.entry.peer ended.session.peer ended.turns) }
 {
-    let udp = match Udp::open(rt, addresses) {
-        Ok(udp) => udp,
-        Err(fault) => return Err(Unopened::Socket(fault)),
-    };
-    match PolledUdp::over(rt, udp) {
-        Ok(wire) => Ok(wire),
-        Err(error) if error.kind() == ErrorKind::OutOfMemory => Err(Unopened::Memory),
-        Err(error) => Err(Unopened::Socket(SocketFault::of(&error))),
+    let (udp, bell) = wire;
+    match seal {
+        None => stage.play(rt, asked, session, keys, (udp, bell), progress),
+        Some(seal) => {
+            let sealed = Sealed::over(rt, udp, seal);
+            stage.play(rt, asked, session, keys, (sealed, bell), progress)
+        }
     }
 }
 
@@ -185,7 +191,7 @@ pub fn perform_on<R, D, P, E>(
     progress: &mut E,
 ) -> Result<Played, PeerError>
 where
-    R: Net + AllocGlobal,
+    R: Net + Clock + AllocGlobal,
     D: Disk + Drop,
     P: Performance + Drop,
     E: Write,
@@ -194,17 +200,13 @@ where
     ensures refused { IfErr result
         (HasFailed D.Disk disk it.game asked.now.room asked.now.player.number) }
 {
-    let Prepared {
-        game,
-        addresses,
-        ..
-    } = it;
+    let Prepared { game, line, .. } = it;
     let peer = match Peer::open(rt.alloc(), disk, &game, asked.player, asked.room) {
         Ok(peer) => peer,
         Err((error, _disk)) => return Err(PeerError::Open(error)),
     };
     let session = session_of(peer, &game, asked);
-    match performance.perform(rt, asked, &addresses, &game, session, progress) {
+    match performance.perform(rt, asked, line, &game, session, progress) {
         Ok(ended) => outcome_of(asked, ended, progress),
         Err(error) => Err(PeerError::from(error)),
     }

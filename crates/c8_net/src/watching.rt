@@ -16,16 +16,22 @@ mod stage;
 use crate::command::refuse;
 use crate::error::PeerError;
 use crate::fault::{Fault, game_at};
+use crate::line::Line;
+use crate::seals::watch_seal_at;
 use arguments::asked_of;
 pub use arguments::{WatchAsked, watch_command};
 use c8_command::Status;
+use c8_front::Terminals;
 use c8_game::Game;
 use c8_keys::{Played, write_report};
 use c8_peer::OpenError;
+use c8_sealed::{Seal, Sealed};
+use c8_secret::warn_of_readers;
 use c8_spectator::Spectator;
 use c8_transport::Wire;
-use c8_udp::{Addresses, SocketError, SocketFault, Udp, refused_address};
+use c8_udp::{Addresses, SocketError, SocketFault, refused_address};
 use c8_watch::laws::turns_take_nothing_back;
+use c8_wire::Seat;
 use clap::ArgMatches;
 use stage::Stage;
 use std::fs::File;
@@ -37,11 +43,11 @@ use std::sync::Wait;
 use std::thread::Threads;
 use std::time::Clock;
 
-/// Runs `watch` as the command line asks. `--screen` is refused unless `out` is a terminal. The error is a writer's.
+/// Runs `watch` as the command line asks. `--screen` is refused unless standard output is a terminal. The error is a writer's.
 pub fn watch_given<R, W, E>(
     rt: &R,
     given: &ArgMatches<'_>,
-    is_terminal: bool,
+    terminals: Terminals,
     out: &mut W,
     refused: &mut E,
 ) -> io::Result<Status>
@@ -51,7 +57,7 @@ where
     E: Write,
 {
     match asked_of(given) {
-        Some(asked) if asked.screen && !is_terminal => {
+        Some(asked) if asked.screen && !terminals.output => {
             writeln!(refused, "error: --screen wants a terminal to draw on")?;
             Ok(Status::CommandLine)
         }
@@ -76,34 +82,44 @@ where
     ensures { IfOk result (λ status. (outcome : Result Played PeerError)
         × (status ≡ status_of_outcome peer_part outcome)) }
 {
+    if let Some(path) = asked.secret {
+        warn_of_readers(rt, path, refused)?;
+    }
     match watched(rt, asked, out) {
         Ok(Played { frames, machine }) => {
             write_report(out, frames, &machine)?;
             Ok(Status::Done)
         }
         Err(fault) => {
-            let word = refused_address(asked.local, &[asked.remote], [None, None]);
+            let word = refused_address(asked.local, &[asked.remote], [None, None], false);
             refuse(rt.alloc(), asked.explain, word, &fault, refused)
         }
     }
 }
 
 /// Watches a match of the game in a file, and returns the machine at the end. Faults are found in this order: the
-/// game's file, the game, the addresses, the socket, out of memory.
+/// game's file, the game, the secret, the addresses, the socket, out of memory.
 fn watched<'a, R, W>(rt: &R, asked: &WatchAsked<'a>, out: &mut W) -> Result<Played, Fault<'a>>
 where
     R: Files<File = File> + Net + Clock + Threads + Wait + Sync + AllocGlobal,
     W: Write,
 {
     let game = game_at(rt, asked.game)?;
-    watched_at(rt, asked, &game, out).map_err(|error| Fault::new(rt.alloc(), error, asked.game))
+    let session = game.session(asked.room);
+    let seal = watch_seal_at(rt, asked.secret, Seat::from(asked.seat), session)?;
+    watched_at(rt, asked, &game, seal, out).map_err(|error| Fault::new(
+        rt.alloc(),
+        error,
+        asked.game,
+    ))
 }
 
-/// Watches a match of a game.
+/// Watches a match of a game, by sealed packets if there is a seal.
 fn watched_at<R, W>(
     rt: &R,
     asked: &WatchAsked<'_>,
     game: &Game,
+    seal: Option<Seal>,
     out: &mut W,
 ) -> Result<Played, PeerError>
 where
@@ -114,8 +130,12 @@ where
         Ok(addresses) => addresses,
         Err(error) => return Err(PeerError::Socket(error)),
     };
-    match Udp::open(rt, &addresses) {
-        Ok(wire) => watch_on(rt, asked, game, wire, out),
+    let line = Line { addresses, seal };
+    match line.open(rt) {
+        Ok(wire) => match line.seal {
+            None => watch_on(rt, asked, game, wire, out),
+            Some(seal) => watch_on(rt, asked, game, Sealed::over(rt, wire, seal), out),
+        },
         Err(fault) => Err(PeerError::Socket(SocketError::Failed(fault))),
     }
 }

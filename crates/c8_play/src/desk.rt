@@ -11,8 +11,8 @@ ghost use Rattle.c8_play.specs.Typing.{HasCome, HasRead, HasCounted, AreHeld, re
 ghost use Rattle.c8_play.specs.Desk.{typing, seen_at, drawn_at, IsSameDesk, MayForget, HasShown};
 
 use crate::console::{Console, KEY_BYTES};
+use c8_beat::{Beat, Lateness};
 use c8_game::Keys;
-use c8_net::{Beat, Lateness};
 use c8_screen::Screen;
 use c8_terminal::{Decoder, Held, Painter, Signal};
 use mio::event::Source;
@@ -50,6 +50,8 @@ pub struct Desk<C> {
     has_left: bool,
     /// Whether something else may have been written on the screen.
     is_spoilt: bool,
+    /// Whether the person gives up another player, by control-D.
+    gives_up: bool,
 }
 
 impl<C: Console> Desk<C> {
@@ -67,6 +69,7 @@ impl<C: Console> Desk<C> {
             last: now,
             has_left,
             is_spoilt: false,
+            gives_up: false,
         }
     }
 
@@ -222,6 +225,7 @@ impl<C: Console> Desk<C> {
                 self.painter.forget();
                 self.is_spoilt = true;
             }
+            Signal::GiveUp => self.gives_up = true,
             _ => {}
         }
         self.held.note(signal);
@@ -235,6 +239,15 @@ impl<C: Console> Desk<C> {
         let is_spoilt = self.is_spoilt;
         self.is_spoilt = false;
         is_spoilt
+    }
+
+    /// Whether the person has given up the player whom the match waits for; then resets this.
+    pub fn take_gives_up(&mut self) -> bool
+        ensures { IsSameDesk C.Console self.old self.new }
+    {
+        let gives_up = self.gives_up;
+        self.gives_up = false;
+        gives_up
     }
 
     /// Paints a screen, then writes `row`, which must not change the screen's rows.

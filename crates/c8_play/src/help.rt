@@ -17,8 +17,9 @@ The screen takes 64 columns and 16 rows of the terminal. The row below is update
 at once when the game waits for a player:
   423/421  waits for 2  2: 16 ms  back 3, longest 5
 423 frames are ticked and 421 confirmed. The game waits for player 2, whose last datagram came 16 ms
-ago. In the last second the peer rolled back 3 times, over 5 frames at most. When the game ends, the
-machine after the confirmed frames is printed.
+ago. In the last second the peer rolled back 3 times, over 5 frames at most. Once a player has been silent
+for three seconds, player 1 may drop it: control-D, and control-D again. When the game ends, the machine
+after the confirmed frames is printed.
 
 Alone, and two players, each in a terminal of their own:
   ./c8play play games/rally.game alone
@@ -26,7 +27,7 @@ Alone, and two players, each in a terminal of their own:
   ./c8play play games/rally.game 2 two.journal 127.0.0.1:4002 127.0.0.1:4001
 
 In each frame the journal takes at most two records for each player, and each record waits for the disk
-twice. With - in the place of JOURNAL and a new --room nothing is written, and no frame waits for a disk;
+twice; a line before the match says if this disk is too slow for that. With - in the place of JOURNAL and a new --room nothing is written, and no frame waits for a disk;
 a player whose program ends cannot come back.
 
 A turn is a frame; --rate says how many are made a second. The other options, the refusals and the exit

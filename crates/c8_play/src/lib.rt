@@ -20,7 +20,6 @@ mod terminal;
 
 pub use alone::play_alone;
 pub use arguments::play_command;
-pub use c8_net::{Beat, Lateness};
 pub use command::play_given;
 pub use console::{Console, Gone, KEY_BYTES};
 pub use desk::{Desk, Pace};

@@ -3,6 +3,7 @@
 ghost use Rattle.std.specs.Prelude.{◌≡◌, ◌≤◌, ◌↔◌, ℕ, IsTrue, IfOk, IfErr};
 ghost use Rattle.c8_live.specs.Runs.{HasRunOn, IsEnd};
 ghost use Rattle.c8_net.specs.Match.{HasEnded};
+ghost use Rattle.c8_play.specs.Desk.{IsSameDesk};
 ghost use Rattle.c8_play.specs.Frames.{IsFrame, IsSeen, HasPlayed, HasWaited, AreFrames, IsEnough, IsEndOfPlay};
 ghost use Rattle.c8_play.specs.Lead.{window_of, patience_of, frames_of};
 
@@ -10,17 +11,19 @@ use crate::console::Console;
 use crate::desk::{Desk, Pace};
 use crate::lead::{Lead, hindmost};
 use crate::status::StatusRow;
+use c8_beat::Lateness;
 use c8_disk::Disk;
-use c8_game::Game;
+use c8_game::{Game, Player};
 use c8_live::laws::{hearings_join, peers_run_on};
 use c8_live::{Session, SessionError};
-use c8_net::{Asked, Ended, Lateness, Performance, Unopened};
+use c8_net::{Asked, Ended, Line, Performance, Unopened};
 use c8_peer::Peer;
+use c8_sealed::Sealed;
 use c8_transport::{Losses, Wire};
-use c8_udp::{Addresses, Udp};
 use std::io;
 use std::io::Write;
 use std::net::Net;
+use std::time::Clock;
 
 /// How often a peer listens before a frame at most, so that a flood of packets cannot stop it.
 const MOST_RESTS: u16 = 1000;
@@ -33,31 +36,53 @@ pub struct Live<C> {
 }
 
 impl<C: Console + Drop> Performance for Live<C> {
-    fn perform<'g, R: Net, D: Disk + Drop, E: Write>(
+    fn perform<'g, R: Net + Clock, D: Disk + Drop, E: Write>(
         self,
         rt: &R,
         asked: &Asked<'_, '_>,
-        addresses: &Addresses,
+        line: Line,
         game: &Game,
         session: Session<'g, D>,
         progress: &mut E,
     ) -> Result<Ended<'g, D>, Unopened> {
-        let mut wire = match Udp::open(rt, addresses) {
-            Ok(wire) => wire,
+        let mut udp = match line.open(rt) {
+            Ok(udp) => udp,
             Err(error) => return Err(Unopened::Socket(error)),
         };
         let Live { console, pace } = self;
         let mut desk = Desk::new(console, pace);
-        desk.wake_at(&mut wire);
-        let mut session = session;
-        let turns = play_frames(&mut session, &mut wire, &mut desk, game, pace.rate, asked);
-        let lateness = desk.end();
-        if asked.progress {
-            let _ = tell_lateness(progress, &lateness);
-            let _ = tell_foreign(progress, wire.losses());
+        desk.wake_at(&mut udp);
+        match line.seal {
+            None => Ok(play_over(udp, desk, session, game, pace.rate, asked, progress)),
+            Some(seal) => {
+                let sealed = Sealed::over(rt, udp, seal);
+                Ok(play_over(sealed, desk, session, game, pace.rate, asked, progress))
+            }
         }
-        Ok(Ended { session, turns })
     }
+}
+
+/// Plays a session over a wire at a desk, and tells what `--progress` asks for.
+fn play_over<'g, D: Disk, W: Wire + Drop, C: Console + Drop, E: Write>(
+    wire: W,
+    desk: Desk<C>,
+    session: Session<'g, D>,
+    game: &Game,
+    rate: u8,
+    asked: &Asked<'_, '_>,
+    progress: &mut E,
+) -> Ended<'g, D>
+    requires { session.peer.rules ≡ game.now }
+    ensures { HasEnded D.Disk session.entry.peer result.session.peer result.turns }
+{
+    let (mut session, mut wire, mut desk) = (session, wire, desk);
+    let turns = play_frames(&mut session, &mut wire, &mut desk, game, rate, asked);
+    let lateness = desk.end();
+    if asked.progress {
+        let _ = tell_lateness(progress, &lateness);
+        let _ = tell_turned_away(progress, wire.losses());
+    }
+    Ended { session, turns }
 }
 
 /// Writes how late frames were.
@@ -69,11 +94,18 @@ pub(crate) fn tell_lateness<E: Write>(out: &mut E, lateness: &Lateness) -> io::R
     )
 }
 
-/// Writes how many packets came from elsewhere, if any did.
-fn tell_foreign<E: Write>(out: &mut E, losses: Losses) -> io::Result<()> {
-    let Losses { foreign, .. } = losses;
+/// Writes how many packets came from elsewhere, and how many were not sealed, if any were.
+fn tell_turned_away<E: Write>(out: &mut E, losses: Losses) -> io::Result<()> {
+    let Losses {
+        foreign,
+        unsealed,
+        ..
+    } = losses;
     if foreign > 0 {
         writeln!(out, "{foreign} packets from elsewhere")?;
+    }
+    if unsealed > 0 {
+        writeln!(out, "{unsealed} packets not sealed")?;
     }
     Ok(())
 }
@@ -210,24 +242,52 @@ fn enter<D: Disk, W: Wire, C: Console>(
 }
 
 /// Shows the picture of a frame. If the player is at the window's limit, the row says that it waits for the player with
-/// the fewest known inputs.
+/// the fewest known inputs, and player 1 may give that one up.
 fn show<D: Disk, C: Console>(
-    session: &Session<'_, D>,
+    session: &mut Session<'_, D>,
     desk: &mut Desk<C>,
     status: &mut StatusRow,
     entry: Entry,
 )
-    ensures { IsSeen C.Console session.now.peer desk.old desk.new }
+    ensures seen { IsSeen C.Console session.old.peer desk.old desk.new }
+    ensures peer { session.new.peer ≡ session.old.peer }
 {
-    let peer = session.peer();
-    let is_held_up = entry == Entry::Refused && peer.confirmed() < session.frames();
-    let waits = if is_held_up { hindmost(peer) } else { None };
+    let waits = waited_for(session, entry);
     if desk.take_spoilt() {
         status.forget();
     }
+    consider(session, desk, status, waits);
     let now = desk.now();
+    let peer = session.peer();
     desk.show(
         peer.shown().screen(),
         status.row(now, peer.confirmed(), waits),
     );
+}
+
+/// The player whom the match waits for, if it waits.
+fn waited_for<D: Disk>(session: &Session<'_, D>, entry: Entry) -> Option<Player> {
+    let peer = session.peer();
+    if entry == Entry::Refused && peer.confirmed() < session.frames() {
+        hindmost(peer)
+    } else {
+        None
+    }
+}
+
+/// Gives up the player whom the match waits for, if the person wants that, and has said it twice.
+fn consider<D: Disk, C: Console>(
+    session: &mut Session<'_, D>,
+    desk: &mut Desk<C>,
+    status: &mut StatusRow,
+    waits: Option<Player>,
+)
+    ensures desk { IsSameDesk C.Console desk.old desk.new }
+    ensures peer { session.new.peer ≡ session.old.peer }
+{
+    if desk.take_gives_up()
+        && let Some(player) = status.give_up(waits)
+    {
+        session.give_up(player);
+    }
 }

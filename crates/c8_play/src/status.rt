@@ -24,6 +24,12 @@ const CLEAR: &[u8] = b"\x1b[17;1H\x1b[K";
 /// How many seconds lie between two updates of the numbers.
 const EVERY: u64 = 1;
 
+/// After so many seconds of a player's silence the row tells player 1 how to drop it.
+const LONG: u128 = 3;
+
+/// How many milliseconds a second has.
+const SECOND: u128 = 1000;
+
 /// The numbers of the row.
 #[derive(Clone, Copy, Default)]
 struct Numbers {
@@ -52,6 +58,8 @@ pub struct StatusRow {
     rollbacks: u64,
     longest: u64,
     numbers: Numbers,
+    /// The player whom one more control-D drops.
+    asked: Option<Player>,
     /// What the terminal shows in the row.
     shown: ArrayVec<u8, LONGEST_ROW>,
 }
@@ -69,6 +77,7 @@ impl StatusRow {
             rollbacks: 0,
             longest: 0,
             numbers: Numbers::default(),
+            asked: None,
             shown: ArrayVec::new(),
         }
     }
@@ -83,6 +92,17 @@ impl StatusRow {
         self.shown.clear();
     }
 
+    /// Takes a control-D while the match waits for a player. Returns that player at the second one, if this is player 1.
+    pub fn give_up(&mut self, waits: Option<Player>) -> Option<Player> {
+        let player = waits.filter(|_| self.me.is_chair())?;
+        if self.asked == Some(player) {
+            self.asked = None;
+            return Some(player);
+        }
+        self.asked = Some(player);
+        None
+    }
+
     /// The bytes that make the terminal show how far the match is, by all that was noted; none if it already does.
     pub fn row(&mut self, now: Duration, confirmed: u32, waits: Option<Player>) -> &[u8] {
         let standing = self.counters.take();
@@ -91,9 +111,10 @@ impl StatusRow {
 
     /// The bytes of the row for a peer that is this far. The text is like `423/421  waits for 2  2: 16 ms  back 3,
     /// longest 5`: how many frames are ticked and confirmed; `the machines differ` while the alarm stands; the player
-    /// that the match waits for, which changes at once; how long each other player has been silent; how often the peer
-    /// rolled back in the last second, and the most frames that one rollback simulated again. The text is cut off after
-    /// 64 characters, or after 80 with more than two players.
+    /// that the match waits for, which changes at once, with whole seconds of its silence, as `waits for 2: 12 s`, and at
+    /// player 1 how to drop it; how long each other player has been silent; how often the peer rolled back in the last
+    /// second, and the most frames that one rollback simulated again. The text is cut off after 64 characters, or after 80
+    /// with more than two players.
     pub fn row_of(
         &mut self,
         now: Duration,
@@ -102,6 +123,9 @@ impl StatusRow {
         waits: Option<Player>,
     ) -> &[u8] {
         self.hear(now, standing);
+        if self.asked != waits {
+            self.asked = None;
+        }
         if now >= self.due {
             self.due = now.saturating_add(Duration::from_secs(EVERY));
             self.look(now, confirmed, standing);
@@ -171,11 +195,26 @@ impl StatusRow {
             write!(out, "  the machines differ")?;
         }
         if let Some(player) = waits {
-            let number = player.number;
-            write!(out, "  waits for {number}")?;
+            self.write_wait(out, player)?;
         }
         self.write_silence(out)?;
         write!(out, "  back {rollbacks}, longest {longest}")
+    }
+
+    /// Writes that the match waits for a player, and how player 1 drops it.
+    fn write_wait<E: Write>(&self, out: &mut E, player: Player) -> io::Result<()> {
+        let number = player.number;
+        let seconds = self.numbers.silent[player.place()] / SECOND;
+        write!(out, "  waits for {number}")?;
+        if seconds > 0 {
+            write!(out, ": {seconds} s")?;
+        }
+        if self.asked == Some(player) {
+            write!(out, "  control-D again drops {number}")?;
+        } else if self.me.is_chair() && seconds >= LONG {
+            write!(out, "  control-D drops {number}")?;
+        }
+        Ok(())
     }
 
     /// Writes how long each other player has been silent.

@@ -4,7 +4,7 @@ ghost use Rattle.std.specs.Prelude.{◌≡◌};
 use c8_game::Game;
 use c8_net::{WatchAsked, watch_command, watch_given, watch_on};
 use c8_terminal::{ENTER, LEAVE};
-use c8_transport::{LONGEST_PACKET, Traffic, Wire, WireFailed};
+use c8_transport::{Traffic, Wire, WireFailed};
 use c8_wire::{Seat, Watcher};
 use std::alloc::Global;
 use std::fs::File;
@@ -95,7 +95,7 @@ impl Wire for Shows {
         Ok(())
     }
 
-    fn receive(&mut self, packet: &mut [u8; LONGEST_PACKET]) -> Result<Option<usize>, WireFailed> {
+    fn receive(&mut self, packet: &mut [u8]) -> Result<Option<usize>, WireFailed> {
         self.has_come = !self.has_come;
         if !self.has_come {
             return Ok(None);
@@ -213,6 +213,7 @@ where
         seat: Watcher { number: 5 },
         local: "",
         remote: "",
+        secret: None,
         room: 3,
         turns: row.turns,
         stop: None,

@@ -55,6 +55,8 @@ where
         local,
         remotes: Some(&[remote]),
         watchers: [None, None],
+        secret: None,
+        watch_secret: None,
         room: 3,
         has_room: true,
         turns: 10_000,

@@ -29,7 +29,7 @@ static ROWS: [Told; 8] = [
     (
         1_500,
         Some(2),
-        b"\x1b[17;1H\x1b[K0/7  waits for 2  2: 1500 ms  back 0, longest 0",
+        b"\x1b[17;1H\x1b[K0/7  waits for 2: 1 s  2: 1500 ms  back 0, longest 0",
     ),
     (1_600, None, LAST),
     (2_400, None, b""),
@@ -108,7 +108,7 @@ static OF_TWO: [Look; 5] = [
         heard: [2, 0, 0, 0],
         is_alarmed: false,
         waits: Some(1),
-        wanted: b"\x1b[17;1H\x1b[K423/421  waits for 1  1: 1016 ms  back 3, longest 6",
+        wanted: b"\x1b[17;1H\x1b[K423/421  waits for 1: 1 s  1: 1016 ms  back 3, longest 6",
     },
     Look {
         millis: 2_216,
@@ -121,7 +121,7 @@ static OF_TWO: [Look; 5] = [
         waits: None,
         wanted: b"\x1b[17;1H\x1b[K480/479  the machines differ  1: 0 ms  back 2, longest 1",
     },
-    // 70 characters, of which 64 are written
+    // 83 characters, of which 64 are written
     Look {
         millis: 10_000_000_002_216,
         confirmed: 262_136,
@@ -131,7 +131,7 @@ static OF_TWO: [Look; 5] = [
         heard: [3, 0, 0, 0],
         is_alarmed: false,
         waits: Some(1),
-        wanted: b"\x1b[17;1H\x1b[K262144/262136  waits for 1  1: 10000000000000 ms  back 123, long",
+        wanted: b"\x1b[17;1H\x1b[K262144/262136  waits for 1: 10000000000 s  1: 10000000000000 ms ",
     },
 ];
 
@@ -157,9 +157,9 @@ static OF_FOUR: [Look; 3] = [
         heard: [2, 0, 9, 2],
         is_alarmed: false,
         waits: Some(2),
-        wanted: b"\x1b[17;1H\x1b[K99/88  waits for 2  1: 1100 ms  2: 1200 ms  4: 0 ms  back 11, longest 7",
+        wanted: b"\x1b[17;1H\x1b[K99/88  waits for 2: 1 s  1: 1100 ms  2: 1200 ms  4: 0 ms  back 11, longest 7",
     },
-    // 99 characters, of which 80 are written
+    // 109 characters, of which 80 are written
     Look {
         millis: 123_456_989,
         confirmed: 262_136,
@@ -169,7 +169,7 @@ static OF_FOUR: [Look; 3] = [
         heard: [2, 0, 9, 2],
         is_alarmed: false,
         waits: Some(2),
-        wanted: b"\x1b[17;1H\x1b[K262144/262136  waits for 2  1: 123456789 ms  2: 123456889 ms  4: 123455689 ms  b",
+        wanted: b"\x1b[17;1H\x1b[K262144/262136  waits for 2: 123456 s  1: 123456789 ms  2: 123456889 ms  4: 12345",
     },
 ];
 
@@ -186,6 +186,7 @@ fn are_told(number: u8, players: u8, looks: &[Look]) -> bool {
             is_alarmed: look.is_alarmed,
             lost: 0,
             foreign: 0,
+            unsealed: 0,
         };
         let now = Duration::from_millis(look.millis);
         let waits = look.waits.and_then(Player::new);
@@ -201,4 +202,50 @@ fn are_told(number: u8, players: u8, looks: &[Look]) -> bool {
 fn a_row_tells_all_and_is_cut(rt: HostRuntime) {
     assert!(rt; are_told(2, 2, &OF_TWO));
     assert!(rt; are_told(3, 4, &OF_FOUR));
+}
+
+/// What a row says of player 2 after 3.5 seconds of silence: at player 1, and once player 1 has asked to drop it.
+const DROPS: &[u8] =
+    b"\x1b[17;1H\x1b[K0/7  waits for 2: 3 s  control-D drops 2  2: 3500 ms  back 0, lo";
+
+const AGAIN: &[u8] =
+    b"\x1b[17;1H\x1b[K0/7  waits for 2: 3 s  control-D again drops 2  2: 3500 ms  back";
+
+/// Whether the second control-D in a row drops the player whom the match waits for.
+fn drops_at_the_second() -> bool {
+    let two = Player { number: 2 };
+    let mut status = StatusRow::new(Duration::from_secs(0), Player::CHAIR, 2);
+    is_row(&mut status, 3_500, Some(2), DROPS)
+        && status.give_up(None).is_none()
+        && status.give_up(Some(two)).is_none()
+        && is_row(&mut status, 3_600, Some(2), AGAIN)
+        && status.give_up(Some(two)) == Some(two)
+        && status.give_up(Some(two)).is_none()
+        // the match goes on meanwhile
+        && is_row(
+            &mut status,
+            3_700,
+            None,
+            b"\x1b[17;1H\x1b[K0/7  2: 3500 ms  back 0, longest 0",
+        )
+        && status.give_up(Some(two)).is_none()
+}
+
+/// Whether another player than player 1 is told nothing of that, and drops nobody.
+fn only_player_one_drops() -> bool {
+    let one = Player::CHAIR;
+    let mut status = StatusRow::new(Duration::from_secs(0), Player { number: 2 }, 2);
+    is_row(
+        &mut status,
+        3_500,
+        Some(1),
+        b"\x1b[17;1H\x1b[K0/7  waits for 1: 3 s  1: 3500 ms  back 0, longest 0",
+    ) && status.give_up(Some(one)).is_none()
+        && status.give_up(Some(one)).is_none()
+}
+
+#[test]
+fn control_d_drops_a_player(rt: HostRuntime) {
+    assert!(rt; drops_at_the_second());
+    assert!(rt; only_player_one_drops());
 }

@@ -27,6 +27,7 @@ where
         seat: Watcher { number: 5 },
         local: "",
         remote: "",
+        secret: None,
         room: 3,
         turns: TURNS,
         stop: Some(ENOUGH),

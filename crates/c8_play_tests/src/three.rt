@@ -9,7 +9,7 @@ use c8_live::Session;
 use c8_net::Asked;
 use c8_peer::{Kind, Peer};
 use c8_play::{Desk, Pace, play_frames};
-use c8_transport::{LONGEST_PACKET, Traffic, Wire, WireFailed};
+use c8_transport::{Traffic, Wire, WireFailed};
 use c8_wire::{LONGEST_DATAGRAM, Seat};
 use std::alloc::Global;
 
@@ -56,7 +56,7 @@ impl<'g> Wire for Way<'g> {
         Ok(())
     }
 
-    fn receive(&mut self, packet: &mut [u8; LONGEST_PACKET]) -> Result<Option<usize>, WireFailed> {
+    fn receive(&mut self, packet: &mut [u8]) -> Result<Option<usize>, WireFailed> {
         let Some(kind) = self.next else {
             return Ok(None);
         };
@@ -99,6 +99,8 @@ fn asked_for() -> Asked<'static, 'static> {
         local: "",
         remotes: None,
         watchers: [None, None],
+        secret: None,
+        watch_secret: None,
         room: 0,
         has_room: true,
         turns: 12,

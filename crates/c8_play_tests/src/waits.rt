@@ -10,7 +10,7 @@ use c8_live::Session;
 use c8_net::Asked;
 use c8_peer::Peer;
 use c8_play::{Desk, Pace, play_frames};
-use c8_transport::{LONGEST_PACKET, Wire, WireFailed};
+use c8_transport::{Wire, WireFailed};
 use c8_wire::Seat;
 use std::alloc::Global;
 use std::time::Duration;
@@ -44,7 +44,7 @@ impl Wire for Nowhere {
         Ok(())
     }
 
-    fn receive(&mut self, _: &mut [u8; LONGEST_PACKET]) -> Result<Option<usize>, WireFailed> {
+    fn receive(&mut self, _: &mut [u8]) -> Result<Option<usize>, WireFailed> {
         self.asked = self.asked.saturating_add(1);
         Ok(None)
     }
@@ -105,6 +105,8 @@ fn asked_for(row: Row) -> Asked<'static, 'static> {
         local: "",
         remotes: None,
         watchers: [None, None],
+        secret: None,
+        watch_secret: None,
         room: 0,
         has_room: true,
         turns: row.turns,

@@ -90,11 +90,8 @@ impl ReplayFault {
                 Refusal { part, number, name }.tell_at(site, &self, out)
             }
             ReplayFault::Beyond(_) => {
-                writeln!(out, "refused: replay 1 Beyond")?;
-                if let Some(site) = site {
-                    site.explain(&self, out)?;
-                }
-                Ok(Status::Refused)
+                let (part, number, name) = (Part::Replay, 1, "Beyond");
+                Refusal { part, number, name }.tell_at(site, &self, out)
             }
         }
     }

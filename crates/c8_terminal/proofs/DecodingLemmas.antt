@@ -2,7 +2,7 @@
 use Rattle.std.proofs.Common.{rules, sym, subst, ◌≡◌, ℕ, ◌<◌, Bool, true, false, cond, Option, Some, None}
 use Rattle.std.specs.Prelude.{◌==◌, nat_lt, IfSome}
 use Rattle.c8_terminal.specs.declared.signal.Signal.{Signal}
-use Rattle.c8_terminal.specs.declared.signal.Signal.TheVariants.{LetGo, Quit, Repaint}
+use Rattle.c8_terminal.specs.declared.signal.Signal.TheVariants.{LetGo, Quit, Repaint, GiveUp}
 use Rattle.c8_terminal.specs.Decoder.{IsOfKeypad}
 use Rattle.c8_terminal.specs.Decoding.{Reading, Nothing, Escape, Single, Control, Answer, Foreign, Numbers, Step, alone, answer_with, arrow, character, control_ended, control_with, exact_after, exact_after_answer, has_control, is_last, is_letter, is_text, key_at, key_event, meaning, no_numbers, reads, step_in, tells, told_of_any}
 use Rattle.c8_terminal.specs.Keyboard.{key_of, arrow_key}
@@ -41,7 +41,7 @@ key_event_fine n exact =
     let told : Fine (told_of_any (key_at n) n.event exact) = told_fine (key_at n) n.event exact key in
     either (nat_lt 2 n.event) _ _ told
     (either (n.code == 27) (Some Quit) _ tt
-    (either (has_control n) _ _ (either (is_letter 0x63 n) (Some Quit) _ tt (either (is_letter 0x6C n) (Some Repaint) None tt tt)) told))
+    (either (has_control n) _ _ (either (is_letter 0x63 n) (Some Quit) _ tt (either (is_letter 0x64 n) (Some GiveUp) _ tt (either (is_letter 0x6C n) (Some Repaint) None tt tt))) told))
 
 meaning_fine : (b : ℕ) (n : Numbers) (exact : Bool) → Fine (meaning b n exact)
 meaning_fine b n exact = either (b == 0x75) _ _ (key_event_fine n exact) (either (b == 0x4F) (Some LetGo) _ tt (arrow_fine b n.event exact))
@@ -49,7 +49,7 @@ meaning_fine b n exact = either (b == 0x75) _ _ (key_event_fine n exact) (either
 alone_fine : (b : ℕ) (exact : Bool) → IsFine (alone b exact)
 alone_fine b exact =
     either_step (b == 0x1B) (reads Escape exact) (tells (character b) exact) tt
-    (either (b == 3) (Some Quit) _ tt (either (b == 12) (Some Repaint) _ tt (told_fine (key_of b) 0 false (key_of-below b))))
+    (either (b == 3) (Some Quit) _ tt (either (b == 4) (Some GiveUp) _ tt (either (b == 12) (Some Repaint) _ tt (told_fine (key_of b) 0 false (key_of-below b)))))
 
 step_fine : (reading : Reading) (b : ℕ) (exact : Bool) → IsFine (step_in reading b exact)
 step_fine Nothing b exact = alone_fine b exact

@@ -1,7 +1,7 @@
 -- The state of a decoder, and what one more byte does to it.
 use Rattle.std.specs.Prelude.{ℕ, ◌+◌, ◌-◌, ◌*◌, ◌/◌, ◌%◌, ◌==◌, ◌&&◌, ◌||◌, Bool, false, min, nat_lt, nat_le, Option, Some, None, if◌then◌else◌}
 use Rattle.c8_terminal.specs.declared.signal.Signal.{Signal}
-use Rattle.c8_terminal.specs.declared.signal.Signal.TheVariants.{Struck, Down, Up, LetGo, Quit, Repaint}
+use Rattle.c8_terminal.specs.declared.signal.Signal.TheVariants.{Struck, Down, Up, LetGo, Quit, Repaint, GiveUp}
 use Rattle.c8_terminal.specs.Keyboard.{key_of, arrow_key, small}
 
 -- The numbers of a control sequence so far. `;` separates its fields, `:` the parts of a field; both are counted from
@@ -77,10 +77,11 @@ abbrev pub told_of_any : Option ℕ → ℕ → Bool → Option Signal
 told_of_any None event exact = None
 told_of_any (Some key) event exact = told_of event exact key
 
--- a byte that is a character: control-C, control-L, or another
+-- a byte that is a character: control-C, control-D, control-L, or another
 abbrev pub character : ℕ → Option Signal
 character b =
     if b == 0x03 then Some Quit
+    else if b == 0x04 then Some GiveUp
     else if b == 0x0C then Some Repaint
     else told_of_any (key_of b) 0 false
 
@@ -155,9 +156,13 @@ has_control n = ((n.modifiers - 1) / 4) % 2 == 1
 abbrev pub is_letter : ℕ → Numbers → Bool
 is_letter letter n = small n.code == letter || small n.base == letter
 
--- a letter with control: C or L
+-- a letter with control: C, D or L
 abbrev pub with_control : Numbers → Option Signal
-with_control n = if is_letter 0x63 n then Some Quit else if is_letter 0x6C n then Some Repaint else None
+with_control n =
+    if is_letter 0x63 n then Some Quit
+    else if is_letter 0x64 n then Some GiveUp
+    else if is_letter 0x6C n then Some Repaint
+    else None
 
 -- the signal of an event of a key: a release counts whatever else is held; a press of escape ends; a press with control
 -- is no key of the keypad

@@ -12,6 +12,8 @@ const ESC: u8 = 0x1b;
 
 const CONTROL_C: u8 = 0x03;
 
+const CONTROL_D: u8 = 0x04;
+
 const CONTROL_L: u8 = 0x0c;
 
 /// The part of a sequence that has been read.
@@ -198,6 +200,7 @@ fn character(byte: u8) -> Option<Signal>
 {
     match byte {
         CONTROL_C => Some(Signal::Quit),
+        CONTROL_D => Some(Signal::GiveUp),
         CONTROL_L => Some(Signal::Repaint),
         _ => told_of(key_of(u16::from(byte)), 0, false),
     }

@@ -122,6 +122,8 @@ impl Numbers {
     {
         if self.is_letter(b'c') {
             Some(Signal::Quit)
+        } else if self.is_letter(b'd') {
+            Some(Signal::GiveUp)
         } else if self.is_letter(b'l') {
             Some(Signal::Repaint)
         } else {

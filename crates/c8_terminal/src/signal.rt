@@ -15,4 +15,6 @@ pub enum Signal {
     Quit,
     /// Control-L: everything is to be painted again.
     Repaint,
+    /// Control-D: the person does not want to wait for another player any more.
+    GiveUp,
 }

@@ -1,5 +1,5 @@
 //! Bytes that a terminal sends, and the signals that a decoder returns for them.
-use c8_terminal::Signal::{Down, LetGo, Quit, Repaint, Struck, Up};
+use c8_terminal::Signal::{Down, GiveUp, LetGo, Quit, Repaint, Struck, Up};
 use c8_terminal::{Decoder, Signal};
 
 /// Bytes that a terminal sends to a new decoder, and the signals.
@@ -18,9 +18,9 @@ static ROWS: [Row; 10] = [
     Row { sent: "\x1b[?15u\x1b[1081::113u\x1b[1081::113;129u\x1b[1081::113;1:3u\x1b[1081:1049:113;2u", told: &[Down(4), Down(4), Up(4), Down(4)] },
     // Characters without such a place.
     Row { sent: "5tgb0-; \r\n\t\x7f\x00\x01ÿй\u{10ffff}€", told: &[] },
-    // Arrows, the focus, quitting and repainting.
+    // Arrows, the focus, quitting, giving up and repainting.
     Row { sent: "\x1b[A\x1b[B\x1bOC\x1bOD\x1b[I1\x1b[O", told: &[Struck(5), Struck(8), Struck(9), Struck(7), Struck(1), LetGo] },
-    Row { sent: "\x03\x0c\x1b[99;5u\x1b[108;5u\x1b[27u", told: &[Quit, Repaint, Quit, Repaint, Quit] },
+    Row { sent: "\x03\x0c\x04\x1b[99;5u\x1b[108;5u\x1b[100;5u\x1b[27u", told: &[Quit, Repaint, GiveUp, Quit, Repaint, GiveUp, Quit] },
     // The first escape is the key.
     Row { sent: "\x1b\x1b[A", told: &[Quit, Struck(5)] },
     // Sequences without a signal, and broken ones.

@@ -13,7 +13,7 @@ use crate::arguments::{Asked, asked_of};
 use crate::error::RigError;
 use crate::script::write_script;
 use crate::watch::Counts;
-use c8_command::{Refusal, Site, Status, Text, TextError, read_file};
+use c8_command::{Part, Refusal, Site, Status, Text, TextError, read_file};
 use c8_game::{Game, GameError};
 use c8_keys::game_site;
 use c8_rig::{Gathering, Note};
@@ -24,8 +24,9 @@ use std::io::Write;
 use std::os::unix::fs::MetadataExt;
 use std::rt::Files;
 use std::sync::Wait;
+use std::sync::atomic::{AtomicBool, Ordering};
 use std::thread::Threads;
-use std::time::Clock;
+use std::time::{Clock, Duration};
 use std::{fs, io, thread};
 
 /// Runs `rig_file` as the command line asks. The error is a writer's.
@@ -67,18 +68,65 @@ where
         file: asked.game,
         bytes: &text,
     };
+    let players = match Game::read(rt.alloc(), game.bytes) {
+        Ok(game) => game.players(),
+        Err(error) => return refuse(rt.alloc(), asked, game, RigError::Game(error), refused),
+    };
+    if !has_threads(rt, players) {
+        return NO_THREAD.tell_at(
+            asked.explain.then_some(Site::Nowhere),
+            &NO_THREAD_SENTENCE,
+            refused,
+        );
+    }
     let Some(path) = asked.script else {
         return rig(rt, asked, game, None::<&mut File>, out, refused);
     };
-    if let Err(error) = Game::read(rt.alloc(), game.bytes) {
-        return refuse(rt.alloc(), asked, game, RigError::Game(error), refused);
-    }
     if is_same_file(rt, path, asked.game) {
         return refuse(rt.alloc(), asked, game, RigError::Script, refused);
     }
     match fs::create(rt, path) {
         Ok(mut script) => rig(rt, asked, game, Some(&mut script), out, refused),
         Err(_) => refuse(rt.alloc(), asked, game, RigError::Script, refused),
+    }
+}
+
+/// The system does not start as many threads as there are players.
+const NO_THREAD: Refusal = Refusal {
+    part: Part::Socket,
+    number: 4,
+    name: "Thread",
+};
+
+const NO_THREAD_SENTENCE: &str = "the system starts no more threads";
+
+/// How many milliseconds a thread sleeps while others are started.
+const PAUSE: u64 = 1;
+
+/// Whether the system starts so many threads, and one more, side by side. Where it starts none, `rig` would play one player
+/// after another.
+fn has_threads<R: Clock + Threads + Wait + Sync>(rt: &R, players: u8) -> bool {
+    let is_over = AtomicBool::new(false);
+    let common = &is_over;
+    thread::scope(thread::scope_env(), rt, |scope| -> bool {
+        let mut has_all = true;
+        for _ in 0..players + 1 {
+            if scope.spawn(move || wait_for(rt, common)).is_err() {
+                has_all = false;
+            }
+        }
+        common.store(true, Ordering::SeqCst);
+        has_all
+    })
+}
+
+/// Sleeps until the flag is set.
+fn wait_for<R: Clock + Wait>(rt: &R, is_over: &AtomicBool) {
+    for _ in rt.forever() {
+        if is_over.load(Ordering::SeqCst) {
+            break;
+        }
+        thread::sleep(rt, Duration::from_millis(PAUSE));
     }
 }
 

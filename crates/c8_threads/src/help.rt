@@ -23,5 +23,6 @@ Refusals, each one line on standard error, as 'refused: game 5 Hex':
   open 5 Memory    out of memory
   disk 1 Failed    a file that cannot be read or is above 16777216 bytes;
                    a script or output that cannot be written, or a script in the game's file
+  socket 4 Thread  the system starts too few threads; nothing was played
 
-Exit status: 0 done, 1 refused, 2 a mistake in the command line, 3 disk 1 Failed";
+Exit status: 0 done, 1 refused, 2 a mistake in the command line, 3 disk 1 or socket 4";

@@ -1,7 +1,7 @@
 //! The way of datagrams between peers, and what paces the threads that use it.
 //!
 //! A [`Wire`] sends and receives datagrams, and may lose, repeat or delay them; implement it over a transport of your
-//! own. [`Traffic`] is what a wire that stores no packets holds for its contract. A [`Gate`] paces the threads of a peer
+//! own, or over another wire. [`Traffic`] is what a wire that stores no packets holds for its contract. A [`Gate`] paces the threads of a peer
 //! and ends them.
 #![tactic(auto)]
 
@@ -13,4 +13,6 @@ mod wire;
 pub use error::WireFailed;
 pub use gate::{Gate, Worker};
 pub use traffic::Traffic;
-pub use wire::{LONGEST_PACKET, Losses, MOST_PACKETS, Wire};
+pub use wire::{
+    LONGEST_PACKET, LONGEST_READ, LONGEST_SENT, Losses, MOST_ADDED, MOST_PACKETS, Wire,
+};

@@ -10,6 +10,15 @@ use std::time::Duration;
 /// How many bytes of a packet are read at most: one more than the longest datagram, so that a longer packet is refused.
 pub const LONGEST_PACKET: usize = LONGEST_DATAGRAM + 1;
 
+/// How many bytes a wire may add to a datagram that it sends over another wire.
+pub const MOST_ADDED: usize = 16;
+
+/// The most bytes that a wire is given to send.
+pub const LONGEST_SENT: usize = LONGEST_DATAGRAM + MOST_ADDED;
+
+/// How many bytes of a packet a wire over another wire reads at most: one more than are sent.
+pub const LONGEST_READ: usize = LONGEST_SENT + 1;
+
 /// How many packets one turn takes from a wire at most, so that a flood of them cannot stop it.
 pub const MOST_PACKETS: u16 = 256;
 
@@ -20,6 +29,8 @@ pub struct Losses {
     pub lost: u64,
     /// How many packets came from elsewhere than a player or watcher of the match.
     pub foreign: u64,
+    /// How many packets were not sealed with the key of the match.
+    pub unsealed: u64,
 }
 
 /// The way to the other players and to the watchers. It may lose, repeat or delay a datagram. No call but `wait` waits.
@@ -32,19 +43,32 @@ pub trait Wire {
 
     /// Sends a datagram to a player or a watcher. `Ok` does not mean that it arrives.
     fn send(&mut self, to: Seat, datagram: &[u8]) -> Result<(), WireFailed>
-        requires { length datagram.now ≤ LONGEST_DATAGRAM }
+        requires { length datagram.now ≤ LONGEST_SENT }
         ensures sent { MayTake (sent self.old) datagram.now (sent self.new) }
         ensures received { received self.new ≡ received self.old };
 
-    /// Takes the next packet that has come, from whatever sender, and returns its length; of a longer packet it gives
-    /// the first `LONGEST_PACKET` bytes. `None` if no packet waits.
-    fn receive(&mut self, packet: &mut [u8; LONGEST_PACKET]) -> Result<Option<usize>, WireFailed>
-        ensures within { IfOk result (λ next. IfSome next (λ size. size ≤ LONGEST_PACKET)) }
+    /// Takes the next packet that has come, from whatever sender, and returns its length; of a packet longer than the
+    /// buffer it gives the first bytes. `None` if no packet waits.
+    fn receive(&mut self, packet: &mut [u8]) -> Result<Option<usize>, WireFailed>
+        requires { LONGEST_PACKET ≤ length packet.old }
+        ensures within { IfOk result (λ next. IfSome next (λ size. size ≤ length packet.old)) }
         ensures received { Gives (received self.old) packet.new result (received self.new) }
         ensures sent { sent self.new ≡ sent self.old };
 
     /// Waits until a packet may have come, at most this long. A wire that cannot wait returns at once.
     fn wait(&mut self, _most: Duration)
+        ensures received { received self.new ≡ received self.old }
+        ensures sent { sent self.new ≡ sent self.old }
+    {}
+
+    /// Says what time it is, by a clock that does not go back.
+    fn tell_time(&mut self, _now: Duration)
+        ensures received { received self.new ≡ received self.old }
+        ensures sent { sent self.new ≡ sent self.old }
+    {}
+
+    /// Says who sent the packet that was given last, as a wire above has found. A wire may learn an address by it.
+    fn tell_sender(&mut self, _sender: Seat)
         ensures received { received self.new ≡ received self.old }
         ensures sent { sent self.new ≡ sent self.old }
     {}

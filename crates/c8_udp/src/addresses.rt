@@ -3,35 +3,50 @@
 ghost use Rattle.std.specs.Prelude.{◌≡◌, ◌≢◌, ◌+◌, ◌<◌, ◌≤◌, ◌⊎◌, length, IfOk, IfErr, IsErrOf, MatchResult};
 ghost use Rattle.std.specs.Net.Grammar.{IsSocketText};
 
+use crate::contacts::{Contact, Whereabouts};
 use crate::error::SocketError;
 use c8_game::{MOST_PLAYERS, Player};
-use c8_wire::{Seat, Watcher};
 use std::net::SocketAddr;
 
 /// How many watchers a match may have.
 pub const MOST_WATCHERS: usize = 2;
 
-/// The seat of the first watcher.
-const FIRST_WATCHER: u8 = 5;
+/// How many players and watchers a match has at most.
+pub(crate) const MOST_SEATS: usize = MOST_PLAYERS + MOST_WATCHERS;
 
-/// The own address, and the address of each other player, by place.
+/// The word in an address's place that stands for none: the address is learnt.
+const NO_ADDRESS: &str = "-";
+
+/// How a player or watcher is reached.
+#[derive(Clone, Copy, Debug, PartialEq, Eq)]
+pub enum Remote {
+    /// At this address.
+    At(SocketAddr),
+    /// At the address from which its packets come, once one has come. It needs a match with a secret.
+    Learnt,
+}
+
+/// The own address, and how each other player is reached, by place.
 #[derive(Clone, Copy)]
 pub struct Addresses {
     pub local: SocketAddr,
-    pub others: [Option<SocketAddr>; MOST_PLAYERS],
-    /// The addresses of the watchers in seats 5 and 6, if any.
-    pub watchers: [Option<SocketAddr>; MOST_WATCHERS],
+    pub others: [Option<Remote>; MOST_PLAYERS],
+    /// How the watchers in seats 5 and 6 are reached, if there are any.
+    pub watchers: [Option<Remote>; MOST_WATCHERS],
 }
 
 impl Addresses {
-    /// Reads the own address, and those of the other players in order of number. `Remotes` if there is not one for each
-    /// other player; otherwise `Address` if one cannot be read, or cannot be reached from the own address: it has port 0,
-    /// or is of another IP version.
+    /// Reads the addresses of a player: the own one, those of the other players in order of number, and those of the
+    /// watchers in seats 5 and 6, if there are any. `-` stands for an address that is learnt. `Remotes` if there is not one
+    /// for each other player; otherwise `Address` if one cannot be read, or cannot be reached from the own address: it has
+    /// port 0, or is of another IP version; or if it is `-` and none may be learnt.
     pub fn read(
         players: u8,
         me: Player,
         local: &str,
         remotes: &[&str],
+        watchers: [Option<&str>; MOST_WATCHERS],
+        may_learn: bool,
     ) -> Result<Addresses, SocketError>
         requires { players ≤ 4 }
         ensures remotes { length remotes.now + 1 ≢ players → IsErrOf result SocketError.Remotes }
@@ -45,13 +60,16 @@ impl Addresses {
         let local = address(local)?;
         let mut others = [None; MOST_PLAYERS];
         for place in 0..remotes.len() {
-            others[place_of(place, me)] = Some(remote(remotes[place], local)?);
+            others[place_of(place, me)] = Some(remote_of(remotes[place], local, may_learn)?);
         }
-        let watchers = [None; MOST_WATCHERS];
+        let [five, six] = watchers;
         Ok(Addresses {
             local,
             others,
-            watchers,
+            watchers: [
+                watcher(five, local, may_learn)?,
+                watcher(six, local, may_learn)?,
+            ],
         })
     }
 
@@ -61,7 +79,7 @@ impl Addresses {
         ensures { IfErr result (λ error. error ≡ SocketError.Address) }
     {
         let local = address(local)?;
-        let one = remote(one, local)?;
+        let one = remote_of(one, local, false)?;
         Ok(Addresses {
             local,
             others: [Some(one), None, None, None],
@@ -69,52 +87,32 @@ impl Addresses {
         })
     }
 
-    /// Adds the addresses of the watchers in seats 5 and 6. `Address` if one cannot be read, or cannot be reached from the
-    /// own address.
-    pub fn watched_by(
-        self,
-        watchers: [Option<&str>; MOST_WATCHERS],
-    ) -> Result<Addresses, SocketError>
-        ensures { IfErr result (λ error. error ≡ SocketError.Address) }
-    {
-        let mut addresses = self;
-        for place in 0..MOST_WATCHERS {
-            if let Some(word) = watchers[place] {
-                addresses.watchers[place] = Some(remote(word, self.local)?);
-            }
-        }
-        Ok(addresses)
-    }
-
-    /// The address of a player or watcher, if it has one here.
-    pub(crate) fn of(&self, seat: Seat) -> Option<SocketAddr> {
-        match (seat.player(), seat.watcher()) {
-            (Some(player), _) => self.others[player.place()],
-            (None, Some(watcher)) => self.watchers[watcher_place(watcher)],
-            (None, None) => None,
-        }
-    }
-
-    /// Whether a player or a watcher has this address.
-    pub(crate) fn has(&self, from: SocketAddr) -> bool {
-        is_in(&self.others, from) || is_in(&self.watchers, from)
+    /// Where each player and watcher is sent to at first, in order of their numbers.
+    pub(crate) fn contacts(&self) -> [Contact; MOST_SEATS] {
+        let [one, two, three, four] = self.others;
+        let [five, six] = self.watchers;
+        [
+            contact(one),
+            contact(two),
+            contact(three),
+            contact(four),
+            contact(five),
+            contact(six),
+        ]
     }
 }
 
-/// Whether an address is in a list.
-fn is_in(list: &[Option<SocketAddr>], from: SocketAddr) -> bool {
-    for known in list {
-        if let Some(known) = known
-            && is_same(*known, from)
-        {
-            return true;
-        }
+/// Where a player or watcher is sent to before anything has come from it.
+fn contact(remote: Option<Remote>) -> Contact {
+    match remote {
+        None => Contact::Nobody,
+        Some(Remote::At(address)) => Contact::Named(address),
+        Some(Remote::Learnt) => Contact::Learnt(Whereabouts::unknown()),
     }
-    false
 }
 
 /// Whether two addresses have the same host and port. An IPv4 address that is mapped into IPv6 counts as IPv4.
-fn is_same(one: SocketAddr, other: SocketAddr) -> bool {
+pub(crate) fn is_same(one: SocketAddr, other: SocketAddr) -> bool {
     one.port() == other.port() && one.ip().to_canonical() == other.ip().to_canonical()
 }
 
@@ -123,25 +121,33 @@ pub fn refused_address<'a>(
     local: &'a str,
     remotes: &[&'a str],
     watchers: [Option<&'a str>; MOST_WATCHERS],
+    may_learn: bool,
 ) -> Option<&'a str> {
     let Ok(own) = address(local) else {
         return Some(local);
     };
     for word in remotes {
-        if remote(word, own).is_err() {
+        if remote_of(word, own, may_learn).is_err() {
             return Some(*word);
         }
     }
     let [five, six] = watchers;
-    five.filter(|word| remote(word, own).is_err())
-        .or(six.filter(|word| remote(word, own).is_err()))
+    five.filter(|word| remote_of(word, own, may_learn).is_err())
+        .or(six.filter(|word| remote_of(word, own, may_learn).is_err()))
 }
 
-/// The place among the watchers, from 0.
-fn watcher_place(watcher: Watcher) -> usize
-    ensures { result < 2 }
+/// Reads how a watcher is reached, if there is one.
+fn watcher(
+    word: Option<&str>,
+    local: SocketAddr,
+    may_learn: bool,
+) -> Result<Option<Remote>, SocketError>
+    ensures { IfErr result (λ error. error ≡ SocketError.Address) }
 {
-    usize::from(watcher.number - FIRST_WATCHER)
+    match word {
+        Some(word) => Ok(Some(remote_of(word, local, may_learn)?)),
+        None => Ok(None),
+    }
 }
 
 /// The place among all players, from 0, of the player at a place among the others.
@@ -156,15 +162,18 @@ fn place_of(place: usize, me: Player) -> usize
     }
 }
 
-/// Reads the address of another player or a watcher, which has to be reachable from the own one.
-fn remote(word: &str, local: SocketAddr) -> Result<SocketAddr, SocketError>
+/// Reads how another player or a watcher is reached; an address has to be reachable from the own one.
+fn remote_of(word: &str, local: SocketAddr, may_learn: bool) -> Result<Remote, SocketError>
     ensures { IfErr result (λ error. error ≡ SocketError.Address) }
 {
+    if may_learn && word == NO_ADDRESS {
+        return Ok(Remote::Learnt);
+    }
     let found = address(word)?;
     if found.port() == 0 || found.is_ipv4() != local.is_ipv4() {
         return Err(SocketError::Address);
     }
-    Ok(found)
+    Ok(Remote::At(found))
 }
 
 /// Reads an address.

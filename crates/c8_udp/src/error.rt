@@ -40,7 +40,7 @@ pub enum SocketError {
     /// The socket cannot be opened, or can no longer be used.
     #[error("{0}")]
     Failed(SocketFault),
-    #[error("more or fewer addresses than there are other players")]
+    #[error("not one address for each other player, or watchers without a secret of their own")]
     Remotes,
     /// An address cannot be read; or another player's or a watcher's cannot be reached from the own one.
     #[error("not an address such as 127.0.0.1:4001, or one of port 0, or of another IP version than LOCAL")]

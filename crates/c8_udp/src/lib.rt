@@ -1,17 +1,19 @@
 //! Datagrams between peers over UDP.
 //!
 //! [`Udp`] is the `Wire` of a match over one socket: it sends to the addresses of the other players and the watchers
-//! ([`Addresses`]), and gives packets that come from these addresses alone. A [`PolledUdp`] can also wait for a packet,
+//! ([`Addresses`]), and gives packets that come from these addresses alone. Below a wire that opens sealed packets it gives
+//! all packets, and learns addresses that are not named (`contacts`). A [`PolledUdp`] can also wait for a packet,
 //! until a [`Bell`] rings. A [`Socket`] is what a [`Udp`] asks of the system; a test can put its own in its place.
 #![tactic(auto)]
 
 mod addresses;
+mod contacts;
 mod error;
 mod polled;
 mod socket;
 mod udp;
 
-pub use addresses::{Addresses, MOST_WATCHERS, refused_address};
+pub use addresses::{Addresses, MOST_WATCHERS, Remote, refused_address};
 pub use error::{SocketError, SocketFault};
 pub use polled::{Bell, PolledUdp};
 pub use socket::Socket;

@@ -1,7 +1,7 @@
 //! A wire that can wait for packets.
 
 use crate::udp::Udp;
-use c8_transport::{LONGEST_PACKET, Losses, Wire, WireFailed};
+use c8_transport::{Losses, Wire, WireFailed};
 use c8_wire::Seat;
 use mio::event::Source;
 use mio::{Events, Interest, Poll, Token, Waker};
@@ -61,13 +61,21 @@ impl Wire for PolledUdp {
         self.udp.send(to, datagram)
     }
 
-    fn receive(&mut self, packet: &mut [u8; LONGEST_PACKET]) -> Result<Option<usize>, WireFailed> {
+    fn receive(&mut self, packet: &mut [u8]) -> Result<Option<usize>, WireFailed> {
         self.udp.receive(packet)
     }
 
     fn wait(&mut self, most: Duration) {
         // If this fails, the wire waits for nothing.
         let _ = self.poll.poll(&mut self.events, Some(most));
+    }
+
+    fn tell_time(&mut self, now: Duration) {
+        self.udp.tell_time(now);
+    }
+
+    fn tell_sender(&mut self, sender: Seat) {
+        self.udp.tell_sender(sender);
     }
 
     fn losses(&self) -> Losses {

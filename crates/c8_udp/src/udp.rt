@@ -1,30 +1,38 @@
 //! The way to the other players and the watchers over one UDP socket.
 
-ghost use Rattle.std.specs.Prelude.{◌≡◌};
+ghost use Rattle.std.specs.Prelude.{◌≡◌, ◌<◌};
 
-use crate::addresses::Addresses;
+use crate::addresses::{Addresses, MOST_SEATS};
+use crate::contacts::Contact;
 use crate::error::SocketFault;
 use crate::socket::Socket;
-use c8_transport::{LONGEST_PACKET, Losses, Traffic, Wire, WireFailed};
+use c8_transport::{LONGEST_READ, Losses, Traffic, Wire, WireFailed};
 use c8_wire::Seat;
 use mio::event::Source;
 use mio::net::UdpSocket;
 use mio::{Interest, Registry, Token};
 use std::io;
 use std::io::ErrorKind;
-use std::net::Net;
+use std::net::{Net, SocketAddr};
+use std::time::Duration;
 
 /// How many packets from elsewhere, and reports of lost datagrams, `receive` passes over at most before it says that
 /// nothing has come. So a flood from elsewhere cannot hold up a turn for long, and few of its packets stand before those
 /// of the match.
 const MOST_SKIPPED: u16 = 4096;
 
-/// A UDP socket, and the addresses of the other players and the watchers. It sends to these addresses and gives packets
-/// from them alone. An error of the network that passes is a lost datagram; only a socket that was closed fails.
+/// A UDP socket, and where the other players and the watchers are sent to. It gives packets from their addresses alone,
+/// unless it hears all. An error of the network that passes is a lost datagram; only a socket that was closed fails.
 #[derive(Drop)]
 pub struct Udp<S = UdpSocket> {
     socket: S,
-    addresses: Addresses,
+    contacts: [Contact; MOST_SEATS],
+    /// Whether it gives packets from whatever address.
+    hears_all: bool,
+    /// Where the packet came from that was given last.
+    from: Option<SocketAddr>,
+    /// The time, as it was last told.
+    now: Duration,
     traffic: Traffic,
     losses: Losses,
 }
@@ -44,10 +52,46 @@ impl<S> Udp<S> {
     pub fn over(socket: S, addresses: &Addresses) -> Udp<S> {
         Udp {
             socket,
-            addresses: *addresses,
+            contacts: addresses.contacts(),
+            hears_all: false,
+            from: None,
+            now: Duration::from_secs(0),
             traffic: Traffic::new(),
             losses: Losses::default(),
         }
+    }
+
+    /// The wire that gives packets from whatever address. The wire above it has to know whose they are: it tells each
+    /// sender whose packet opens.
+    pub fn hearing_all(self) -> Udp<S>
+        ensures { result.traffic ≡ self.traffic }
+    {
+        let mut udp = self;
+        udp.hears_all = true;
+        udp
+    }
+
+    /// The socket.
+    pub fn socket(&self) -> &S {
+        &self.socket
+    }
+
+    /// Whether it gives packets that come from an address.
+    fn hears(&self, from: SocketAddr) -> bool {
+        if self.hears_all {
+            return true;
+        }
+        for contact in &self.contacts {
+            if contact.is_named(from) {
+                return true;
+            }
+        }
+        false
+    }
+
+    /// The addresses of a player or watcher, at most two.
+    fn addresses_of(&self, seat: Seat) -> [Option<SocketAddr>; 2] {
+        self.contacts[place_of_seat(seat)].addresses(self.now)
     }
 
     /// Counts a datagram that the network has lost.
@@ -92,32 +136,53 @@ impl<S: Source> Source for Udp<S> {
     }
 }
 
+/// The place among all players and watchers, from 0.
+fn place_of_seat(seat: Seat) -> usize
+    ensures { result < MOST_SEATS }
+{
+    usize::from(seat.number - 1)
+}
+
+impl<S: Socket> Udp<S> {
+    /// Sends a datagram to an address, if there is one, and returns whether the system took it.
+    fn send_at(&mut self, datagram: &[u8], address: Option<SocketAddr>) -> Result<bool, WireFailed>
+        ensures { self.new.traffic ≡ self.old.traffic }
+    {
+        let Some(address) = address else {
+            return Ok(false);
+        };
+        match self.socket.send_to(datagram, address) {
+            Ok(_) => Ok(true),
+            Err(error) if is_closed(&error) => Err(WireFailed),
+            Err(_) => {
+                self.lose();
+                Ok(false)
+            }
+        }
+    }
+}
+
 impl<S: Socket> Wire for Udp<S> {
     ghost sent = { λ udp. udp.traffic.sent.items };
 
     ghost received = { λ udp. udp.traffic.received.items };
 
     fn send(&mut self, to: Seat, datagram: &[u8]) -> Result<(), WireFailed> {
-        let Some(address) = self.addresses.of(to) else {
-            return Ok(());
-        };
-        match self.socket.send_to(datagram, address) {
-            Ok(_) => {
-                self.traffic.took(datagram);
-                Ok(())
-            }
-            Err(error) if is_closed(&error) => Err(WireFailed),
-            Err(_) => {
-                self.lose();
-                Ok(())
-            }
+        let [first, second] = self.addresses_of(to);
+        let is_first = self.send_at(datagram, first)?;
+        let is_second = self.send_at(datagram, second)?;
+        if is_first || is_second {
+            self.traffic.took(datagram);
         }
+        Ok(())
     }
 
-    fn receive(&mut self, packet: &mut [u8; LONGEST_PACKET]) -> Result<Option<usize>, WireFailed> {
+    fn receive(&mut self, packet: &mut [u8]) -> Result<Option<usize>, WireFailed> {
+        let most = packet.len().min(LONGEST_READ);
         for _ in 0..MOST_SKIPPED {
-            match self.socket.recv_from(packet) {
-                Ok((size, from)) if self.addresses.has(from) => {
+            match self.socket.recv_from(&mut packet[..most]) {
+                Ok((size, from)) if self.hears(from) => {
+                    self.from = Some(from);
                     self.traffic.gave(&packet[..size]);
                     return Ok(Some(size));
                 }
@@ -129,6 +194,17 @@ impl<S: Socket> Wire for Udp<S> {
             }
         }
         Ok(None)
+    }
+
+    fn tell_time(&mut self, now: Duration) {
+        self.now = now;
+    }
+
+    fn tell_sender(&mut self, sender: Seat) {
+        let place = place_of_seat(sender);
+        if let Some(from) = self.from {
+            self.contacts[place] = self.contacts[place].heard(from, self.now);
+        }
     }
 
     fn losses(&self) -> Losses {

@@ -1,7 +1,7 @@
 //! Errors of the network, by a socket whose first call fails.
 use c8_game::Player;
 use c8_transport::{LONGEST_PACKET, Losses, Wire, WireFailed};
-use c8_udp::{Addresses, Socket, Udp};
+use c8_udp::{Addresses, Remote, Socket, Udp};
 use c8_wire::Seat;
 use std::cell::Cell;
 use std::io;
@@ -102,7 +102,7 @@ impl Socket for Failing {
 fn addresses() -> Addresses {
     Addresses {
         local: SocketAddr::from((Ipv4Addr::LOCALHOST, 4001)),
-        others: [None, Some(two()), None, None],
+        others: [None, Some(Remote::At(two())), None, None],
         watchers: [None, None],
     }
 }
@@ -129,6 +129,7 @@ fn fatal() -> &'static [i32] {
 const LOST: Losses = Losses {
     lost: 1,
     foreign: 0,
+    unsealed: 0,
 };
 
 /// Whether the error is a lost datagram when sending, and the next datagram goes.

@@ -1,7 +1,7 @@
 //! A third socket that floods a player with datagrams: none of them is given.
 use c8_game::Player;
 use c8_transport::{LONGEST_PACKET, Wire};
-use c8_udp::{Addresses, Udp};
+use c8_udp::{Addresses, Remote, Udp};
 use std::net::{Ipv4Addr, SocketAddr, UdpSocket};
 use std::test::Fail;
 
@@ -24,8 +24,8 @@ fn wire_at(
 ) -> Result<Udp, Fail> {
     let addresses = Addresses {
         local,
-        others: [None, Some(two), None, None],
-        watchers: [Some(five), None],
+        others: [None, Some(Remote::At(two)), None, None],
+        watchers: [Some(Remote::At(five)), None],
     };
     Ok(Udp::open(rt, &addresses)?)
 }

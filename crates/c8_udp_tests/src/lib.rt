@@ -10,6 +10,8 @@ mod errors;
 #[cfg(test)]
 mod flood;
 #[cfg(test)]
+mod learning;
+#[cfg(test)]
 mod loss;
 #[cfg(test)]
 mod sockets;

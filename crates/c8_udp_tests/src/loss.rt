@@ -1,7 +1,7 @@
 //! A lost datagram that the system reports.
 use c8_game::Player;
 use c8_transport::{LONGEST_PACKET, Wire};
-use c8_udp::{Addresses, Udp};
+use c8_udp::{Addresses, Remote, Udp};
 use c8_wire::Seat;
 use mio::net::UdpSocket as OwnSocket;
 use std::net::{Ipv4Addr, SocketAddr, UdpSocket};
@@ -23,7 +23,7 @@ fn connected(rt: &HostRuntime) -> Result<Udp, Fail> {
     drop(gone);
     let addresses = Addresses {
         local: any(),
-        others: [None, Some(address), None, None],
+        others: [None, Some(Remote::At(address)), None, None],
         watchers: [None, None],
     };
     Ok(Udp::over(socket, &addresses))

@@ -1,7 +1,7 @@
 //! The way to the other players, over the loopback, with sockets of the system.
 use c8_game::Player;
 use c8_transport::{LONGEST_PACKET, Wire};
-use c8_udp::{Addresses, PolledUdp, SocketFault, Udp};
+use c8_udp::{Addresses, PolledUdp, Remote, SocketFault, Udp};
 use c8_wire::Seat;
 use std::net::{Ipv4Addr, SocketAddr, UdpSocket};
 use std::test::Fail;
@@ -21,7 +21,7 @@ fn any() -> SocketAddr {
 fn wire_to(rt: &HostRuntime, other: SocketAddr) -> Result<Udp, SocketFault> {
     let addresses = Addresses {
         local: any(),
-        others: [None, Some(other), None, None],
+        others: [None, Some(Remote::At(other)), None, None],
         watchers: [None, None],
     };
     Udp::open(rt, &addresses)

@@ -66,7 +66,7 @@ impl<'g> Wire for Way<'g> {
         Ok(())
     }
 
-    fn receive(&mut self, packet: &mut [u8; LONGEST_PACKET]) -> Result<Option<usize>, WireFailed> {
+    fn receive(&mut self, packet: &mut [u8]) -> Result<Option<usize>, WireFailed> {
         served(&mut self.calls)?;
         if self.waiting == 0 {
             return Ok(None);

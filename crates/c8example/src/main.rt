@@ -8,7 +8,7 @@ use c8_inlet::{Packet, Putter, Taker, inlet};
 use c8_keys::write_report;
 use c8_live::Session;
 use c8_peer::Peer;
-use c8_transport::{LONGEST_PACKET, Wire, WireFailed};
+use c8_transport::{Wire, WireFailed};
 use c8_wire::Seat;
 use std::alloc::Global;
 use std::io::Write;
@@ -41,7 +41,7 @@ impl Wire for Lossy {
         Ok(())
     }
 
-    fn receive(&mut self, packet: &mut [u8; LONGEST_PACKET]) -> Result<Option<usize>, WireFailed> {
+    fn receive(&mut self, packet: &mut [u8]) -> Result<Option<usize>, WireFailed> {
         let Some(next) = self.back.take() else {
             return Ok(None);
         };

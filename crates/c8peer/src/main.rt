@@ -1,11 +1,13 @@
-//! c8peer: the commands `peer`, `play` and `watch` of c8play in a program of their own, which takes less time to prove
+//! c8peer: the commands `peer`, `play`, `watch`, `secret` and `game` of c8play in a program of their own, which takes less time to prove
 //! and build. The script `c8play` starts it for these commands.
 #![tactic(auto)]
 
 use c8_command::Status;
-use c8_front::{line_of, status_at, tell, words_in};
+use c8_front::{Terminals, Unhurried, line_of, status_at, tell, words_in};
 use c8_net::{peer_command, peer_given, watch_command, watch_given};
 use c8_play::{play_command, play_given};
+use c8_program::{game_command, game_given};
+use c8_secret::{secret_command, secret_given};
 use std::env::Args;
 use std::fs::File;
 use std::io::{IsTerminal, Read, Write};
@@ -19,17 +21,14 @@ use std::{env, io};
 
 fn main(rt: HostRuntime) -> ExitCode {
     let args = env::args(&rt);
-    let mut out = rt.stdout();
-    let is_terminal = out.is_terminal();
-    let ended = obey(
-        &rt,
-        args,
-        rt.reader(),
-        &mut out,
-        is_terminal,
-        &mut rt.stderr(),
-    );
-    status_at(ended, &mut rt.stderr()).into()
+    let (input, mut out) = (rt.reader(), rt.stdout());
+    let terminals = Terminals {
+        input: input.is_terminal(),
+        output: out.is_terminal(),
+    };
+    let mut refused = Unhurried { out: rt.stderr() };
+    let ended = obey(&rt, args, input, &mut out, terminals, &mut refused);
+    status_at(ended, &mut refused).into()
 }
 
 /// Does what the arguments ask for. The error is a writer's, or that memory ran out.
@@ -38,7 +37,7 @@ fn obey<R, I, W: Write, E: Write + Send>(
     args: io::Result<Args>,
     input: I,
     out: &mut W,
-    is_terminal: bool,
+    terminals: Terminals,
     refused: &mut E,
 ) -> io::Result<Status>
 where
@@ -52,11 +51,15 @@ where
     let command = line_of(alloc, peer_command(alloc)?)?;
     let command = command.subcommand(play_command(alloc)?)?;
     let command = command.subcommand(watch_command(alloc)?)?;
+    let command = command.subcommand(secret_command(alloc)?)?;
+    let command = command.subcommand(game_command(alloc)?)?;
     match command.try_get_matches_from(words.as_slice()) {
         Ok(matches) => match matches.subcommand() {
-            Some(("peer", given)) => peer_given(rt, given, input, out, refused),
+            Some(("peer", given)) => peer_given(rt, given, input, terminals, out, refused),
             Some(("play", given)) => play_given(rt, given, out, refused),
-            Some(("watch", given)) => watch_given(rt, given, is_terminal, out, refused),
+            Some(("watch", given)) => watch_given(rt, given, terminals, out, refused),
+            Some(("secret", _)) => secret_given(rt, out, refused),
+            Some(("game", given)) => game_given(rt, given, out, refused),
             _ => Ok(Status::CommandLine),
         },
         Err(error) => tell(&error, out, refused),

@@ -3,21 +3,25 @@
 //! c8_cli has the command line, and runs what it asks for.
 #![tactic(auto)]
 
+use c8_front::{Terminals, Unhurried};
 use std::env;
 use std::io::IsTerminal;
 use std::process::ExitCode;
 
 fn main(rt: HostRuntime) -> ExitCode {
     let args = env::args(&rt);
-    let mut out = rt.stdout();
-    let is_terminal = out.is_terminal();
+    let (input, mut out) = (rt.reader(), rt.stdout());
+    let terminals = Terminals {
+        input: input.is_terminal(),
+        output: out.is_terminal(),
+    };
     c8_cli::answer(
         &rt,
         args,
-        rt.reader(),
+        input,
         &mut out,
-        is_terminal,
-        &mut rt.stderr(),
+        terminals,
+        &mut Unhurried { out: rt.stderr() },
     )
     .into()
 }

@@ -68,7 +68,14 @@ where
     let (mut printed, mut refused) = (Vec::new(rt.alloc()), Vec::new(rt.alloc()));
     let args = Ok(command.words.into_iter());
     let input = command.input.as_slice();
-    let status = c8_cli::answer(rt, args, input, &mut printed, false, &mut refused).code();
+    let status = c8_cli::answer(
+        rt,
+        args,
+        input,
+        &mut printed,
+        Terminals::NONE,
+        &mut refused,
+    ).code();
     let mut told = Vec::new(rt.alloc());
     compare(&mut told, "printed", &command.printed, &printed)?;
     if !command.refuses_somehow {

@@ -1,11 +1,10 @@
-//! c8run: the commands `run` and `game` of c8play in a program of their own, which takes less time to prove and build.
-//! The script `c8play` starts it for these commands.
+//! c8run: the command `run` of c8play in a program of its own, which takes less time to prove and build. The script
+//! `c8play` starts it for this command.
 #![tactic(auto)]
 
 use c8_command::Status;
 use c8_front::{is_explained, line_of, run_command, status_at, tell, word_of, words_in};
 use c8_keys::run_files;
-use c8_program::{game_command, game_given};
 use std::io::Write;
 use std::process::ExitCode;
 use std::{env, io};
@@ -21,14 +20,13 @@ fn obey<W: Write, E: Write>(rt: &HostRuntime, out: &mut W, refused: &mut E) -> i
     let Some(words) = words_in(alloc, env::args(rt), refused)? else {
         return Ok(Status::CommandLine);
     };
-    let command = line_of(alloc, run_command(alloc)?)?.subcommand(game_command(alloc)?)?;
+    let command = line_of(alloc, run_command(alloc)?)?;
     match command.try_get_matches_from(words.as_slice()) {
         Ok(matches) => match matches.subcommand() {
             Some(("run", given)) => {
                 let (game, keys) = (word_of(given, "GAME"), word_of(given, "KEYS"));
                 run_files(rt, game, keys, is_explained(given), out, refused)
             }
-            Some(("game", given)) => game_given(rt, given, out, refused),
             _ => Ok(Status::CommandLine),
         },
         Err(error) => tell(&error, out, refused),

@@ -1,6 +1,6 @@
 //! The options of the command `watch`, and what they ask for.
 
-use crate::arguments::{number, number_of};
+use crate::arguments::{file, number, number_of};
 use crate::help::WATCH_ENDING;
 use c8_front::{is_explained, with_explain, with_place, word_of};
 use c8_wire::Watcher;
@@ -16,6 +16,8 @@ pub struct WatchAsked<'a> {
     pub local: &'a str,
     /// Player 1's address.
     pub remote: &'a str,
+    /// The path of the watchers' secret, if the match has one.
+    pub secret: Option<&'a str>,
     pub room: u64,
     /// How many turns the watcher makes at most.
     pub turns: u64,
@@ -65,6 +67,8 @@ fn with_options<'a>(alloc: Global, command: Command<'a>) -> Result<Command<'a>, 
     let command = command.arg(turns.default_value("100000"))?;
     let stop = "Ends once it has N frames [default: never]";
     let command = command.arg(number(alloc, "stop", stop))?;
+    let secret = "The file of the watchers' secret: packets are sealed with it";
+    let command = command.arg(file(alloc, "secret", secret))?;
     let screen = Arg::new(alloc, "screen")
         .long("screen")
         .help("Draws the screen on the terminal as the match goes on")
@@ -80,6 +84,7 @@ pub(super) fn asked_of<'a>(given: &ArgMatches<'a>) -> Option<WatchAsked<'a>> {
         seat,
         local: word_of(given, "LOCAL"),
         remote: word_of(given, "REMOTE"),
+        secret: given.get_str("secret"),
         room: number_of(given, "room").unwrap_or(0),
         turns: number_of(given, "turns").unwrap_or(0),
         stop: number_of(given, "stop"),

@@ -1,6 +1,6 @@
 //! The screen of a watched match, drawn on a terminal.
 
-use crate::beat::Beat;
+use c8_beat::Beat;
 use c8_machine::Machine;
 use c8_screen::Screen;
 use c8_terminal::{ENTER, LEAVE, Painter};

@@ -6,11 +6,12 @@ use Rattle.c8_play.specs.Frames.{points_shown}
 use Rattle.c8_play.proofs.DeskLemmas.{same_chain, shown_from}
 use Rattle.c8_play.proofs.live.show.Goals as goal
 
-pub returns : goal.returns
-returns g c =
-    let same = same_chain g.C.Console c.args.desk.now c.take_spoilt.new.self c.now-now.new.self c.take_spoilt.ensures c.now-now.ensures in
+pub returns-clause-seen : goal.returns-clause-seen
+returns-clause-seen g c =
+    let first = same_chain g.C.Console c.args.desk.now c.take_spoilt.new.self c.consider.new.desk c.take_spoilt.ensures c.consider.ensures.desk in
+    let same = same_chain g.C.Console c.args.desk.now c.consider.new.desk c.now-now.new.self first c.now-now.ensures in
     let points : points_of c.screen.result.now ≡ points_shown c.args.session.now.peer =
-    c.screen.ensures ∙ ap (λ (m : State). m.screen) c.shown.ensures.value ∙ ap points_shown c.peer-peer.ensures in
+    c.screen.ensures ∙ ap (λ (m : State). m.screen) c.shown.ensures.value ∙ ap points_shown (c.peer-peer.ensures ∙ c.consider.ensures.peer) in
     record {
       typing_is = c.show.ensures.typing ∙ same.typing_is;
       shown = subst (λ (seen : Points). HasShown g.C.Console seen c.args.desk.now c.show.new.self) points

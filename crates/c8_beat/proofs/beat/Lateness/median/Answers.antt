@@ -1,6 +1,6 @@
 use Rattle.std.proofs.Common.{arith, rules}
-use Rattle.c8_net.proofs.BeatLemmas.{last_is_median}
-use Rattle.c8_net.proofs.beat.Lateness.median.Goals as goal
+use Rattle.c8_beat.proofs.BeatLemmas.{last_is_median}
+use Rattle.c8_beat.proofs.beat.Lateness.median.Goals as goal
 
 pub returns : goal.returns
 returns c = last_is_median c.args.self.now.frames 63 (search rules) (λ fewer below. c.loop-place.invariant.none fewer (omega arith))

@@ -23,7 +23,7 @@ pub struct Beat {
 }
 
 impl Beat {
-    ghost use Rattle.c8_net.specs.Beats.{IsNoted, clock_of, counts_of, due, late, lateness_of, latest, left, most_of, one_more, started_anew};
+    ghost use Rattle.c8_beat.specs.Beats.{IsNoted, clock_of, counts_of, due, late, lateness_of, latest, left, most_of, one_more, started_anew};
 
     /// Creates a clock whose first frame is due now.
     pub fn new(now: Duration, rate: u8) -> Beat
@@ -106,7 +106,7 @@ pub struct Lateness {
 }
 
 impl Lateness {
-    ghost use Rattle.c8_net.specs.Beats.{IsMedian, IsNoted, counts_of, most_of};
+    ghost use Rattle.c8_beat.specs.Beats.{IsMedian, IsNoted, counts_of, most_of};
 
     /// No frames yet.
     pub fn new() -> Lateness
@@ -169,7 +169,7 @@ impl Lateness {
 }
 
 impl Default for Lateness {
-    ghost use Rattle.c8_net.specs.Beats.{counts_of, most_of};
+    ghost use Rattle.c8_beat.specs.Beats.{counts_of, most_of};
 
     ghost is_default = { λ lateness. (counts_of lateness ≡ replicate 64 0)
         × (most_of lateness ≡ 0) };

@@ -2,7 +2,7 @@
 use Rattle.std.proofs.Common.{◌≡◌, ◌<◌, ◌≤◌, ℕ, ◌+◌, ◌*◌, List, length, get_or, sum, take, sym, subst, arith}
 use Rattle.std.proofs.lemmas.List.{take_all}
 use Rattle.std.proofs.lemmas.List.Sums.{sum_by_more}
-use Rattle.c8_net.specs.Beats.{IsHalf, IsMedian}
+use Rattle.c8_beat.specs.Beats.{IsHalf, IsMedian}
 
 pub sum_more : (xs : List ℕ) (i : ℕ) → i < length xs → sum (take (i + 1) xs) ≡ sum (take i xs) + get_or xs i 0
 sum_more xs i within = sum_by_more (λ (x : ℕ). x) xs i 0 within

@@ -1,8 +1,8 @@
 -- When frames are due, and how late they were. Times are in nanoseconds.
 use Rattle.std.specs.Prelude.{◌≡◌, ◌<◌, ◌≤◌, ℕ, ◌+◌, ◌-◌, ◌*◌, ◌/◌, min, max, List, set, slice_index, sum, take}
 use Rattle.std.specs.Duration.{as_nanos}
-use Rattle.c8_net.specs.declared.beat.Beat.{Beat}
-use Rattle.c8_net.specs.declared.beat.Lateness.{Lateness}
+use Rattle.c8_beat.specs.declared.beat.Beat.{Beat}
+use Rattle.c8_beat.specs.declared.beat.Lateness.{Lateness}
 
 -- ---- when frames are due
 

@@ -1,6 +1,6 @@
 use Rattle.std.proofs.Common.{◌≡◌, ◌≤◌, ◌<◌, ◌*◌, ℕ, sum, take}
-use Rattle.c8_net.specs.Beats.{IsHalf}
-use Rattle.c8_net.proofs.beat.Lateness.median.Given as goal
+use Rattle.c8_beat.specs.Beats.{IsHalf}
+use Rattle.c8_beat.proofs.beat.Lateness.median.Given as goal
 
 abbrev pub invariant-loop-place : goal.invariant-loop-place
 invariant-loop-place l = record {

@@ -1,5 +1,5 @@
 use Rattle.std.proofs.Common.{◌≡◌, ◌≤◌, ◌*◌, sum, take}
-use Rattle.c8_net.proofs.beat.Lateness.all.Given as goal
+use Rattle.c8_beat.proofs.beat.Lateness.all.Given as goal
 
 abbrev pub invariant-loop-frames : goal.invariant-loop-frames
 invariant-loop-frames l = record {

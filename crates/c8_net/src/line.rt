@@ -1,0 +1,42 @@
+//! The way to the other players and the watchers.
+
+use crate::error::Unopened;
+use c8_sealed::Seal;
+use c8_udp::{Addresses, Bell, PolledUdp, SocketFault, Udp};
+use std::io::ErrorKind;
+use std::net::Net;
+
+/// How the other players and the watchers of a match are reached, and with what packets are sealed, if it has a secret.
+#[derive(Drop)]
+pub struct Line {
+    pub addresses: Addresses,
+    pub seal: Option<Seal>,
+}
+
+impl Line {
+    /// Opens the socket. In a match with a secret it gives packets from whatever address, since they have to open.
+    pub fn open<R: Net>(&self, rt: &R) -> Result<Udp, SocketFault> {
+        let udp = Udp::open(rt, &self.addresses)?;
+        if self.seal.is_some() {
+            Ok(udp.hearing_all())
+        } else {
+            Ok(udp)
+        }
+    }
+
+    /// Opens the socket, and lets it wait; with its bell.
+    pub(crate) fn open_polled<R>(&self, rt: &R) -> Result<(PolledUdp, Bell), Unopened>
+    where
+        R: Net + AllocGlobal,
+    {
+        let udp = match self.open(rt) {
+            Ok(udp) => udp,
+            Err(fault) => return Err(Unopened::Socket(fault)),
+        };
+        match PolledUdp::over(rt, udp) {
+            Ok(wire) => Ok(wire),
+            Err(error) if error.kind() == ErrorKind::OutOfMemory => Err(Unopened::Memory),
+            Err(error) => Err(Unopened::Socket(SocketFault::of(&error))),
+        }
+    }
+}

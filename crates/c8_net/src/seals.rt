@@ -1,0 +1,124 @@
+//! The seal of a match, from the secrets in its files.
+
+use crate::arguments::Asked;
+use crate::error::PeerError;
+use crate::fault::Fault;
+use c8_command::TextError;
+use c8_disk::DiskError;
+use c8_game::Game;
+use c8_peer::OpenError;
+use c8_sealed::{Seal, SealKeys, Secret, Secrets};
+use c8_secret::{SecretFault, secret_in, warn_of_readers};
+use c8_udp::SocketError;
+use c8_wire::Seat;
+use std::alloc::Global;
+use std::fs::File;
+use std::io;
+use std::io::Write;
+use std::rt::Files;
+
+/// Writes a line for each secret that others may read.
+pub(crate) fn warn_of_secrets<R, E>(
+    rt: &R,
+    asked: &Asked<'_, '_>,
+    refused: &mut E,
+) -> io::Result<()>
+where
+    R: Files<File = File>,
+    E: Write,
+{
+    if let Some(path) = asked.secret {
+        warn_of_readers(rt, path, refused)?;
+    }
+    if let Some(path) = asked.watch_secret {
+        warn_of_readers(rt, path, refused)?;
+    }
+    Ok(())
+}
+
+/// The seal of a player, if the match has a secret. Faults are found in this order: the players' secret, that of the
+/// watchers, watchers without a secret of their own (`Remotes`).
+pub(crate) fn seal_at<'a, R>(
+    rt: &R,
+    asked: &Asked<'_, 'a>,
+    game: &Game,
+) -> Result<Option<Seal>, Fault<'a>>
+where
+    R: Files<File = File> + AllocGlobal,
+{
+    let Some(path) = asked.secret else {
+        return Ok(None);
+    };
+    let players = secret_at(rt, path)?;
+    let secrets = match asked.watch_secret {
+        None => Secrets {
+            players: Some(players),
+            watchers: None,
+        },
+        Some(path) => {
+            let watchers = secret_at(rt, path)?;
+            match Secrets::of_both(players, watchers) {
+                Ok(secrets) => secrets,
+                Err(error) => return Err(Fault::new(rt.alloc(), PeerError::Secret(error), path)),
+            }
+        }
+    };
+    let [five, six] = asked.watchers;
+    if secrets.watchers.is_none() && (five.is_some() || six.is_some()) {
+        let error = PeerError::Socket(SocketError::Remotes);
+        return Err(Fault::new(rt.alloc(), error, asked.game));
+    }
+    Ok(Some(seal_of(&secrets, Seat::from(asked.player), game.session(asked.room))))
+}
+
+/// The seal of a watcher, if the match has a secret for watchers.
+pub(crate) fn watch_seal_at<'a, R>(
+    rt: &R,
+    path: Option<&'a str>,
+    seat: Seat,
+    session: u64,
+) -> Result<Option<Seal>, Fault<'a>>
+where
+    R: Files<File = File> + AllocGlobal,
+{
+    let Some(path) = path else {
+        return Ok(None);
+    };
+    let secrets = Secrets {
+        players: None,
+        watchers: Some(secret_at(rt, path)?),
+    };
+    Ok(Some(seal_of(&secrets, seat, session)))
+}
+
+fn seal_of(secrets: &Secrets, seat: Seat, session: u64) -> Seal {
+    Seal {
+        keys: SealKeys::of(secrets, session),
+        seat,
+        session,
+    }
+}
+
+/// The secret in a file.
+fn secret_at<'a, R>(rt: &R, path: &'a str) -> Result<Secret, Fault<'a>>
+where
+    R: Files<File = File> + AllocGlobal,
+{
+    secret_in(rt, path).map_err(|fault| secret_fault(rt.alloc(), fault, path))
+}
+
+/// Why a secret was not read, as a fault of its file.
+fn secret_fault<'a>(alloc: Global, fault: SecretFault, path: &'a str) -> Fault<'a> {
+    match fault {
+        SecretFault::Refused(error) => Fault::new(alloc, PeerError::Secret(error), path),
+        SecretFault::Unread(error) => Fault {
+            error: match error {
+                TextError::Failed => PeerError::Disk(DiskError::Failed),
+                TextError::Memory => PeerError::Open(OpenError::Memory),
+            },
+            file: path,
+            text: Vec::new(alloc),
+            unread: Some(error),
+        },
+    }
+}

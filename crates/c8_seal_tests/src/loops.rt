@@ -1,0 +1,142 @@
+//! A wire in memory that gives what it is given to send, and notes what it is told.
+
+use arrayvec::ArrayVec;
+use c8_sealed::{Seal, SealKeys, Secret, Secrets};
+use c8_transport::{LONGEST_READ, Traffic, Wire, WireFailed};
+use c8_wire::Seat;
+
+/// How many packets wait at most.
+const PLACES: usize = 4;
+
+/// A packet that waits.
+#[derive(Clone, Copy)]
+pub(crate) struct Letter {
+    pub(crate) size: usize,
+    pub(crate) bytes: [u8; LONGEST_READ],
+}
+
+impl Default for Letter {
+    fn default() -> Letter {
+        Letter {
+            size: 0,
+            bytes: [0; LONGEST_READ],
+        }
+    }
+}
+
+/// A wire to itself. At first it gives some packets of one byte that nobody sent.
+#[derive(Drop)]
+pub(crate) struct Loop {
+    pub(crate) junk: u16,
+    pub(crate) waiting: ArrayVec<Letter, PLACES>,
+    /// How many of those that wait it has given.
+    given: usize,
+    /// The sender that it was told last, and how often it was told one.
+    pub(crate) sender: Option<Seat>,
+    pub(crate) told: u8,
+    traffic: Traffic,
+}
+
+impl Loop {
+    pub(crate) fn new() -> Loop {
+        Loop {
+            junk: 0,
+            waiting: ArrayVec::new(),
+            given: 0,
+            sender: None,
+            told: 0,
+            traffic: Traffic::new(),
+        }
+    }
+}
+
+pub(crate) fn letter_of(packet: &[u8]) -> Letter {
+    let size = packet.len().min(LONGEST_READ);
+    let mut bytes = [0; LONGEST_READ];
+    bytes[..size].copy_from_slice(&packet[..size]);
+    Letter { size, bytes }
+}
+
+impl Wire for Loop {
+    ghost sent = { λ it. it.traffic.sent.items };
+
+    ghost received = { λ it. it.traffic.received.items };
+
+    fn send(&mut self, _to: Seat, packet: &[u8]) -> Result<(), WireFailed> {
+        match self.waiting.try_push(letter_of(packet)) {
+            Ok(()) => {
+                self.traffic.took(packet);
+                Ok(())
+            }
+            Err(_) => Err(WireFailed),
+        }
+    }
+
+    fn receive(&mut self, packet: &mut [u8]) -> Result<Option<usize>, WireFailed> {
+        if self.junk > 0 {
+            self.junk -= 1;
+            packet[0] = 7;
+            self.traffic.gave(&packet[..1]);
+            return Ok(Some(1));
+        }
+        let Some(letter) = self.waiting.get(self.given) else {
+            return Ok(None);
+        };
+        let size = letter.size.min(packet.len()).min(LONGEST_READ);
+        packet[..size].copy_from_slice(&letter.bytes[..size]);
+        self.given = self.given.saturating_add(1);
+        self.traffic.gave(&packet[..size]);
+        Ok(Some(size))
+    }
+
+    fn tell_sender(&mut self, sender: Seat) {
+        self.sender = Some(sender);
+        self.told = self.told.saturating_add(1);
+    }
+}
+
+/// The bytes 0 to 31, and the same with a last byte 32.
+pub(crate) const PLAYERS: &[u8] =
+    b"000102030405060708090a0b0c0d0e0f101112131415161718191A1B1C1D1E1F";
+
+pub(crate) const WATCHERS: &[u8] =
+    b"000102030405060708090a0b0c0d0e0f101112131415161718191a1b1c1d1e20\n";
+
+pub(crate) const SESSION: u64 = 0x0123_4567_89ab_cdef;
+
+pub(crate) const ONE: Seat = Seat { number: 1 };
+
+pub(crate) const TWO: Seat = Seat { number: 2 };
+
+/// Which secrets a machine has.
+#[derive(Clone, Copy)]
+pub(crate) enum Has {
+    Players,
+    Watchers,
+    Both,
+}
+
+fn secrets_of(has: Has) -> Option<Secrets> {
+    let players = Secret::read(PLAYERS).ok()?;
+    let watchers = Secret::read(WATCHERS).ok()?;
+    match has {
+        Has::Players => Some(Secrets {
+            players: Some(players),
+            watchers: None,
+        }),
+        Has::Watchers => Some(Secrets {
+            players: None,
+            watchers: Some(watchers),
+        }),
+        Has::Both => Secrets::of_both(players, watchers).ok(),
+    }
+}
+
+/// What seals the packets of a seat in a session.
+pub(crate) fn seal_of(has: Has, seat: Seat, session: u64) -> Option<Seal> {
+    Some(Seal {
+        keys: SealKeys::of(&secrets_of(has)?, session),
+        seat,
+        session,
+    })
+}

@@ -1,0 +1,120 @@
+//! The keys of a match's packets.
+
+ghost use Rattle.std.specs.Prelude.{◌≡◌, ◌∷◌, [], ◌≤◌, length, Some, None, MatchOption, IfOk, IfErr, option_map};
+ghost use Rattle.c8_seal.specs.Seal.{match_key, watch_key};
+ghost use Rattle.c8_sealed.specs.Opened.{AreKeysOf, datagram_of, key_for, is_for_watching};
+ghost use Rattle.c8_sealed.specs.declared.error.SecretError.TheVariants.{Same};
+
+use crate::error::SecretError;
+use crate::secret::Secret;
+use c8_seal::{Key, LONGEST_SEALED, TAG_LENGTH};
+use c8_wire::DatagramKind;
+
+/// Where the kind of a datagram stands.
+const KIND_AT: usize = 3;
+
+/// The secrets that this machine has: that of the players, and that of the watchers and player 1.
+#[derive(Drop)]
+pub struct Secrets {
+    pub players: Option<Secret>,
+    pub watchers: Option<Secret>,
+}
+
+impl Secrets {
+    /// The secrets of player 1 of a match with watchers. `Same` if both are the same.
+    pub fn of_both(players: Secret, watchers: Secret) -> Result<Secrets, SecretError>
+        ensures both { IfOk result (λ secrets. (secrets.players ≡ Some players) × (secrets.watchers ≡ Some watchers)) }
+        ensures same { IfErr result (λ error. error ≡ Same) }
+    {
+        if players.is_same(&watchers) {
+            return Err(SecretError::Same);
+        }
+        Ok(Secrets {
+            players: Some(players),
+            watchers: Some(watchers),
+        })
+    }
+}
+
+/// The keys of a match's packets, as far as this machine has the secrets.
+#[derive(Drop)]
+pub struct SealKeys {
+    /// For all kinds but SHOW and SEEN.
+    players: Option<Key>,
+    /// For SHOW and SEEN.
+    watchers: Option<Key>,
+}
+
+impl SealKeys {
+    /// The keys of these secrets in a session.
+    pub fn of(secrets: &Secrets, session: u64) -> SealKeys
+        ensures { AreKeysOf secrets.now session result }
+    {
+        SealKeys {
+            players: key_of_players(&secrets.players, session),
+            watchers: key_of_watchers(&secrets.watchers, session),
+        }
+    }
+
+    /// The key of a datagram, by its kind.
+    pub(crate) fn key_for(&self, datagram: &[u8]) -> Option<&Key>
+        ensures { MatchOption result (key_for self.now datagram.now ≡ None)
+            (λ key. key_for self.now datagram.now ≡ Some key.now) }
+    {
+        if is_for_watching(datagram) {
+            self.watchers.as_ref()
+        } else {
+            self.players.as_ref()
+        }
+    }
+
+    /// The datagram of a packet, lent; `None` if the packet is not sealed with the key of its kind.
+    pub(crate) fn open<'a>(&self, packet: &'a [u8]) -> Option<&'a [u8]>
+        ensures opened { MatchOption result (datagram_of self.now packet.now ≡ [])
+            (λ datagram. datagram_of self.now packet.now ≡ datagram.now ∷ []) }
+        ensures shorter { MatchOption result (Unit {0}) (λ datagram. length datagram.now ≤ 174) }
+    {
+        if packet.len() < TAG_LENGTH {
+            return None;
+        }
+        if packet.len() > LONGEST_SEALED {
+            return None;
+        }
+        let (datagram, _tag) = packet.split_at(packet.len() - TAG_LENGTH);
+        let Some(key) = self.key_for(datagram) else {
+            return None;
+        };
+        match key.open(packet) {
+            Some(datagram) => Some(datagram),
+            None => None,
+        }
+    }
+}
+
+/// Whether a datagram is of a kind that is said to watchers or by them.
+fn is_for_watching(datagram: &[u8]) -> bool
+    ensures { result ≡ is_for_watching datagram.now }
+{
+    match datagram.get(KIND_AT) {
+        Some(kind) => *kind == DatagramKind::Show.code() || *kind == DatagramKind::Seen.code(),
+        None => false,
+    }
+}
+
+fn key_of_players(secret: &Option<Secret>, session: u64) -> Option<Key>
+    ensures { result ≡ option_map (λ secret. match_key secret session) secret.now }
+{
+    match secret {
+        Some(secret) => Some(Key::of_match(&secret.bytes, session)),
+        None => None,
+    }
+}
+
+fn key_of_watchers(secret: &Option<Secret>, session: u64) -> Option<Key>
+    ensures { result ≡ option_map (λ secret. watch_key secret session) secret.now }
+{
+    match secret {
+        Some(secret) => Some(Key::of_watchers(&secret.bytes, session)),
+        None => None,
+    }
+}
