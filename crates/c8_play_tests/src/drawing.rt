@@ -1,6 +1,7 @@
 //! What is drawn of a watched match, and when, by a clock of the test.
 ghost use Rattle.std.specs.Prelude.{◌≡◌};
 
+use c8_front::Terminals;
 use c8_game::Game;
 use c8_net::{WatchAsked, watch_command, watch_given, watch_on};
 use c8_terminal::{ENTER, LEAVE};
@@ -259,6 +260,11 @@ fn words() -> &'static [&'static str] {
     &WORDS
 }
 
+const TERMINAL: Terminals = Terminals {
+    input: false,
+    output: true,
+};
+
 /// What these arguments print on a terminal; nothing if they are a mistake.
 fn printed<R>(rt: &R) -> Vec<u8>
 where
@@ -269,7 +275,7 @@ where
         return out;
     };
     if let Ok(given) = command.try_get_matches_from(words()) {
-        let _ = watch_given(rt, &given, true, &mut out, &mut refused);
+        let _ = watch_given(rt, &given, TERMINAL, &mut out, &mut refused);
     }
     out
 }

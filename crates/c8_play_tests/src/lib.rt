@@ -14,6 +14,8 @@ mod drawing;
 #[cfg(test)]
 mod pair;
 #[cfg(test)]
+mod pauses;
+#[cfg(test)]
 mod rows;
 #[cfg(test)]
 mod stop;

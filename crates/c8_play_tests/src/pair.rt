@@ -131,7 +131,8 @@ fn two_at_consoles_print_one_report(rt: HostRuntime) -> Result<(), Fail> {
     // 0 frames are enough: nobody answers, and it ends at once
     let (stopped, told, _marks) = printed(&rt, 1, &ONE, "play_none.journal", here, there, Some(0));
     assert!(rt; stopped.starts_with(b"frames 0\n"));
-    assert!(rt; told.as_slice() == TOLD);
+    // a line before it says if the disk is slow
+    assert!(rt; told.ends_with(TOLD));
     assert!(rt; are_removed(&rt));
     Ok(())
 }

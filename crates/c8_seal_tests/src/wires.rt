@@ -3,7 +3,7 @@
 use crate::loops::{Has, Letter, Loop, ONE, SESSION, TWO, letter_of, seal_of};
 use c8_seal::LONGEST_OPEN;
 use c8_sealed::Sealed;
-use c8_transport::{LONGEST_PACKET, Wire};
+use c8_transport::{LONGEST_PACKET, LONGEST_READ, LONGEST_SENT, Wire};
 use c8_wire::{HEADER_LENGTH, Seat};
 
 /// A datagram of a kind, from a seat to another, that carries nothing.
@@ -23,6 +23,9 @@ const SHOW: u8 = 7;
 
 /// The wire below after player 1 has sent a datagram over it, sealed.
 fn sent(rt: &HostRuntime, has: Has, session: u64, datagram: &[u8]) -> Option<Loop> {
+    if datagram.len() > LONGEST_SENT {
+        return None;
+    }
     let mut wire = Sealed::over(rt, Loop::new(), seal_of(has, ONE, session)?);
     wire.send(TWO, datagram).ok()?;
     Some(wire.into_below())
@@ -87,18 +90,19 @@ fn with(packet: &[u8]) -> Option<Loop> {
 /// Whether no packet opens in which one bit is flipped, or that is cut.
 fn no_other_opens(rt: &HostRuntime) -> Option<bool> {
     let whole = first(&sent(rt, Has::Players, SESSION, &datagram(HELLO, 1, 2))?)?;
-    for bit in 0..8 * whole.size {
+    let size = whole.size.min(LONGEST_READ);
+    for bit in 0..8 * size {
         let mut changed = whole;
         if let Some(byte) = changed.bytes.get_mut(bit / 8) {
             *byte ^= 1 << (bit % 8);
         }
-        let below = with(&changed.bytes[..whole.size.min(191)])?;
+        let below = with(&changed.bytes[..size])?;
         if !is_turned_away(rt, Has::Both, below)? {
             return Some(false);
         }
     }
-    for size in 0..whole.size {
-        let below = with(&whole.bytes[..size.min(191)])?;
+    for cut in 0..size {
+        let below = with(&whole.bytes[..cut])?;
         if !is_turned_away(rt, Has::Players, below)? {
             return Some(false);
         }

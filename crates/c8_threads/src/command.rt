@@ -108,9 +108,10 @@ const PAUSE: u64 = 1;
 fn has_threads<R: Clock + Threads + Wait + Sync>(rt: &R, players: u8) -> bool {
     let is_over = AtomicBool::new(false);
     let common = &is_over;
+    let many = u16::from(players) + 1;
     thread::scope(thread::scope_env(), rt, |scope| -> bool {
         let mut has_all = true;
-        for _ in 0..players + 1 {
+        for _ in 0..many {
             if scope.spawn(move || wait_for(rt, common)).is_err() {
                 has_all = false;
             }

@@ -1,0 +1,146 @@
+//! How often the threads of a peer sleep, by a clock that counts.
+
+use c8_disk::MemDisk;
+use c8_game::{Game, Player};
+use c8_net::{Asked, play_on, prepare};
+use std::alloc::Global;
+use std::io;
+use std::net::{Net, SocketAddr, UdpSocket};
+use std::sync::Wait;
+use std::sync::atomic::{AtomicU64, Ordering};
+use std::thread::Threads;
+use std::time::{Clock, Duration};
+
+/// A game of two players.
+const GAME: &[u8] =
+    b"players 2\nipf 3\nframes 50\ndelay 0\nwindow 8\nseed 0\nmask1 ffff\nmask2 ffff\ncode 1200\n";
+
+/// How many turns are made.
+const TURNS: u64 = 200;
+
+/// A runtime that counts its sleeps of a millisecond, of five, and of other times.
+#[derive(Drop)]
+struct Counting<'r, R> {
+    rt: &'r R,
+    ones: AtomicU64,
+    fives: AtomicU64,
+    others: AtomicU64,
+}
+
+impl<'r, R: Wait> Wait for Counting<'r, R> {}
+
+impl<'r, R: Threads> Threads for Counting<'r, R> {}
+
+impl<'r, R: AllocGlobal> Alloc for Counting<'r, R> {
+    type A = Global;
+
+    fn alloc(&self) -> Global {
+        self.rt.alloc()
+    }
+}
+
+impl<'r, R: Clock> Clock for Counting<'r, R> {
+    fn monotonic(&self) -> io::Result<Duration> {
+        self.rt.monotonic()
+    }
+
+    fn since_1970(&self) -> io::Result<Duration> {
+        self.rt.since_1970()
+    }
+
+    fn sleep(&self, duration: Duration) {
+        let count = match duration.as_micros() {
+            1_000 => &self.ones,
+            5_000 => &self.fives,
+            _ => &self.others,
+        };
+        count.fetch_add(1, Ordering::SeqCst);
+        self.rt.sleep(duration);
+    }
+}
+
+impl<'r, R: Net> Net for Counting<'r, R> {
+    type Stream = R::Stream;
+
+    type Listener = R::Listener;
+
+    fn bind(&self, addr: SocketAddr) -> io::Result<R::Listener> {
+        self.rt.bind(addr)
+    }
+
+    fn connect(&self, addr: SocketAddr) -> io::Result<R::Stream> {
+        self.rt.connect(addr)
+    }
+
+    fn bind_udp(&self, addr: SocketAddr) -> io::Result<UdpSocket> {
+        self.rt.bind_udp(addr)
+    }
+}
+
+/// Plays as player 1, whom nobody answers, and returns how many frames are confirmed.
+fn played<R>(rt: &R) -> Option<u32>
+where
+    R: Net + Clock + Threads + Wait + Sync + AllocGlobal,
+{
+    let alloc = rt.alloc();
+    let game = Game::read(alloc, GAME).ok()?;
+    let (local, remote) = ("127.0.0.1:0", "127.0.0.1:4999");
+    let asked = Asked {
+        game: "",
+        player: Player::CHAIR,
+        journal: "-",
+        local,
+        remotes: Some(&[remote]),
+        watchers: [None, None],
+        secret: None,
+        watch_secret: None,
+        room: 3,
+        has_room: true,
+        turns: TURNS,
+        patience: None,
+        stop: None,
+        checkpoint: 0,
+        progress: false,
+        explain: false,
+    };
+    let none = [None, None];
+    let Ok(it) = prepare(
+        alloc,
+        game,
+        Player::CHAIR,
+        local,
+        &[remote],
+        none,
+        None,
+        b"".as_slice(),
+    ) else {
+        return None;
+    };
+    let disk = MemDisk::new(alloc, 100_000, 4_000).ok()?;
+    let mut told = Vec::new(alloc);
+    match play_on(rt, &asked, it, disk, &mut told) {
+        Ok(played) => Some(played.frames),
+        Err(_) => None,
+    }
+}
+
+/// The game thread sleeps for a millisecond after each turn, and a few times before it for the viewer, which looks each five
+/// milliseconds. The net thread waits at its socket alone.
+#[test]
+fn each_turn_has_its_pause(rt: HostRuntime) {
+    let counting = Counting {
+        rt: &rt,
+        ones: AtomicU64::new(0),
+        fives: AtomicU64::new(0),
+        others: AtomicU64::new(0),
+    };
+    assert!(rt; played(&counting) == Some(0));
+    let ones = counting.ones.load(Ordering::SeqCst);
+    let fives = counting.fives.load(Ordering::SeqCst);
+    assert!(rt;
+        ones >= TURNS && ones < TURNS + 5_000,
+        "{ones} pauses of a millisecond"
+    );
+    assert!(rt; fives >= 1 && fives <= TURNS, "{fives} pauses of five");
+    assert!(rt; counting.others.load(Ordering::SeqCst) == 0);
+}
