@@ -58,8 +58,8 @@ impl Wire for Way {
         let Some(letter) = self.waiting.get(self.taken) else {
             return Ok(None);
         };
-        packet[..LONGEST_PACKET].copy_from_slice(&letter.bytes);
         let size = letter.size.min(LONGEST_PACKET);
+        packet[..size].copy_from_slice(&letter.bytes[..size]);
         self.taken = self.taken.saturating_add(1);
         self.traffic.gave(&packet[..size]);
         Ok(Some(size))

@@ -57,132 +57,44 @@ struct Step {
 
 /// A player who comes from port 5001. A packet from 6000 counts for nothing as long as the player is heard, and for two
 /// seconds after its last packet. Then both are sent to. The player comes back; 6000 is sent to for two seconds more.
+#[rattlefmt::skip]
 static COMES_BACK: [Step; 11] = [
-    Step {
-        millis: 0,
-        from: 0,
-        to: (0, 0),
-    },
-    Step {
-        millis: 5,
-        from: 5001,
-        to: (0, 5001),
-    },
-    Step {
-        millis: 10,
-        from: 6000,
-        to: (0, 5001),
-    },
-    Step {
-        millis: 1000,
-        from: 5001,
-        to: (0, 5001),
-    },
-    Step {
-        millis: 2999,
-        from: 6000,
-        to: (0, 5001),
-    },
-    Step {
-        millis: 3000,
-        from: 6000,
-        to: (5001, 6000),
-    },
-    Step {
-        millis: 3100,
-        from: 5001,
-        to: (5001, 6000),
-    },
-    Step {
-        millis: 3200,
-        from: 6000,
-        to: (5001, 6000),
-    },
-    Step {
-        millis: 5199,
-        from: 0,
-        to: (5001, 6000),
-    },
-    Step {
-        millis: 5200,
-        from: 0,
-        to: (0, 5001),
-    },
-    Step {
-        millis: 9000,
-        from: 0,
-        to: (0, 5001),
-    },
+    Step { millis: 0, from: 0, to: (0, 0) },
+    Step { millis: 5, from: 5001, to: (0, 5001) },
+    Step { millis: 10, from: 6000, to: (0, 5001) },
+    Step { millis: 1000, from: 5001, to: (0, 5001) },
+    Step { millis: 2999, from: 6000, to: (0, 5001) },
+    Step { millis: 3000, from: 6000, to: (5001, 6000) },
+    Step { millis: 3100, from: 5001, to: (5001, 6000) },
+    Step { millis: 3200, from: 6000, to: (5001, 6000) },
+    Step { millis: 5199, from: 0, to: (5001, 6000) },
+    Step { millis: 5200, from: 0, to: (0, 5001) },
+    Step { millis: 9000, from: 0, to: (0, 5001) },
 ];
 
 /// A player who moves to port 6000: that takes the place of the known one once it alone goes on to speak. The one that was
 /// known is sent to again as soon as it speaks.
-static MOVES: [Step; 8] = [
-    Step {
-        millis: 5,
-        from: 5001,
-        to: (0, 5001),
-    },
-    Step {
-        millis: 2005,
-        from: 6000,
-        to: (5001, 6000),
-    },
-    Step {
-        millis: 2006,
-        from: 6000,
-        to: (0, 6000),
-    },
-    Step {
-        millis: 6000,
-        from: 0,
-        to: (0, 6000),
-    },
-    Step {
-        millis: 6001,
-        from: 5001,
-        to: (6000, 5001),
-    },
-    Step {
-        millis: 6002,
-        from: 6000,
-        to: (6000, 5001),
-    },
-    Step {
-        millis: 6003,
-        from: 7000,
-        to: (6000, 5001),
-    },
-    Step {
-        millis: 8001,
-        from: 0,
-        to: (0, 6000),
-    },
+#[rattlefmt::skip]
+static MOVES: [Step; 9] = [
+    Step { millis: 5, from: 5001, to: (0, 5001) },
+    Step { millis: 2005, from: 6000, to: (5001, 6000) },
+    Step { millis: 2006, from: 6000, to: (0, 6000) },
+    Step { millis: 2100, from: 5001, to: (6000, 5001) },
+    Step { millis: 6000, from: 0, to: (0, 6000) },
+    Step { millis: 6001, from: 5001, to: (6000, 5001) },
+    Step { millis: 6002, from: 6000, to: (6000, 5001) },
+    Step { millis: 6003, from: 7000, to: (6000, 5001) },
+    Step { millis: 8001, from: 0, to: (0, 6000) },
 ];
 
 /// One packet that is sent again from elsewhere takes nothing from a player who is silent, and the next one, more than two
 /// seconds later, is as the first.
+#[rattlefmt::skip]
 static IS_SILENT: [Step; 4] = [
-    Step {
-        millis: 5,
-        from: 5001,
-        to: (0, 5001),
-    },
-    Step {
-        millis: 3000,
-        from: 6000,
-        to: (5001, 6000),
-    },
-    Step {
-        millis: 5000,
-        from: 6000,
-        to: (5001, 6000),
-    },
-    Step {
-        millis: 7000,
-        from: 7000,
-        to: (5001, 7000),
-    },
+    Step { millis: 5, from: 5001, to: (0, 5001) },
+    Step { millis: 3000, from: 6000, to: (5001, 6000) },
+    Step { millis: 5000, from: 6000, to: (5001, 6000) },
+    Step { millis: 7000, from: 7000, to: (5001, 7000) },
 ];
 
 fn comes_back() -> &'static [Step] {
