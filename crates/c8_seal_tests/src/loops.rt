@@ -24,10 +24,12 @@ impl Default for Letter {
     }
 }
 
-/// A wire to itself. At first it gives some packets of one byte that nobody sent.
+/// A wire to itself. Before each packet that it was given to send, it gives some of one byte that nobody sent.
 #[derive(Drop)]
 pub(crate) struct Loop {
+    /// How many such packets come next, and how many come after a packet that was sent.
     pub(crate) junk: u16,
+    pub(crate) again: u16,
     pub(crate) waiting: ArrayVec<Letter, PLACES>,
     /// How many of those that wait it has given.
     given: usize,
@@ -41,6 +43,7 @@ impl Loop {
     pub(crate) fn new() -> Loop {
         Loop {
             junk: 0,
+            again: 0,
             waiting: ArrayVec::new(),
             given: 0,
             sender: None,
@@ -85,6 +88,7 @@ impl Wire for Loop {
         let size = letter.size.min(packet.len()).min(LONGEST_READ);
         packet[..size].copy_from_slice(&letter.bytes[..size]);
         self.given = self.given.saturating_add(1);
+        self.junk = self.again;
         self.traffic.gave(&packet[..size]);
         Ok(Some(size))
     }

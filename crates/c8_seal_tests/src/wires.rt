@@ -149,20 +149,33 @@ fn senders_are_told(rt: &HostRuntime) -> Option<bool> {
     )
 }
 
-/// After 4096 packets that do not open a turn is over; the next one goes on behind them.
-fn a_flood_ends_a_turn(rt: &HostRuntime) -> Option<bool> {
-    let mut below = sent(rt, Has::Players, SESSION, &datagram(HELLO, 1, 2))?;
-    below.junk = 5000;
+/// How much is heard of a flood: what each of three calls gives, and how many packets were turned away by then.
+type Flood = [(Option<usize>, u64); 3];
+
+/// What is heard where as many packets that do not open come before each of two that do.
+fn heard_in_a_flood(rt: &HostRuntime, junk: u16) -> Option<Flood> {
+    let hello = datagram(HELLO, 1, 2);
+    let mut below = sent(rt, Has::Players, SESSION, &hello)?;
+    let first = first(&below)?;
+    below.waiting.try_push(first).ok()?;
+    below.junk = junk;
+    below.again = junk;
     let mut wire = Sealed::over(rt, below, seal_of(Has::Players, TWO, SESSION)?);
     let mut bytes = [0; LONGEST_PACKET];
-    let first = wire.receive(&mut bytes).ok()?;
-    let after_first = wire.losses().unsealed;
-    let second = wire.receive(&mut bytes).ok()?;
+    let mut flood = [(None, 0); 3];
+    for place in 0..3 {
+        let size = wire.receive(&mut bytes).ok()?;
+        flood[place] = (size, wire.losses().unsealed);
+    }
+    Some(flood)
+}
+
+/// A turn looks at 4096 packets, and is then over as if no more waited; the next one goes on behind them.
+fn a_flood_ends_a_turn(rt: &HostRuntime) -> Option<bool> {
+    let size = Some(HEADER_LENGTH);
     Some(
-        first.is_none()
-            && after_first == 4096
-            && second == Some(HEADER_LENGTH)
-            && wire.losses().unsealed == 5000,
+        heard_in_a_flood(rt, 5_000)? == [(None, 4_096), (size, 5_000), (None, 8_191)]
+            && heard_in_a_flood(rt, 3_000)? == [(size, 3_000), (None, 4_095), (size, 6_000)],
     )
 }
 
