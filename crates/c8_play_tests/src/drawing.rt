@@ -103,9 +103,10 @@ impl Wire for Shows {
         }
         self.show[24..28].copy_from_slice(&self.frame.to_be_bytes());
         self.frame = self.frame.saturating_add(1);
-        packet[..38].copy_from_slice(&self.show);
-        self.traffic.gave(&packet[..38]);
-        Ok(Some(38))
+        let size = self.show.len().min(packet.len());
+        packet[..size].copy_from_slice(&self.show[..size]);
+        self.traffic.gave(&packet[..size]);
+        Ok(Some(size))
     }
 }
 
