@@ -1,5 +1,6 @@
 //! A command of a case: its input, its expected output, and how the real output differs.
 
+use c8_front::Terminals;
 use std::alloc::{AllocError, Global};
 use std::fs::File;
 use std::io::Write;
