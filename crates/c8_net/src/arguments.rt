@@ -80,7 +80,7 @@ pub fn peer_command<'a>(alloc: Global) -> Result<Command<'a>, AllocError> {
 
 /// Adds the arguments of `peer`: game, player, journal and addresses.
 fn with_players<'a>(alloc: Global, command: Command<'a>) -> Result<Command<'a>, AllocError> {
-    let game = "The path of the game's text, the same for all players";
+    let game = "The path of the game's text or of a .ch8 program, the same for all";
     let command = with_place(alloc, command, "GAME", game)?;
     let player = Arg::new(alloc, "PLAYER")
         .help("The number of the own player, 1 to 4")

@@ -10,7 +10,7 @@ ghost use Rattle.c8_net.specs.declared.error.PeerError.{PeerError};
 
 use crate::arguments::{Asked, asked_of};
 use crate::error::PeerError;
-use crate::fault::{Fault, INPUT, game_at};
+use crate::fault::{Fault, INPUT, Why, game_at};
 use crate::journal::{Journal, journal_at, warn_of_a_slow_disk};
 use crate::performance::Performance;
 use crate::play::{Prepared, Unprepared, perform_on, play_on, prepare};
@@ -213,8 +213,8 @@ pub fn refuse<E: Write>(
         return refusal.tell(refused);
     }
     let site = Some(fault.site(alloc, no_address));
-    match fault.unread {
-        Some(error) => refusal.tell_at(site, &error, refused),
+    match fault.why {
+        Some(why) => refusal.tell_at(site, &why, refused),
         None => refusal.tell_at(site, &fault.error, refused),
     }
 }
@@ -261,14 +261,14 @@ where
 /// Turns the refusal of `prepare` into a fault with its file.
 fn at_start<'a>(it: Unprepared) -> Fault<'a> {
     let Unprepared { error, input } = it;
-    let unread = match error {
-        PeerError::Disk(_) => Some(TextError::Failed),
+    let why = match error {
+        PeerError::Disk(_) => Some(Why::Unread(TextError::Failed)),
         _ => None,
     };
     Fault {
         error,
         file: INPUT,
         text: input,
-        unread,
+        why,
     }
 }

@@ -6,10 +6,12 @@ use c8_disk::DiskError;
 use c8_game::{Game, GameError};
 use c8_keys::{KeysError, game_site, key_sets_site};
 use c8_peer::OpenError;
+use c8_program::{ProgramError, usual_game};
 use c8_udp::SocketError;
 use std::alloc::Global;
 use std::fs::File;
 use std::rt::Files;
+use thiserror::Error;
 
 /// The name of standard input in messages.
 pub(crate) const INPUT: &str = "standard input";
@@ -21,8 +23,19 @@ pub struct Fault<'a> {
     pub(crate) file: &'a str,
     /// The content of the file, if a line of it may be at fault.
     pub(crate) text: Vec<u8>,
-    /// Why the file was not read, if it is a text that was not.
-    pub(crate) unread: Option<TextError>,
+    /// What says more than the error, if anything does.
+    pub(crate) why: Option<Why>,
+}
+
+/// What says more than an error of the command.
+#[derive(Clone, Copy, Debug, Error)]
+pub(crate) enum Why {
+    /// A text was not read.
+    #[error("{0}")]
+    Unread(TextError),
+    /// The bytes of a program make no game.
+    #[error("{0}")]
+    Program(ProgramError),
 }
 
 impl<'a> Fault<'a> {
@@ -32,7 +45,7 @@ impl<'a> Fault<'a> {
             error,
             file,
             text: Vec::new(alloc),
-            unread: None,
+            why: None,
         }
     }
 
@@ -42,7 +55,7 @@ impl<'a> Fault<'a> {
             error,
             file,
             text,
-            unread: None,
+            why: None,
         }
     }
 
@@ -56,7 +69,7 @@ impl<'a> Fault<'a> {
             error: why,
             file,
             text: Vec::new(alloc),
-            unread: Some(error),
+            why: Some(Why::Unread(error)),
         }
     }
 
@@ -75,7 +88,11 @@ impl<'a> Fault<'a> {
     }
 }
 
-/// Reads the game in a file. Faults are found in this order: the file, the game.
+/// The end of the name of a file that has the bytes of a program in place of a game's text.
+const PROGRAM: &[u8] = b".ch8";
+
+/// Reads the game in a file: its text, or of a program's bytes the game with the usual settings. Faults are found in this
+/// order: the file, the game.
 pub fn game_at<'a, R>(rt: &R, path: &'a str) -> Result<Game, Fault<'a>>
 where
     R: Files<File = File> + AllocGlobal,
@@ -84,6 +101,14 @@ where
         Ok(text) => text,
         Err(error) => return Err(Fault::unread(rt.alloc(), error, path)),
     };
+    if path.as_bytes().ends_with(PROGRAM) {
+        return usual_game(rt.alloc(), &text).map_err(|why| Fault {
+            error: PeerError::Game(GameError::from(why)),
+            file: path,
+            text: Vec::new(rt.alloc()),
+            why: Some(Why::Program(why)),
+        });
+    }
     match Game::read(rt.alloc(), &text) {
         Ok(game) => Ok(game),
         Err(error) => Err(Fault::of_text(PeerError::Game(error), path, text)),

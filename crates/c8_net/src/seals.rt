@@ -2,7 +2,7 @@
 
 use crate::arguments::Asked;
 use crate::error::PeerError;
-use crate::fault::Fault;
+use crate::fault::{Fault, Why};
 use c8_command::TextError;
 use c8_disk::DiskError;
 use c8_game::Game;
@@ -118,7 +118,7 @@ fn secret_fault<'a>(alloc: Global, fault: SecretFault, path: &'a str) -> Fault<'
             },
             file: path,
             text: Vec::new(alloc),
-            unread: Some(error),
+            why: Some(Why::Unread(error)),
         },
     }
 }

@@ -48,7 +48,7 @@ pub fn play_command<'a>(alloc: Global) -> Result<Command<'a>, AllocError> {
 
 /// Adds the arguments that say who plays what.
 fn with_players<'a>(alloc: Global, command: Command<'a>) -> Result<Command<'a>, AllocError> {
-    let game = "The path of the game's text, the same for all players";
+    let game = "The path of the game's text or of a .ch8 program, the same for all";
     let command = with_place(alloc, command, "GAME", game)?;
     let player = "The number of the own player, 1 to 4, or alone";
     let command = with_place(alloc, command, "PLAYER", player)?;

@@ -4,6 +4,7 @@ use arrayvec::ArrayVec;
 use c8_sealed::{Seal, SealKeys, Secret, Secrets};
 use c8_transport::{LONGEST_READ, Traffic, Wire, WireFailed};
 use c8_wire::Seat;
+use std::time::Duration;
 
 /// How many packets wait at most.
 const PLACES: usize = 4;
@@ -36,6 +37,8 @@ pub(crate) struct Loop {
     /// The sender that it was told last, and how often it was told one.
     pub(crate) sender: Option<Seat>,
     pub(crate) told: u8,
+    /// How long it was asked to wait, in all.
+    pub(crate) waited: Duration,
     traffic: Traffic,
 }
 
@@ -48,6 +51,7 @@ impl Loop {
             given: 0,
             sender: None,
             told: 0,
+            waited: Duration::from_secs(0),
             traffic: Traffic::new(),
         }
     }
@@ -91,6 +95,10 @@ impl Wire for Loop {
         self.junk = self.again;
         self.traffic.gave(&packet[..size]);
         Ok(Some(size))
+    }
+
+    fn wait(&mut self, most: Duration) {
+        self.waited = self.waited.saturating_add(most);
     }
 
     fn tell_sender(&mut self, sender: Seat) {

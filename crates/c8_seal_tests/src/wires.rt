@@ -5,6 +5,7 @@ use c8_seal::LONGEST_OPEN;
 use c8_sealed::Sealed;
 use c8_transport::{LONGEST_PACKET, LONGEST_READ, LONGEST_SENT, Wire};
 use c8_wire::{HEADER_LENGTH, Seat};
+use std::time::Duration;
 
 /// A datagram of a kind, from a seat to another, that carries nothing.
 fn datagram(kind: u8, from: u8, to: u8) -> [u8; HEADER_LENGTH] {
@@ -179,12 +180,21 @@ fn a_flood_ends_a_turn(rt: &HostRuntime) -> Option<bool> {
     )
 }
 
+/// The wire below waits as long as the one above is asked to.
+fn waits_below(rt: &HostRuntime) -> Option<bool> {
+    let most = Duration::from_millis(20);
+    let mut wire = Sealed::over(rt, Loop::new(), seal_of(Has::Players, TWO, SESSION)?);
+    wire.wait(most);
+    Some(wire.into_below().waited == most)
+}
+
 #[test]
 fn what_is_sealed_is_heard(rt: HostRuntime) {
     assert!(rt; is_heard(&rt, Has::Players, Has::Both, &datagram(HELLO, 1, 2)) == Some(true));
     assert!(rt; is_heard(&rt, Has::Players, Has::Players, b"") == Some(true));
     assert!(rt; none_opens_cut_short(&rt) == Some(true));
     assert!(rt; senders_are_told(&rt) == Some(true));
+    assert!(rt; waits_below(&rt) == Some(true));
 }
 
 #[test]

@@ -39,7 +39,7 @@ pub fn watch_command<'a>(alloc: Global) -> Result<Command<'a>, AllocError> {
 
 /// Adds the arguments of `watch`: game, seat and addresses.
 fn with_match<'a>(alloc: Global, command: Command<'a>) -> Result<Command<'a>, AllocError> {
-    let game = "The path of the game's text, the same as the players'";
+    let game = "The path of the game's text or .ch8 program, the same as the players'";
     let command = with_place(alloc, command, "GAME", game)?;
     let seat = Arg::new(alloc, "SEAT")
         .help("The seat, 5 or 6, as in player 1's --watch5 or --watch6")
