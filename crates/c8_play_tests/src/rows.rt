@@ -121,7 +121,7 @@ static OF_TWO: [Look; 5] = [
         waits: None,
         wanted: b"\x1b[17;1H\x1b[K480/479  the machines differ  1: 0 ms  back 2, longest 1",
     },
-    // 83 characters, of which 64 are written
+    // 83 characters; 64 are written
     Look {
         millis: 10_000_000_002_216,
         confirmed: 262_136,
@@ -159,7 +159,7 @@ static OF_FOUR: [Look; 3] = [
         waits: Some(2),
         wanted: b"\x1b[17;1H\x1b[K99/88  waits for 2: 1 s  1: 1100 ms  2: 1200 ms  4: 0 ms  back 11, longest 7",
     },
-    // 109 characters, of which 80 are written
+    // 109 characters; 80 are written
     Look {
         millis: 123_456_989,
         confirmed: 262_136,
@@ -231,7 +231,7 @@ fn drops_at_the_second() -> bool {
         && status.give_up(Some(two)).is_none()
 }
 
-/// Whether another player than player 1 is told nothing of that, and drops nobody.
+/// Whether the row of another player says nothing of that, and control-D drops nobody there.
 fn only_player_one_drops() -> bool {
     let one = Player::CHAIR;
     let mut status = StatusRow::new(Duration::from_secs(0), Player { number: 2 }, 2);

@@ -1,4 +1,4 @@
-//! A wire in memory that gives what it is given to send, and notes what it is told.
+//! A wire in memory that gives what was sent over it, and notes the senders that a wire above names.
 
 use arrayvec::ArrayVec;
 use c8_sealed::{Seal, SealKeys, Secret, Secrets};
@@ -34,7 +34,7 @@ pub(crate) struct Loop {
     pub(crate) waiting: ArrayVec<Letter, PLACES>,
     /// How many of those that wait it has given.
     given: usize,
-    /// The sender that it was told last, and how often it was told one.
+    /// The sender that the wire above named last, and how often it named one.
     pub(crate) sender: Option<Seat>,
     pub(crate) told: u8,
     /// How long it was asked to wait, in all.

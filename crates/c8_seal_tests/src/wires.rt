@@ -132,7 +132,7 @@ fn each_kind_has_its_key(rt: &HostRuntime) -> Option<bool> {
     Some(by_watchers && by_players && no_show && no_hello && other && unsent.waiting.is_empty())
 }
 
-/// The wire below is told whose a packet is that opens, if it is of this session and to this seat.
+/// A wire tells the one below whose a packet is that opens, if it is of this session and to this seat.
 fn senders_are_told(rt: &HostRuntime) -> Option<bool> {
     let own = sent(rt, Has::Players, SESSION, &datagram(HELLO, 3, 2))?;
     let own = hear(rt, Has::Players, TWO, own)?;
