@@ -1,7 +1,7 @@
-//! The call `rows`, which lends the confirmed rows.
+//! The calls that tell rows: `rows`, which lends the confirmed ones, and `best_row`.
 ghost use Rattle.std.specs.Prelude.{◌≡◌, ◌≤◌, ◌<◌, ◌==◌, take, length};
 ghost use Rattle.c8_known.specs.Known.{player_in};
-ghost use Rattle.c8_known.specs.Confirmed.{confirmed, row};
+ghost use Rattle.c8_known.specs.Confirmed.{confirmed, row, best_row};
 
 use super::Peer;
 use c8_disk::Disk;
@@ -75,5 +75,13 @@ impl<'g, D: Disk> Peer<'g, D> {
         ensures players { length result.players ≡ self.now.rules.players }
     {
         Rows { known: &self.known }
+    }
+
+    /// Returns the best guess at the inputs of a frame, counted from 0: each player's settled input, else its last held
+    /// one. Below `confirmed` it is the confirmed row.
+    pub fn best_row(&self, frame: u32) -> Row
+        ensures { result ≡ best_row (known_by self.now) frame }
+    {
+        self.known.best(frame)
     }
 }
