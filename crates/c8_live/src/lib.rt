@@ -2,8 +2,8 @@
 //! repeat datagrams.
 //!
 //! [`Session`] is the loop: each call of [`Session::turn`] hears, enters a key set and speaks over a `Wire` of
-//! c8_transport. [`Silence`] counts the silent turns of each player. [`Progress`] and [`tell_end`] print how far the peer
-//! is and how it ended. c8_peer decides what each call does; this crate decides only which call comes when. The contract
+//! c8_transport. [`Progress`] and [`tell_end`] print how far the peer is and how it ended. c8_peer decides what each call
+//! does, and c8_schedule which call comes when. The contract
 //! of `Session::turn` says that a turn changes its peer by these calls alone, in their order, and that its wire takes
 //! nothing but what the peer said.
 //!
@@ -21,7 +21,6 @@ mod progress;
 mod relay;
 mod rollbacks;
 mod session;
-mod silence;
 
 pub use counters::{Counters, Standing};
 pub use error::SessionError;
@@ -31,4 +30,3 @@ pub use progress::{Progress, tell_end};
 pub use relay::Relay;
 pub use rollbacks::Rollbacks;
 pub use session::Session;
-pub use silence::Silence;

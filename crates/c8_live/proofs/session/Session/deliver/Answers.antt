@@ -14,4 +14,4 @@ pub returns-in-Err-Disk-clause-ran : goal.returns-in-Err-Disk-clause-ran
 returns-in-Err-Disk-clause-ran g c = c.peer_hears.ensures.ran c.args.packet.now c.in-Ok.ensures.found
 
 pub returns-in_default-peer_hears-clause-ran : goal.returns-in_default-peer_hears-clause-ran
-returns-in_default-peer_hears-clause-ran g c = rw c.greeter.ensures (c.peer_hears.ensures.ran c.args.packet.now c.in-Ok.ensures.found)
+returns-in_default-peer_hears-clause-ran g c = (c.peer_hears.ensures.ran c.args.packet.now c.in-Ok.ensures.found)

@@ -3,7 +3,7 @@ use Rattle.c8_refusals.specs.declared.error.LeaveError.TheVariants as leaves
 use Rattle.c8_live.specs.declared.error.SessionError.TheVariants.{Disk}
 use Rattle.c8_live.specs.Turns.{LetsGo}
 use Rattle.c8_live.proofs.session.Session.let_go.Goals as goal
-use Rattle.c8_live.proofs.session.Session.let_go.Goals.{in_default-via-in-None-1, in_default-via-in-Some+else-is_given_up, in_default-via-in-Some+then-is_given_up+in-Err+in-NotChair-1, in_default-via-in-Some+then-is_given_up+in-Ok-1}
+use Rattle.c8_live.proofs.session.Session.let_go.Goals.{in_default-via-in-None-1, in_default-via-in-Some+else-drops, in_default-via-in-Some+then-drops+in-Err+in-NotChair-1, in_default-via-in-Some+then-drops+in-Ok-1}
 
 pub returns-in-loop-number-clause-end : goal.returns-in-loop-number-clause-end
 returns-in-loop-number-clause-end g c =
@@ -14,11 +14,11 @@ pub loop-number-preserved : goal.loop-number-preserved
 loop-number-preserved g c =
     elim c.in_default.branch [
       | in_default-via-in-None-1 w ↦ record { ran = rw w.self-is c.loop-number.invariant.ran }
-      | in_default-via-in-Some+else-is_given_up w ↦ record { ran = rw w.self-is c.loop-number.invariant.ran }
-      | in_default-via-in-Some+then-is_given_up+in-Err+in-NotChair-1 w ↦ record {
+      | in_default-via-in-Some+else-drops w ↦ record { ran = rw w.self-is c.loop-number.invariant.ran }
+      | in_default-via-in-Some+then-drops+in-Err+in-NotChair-1 w ↦ record {
         ran = rw w.self-is (c.doings_join.ensures.joined LetsGo c.args.self.now.peer c.loop-number.self.peer w.peer_lets_go.new.self.peer c.loop-number.invariant.ran w.peer_lets_go.ensures.ran);
       }
-      | in_default-via-in-Some+then-is_given_up+in-Ok-1 w ↦ record {
+      | in_default-via-in-Some+then-drops+in-Ok-1 w ↦ record {
         ran = rw w.self-is (c.doings_join.ensures.joined LetsGo c.args.self.now.peer c.loop-number.self.peer w.peer_lets_go.new.self.peer c.loop-number.invariant.ran w.peer_lets_go.ensures.ran);
       }
     ]

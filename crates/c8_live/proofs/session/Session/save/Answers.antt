@@ -4,8 +4,8 @@ use Rattle.c8_live.specs.Turns.{Saves}
 use Rattle.c8_live.proofs.TurnLemmas.{done_still}
 use Rattle.c8_live.proofs.session.Session.save.Goals as goal
 
-pub returns-then-not-is_time_to_save-clause-ran : goal.returns-then-not-is_time_to_save-clause-ran
-returns-then-not-is_time_to_save-clause-ran g c = (done_still g.D.Disk Saves c.args.self.now.peer, omega arith)
+pub returns-then-not-saves-clause-ran : goal.returns-then-not-saves-clause-ran
+returns-then-not-saves-clause-ran g c = (done_still g.D.Disk Saves c.args.self.now.peer, omega arith)
 
 pub returns-in-Err-Disk-clause-end : goal.returns-in-Err-Disk-clause-end
 returns-in-Err-Disk-clause-end g c =

@@ -1,13 +1,12 @@
 use Rattle.c8_live.proofs.session.Session.speak.Goals as goal
-use Rattle.c8_live.proofs.session.Session.speak.Goals.{in-Some+in_ok-speak_to+in_ok-speak_of_leavers, in_default}
+use Rattle.c8_live.proofs.session.Session.speak.Goals.{in-Some+in_ok-speak_to, in_default}
 
 pub loop-number-preserved : goal.loop-number-preserved
 loop-number-preserved g c =
     let peer = c.args.self.now.peer in
     elim c.match-other.branch [
-      | in-Some+in_ok-speak_to+in_ok-speak_of_leavers w ↦ record {
-        spoke = rw w.wire-is (c.sayings_join.ensures.joined peer c.args.wire.now w.speak_to.new.wire w.speak_of_leavers.new.wire
-            (c.sayings_join.ensures.joined peer c.args.wire.now c.loop-number.wire w.speak_to.new.wire c.loop-number.invariant.spoke w.in_ok-speak_to.ensures.spoke) w.in_ok-speak_of_leavers.ensures.spoke);
+      | in-Some+in_ok-speak_to w ↦ record {
+        spoke = rw w.wire-is (c.sayings_join.ensures.joined peer c.args.wire.now c.loop-number.wire w.speak_to.new.wire c.loop-number.invariant.spoke w.in_ok-speak_to.ensures.spoke);
       }
       | in_default w ↦ record { spoke = rw w.wire-is c.loop-number.invariant.spoke }
     ]

@@ -1,7 +1,5 @@
 //! How long each player has been silent.
 
-ghost use Rattle.std.specs.Prelude.{◌≡◌};
-
 use c8_game::{MOST_PLAYERS, Player};
 
 /// For each player, how many turns have begun since a datagram of it was last admitted, or since the start.

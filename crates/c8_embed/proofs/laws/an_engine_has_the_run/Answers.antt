@@ -1,0 +1,21 @@
+use Rattle.std.proofs.Common.{◌≡◌, ◌+◌, ℕ, List, length, Some, sym, ap, subst, ◌∙◌, arith}
+use Rattle.c8_game.specs.declared.row.Row.{Row}
+use Rattle.c8_embed.specs.Steps.{run}
+use Rattle.c8_embed.proofs.StepsLemmas.{best_length, best_confirmed, step_resumes, state_now}
+use Rattle.c8_embed.proofs.laws.an_engine_has_the_run.Goals as goal
+
+pub returns-clause-kept : goal.returns-clause-kept
+returns-clause-kept g c step start k most from count before after is = step_resumes step start k most from count before after is
+
+pub returns-clause-now : goal.returns-clause-now
+returns-clause-now g c step start k most from count before after is fewer =
+    let all = is.all fewer in
+    let long : length after ≡ from + count = ap (λ (rows : List Row). length rows) is.given ∙ best_length k (from + count) in
+    state_now step start k most from count k.ticks before after is (omega (arith, long, all))
+
+pub returns-clause-stays : goal.returns-clause-stays
+returns-clause-stays g c step start k most from count n before after is confirmed_is within =
+    state_now step start k most from count n before after is within ∙ ap (λ (rows : List Row). Some (run step start rows)) (best_confirmed k n confirmed_is)
+
+pub returns-clause-same : goal.returns-clause-same
+returns-clause-same g c step start k j n same = ap (λ (rows : List Row). run step start rows) same

@@ -1,0 +1,218 @@
+//! One peer inside an engine: its calls, its turns, and what the engine is given of it.
+ghost use Rattle.std.specs.Prelude.{ℕ, ◌≡◌, ◌≤◌, ◌<◌, ◌+◌, [], IfOk, IfErr, IfSome, OnOk, OnErr, IsErrOf, take, drop, length, Ok, Err};
+ghost use Rattle.c8_wire.specs.checked.Read.{read};
+ghost use Rattle.c8_peer.specs.Asked.{saying_of};
+ghost use Rattle.c8_peer.specs.Opened.{IsOpened, IsRefusedOpening};
+ghost use Rattle.c8_peer.specs.Peer.{IsAnswered, IsSaid, known_by};
+ghost use Rattle.c8_peer.specs.State.{Call, Tick, Deliver, Say, Leave, Decide, Checkpoint, Ticked, Delivered, Left, Decided, Checked};
+ghost use Rattle.c8_embed.specs.Steps.{IsStepped};
+ghost use Rattle.c8_embed.specs.Engine.{HasTurned};
+
+use crate::laws::what_was_given_stays;
+use crate::steps::{Stepped, Steps};
+use c8_disk::{Disk, DiskError};
+use c8_game::{Game, Keys, Player};
+use c8_peer::laws::deliveries_are_calls;
+use c8_peer::{
+    Check, CheckError, DecideError, Heard, Kind, LeaveError, OpenError, Peer, Refused, TickError,
+};
+use c8_schedule::{MOST_DUE, Schedule};
+use c8_wire::{LONGEST_DATAGRAM, view};
+use std::alloc::Global;
+use std::fmt;
+use std::marker::Model;
+
+/// A peer, its schedule, and the rows that the engine was given. Only [`Engine::open`] takes memory.
+#[derive(Drop)]
+pub struct Engine<'g, D: Disk> {
+    pub(crate) peer: Peer<'g, D>,
+    steps: Steps,
+    pub(crate) schedule: Schedule,
+    /// The next place of this turn at which a datagram may be due; each player has `MOST_DUE` places.
+    pub(crate) place: u8,
+    /// Whether the engine was given all best rows, and no call came after that.
+    is_told: bool,
+    /// By how many frames each step rolls back for a test.
+    depth: u32,
+}
+
+impl<'g, D: Disk> Model for Engine<'g, D> {
+    ghost use Rattle.c8_embed.specs.Engine.{EngineValue, IsEngine};
+
+    ghost Value = { EngineValue D };
+
+    ghost view = { λ e. record { peer = e.peer; steps = e.steps; depth = e.depth } };
+
+    ghost invariant = { λ e. IsEngine e.peer e.steps e.is_told };
+}
+
+/// Prints the peer.
+impl<'g, D: Disk> fmt::Debug for Engine<'g, D> {
+    fn fmt<W: fmt::Write>(&self, f: &mut fmt::Formatter<W>) -> fmt::Result {
+        let peer = &self.peer;
+        write!(f, "Engine {{ peer: {peer:?} }}")
+    }
+}
+
+impl<'g, D: Disk> Engine<'g, D> {
+    /// Opens the peer of player `me`, as [`Peer::open`] does. The engine was given nothing yet. With `patience` player 1
+    /// drops a player after that many silent turns. Once `interval` frames were confirmed since the last checkpoint, the
+    /// turns record the next one; with 0 they record none.
+    pub fn open(
+        alloc: Global,
+        disk: D,
+        game: &'g Game,
+        me: Player,
+        room: u64,
+        patience: Option<u64>,
+        interval: u32,
+    ) -> Result<Engine<'g, D>, (OpenError, D)>
+        ensures opened { IfOk result (λ engine.
+            IsOpened D.Disk disk game.entry.now room me.number engine.peer
+            × (engine.steps.given ≡ []) × (engine.depth ≡ 0)) }
+        ensures refused { IfErr result (λ refusal.
+            IsRefusedOpening D.Disk disk game.entry.now room me.number refusal.0 refusal.1) }
+    {
+        if me.number > game.players() {
+            return Err((OpenError::WrongPlayer, disk));
+        }
+        game.in_range();
+        let Ok(steps) = Steps::new(alloc, game.frames() + u32::from(game.window())) else {
+            return Err((OpenError::Memory, disk));
+        };
+        let peer = Peer::open(alloc, disk, game, me, room)?;
+        let mut schedule = Schedule::new(game, patience, interval);
+        schedule.begin();
+        Ok(Engine {
+            peer,
+            steps,
+            schedule,
+            place: u8::MAX,
+            is_told: false,
+            depth: 0,
+        })
+    }
+
+    /// The peer.
+    pub fn peer(&self) -> &Peer<'g, D>
+        ensures { result.now ≡ self.now.peer }
+    {
+        &self.peer
+    }
+
+    /// For how many turns a player has been silent.
+    pub fn silent(&self, player: Player) -> u64 {
+        self.schedule.silent(player)
+    }
+
+    /// Whether the match is over for this peer: it knows that it was dropped, or it has rested for more than 120 turns
+    /// after everything was confirmed and acknowledged.
+    pub fn is_over(&self) -> bool {
+        self.peer.dropped() || self.schedule.has_rested()
+    }
+
+    /// Enters the own player's next key set, as [`Peer::tick`] does.
+    pub fn tick(&mut self, keys: Keys) -> Result<(), TickError>
+        ensures answered { IsAnswered D.Disk self.old.peer (Tick keys.0) (Ticked result) self.new.peer }
+        ensures steps { self.new.steps ≡ self.old.steps }
+        ensures depth { self.new.depth ≡ self.old.depth }
+    {
+        what_was_given_stays::<D>();
+        let _sound = self.peer.is_down();
+        self.is_told = false;
+        self.peer.tick(keys)
+    }
+
+    /// Processes a received datagram, as [`Peer::deliver`] does, and notes who is not silent.
+    pub fn deliver(&mut self, bytes: &[u8]) -> Result<Heard, Refused>
+        ensures answered { IsAnswered D.Disk self.old.peer (Deliver (read bytes.now)) (Delivered result) self.new.peer }
+        ensures steps { self.new.steps ≡ self.old.steps }
+        ensures depth { self.new.depth ≡ self.old.depth }
+    {
+        what_was_given_stays::<D>();
+        deliveries_are_calls();
+        let _sound = self.peer.is_down();
+        self.is_told = false;
+        let answer = self.peer.deliver(bytes);
+        if let Ok(datagram) = view(bytes) {
+            self.schedule.heard(datagram.header(), answer);
+        }
+        answer
+    }
+
+    /// Drops a player, as [`Peer::leave`] does.
+    pub fn leave(&mut self, leaver: Player) -> Result<(), LeaveError>
+        ensures answered { IsAnswered D.Disk self.old.peer (Leave leaver.number) (Left result) self.new.peer }
+        ensures steps { self.new.steps ≡ self.old.steps }
+        ensures depth { self.new.depth ≡ self.old.depth }
+    {
+        what_was_given_stays::<D>();
+        let _sound = self.peer.is_down();
+        self.is_told = false;
+        self.peer.leave(leaver)
+    }
+
+    /// Cuts a leaver's list, as [`Peer::decide`] does.
+    pub fn decide(&mut self, leaver: Player) -> Result<u32, DecideError>
+        ensures answered { IsAnswered D.Disk self.old.peer (Decide leaver.number) (Decided result) self.new.peer }
+        ensures steps { self.new.steps ≡ self.old.steps }
+        ensures depth { self.new.depth ≡ self.old.depth }
+    {
+        what_was_given_stays::<D>();
+        let _sound = self.peer.is_down();
+        self.is_told = false;
+        self.peer.decide(leaver)
+    }
+
+    /// Records the next part of a checkpoint, as [`Peer::checkpoint`] does.
+    pub fn checkpoint(&mut self) -> Result<Check, CheckError>
+        ensures answered { IsAnswered D.Disk self.old.peer Checkpoint (Checked result) self.new.peer }
+        ensures steps { self.new.steps ≡ self.old.steps }
+        ensures depth { self.new.depth ≡ self.old.depth }
+    {
+        what_was_given_stays::<D>();
+        let _sound = self.peer.is_down();
+        self.is_told = false;
+        self.peer.checkpoint()
+    }
+
+    /// From now on each step rolls back by `depth` frames, as far as they are not confirmed, so that an engine tests its
+    /// own machine. With 0 it rolls back no more than it has to.
+    pub fn check(&mut self, depth: u32)
+        ensures peer { self.new.peer ≡ self.old.peer }
+        ensures steps { self.new.steps ≡ self.old.steps }
+        ensures depth { self.new.depth ≡ depth }
+    {
+        self.depth = depth;
+    }
+
+    /// Gives the best rows from the first frame on whose best row the engine was not given, at most `most`. Under a test
+    /// it first takes back the last rows. `given` lends the rows.
+    pub fn step(&mut self, most: u32) -> Stepped
+        ensures peer { self.new.peer ≡ self.old.peer }
+        ensures depth { self.new.depth ≡ self.old.depth }
+        ensures stepped { self.old.depth ≡ 0 → IsStepped (known_by self.old.peer) most
+            self.old.steps.given self.new.steps.given result.from result.count }
+        ensures tested { (left : ℕ) × IsStepped (known_by self.old.peer) most
+            (take left self.old.steps.given) self.new.steps.given result.from result.count }
+    {
+        if self.depth > 0 {
+            self.steps.take_back(self.depth);
+        } else if self.is_told {
+            let from = self.peer.now();
+            return Stepped { from, count: 0 };
+        }
+        let _ahead = self.peer.last_run();
+        let _within = self.peer.confirmed();
+        let stepped = self.steps.step(&self.peer, most);
+        self.is_told = stepped.count < most;
+        stepped
+    }
+
+    /// Lends all rows that the engine was given.
+    pub fn given(&self) -> &[c8_game::Row]
+        ensures { result.now ≡ self.now.steps.given }
+    {
+        self.steps.given()
+    }
+}

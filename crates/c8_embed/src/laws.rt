@@ -1,0 +1,49 @@
+//! What an engine can rely on, whatever its machine. Each law is the contract of a function that does nothing.
+ghost use Rattle.std.specs.Prelude.{ℕ, ◌≡◌, ◌+◌, ◌<◌, ◌≤◌, List, length, drop, Some};
+ghost use Rattle.std.specs.List.{slice_get};
+ghost use Rattle.c8_game.specs.declared.row.Row.{Row};
+ghost use Rattle.c8_known.specs.Known.{KnownValue};
+ghost use Rattle.c8_known.specs.Confirmed.{confirmed, rows_below, best_rows};
+ghost use Rattle.c8_peer.specs.Peer.{PeerValue, IsAnswered, IsSound, known_by};
+ghost use Rattle.c8_peer.specs.Lawful.{IsCall};
+ghost use Rattle.c8_peer.specs.State.{Call, Reply};
+ghost use Rattle.c8_embed.specs.Steps.{StepsValue, IsTrueTo, IsStepped, run, states, goes_back};
+
+use c8_disk::Disk;
+use c8_peer::laws::{a_word_stands_from_any_journal, calls_are_deeds};
+
+/// An engine with any machine (`S`, a start and a step) keeps its state at each frame. After a step it goes back to the
+/// frame `from` and runs the rows that were given.
+///
+/// - `kept`: then its states are again those of all rows that it was given.
+/// - `now`: after a step that gave all, the last one is the run of the best rows.
+/// - `stays`: its state at each frame that is confirmed is the run of the confirmed rows, which never change.
+/// - `same`: so it is equal to that of each peer that agrees about these rows.
+pub fn an_engine_has_the_run<S>()
+    ensures kept { (step : S → Row → S) (start : S) (k : KnownValue) (most from count : ℕ)
+        (before after : List Row)
+        → IsStepped k most before after from count
+        → goes_back step (states step start before) from (drop from after)
+        ≡ states step start after }
+    ensures now { (step : S → Row → S) (start : S) (k : KnownValue) (most from count : ℕ)
+        (before after : List Row)
+        → IsStepped k most before after from count → count < most
+        → slice_get (states step start after) k.ticks ≡ Some (run step start (best_rows k)) }
+    ensures stays { (step : S → Row → S) (start : S) (k : KnownValue) (most from count n : ℕ)
+        (before after : List Row)
+        → IsStepped k most before after from count → n ≤ confirmed k → n ≤ length after
+        → slice_get (states step start after) n ≡ Some (run step start (rows_below k n)) }
+    ensures same { (step : S → Row → S) (start : S) (k j : KnownValue) (n : ℕ)
+        → rows_below k n ≡ rows_below j n
+        → run step start (rows_below k n) ≡ run step start (rows_below j n) }
+{}
+
+/// What an engine was given as confirmed stays true, whatever call its peer makes.
+pub fn what_was_given_stays<D: Disk>()
+    ensures { (old new : PeerValue D) (call : Call) (reply : Reply) (s : StepsValue)
+        → IsSound D.Disk old → IsCall call → IsAnswered D.Disk old call reply new
+        → IsTrueTo (known_by old) s → IsTrueTo (known_by new) s }
+{
+    a_word_stands_from_any_journal::<D>();
+    calls_are_deeds::<D>();
+}

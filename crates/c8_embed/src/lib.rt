@@ -1,0 +1,14 @@
+//! A session inside an engine: one peer, its turns, and the rows that the engine runs its own machine on.
+//!
+//! [`Engine`] has the calls of a `Peer` of c8_peer, each with that call's contract. [`Engine::step`] says from which frame
+//! on the engine has to run its machine again, and on which rows (`specs/Steps.antt`). [`laws`] has what an engine can
+//! rely on, whatever its machine. Only `Engine::open` takes memory.
+#![tactic(auto)]
+
+mod engine;
+pub mod laws;
+mod steps;
+mod turns;
+
+pub use engine::Engine;
+pub use steps::{Stepped, Steps};

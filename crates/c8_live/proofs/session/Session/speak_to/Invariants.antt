@@ -1,0 +1,7 @@
+use Rattle.c8_live.specs.Turns.{HasSpoken}
+use Rattle.c8_live.proofs.session.Session.speak_to.Given as goal
+
+abbrev pub invariant-loop-place : goal.invariant-loop-place
+invariant-loop-place g l = record {
+  spoke : HasSpoken g.D.Disk g.W.Wire l.self.peer l.initial.wire l.wire;
+}

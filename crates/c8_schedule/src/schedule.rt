@@ -1,0 +1,191 @@
+//! The schedule of one peer's turns.
+ghost use Rattle.std.specs.Prelude.{◌<◌, ◌↔◌, IsTrue};
+ghost use Rattle.c8_schedule.specs.Rest.{turns_of_rest};
+
+use crate::silence::Silence;
+use c8_disk::Disk;
+use c8_game::{Game, MOST_PLAYERS, Player};
+use c8_peer::{Check, Heard, Kind, Peer, Refused};
+use c8_wire::{DatagramKind, Header};
+
+/// How many turns a peer goes on after everything is confirmed and acknowledged, so that the other peers get its last
+/// acknowledgements.
+const REST: u32 = 120;
+
+/// At how many places a turn looks for what is due to one player: HELLO, WELCOME, DATA, and one for each leaver.
+pub const MOST_DUE: u8 = 7;
+
+/// What a session remembers from turn to turn beside its peer.
+#[derive(Clone, Copy, Debug)]
+pub struct Schedule {
+    /// The number of frames of the game.
+    frames: u32,
+    /// After how many silent turns player 1 drops a player; `None` for never.
+    patience: Option<u64>,
+    /// Whom player 1 drops in the next turn, by place.
+    given_up: [bool; MOST_PLAYERS],
+    /// A checkpoint begins once this many frames were confirmed since the last one (0: never), and whether one is under
+    /// way.
+    interval: u32,
+    is_saving: bool,
+    silence: Silence,
+    /// Whose HELLO the peer has taken since it last spoke, by place.
+    greeters: [bool; MOST_PLAYERS],
+    /// The number of turns that ended with everything confirmed and acknowledged.
+    rested: u32,
+}
+
+impl Schedule {
+    /// Before the first turn. `patience` is a number of silent turns. With `interval` 0 no checkpoint is due.
+    pub fn new(game: &Game, patience: Option<u64>, interval: u32) -> Schedule {
+        Schedule {
+            frames: game.frames(),
+            patience,
+            given_up: [false; MOST_PLAYERS],
+            interval,
+            is_saving: false,
+            silence: Silence::new(),
+            greeters: [false; MOST_PLAYERS],
+            rested: 0,
+        }
+    }
+
+    /// The number of frames of the game.
+    pub fn frames(&self) -> u32 {
+        self.frames
+    }
+
+    /// A turn begins: each player has been silent for one turn more.
+    pub fn begin(&mut self) {
+        self.silence.begin();
+    }
+
+    /// Resets the silence of the sender if its datagram was admitted, and notes it if it was a HELLO and was taken.
+    pub fn heard(&mut self, header: Header<'_>, answer: Result<Heard, Refused>) {
+        if !is_admitted(answer) {
+            return;
+        }
+        let Some(sender) = header.from().player() else {
+            return;
+        };
+        self.silence.heard(sender);
+        if answer.is_ok() && header.kind() == DatagramKind::Hello {
+            self.greeters[sender.place()] = true;
+        }
+    }
+
+    /// How many turns have begun since a datagram of the player was last admitted, or since the start.
+    pub fn silent(&self, player: Player) -> u64 {
+        self.silence.turns(player)
+    }
+
+    /// Player 1 drops this player in the next turn, however long it has been silent.
+    pub fn give_up(&mut self, player: Player) {
+        self.given_up[player.place()] = true;
+    }
+
+    /// Whether player 1 drops a player: it has been silent for `patience` turns, or was given up.
+    pub fn drops(&self, player: Player) -> bool {
+        let is_silent = match self.patience {
+            Some(patience) => self.silence.turns(player) >= patience,
+            None => false,
+        };
+        is_silent || self.given_up[player.place()]
+    }
+
+    /// Whether the next part of a checkpoint is due: one is under way, or `interval` frames were confirmed since the last
+    /// one.
+    pub fn saves<D: Disk>(&self, peer: &Peer<'_, D>) -> bool {
+        let since = peer.confirmed().saturating_sub(peer.last_checkpoint());
+        self.is_saving || (self.interval > 0 && since >= self.interval)
+    }
+
+    /// Notes whether the checkpoint goes on after this part.
+    pub fn saved(&mut self, part: Check) {
+        self.is_saving = matches!(part, Check::Piece(_));
+    }
+
+    /// Which datagram is due to another player at one of the places 0 to [`MOST_DUE`] - 1 of a turn, if any. HELLO if the
+    /// link is not open, WELCOME if the player has greeted, and DATA if neither; then, for each leaver, the datagram of
+    /// its drop round.
+    pub fn due<D: Disk>(&self, peer: &Peer<'_, D>, to: Player, place: u8) -> Option<Kind> {
+        let is_linked = peer.is_linked(to);
+        let has_greeted = self.greeters[to.place()];
+        match place {
+            0 if !is_linked => Some(Kind::Hello),
+            1 if has_greeted => Some(Kind::Welcome),
+            2 if is_linked && !has_greeted => Some(Kind::Data),
+            0..=2 => None,
+            _ => round(peer, to, Player::new(place - 2)?),
+        }
+    }
+
+    /// A turn ends: it has greeted back all who had greeted.
+    pub fn end<D: Disk>(&mut self, peer: &Peer<'_, D>) {
+        self.greeters = [false; MOST_PLAYERS];
+        if self.is_finished(peer) {
+            self.rested = self.rested.saturating_add(1);
+        }
+    }
+
+    /// Whether all frames are confirmed here, and every player without a cut has acknowledged this player's inputs of
+    /// all frames.
+    fn is_finished<D: Disk>(&self, peer: &Peer<'_, D>) -> bool {
+        if peer.confirmed() < self.frames {
+            return false;
+        }
+        for number in 1..peer.players() + 1 {
+            if let Some(player) = Player::new(number)
+                && player != peer.me()
+                && peer.cut_of(player).is_none()
+                && peer.acked(player) < self.frames
+            {
+                return false;
+            }
+        }
+        true
+    }
+
+    /// Whether everything has been confirmed and acknowledged for more than 120 turns.
+    pub fn has_rested(&self) -> bool
+        ensures { IsTrue result ↔ (turns_of_rest < self.now.rested) }
+    {
+        self.rested > REST
+    }
+}
+
+/// Which datagram of a leaver's drop round a player gets, if any. Player 1 sends FREEZE to the stayers until the cut, and
+/// CUT to all after it. The others send FROZEN to player 1 until they have the cut.
+fn round<D: Disk>(peer: &Peer<'_, D>, to: Player, leaver: Player) -> Option<Kind> {
+    if leaver.number > peer.players() {
+        return None;
+    }
+    let is_cut = peer.cut_of(leaver).is_some();
+    if peer.me().is_chair() {
+        if is_cut {
+            Some(Kind::Cut(leaver))
+        } else if peer.leaving(leaver) && !peer.leaving(to) {
+            Some(Kind::Freeze(leaver))
+        } else {
+            None
+        }
+    } else if to.is_chair() && peer.frozen(leaver) && !is_cut {
+        Some(Kind::Frozen(leaver))
+    } else {
+        None
+    }
+}
+
+/// Whether the links admitted the datagram, whatever came after that.
+fn is_admitted(answer: Result<Heard, Refused>) -> bool {
+    !matches!(
+        answer,
+        Err(
+            Refused::Down
+                | Refused::Dropped
+                | Refused::Wire(_)
+                | Refused::OtherWire
+                | Refused::Hand(_)
+        )
+    )
+}
