@@ -2,13 +2,18 @@
 //!
 //! [`Engine`] has the calls of a `Peer` of c8_peer, each with that call's contract. [`Engine::step`] says from which frame
 //! on the engine has to run its machine again, and on which rows (`specs/Steps.antt`). [`laws`] has what an engine can
-//! rely on, whatever its machine. Only `Engine::open` takes memory.
+//! rely on, whatever its machine. Only `Engine::open` takes memory. A [`Session`] is an engine of one kind, whose journal
+//! is a [`Medium`]: memory, or a file by its descriptors.
 #![tactic(auto)]
 
 mod engine;
 pub mod laws;
+mod medium;
+mod session;
 mod steps;
 mod turns;
 
 pub use engine::Engine;
+pub use medium::Medium;
+pub use session::Session;
 pub use steps::{Stepped, Steps};

@@ -1,4 +1,4 @@
--- An open handle and its parts own what a `Box<Engine<'static, MemDisk>>` of the C library's heap owns, and a closed one the allocator alone.
+-- An open handle and its parts own what a `Box<Session>` of the C library's heap owns, and a closed one the allocator alone.
 use Rattle.std.proofs.Common.{◌≡◌, List, [], ◌∷◌, ◌++◌, refl, subst, lit<}
 use lib.Dec.{T}
 use seplogic.Ra.Ura.{Ura}
@@ -23,17 +23,13 @@ use Rattle.std.proofs.BoxSteps.Form.{Bx, D, B, P, box_ty, handle, owning}
 use Rattle.std.specs.contracts.alloc.Global as Heap
 use Rattle.std.specs.contracts.impls.GlobalAllocator.TheImpl.{ghosts, dict}
 use Rattle.std.proofs.alloc.Global.TheLaws as heap
-use denote.Signature.{static_lft}
-use Rattle.c8_disk.specs.contracts.mem_disk.MemDisk as MemDisk
-use Rattle.c8_disk.specs.contracts.mem_disk.MemDiskDisk.TheImpl as as_disk
-use Rattle.c8_disk.proofs.mem_disk.MemDisk.TheLaws as mem_disk
-use Rattle.c8_embed.proofs.engine.Engine.TheLaws as engine
+use Rattle.c8_embed.proofs.session.Session.TheLaws as session
 use Rattle.c8_engine.specs.Held.{session_row}
 use Rattle.c8_parts.specs.contracts.Parts as Parts
 use Rattle.c8_engine.specs.contracts.handle.Handle as Handle
 
 abbrev pub session_laws : Laws session_row
-session_laws = engine.the_row_laws static_lft MemDisk.the_row as_disk.ghosts mem_disk.the_row_laws
+session_laws = session.the_row_laws
 
 abbrev pub E : Bx
 E = record { row = session_row; laws = session_laws; al = record { row = Heap.the_row; laws = heap.the_row_laws; g = ghosts; d = dict; drops = impl [] tnil dnil } }

@@ -1,21 +1,18 @@
--- What a `Handle` owns: nothing where it is closed, and else what a `Box<Engine<'static, MemDisk>>` of the C library's heap owns.
+-- What a `Handle` owns: nothing where it is closed, and else what a `Box<Session>` of the C library's heap owns.
 pub mod Lent
 use Rattle.std.specs.Prelude.{Option, None, Some}
 use base.Fml.{Fml, feq}
 use base.Stored.{Coded}
 use denote.RattleType.{RattleType}
 use denote.RawPtr.{Ptr, null_ptr}
-use denote.Signature.{static_lft}
 use Rattle.std.specs.Box.Ownership.{box_owns}
 use Rattle.std.specs.Coded.{coded_option}
 use Rattle.std.specs.Global.{Global}
 use Rattle.std.specs.contracts.impls.GlobalAllocator.TheImpl.{ghosts}
-use Rattle.c8_disk.specs.contracts.mem_disk.MemDisk as MemDisk
-use Rattle.c8_disk.specs.contracts.mem_disk.MemDiskDisk.TheImpl as as_disk
-use Rattle.c8_embed.specs.contracts.engine.Engine as Engine
+use Rattle.c8_embed.specs.contracts.session.Session as Session
 
 abbrev pub session_row : RattleType
-session_row = Engine.the_row static_lft MemDisk.the_row as_disk.ghosts
+session_row = Session.the_row
 
 abbrev pub held_owns : Global → Ptr → Option session_row.Denot → Fml
 held_owns alloc p None = feq Ptr p null_ptr

@@ -1,12 +1,10 @@
-//! An engine on a handle. A handle of zeros is closed: it has none.
+//! A session on a handle. A handle of zeros is closed: it has none.
 ghost use Rattle.std.specs.Prelude.{◌≡◌, Option, None, Some, IsSome, is_some, MatchOption};
 ghost use Rattle.std.specs.Borrow.{sem};
-ghost use Rattle.c8_disk.specs.declared.mem_disk.MemDisk.{MemDisk};
-ghost use Rattle.c8_embed.specs.Engine.{EngineValue};
+ghost use Rattle.c8_embed.specs.declared.session.Session.{Session};
 ghost use Rattle.c8_engine.specs.Held.{held_owns, session_coded};
 
-use c8_disk::MemDisk;
-use c8_embed::Engine;
+use c8_embed::Session;
 use c8_parts::Parts;
 use std::alloc::Global;
 use std::marker::Model;
@@ -17,7 +15,7 @@ use std::ptr;
 pub struct Handle {
     at: *mut u8,
     alloc: Global,
-    pub ghost value: { Option (EngineValue MemDisk) } by { session_coded },
+    pub ghost value: { Option Session } by { session_coded },
 }
 
 impl Model for Handle {
@@ -38,14 +36,14 @@ impl Handle {
     }
 
     /// Makes an open handle.
-    pub(crate) fn of(session: Box<Engine<'static, MemDisk>>) -> Handle
-        ensures { result.value ≡ Some session.entry.value }
+    pub(crate) fn of(session: Box<Session>) -> Handle
+        ensures { result.value ≡ Some session.value }
     {
         Handle::of_parts(Parts::of(session))
     }
 
-    fn of_parts(parts: Parts<Engine<'static, MemDisk>, Global>) -> Handle
-        ensures { result.value ≡ Some parts.entry.value }
+    fn of_parts(parts: Parts<Session, Global>) -> Handle
+        ensures { result.value ≡ Some parts.value }
     {
         let Parts { at, alloc } = parts;
         Handle {
@@ -54,7 +52,7 @@ impl Handle {
         }
     }
 
-    fn into_parts(self) -> Option<Parts<Engine<'static, MemDisk>, Global>>
+    fn into_parts(self) -> Option<Parts<Session, Global>>
         ensures { MatchOption result (self.value ≡ None) (λ p. self.value ≡ Some p.value) }
     {
         let Handle { at, alloc } = self;
@@ -62,26 +60,26 @@ impl Handle {
             None
         } else {
             Some(Parts {
-                at: at as *mut Engine<'static, MemDisk>,
+                at: at as *mut Session,
                 alloc,
             })
         }
     }
 
-    /// Returns whether the handle has an engine.
+    /// Returns whether the handle has a session.
     pub(crate) fn is_open(&mut self) -> bool
         ensures { (result ≡ is_some self.old.value) × (self.new ≡ self.old) }
     {
         !self.at.is_null()
     }
 
-    /// Lends the engine of an open handle.
-    pub(crate) fn session(&mut self) -> &mut Engine<'static, MemDisk>
+    /// Lends the session of an open handle.
+    pub(crate) fn session(&mut self) -> &mut Session
         requires { IsSome self.old.value }
         ensures* writes_back { sem 𝓛 (LendsSession self.entry result) }
         ensures value { self.old.value ≡ Some result.now }
     {
-        unsafe { &mut *(self.at as *mut Engine<'static, MemDisk>) }
+        unsafe { &mut *(self.at as *mut Session) }
     }
 }
 

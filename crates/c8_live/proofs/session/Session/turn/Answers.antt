@@ -97,42 +97,20 @@ returns-in_err-speak-clause-end g c =
     rw (error.1, error.2)
     tt
 
-pub returns-then-is_finished-clause-turn : goal.returns-then-is_finished-clause-turn
-returns-then-is_finished-clause-turn g c =
+pub returns-clause-turn : goal.returns-clause-turn
+returns-clause-turn g c =
     turn_of g.D.Disk g.W.Wire c.args.self.now.peer c.hear.new.self.peer c.enter.new.self.peer c.let_go.new.self.peer c.cut.new.self.peer c.save.new.self.peer c.args.wire.now c.hear.new.wire c.speak.new.wire c.in_ok-hear.ensures.heard c.in_ok-is_taken.ensures.ran
     c.in_ok-let_go.ensures.ran c.in_ok-cut.ensures.ran c.in_ok-save.ensures.ran c.in_ok-speak.ensures.spoke
 
-pub returns-then-is_finished-clause-handed_in : goal.returns-then-is_finished-clause-handed_in
-unfolding returns-then-is_finished-clause-turn
-returns-then-is_finished-clause-handed_in g c = record { turn = returns-then-is_finished-clause-turn g c; ticked = c.in_ok-is_taken.ensures.ticked }
+pub returns-clause-handed_in : goal.returns-clause-handed_in
+unfolding returns-clause-turn
+returns-clause-handed_in g c = record { turn = returns-clause-turn g c; ticked = c.in_ok-is_taken.ensures.ticked }
 
-pub returns-then-is_finished-clause-ran : goal.returns-then-is_finished-clause-ran
-returns-then-is_finished-clause-ran g c = c.turns_run_on.ensures c.args.self.now.peer c.save.new.self.peer c.args.wire.now c.speak.new.wire (returns-then-is_finished-clause-turn g c)
+pub returns-clause-ran : goal.returns-clause-ran
+returns-clause-ran g c = c.turns_run_on.ensures c.args.self.now.peer c.save.new.self.peer c.args.wire.now c.speak.new.wire (returns-clause-turn g c)
 
-pub returns-else-is_finished-clause-turn : goal.returns-else-is_finished-clause-turn
-returns-else-is_finished-clause-turn g c =
-    turn_of g.D.Disk g.W.Wire c.args.self.now.peer c.hear.new.self.peer c.enter.new.self.peer c.let_go.new.self.peer c.cut.new.self.peer c.save.new.self.peer c.args.wire.now c.hear.new.wire c.speak.new.wire c.in_ok-hear.ensures.heard c.in_ok-is_taken.ensures.ran
-    c.in_ok-let_go.ensures.ran c.in_ok-cut.ensures.ran c.in_ok-save.ensures.ran c.in_ok-speak.ensures.spoke
-
-pub returns-else-is_finished-clause-handed_in : goal.returns-else-is_finished-clause-handed_in
-unfolding returns-else-is_finished-clause-turn
-returns-else-is_finished-clause-handed_in g c = record { turn = returns-else-is_finished-clause-turn g c; ticked = c.in_ok-is_taken.ensures.ticked }
-
-pub returns-else-is_finished-clause-ran : goal.returns-else-is_finished-clause-ran
-returns-else-is_finished-clause-ran g c = c.turns_run_on.ensures c.args.self.now.peer c.save.new.self.peer c.args.wire.now c.speak.new.wire (returns-else-is_finished-clause-turn g c)
-
-pub returns-then-is_finished-clause-entered : goal.returns-then-is_finished-clause-entered
-returns-then-is_finished-clause-entered g c =
-    let none = c.entries_join.ensures.none in
-    let joined = c.entries_join.ensures.joined [] [] in
-    c.entries_join.ensures.through (entered_of c.args.keys c.in_ok-is_taken.is_taken) c.args.self.now.peer c.hear.new.self.peer c.enter.new.self.peer c.save.new.self.peer
-    (none Hears c.args.self.now.peer c.hear.new.self.peer (λ e. cc e) c.in_ok-hear.ensures.heard.heard.0) c.in_ok-is_taken.ensures.entered
-    (joined c.enter.new.self.peer c.let_go.new.self.peer c.save.new.self.peer (none LetsGo c.enter.new.self.peer c.let_go.new.self.peer (λ e. cc e) c.in_ok-let_go.ensures.ran)
-    (joined c.let_go.new.self.peer c.cut.new.self.peer c.save.new.self.peer (none Cuts c.let_go.new.self.peer c.cut.new.self.peer (λ e. cc e) c.in_ok-cut.ensures.ran)
-    (none Saves c.cut.new.self.peer c.save.new.self.peer (λ e. cc e) c.in_ok-save.ensures.ran.0)))
-
-pub returns-else-is_finished-clause-entered : goal.returns-else-is_finished-clause-entered
-returns-else-is_finished-clause-entered g c =
+pub returns-clause-entered : goal.returns-clause-entered
+returns-clause-entered g c =
     let none = c.entries_join.ensures.none in
     let joined = c.entries_join.ensures.joined [] [] in
     c.entries_join.ensures.through (entered_of c.args.keys c.in_ok-is_taken.is_taken) c.args.self.now.peer c.hear.new.self.peer c.enter.new.self.peer c.save.new.self.peer

@@ -1,0 +1,126 @@
+//! Where the journal of an engine is kept.
+ghost use Rattle.std.specs.Prelude.{◌≤◌};
+
+use c8_disk::SystemFile;
+use os::FromRawFd;
+use std::io;
+use std::os::fd::{AsRawFd, OwnedFd};
+use std::os::unix::fs::FileExt;
+
+/// A file for `FileDisk::over`.
+#[derive(Drop)]
+pub enum Medium {
+    /// None: the journal is kept in memory alone. It is empty when it is opened.
+    Memory,
+    /// The descriptor of a regular file that is open to read and write, and that of the folder that has its name. Both are
+    /// closed when it is dropped.
+    File { file: OwnedFd, folder: OwnedFd },
+}
+
+impl Medium {
+    /// Takes two descriptors that nothing else closes. `None` if one of them is negative.
+    pub fn take(file: i32, folder: i32) -> Option<Medium> {
+        if file < 0 || folder < 0 {
+            return None;
+        }
+        Some(Medium::File {
+            file: unsafe { OwnedFd::from_raw_fd(file) },
+            folder: unsafe { OwnedFd::from_raw_fd(folder) },
+        })
+    }
+}
+
+/// The system's last error.
+fn last_error() -> io::Error {
+    io::Error::from_raw_os_error(os::errno())
+}
+
+/// The answer of a call that answers 0 or -1.
+fn done(status: i32) -> io::Result<()> {
+    if status < 0 {
+        Err(last_error())
+    } else {
+        Ok(())
+    }
+}
+
+impl FileExt for Medium {
+    fn read_at(&self, buffer: &mut [u8], at: u64) -> io::Result<usize> {
+        let Medium::File { file, .. } = self else {
+            return Ok(0);
+        };
+        let count = libc::pread(file.as_raw_fd(), buffer, at.cast_signed());
+        if count < 0 {
+            Err(last_error())
+        } else {
+            Ok(count as usize)
+        }
+    }
+
+    fn write_at(&self, bytes: &[u8], at: u64) -> io::Result<usize> {
+        let Medium::File { file, .. } = self else {
+            return Ok(bytes.len());
+        };
+        let count = libc::pwrite(file.as_raw_fd(), bytes, at.cast_signed());
+        if count < 0 {
+            Err(last_error())
+        } else {
+            Ok(count as usize)
+        }
+    }
+}
+
+impl SystemFile for Medium {
+    fn len(&self) -> io::Result<u64> {
+        let Medium::File { file, .. } = self else {
+            return Ok(0);
+        };
+        let length = libc::lseek(file.as_raw_fd(), 0, libc::SEEK_END);
+        if length < 0 {
+            Err(last_error())
+        } else {
+            Ok(length as u64)
+        }
+    }
+
+    fn try_lock(&self) -> io::Result<()> {
+        match self {
+            Medium::Memory => Ok(()),
+            Medium::File { file, .. } => {
+                done(libc::flock(file.as_raw_fd(), libc::LOCK_EX | libc::LOCK_NB))
+            }
+        }
+    }
+
+    fn sync_all(&self) -> io::Result<()> {
+        match self {
+            Medium::Memory => Ok(()),
+            Medium::File { file, .. } => done(libc::fsync(file.as_raw_fd())),
+        }
+    }
+
+    fn sync_data(&self) -> io::Result<()> {
+        match self {
+            Medium::Memory => Ok(()),
+            Medium::File { file, .. } => done(libc::fdatasync(file.as_raw_fd())),
+        }
+    }
+
+    fn drop_copies(&self) -> io::Result<()> {
+        let Medium::File { file, .. } = self else {
+            return Ok(());
+        };
+        let error = libc::posix_fadvise(file.as_raw_fd(), 0, 0, libc::POSIX_FADV_DONTNEED);
+        if error != 0 {
+            return Err(io::Error::from_raw_os_error(error));
+        }
+        Ok(())
+    }
+
+    fn sync_folder(&self) -> io::Result<()> {
+        match self {
+            Medium::Memory => Ok(()),
+            Medium::File { folder, .. } => done(libc::fsync(folder.as_raw_fd())),
+        }
+    }
+}

@@ -1,0 +1,103 @@
+-- The number that each answer has in C: 0 for an Ok, else one number for each refusal, the same in all calls.
+use Rattle.std.specs.Prelude.{ℕ, ◌+◌, Result, Ok, Err}
+use Rattle.c8_game.specs.Errors as games
+use Rattle.c8_game.specs.declared.error.GameError.{GameError}
+use Rattle.c8_disk.specs.Errors as disks
+use Rattle.c8_disk.specs.declared.error.DiskError.{DiskError}
+use Rattle.c8_wire.specs.Errors as wires
+use Rattle.c8_hand.specs.Errors as hands
+use Rattle.c8_known.specs.Errors as knowns
+use Rattle.c8_peer.specs.declared.check.Check.{Check}
+use Rattle.c8_peer.specs.declared.check.Check.TheVariants.{Piece, Done}
+use Rattle.c8_peer.specs.declared.heard.Heard.{Heard}
+use Rattle.c8_peer.specs.declared.heard.Heard.TheVariants.{Nothing, Kept, Out}
+use Rattle.c8_refusals.specs.declared.error.OpenError.{OpenError}
+use Rattle.c8_refusals.specs.declared.error.OpenError.TheVariants as opens
+use Rattle.c8_refusals.specs.declared.error.TickError.{TickError}
+use Rattle.c8_refusals.specs.declared.error.TickError.TheVariants as ticks
+use Rattle.c8_refusals.specs.declared.error.Refused.{Refused}
+use Rattle.c8_refusals.specs.declared.error.Refused.TheVariants as refusals
+use Rattle.c8_refusals.specs.declared.error.LeaveError.{LeaveError}
+use Rattle.c8_refusals.specs.declared.error.LeaveError.TheVariants as leaves
+use Rattle.c8_refusals.specs.declared.error.DecideError.{DecideError}
+use Rattle.c8_refusals.specs.declared.error.DecideError.TheVariants as decides
+use Rattle.c8_refusals.specs.declared.error.CheckError.{CheckError}
+use Rattle.c8_refusals.specs.declared.error.CheckError.TheVariants as checks
+
+-- what every call but an opening and a close answers at a closed handle
+abbrev pub closed_code : ℕ
+closed_code = 101
+
+-- a number that is no player's
+abbrev pub nobody_code : ℕ
+nobody_code = 102
+
+abbrev pub disk_code : DiskError → ℕ
+disk_code why = 1300 + disks.disk_number_of why
+
+abbrev pub game_code : GameError → ℕ
+game_code error = 200 + games.number_of error
+
+abbrev pub open_code : OpenError → ℕ
+open_code opens.WrongGame = 301
+open_code opens.WrongPlayer = 302
+open_code (opens.BadRecord n) = 303
+open_code opens.EpochsSpent = 304
+open_code opens.Memory = 305
+open_code (opens.Disk why) = disk_code why
+
+abbrev pub tick_code : Result (Unit {0}) TickError → ℕ
+tick_code (Ok done) = 0
+tick_code (Err ticks.Threshold) = 401
+tick_code (Err ticks.End) = 402
+tick_code (Err ticks.Dropped) = 403
+tick_code (Err (ticks.Disk why)) = disk_code why
+tick_code (Err ticks.Down) = 405
+
+-- 1 for a datagram that adds a record, and 2 for the one that tells the player that it was dropped
+abbrev pub heard_code : Result Heard Refused → ℕ
+heard_code (Ok Nothing) = 0
+heard_code (Ok Kept) = 1
+heard_code (Ok Out) = 2
+heard_code (Err (refusals.Wire error)) = 500 + wires.number_of error
+heard_code (Err (refusals.Hand error)) = 600 + hands.number_of error
+heard_code (Err (refusals.Known error)) = 700 + knowns.number_of error
+heard_code (Err refusals.BadAck) = 810
+heard_code (Err refusals.NotChair) = 811
+heard_code (Err refusals.NotFrozen) = 812
+heard_code (Err refusals.WrongLeaver) = 813
+heard_code (Err refusals.Desync) = 814
+heard_code (Err (refusals.Disk why)) = disk_code why
+heard_code (Err refusals.Down) = 816
+heard_code (Err refusals.Dropped) = 817
+heard_code (Err refusals.OtherWire) = 818
+
+abbrev pub leave_code : Result (Unit {0}) LeaveError → ℕ
+leave_code (Ok done) = 0
+leave_code (Err leaves.NotChair) = 1001
+leave_code (Err leaves.Myself) = 1002
+leave_code (Err leaves.Already) = 1003
+leave_code (Err (leaves.Disk why)) = disk_code why
+leave_code (Err leaves.Down) = 1005
+leave_code (Err leaves.NotPlaying) = 1006
+
+abbrev pub decide_code : Result ℕ DecideError → ℕ
+decide_code (Ok length) = 0
+decide_code (Err decides.NotLeaving) = 1101
+decide_code (Err decides.NotReady) = 1102
+decide_code (Err decides.Already) = 1103
+decide_code (Err (decides.Disk why)) = disk_code why
+decide_code (Err decides.Down) = 1105
+
+-- 1 for the record that completes a checkpoint
+abbrev pub check_code : Result Check CheckError → ℕ
+check_code (Ok (Piece n)) = 0
+check_code (Ok (Done frames)) = 1
+check_code (Err checks.Nothing) = 1201
+check_code (Err checks.Dropped) = 1202
+check_code (Err (checks.Disk why)) = disk_code why
+check_code (Err checks.Down) = 1204
+
+abbrev pub turn_code : Result (Unit {0}) DiskError → ℕ
+turn_code (Ok done) = 0
+turn_code (Err why) = disk_code why

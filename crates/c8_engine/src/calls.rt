@@ -1,0 +1,104 @@
+//! The calls of a session's peer, and its turn.
+ghost use Rattle.std.specs.Prelude.{◌≡◌, ◌≤◌, None};
+ghost use Rattle.c8_engine.specs.Codes.{closed_code};
+ghost use Rattle.c8_engine.specs.Calls.{IfOpen, HasTicked, HasHeard, HasLeft, HasDecided, HasSaved, HasMadeTurn};
+
+use crate::codes::{
+    check_code, closed_code, decide_code, heard_code, leave_code, nobody_code, tick_code, turn_code,
+};
+use crate::handle::Handle;
+use c8_game::{Keys, Player};
+
+/// Enters the own player's next key set.
+#[unsafe(no_mangle)]
+pub extern "C" fn c8_tick(handle: &mut Handle, keys: u16) -> u32
+    ensures closed { handle.old.value ≡ None → (result ≡ closed_code) × (handle.new ≡ handle.old) }
+    ensures ticked { IfOpen handle.old.value handle.new.value (λ e f. HasTicked e f keys result) }
+{
+    if !handle.is_open() {
+        return closed_code();
+    }
+    tick_code(handle.session().engine.tick(Keys(keys)))
+}
+
+/// Processes a received datagram: any bytes, of any length.
+#[unsafe(no_mangle)]
+pub extern "C" fn c8_deliver(handle: &mut Handle, bytes: &[u8]) -> u32
+    ensures closed { handle.old.value ≡ None → (result ≡ closed_code) × (handle.new ≡ handle.old) }
+    ensures heard { IfOpen handle.old.value handle.new.value (λ e f. HasHeard e f bytes.now result) }
+{
+    if !handle.is_open() {
+        return closed_code();
+    }
+    heard_code(handle.session().engine.deliver(bytes))
+}
+
+/// Drops a player, at player 1.
+#[unsafe(no_mangle)]
+pub extern "C" fn c8_leave(handle: &mut Handle, leaver: u8) -> u32
+    ensures closed { handle.old.value ≡ None → (result ≡ closed_code) × (handle.new ≡ handle.old) }
+    ensures left { 1 ≤ leaver → leaver ≤ 4
+        → IfOpen handle.old.value handle.new.value (λ e f. HasLeft e f leaver result) }
+{
+    if !handle.is_open() {
+        return closed_code();
+    }
+    let Some(leaver) = Player::new(leaver) else {
+        return nobody_code();
+    };
+    leave_code(handle.session().engine.leave(leaver))
+}
+
+/// Cuts a leaver's list, at player 1.
+#[unsafe(no_mangle)]
+pub extern "C" fn c8_decide(handle: &mut Handle, leaver: u8) -> u32
+    ensures closed { handle.old.value ≡ None → (result ≡ closed_code) × (handle.new ≡ handle.old) }
+    ensures decided { 1 ≤ leaver → leaver ≤ 4
+        → IfOpen handle.old.value handle.new.value (λ e f. HasDecided e f leaver result) }
+{
+    if !handle.is_open() {
+        return closed_code();
+    }
+    let Some(leaver) = Player::new(leaver) else {
+        return nobody_code();
+    };
+    decide_code(handle.session().engine.decide(leaver))
+}
+
+/// Records the next part of a checkpoint.
+#[unsafe(no_mangle)]
+pub extern "C" fn c8_checkpoint(handle: &mut Handle) -> u32
+    ensures closed { handle.old.value ≡ None → (result ≡ closed_code) × (handle.new ≡ handle.old) }
+    ensures saved { IfOpen handle.old.value handle.new.value (λ e f. HasSaved e f result) }
+{
+    if !handle.is_open() {
+        return closed_code();
+    }
+    check_code(handle.session().engine.checkpoint())
+}
+
+/// Does what a turn does beside hearing and ticking.
+#[unsafe(no_mangle)]
+pub extern "C" fn c8_turn(handle: &mut Handle) -> u32
+    ensures closed { handle.old.value ≡ None → (result ≡ closed_code) × (handle.new ≡ handle.old) }
+    ensures turned { IfOpen handle.old.value handle.new.value (λ e f. HasMadeTurn e f result) }
+{
+    if !handle.is_open() {
+        return closed_code();
+    }
+    turn_code(handle.session().engine.turn())
+}
+
+/// From now on each step rolls back by `depth` frames, to test an engine's machine; 0 ends the test.
+#[unsafe(no_mangle)]
+pub extern "C" fn c8_check(handle: &mut Handle, depth: u32) -> u32
+    ensures closed { handle.old.value ≡ None → (result ≡ closed_code) × (handle.new ≡ handle.old) }
+    ensures checked { IfOpen handle.old.value handle.new.value (λ e f.
+        (result ≡ 0) × (f.peer ≡ e.peer) × (f.steps ≡ e.steps) × (f.depth ≡ depth)) }
+{
+    if !handle.is_open() {
+        return closed_code();
+    }
+    handle.session().engine.check(depth);
+    0
+}

@@ -1,0 +1,126 @@
+//! The number that each answer has in C.
+ghost use Rattle.std.specs.Prelude.{◌≡◌, ◌<◌};
+ghost use Rattle.c8_engine.specs.Codes.{closed_code, nobody_code, disk_code, game_code, open_code, tick_code, heard_code, leave_code, decide_code, check_code, turn_code};
+
+use c8_disk::{DiskError, FileError};
+use c8_game::GameError;
+use c8_peer::{
+    Check, CheckError, DecideError, Heard, LeaveError, OpenError, Refused, TickError, Unsayable,
+};
+
+/// What every call but an opening and a close answers at a closed handle.
+pub(crate) fn closed_code() -> u32
+    ensures { result ≡ closed_code }
+{
+    101
+}
+
+/// What a call answers to a number that is no player's.
+pub(crate) fn nobody_code() -> u32
+    ensures { result ≡ nobody_code }
+{
+    102
+}
+
+pub(crate) fn disk_code(why: DiskError) -> u32
+    ensures { result ≡ disk_code why }
+{
+    1300 + u32::from(why.number())
+}
+
+pub(crate) fn game_code(error: GameError) -> u32
+    ensures { result ≡ game_code error }
+{
+    200 + u32::from(error.number())
+}
+
+pub(crate) fn open_code(error: OpenError) -> u32
+    ensures { result ≡ open_code error }
+{
+    match error {
+        OpenError::Disk(why) => disk_code(why),
+        _ => 300 + u32::from(error.number()),
+    }
+}
+
+pub(crate) fn tick_code(answer: Result<(), TickError>) -> u32
+    ensures { result ≡ tick_code answer }
+{
+    match answer {
+        Ok(()) => 0,
+        Err(TickError::Disk(why)) => disk_code(why),
+        Err(error) => 400 + u32::from(error.number()),
+    }
+}
+
+pub(crate) fn heard_code(answer: Result<Heard, Refused>) -> u32
+    ensures { result ≡ heard_code answer }
+{
+    match answer {
+        Ok(Heard::Nothing) => 0,
+        Ok(Heard::Kept) => 1,
+        Ok(Heard::Out) => 2,
+        Err(Refused::Wire(error)) => 500 + u32::from(error.number()),
+        Err(Refused::Hand(error)) => 600 + u32::from(error.number()),
+        Err(Refused::Known(error)) => 700 + u32::from(error.number()),
+        Err(Refused::Disk(why)) => disk_code(why),
+        Err(error) => 800 + u32::from(error.number()),
+    }
+}
+
+pub(crate) fn leave_code(answer: Result<(), LeaveError>) -> u32
+    ensures { result ≡ leave_code answer }
+{
+    match answer {
+        Ok(()) => 0,
+        Err(LeaveError::Disk(why)) => disk_code(why),
+        Err(error) => 1000 + u32::from(error.number()),
+    }
+}
+
+pub(crate) fn decide_code(answer: Result<u32, DecideError>) -> u32
+    ensures { result ≡ decide_code answer }
+{
+    match answer {
+        Ok(_) => 0,
+        Err(DecideError::Disk(why)) => disk_code(why),
+        Err(error) => 1100 + u32::from(error.number()),
+    }
+}
+
+pub(crate) fn check_code(answer: Result<Check, CheckError>) -> u32
+    ensures { result ≡ check_code answer }
+{
+    match answer {
+        Ok(Check::Piece(_)) => 0,
+        Ok(Check::Done(_)) => 1,
+        Err(CheckError::Disk(why)) => disk_code(why),
+        Err(error) => 1200 + u32::from(error.number()),
+    }
+}
+
+pub(crate) fn turn_code(answer: Result<(), DiskError>) -> u32
+    ensures { result ≡ turn_code answer }
+{
+    match answer {
+        Ok(()) => 0,
+        Err(why) => disk_code(why),
+    }
+}
+
+/// A file that cannot be a journal: as a disk that failed or is full, or as an opening without memory.
+pub(crate) fn file_code(error: FileError) -> u32
+    ensures { 0 < result }
+{
+    match error {
+        FileError::Failed => disk_code(DiskError::Failed),
+        FileError::Full => disk_code(DiskError::Full),
+        FileError::Memory => open_code(OpenError::Memory),
+    }
+}
+
+pub(crate) fn say_code(error: Unsayable) -> u32
+    ensures { 0 < result }
+{
+    900 + u32::from(error.number())
+}

@@ -1,0 +1,109 @@
+//! Opening and closing a session.
+ghost use Rattle.std.specs.Prelude.{◌≡◌, ◌<◌, None};
+ghost use Rattle.c8_engine.specs.Calls.{IsOpenWith};
+
+use crate::codes::{file_code, game_code, nobody_code, open_code};
+use crate::handle::Handle;
+use c8_disk::FileDisk;
+use c8_embed::{Engine, Medium, Session};
+use c8_game::{Game, Player};
+use c8_peer::OpenError;
+use std::alloc::Global;
+
+/// How many bytes a journal may have.
+const CAPACITY: u32 = 1 << 30;
+
+/// After how many frames a checkpoint is recorded in a journal that is in a file.
+const INTERVAL: u32 = 3600;
+
+/// Opens a session over a journal in memory, in place of the one that the handle had.
+#[unsafe(no_mangle)]
+pub extern "C" fn c8_open(
+    alloc: Global,
+    text: &[u8],
+    player: u8,
+    room: u64,
+    patience: u32,
+    handle: &mut Handle,
+) -> u32
+    ensures opened { result ≡ 0 → IsOpenWith text.now player room handle.new.value }
+    ensures refused { 0 < result → handle.new ≡ handle.old }
+{
+    open_over(alloc, text, player, room, patience, Medium::Memory, handle)
+}
+
+/// Opens a session over a journal in a file, in place of the one that the handle had. It takes both descriptors, and closes
+/// them also when it refuses.
+#[unsafe(no_mangle)]
+pub extern "C" fn c8_open_journal(
+    alloc: Global,
+    text: &[u8],
+    player: u8,
+    room: u64,
+    patience: u32,
+    file: i32,
+    folder: i32,
+    handle: &mut Handle,
+) -> u32
+    ensures opened { result ≡ 0 → IsOpenWith text.now player room handle.new.value }
+    ensures refused { 0 < result → handle.new ≡ handle.old }
+{
+    match Medium::take(file, folder) {
+        Some(medium) => open_over(alloc, text, player, room, patience, medium, handle),
+        None => file_code(c8_disk::FileError::Failed),
+    }
+}
+
+/// Opens a session over a journal. The game is never given back.
+fn open_over(
+    alloc: Global,
+    text: &[u8],
+    player: u8,
+    room: u64,
+    patience: u32,
+    medium: Medium,
+    handle: &mut Handle,
+) -> u32
+    ensures opened { result ≡ 0 → IsOpenWith text.now player room handle.new.value }
+    ensures refused { 0 < result → handle.new ≡ handle.old }
+{
+    let game = match Game::read(alloc, text) {
+        Ok(game) => game,
+        Err(error) => return game_code(error),
+    };
+    let Some(me) = Player::new(player) else {
+        return nobody_code();
+    };
+    let Ok(bytes) = Vec::with_capacity(alloc, CAPACITY as usize) else {
+        return open_code(OpenError::Memory);
+    };
+    let disk = match FileDisk::over(medium, bytes, CAPACITY) {
+        Ok(disk) => disk,
+        Err(error) => return file_code(error),
+    };
+    let Ok(game) = Box::new(alloc, game) else {
+        return open_code(OpenError::Memory);
+    };
+    let patience = if patience == 0 {
+        None
+    } else {
+        Some(u64::from(patience))
+    };
+    let engine = match Engine::open(alloc, disk, Box::leak(game), me, room, patience, INTERVAL) {
+        Ok(engine) => engine,
+        Err((error, _)) => return open_code(error),
+    };
+    let Ok(session) = Box::new(alloc, Session { engine }) else {
+        return open_code(OpenError::Memory);
+    };
+    *handle = Handle::of(session);
+    0
+}
+
+/// Gives back all that a session owned, but its game. A closed handle stays closed, and may be opened again.
+#[unsafe(no_mangle)]
+pub extern "C" fn c8_close(alloc: Global, handle: &mut Handle)
+    ensures { handle.new.value ≡ None }
+{
+    *handle = Handle::none(alloc);
+}

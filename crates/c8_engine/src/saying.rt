@@ -1,0 +1,77 @@
+//! The datagrams of a session's peer.
+ghost use Rattle.std.specs.Prelude.{◌≡◌, ◌≤◌, None};
+ghost use Rattle.c8_engine.specs.Codes.{closed_code};
+ghost use Rattle.c8_engine.specs.Calls.{IfOpen, HasSaid};
+
+use crate::codes::{closed_code, nobody_code, say_code};
+use crate::handle::Handle;
+use c8_game::Player;
+use c8_peer::Kind;
+
+/// Writes the next datagram of this turn to the front of `out`, and for whom it is to `to`. Returns its length; 0 once the
+/// turn has no more, and at a closed handle.
+#[unsafe(no_mangle)]
+pub extern "C" fn c8_next(handle: &mut Handle, out: &mut [u8; 174], to: &mut u8) -> u32
+    ensures same { handle.new.value ≡ handle.old.value }
+    ensures said { IfOpen handle.old.value handle.new.value (λ e f. HasSaid e to.new result out.new) }
+    ensures fits { result ≤ 174 }
+{
+    if !handle.is_open() {
+        return 0;
+    }
+    match handle.session().engine.next_datagram(out) {
+        Some((player, size)) => {
+            *to = player.number;
+            size as u32
+        }
+        None => 0,
+    }
+}
+
+/// Writes a datagram of a kind to the front of `out`, and its length to `length`: 0 is a HELLO, 1 a WELCOME, 2 a DATA, 3 a
+/// FREEZE, 4 a FROZEN, 5 a CUT; the last three are about `leaver`.
+#[unsafe(no_mangle)]
+pub extern "C" fn c8_say(
+    handle: &mut Handle,
+    to: u8,
+    kind: u8,
+    leaver: u8,
+    out: &mut [u8; 174],
+    length: &mut u32,
+) -> u32
+    ensures same { handle.new.value ≡ handle.old.value }
+    ensures closed { handle.old.value ≡ None → result ≡ closed_code }
+    ensures said { IfOpen handle.old.value handle.new.value (λ e f.
+        result ≡ 0 → HasSaid e to length.new out.new) }
+    ensures fits { result ≡ 0 → length.new ≤ 174 }
+{
+    if !handle.is_open() {
+        return closed_code();
+    }
+    let Some(to) = Player::new(to) else {
+        return nobody_code();
+    };
+    let Some(kind) = kind_of(kind, leaver) else {
+        return nobody_code();
+    };
+    match handle.session().engine.peer().say(to, kind, out) {
+        Ok(size) => {
+            *length = size as u32;
+            0
+        }
+        Err(error) => say_code(error),
+    }
+}
+
+/// The kind of a number; `None` if there is none, or if the leaver is no player.
+fn kind_of(kind: u8, leaver: u8) -> Option<Kind> {
+    match kind {
+        0 => Some(Kind::Hello),
+        1 => Some(Kind::Welcome),
+        2 => Some(Kind::Data),
+        3 => Some(Kind::Freeze(Player::new(leaver)?)),
+        4 => Some(Kind::Frozen(Player::new(leaver)?)),
+        5 => Some(Kind::Cut(Player::new(leaver)?)),
+        _ => None,
+    }
+}
