@@ -1,5 +1,5 @@
 -- What the calls of a handle do to its session.
-use Rattle.std.specs.Prelude.{ℕ, ◌≡◌, ◌<◌, ◌*◌, List, [], ◌∷◌, ◌++◌, take, drop, map, Option, None, Some, Result}
+use Rattle.std.specs.Prelude.{ℕ, ◌≡◌, ◌<◌, ◌/◌, min, List, [], ◌∷◌, ◌++◌, take, drop, map, Option, None, Some, Result}
 use Rattle.c8_disk.specs.declared.error.DiskError.{DiskError}
 use Rattle.c8_disk.specs.declared.file.FileDisk.{FileDisk}
 use Rattle.c8_game.specs.Rules.{Rules}
@@ -96,3 +96,7 @@ words_of_row row = map (λ (keys : Keys). keys.0) row.sets
 abbrev pub words_of : List Row → List ℕ
 words_of [] = []
 words_of (row ∷ rows) = words_of_row row ++ words_of rows
+
+-- how many rows have room in this many words
+abbrev pub rows_in : ℕ → ℕ
+rows_in words = min (words / 4) 4294967295

@@ -7,11 +7,22 @@
 
 mod calls;
 mod codes;
+mod explaining;
 mod handle;
 mod opening;
+mod reading;
 mod saying;
+mod sealing;
+mod stepping;
 
 pub use calls::{c8_check, c8_checkpoint, c8_decide, c8_deliver, c8_leave, c8_tick, c8_turn};
+pub use explaining::c8_explain;
 pub use handle::Handle;
 pub use opening::{c8_close, c8_open, c8_open_journal};
+pub use reading::{
+    PlayerState, c8_confirmed, c8_epoch, c8_is_over, c8_mark, c8_player, c8_screen, c8_state,
+    c8_ticked, c8_tone,
+};
 pub use saying::{c8_next, c8_say};
+pub use sealing::{c8_seal, c8_unseal};
+pub use stepping::c8_step;

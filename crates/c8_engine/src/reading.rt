@@ -1,0 +1,168 @@
+//! What a session's peer knows, and the machine that its player sees.
+ghost use Rattle.std.specs.Prelude.{◌≡◌, None, take, drop};
+ghost use Rattle.c8_digest.specs.StateBytes.{mark_of, state_bytes};
+ghost use Rattle.c8_digest.specs.Origin.{run_since};
+ghost use Rattle.c8_known.specs.Confirmed.{confirmed, best_rows};
+ghost use Rattle.c8_known.specs.Journal.{ticks, epoch};
+ghost use Rattle.c8_known.specs.Known.{count_in};
+ghost use Rattle.c8_peer.specs.Peer.{known_by, begun_by};
+ghost use Rattle.c8_engine.specs.Codes.{closed_code};
+ghost use Rattle.c8_engine.specs.Calls.{IfOpen};
+
+use crate::codes::{closed_code, nobody_code};
+use crate::handle::Handle;
+use c8_digest::{STATE_LENGTH, mark, state_bytes};
+use c8_game::Player;
+
+/// Where the 256 bytes of the picture are in the bytes of a state.
+const SCREEN_AT: usize = 4149;
+
+/// What a peer knows of a player.
+#[derive(Clone, Copy)]
+#[repr(C)]
+pub struct PlayerState {
+    /// For how many turns it has been silent.
+    pub silent: u64,
+    /// How many of its inputs are held, with the empty ones of the delay.
+    pub held: u32,
+    /// How many own inputs it has acknowledged since the opening.
+    pub acknowledged: u32,
+    /// Whether the link to it is open.
+    pub linked: bool,
+    /// Whether the peer knows that player 1 has dropped it.
+    pub dropped: bool,
+}
+
+/// How many ticks the own player has made; 0 at a closed handle.
+#[unsafe(no_mangle)]
+pub extern "C" fn c8_ticked(handle: &mut Handle) -> u32
+    ensures same { handle.new.value ≡ handle.old.value }
+    ensures value { IfOpen handle.old.value handle.new.value (λ e f.
+        result ≡ ticks e.peer.state.journal) }
+{
+    if !handle.is_open() {
+        return 0;
+    }
+    handle.session().engine.peer().now()
+}
+
+/// How many frames are confirmed; 0 at a closed handle.
+#[unsafe(no_mangle)]
+pub extern "C" fn c8_confirmed(handle: &mut Handle) -> u32
+    ensures same { handle.new.value ≡ handle.old.value }
+    ensures value { IfOpen handle.old.value handle.new.value (λ e f.
+        result ≡ confirmed (known_by e.peer)) }
+{
+    if !handle.is_open() {
+        return 0;
+    }
+    handle.session().engine.peer().confirmed()
+}
+
+/// The epoch that began with the last opening, from 1 on; 0 at a closed handle.
+#[unsafe(no_mangle)]
+pub extern "C" fn c8_epoch(handle: &mut Handle) -> u32
+    ensures same { handle.new.value ≡ handle.old.value }
+    ensures value { IfOpen handle.old.value handle.new.value (λ e f.
+        result ≡ epoch e.peer.state.journal) }
+{
+    if !handle.is_open() {
+        return 0;
+    }
+    handle.session().engine.peer().epoch()
+}
+
+/// Whether the match is over for this peer, or the handle is closed.
+#[unsafe(no_mangle)]
+pub extern "C" fn c8_is_over(handle: &mut Handle) -> bool
+    ensures same { handle.new.value ≡ handle.old.value }
+{
+    if !handle.is_open() {
+        return true;
+    }
+    handle.session().engine.is_over()
+}
+
+/// Writes what the peer knows of a player to `state`.
+#[unsafe(no_mangle)]
+pub extern "C" fn c8_player(handle: &mut Handle, player: u8, state: &mut PlayerState) -> u32
+    ensures same { handle.new.value ≡ handle.old.value }
+    ensures closed { handle.old.value ≡ None → result ≡ closed_code }
+    ensures held { result ≡ 0 → IfOpen handle.old.value handle.new.value (λ e f.
+        state.new.held ≡ count_in (known_by e.peer) player) }
+{
+    if !handle.is_open() {
+        return closed_code();
+    }
+    let Some(player) = Player::new(player) else {
+        return nobody_code();
+    };
+    let engine = &handle.session().engine;
+    let peer = engine.peer();
+    *state = PlayerState {
+        silent: engine.silent(player),
+        held: peer.count(player),
+        acknowledged: peer.acked(player),
+        linked: peer.is_linked(player),
+        dropped: peer.leaving(player),
+    };
+    0
+}
+
+/// Writes the picture that the player sees to `out`: 32 rows of 8 bytes, the leftmost point in the highest bit.
+#[unsafe(no_mangle)]
+pub extern "C" fn c8_screen(handle: &mut Handle, out: &mut [u8; 256]) -> u32
+    ensures same { handle.new.value ≡ handle.old.value }
+    ensures closed { handle.old.value ≡ None → result ≡ closed_code }
+    ensures picture { IfOpen handle.old.value handle.new.value (λ e f. out.new ≡ take 256 (drop 4149
+        (state_bytes (run_since e.peer.rules (begun_by e.peer) (best_rows (known_by e.peer)))))) }
+{
+    if !handle.is_open() {
+        return closed_code();
+    }
+    let mut state = [0; STATE_LENGTH];
+    state_bytes(handle.session().engine.peer().shown(), &mut state);
+    out.copy_from_slice(&state[SCREEN_AT..SCREEN_AT + 256]);
+    0
+}
+
+/// For how many frames the tone still runs; 0 at a closed handle.
+#[unsafe(no_mangle)]
+pub extern "C" fn c8_tone(handle: &mut Handle) -> u32
+    ensures same { handle.new.value ≡ handle.old.value }
+{
+    if !handle.is_open() {
+        return 0;
+    }
+    u32::from(handle.session().engine.peer().shown().tone())
+}
+
+/// Writes the 4,419 state bytes of the machine that the player sees to `out`.
+#[unsafe(no_mangle)]
+pub extern "C" fn c8_state(handle: &mut Handle, out: &mut [u8; 4419]) -> u32
+    ensures same { handle.new.value ≡ handle.old.value }
+    ensures closed { handle.old.value ≡ None → result ≡ closed_code }
+    ensures bytes { IfOpen handle.old.value handle.new.value (λ e f. out.new
+        ≡ state_bytes (run_since e.peer.rules (begun_by e.peer) (best_rows (known_by e.peer)))) }
+{
+    if !handle.is_open() {
+        return closed_code();
+    }
+    state_bytes(handle.session().engine.peer().shown(), out);
+    0
+}
+
+/// Writes the mark of the machine that the player sees to `out`: the first 8 bytes of SHA-256 over its state bytes.
+#[unsafe(no_mangle)]
+pub extern "C" fn c8_mark(handle: &mut Handle, out: &mut [u8; 8]) -> u32
+    ensures same { handle.new.value ≡ handle.old.value }
+    ensures closed { handle.old.value ≡ None → result ≡ closed_code }
+    ensures mark { IfOpen handle.old.value handle.new.value (λ e f. out.new
+        ≡ mark_of (run_since e.peer.rules (begun_by e.peer) (best_rows (known_by e.peer)))) }
+{
+    if !handle.is_open() {
+        return closed_code();
+    }
+    *out = mark(handle.session().engine.peer().shown());
+    0
+}

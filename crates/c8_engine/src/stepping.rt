@@ -1,0 +1,45 @@
+//! The rows on which an engine runs a machine of its own.
+ghost use Rattle.std.specs.Prelude.{◌≡◌, ◌*◌, ◌≤◌, ◌++◌, None, length, take, drop};
+ghost use Rattle.c8_peer.specs.Peer.{known_by};
+ghost use Rattle.c8_embed.specs.Steps.{IsStepped};
+ghost use Rattle.c8_engine.specs.Calls.{IfOpen, words_of, rows_in};
+
+use crate::handle::Handle;
+use c8_game::Row;
+
+/// How many words a row has: a key set of each of four players.
+const WORDS: usize = 4;
+
+/// Gives the best rows from the first frame on whose best row the engine was not given: writes the frame to `from`, and at
+/// most a fourth as many rows as `rows` has words to its front. Returns how many; 0 at a closed handle.
+#[unsafe(no_mangle)]
+pub extern "C" fn c8_step(handle: &mut Handle, from: &mut u32, rows: &mut [u16]) -> u32
+    ensures closed { handle.old.value ≡ None → (result ≡ 0) × (handle.new ≡ handle.old) }
+    ensures stepped { IfOpen handle.old.value handle.new.value (λ e f. (f.peer ≡ e.peer)
+        × (e.depth ≡ 0 → IsStepped (known_by e.peer) (rows_in (length rows.old))
+        e.steps.given f.steps.given from.new result)) }
+    ensures rows { IfOpen handle.old.value handle.new.value (λ e f. rows.new
+        ≡ words_of (take result (drop from.new f.steps.given)) ++ drop (4 * result) rows.old) }
+{
+    if !handle.is_open() {
+        return 0;
+    }
+    let engine = &mut handle.session().engine;
+    let stepped = engine.step((rows.len() / WORDS).min(u32::MAX as usize) as u32);
+    *from = stepped.from;
+    let place = stepped.from as usize;
+    write_rows(&engine.given()[place..place + stepped.count as usize], rows);
+    stepped.count
+}
+
+/// Writes rows to the front of `words`.
+fn write_rows(rows: &[Row], words: &mut [u16])
+    requires { 4 * length rows.now ≤ length words.old }
+    ensures { words.new ≡ words_of rows.now ++ drop (4 * length rows.now) words.old }
+{
+    for place in 0..rows.len() {
+        let [one, two, three, four] = rows[place].sets;
+        let at = place * WORDS;
+        words[at..at + WORDS].copy_from_slice(&[one.0, two.0, three.0, four.0]);
+    }
+}
