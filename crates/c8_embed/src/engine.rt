@@ -195,6 +195,8 @@ impl<'g, D: Disk> Engine<'g, D> {
             self.old.steps.given self.new.steps.given result.from result.count }
         ensures tested { (left : ℕ) × IsStepped (known_by self.old.peer) most
             (take left self.old.steps.given) self.new.steps.given result.from result.count }
+        ensures few { result.count ≤ most }
+        ensures counted { result.from + result.count ≡ length self.new.steps.given }
     {
         if self.depth > 0 {
             self.steps.take_back(self.depth);

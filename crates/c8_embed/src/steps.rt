@@ -71,6 +71,8 @@ impl Steps {
         requires room { (known_by peer.now).ticks ≤ self.old.room }
         ensures stepped { IsStepped (known_by peer.now) most self.old.given self.new.given
             result.from result.count }
+        ensures few { result.count ≤ most }
+        ensures counted { result.from + result.count ≡ length self.new.given }
         ensures true_to { IsTrueTo (known_by peer.now) self.new }
         ensures room { self.new.room ≡ self.old.room }
     {

@@ -2,7 +2,7 @@
 ghost use Rattle.std.specs.Prelude.{◌≡◌, ◌*◌, ◌≤◌, ◌++◌, None, length, take, drop};
 ghost use Rattle.c8_peer.specs.Peer.{known_by};
 ghost use Rattle.c8_embed.specs.Steps.{IsStepped};
-ghost use Rattle.c8_engine.specs.Calls.{IfOpen, words_of, rows_in};
+ghost use Rattle.c8_engine.specs.Calls.{IfOpen, words_of_row, words_of, rows_in};
 
 use crate::handle::Handle;
 use c8_game::Row;
@@ -38,8 +38,16 @@ fn write_rows(rows: &[Row], words: &mut [u16])
     ensures { words.new ≡ words_of rows.now ++ drop (4 * length rows.now) words.old }
 {
     for place in 0..rows.len() {
-        let [one, two, three, four] = rows[place].sets;
-        let at = place * WORDS;
-        words[at..at + WORDS].copy_from_slice(&[one.0, two.0, three.0, four.0]);
+        let at = WORDS * place;
+        words[at..at + WORDS].copy_from_slice(&words_of_row(&rows[place]));
     }
+}
+
+/// The key sets of a row as words.
+fn words_of_row(row: &Row) -> [u16; WORDS]
+    ensures value { result ≡ words_of_row row.now }
+    ensures four { length (words_of_row row.now) ≡ 4 }
+{
+    let [one, two, three, four] = row.sets;
+    [one.0, two.0, three.0, four.0]
 }

@@ -1,10 +1,10 @@
-use Rattle.std.proofs.Common.{◌≡◌, ℕ, List, length, take, ap, sym, subst, ◌∙◌}
+use Rattle.std.proofs.Common.{◌≡◌, ◌+◌, ℕ, List, length, take, ap, sym, subst, ◌∙◌, arith}
 use Rattle.c8_game.specs.declared.row.Row.{Row}
 use Rattle.c8_peer.specs.Peer.{known_by}
 use Rattle.c8_embed.specs.Steps.{IsStepped}
 use Rattle.c8_embed.specs.Engine.{EngineValue}
 use Rattle.c8_embed.specs.declared.engine.Engine.TheInside.{Inside}
-use Rattle.c8_embed.proofs.StepsLemmas.{ticked}
+use Rattle.c8_embed.proofs.StepsLemmas.{best_length, ticked}
 use Rattle.c8_embed.proofs.EngineLemmas.{told_steps, take_long}
 use Rattle.c8_embed.proofs.engine.Engine.step.Goals as goal
 use Rattle.c8_embed.proofs.engine.Engine.step.Goals.{then-self-gt0, else-self-gt0+else-self}
@@ -40,3 +40,10 @@ returns-clause-tested g c =
           let taken = subst (λ (rows : List Row). IsStepped (known_by c.self.inside.peer) c.args.most rows new from count) (sym (take_long given)) made in
           (length given, subst (λ (e : EngineValue g.row.D.Denot). IsStepped (known_by e.peer) c.args.most (take (length given) e.steps.given) new from count) c.self.view_is taken)
     ]
+
+pub returns-then-self-clause-counted : goal.returns-then-self-clause-counted
+returns-then-self-clause-counted g c =
+    let now = c.now-from.ensures ∙ ticked c.self.inside.peer.rules c.self.inside.peer.me c.self.inside.peer.state.journal in
+    let long = ap (λ (rows : List Row). length rows) (c.self.invariant.told c.if-self.true) ∙ best_length (known_by c.self.inside.peer) (known_by c.self.inside.peer).ticks in
+    let same : length c.self.inside.steps.given ≡ length c.args.self.now.steps.given = ap (λ (e : EngineValue g.row.D.Denot). length e.steps.given) c.self.view_is in
+    omega (arith, now, long, same)

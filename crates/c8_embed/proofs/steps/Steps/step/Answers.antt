@@ -95,3 +95,10 @@ returns-clause-true_to g c =
       within = omega (arith, settled, over, long);
       settled_is = ap (λ (rows : List Row). take c.min-self-inside.result rows) c.loop-frame.invariant.given ∙ best_take k c.min-self-inside.result c.loop-frame.frame (omega (arith, settled, over));
     }
+
+pub returns-clause-counted : goal.returns-clause-counted
+returns-clause-counted g c =
+    let over = c.loop-frame-test.false in
+    let within = c.loop-frame.invariant.within in
+    let long : length c.loop-frame.self-inside.given.items ≡ c.loop-frame.frame = ap (λ (rows : List Row). length rows) c.loop-frame.invariant.given ∙ best_length (known_by c.args.peer.now) c.loop-frame.frame in
+    omega (arith, over, within, long)
