@@ -11,6 +11,7 @@ mod explaining;
 mod handle;
 mod opening;
 mod reading;
+mod rules;
 mod saying;
 mod sealing;
 mod stepping;
@@ -23,6 +24,7 @@ pub use reading::{
     PlayerState, c8_confirmed, c8_epoch, c8_is_over, c8_mark, c8_player, c8_screen, c8_state,
     c8_ticked, c8_tone,
 };
+pub use rules::{c8_rules, c8_session_of};
 pub use saying::{c8_next, c8_say};
 pub use sealing::{c8_seal, c8_unseal};
 pub use stepping::c8_step;
