@@ -18,16 +18,22 @@ pub enum Medium {
 }
 
 impl Medium {
-    /// Takes two descriptors that nothing else closes. `None` if one of them is negative.
+    /// Takes two descriptors that nothing else closes. `None` if one of them is negative; then the other one is closed.
     pub fn take(file: i32, folder: i32) -> Option<Medium> {
-        if file < 0 || folder < 0 {
-            return None;
-        }
+        let (file, folder) = (owned(file), owned(folder));
         Some(Medium::File {
-            file: unsafe { OwnedFd::from_raw_fd(file) },
-            folder: unsafe { OwnedFd::from_raw_fd(folder) },
+            file: file?,
+            folder: folder?,
         })
     }
+}
+
+/// Takes a descriptor, unless it is negative.
+fn owned(descriptor: i32) -> Option<OwnedFd> {
+    if descriptor < 0 {
+        return None;
+    }
+    Some(unsafe { OwnedFd::from_raw_fd(descriptor) })
 }
 
 /// The system's last error.

@@ -7,14 +7,18 @@ use crate::handle::Handle;
 use c8_disk::FileDisk;
 use c8_embed::{Engine, Medium, Session};
 use c8_game::{Game, Player};
+use c8_log::SLOT_LENGTH;
 use c8_peer::OpenError;
 use std::alloc::Global;
 
-/// How many bytes a journal may have.
-const CAPACITY: u32 = 1 << 30;
-
-/// After how many frames a checkpoint is recorded in a journal that is in a file.
+/// After how many frames a checkpoint is recorded.
 const INTERVAL: u32 = 3600;
+
+/// How many records a checkpoint has.
+const RECORDS_OF_CHECKPOINT: u32 = 37;
+
+/// How many records a journal has room for beside the inputs and the checkpoints: openings and drop rounds.
+const SPARE_RECORDS: u32 = 65_536;
 
 /// Opens a session over a journal in memory, in place of the one that the handle had.
 #[unsafe(no_mangle)]
@@ -74,10 +78,11 @@ fn open_over(
     let Some(me) = Player::new(player) else {
         return nobody_code();
     };
-    let Ok(bytes) = Vec::with_capacity(alloc, CAPACITY as usize) else {
+    let capacity = capacity_of(&game);
+    let Ok(bytes) = Vec::with_capacity(alloc, capacity as usize) else {
         return open_code(OpenError::Memory);
     };
-    let disk = match FileDisk::over(medium, bytes, CAPACITY) {
+    let disk = match FileDisk::over(medium, bytes, capacity) {
         Ok(disk) => disk,
         Err(error) => return file_code(error),
     };
@@ -98,6 +103,16 @@ fn open_over(
     };
     *handle = Handle::of(session);
     0
+}
+
+/// How many bytes a journal of a game has at most: a record for each input, the checkpoints, and spare ones.
+fn capacity_of(game: &Game) -> u32 {
+    let inputs = game.frames().saturating_mul(u32::from(game.players()));
+    let checkpoints = (game.frames() / INTERVAL + 1).saturating_mul(RECORDS_OF_CHECKPOINT);
+    inputs
+        .saturating_add(checkpoints)
+        .saturating_add(SPARE_RECORDS)
+        .saturating_mul(SLOT_LENGTH as u32)
 }
 
 /// Gives back all that a session owned, but its game. A closed handle stays closed, and may be opened again.

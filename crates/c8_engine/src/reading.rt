@@ -104,7 +104,7 @@ pub extern "C" fn c8_player(handle: &mut Handle, player: u8, state: &mut PlayerS
         held: peer.count(player),
         acknowledged: peer.acked(player),
         linked: peer.is_linked(player),
-        dropped: peer.leaving(player),
+        dropped: peer.leaving(player) || peer.frozen(player),
     };
     0
 }
