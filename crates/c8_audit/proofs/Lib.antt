@@ -1,0 +1,9 @@
+pub mod RowLemmas
+pub mod GivenLemmas
+pub mod SearchLemmas
+pub mod RunLemmas
+pub mod MarkLemmas
+pub mod TruthLemmas
+pub mod StepLemmas
+pub mod FateLemmas
+pub mod HonestLemmas

@@ -1,0 +1,21 @@
+//! Judges the journals of a match: whether the inputs in them were entered, whether their checkpoints are true, and
+//! whether the players who were not dropped agree.
+//!
+//! [`judge`] is the whole audit over journals that were read ([`Journal`]). `specs/Journals.antt` says what is read of
+//! journals, `Verdicts.antt` when each verdict is yes and which fault a no names, `Honest.antt` which journals an honest
+//! match leaves. [`laws`] has what follows: a yes means agreement, and an honest match is never accused.
+#![tactic(auto)]
+
+mod agreed;
+mod entered;
+mod fault;
+mod journal;
+mod search;
+mod truth;
+
+pub use agreed::is_dropped;
+pub use entered::cut_of;
+pub use fault::{Fault, Question};
+pub use journal::{Journal, journal_of};
+pub use search::least_fault;
+pub use truth::first_untrue;
