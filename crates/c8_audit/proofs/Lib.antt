@@ -4,6 +4,9 @@ pub mod SearchLemmas
 pub mod RunLemmas
 pub mod MarkLemmas
 pub mod TruthLemmas
+pub mod CountLemmas
+pub mod AgreedLemmas
+pub mod EnteredLemmas
 pub mod StepLemmas
 pub mod FateLemmas
 pub mod HonestLemmas

@@ -5,3 +5,4 @@ pub mod Read
 pub mod Search
 pub mod Frames
 pub mod Marked
+pub mod Counts

@@ -32,7 +32,7 @@ pub(crate) fn first_difference(
 }
 
 /// The journal of a player who was not dropped, if it is given.
-fn stayer(journals: &[Option<Journal>], player: Player) -> Option<&Journal>
+pub(crate) fn stayer(journals: &[Option<Journal>], player: Player) -> Option<&Journal>
     requires { (rules : Rules) × AreOfGame rules (all_seen journals.now) }
     ensures { IsStayer (all_seen journals.now) player.number (option_map (λ journal. seen journal.now) result) }
 {

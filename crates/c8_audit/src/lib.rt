@@ -7,15 +7,17 @@
 #![tactic(auto)]
 
 mod agreed;
+mod count;
 mod entered;
 mod fault;
 mod journal;
 mod search;
 mod truth;
+mod verdict;
 
 pub use agreed::is_dropped;
+pub use count::{digest_after, least_count};
 pub use entered::cut_of;
 pub use fault::{Fault, Question};
 pub use journal::{Journal, journal_of};
-pub use search::least_fault;
-pub use truth::first_untrue;
+pub use verdict::{Verdicts, judge};

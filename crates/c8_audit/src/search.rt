@@ -16,7 +16,7 @@ use c8_game::Player;
 pub(crate) const PLAYERS_END: u8 = 5;
 
 /// The least fault: that of the earliest frame, of these that of the least `one`, and of these that of the least `other`.
-pub fn least_fault(question: Question, journals: &[Option<Journal>]) -> Option<Fault>
+pub(crate) fn least_fault(question: Question, journals: &[Option<Journal>]) -> Option<Fault>
     requires { (rules : Rules) × AreOfGame rules (all_seen journals.now) }
     ensures { IsLeast question (all_seen journals.now) result }
 {

@@ -22,7 +22,7 @@ use c8_machine::Machine;
 const MOST_MARKS: u32 = 16;
 
 /// The first player the last checkpoint of whose journal is not that of the serial run of the confirmed rows.
-pub fn first_untrue(game: &Game, journals: &[Option<Journal>]) -> Option<Player>
+pub(crate) fn first_untrue(game: &Game, journals: &[Option<Journal>]) -> Option<Player>
     requires { AreOfGame game.now (all_seen journals.now) }
     ensures { MatchOption result (AreTrue game.now (all_seen journals.now))
         (λ player. IsFirstUntrue game.now (all_seen journals.now) player.number) }
