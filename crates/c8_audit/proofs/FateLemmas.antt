@@ -5,12 +5,14 @@ use Rattle.std.specs.List.{slice_get}
 use Rattle.std.proofs.lemmas.List.{append-nil}
 use Rattle.c8_game.specs.Rules.{Rules}
 use Rattle.c8_known.specs.Journal.{Record, player_of}
+use Rattle.c8_known.specs.Known.{known_of}
 use Rattle.c8_known.specs.Growth.{Begins}
 use Rattle.c8_known.specs.checked.BeginsLaws.{begins_same, begins_more, begins_append, begins_get, begins_length, begins_longer}
 use Rattle.c8_record.specs.Allowed.{IsOpening}
 use Rattle.c8_peer.specs.State as states
 use Rattle.c8_peer.specs.State.{Mode, Down, Away, State, Call, Outcome}
-use Rattle.c8_peer.specs.Steps.{Luck, Works, Refuses, done, at_mode, step}
+use Rattle.c8_peer.specs.Steps.{Luck, Works, Refuses, outcome, done, at_mode, step}
+use Rattle.c8_peer.specs.Told.{told_of}
 use Rattle.c8_peer.specs.Opening.{Opening, NoPlayer, Stands, NotWritten, NoMemory, NotRead, Unfit, Spent, found, away, opened, opening_record}
 use Rattle.c8_audit.proofs.StepLemmas.{HoldsForSteps}
 
@@ -37,6 +39,9 @@ mode_grows s call o states.Open luck = done_grows s call o o.keeps luck
 mode_grows s call o Down luck = record { grown = begins_same s.journal; settled = λ was. was }
 mode_grows s call o Away luck = record { grown = begins_same s.journal; settled = λ was. was }
 
+step_grows : (rules : Rules) (me : ℕ) (s : State) (call : Call) (luck : Luck) → Grows s (step rules me s call luck).state
+step_grows rules me s call luck = mode_grows s call (outcome rules (told_of rules me s.journal) (known_of rules me s.journal) s.memory call) s.mode luck
+
 away_grows : (s : State) (journal : List Record) (pending : Option Record) → Begins s.journal journal → Grows s (away s journal pending)
 away_grows s journal pending begins = record { grown = begins; settled = λ was up. absurd cc }
 
@@ -53,7 +58,7 @@ pub all_grow : (rules : Rules) (room p : ℕ) → HoldsForSteps rules room p Gro
 all_grow rules room p = record {
   same = λ s. record { grown = begins_same s.journal; settled = λ was. was };
   more = λ s u t one two. record { grown = begins_more s.journal u.journal t.journal one.grown two.grown; settled = λ was. two.settled (one.settled was) };
-  called = λ s call luck up. mode_grows s call _ s.mode luck;
+  called = λ s call luck up. step_grows rules p s call luck;
   opens = λ s finds o down. opened_grows rules room p s (found s finds) o (found_grows s finds);
   crashes = λ s finds. away_grows s (found s finds) None (found_grows s finds);
 }
@@ -194,7 +199,7 @@ pub record Fares (me : ℕ) (before : List Record) (x : Record) (s t : State) : 
 step_keeps : (rules : Rules) (me : ℕ) (before : List Record) (x : Record) (s : State) (call : Call) (luck : Luck) → s.mode ≡ states.Open → Keeps before x s
     → Keeps before x (step rules me s call luck).state
 step_keeps rules me before x s call luck up (inl waits) = absurd (waits.mode up)
-step_keeps rules me before x s call luck up (inr begins) = inr (begins_more (before ++ x ∷ []) s.journal (step rules me s call luck).state.journal begins (mode_grows s call _ s.mode luck).grown)
+step_keeps rules me before x s call luck up (inr begins) = inr (begins_more (before ++ x ∷ []) s.journal (step rules me s call luck).state.journal begins (step_grows rules me s call luck).grown)
 
 step_lacks : (rules : Rules) (me : ℕ) (before : List Record) (s : State) (call : Call) (luck : Luck) → s.mode ≡ states.Open → Lacks me before s → Lacks me before (step rules me s call luck).state
 step_lacks rules me before s call luck up (inl without) = absurd (without.mode up)
@@ -202,7 +207,7 @@ step_lacks rules me before s call luck up (inr has) =
     inr (record {
       record_is = has.record_is;
       opening = has.opening;
-      begins = begins_more (before ++ has.record_is ∷ []) s.journal (step rules me s call luck).state.journal has.begins (mode_grows s call _ s.mode luck).grown;
+      begins = begins_more (before ++ has.record_is ∷ []) s.journal (step rules me s call luck).state.journal has.begins (step_grows rules me s call luck).grown;
     })
 
 pub all_fare : (rules : Rules) (room p : ℕ) (before : List Record) (x : Record) → HoldsForSteps rules room p (Fares p before x)

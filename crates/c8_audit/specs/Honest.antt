@@ -39,5 +39,5 @@ pub record AreOfWorlds (rules : Rules) (e : Evidence) (earlier later : World) : 
   pub one : Readings
   pub one_given : e 1 ≡ Some one
   pub players : (p : ℕ) (r : Readings) → e p ≡ Some r → IsPlayer rules p
-  pub first : (p : ℕ) (r : Readings) → e p ≡ Some r → r.first ≡ journal_of earlier p
-  pub later : (p : ℕ) (r : Readings) → e p ≡ Some r → r.later ≡ journal_of later p
+  pub first_are : (p : ℕ) (r : Readings) → e p ≡ Some r → r.first ≡ journal_of earlier p
+  pub later_are : (p : ℕ) (r : Readings) → e p ≡ Some r → r.later ≡ journal_of later p
