@@ -123,11 +123,11 @@ settled_there rules w p q finds plays others apart =
     get_or-set_other w.peers (p - 1) (q - 1) _ never_opened (λ e. apart (omega (arith, e, from, also)))
 
 -- the first n players' disks were read, and that is their journal
-adopt : World → (ℕ → Bool) → ℕ → World
+pub adopt : World → (ℕ → Bool) → ℕ → World
 adopt w finds zero = w
 adopt w finds (suc n) = settled_at (adopt w finds n) (suc n) (finds (suc n))
 
-adopt_reached : (rules : Rules) (room : ℕ) (w : World) (finds : ℕ → Bool) (n : ℕ) → IsReached rules room w → n ≤ rules.players → IsReached rules room (adopt w finds n)
+pub adopt_reached : (rules : Rules) (room : ℕ) (w : World) (finds : ℕ → Bool) (n : ℕ) → IsReached rules room w → n ≤ rules.players → IsReached rules room (adopt w finds n)
 unfolding adopt
 adopt_reached rules room w finds zero reached within = reached
 adopt_reached rules room w finds (suc n) reached within =
@@ -146,7 +146,7 @@ adopt_past rules w finds (suc n) q past plays =
     settled_there rules (adopt w finds n) (suc n) q (finds (suc n)) (record { from_one = omega arith; in_game = omega (arith, within, past) }) plays (λ e. omega (arith, e, past))
     ∙ adopt_past rules w finds n q (omega (arith, past)) plays
 
-adopt_is : (rules : Rules) (w : World) (finds : ℕ → Bool) (n q : ℕ) → length w.peers ≡ rules.players → n ≤ rules.players → q ≤ n → IsPlayer rules q → journal_of (adopt w finds n) q ≡ found (peer_of w q) (finds q)
+pub adopt_is : (rules : Rules) (w : World) (finds : ℕ → Bool) (n q : ℕ) → length w.peers ≡ rules.players → n ≤ rules.players → q ≤ n → IsPlayer rules q → journal_of (adopt w finds n) q ≡ found (peer_of w q) (finds q)
 unfolding adopt
 adopt_is rules w finds zero q nodes within few plays = let from = plays.from_one in absurd (omega (arith, from, few))
 adopt_is rules w finds (suc n) q nodes within few plays =
@@ -191,7 +191,7 @@ pub record IsBacked (rules : Rules) (p : ℕ) (between : World) (finds : Bool) (
   pub known : known_of rules p r.first ≡ known_of rules p before
   pub ends : Begins (found (peer_of between p) finds) r.later
 
-abbrev Backed : Rules → ℕ → World → Readings → Type 0
+abbrev pub Backed : Rules → ℕ → World → Readings → Type 0
 Backed rules p between r = (finds : Bool) × IsBacked rules p between finds r
 
 -- by the journal alone
@@ -244,7 +244,7 @@ by_reading rules room p between r was s true (Some x) plays nodes pending first 
     let waits : Waits s.journal x s = record { journal = refl; pending = pending; mode = λ up. let both : None ≡ Some x = sym (settled up) ∙ pending in cc } in
     by_fate rules room p between r s.journal x was plays nodes (first ∙ ap (λ (y : Option Record). s.journal ++ option_to_list y) pending) begins ends (fares x waits)
 
-backed : (rules : Rules) (room p : ℕ) (between : World) (r : Readings) → IsPlayer rules p → WasReadTwice rules room between p r → Backed rules p between r
+pub backed : (rules : Rules) (room p : ℕ) (between : World) (r : Readings) → IsPlayer rules p → WasReadTwice rules room between p r → Backed rules p between r
 backed rules room p between r plays was =
     let s : State = peer_of was.first_at p in
     let regular = reached_regular rules room p was.first_at plays was.first_reached in

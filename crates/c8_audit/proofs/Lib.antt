@@ -10,3 +10,4 @@ pub mod EnteredLemmas
 pub mod StepLemmas
 pub mod FateLemmas
 pub mod HonestLemmas
+pub mod AccusedLemmas
