@@ -26,8 +26,9 @@ use Rattle.c8_world.specs.Agreement.{IsPlayer, AreSameUpTo}
 use Rattle.c8_audit.specs.Journals.{Readings, Evidence, Seen, AllSeen, seen_of, seen_in, IsGiven, dropped_by, is_dropped, cut_by, cut_in, Stays}
 use Rattle.c8_audit.specs.Honest.{WasReadTwice, IsHonest}
 use Rattle.c8_audit.specs.Verdicts.{IsEntered, AreEntered, AreTrue, AreAgreed}
+use Rattle.c8_audit.specs.checked.Below.{AreWorldsLawful}
 use Rattle.c8_audit.proofs.AgreedLemmas.{same_up_to}
-use Rattle.c8_audit.proofs.HonestLemmas.{AreWorldsLawful, reached_later, reached_regular, settled_at, settled_reached, settled_here, adopt, adopt_reached, adopt_is, IsBacked, backed}
+use Rattle.c8_audit.proofs.HonestLemmas.{reached_later, reached_regular, settled_at, settled_reached, settled_here, adopt, adopt_reached, adopt_is, IsBacked, backed}
 
 some_same : {X : Type 0} (x y : X) → Some x ≡ Some y → x ≡ y
 some_same x y same = cc
@@ -97,12 +98,14 @@ common laws rules room e range few honest =
       world = w;
       reached = reached;
       stand = λ p r is.
-        let plays = honest.players p r is in
-        let back = (choose rules room e honest p (e p) refl).1 r is in
-        let nodes = (reached_regular rules room p honest.between plays between).nodes in
-        let at : journal_of w p ≡ found (peer_of honest.between p) (finds p) = adopt_is rules honest.between finds rules.players p nodes (omega arith) plays.in_game plays in
-        (plays, stands_in laws rules room w p r back.before range few reached plays (later_journal laws rules room e range few honest p r is) back.known
-        (subst (λ (j : List Record). Begins back.before j) (sym at) back.begins) (subst (λ (j : List Record). Begins j r.later) (sym at) back.ends));
+          let plays = honest.players p r is in
+          let back = (choose rules room e honest p (e p) refl).1 r is in
+          let nodes = (reached_regular rules room p honest.between plays between).nodes in
+          let at : journal_of w p ≡ found (peer_of honest.between p) (finds p) = adopt_is rules honest.between finds rules.players p nodes (omega arith) plays.in_game plays in (
+            plays,
+            stands_in laws rules room w p r back.before range few reached plays (later_journal laws rules room e range few honest p r is) back.known
+                (subst (λ (j : List Record). Begins back.before j) (sym at) back.begins) (subst (λ (j : List Record). Begins j r.later) (sym at) back.ends),
+          );
     }
 
 -- ---- what is given

@@ -27,9 +27,9 @@ sets_or_not (x ∷ xs) [] = inr (λ e. cc)
 sets_or_not (x ∷ xs) (y ∷ ys) =
     elim (cases_eq x.0 y.0) [
       | inl same ↦ elim (sets_or_not xs ys) [
-          | inl rest ↦ inl (λ i. (record { 0 = same i }) ∷ rest i)
-          | inr apart ↦ inr (λ e. let rest : xs ≡ ys = cc in apart rest)
-        ]
+        | inl rest ↦ inl (λ i. (record { 0 = same i }) ∷ rest i)
+        | inr apart ↦ inr (λ e. let rest : xs ≡ ys = cc in apart rest)
+      ]
       | inr apart ↦ inr (λ e. let keys : x ≡ y = cc in apart (ap (λ (k : Keys). k.0) keys))
     ]
 
@@ -65,7 +65,7 @@ agreed_without rules all none p r a b at_p at_r n p_counts r_counts =
           let seen : a ≡ b = some_same a b (sym at_p.given.is ∙ ap all same ∙ at_r.given.is) in
           ap (λ (s : Seen). rows_below s.first n) seen
       | inr apart ↦ elim (cases_lt p r) [
-          | inl less ↦ rows_of_two all p r a b n none less at_p at_r p_counts r_counts
-          | inr more ↦ sym (rows_of_two all r p b a n none (omega (arith, apart, more)) at_r at_p r_counts p_counts)
-        ]
+        | inl less ↦ rows_of_two all p r a b n none less at_p at_r p_counts r_counts
+        | inr more ↦ sym (rows_of_two all r p b a n none (omega (arith, apart, more)) at_r at_p r_counts p_counts)
+      ]
     ])

@@ -34,16 +34,16 @@ lesser_next all n None (Some t) before now = record {
   stays = now;
   count = refl;
   least = λ p s below stays. ⊎_elim
-    (λ less. absurd (before p s less stays))
-    (λ here. let same = ap (λ (x : Seen). confirmed x.first) (same_seen all p n s t stays now here) in omega (arith, same))
-    (below_next p n below);
+      (λ less. absurd (before p s less stays))
+      (λ here. let same = ap (λ (x : Seen). confirmed x.first) (same_seen all p n s t stays now here) in omega (arith, same))
+      (below_next p n below);
 }
 lesser_next all n (Some N) (Some t) before now =
     let count = before.count in
     let least : (p : ℕ) (s : Seen) → p < n + 1 → Stays all p s → min N (confirmed t.first) ≤ confirmed s.first = λ p s below stays. ⊎_elim
-      (λ less. let more = before.least p s less stays in omega (arith, more))
-      (λ here. let same = ap (λ (x : Seen). confirmed x.first) (same_seen all p n s t stays now here) in omega (arith, same))
-      (below_next p n below) in
+    (λ less. let more = before.least p s less stays in omega (arith, more))
+    (λ here. let same = ap (λ (x : Seen). confirmed x.first) (same_seen all p n s t stays now here) in omega (arith, same))
+    (below_next p n below) in
     elim (cases_lt (confirmed t.first) N) [
       | inl less ↦ record { player = n; seen = t; stays = now; count = omega (arith, less); least = least }
       | inr more ↦ record { player = before.player; seen = before.seen; stays = before.stays; count = omega (arith, count, more); least = least }

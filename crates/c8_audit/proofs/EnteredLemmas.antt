@@ -26,9 +26,9 @@ past_or_not None frame word = inr (λ past. let none : None ≡ Some past.1 = pa
 past_or_not (Some K) frame word =
     elim (cases_eq word 0) [
       | inl zero_word ↦ elim (cases_lt frame K) [
-          | inl less ↦ inr (λ past. let same : K ≡ past.1 = some_same K past.1 past.2 in let from = past.3 in omega (arith, same, from, less))
-          | inr more ↦ inl (zero_word, K, refl, more)
-        ]
+        | inl less ↦ inr (λ past. let same : K ≡ past.1 = some_same K past.1 past.2 in let from = past.3 in omega (arith, same, from, less))
+        | inr more ↦ inl (zero_word, K, refl, more)
+      ]
       | inr apart ↦ inr (λ past. apart past.0)
     ]
 
@@ -39,14 +39,14 @@ entered_or_not by cut own q frame plays below =
     elim (is_or_not (slice_get (player_in own q).held frame) word) [
       | inl held ↦ inl (record { word = word; is = has.1; entered = inl held })
       | inr unheld ↦ elim (past_or_not cut frame word) [
-          | inl past ↦ inl (record { word = word; is = has.1; entered = inr past })
-          | inr never ↦ inr (λ e.
-              let same : e.word ≡ word = some_same e.word word (sym e.is ∙ has.1) in
-              ⊎_elim
-              (λ held. unheld (held ∙ ap Some same))
-              (λ past. never (subst (λ (w : ℕ). IsPast cut frame w) same past))
-              e.entered)
-        ]
+        | inl past ↦ inl (record { word = word; is = has.1; entered = inr past })
+        | inr never ↦ inr (λ e.
+            let same : e.word ≡ word = some_same e.word word (sym e.is ∙ has.1) in
+            ⊎_elim
+            (λ held. unheld (held ∙ ap Some same))
+            (λ past. never (subst (λ (w : ℕ). IsPast cut frame w) same past))
+            e.entered)
+      ]
     ]
 
 pub entered_without : (rules : Rules) (all : AllSeen) → AreOfGame rules all → ((frame one other : ℕ) → IsUnentered all frame one other → ⊥) → AreEntered all

@@ -21,19 +21,9 @@ use Rattle.c8_peer.specs.TrueChecks.{HasTrueChecks}
 use Rattle.c8_world.specs.World.{World, never_opened, start, is_player, peer_of, journal_of, known_by, with_peer, Give, Event, Stop, Happening, Answer, Stopped, After, give_to, acted, crashed, after, CanHappen, Chain, IsReached}
 use Rattle.c8_world.specs.Agreement.{IsPlayer, Agree, AreEntered}
 use Rattle.c8_audit.specs.Journals.{Readings, Evidence}
-use Rattle.c8_audit.specs.Honest.{WasReadTwice, IsHonest}
+use Rattle.c8_audit.specs.Honest.{WasReadTwice}
 use Rattle.c8_audit.proofs.StepLemmas.{HasMoved, moved_chain}
 use Rattle.c8_audit.proofs.FateLemmas.{IsSettled, Grows, all_grow, found_grows, IsOpeningOf, Waits, Keeps, Lacks, HasOpening, lacks_read, Fares, all_fare, same_next, never_shorter}
-
--- the laws of worlds that this stands on
-pub record AreWorldsLawful : Type 0 where
-  pub agree : (rules : Rules) (room : ℕ) (w v : World) (events : List Event) (answers : List Answer) (p r : ℕ) → AreInRange rules → room < 2 ^ 64 → IsReached rules room w
-      → Chain rules room w events answers v → IsPlayer rules p → IsPlayer rules r → Agree rules w v p r
-  pub entered : (rules : Rules) (room : ℕ) (w v : World) (events : List Event) (answers : List Answer) (p : ℕ) → AreInRange rules → room < 2 ^ 64 → IsReached rules room w
-      → Chain rules room w events answers v → IsPlayer rules p → AreEntered rules w v p
-  pub checks : (rules : Rules) (room : ℕ) (w : World) (p : ℕ) → AreInRange rules → room < 2 ^ 64 → IsReached rules room w → IsPlayer rules p → HasTrueChecks rules p (journal_of w p)
-  pub journals : (rules : Rules) (room : ℕ) (w : World) (p : ℕ) (finds : Bool) → AreInRange rules → room < 2 ^ 64 → IsReached rules room w → IsPlayer rules p
-      → IsJournal rules p room (found (peer_of w p) finds)
 
 -- ---- reached worlds
 
@@ -204,13 +194,15 @@ by_pending : (rules : Rules) (p : ℕ) (between : World) (r : Readings) (before 
     → Waits before x (peer_of between p) → Backed rules p between r
 by_pending rules p between r before x first continues waits =
     let read : found (peer_of between p) true ≡ r.first =
-        ap (λ (o : Option Record). (peer_of between p).journal ++ option_to_list o) waits.pending ∙ ap (λ (j : List Record). j ++ x ∷ []) waits.journal ∙ sym first in
-    (true, record {
-      before = r.first;
-      begins = subst (λ (j : List Record). Begins r.first j) (sym read) (begins_same r.first);
-      known = refl;
-      ends = subst (λ (j : List Record). Begins j r.later) (sym read) continues;
-    })
+    ap (λ (o : Option Record). (peer_of between p).journal ++ option_to_list o) waits.pending ∙ ap (λ (j : List Record). j ++ x ∷ []) waits.journal ∙ sym first in (
+      true,
+      record {
+        before = r.first;
+        begins = subst (λ (j : List Record). Begins r.first j) (sym read) (begins_same r.first);
+        known = refl;
+        ends = subst (λ (j : List Record). Begins j r.later) (sym read) continues;
+      },
+    )
 
 -- it was lost, so it was the record of an opening
 by_opening : (rules : Rules) (p : ℕ) (between : World) (r : Readings) (before : List Record) (x : Record) → IsPlayer rules p → r.first ≡ before ++ x ∷ [] → Begins r.first r.later
@@ -251,7 +243,7 @@ backed rules room p between r plays was =
     let early = moved_chain rules room p Grows was.first_at between was.events was.answers (all_grow rules room p) regular.nodes plays was.before in
     let late = moved_chain rules room p Grows between was.later_at was.more_events was.more_answers (all_grow rules room p) (early.nodes ∙ regular.nodes) plays was.after in
     let ends : Begins (journal_of between p) r.later =
-        subst (λ (j : List Record). Begins (journal_of between p) j) (sym was.later_is)
-        (begins_more (journal_of between p) (journal_of was.later_at p) (found (peer_of was.later_at p) was.later_finds) late.moved.grown (found_grows (peer_of was.later_at p) was.later_finds)) in
+    subst (λ (j : List Record). Begins (journal_of between p) j) (sym was.later_is)
+    (begins_more (journal_of between p) (journal_of was.later_at p) (found (peer_of was.later_at p) was.later_finds) late.moved.grown (found_grows (peer_of was.later_at p) was.later_finds)) in
     by_reading rules room p between r was s was.finds s.pending plays (early.nodes ∙ regular.nodes) refl was.first_is regular.settled early.moved.grown ends
     (λ x waits. (moved_chain rules room p (Fares p s.journal x) was.first_at between was.events was.answers (all_fare rules room p s.journal x) regular.nodes plays was.before).moved.kept (inl waits))

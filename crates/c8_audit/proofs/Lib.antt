@@ -11,3 +11,4 @@ pub mod StepLemmas
 pub mod FateLemmas
 pub mod HonestLemmas
 pub mod AccusedLemmas
+pub mod YesLemmas

@@ -25,9 +25,9 @@ map_shift f g a b (suc n) same =
     let at_b : b + 0 ≡ b = omega arith in
     let head : f a ≡ g b = ap f at_a ∙ same 0 (omega arith) ∙ ap g at_b in
     let tail : map f (range_with_len (a + 1) n) ≡ map g (range_with_len (b + 1) n) = map_shift f g (a + 1) (b + 1) n (λ i below.
-      let from : a + 1 + i ≡ a + (i + 1) = omega arith in
-      let to : b + (i + 1) ≡ b + 1 + i = omega arith in
-      ap f from ∙ same (i + 1) (omega (arith, below)) ∙ ap g to) in
+    let from : a + 1 + i ≡ a + (i + 1) = omega arith in
+    let to : b + (i + 1) ≡ b + 1 + i = omega arith in
+    ap f from ∙ same (i + 1) (omega (arith, below)) ∙ ap g to) in
     rw (head, tail) refl
 
 map_unshift : {X : Type 0} (f g : ℕ → X) (a b n : ℕ) → map f (range_with_len a n) ≡ map g (range_with_len b n) → (i : ℕ) → i < n → f (a + i) ≡ g (b + i)
@@ -54,9 +54,9 @@ kept_last g n =
     let some : length (map g (range_with_len 0 first)) ≡ first = length-map-range_with_len g 0 first in
     let at : 0 + first ≡ first = omega arith in
     let parts : map g (range_with_len 0 n) ≡ map g (range_with_len 0 first) ++ map g (range_with_len first last) =
-        ap (λ (m : ℕ). map g (range_with_len 0 m)) (sym all) ∙ ap (map g) (range_more 0 first last)
-        ∙ map-append g (range_with_len 0 first) (range_with_len (0 + first) last)
-        ∙ ap (λ (m : ℕ). map g (range_with_len 0 first) ++ map g (range_with_len m last)) at in
+    ap (λ (m : ℕ). map g (range_with_len 0 m)) (sym all) ∙ ap (map g) (range_more 0 first last)
+    ∙ map-append g (range_with_len 0 first) (range_with_len (0 + first) last)
+    ∙ ap (λ (m : ℕ). map g (range_with_len 0 first) ++ map g (range_with_len m last)) at in
     ap (λ (m : ℕ). drop m (map g (range_with_len 0 n))) gone ∙ ap (λ (m : ℕ). drop m (map g (range_with_len 0 n))) (sym some)
     ∙ ap (λ (xs : List FrameMark). drop (length (map g (range_with_len 0 first))) xs) parts
     ∙ drop-append_seam (map g (range_with_len 0 first)) (map g (range_with_len first last))

@@ -29,11 +29,11 @@ least_of_both question all one n least found true test before now =
       omega (arith, inside),
       before.2,
       λ frame other below fault. ⊎_elim
-      (λ less. before.3 frame other less fault)
-      (λ here.
-      let after = now.3 frame (subst (λ (x : ℕ). IsFault question all frame one x) here fault) in
-      ⊎_elim (λ less. inl less) (λ same. inr (same, omega (arith, inside, here))) (up_to least.frame frame (omega (arith, order, after))))
-      (below_next other n below),
+          (λ less. before.3 frame other less fault)
+          (λ here.
+          let after = now.3 frame (subst (λ (x : ℕ). IsFault question all frame one x) here fault) in
+          ⊎_elim (λ less. inl less) (λ same. inr (same, omega (arith, inside, here))) (up_to least.frame frame (omega (arith, order, after))))
+          (below_next other n below),
     )
 least_of_both question all one n least found false test before now =
     let order = leb-false least.frame found.frame test in
@@ -42,11 +42,11 @@ least_of_both question all one n least found false test before now =
       omega (arith, at),
       subst (λ (x : ℕ). IsFault question all found.frame one x) (sym at) now.2,
       λ frame other below fault. ⊎_elim
-      (λ less. inl (⊎_elim (λ earlier. omega (arith, earlier, order)) (λ same. let frames = same.0 in omega (arith, frames, order)) (before.3 frame other less fault)))
-      (λ here.
-      let after = now.3 frame (subst (λ (x : ℕ). IsFault question all frame one x) here fault) in
-      ⊎_elim (λ less. inl less) (λ same. inr (same, omega (arith, at, here))) (up_to found.frame frame after))
-      (below_next other n below),
+          (λ less. inl (⊎_elim (λ earlier. omega (arith, earlier, order)) (λ same. let frames = same.0 in omega (arith, frames, order)) (before.3 frame other less fault)))
+          (λ here.
+          let after = now.3 frame (subst (λ (x : ℕ). IsFault question all frame one x) here fault) in
+          ⊎_elim (λ less. inl less) (λ same. inr (same, omega (arith, at, here))) (up_to found.frame frame after))
+          (below_next other n below),
     )
 
 pub least_of_next : (question : Question) (all : AllSeen) (one n : ℕ) (least found : Option Fault) → IsLeastOf question all one n least → IsFirstOf question all one n found
@@ -59,11 +59,11 @@ least_of_next question all one n None (Some found) before now =
       omega (arith, at),
       subst (λ (x : ℕ). IsFault question all found.frame one x) (sym at) now.2,
       λ frame other below fault. ⊎_elim
-      (λ less. absurd (before frame other less fault))
-      (λ here.
-      let after = now.3 frame (subst (λ (x : ℕ). IsFault question all frame one x) here fault) in
-      ⊎_elim (λ less. inl less) (λ same. inr (same, omega (arith, at, here))) (up_to found.frame frame after))
-      (below_next other n below),
+          (λ less. absurd (before frame other less fault))
+          (λ here.
+          let after = now.3 frame (subst (λ (x : ℕ). IsFault question all frame one x) here fault) in
+          ⊎_elim (λ less. inl less) (λ same. inr (same, omega (arith, at, here))) (up_to found.frame frame after))
+          (below_next other n below),
     )
 least_of_next question all one n (Some least) None before now =
     let inside = before.1 in (
@@ -71,9 +71,9 @@ least_of_next question all one n (Some least) None before now =
       omega (arith, inside),
       before.2,
       λ frame other below fault. ⊎_elim
-      (λ less. before.3 frame other less fault)
-      (λ here. absurd (now frame (subst (λ (x : ℕ). IsFault question all frame one x) here fault)))
-      (below_next other n below),
+          (λ less. before.3 frame other less fault)
+          (λ here. absurd (now frame (subst (λ (x : ℕ). IsFault question all frame one x) here fault)))
+          (below_next other n below),
     )
 least_of_next question all one n (Some least) (Some found) before now = least_of_both question all one n least found (nat_le least.frame found.frame) refl before now
 
@@ -130,11 +130,11 @@ below_both question all n least found true five test before now =
       omega (arith, inside),
       before.1,
       λ frame one other below fault. ⊎_elim
-      (λ less. before.2 frame one other less fault)
-      (λ here.
-      let after = frames_up_to found.frame found.one.number found.other.number frame one other (own_up_to question all n found five now frame one other here fault) in
-      up_to_next least.frame least.one.number least.other.number frame one other (omega (arith, order, after)) (omega (arith, inside, here)))
-      (below_next one n below),
+          (λ less. before.2 frame one other less fault)
+          (λ here.
+          let after = frames_up_to found.frame found.one.number found.other.number frame one other (own_up_to question all n found five now frame one other here fault) in
+          up_to_next least.frame least.one.number least.other.number frame one other (omega (arith, order, after)) (omega (arith, inside, here)))
+          (below_next one n below),
     )
 below_both question all n least found false five test before now =
     let order = leb-false least.frame found.frame test in
@@ -142,9 +142,9 @@ below_both question all n least found false five test before now =
       omega (arith, at),
       found_is question all n found now,
       λ frame one other below fault. ⊎_elim
-      (λ less. inl (let after = frames_up_to least.frame least.one.number least.other.number frame one other (before.2 frame one other less fault) in omega (arith, order, after)))
-      (λ here. own_up_to question all n found five now frame one other here fault)
-      (below_next one n below),
+          (λ less. inl (let after = frames_up_to least.frame least.one.number least.other.number frame one other (before.2 frame one other less fault) in omega (arith, order, after)))
+          (λ here. own_up_to question all n found five now frame one other here fault)
+          (below_next one n below),
     )
 
 pub below_more : (question : Question) (all : AllSeen) (n : ℕ) (least found : Option Fault) → AreBelowFive question all → IsLeastBelow question all n least → IsLeastOf question all n 5 found
@@ -159,18 +159,18 @@ below_more question all n None (Some found) five before now =
       omega (arith, at),
       found_is question all n found now,
       λ frame one other below fault. ⊎_elim
-      (λ less. absurd (before frame one other less fault))
-      (λ here. own_up_to question all n found five now frame one other here fault)
-      (below_next one n below),
+          (λ less. absurd (before frame one other less fault))
+          (λ here. own_up_to question all n found five now frame one other here fault)
+          (below_next one n below),
     )
 below_more question all n (Some least) None five before now =
     let inside = before.0 in (
       omega (arith, inside),
       before.1,
       λ frame one other below fault. ⊎_elim
-      (λ less. before.2 frame one other less fault)
-      (λ here. absurd (now frame other (five.other frame one other fault) (subst (λ (x : ℕ). IsFault question all frame x other) here fault)))
-      (below_next one n below),
+          (λ less. before.2 frame one other less fault)
+          (λ here. absurd (now frame other (five.other frame one other fault) (subst (λ (x : ℕ). IsFault question all frame x other) here fault)))
+          (below_next one n below),
     )
 below_more question all n (Some least) (Some found) five before now = below_both question all n least found (nat_le least.frame found.frame) five refl before now
 

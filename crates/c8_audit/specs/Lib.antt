@@ -6,3 +6,4 @@ pub mod Search
 pub mod Frames
 pub mod Marked
 pub mod Counts
+pub mod checked

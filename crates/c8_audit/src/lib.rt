@@ -7,10 +7,12 @@
 #![tactic(auto)]
 
 mod agreed;
+mod below;
 mod count;
 mod entered;
 mod fault;
 mod journal;
+pub mod laws;
 mod search;
 mod truth;
 mod verdict;

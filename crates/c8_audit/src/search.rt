@@ -34,7 +34,10 @@ fn least_of(question: Question, journals: &[Option<Journal>], one: Player) -> Op
 {
     let mut least = None;
     for number in 1..PLAYERS_END {
-        least = earlier(least, first_fault(question, journals, one, Player { number }));
+        least = earlier(
+            least,
+            first_fault(question, journals, one, Player { number }),
+        );
     }
     least
 }

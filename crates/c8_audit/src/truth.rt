@@ -13,7 +13,9 @@ ghost use Rattle.c8_audit.specs.Verdicts.{AreTrue, IsFirstUntrue};
 
 use crate::journal::{Journal, journal_of};
 use crate::search::PLAYERS_END;
-use c8_digest::{Checkpoint, MARK_LENGTH, MARK_STEP, MARKS_LENGTH, STATE_LENGTH, mark, state_bytes};
+use c8_digest::{
+    Checkpoint, MARK_LENGTH, MARK_STEP, MARKS_LENGTH, STATE_LENGTH, mark, state_bytes,
+};
 use c8_game::{Game, Player};
 use c8_known::Known;
 use c8_machine::Machine;

@@ -17,8 +17,8 @@ returns-then-not-has_mark c =
     let frame = c.loop-frame.frame in (
       λ never. absurd cc,
       λ way.
-      let has : HasMark last.frames last.marks frame (mark_of (serial c.args.game.now (rows_below k frame))) = marks_then c.args.game.now k last.frames last.marks (frame + 1) way.marks frame (omega arith) in
-      c.if-not-has_mark.ensures.1 (subst (λ (s : State). HasMark last.frames last.marks frame (mark_of s)) (sym c.loop-frame.invariant.run) has),
+          let has : HasMark last.frames last.marks frame (mark_of (serial c.args.game.now (rows_below k frame))) = marks_then c.args.game.now k last.frames last.marks (frame + 1) way.marks frame (omega arith) in
+          c.if-not-has_mark.ensures.1 (subst (λ (s : State). HasMark last.frames last.marks frame (mark_of s)) (sym c.loop-frame.invariant.run) has),
     )
 
 pub loop-frame-preserved : goal.loop-frame-preserved
@@ -58,6 +58,6 @@ returns-else-has_mark c =
     let run : state c.loop-frame.machine ≡ serial rules (rows_below k last.frames) = rw end at c.loop-frame.invariant.run in (
       λ has. absurd cc,
       λ way.
-      let has : HasMark last.frames last.marks last.frames (mark_of (serial rules (rows_below k last.frames))) = marks_then rules k last.frames last.marks (last.frames + 1) way.marks last.frames (omega arith) in
-      c.has_mark-2.ensures.1 (subst (λ (s : State). HasMark last.frames last.marks last.frames (mark_of s)) (sym run) has),
+          let has : HasMark last.frames last.marks last.frames (mark_of (serial rules (rows_below k last.frames))) = marks_then rules k last.frames last.marks (last.frames + 1) way.marks last.frames (omega arith) in
+          c.has_mark-2.ensures.1 (subst (λ (s : State). HasMark last.frames last.marks last.frames (mark_of s)) (sym run) has),
     )
