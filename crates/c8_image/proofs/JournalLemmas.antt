@@ -15,7 +15,7 @@ use Rattle.c8_record.specs.declared.error.ReplayError.TheVariants.{WrongGame, Wr
 use Rattle.c8_record.specs.declared.record.Record.{Record as Lent}
 use Rattle.c8_record.specs.declared.record.Record.TheVariants as lents
 use Rattle.c8_game.specs.declared.row.Player.{Player}
-use Rattle.c8_replay.specs.Journal.{HasNoHead}
+use Rattle.c8_image.specs.Journal.{HasNoHead}
 
 some_same : {X : Type 0} (x y : X) → Some x ≡ Some y → x ≡ y
 some_same x y same = cc

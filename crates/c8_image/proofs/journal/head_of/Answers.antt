@@ -1,8 +1,8 @@
 use Rattle.std.proofs.Common.{inl, refl}
 use Rattle.c8_log.specs.Slots.{kept}
 use Rattle.c8_record.specs.Lent.{value_of}
-use Rattle.c8_replay.proofs.JournalLemmas.{not_head, other_kind}
-use Rattle.c8_replay.proofs.journal.head_of.Goals as goal
+use Rattle.c8_image.proofs.JournalLemmas.{not_head, other_kind}
+use Rattle.c8_image.proofs.journal.head_of.Goals as goal
 
 pub returns-in_default-record : goal.returns-in_default-record
 returns-in_default-record c =

@@ -1,6 +1,6 @@
 use Rattle.std.proofs.Common.{◌≡◌, ◌<◌, ℕ, List, length, take, Option, None, Some, IfSome, option_map, ap, ◌∙◌, arith}
 use Rattle.std.proofs.lemmas.List.{take_all, length-take}
-use Rattle.c8_replay.proofs.image.image_of.Goals as goal
+use Rattle.c8_image.proofs.image.image_of.Goals as goal
 
 -- a read that got less than it asked for got everything
 all_taken : (known : Option (List ℕ)) (n : ℕ) (items : List ℕ) → IfSome (option_map (take n) known) (λ xs. items ≡ xs) → length items < n → IfSome known (λ bytes. items ≡ bytes)

@@ -1,11 +1,12 @@
 -- Whose journal some bodies are, and why they are refused.
 use Rattle.std.specs.Prelude.{◌≡◌, ◌≢◌, ◌⊎◌, ℕ, List, Option, Some, None}
 use Rattle.c8_game.specs.Rules.{Rules, id_of}
+use Rattle.c8_check.specs.Checks.{ChecksValue, checks_of}
 use Rattle.c8_known.specs.Known.{KnownValue, known_of}
 use Rattle.c8_record.specs.Body.{records_of}
 use Rattle.c8_record.specs.Replay.{AreJournalBodies, BeginsWithHead, IsFirstBad}
-use Rattle.c8_replay.specs.declared.error.JournalError.{JournalError}
-use Rattle.c8_replay.specs.declared.error.JournalError.TheVariants.{WrongGame, BadRecord, Memory}
+use Rattle.c8_image.specs.declared.error.JournalError.{JournalError}
+use Rattle.c8_image.specs.declared.error.JournalError.TheVariants.{WrongGame, BadRecord, Memory}
 
 -- no room is asked for, or this one
 abbrev pub IsAsked : Option ℕ → ℕ → Type 0
@@ -26,6 +27,14 @@ pub record IsJournalOf (rules : Rules) (asked : Option ℕ) (bodies : List (List
   pub asked_is : IsAsked asked room
   pub journal : AreJournalBodies rules me room bodies
   pub known_is : known ≡ known_of rules me (records_of bodies)
+
+-- The same, with the room that the HEAD names and what the journal says of checkpoints.
+pub record IsKept (rules : Rules) (asked : Option ℕ) (bodies : List (List ℕ)) (room : ℕ) (known : KnownValue) (checks : ChecksValue) : Type 0 where
+  pub head : BeginsWithHead bodies known.me (id_of rules) room
+  pub asked_is : IsAsked asked room
+  pub journal : AreJournalBodies rules known.me room bodies
+  pub known_is : known ≡ known_of rules known.me (records_of bodies)
+  pub checks_is : checks ≡ checks_of (records_of bodies)
 
 -- there is no first body, or it spells no HEAD
 abbrev pub HasNoHead : List (List ℕ) → Type 0

@@ -5,7 +5,8 @@ ghost use Rattle.c8_game.specs.Rules.{id_of};
 ghost use Rattle.c8_known.specs.Known.{IsOfGame};
 ghost use Rattle.c8_log.specs.Slots.{kept};
 ghost use Rattle.c8_record.specs.Replay.{BeginsWithHead};
-ghost use Rattle.c8_replay.specs.Journal.{IsAsked, IsAnother, IsJournalOf, IsRefusalOfJournal};
+ghost use Rattle.c8_check.specs.Seen.{value_of};
+ghost use Rattle.c8_image.specs.Journal.{IsAsked, IsAnother, IsKept, IsJournalOf, IsRefusalOfJournal};
 
 use crate::error::{JournalError, Unfit};
 use c8_check::Checks;
@@ -22,10 +23,20 @@ struct Head {
     room: u64,
 }
 
+/// A journal that an image keeps.
+#[derive(Drop)]
+pub struct KeptJournal {
+    /// The room that its HEAD names.
+    pub room: u64,
+    /// What it makes known; its player is the one that the HEAD names.
+    pub known: Known,
+    /// What it says of checkpoints.
+    pub checks: Checks,
+}
+
 /// What is known by the journal that the bytes of an image keep: that of a player of the game, in the room that is asked
-/// for, if one is. A checkpoint in it changes nothing. The errors are checked in this order: no HEAD, `WrongGame`, the
-/// HEAD of an absent player, `Memory`, the first record that may not stand there.
-pub(crate) fn known_in(
+/// for, if one is. A checkpoint in it changes nothing. The errors are those of [`journal_in`].
+pub fn known_in(
     alloc: Global,
     game: &Game,
     room: Option<u64>,
@@ -35,6 +46,29 @@ pub(crate) fn known_in(
         (IsRefusalOfJournal game.now room (kept image.now)) }
     ensures of_game { IfOk result (λ known. IsOfGame game.now known.me known) }
 {
+    let KeptJournal {
+        room: _,
+        known,
+        checks: _,
+    } = journal_in(alloc, game, room, image)?;
+    Ok(known)
+}
+
+/// The journal that the bytes of an image keep: that of a player of the game, in the room that is asked for, if one is. The
+/// errors are checked in this order: no HEAD, `WrongGame`, the HEAD of an absent player, `Memory`, the first record that may
+/// not stand there.
+pub fn journal_in(
+    alloc: Global,
+    game: &Game,
+    room: Option<u64>,
+    image: &[u8],
+) -> Result<KeptJournal, JournalError>
+    ensures journal { MatchResult result
+        (λ journal. IsKept game.now room (kept image.now) journal.room journal.known
+        (value_of journal.checks))
+        (IsRefusalOfJournal game.now room (kept image.now)) }
+    ensures of_game { IfOk result (λ journal. IsOfGame game.now journal.known.me journal.known) }
+{
     let head = head_of(game, room, image)?;
     if head.player.number > game.players() {
         return Err(JournalError::BadRecord(0, Unfit::Absent));
@@ -42,8 +76,13 @@ pub(crate) fn known_in(
     let Ok(mut known) = Known::new(alloc, game, head.player) else {
         return Err(JournalError::Memory);
     };
-    match replay_bytes(image, game, head.room, &mut known, &mut Checks::new()) {
-        Ok(_) => Ok(known),
+    let mut checks = Checks::new();
+    match replay_bytes(image, game, head.room, &mut known, &mut checks) {
+        Ok(_) => Ok(KeptJournal {
+            room: head.room,
+            known,
+            checks,
+        }),
         Err(ReplayError::BadRecord(n)) => Err(JournalError::BadRecord(n, why_unfit(image, n))),
         Err(ReplayError::WrongGame) => unreachable!(),
         Err(ReplayError::WrongPlayer) => unreachable!(),

@@ -12,7 +12,7 @@ use std::rt::Files;
 pub const LONGEST_IMAGE: u64 = 1_073_741_824;
 
 /// Reads the bytes of a journal's file. It does not lock the file, so a peer may be writing to it.
-pub(crate) fn read_image<R: Files + AllocGlobal>(rt: &R, path: &str) -> Result<Vec<u8>, TextError> {
+pub fn read_image<R: Files + AllocGlobal>(rt: &R, path: &str) -> Result<Vec<u8>, TextError> {
     let Ok(file) = fs::open(rt, path) else {
         return Err(TextError::Failed);
     };
