@@ -12,3 +12,4 @@ pub mod FateLemmas
 pub mod HonestLemmas
 pub mod AccusedLemmas
 pub mod YesLemmas
+pub mod ReadingLemmas

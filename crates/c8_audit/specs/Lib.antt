@@ -6,4 +6,5 @@ pub mod Search
 pub mod Frames
 pub mod Marked
 pub mod Counts
+pub mod Images
 pub mod checked

@@ -1,0 +1,82 @@
+//! One player's journal, out of two readings of its file.
+
+ghost use Rattle.std.specs.Prelude.{◌≡◌, ◌↔◌, ℕ, true, IfOk};
+ghost use Rattle.c8_known.specs.Growth.{Begins};
+ghost use Rattle.c8_log.specs.Slots.{kept};
+ghost use Rattle.c8_audit.specs.Images.{IsReadTwice, names_player, readings_of};
+ghost use Rattle.c8_audit.specs.Journals.{seen_of};
+ghost use Rattle.c8_audit.specs.Read.{seen};
+
+use crate::error::Unread;
+use crate::journal::Journal;
+use c8_game::Game;
+use c8_image::{KeptJournal, journal_in};
+use c8_log::{BODY_LENGTH, kept_body, kept_len};
+use std::alloc::Global;
+
+/// A journal, and the room that its HEAD names.
+#[derive(Drop)]
+pub(crate) struct Reading {
+    pub(crate) room: u64,
+    pub(crate) journal: Journal,
+}
+
+/// Reads the journal that the bytes of a file keep, by a first and by a second reading of it. The errors are checked in this
+/// order: what refuses the first reading, what refuses the second one, `Changed`.
+pub(crate) fn read_twice(
+    alloc: Global,
+    game: &Game,
+    first: &[u8],
+    later: &[u8],
+) -> Result<Reading, Unread>
+    ensures read { IfOk result (λ reading. IsReadTwice game.now reading.room
+        reading.journal.first.me (readings_of first.now later.now)) }
+    ensures seen { IfOk result (λ reading. seen reading.journal
+        ≡ seen_of game.now reading.journal.first.me (readings_of first.now later.now)) }
+    ensures named { IfOk result (λ reading. names_player reading.journal.first.me
+        (readings_of first.now later.now).first ≡ true) }
+{
+    let KeptJournal {
+        room,
+        known,
+        checks,
+    } = journal_in(alloc, game, None, first)?;
+    let again = journal_in(alloc, game, Some(room), later)?;
+    if again.known.me() != known.me() || !goes_on(first, later) {
+        return Err(Unread::Changed);
+    }
+    let KeptJournal {
+        room: _,
+        known: later,
+        checks: _,
+    } = again;
+    let journal = Journal {
+        first: known,
+        checks,
+        later,
+    };
+    Ok(Reading { room, journal })
+}
+
+/// Whether an image keeps what another one keeps, and maybe more after it.
+fn goes_on(first: &[u8], later: &[u8]) -> bool
+    ensures { (result ≡ true) ↔ Begins (kept first.now) (kept later.now) }
+{
+    let count = kept_len(first);
+    if kept_len(later) < count {
+        return false;
+    }
+    for n in 0..count {
+        if !is_same(kept_body(first, n), kept_body(later, n)) {
+            return false;
+        }
+    }
+    true
+}
+
+/// Whether two bodies are equal.
+fn is_same(one: &[u8; BODY_LENGTH], other: &[u8; BODY_LENGTH]) -> bool
+    ensures { (result ≡ true) ↔ (one.now ≡ other.now) }
+{
+    one == other
+}
