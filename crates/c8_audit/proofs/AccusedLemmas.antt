@@ -116,7 +116,7 @@ pub record IsOfReading (rules : Rules) (e : Evidence) (p : ℕ) (s : Seen) : Typ
   pub is : e p ≡ Some readings
   pub seen : s ≡ seen_of rules p readings
 
-of_reading_at : (rules : Rules) (e : Evidence) (p : ℕ) (s : Seen) (o : Option Readings) → e p ≡ o → option_map (seen_of rules p) o ≡ Some s → IsOfReading rules e p s
+pub of_reading_at : (rules : Rules) (e : Evidence) (p : ℕ) (s : Seen) (o : Option Readings) → e p ≡ o → option_map (seen_of rules p) o ≡ Some s → IsOfReading rules e p s
 of_reading_at rules e p s None is same = absurd cc
 of_reading_at rules e p s (Some r) is same = record { readings = r; is = is; seen = some_same s (seen_of rules p r) (sym same) }
 

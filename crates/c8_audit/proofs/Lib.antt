@@ -13,3 +13,4 @@ pub mod HonestLemmas
 pub mod AccusedLemmas
 pub mod YesLemmas
 pub mod ReadingLemmas
+pub mod FileLemmas

@@ -5,11 +5,17 @@ use Rattle.std.proofs.lemmas.List.{map-append}
 use Rattle.std.proofs.lemmas.Option.{slice_get_within}
 use Rattle.c8_game.specs.Rules.{Rules, id_of}
 use Rattle.c8_known.specs.Growth.{Begins}
+use Rattle.c8_known.specs.checked.BeginsLaws.{begins_get}
 use Rattle.c8_known.specs.Journal.{Record, Head, player_of}
 use Rattle.c8_record.specs.Body.{record_of, records_of}
 use Rattle.c8_record.specs.Replay.{BeginsWithHead}
 use Rattle.c8_record.specs.checked.BodyLaws.{reads_back}
-use Rattle.c8_audit.specs.Images.{names_player}
+use Rattle.c8_check.specs.Checks.{ChecksValue}
+use Rattle.c8_known.specs.Known.{KnownValue, known_of, IsKnown, IsOfGame}
+use Rattle.c8_record.specs.Allowed.{IsJournal}
+use Rattle.c8_image.specs.Journal.{IsKept}
+use Rattle.c8_audit.specs.Images.{names_player, IsReadTwice}
+use Rattle.c8_audit.specs.Journals.{Seen, seen_of}
 
 pub some_same : {X : Type 0} (x y : X) → Some x ≡ Some y → x ≡ y
 some_same x y same = cc
@@ -35,3 +41,35 @@ head_names (body ∷ rest) player id room head =
     let same : body ≡ head.0 = some_same body head.0 head.2 in
     let record_is : record_of head.0 ≡ Head player head.1 id room = reads_back head.0 (Head player head.1 id room) head.3 in
     eq-eqb (player_of (record_of body)) player (ap (λ (b : List ℕ). player_of (record_of b)) same ∙ ap player_of record_is)
+
+-- what goes on from a journal is of the same player
+pub same_owner : (first later : List (List ℕ)) (p q : ℕ) (id other : List ℕ) (room there : ℕ) → Begins first later → BeginsWithHead first p id room → BeginsWithHead later q other there → q ≡ p
+same_owner first later p q id other room there begins one two =
+    let at = begins_get first later 0 one.0 begins one.2 in
+    let same : two.0 ≡ one.0 = some_same two.0 one.0 (sym two.2 ∙ at) in
+    sym (ap player_of (reads_back two.0 (Head q two.1 other there) two.3)) ∙ ap (λ (b : List ℕ). player_of (record_of b)) same ∙ ap player_of (reads_back one.0 (Head p one.1 id room) one.3)
+
+-- ---- two readings
+
+-- both are journals of the player whom the first one's HEAD names
+pub read_is : (rules : Rules) (first later : List (List ℕ)) (room there : ℕ) (one two : KnownValue) (checks others : ChecksValue) → IsKept rules None first room one checks → IsKept rules (Some room) later there two others
+    → IsKnown one → IsOfGame rules one.me one → Begins first later → IsReadTwice rules room one.me (record { first = records_of first; later = records_of later })
+read_is rules first later room there one two checks others is again known of begins =
+    let me = known.me in
+    let in_game = me.in_game in
+    let players = of.players in
+    let mine : two.me ≡ one.me = same_owner first later one.me two.me (id_of rules) (id_of rules) room there begins is.head again.head in
+    record {
+      from_one = me.from_one;
+      in_game = omega (arith, in_game, players);
+      first_is = is.journal.journal;
+      later_is = subst (λ (p : ℕ). IsJournal rules p room (records_of later)) mine (subst (λ (r : ℕ). IsJournal rules two.me r (records_of later)) (sym again.asked_is) again.journal.journal);
+      continues = records_begin first later begins;
+    }
+
+pub seen_is : (rules : Rules) (first later : List (List ℕ)) (room there : ℕ) (one two : KnownValue) (checks others : ChecksValue) → IsKept rules None first room one checks → IsKept rules (Some room) later there two others
+    → Begins first later → (let s : Seen = record { first = one; later = two; last = checks.last } in s) ≡ seen_of rules one.me (record { first = records_of first; later = records_of later })
+seen_is rules first later room there one two checks others is again begins =
+    let mine : two.me ≡ one.me = same_owner first later one.me two.me (id_of rules) (id_of rules) room there begins is.head again.head in
+    let late : two ≡ known_of rules one.me (records_of later) = again.known_is ∙ ap (λ (p : ℕ). known_of rules p (records_of later)) mine in
+    λ i. record { first = is.known_is i; later = late i; last = (is.checks_is i).last }

@@ -1,12 +1,15 @@
 -- The journals that files keep, by the bytes that two readings of each file gave.
-use Rattle.std.specs.Prelude.{◌≡◌, ℕ, ◌≤◌, ◌==◌, List, [], ◌∷◌, Bool, true, false, Option, Some, None, if◌then◌else◌}
+use Rattle.std.specs.Prelude.{◌≡◌, ◌⊎◌, ℕ, ◌≤◌, ◌==◌, List, [], ◌∷◌, Bool, true, false, Option, Some, None, if◌then◌else◌}
 use Rattle.c8_game.specs.Rules.{Rules}
 use Rattle.c8_known.specs.Growth.{Begins}
 use Rattle.c8_known.specs.Journal.{Record, player_of}
 use Rattle.c8_log.specs.Slots.{kept}
 use Rattle.c8_record.specs.Allowed.{IsJournal}
 use Rattle.c8_record.specs.Body.{records_of}
-use Rattle.c8_audit.specs.Journals.{Readings, Evidence, AllSeen, Seen, seen_of, seen_in, AreOfGame, Stays}
+use Rattle.c8_image.specs.Journal.{IsRefusalOfJournal}
+use Rattle.c8_audit.specs.Journals.{Readings, Evidence}
+use Rattle.c8_audit.specs.declared.error.Unread.{Unread}
+use Rattle.c8_audit.specs.declared.error.Unread.TheVariants.{Journal, Changed}
 
 -- the records that two readings of a file keep
 abbrev pub readings_of : List ℕ → List ℕ → Readings
@@ -42,3 +45,8 @@ pub record IsReadTwice (rules : Rules) (room p : ℕ) (r : Readings) : Type 0 wh
   pub first_is : IsJournal rules p room r.first
   pub later_is : IsJournal rules p room r.later
   pub continues : Begins r.first r.later
+
+-- why a file's journal is not read: a reading is refused, or the second one does not begin with the first
+abbrev pub IsUnread : Rules → List ℕ → List ℕ → Unread → Type 0
+IsUnread rules first later (Journal error) = IsRefusalOfJournal rules None (kept first) error ⊎ ((room : ℕ) × IsRefusalOfJournal rules (Some room) (kept later) error)
+IsUnread rules first later Changed = Begins (kept first) (kept later) → ⊥

@@ -7,4 +7,5 @@ pub mod Frames
 pub mod Marked
 pub mod Counts
 pub mod Images
+pub mod Gathered
 pub mod checked

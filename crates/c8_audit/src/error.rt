@@ -8,8 +8,18 @@ use thiserror::Error;
 pub enum Unread {
     /// A reading of it is refused.
     #[error("{0}")]
-    Journal(#[from] JournalError),
+    Journal(JournalError),
     /// The second reading does not begin with the first.
     #[error("a journal that lost records while it was read")]
     Changed,
+}
+
+/// Why the journals of a match are not judged.
+#[derive(Clone, Copy, Debug, PartialEq, Eq, Error)]
+pub enum GatherError {
+    /// The journal of the file of this number, counted from 0, is not read.
+    #[error("{1}")]
+    File(usize, Unread),
+    #[error("two journals of one player, none of player 1, or two rooms")]
+    Journals,
 }

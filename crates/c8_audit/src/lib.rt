@@ -12,6 +12,8 @@ mod count;
 mod entered;
 mod error;
 mod fault;
+mod files;
+
 mod journal;
 pub mod laws;
 mod reading;
@@ -22,7 +24,8 @@ mod verdict;
 pub use agreed::is_dropped;
 pub use count::{digest_after, least_count};
 pub use entered::cut_of;
-pub use error::Unread;
+pub use error::{GatherError, Unread};
 pub use fault::{Fault, Question};
+pub use files::{Gathered, gather};
 pub use journal::{Journal, journal_of};
 pub use verdict::{Verdicts, judge};

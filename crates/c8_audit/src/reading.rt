@@ -1,9 +1,9 @@
 //! One player's journal, out of two readings of its file.
 
-ghost use Rattle.std.specs.Prelude.{◌≡◌, ◌↔◌, ℕ, true, IfOk};
+ghost use Rattle.std.specs.Prelude.{◌≡◌, ◌↔◌, true, IfOk, IfErr};
 ghost use Rattle.c8_known.specs.Growth.{Begins};
 ghost use Rattle.c8_log.specs.Slots.{kept};
-ghost use Rattle.c8_audit.specs.Images.{IsReadTwice, names_player, readings_of};
+ghost use Rattle.c8_audit.specs.Images.{IsReadTwice, names_player, readings_of, IsUnread};
 ghost use Rattle.c8_audit.specs.Journals.{seen_of};
 ghost use Rattle.c8_audit.specs.Read.{seen};
 
@@ -35,27 +35,47 @@ pub(crate) fn read_twice(
         ≡ seen_of game.now reading.journal.first.me (readings_of first.now later.now)) }
     ensures named { IfOk result (λ reading. names_player reading.journal.first.me
         (readings_of first.now later.now).first ≡ true) }
+    ensures unread { IfErr result (λ error. IsUnread game.now first.now later.now error) }
+{
+    let one = match journal_in(alloc, game, None, first) {
+        Ok(one) => one,
+        Err(error) => return Err(Unread::Journal(error)),
+    };
+    let two = match journal_in(alloc, game, Some(one.room), later) {
+        Ok(two) => two,
+        Err(error) => return Err(Unread::Journal(error)),
+    };
+    if !goes_on(first, later) {
+        return Err(Unread::Changed);
+    }
+    // For the proof: what is known is sound.
+    let _me = one.known.me();
+    Ok(joined(one, two))
+}
+
+/// What two readings of a journal make known.
+fn joined(one: KeptJournal, two: KeptJournal) -> Reading
+    ensures room { result.room ≡ one.room }
+    ensures first { result.journal.first ≡ one.known }
+    ensures checks { result.journal.checks ≡ one.checks }
+    ensures later { result.journal.later ≡ two.known }
 {
     let KeptJournal {
         room,
-        known,
+        known: first,
         checks,
-    } = journal_in(alloc, game, None, first)?;
-    let again = journal_in(alloc, game, Some(room), later)?;
-    if again.known.me() != known.me() || !goes_on(first, later) {
-        return Err(Unread::Changed);
-    }
+    } = one;
     let KeptJournal {
         room: _,
         known: later,
         checks: _,
-    } = again;
+    } = two;
     let journal = Journal {
-        first: known,
+        first,
         checks,
         later,
     };
-    Ok(Reading { room, journal })
+    Reading { room, journal }
 }
 
 /// Whether an image keeps what another one keeps, and maybe more after it.
