@@ -148,16 +148,16 @@ pub one_in : (rules : Rules) (e : Evidence) (first later : List ℕ) (before aft
     → ((p : ℕ) → 1 ≤ p → all_seen after p ≡ with_journal (all_seen before) j p) → IsGathered rules (with_file e first later) after
 one_in rules e first later before after j room is read same names put = record {
   seen_is = λ p from.
-    put p from ∙ ap (λ (o : Option Seen). seen_or o (j.first.me == p) (seen j)) (is.seen_is p from)
-    ∙ seen_one rules p (e p) (j.first.me == p) (readings_of first later) (seen j) (λ test. same ∙ ap (λ (q : ℕ). seen_of rules q (readings_of first later)) (eqb-true j.first.me p test))
-    ∙ ap (λ (o : Option Readings). option_map (seen_of rules p) (or_else (e p) o)) (sym (only_is (records_of (kept first)) j.first.me p (readings_of first later) names));
+      put p from ∙ ap (λ (o : Option Seen). seen_or o (j.first.me == p) (seen j)) (is.seen_is p from)
+      ∙ seen_one rules p (e p) (j.first.me == p) (readings_of first later) (seen j) (λ test. same ∙ ap (λ (q : ℕ). seen_of rules q (readings_of first later)) (eqb-true j.first.me p test))
+      ∙ ap (λ (o : Option Readings). option_map (seen_of rules p) (or_else (e p) o)) (sym (only_is (records_of (kept first)) j.first.me p (readings_of first later) names));
   read = λ p r from at. ⊎_elim
-    (λ old. is.read p r from old)
-    (λ new.
-    let here : j.first.me ≡ p = eqb-true j.first.me p new.0 in
-    (room, subst (λ (x : Readings). IsReadTwice rules room p x) new.1 (subst (λ (q : ℕ). IsReadTwice rules room q (readings_of first later)) here read)))
-    (read_or (e p) (j.first.me == p) (readings_of first later) r
-    (ap (or_else (e p)) (sym (only_is (records_of (kept first)) j.first.me p (readings_of first later) names)) ∙ at));
+      (λ old. is.read p r from old)
+      (λ new.
+      let here : j.first.me ≡ p = eqb-true j.first.me p new.0 in
+      (room, subst (λ (x : Readings). IsReadTwice rules room p x) new.1 (subst (λ (q : ℕ). IsReadTwice rules room q (readings_of first later)) here read)))
+      (read_or (e p) (j.first.me == p) (readings_of first later) r
+      (ap (or_else (e p)) (sym (only_is (records_of (kept first)) j.first.me p (readings_of first later) names)) ∙ at));
 }
 
 -- ---- all files
@@ -180,9 +180,12 @@ gathered_all rules e journals four is s first =
         first = λ p t given. subst (λ (x : Seen). IsOfGame rules p x.first) (sym (of p t given).seen) (of_game rules p (of p t given).readings.first);
         later = λ p t given. subst (λ (x : Seen). IsOfGame rules p x.later) (sym (of p t given).seen) (of_game rules p (of p t given).readings.later);
       };
-      one = (s, record {
-        given = one;
-        undropped = ap (λ (o : Option Seen). dropped_by o 1) first ∙ ap (λ (x : Seen). (player_in x.later 1).leaving) (of 1 s one).seen
-            ∙ orderly_one rules (read 1 s one).0 (of 1 s one).readings.later (read 1 s one).1.later_is;
-      });
+      one = (
+        s,
+        record {
+          given = one;
+          undropped = ap (λ (o : Option Seen). dropped_by o 1) first ∙ ap (λ (x : Seen). (player_in x.later 1).leaving) (of 1 s one).seen
+              ∙ orderly_one rules (read 1 s one).0 (of 1 s one).readings.later (read 1 s one).1.later_is;
+        },
+      );
     }

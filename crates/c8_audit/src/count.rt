@@ -13,7 +13,7 @@ ghost use Rattle.c8_audit.specs.Counts.{lesser_of};
 ghost use Rattle.c8_audit.specs.Verdicts.{IsLeastCount};
 
 use crate::agreed::stayer;
-use crate::journal::Journal;
+use crate::journal::{Journal, journal_of};
 use crate::search::PLAYERS_END;
 use c8_digest::{STATE_LENGTH, state_bytes};
 use c8_game::{Game, Player};
@@ -51,14 +51,18 @@ fn lesser(least: Option<u32>, journal: Option<&Journal>) -> Option<u32>
     }
 }
 
-/// SHA-256 (FIPS 180-4) over the bytes of the machine's state after so many confirmed frames.
-pub fn digest_after(game: &Game, known: &Known, frames: u32) -> [u8; 32]
-    requires { frames ≤ confirmed known.now }
-    ensures { result
-        ≡ sha256 (state_bytes (serial game.now (rows_below known.now frames))) }
+/// SHA-256 (FIPS 180-4) over the bytes of the machine's state after so many frames that player 1 confirms.
+pub fn digest_of(game: &Game, journals: &[Option<Journal>], frames: u32) -> [u8; 32]
+    requires one { (one : Seen) × Stays (all_seen journals.now) 1 one }
+    requires count { IsLeastCount (all_seen journals.now) frames }
+    ensures { (one : Seen) → Stays (all_seen journals.now) 1 one
+        → result ≡ sha256 (state_bytes (serial game.now (rows_below one.first frames))) }
 {
+    let Some(one) = journal_of(journals, Player::CHAIR) else {
+        unreachable!();
+    };
     let mut bytes = [0; STATE_LENGTH];
-    state_bytes(&machine_after(game, known, frames), &mut bytes);
+    state_bytes(&machine_after(game, &one.first, frames), &mut bytes);
     Sha256::digest(bytes.as_slice())
 }
 

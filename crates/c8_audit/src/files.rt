@@ -70,13 +70,7 @@ fn is_given(journals: &[Option<Journal>], player: Player) -> bool
 
 impl Gathered {
     /// Reads the journal of one more file.
-    fn add(
-        &mut self,
-        alloc: Global,
-        game: &Game,
-        first: &[u8],
-        later: &[u8],
-    ) -> Result<(), Unread>
+    fn add(&mut self, alloc: Global, game: &Game, first: &[u8], later: &[u8]) -> Result<(), Unread>
         ensures unread { IfErr result (λ why. IsUnread game.now first.now later.now why) }
         ensures gathered { OnOk result ((e : Evidence) → IsGathered game.now e self.old.journals
             → IsGathered game.now (with_file e first.now later.now) self.new.journals) }

@@ -3,6 +3,7 @@
 ghost use Rattle.std.specs.Prelude.{◌≡◌, option_map};
 ghost use Rattle.c8_audit.specs.Read.{seen, all_seen};
 
+use crate::tallies::Tally;
 use c8_check::Checks;
 use c8_game::Player;
 use c8_known::Known;
@@ -16,6 +17,8 @@ pub struct Journal {
     pub checks: Checks,
     /// What the second reading makes known.
     pub later: Known,
+    /// How many records the first reading keeps.
+    pub tally: Tally,
 }
 
 /// The journal of a player, if it is given. Player 1's is at place 0.

@@ -13,19 +13,21 @@ mod entered;
 mod error;
 mod fault;
 mod files;
-
 mod journal;
 pub mod laws;
 mod reading;
 mod search;
+mod tallies;
 mod truth;
 mod verdict;
 
 pub use agreed::is_dropped;
-pub use count::{digest_after, least_count};
+pub use count::{digest_of, least_count};
 pub use entered::cut_of;
 pub use error::{GatherError, Unread};
 pub use fault::{Fault, Question};
 pub use files::{Gathered, gather};
 pub use journal::{Journal, journal_of};
+pub use search::PLAYERS_END;
+pub use tallies::{Tally, tally_of};
 pub use verdict::{Verdicts, judge};

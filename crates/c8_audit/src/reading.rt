@@ -9,6 +9,7 @@ ghost use Rattle.c8_audit.specs.Read.{seen};
 
 use crate::error::Unread;
 use crate::journal::Journal;
+use crate::tallies::{Tally, tally_of};
 use c8_game::Game;
 use c8_image::{KeptJournal, journal_in};
 use c8_log::{BODY_LENGTH, kept_body, kept_len};
@@ -50,15 +51,16 @@ pub(crate) fn read_twice(
     }
     // For the proof: what is known is sound.
     let _me = one.known.me();
-    Ok(joined(one, two))
+    Ok(joined(one, two, tally_of(first)))
 }
 
 /// What two readings of a journal make known.
-fn joined(one: KeptJournal, two: KeptJournal) -> Reading
+fn joined(one: KeptJournal, two: KeptJournal, tally: Tally) -> Reading
     ensures room { result.room ≡ one.room }
     ensures first { result.journal.first ≡ one.known }
     ensures checks { result.journal.checks ≡ one.checks }
     ensures later { result.journal.later ≡ two.known }
+    ensures tally { result.journal.tally ≡ tally }
 {
     let KeptJournal {
         room,
@@ -74,6 +76,7 @@ fn joined(one: KeptJournal, two: KeptJournal) -> Reading
         first,
         checks,
         later,
+        tally,
     };
     Reading { room, journal }
 }

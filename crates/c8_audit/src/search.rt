@@ -13,7 +13,7 @@ use crate::journal::Journal;
 use c8_game::Player;
 
 /// One more than the greatest number of a player.
-pub(crate) const PLAYERS_END: u8 = 5;
+pub const PLAYERS_END: u8 = 5;
 
 /// The least fault: that of the earliest frame, of these that of the least `one`, and of these that of the least `other`.
 pub(crate) fn least_fault(question: Question, journals: &[Option<Journal>]) -> Option<Fault>

@@ -10,8 +10,8 @@ returns-then-not-is_same c =
     let n = c.loop-n.n in (
       λ never. absurd cc,
       λ begins.
-      let at = begins_get (kept c.args.first.now) (kept c.args.later.now) n c.kept_body.result.now begins c.kept_body.ensures in
-      c.if-not-is_same.ensures.1 (some_same c.kept_body.result.now c.kept_body-in-loop-n.result.now (sym at ∙ c.kept_body-in-loop-n.ensures)),
+          let at = begins_get (kept c.args.first.now) (kept c.args.later.now) n c.kept_body.result.now begins c.kept_body.ensures in
+          c.if-not-is_same.ensures.1 (some_same c.kept_body.result.now c.kept_body-in-loop-n.result.now (sym at ∙ c.kept_body-in-loop-n.ensures)),
     )
 
 pub returns : goal.returns
