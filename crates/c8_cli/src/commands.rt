@@ -1,6 +1,7 @@
 //! The command line.
 
 use crate::help::{ENDING, SIM_ENDING};
+use c8_audit_command::{audit_command, audit_given};
 use c8_command::Status;
 use c8_front::{
     Terminals, is_explained, run_command, show_command, status_at, tell, with_explain, with_place,
@@ -81,6 +82,7 @@ fn command<'a>(alloc: Global) -> Result<Command<'a>, AllocError> {
     let command = command.subcommand(play_command(alloc)?)?;
     let command = command.subcommand(watch_command(alloc)?)?;
     let command = command.subcommand(replay_command(alloc)?)?;
+    let command = command.subcommand(audit_command(alloc)?)?;
     let command = command.subcommand(sim_command(alloc)?)?;
     let command = command.subcommand(rig_command(alloc)?)?;
     let command = command.subcommand(show_command(alloc)?)?;
@@ -119,6 +121,7 @@ where
         Some(("play", given)) => play_given(rt, given, out, refused),
         Some(("watch", given)) => watch_given(rt, given, terminals, out, refused),
         Some(("replay", given)) => replay_given(rt, given, out, refused),
+        Some(("audit", given)) => audit_given(rt, given, out, refused),
         Some(("sim", given)) => {
             let (game, script) = (word_of(given, "GAME"), word_of(given, "SCRIPT"));
             sim_files(rt, game, script, is_explained(given), out, refused)

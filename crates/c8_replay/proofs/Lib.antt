@@ -1,3 +1,2 @@
-pub mod JournalLemmas
 pub mod KeyTextLemmas
 pub mod OutcomeLemmas

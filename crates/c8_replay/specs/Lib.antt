@@ -1,4 +1,2 @@
-pub mod Errors
-pub mod Journal
 pub mod KeyText
 pub mod Replay

@@ -5,12 +5,12 @@ ghost use Rattle.c8_command.specs.declared.status.Status.TheVariants as statuses
 ghost use Rattle.c8_replay.specs.Replay.{HasReplayed, IsPrinted};
 
 use crate::arguments::{Asked, asked_of};
-use crate::error::{JournalError, ReplayFault};
-use crate::image::read_image;
+use crate::error::ReplayFault;
 use crate::screening::screen_journal;
 use crate::showing::{Shown, show_journal};
 use c8_command::{Refusal, Site, Status, Text, TextsError, both, read_file};
 use c8_game::GameError;
+use c8_image::{JournalError, read_image};
 use c8_keys::{game_site, write_report};
 use c8_play::Terminal;
 use clap::ArgMatches;

@@ -2,63 +2,13 @@
 
 ghost use Rattle.std.specs.Prelude.{◌≡◌, IfOk};
 ghost use Rattle.c8_command.specs.declared.status.Status.TheVariants as statuses;
-ghost use Rattle.c8_replay.specs.Errors.{journal_error_number};
 
 use c8_command::{Part, Refusal, Site, Status};
 use c8_game::GameError;
+use c8_image::JournalError;
 use std::io;
 use std::io::Write;
 use thiserror::Error;
-
-/// Why a record of a journal is refused.
-#[derive(Clone, Copy, Debug, PartialEq, Eq, Error)]
-pub enum Unfit {
-    #[error("the journal has no record")]
-    Nothing,
-    #[error("the first record is no HEAD")]
-    NoHead,
-    #[error("a HEAD of a player who is not in the game")]
-    Absent,
-    #[error("its bytes spell no record")]
-    NoRecord,
-    #[error("a record that may not stand there")]
-    Misplaced,
-}
-
-/// Why a journal is refused.
-#[derive(Clone, Copy, Debug, PartialEq, Eq, Error)]
-pub enum JournalError {
-    /// It begins with a HEAD of another game, or of another room than is asked for.
-    #[error("a journal of another game or room")]
-    WrongGame,
-    /// The record of this number, counted from 0, is the first that may not stand there.
-    #[error("record {0}: {1}")]
-    BadRecord(usize, Unfit),
-    #[error("out of memory")]
-    Memory,
-}
-
-impl JournalError {
-    /// The number of the refusal: that of the opening of a peer.
-    pub fn number(self) -> u8
-        ensures { result ≡ journal_error_number self }
-    {
-        match self {
-            JournalError::WrongGame => 1,
-            JournalError::BadRecord(..) => 3,
-            JournalError::Memory => 5,
-        }
-    }
-
-    /// The name of the refusal.
-    pub fn name(self) -> &'static str {
-        match self {
-            JournalError::WrongGame => "WrongGame",
-            JournalError::BadRecord(..) => "BadRecord",
-            JournalError::Memory => "Memory",
-        }
-    }
-}
 
 /// Why the command `replay` refuses.
 #[derive(Clone, Copy, Debug, PartialEq, Eq, Error)]

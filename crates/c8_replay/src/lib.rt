@@ -10,8 +10,6 @@ mod arguments;
 mod command;
 mod error;
 mod help;
-mod image;
-mod journal;
 mod key_text;
 pub mod laws;
 mod page;
@@ -23,6 +21,5 @@ mod strokes;
 
 pub use arguments::{Asked, Form, Wish, replay_command};
 pub use command::{replay, replay_given};
-pub use error::{JournalError, ReplayFault, Unfit};
-pub use image::{LONGEST_IMAGE, image_of};
+pub use error::ReplayFault;
 pub use showing::{Shown, show_journal};

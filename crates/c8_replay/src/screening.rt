@@ -6,11 +6,11 @@ ghost use Rattle.c8_replay.specs.Replay.{IsRunOfRows};
 
 use crate::arguments::Wish;
 use crate::error::ReplayFault;
-use crate::journal::known_in;
 use crate::seat::Seat;
 use crate::showing::{frames_of, run_rows};
 use crate::strokes::Ask;
 use c8_game::Game;
+use c8_image::known_in;
 use c8_keys::Played;
 use c8_known::Known;
 use c8_play::Console;

@@ -1,0 +1,16 @@
+pub mod RowLemmas
+pub mod GivenLemmas
+pub mod SearchLemmas
+pub mod RunLemmas
+pub mod MarkLemmas
+pub mod TruthLemmas
+pub mod CountLemmas
+pub mod AgreedLemmas
+pub mod EnteredLemmas
+pub mod StepLemmas
+pub mod FateLemmas
+pub mod HonestLemmas
+pub mod AccusedLemmas
+pub mod YesLemmas
+pub mod ReadingLemmas
+pub mod FileLemmas

@@ -1,0 +1,75 @@
+-- The records that two readings of a file keep.
+use Rattle.std.proofs.Common.{◌≡◌, ◌≢◌, ℕ, zero, suc, ◌+◌, ◌<◌, ◌≤◌, List, [], ◌∷◌, ◌++◌, length, map, true, Option, Some, None, refl, sym, ap, subst, ◌∙◌, arith, eq-eqb}
+use Rattle.std.specs.List.{slice_get}
+use Rattle.std.proofs.lemmas.List.{map-append}
+use Rattle.std.proofs.lemmas.Option.{slice_get_within}
+use Rattle.c8_game.specs.Rules.{Rules, id_of}
+use Rattle.c8_known.specs.Growth.{Begins}
+use Rattle.c8_known.specs.checked.BeginsLaws.{begins_get}
+use Rattle.c8_known.specs.Journal.{Record, Head, player_of}
+use Rattle.c8_record.specs.Body.{record_of, records_of}
+use Rattle.c8_record.specs.Replay.{BeginsWithHead}
+use Rattle.c8_record.specs.checked.BodyLaws.{reads_back}
+use Rattle.c8_check.specs.Checks.{ChecksValue}
+use Rattle.c8_known.specs.Known.{KnownValue, known_of, IsKnown, IsOfGame}
+use Rattle.c8_record.specs.Allowed.{IsJournal}
+use Rattle.c8_image.specs.Journal.{IsKept}
+use Rattle.c8_audit.specs.Images.{names_player, IsReadTwice}
+use Rattle.c8_audit.specs.Journals.{Seen, seen_of}
+
+pub some_same : {X : Type 0} (x y : X) → Some x ≡ Some y → x ≡ y
+some_same x y same = cc
+
+-- a list begins another one, if it has the same items at all its places
+pub begins_by_items : (X : Type 0) (xs ys : List X) → length xs ≤ length ys → ((k : ℕ) → k < length xs → slice_get xs k ≡ slice_get ys k) → Begins xs ys
+begins_by_items X [] ys long same = record { rest = ys; is = refl }
+begins_by_items X (x ∷ xs) [] long same = absurd (omega (arith, long))
+begins_by_items X (x ∷ xs) (y ∷ ys) long same =
+    let head : Some x ≡ Some y = same 0 (omega arith) in
+    let first : y ≡ x = cc in
+    let rest = begins_by_items X xs ys (omega (arith, long)) (λ k below. same (suc k) (omega (arith, below))) in
+    record { rest = rest.rest; is = ap (λ (z : X). z ∷ ys) first ∙ ap (λ (zs : List X). x ∷ zs) rest.is }
+
+-- records of a longer list of bodies go on
+pub records_begin : (xs ys : List (List ℕ)) → Begins xs ys → Begins (records_of xs) (records_of ys)
+records_begin xs ys begins = record { rest = records_of begins.rest; is = ap records_of begins.is ∙ map-append record_of xs begins.rest }
+
+-- the first record is that of the HEAD
+pub head_names : (bodies : List (List ℕ)) (player : ℕ) (id : List ℕ) (room : ℕ) → BeginsWithHead bodies player id room → names_player player (records_of bodies) ≡ true
+head_names [] player id room head = let none : None ≡ Some head.0 = head.2 in absurd cc
+head_names (body ∷ rest) player id room head =
+    let same : body ≡ head.0 = some_same body head.0 head.2 in
+    let record_is : record_of head.0 ≡ Head player head.1 id room = reads_back head.0 (Head player head.1 id room) head.3 in
+    eq-eqb (player_of (record_of body)) player (ap (λ (b : List ℕ). player_of (record_of b)) same ∙ ap player_of record_is)
+
+-- what goes on from a journal is of the same player
+pub same_owner : (first later : List (List ℕ)) (p q : ℕ) (id other : List ℕ) (room there : ℕ) → Begins first later → BeginsWithHead first p id room → BeginsWithHead later q other there → q ≡ p
+same_owner first later p q id other room there begins one two =
+    let at = begins_get first later 0 one.0 begins one.2 in
+    let same : two.0 ≡ one.0 = some_same two.0 one.0 (sym two.2 ∙ at) in
+    sym (ap player_of (reads_back two.0 (Head q two.1 other there) two.3)) ∙ ap (λ (b : List ℕ). player_of (record_of b)) same ∙ ap player_of (reads_back one.0 (Head p one.1 id room) one.3)
+
+-- ---- two readings
+
+-- both are journals of the player whom the first one's HEAD names
+pub read_is : (rules : Rules) (first later : List (List ℕ)) (room there : ℕ) (one two : KnownValue) (checks others : ChecksValue) → IsKept rules None first room one checks → IsKept rules (Some room) later there two others
+    → IsKnown one → IsOfGame rules one.me one → Begins first later → IsReadTwice rules room one.me (record { first = records_of first; later = records_of later })
+read_is rules first later room there one two checks others is again known of begins =
+    let me = known.me in
+    let in_game = me.in_game in
+    let players = of.players in
+    let mine : two.me ≡ one.me = same_owner first later one.me two.me (id_of rules) (id_of rules) room there begins is.head again.head in
+    record {
+      from_one = me.from_one;
+      in_game = omega (arith, in_game, players);
+      first_is = is.journal.journal;
+      later_is = subst (λ (p : ℕ). IsJournal rules p room (records_of later)) mine (subst (λ (r : ℕ). IsJournal rules two.me r (records_of later)) (sym again.asked_is) again.journal.journal);
+      continues = records_begin first later begins;
+    }
+
+pub seen_is : (rules : Rules) (first later : List (List ℕ)) (room there : ℕ) (one two : KnownValue) (checks others : ChecksValue) → IsKept rules None first room one checks → IsKept rules (Some room) later there two others
+    → Begins first later → (let s : Seen = record { first = one; later = two; last = checks.last } in s) ≡ seen_of rules one.me (record { first = records_of first; later = records_of later })
+seen_is rules first later room there one two checks others is again begins =
+    let mine : two.me ≡ one.me = same_owner first later one.me two.me (id_of rules) (id_of rules) room there begins is.head again.head in
+    let late : two ≡ known_of rules one.me (records_of later) = again.known_is ∙ ap (λ (p : ℕ). known_of rules p (records_of later)) mine in
+    λ i. record { first = is.known_is i; later = late i; last = (is.checks_is i).last }

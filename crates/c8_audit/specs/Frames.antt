@@ -1,0 +1,21 @@
+-- The first frame in which two players' knowledge fails a test.
+use Rattle.std.specs.Prelude.{◌≡◌, ◌≢◌, ℕ, ◌<◌, Option, Some, None}
+use Rattle.c8_known.specs.Known.{KnownValue, player_in}
+use Rattle.c8_known.specs.Confirmed.{input_of, confirmed, row}
+use Rattle.c8_audit.specs.Verdicts.{IsEntered}
+
+-- the input of player q in a frame, as it is known here, was entered
+abbrev pub WasEntered : KnownValue → Option ℕ → KnownValue → ℕ → ℕ → Type 0
+WasEntered by cut own q frame = IsEntered cut own q frame (input_of (player_in by q) frame)
+
+-- the first confirmed frame in which it was not
+abbrev pub IsFirstNever : KnownValue → Option ℕ → KnownValue → ℕ → Option ℕ → Type 0
+IsFirstNever by cut own q None = (frame : ℕ) → frame < confirmed by → WasEntered by cut own q frame
+IsFirstNever by cut own q (Some first) =
+    (first < confirmed by) × (WasEntered by cut own q first → ⊥) × ((frame : ℕ) → frame < first → WasEntered by cut own q frame)
+
+-- the first frame that both count as confirmed with different rows
+abbrev pub IsFirstDifferent : KnownValue → KnownValue → Option ℕ → Type 0
+IsFirstDifferent a b None = (frame : ℕ) → frame < confirmed a → frame < confirmed b → row a frame ≡ row b frame
+IsFirstDifferent a b (Some first) =
+    (first < confirmed a) × (first < confirmed b) × (row a first ≢ row b first) × ((frame : ℕ) → frame < first → row a frame ≡ row b frame)

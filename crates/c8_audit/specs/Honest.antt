@@ -1,0 +1,43 @@
+-- What the readings of an honest match's journals are, and how journals stand in a world.
+use Rattle.std.specs.Prelude.{◌≡◌, ℕ, List, Bool, Option, Some}
+use Rattle.c8_game.specs.Rules.{Rules}
+use Rattle.c8_known.specs.Growth.{Begins}
+use Rattle.c8_peer.specs.Opening.{found}
+use Rattle.c8_world.specs.World.{World, Event, Answer, Chain, IsReached, peer_of, journal_of}
+use Rattle.c8_world.specs.Agreement.{IsPlayer}
+use Rattle.c8_audit.specs.Journals.{Readings, Evidence}
+
+-- A player's journal was read at one moment of a match and once more at another one. A moment of the whole match lies
+-- between, and any events may happen on the way to it and from it on. Each reading finds the pending record or not. What
+-- the first reading found has not been lost: the second one begins with it.
+pub record WasReadTwice (rules : Rules) (room : ℕ) (between : World) (p : ℕ) (r : Readings) : Type 0 where
+  pub first_at : World
+  pub first_reached : IsReached rules room first_at
+  pub events : List Event
+  pub answers : List Answer
+  pub before : Chain rules room first_at events answers between
+  pub finds : Bool
+  pub first_is : r.first ≡ found (peer_of first_at p) finds
+  pub later_at : World
+  pub more_events : List Event
+  pub more_answers : List Answer
+  pub after : Chain rules room between more_events more_answers later_at
+  pub later_finds : Bool
+  pub later_is : r.later ≡ found (peer_of later_at p) later_finds
+  pub continues : Begins r.first r.later
+
+-- The journals are those of peers of one match, player 1's among them. All were read before any was read once more.
+pub record IsHonest (rules : Rules) (room : ℕ) (e : Evidence) : Type 0 where
+  pub between : World
+  pub one : Readings
+  pub one_given : e 1 ≡ Some one
+  pub players : (p : ℕ) (r : Readings) → e p ≡ Some r → IsPlayer rules p
+  pub read : (p : ℕ) (r : Readings) → e p ≡ Some r → WasReadTwice rules room between p r
+
+-- The journals that are given stand in two worlds: the first readings in one, the second ones in the other.
+pub record AreOfWorlds (rules : Rules) (e : Evidence) (earlier later : World) : Type 0 where
+  pub one : Readings
+  pub one_given : e 1 ≡ Some one
+  pub players : (p : ℕ) (r : Readings) → e p ≡ Some r → IsPlayer rules p
+  pub first_are : (p : ℕ) (r : Readings) → e p ≡ Some r → r.first ≡ journal_of earlier p
+  pub later_are : (p : ℕ) (r : Readings) → e p ≡ Some r → r.later ≡ journal_of later p

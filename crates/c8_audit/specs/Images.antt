@@ -1,0 +1,52 @@
+-- The journals that files keep, by the bytes that two readings of each file gave.
+use Rattle.std.specs.Prelude.{◌≡◌, ◌⊎◌, ℕ, ◌≤◌, ◌==◌, List, [], ◌∷◌, Bool, true, false, Option, Some, None, if◌then◌else◌}
+use Rattle.c8_game.specs.Rules.{Rules}
+use Rattle.c8_known.specs.Growth.{Begins}
+use Rattle.c8_known.specs.Journal.{Record, player_of}
+use Rattle.c8_log.specs.Slots.{kept}
+use Rattle.c8_record.specs.Allowed.{IsJournal}
+use Rattle.c8_record.specs.Body.{records_of}
+use Rattle.c8_image.specs.Journal.{IsRefusalOfJournal}
+use Rattle.c8_audit.specs.Journals.{Readings, Evidence}
+use Rattle.c8_audit.specs.declared.error.Unread.{Unread}
+use Rattle.c8_audit.specs.declared.error.Unread.TheVariants.{Journal, Changed}
+
+-- the records that two readings of a file keep
+abbrev pub readings_of : List ℕ → List ℕ → Readings
+readings_of first later = record { first = records_of (kept first); later = records_of (kept later) }
+
+-- the first record names the player
+abbrev pub names_player : ℕ → List Record → Bool
+names_player p [] = false
+names_player p (r ∷ rest) = player_of r == p
+
+abbrev pub if_of : Bool → Readings → Option Readings
+if_of true r = Some r
+if_of false r = None
+
+-- the readings of a file, if its first record names the player
+abbrev pub only_in : List ℕ → List ℕ → Evidence
+only_in first later p = if_of (names_player p (records_of (kept first))) (readings_of first later)
+
+abbrev pub or_else : Option Readings → Option Readings → Option Readings
+or_else (Some r) other = Some r
+or_else None other = other
+
+-- of each player, the readings of the first file whose first record names it
+unfoldable pub evidence_in : List (List ℕ) → List (List ℕ) → Evidence
+evidence_in [] laters p = None
+evidence_in (first ∷ firsts) [] p = None
+evidence_in (first ∷ firsts) (later ∷ laters) p = or_else (only_in first later p) (evidence_in firsts laters p)
+
+-- Both readings are journals of the player in the room, and the second one begins with the first.
+pub record IsReadTwice (rules : Rules) (room p : ℕ) (r : Readings) : Type 0 where
+  pub from_one : 1 ≤ p
+  pub in_game : p ≤ rules.players
+  pub first_is : IsJournal rules p room r.first
+  pub later_is : IsJournal rules p room r.later
+  pub continues : Begins r.first r.later
+
+-- why a file's journal is not read: a reading is refused, or the second one does not begin with the first
+abbrev pub IsUnread : Rules → List ℕ → List ℕ → Unread → Type 0
+IsUnread rules first later (Journal error) = IsRefusalOfJournal rules None (kept first) error ⊎ ((room : ℕ) × IsRefusalOfJournal rules (Some room) (kept later) error)
+IsUnread rules first later Changed = Begins (kept first) (kept later) → ⊥

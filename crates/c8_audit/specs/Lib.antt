@@ -1,0 +1,11 @@
+pub mod Journals
+pub mod Verdicts
+pub mod Honest
+pub mod Read
+pub mod Search
+pub mod Frames
+pub mod Marked
+pub mod Counts
+pub mod Images
+pub mod Gathered
+pub mod checked

@@ -1,0 +1,94 @@
+-- When the inputs in the journals of a match were entered, when their checkpoints are true, and when they agree; and the
+-- least fault, if they do not.
+use Rattle.std.specs.Prelude.{◌≡◌, ◌≢◌, ℕ, ◌<◌, ◌≤◌, ◌⊎◌, List, Option, Some}
+use Rattle.std.specs.List.{slice_get}
+use Rattle.c8_game.specs.Rules.{Rules}
+use Rattle.c8_digest.specs.Origin.{Origin}
+use Rattle.c8_roll.specs.Roll.{IsOnTheWay}
+use Rattle.c8_known.specs.Known.{KnownValue, player_in}
+use Rattle.c8_known.specs.Confirmed.{input_of, confirmed, row}
+use Rattle.c8_world.specs.Agreement.{AreSameUpTo}
+use Rattle.c8_audit.specs.Journals.{Seen, AllSeen, IsGiven, cut_in, Stays}
+
+-- ---- entered
+
+-- An input of player q in a frame was entered: it is what q's own journal has there, or empty from q's cut on.
+pub record IsEntered (cut : Option ℕ) (own : KnownValue) (q frame : ℕ) (input : Option ℕ) : Type 0 where
+  pub word : ℕ
+  pub is : input ≡ Some word
+  pub entered : (slice_get (player_in own q).held frame ≡ Some word) ⊎ ((word ≡ 0) × (K : ℕ) × (cut ≡ Some K) × (K ≤ frame))
+
+-- Each input that a journal counts as confirmed by its first reading, and whose player's journal is given, was entered, by
+-- the second readings of that player's journal and of player 1's.
+abbrev pub AreEntered : AllSeen → Type 0
+AreEntered all = (p q frame : ℕ) (by own : Seen) → IsGiven all p by → IsGiven all q own → frame < confirmed by.first
+    → IsEntered (cut_in all q) own.later q frame (input_of (player_in by.first q) frame)
+
+-- player p's journal counts an input of player q in a frame as confirmed that was not entered
+pub record IsUnentered (all : AllSeen) (frame q p : ℕ) : Type 0 where
+  pub by : Seen
+  pub own : Seen
+  pub by_given : IsGiven all p by
+  pub own_given : IsGiven all q own
+  pub below : frame < confirmed by.first
+  pub never : IsEntered (cut_in all q) own.later q frame (input_of (player_in by.first q) frame) → ⊥
+
+-- ---- checkpoints
+
+-- the last checkpoint of each first reading is that of the serial run of its confirmed rows
+abbrev pub AreTrue : Rules → AllSeen → Type 0
+AreTrue rules all = (p : ℕ) (s : Seen) → IsGiven all p s → (from : Origin) → s.last ≡ Some from → IsOnTheWay rules s.first from
+
+-- the last checkpoint of player p's journal is not
+pub record IsUntrue (rules : Rules) (all : AllSeen) (p : ℕ) : Type 0 where
+  pub seen : Seen
+  pub given : IsGiven all p seen
+  pub last : Origin
+  pub last_is : seen.last ≡ Some last
+  pub never : IsOnTheWay rules seen.first last → ⊥
+
+-- ---- agreement
+
+-- Each two players who were not dropped have the same inputs and the same machine, up to the frames that both count as
+-- confirmed, by the first readings.
+abbrev pub AreAgreed : Rules → AllSeen → Type 0
+AreAgreed rules all = (p r : ℕ) (a b : Seen) → Stays all p a → Stays all r b
+    → (n : ℕ) → n ≤ confirmed a.first → n ≤ confirmed b.first → AreSameUpTo rules a.first b.first n
+
+-- players p and r were not dropped, and differ in a frame that both count as confirmed
+pub record IsDifference (all : AllSeen) (frame p r : ℕ) : Type 0 where
+  pub one : Seen
+  pub other : Seen
+  pub one_stays : Stays all p one
+  pub other_stays : Stays all r other
+  pub order : p < r
+  pub one_counts : frame < confirmed one.first
+  pub other_counts : frame < confirmed other.first
+  pub rows : row one.first frame ≢ row other.first frame
+
+-- N frames are confirmed by all who were not dropped, and by one of them no more
+pub record IsLeastCount (all : AllSeen) (N : ℕ) : Type 0 where
+  pub player : ℕ
+  pub seen : Seen
+  pub stays : Stays all player seen
+  pub count : confirmed seen.first ≡ N
+  pub least : (p : ℕ) (s : Seen) → Stays all p s → N ≤ confirmed s.first
+
+-- ---- the least fault
+
+-- a frame and two players do not come after others: an earlier frame is less, then an earlier first player, then an earlier
+-- second one
+abbrev pub IsUpTo : ℕ → ℕ → ℕ → ℕ → ℕ → ℕ → Type 0
+IsUpTo frame p r frame' p' r' = (frame < frame') ⊎ ((frame ≡ frame') × ((p < p') ⊎ ((p ≡ p') × (r ≤ r'))))
+
+pub record IsFirstUnentered (all : AllSeen) (frame q p : ℕ) : Type 0 where
+  pub is : IsUnentered all frame q p
+  pub least : (frame' q' p' : ℕ) → IsUnentered all frame' q' p' → IsUpTo frame q p frame' q' p'
+
+pub record IsFirstUntrue (rules : Rules) (all : AllSeen) (p : ℕ) : Type 0 where
+  pub is : IsUntrue rules all p
+  pub least : (p' : ℕ) → IsUntrue rules all p' → p ≤ p'
+
+pub record IsFirstDifference (all : AllSeen) (frame p r : ℕ) : Type 0 where
+  pub is : IsDifference all frame p r
+  pub least : (frame' p' r' : ℕ) → IsDifference all frame' p' r' → IsUpTo frame p r frame' p' r'

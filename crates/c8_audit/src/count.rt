@@ -1,0 +1,79 @@
+//! How many frames all confirm, and the machine after them.
+
+ghost use Rattle.std.specs.Prelude.{◌≡◌, ◌≤◌, option_map};
+ghost use Rattle.sha2.specs.Sha256.{sha256};
+ghost use Rattle.c8_digest.specs.StateBytes.{state_bytes};
+ghost use Rattle.c8_game.specs.Rules.{Rules};
+ghost use Rattle.c8_known.specs.Confirmed.{confirmed, rows_below};
+ghost use Rattle.c8_machine.specs.Serial.{serial};
+ghost use Rattle.c8_machine.specs.State.{state};
+ghost use Rattle.c8_audit.specs.Journals.{Seen, AreOfGame, Stays};
+ghost use Rattle.c8_audit.specs.Read.{seen, all_seen};
+ghost use Rattle.c8_audit.specs.Counts.{lesser_of};
+ghost use Rattle.c8_audit.specs.Verdicts.{IsLeastCount};
+
+use crate::agreed::stayer;
+use crate::journal::{Journal, journal_of};
+use crate::search::PLAYERS_END;
+use c8_digest::{STATE_LENGTH, state_bytes};
+use c8_game::{Game, Player};
+use c8_known::Known;
+use c8_machine::Machine;
+use sha2::{Digest, Sha256};
+
+/// How many frames each player who was not dropped counts as confirmed, by the first readings.
+pub fn least_count(journals: &[Option<Journal>]) -> u32
+    requires of_game { (rules : Rules) × AreOfGame rules (all_seen journals.now) }
+    requires one { (one : Seen) × Stays (all_seen journals.now) 1 one }
+    ensures { IsLeastCount (all_seen journals.now) result }
+{
+    let mut least = None;
+    for number in 1..PLAYERS_END {
+        least = lesser(least, stayer(journals, Player { number }));
+    }
+    match least {
+        Some(least) => least,
+        None => unreachable!(),
+    }
+}
+
+/// The lesser of a number and of a journal's confirmed frames, if there are these.
+fn lesser(least: Option<u32>, journal: Option<&Journal>) -> Option<u32>
+    ensures { result ≡ lesser_of least (option_map (λ journal. seen journal.now) journal.entry) }
+{
+    let Some(journal) = journal else {
+        return least;
+    };
+    let confirmed = journal.first.confirmed();
+    match least {
+        Some(least) => Some(least.min(confirmed)),
+        None => Some(confirmed),
+    }
+}
+
+/// SHA-256 (FIPS 180-4) over the bytes of the machine's state after so many frames that player 1 confirms.
+pub fn digest_of(game: &Game, journals: &[Option<Journal>], frames: u32) -> [u8; 32]
+    requires one { (one : Seen) × Stays (all_seen journals.now) 1 one }
+    requires count { IsLeastCount (all_seen journals.now) frames }
+    ensures { (one : Seen) → Stays (all_seen journals.now) 1 one
+        → result ≡ sha256 (state_bytes (serial game.now (rows_below one.first frames))) }
+{
+    let Some(one) = journal_of(journals, Player::CHAIR) else {
+        unreachable!();
+    };
+    let mut bytes = [0; STATE_LENGTH];
+    state_bytes(&machine_after(game, &one.first, frames), &mut bytes);
+    Sha256::digest(bytes.as_slice())
+}
+
+/// The machine after so many confirmed frames.
+fn machine_after(game: &Game, known: &Known, frames: u32) -> Machine
+    requires { frames ≤ confirmed known.now }
+    ensures { state result ≡ serial game.now (rows_below known.now frames) }
+{
+    let mut machine = Machine::start(game);
+    for frame in 0..frames {
+        machine.frame(game, game.joined(&known.row(frame)));
+    }
+    machine
+}

@@ -1,0 +1,103 @@
+//! The journals of a match, out of two readings of each file.
+
+ghost use Rattle.std.specs.Prelude.{◌≡◌, ◌≤◌, ◌↔◌, ℕ, length, map, Some, true, IfOk, IfErr, OnOk};
+ghost use Rattle.c8_audit.specs.Gathered.{IsGathered, AreGathered, IsNotGathered, with_file, with_journal};
+ghost use Rattle.c8_audit.specs.Images.{evidence_in, IsUnread};
+ghost use Rattle.c8_audit.specs.Journals.{Evidence, Seen};
+ghost use Rattle.c8_audit.specs.Read.{all_seen};
+
+use crate::error::{GatherError, Unread};
+use crate::journal::{Journal, journal_of};
+use crate::reading::{Reading, read_twice};
+use c8_game::{Game, MOST_PLAYERS, Player};
+use c8_log::kept_len;
+use std::alloc::Global;
+
+/// The journals of a match.
+#[derive(Drop)]
+pub struct Gathered {
+    /// By place, player 1's at place 0.
+    pub journals: [Option<Journal>; MOST_PLAYERS],
+    /// How many files keep no record: of players who never began.
+    pub empty: usize,
+    /// The room of the first journal.
+    room: Option<u64>,
+    /// Whether two journals are of one player, or of two rooms.
+    is_mixed: bool,
+}
+
+/// Reads the journals that files keep, by the bytes that a first and a second reading of each file gave. A file without a record
+/// is passed over. The errors are checked in this order: those of each file, in order; `Journals`.
+pub fn gather(
+    alloc: Global,
+    game: &Game,
+    firsts: &[Vec<u8>],
+    laters: &[Vec<u8>],
+) -> Result<Gathered, GatherError>
+    requires { length firsts.now ≡ length laters.now }
+    ensures gathered { IfOk result (λ gathered. AreGathered game.now
+        (evidence_in (map (λ file. file.items) firsts.now) (map (λ file. file.items) laters.now))
+        gathered.journals) }
+    ensures refused { IfErr result (λ error. IsNotGathered game.now
+        (map (λ file. file.items) firsts.now) (map (λ file. file.items) laters.now) error) }
+{
+    // For the proof: a game has at most four players.
+    let _players = game.players();
+    let mut gathered = Gathered {
+        journals: [None, None, None, None],
+        empty: 0,
+        room: None,
+        is_mixed: false,
+    };
+    for place in 0..firsts.len() {
+        match gathered.add(alloc, game, &firsts[place], &laters[place]) {
+            Ok(()) => {}
+            Err(why) => return Err(GatherError::File(place, why)),
+        }
+    }
+    if gathered.is_mixed || !is_given(&gathered.journals, Player::CHAIR) {
+        return Err(GatherError::Journals);
+    }
+    Ok(gathered)
+}
+
+/// Whether a player's journal is given.
+fn is_given(journals: &[Option<Journal>], player: Player) -> bool
+    ensures { (result ≡ true) ↔ ((s : Seen) × (all_seen journals.now player.number ≡ Some s)) }
+{
+    journal_of(journals, player).is_some()
+}
+
+impl Gathered {
+    /// Reads the journal of one more file.
+    fn add(&mut self, alloc: Global, game: &Game, first: &[u8], later: &[u8]) -> Result<(), Unread>
+        ensures unread { IfErr result (λ why. IsUnread game.now first.now later.now why) }
+        ensures gathered { OnOk result ((e : Evidence) → IsGathered game.now e self.old.journals
+            → IsGathered game.now (with_file e first.now later.now) self.new.journals) }
+    {
+        if kept_len(first) == 0 {
+            self.empty = self.empty.saturating_add(1);
+            return Ok(());
+        }
+        let Reading { room, journal } = read_twice(alloc, game, first, later)?;
+        self.is_mixed |= self.room.is_some_and(|other| other != room);
+        self.room = Some(room);
+        if !put(&mut self.journals, journal) {
+            self.is_mixed = true;
+        }
+        Ok(())
+    }
+}
+
+/// Puts a journal at its player's place. Returns false, and leaves it, if the place is taken.
+fn put(journals: &mut [Option<Journal>; MOST_PLAYERS], journal: Journal) -> bool
+    ensures { (p : ℕ) → 1 ≤ p
+        → all_seen journals.new p ≡ with_journal (all_seen journals.old) journal p }
+{
+    let player = journal.first.me();
+    if is_given(&*journals, player) {
+        return false;
+    }
+    journals[player.place()] = Some(journal);
+    true
+}

@@ -1,0 +1,32 @@
+//! The journals of a match, as they were read.
+
+ghost use Rattle.std.specs.Prelude.{◌≡◌, option_map};
+ghost use Rattle.c8_audit.specs.Read.{seen, all_seen};
+
+use crate::tallies::Tally;
+use c8_check::Checks;
+use c8_game::Player;
+use c8_known::Known;
+
+/// What two readings of a player's journal make known.
+#[derive(Drop)]
+pub struct Journal {
+    /// What the first reading makes known.
+    pub first: Known,
+    /// What the first reading says of checkpoints.
+    pub checks: Checks,
+    /// What the second reading makes known.
+    pub later: Known,
+    /// How many records the first reading keeps.
+    pub tally: Tally,
+}
+
+/// The journal of a player, if it is given. Player 1's is at place 0.
+pub fn journal_of(journals: &[Option<Journal>], player: Player) -> Option<&Journal>
+    ensures { option_map (λ journal. seen journal.now) result ≡ all_seen journals.now player.number }
+{
+    match journals.get(player.place()) {
+        Some(Some(journal)) => Some(journal),
+        _ => None,
+    }
+}

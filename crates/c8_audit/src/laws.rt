@@ -1,0 +1,63 @@
+//! What the verdicts of an audit mean. Each law is the contract of a function that only calls laws of the crates below.
+ghost use Rattle.std.specs.Prelude.{◌≡◌, ℕ, ◌^◌, ◌<◌, Some};
+ghost use Rattle.c8_game.specs.Rules.{Rules, AreInRange};
+ghost use Rattle.c8_known.specs.Known.{player_in};
+ghost use Rattle.c8_known.specs.Confirmed.{confirmed, input_of, rows_below};
+ghost use Rattle.c8_record.specs.Allowed.{IsJournal};
+ghost use Rattle.c8_peer.specs.TrueChecks.{HasTrueLast};
+ghost use Rattle.c8_world.specs.World.{World, journal_of, known_by};
+ghost use Rattle.c8_world.specs.Agreement.{IsUndropped, AgreeUpTo, IsEntered};
+ghost use Rattle.c8_audit.specs.Journals.{Readings, Evidence, Seen, AllSeen, seen_in, Stays};
+ghost use Rattle.c8_audit.specs.Honest.{IsHonest, AreOfWorlds};
+ghost use Rattle.c8_audit.specs.Verdicts.{AreEntered, AreTrue, AreAgreed, IsLeastCount};
+
+use crate::below::worlds_are_lawful;
+
+/// A yes means agreement, whoever wrote the journals: what the theorem about worlds says of one moment holds of them. The
+/// first readings are the journals of one world, the second ones those of another.
+///
+/// - `entered`: each input that a journal counts as confirmed is what its player entered, or empty from that player's cut
+///   on, as far as that player's journal is given.
+/// - `checks`: the last checkpoints are true.
+/// - `agree`: two players who were not dropped have the same inputs and the same machine, up to the frames that both count
+///   as confirmed.
+/// - `result`: so all who were not dropped have the same rows up to the least count of all.
+pub fn a_yes_means_agreement()
+    ensures entered { (rules : Rules) (e : Evidence) (w v : World) → AreOfWorlds rules e w v
+        → AreEntered (seen_in rules e)
+        → (p q frame : ℕ) (by own : Readings) → e p ≡ Some by → e q ≡ Some own
+        → frame < confirmed (known_by rules w p)
+        → IsEntered rules v q frame (input_of (player_in (known_by rules w p) q) frame) }
+    ensures checks { (rules : Rules) (e : Evidence) (w v : World) → AreOfWorlds rules e w v
+        → AreTrue rules (seen_in rules e)
+        → (p : ℕ) (by : Readings) → e p ≡ Some by → HasTrueLast rules p (journal_of w p) }
+    ensures agree { (rules : Rules) (e : Evidence) (w v : World) → AreOfWorlds rules e w v
+        → AreAgreed rules (seen_in rules e)
+        → (p r : ℕ) (one other : Readings) → e p ≡ Some one → e r ≡ Some other
+        → IsUndropped v p → IsUndropped v r → AgreeUpTo rules w w p r }
+    ensures result { (rules : Rules) (all : AllSeen) (N : ℕ) → AreAgreed rules all
+        → IsLeastCount all N → (p r : ℕ) (a b : Seen) → Stays all p a → Stays all r b
+        → rows_below a.first N ≡ rows_below b.first N }
+{}
+
+/// An honest match is never accused, whichever of its journals are given beside player 1's. They were read at any moments,
+/// all of them before any was read once more, and each second reading begins with the first (`IsHonest`).
+///
+/// - `entered`, `checks`, `agree`: each verdict is yes.
+/// - `journals`: no reading is refused.
+///
+/// The premise on the second readings is needed. A disk that refused a record may lose it at a crash, after a reading found
+/// it; then the peer may record another one in its place.
+pub fn an_honest_match_is_never_accused()
+    ensures entered { (rules : Rules) (room : ℕ) (e : Evidence) → AreInRange rules → room < 2 ^ 64
+        → IsHonest rules room e → AreEntered (seen_in rules e) }
+    ensures checks { (rules : Rules) (room : ℕ) (e : Evidence) → AreInRange rules → room < 2 ^ 64
+        → IsHonest rules room e → AreTrue rules (seen_in rules e) }
+    ensures agree { (rules : Rules) (room : ℕ) (e : Evidence) → AreInRange rules → room < 2 ^ 64
+        → IsHonest rules room e → AreAgreed rules (seen_in rules e) }
+    ensures journals { (rules : Rules) (room : ℕ) (e : Evidence) → AreInRange rules
+        → room < 2 ^ 64 → IsHonest rules room e → (p : ℕ) (r : Readings) → e p ≡ Some r
+        → IsJournal rules p room r.first × IsJournal rules p room r.later }
+{
+    worlds_are_lawful();
+}

@@ -1,0 +1,33 @@
+//! Judges the journals of a match: whether the inputs in them were entered, whether their checkpoints are true, and
+//! whether the players who were not dropped agree.
+//!
+//! [`judge`] is the whole audit over journals that were read ([`Journal`]). `specs/Journals.antt` says what is read of
+//! journals, `Verdicts.antt` when each verdict is yes and which fault a no names, `Honest.antt` which journals an honest
+//! match leaves. [`laws`] has what follows: a yes means agreement, and an honest match is never accused.
+#![tactic(auto)]
+
+mod agreed;
+mod below;
+mod count;
+mod entered;
+mod error;
+mod fault;
+mod files;
+mod journal;
+pub mod laws;
+mod reading;
+mod search;
+mod tallies;
+mod truth;
+mod verdict;
+
+pub use agreed::is_dropped;
+pub use count::{digest_of, least_count};
+pub use entered::cut_of;
+pub use error::{GatherError, Unread};
+pub use fault::{Fault, Question};
+pub use files::{Gathered, gather};
+pub use journal::{Journal, journal_of};
+pub use search::PLAYERS_END;
+pub use tallies::{Tally, tally_of};
+pub use verdict::{Verdicts, judge};

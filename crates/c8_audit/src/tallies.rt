@@ -1,0 +1,39 @@
+//! How many records a reading keeps.
+
+ghost use Rattle.std.specs.Prelude.{◌≡◌, length};
+ghost use Rattle.c8_log.specs.Slots.{kept};
+
+use c8_log::{kept_body, kept_len};
+use c8_record::{Record, view};
+
+/// What a reading keeps.
+#[derive(Clone, Copy, Debug, Default, PartialEq, Eq)]
+pub struct Tally {
+    /// How many records.
+    pub records: usize,
+    /// How many of them are HEAD and EPOCH records.
+    pub epochs: usize,
+    /// The number of the last CHECK record; 0 if there is none.
+    pub last_check: usize,
+}
+
+/// Counts the records that the bytes of a file keep.
+pub fn tally_of(image: &[u8]) -> Tally
+    ensures { result.records ≡ length (kept image.now) }
+{
+    let records = kept_len(image);
+    let mut epochs: usize = 0;
+    let mut last_check = 0;
+    for n in 0..records {
+        match view(kept_body(image, n)) {
+            Some(Record::Head { .. } | Record::Epoch { .. }) => epochs = epochs.saturating_add(1),
+            Some(Record::Check { .. }) => last_check = n,
+            _ => {}
+        }
+    }
+    Tally {
+        records,
+        epochs,
+        last_check,
+    }
+}

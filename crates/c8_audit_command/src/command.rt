@@ -1,0 +1,188 @@
+//! `c8play audit`: judges the journals of a match.
+
+ghost use Rattle.std.specs.Prelude.{◌≡◌, length, vec_len, IfOk};
+ghost use Rattle.c8_audit.specs.Journals.{Seen, AreOfGame, Stays};
+ghost use Rattle.c8_audit.specs.Read.{all_seen};
+
+use crate::error::AuditFault;
+use crate::report::write_audit;
+use c8_audit::{GatherError, Gathered, Unread, gather};
+use c8_command::{Site, Status, Text, TextError, read_file};
+use c8_front::{is_explained, word_of};
+use c8_game::{Game, GameError};
+use c8_image::{JournalError, read_image};
+use c8_keys::game_site;
+use clap::ArgMatches;
+use std::alloc::Global;
+use std::io;
+use std::io::Write;
+use std::rt::Files;
+
+/// How often the journals are read once more, if some lose records while they are read.
+const MOST_TRIES: usize = 3;
+
+/// Why journals are not judged.
+#[derive(Clone, Copy)]
+struct Unjudged {
+    fault: AuditFault,
+    /// The number of the journal at fault, if it is one.
+    place: Option<usize>,
+}
+
+/// Reads the files of the command line, all journals first and then all once more, and prints what their audit says. If a file
+/// cannot be read, the refusal is the disk's, whatever the others say. The error is a writer's.
+pub fn audit_given<R: Files + AllocGlobal, W: Write, E: Write>(
+    rt: &R,
+    given: &ArgMatches<'_>,
+    out: &mut W,
+    refused: &mut E,
+) -> io::Result<Status> {
+    let path = word_of(given, "GAME");
+    let files = given.get_strs("JOURNAL").unwrap_or(&[]);
+    let explain = is_explained(given);
+    let text = match read_file(rt, path) {
+        Ok(text) => text,
+        Err(error) => {
+            return text_fault(error).tell_at(explain.then_some(Site::File(path)), refused);
+        }
+    };
+    let firsts = match read_images(rt, files) {
+        Ok(firsts) => firsts,
+        Err(unjudged) => return refuse(files, unjudged, explain, refused),
+    };
+    let game = match Game::read(rt.alloc(), &text) {
+        Ok(game) => game,
+        Err(error) => return refuse_game(rt.alloc(), path, &text, error, explain, refused),
+    };
+    match gather_files(rt, &game, files, firsts) {
+        Ok(gathered) => judge_all(&game, &gathered, explain, out, refused),
+        Err(unjudged) => refuse(files, unjudged, explain, refused),
+    }
+}
+
+/// Prints what the audit of journals says.
+fn judge_all<W: Write, E: Write>(
+    game: &Game,
+    gathered: &Gathered,
+    explain: bool,
+    out: &mut W,
+    refused: &mut E,
+) -> io::Result<Status>
+    requires of_game { AreOfGame game.now (all_seen gathered.now.journals) }
+    requires one { (one : Seen) × Stays (all_seen gathered.now.journals) 1 one }
+{
+    match write_audit(game, gathered, out)? {
+        Some(fault) => fault.tell_at(explain.then_some(Site::Nowhere), refused),
+        None => Ok(Status::Done),
+    }
+}
+
+/// Reads all files once.
+fn read_images<R: Files + AllocGlobal>(rt: &R, files: &[&str]) -> Result<Vec<Vec<u8>>, Unjudged>
+    ensures { IfOk result (λ images. vec_len images ≡ length files.now) }
+{
+    let mut images = Vec::new(rt.alloc());
+    for place in 0..files.len() {
+        let image = match read_image(rt, files[place]) {
+            Ok(image) => image,
+            Err(error) => return Err(at(place, image_fault(error))),
+        };
+        if images.push(image).is_err() {
+            return Err(at(place, AuditFault::Journal(JournalError::Memory)));
+        }
+    }
+    Ok(images)
+}
+
+/// Reads all files once more, and gathers the journals that they keep. If one lost records meanwhile, all are read again.
+fn gather_files<R: Files + AllocGlobal>(
+    rt: &R,
+    game: &Game,
+    files: &[&str],
+    mut firsts: Vec<Vec<u8>>,
+) -> Result<Gathered, Unjudged>
+    requires { vec_len firsts ≡ length files.now }
+    ensures of_game { IfOk result (λ gathered.
+        AreOfGame game.now (all_seen gathered.journals)) }
+    ensures one { IfOk result (λ gathered.
+        (one : Seen) × Stays (all_seen gathered.journals) 1 one) }
+{
+    let mut lost = 0;
+    for _try in 0..MOST_TRIES {
+        let laters = read_images(rt, files)?;
+        match gather(rt.alloc(), game, &firsts, &laters) {
+            Ok(gathered) => return Ok(gathered),
+            Err(GatherError::Journals) => {
+                return Err(Unjudged {
+                    fault: AuditFault::Journals,
+                    place: None,
+                });
+            }
+            Err(GatherError::File(place, Unread::Journal(error))) => {
+                return Err(at(place, AuditFault::Journal(error)));
+            }
+            Err(GatherError::File(place, Unread::Changed)) => lost = place,
+        }
+        firsts = laters;
+    }
+    let sentence = "a journal that lost records while it was read";
+    Err(at(lost, AuditFault::Disk(sentence)))
+}
+
+/// A fault of the journal of a number.
+fn at(place: usize, fault: AuditFault) -> Unjudged {
+    Unjudged {
+        fault,
+        place: Some(place),
+    }
+}
+
+/// Why the file of the game is not read.
+fn text_fault(error: TextError) -> AuditFault {
+    match error {
+        TextError::Failed => {
+            AuditFault::Disk("a file that cannot be read, or has more than 16777216 bytes")
+        }
+        TextError::Memory => AuditFault::Game(GameError::Memory),
+    }
+}
+
+/// Why the file of a journal is not read.
+fn image_fault(error: TextError) -> AuditFault {
+    match error {
+        TextError::Failed => {
+            AuditFault::Disk("a file that cannot be read, or has more than 1073741824 bytes")
+        }
+        TextError::Memory => AuditFault::Journal(JournalError::Memory),
+    }
+}
+
+/// Writes why a game's text is refused.
+fn refuse_game<E: Write>(
+    alloc: Global,
+    file: &str,
+    bytes: &[u8],
+    error: GameError,
+    explain: bool,
+    refused: &mut E,
+) -> io::Result<Status> {
+    let site = explain.then_some(game_site(alloc, Text { file, bytes }, error));
+    AuditFault::Game(error).tell_at(site, refused)
+}
+
+/// Writes why journals are not judged.
+fn refuse<E: Write>(
+    files: &[&str],
+    unjudged: Unjudged,
+    explain: bool,
+    refused: &mut E,
+) -> io::Result<Status> {
+    let site = match (unjudged.fault, unjudged.place) {
+        (AuditFault::Journal(JournalError::Memory), _) | (_, None) => Site::Nowhere,
+        (_, Some(place)) => match files.get(place) {
+            Some(file) => Site::File(file),
+            None => Site::Nowhere,
+        },
+    };
+    unjudged.fault.tell_at(explain.then_some(site), refused)
+}

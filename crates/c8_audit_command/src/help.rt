@@ -1,0 +1,36 @@
+//! The end of the help of `audit`: what it prints, what it refuses, and the exit statuses.
+
+/// The end of the help of `audit`.
+pub const AUDIT_ENDING: &str =
+    "Each journal names its player and the room. A match may still be under way: all journals are read without
+a lock, and then all once more. Rows and counts go by the first reading; what was entered, and who was
+dropped, by the second. If a second reading lacks what the first one had, all are read again.
+
+What it prints:
+  player P records R epochs E now T confirmed C
+                    of each journal: how many records it keeps, how often its peer was opened, how many
+                    key sets its player entered, and how many frames it confirms
+  empty N           N files keep no record: players who never began
+  dropped L at K    player 1 dropped player L, and L's inputs end at K; without 'at K' this is not decided
+  entered yes       each confirmed input is what its player entered, or empty from that player's end on
+  entered no Q F P  the input of player Q in frame F, by the journal of player P, is not
+  checks yes        the last checkpoint of each journal is that of its confirmed rows
+  checks no P R     the one in record R of player P's journal is not
+  agree yes N       all players who were not dropped have the same inputs; all confirm N frames
+  agree no F P R    players P and R differ in frame F
+  result N DIGEST   if all three are yes: SHA-256 over the machine's state after N frames. Two audits
+                    with the same line have found the same match
+
+Refusals, each one line on standard error, as 'refused: audit 3 Disagree':
+  game 1 Line to 6 Memory: those of the command run
+  open 1 WrongGame  a journal is of another game
+  open 3 BadRecord  a journal has a record that may not stand there; or its player is not in the game
+  open 5 Memory     out of memory
+  audit 1 Entered   'entered no', the first of these three that applies
+  audit 2 Checks    'checks no'
+  audit 3 Disagree  'agree no'
+  audit 4 Journals  two journals of one player, none of player 1, or journals of two rooms
+  disk 1 Failed     a file that cannot be read, a text above 16777216 bytes, a journal above 1073741824
+                    bytes, a journal that lost records while it was read; output that cannot be written
+
+Exit status: 0 all is yes, 1 refused, 2 a mistake in the command line, 3 disk 1 Failed";

@@ -1,0 +1,16 @@
+//! The command `audit`: reads the journals of a match, judges them, and prints the verdicts.
+//!
+//! [`audit_given`] reads the files, all journals first and then all once more, and prints what [`c8_audit`] says of them.
+//! [`write_audit`] prints the lines for journals that were gathered.
+#![tactic(auto)]
+
+mod arguments;
+mod command;
+mod error;
+mod help;
+mod report;
+
+pub use arguments::audit_command;
+pub use command::audit_given;
+pub use error::AuditFault;
+pub use report::write_audit;

@@ -1,0 +1,128 @@
+//! What an audit prints.
+
+ghost use Rattle.c8_game.specs.Rules.{Rules};
+ghost use Rattle.c8_audit.specs.Journals.{Seen, AreOfGame, Stays};
+ghost use Rattle.c8_audit.specs.Read.{all_seen};
+ghost use Rattle.c8_audit.specs.Verdicts.{IsLeastCount};
+
+use crate::error::AuditFault;
+use c8_audit::{
+    Fault, Gathered, Journal, PLAYERS_END, Verdicts, cut_of, digest_of, is_dropped, journal_of,
+    judge,
+};
+use c8_game::{Game, Player};
+use std::io;
+use std::io::Write;
+
+/// Judges the journals of a match, and prints all lines. Returns the first verdict that is no. The error is the writer's.
+pub fn write_audit<W: Write>(
+    game: &Game,
+    gathered: &Gathered,
+    out: &mut W,
+) -> io::Result<Option<AuditFault>>
+    requires of_game { AreOfGame game.now (all_seen gathered.now.journals) }
+    requires one { (one : Seen) × Stays (all_seen gathered.now.journals) 1 one }
+{
+    let journals = gathered.journals.as_slice();
+    write_players(journals, out)?;
+    if gathered.empty > 0 {
+        writeln!(out, "empty {}", gathered.empty)?;
+    }
+    write_dropped(journals, out)?;
+    let verdicts = judge(game, journals);
+    write_verdicts(journals, &verdicts, out)?;
+    let fault = fault_of(&verdicts);
+    if fault.is_none() {
+        write_result(game, journals, verdicts.count, out)?;
+    }
+    Ok(fault)
+}
+
+/// Writes a line for each journal.
+fn write_players<W: Write>(journals: &[Option<Journal>], out: &mut W) -> io::Result<()> {
+    for number in 1..PLAYERS_END {
+        if let Some(journal) = journal_of(journals, Player { number }) {
+            let (records, epochs) = (journal.tally.records, journal.tally.epochs);
+            let (now, confirmed) = (journal.first.ticks(), journal.first.confirmed());
+            writeln!(
+                out,
+                "player {number} records {records} epochs {epochs} now {now} confirmed {confirmed}"
+            )?;
+        }
+    }
+    Ok(())
+}
+
+/// Writes a line for each player who was dropped.
+fn write_dropped<W: Write>(journals: &[Option<Journal>], out: &mut W) -> io::Result<()>
+    requires { (rules : Rules) × AreOfGame rules (all_seen journals.now) }
+{
+    for number in 1..PLAYERS_END {
+        let player = Player { number };
+        if is_dropped(journals, player) {
+            match cut_of(journals, player) {
+                Some(cut) => writeln!(out, "dropped {number} at {cut}")?,
+                None => writeln!(out, "dropped {number}")?,
+            }
+        }
+    }
+    Ok(())
+}
+
+/// Writes a line for each verdict.
+fn write_verdicts<W: Write>(
+    journals: &[Option<Journal>],
+    verdicts: &Verdicts,
+    out: &mut W,
+) -> io::Result<()> {
+    match verdicts.unentered {
+        Some(Fault { frame, one, other }) => writeln!(out, "entered no {one} {frame} {other}")?,
+        None => writeln!(out, "entered yes")?,
+    }
+    match verdicts.untrue {
+        Some(player) => writeln!(out, "checks no {player} {}", check_of(journals, player))?,
+        None => writeln!(out, "checks yes")?,
+    }
+    match verdicts.difference {
+        Some(Fault { frame, one, other }) => writeln!(out, "agree no {frame} {one} {other}"),
+        None => writeln!(out, "agree yes {}", verdicts.count),
+    }
+}
+
+/// The number of the record that ends a player's last checkpoint.
+fn check_of(journals: &[Option<Journal>], player: Player) -> usize {
+    match journal_of(journals, player) {
+        Some(journal) => journal.tally.last_check,
+        None => 0,
+    }
+}
+
+/// The first verdict that is no.
+fn fault_of(verdicts: &Verdicts) -> Option<AuditFault> {
+    if verdicts.unentered.is_some() {
+        Some(AuditFault::Entered)
+    } else if verdicts.untrue.is_some() {
+        Some(AuditFault::Checks)
+    } else if verdicts.difference.is_some() {
+        Some(AuditFault::Disagree)
+    } else {
+        None
+    }
+}
+
+/// Writes the line that two audits of one match have in common.
+fn write_result<W: Write>(
+    game: &Game,
+    journals: &[Option<Journal>],
+    count: u32,
+    out: &mut W,
+) -> io::Result<()>
+    requires one { (one : Seen) × Stays (all_seen journals.now) 1 one }
+    requires count { IsLeastCount (all_seen journals.now) count }
+{
+    write!(out, "result {count} ")?;
+    for byte in digest_of(game, journals, count) {
+        write!(out, "{byte:02x}")?;
+    }
+    writeln!(out)
+}

@@ -1,0 +1,35 @@
+//! The bytes of a journal's file.
+
+ghost use Rattle.std.specs.Prelude.{◌≡◌, ◌≤◌, IfOk, IfSome, length};
+
+use c8_command::TextError;
+use std::alloc::Global;
+use std::fs;
+use std::io::{ErrorKind, Read};
+use std::rt::Files;
+
+/// How many bytes a journal may have at most: as many as a peer writes.
+pub const LONGEST_IMAGE: u64 = 1_073_741_824;
+
+/// Reads the bytes of a journal's file. It does not lock the file, so a peer may be writing to it.
+pub fn read_image<R: Files + AllocGlobal>(rt: &R, path: &str) -> Result<Vec<u8>, TextError> {
+    let Ok(file) = fs::open(rt, path) else {
+        return Err(TextError::Failed);
+    };
+    image_of(rt.alloc(), file)
+}
+
+/// Reads all that a reader has left. `Failed` if the reader fails or has more than `LONGEST_IMAGE` bytes.
+pub fn image_of<R: Read + Drop>(alloc: Global, reader: R) -> Result<Vec<u8>, TextError>
+    ensures whole { IfOk result
+        (λ image. IfSome (R.remaining reader) (λ bytes. image.items ≡ bytes)) }
+    ensures bounded { IfOk result (λ image. length image.items ≤ LONGEST_IMAGE) }
+{
+    let mut image = Vec::new(alloc);
+    match reader.take(LONGEST_IMAGE + 1).read_to_end(&mut image) {
+        Ok(_) if image.len() as u64 <= LONGEST_IMAGE => Ok(image),
+        Ok(_) => Err(TextError::Failed),
+        Err(error) if error.kind() == ErrorKind::OutOfMemory => Err(TextError::Memory),
+        Err(_) => Err(TextError::Failed),
+    }
+}

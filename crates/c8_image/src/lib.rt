@@ -1,0 +1,13 @@
+//! The journal that the bytes of a file keep, read without locking or changing the file.
+//!
+//! [`read_image`] reads the bytes. [`journal_in`] reads the journal that they keep: whose it is, what it makes known, and what it
+//! says of checkpoints; or why it is refused. The definitions are in `specs/Journal.antt`.
+#![tactic(auto)]
+
+mod error;
+mod image;
+mod journal;
+
+pub use error::{JournalError, Unfit};
+pub use image::{LONGEST_IMAGE, image_of, read_image};
+pub use journal::{KeptJournal, journal_in, known_in};
