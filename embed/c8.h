@@ -1,0 +1,181 @@
+/* One peer of a rollback match, for C and C++ (C99).
+ *
+ * A match has two to four players. Each runs one session, ticks it once a frame with its own player's input, and
+ * carries datagrams between the sessions over any network that may lose, repeat or reorder them. The session predicts
+ * missing inputs, rolls back when a real one differs, and agrees with the others on every confirmed frame. This is
+ * proved; docs/PROOFS.md says what exactly, and under which premises.
+ *
+ * Link with libc8_engine.a, then the toolchain's libos_c.a and liblibc_c.a. The last one has rattle_alloc,
+ * rattle_realloc and rattle_dealloc over malloc; an engine may define these three itself, as random.c does. Only the
+ * opening of a session takes memory (c8_session_of takes some and gives it back). No call starts a thread or calls back.
+ * With a journal in memory none waits; with one in a file an opening, a tick, a delivery and a turn wait for the disk.
+ *
+ * example.c is a whole program, game.c a game over UDP, docs/EMBEDDING.md an overview.
+ *
+ * What a caller owes:
+ * - A session starts as {0}. Never change `at`, and keep one live copy: pass pointers.
+ * - One call at a time on a session. Sessions share nothing, so each may be used by a thread of its own.
+ * - A pointer is not null, and points to as many bytes as its length or array bound says. Two pointers of one call do not
+ *   overlap: no packet is sealed in place.
+ *
+ * Answers: 0 is done, unless a call says otherwise. From 101 on each number is one refusal, the same in all calls
+ * (c8_explain tells its name and sentence). A refused call changes nothing, with two exceptions: after 1301 or 1302 the
+ * session is down and sends nothing more (close it and open it again), and 814 means that another player's CHIP-8
+ * machine differs. Nothing compares an engine's own machine: its players may exchange a hash of the state at a confirmed
+ * frame. */
+#ifndef C8_H
+#define C8_H
+
+#include <stdbool.h>
+#include <stddef.h>
+#include <stdint.h>
+
+#ifdef __cplusplus
+extern "C" {
+#endif
+
+enum {
+    C8_DATAGRAM = 174, /* the longest datagram */
+    C8_SEALED = 190,   /* the longest sealed packet */
+    C8_PICTURE = 256,  /* the bytes of a CHIP-8 picture */
+    C8_STATE = 4419,   /* the bytes of a CHIP-8 machine's state */
+    C8_RULES = 256     /* the longest text of c8_rules */
+};
+
+/* Some answers that a program may test for. */
+enum {
+    C8_CLOSED = 101,    /* the session is closed */
+    C8_THRESHOLD = 401, /* too far ahead of what is confirmed: tick this input again later */
+    C8_END = 402,       /* the last frame was ticked */
+    C8_DROPPED = 403,   /* player 1 has dropped this player */
+    C8_DESYNC = 814,    /* another player's CHIP-8 machine differs */
+    C8_DISK = 1301,     /* the journal's disk failed; of an opening also: another session has the journal open */
+    C8_FULL = 1302      /* the journal is full */
+};
+
+/* A session; {0} is a closed one. */
+typedef struct {
+    uint8_t *at;
+} c8_session;
+
+/* What a session knows of another player of its match. Of its own, only `held` and `dropped` mean something. */
+typedef struct {
+    uint64_t silent;       /* turns in a row without a datagram from it, with the present one */
+    uint32_t held;         /* its inputs that are here, with the empty ones of the delay */
+    uint32_t acknowledged; /* own inputs that it has acknowledged since the opening, with those of the delay */
+    bool linked;           /* its link is open: inputs can be sent */
+    bool dropped;          /* player 1 has dropped it, as far as is known here */
+} c8_player_state;
+
+/* ---- opening and closing */
+
+/* Opens the session of a player, 1 to 4, in a match: the text of a game (docs/FORMATS.md, or c8_rules) and a room, a
+ * number that all players of the match share. The journal is in memory. Player 1 drops a player who was silent for
+ * `patience` turns; 0 never. Opening over an open session closes that one, unless it is refused. The rules of the game,
+ * some hundred bytes and its program, are never given back. Use a room once. */
+uint32_t c8_open(const uint8_t *text, size_t length, uint8_t player, uint64_t room, uint32_t patience, c8_session *);
+
+/* The same over a journal in a file, from which a crashed program goes on where it was: with the same text, player and
+ * room. It takes two descriptors that c8_journal_open opened, and closes them, also when it refuses. */
+uint32_t c8_open_journal(const uint8_t *text, size_t length, uint8_t player, uint64_t room, uint32_t patience,
+                         int32_t file, int32_t folder, c8_session *);
+
+/* Opens the file at this path to read and write, and makes it if there is none; and the folder that has its name. Returns
+ * 0, or -1 with errno. It is in c8_journal.c: compile that file with the program. */
+int c8_journal_open(const char *path, int32_t *file, int32_t *folder);
+
+/* Closes a session. A closed one stays closed. */
+void c8_close(c8_session *);
+
+/* ---- a frame: deliver what came, tick, make the turn, send what is due, step */
+
+/* Processes a received datagram: any bytes. 0: it added nothing; 1: it added inputs or a decision; 2: it says that
+ * player 1 has dropped this player. Refusals are normal, since datagrams come late, twice or from strangers: only
+ * C8_DISK, C8_FULL and C8_DESYNC need an answer. */
+uint32_t c8_deliver(c8_session *, const uint8_t *bytes, size_t length);
+
+/* Enters the own player's input for the next frame: 16 bits. C8_THRESHOLD, C8_END and C8_DROPPED are normal refusals. */
+uint32_t c8_tick(c8_session *, uint16_t input);
+
+/* Begins a turn: player 1 drops silent players and cuts their inputs, a journal gets a part of its checkpoint (one every
+ * 3,600 frames), and c8_next gives the turn's datagrams. Call it once a frame, also when the tick was refused. */
+uint32_t c8_turn(c8_session *);
+
+/* Writes the next datagram of this turn to `out`, and the number of the player that it is for to `to`. Returns its
+ * length; 0 once the turn has no more. */
+uint32_t c8_next(c8_session *, uint8_t out[C8_DATAGRAM], uint8_t *to);
+
+/* Whether the match is over for this session: it was dropped, or everything was confirmed and acknowledged for more than
+ * 120 turns. True for a closed session. */
+bool c8_is_over(c8_session *);
+
+/* ---- any machine */
+
+/* The rows that changed: writes to `from` the first frame whose best row the engine was not given, and to `rows` the best
+ * rows from there on, four words a row (players 1 to 4; 0 for a player that the game has not). Returns how many rows: as
+ * many as fit into `words` words. Call it until it returns fewer than fit; with room for 16 rows one call after each tick
+ * is enough. The best row of a frame has each player's input if it is known, else the last known one.
+ *
+ * An engine goes back to its state before frame `from`, runs its machine on the rows, and keeps the state before each
+ * frame. The next `from` is at least c8_confirmed as it is now, or as many rows as were given if these are fewer: older
+ * states may go, and window + 1 states suffice. After an opening `from` is 0, also over a journal with frames in it. */
+uint32_t c8_step(c8_session *, uint32_t *from, uint16_t *rows, size_t words);
+
+/* For a test of an engine's machine: from now on each step goes back by `depth` frames, as far as they were not
+ * confirmed, so that an engine can compare its states. Steps then need room for 16 rows or more. 0 ends the test. */
+uint32_t c8_check(c8_session *, uint32_t depth);
+
+/* Writes the text of a game for an engine with a machine of its own: 2 to 4 players, 1 to 262,144 frames, an input delay
+ * of 0 to 4 frames, and a window of 1 to 12 frames that a player may be ahead. `id` is the engine's: its version, its
+ * level; players with different ids do not meet. Returns the length; 0 for more than 4 players, or if the text does not
+ * fit (C8_RULES bytes suffice). Openings refuse the text if another number is out of its range (202). */
+uint32_t c8_rules(uint8_t players, uint32_t frames, uint8_t delay, uint8_t window, const uint8_t id[32], uint8_t *out,
+                  size_t length);
+
+/* ---- what a session knows */
+
+uint32_t c8_ticked(c8_session *);    /* ticks of the own player; of a closed session 0, as the next two */
+uint32_t c8_confirmed(c8_session *); /* frames whose inputs are final here, and equal at every undropped player */
+uint32_t c8_epoch(c8_session *);     /* how often the journal was opened */
+
+/* Writes what the session knows of a player. */
+uint32_t c8_player(c8_session *, uint8_t player, c8_player_state *);
+
+/* ---- CHIP-8's own machine, for emulators */
+
+uint32_t c8_screen(c8_session *, uint8_t out[C8_PICTURE]); /* 32 rows of 8 bytes, the leftmost point in the highest bit */
+uint32_t c8_tone(c8_session *);                            /* returns for how many frames the tone still runs */
+uint32_t c8_state(c8_session *, uint8_t out[C8_STATE]);    /* docs/FORMATS.md has the layout */
+uint32_t c8_mark(c8_session *, uint8_t out[8]);            /* SHA-256 of the state, its first 8 bytes */
+
+/* ---- by hand, for a schedule other than c8_turn and c8_next */
+
+/* Writes a datagram to player `to`: kind 0 HELLO, 1 WELCOME, 2 DATA, 3 FREEZE, 4 FROZEN, 5 CUT (the last three about
+ * `leaver`), and its length. docs/PROTOCOL.md says when each is due. */
+uint32_t c8_say(c8_session *, uint8_t to, uint8_t kind, uint8_t leaver, uint8_t out[C8_DATAGRAM], uint32_t *length);
+uint32_t c8_leave(c8_session *, uint8_t leaver);  /* player 1 drops a player */
+uint32_t c8_decide(c8_session *, uint8_t leaver); /* player 1 cuts its inputs, once all who stay have answered */
+uint32_t c8_checkpoint(c8_session *);             /* the next part of a checkpoint; 1 for the last */
+
+/* ---- a secret: packets that nobody without it can make */
+
+/* The number of a match's session, which the key depends on. */
+uint32_t c8_session_of(const uint8_t *text, size_t length, uint64_t room, uint64_t *session);
+
+/* Writes the sealed packet of a datagram. Returns its length, 16 more than the datagram's; 0 for more than 174 bytes. */
+uint32_t c8_seal(const uint8_t secret[32], uint64_t session, const uint8_t *datagram, size_t length,
+                 uint8_t out[C8_SEALED]);
+
+/* Returns how many bytes at the front of a packet are its datagram; 0 if the packet was not sealed with this secret for
+ * this session. Deliver only these bytes. */
+uint32_t c8_unseal(const uint8_t secret[32], uint64_t session, const uint8_t *packet, size_t length);
+
+/* Writes the name and the sentence of a refusal, as far as they fit (160 bytes do), without a 0 after them. Returns how
+ * many bytes it wrote; 0 for a number that is no refusal. */
+uint32_t c8_explain(uint32_t number, uint8_t *out, size_t length);
+
+#ifdef __cplusplus
+}
+#endif
+
+#endif

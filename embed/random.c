@@ -1,0 +1,381 @@
+/* Random calls of all exports, in any order, with any bytes. Nothing crashes, each answer has its meaning, nothing is
+ * written beyond what c8.h says, and only an opening takes memory.
+ *
+ *     random [CALLS [SEED]]
+ *
+ * Three players of one match deliver each other's datagrams, whole or damaged; a fourth session plays some match, and a
+ * fifth is mostly closed. */
+#define _POSIX_C_SOURCE 200809L
+#include "c8.h"
+
+#include <inttypes.h>
+#include <signal.h>
+#include <stdio.h>
+#include <stdlib.h>
+#include <string.h>
+#include <sys/resource.h>
+#include <unistd.h>
+
+/* ---- memory that counts: an engine may define these three itself */
+
+static uint64_t taken, given_back;
+
+typedef struct {
+    bool ok;
+    void *at;
+} tried;
+
+tried rattle_alloc(size_t size, size_t align);
+tried rattle_realloc(void *old, size_t kept, size_t size, size_t align);
+void rattle_dealloc(void *old);
+
+/* malloc's blocks are aligned to 16, which is all that is asked for. */
+static tried got(void *at) {
+    static uint8_t nothing;
+    tried t = {at != NULL, at ? at : &nothing};
+    taken++;
+    return t;
+}
+
+tried rattle_alloc(size_t size, size_t align) { return got(malloc(size ? size : align)); }
+
+tried rattle_realloc(void *old, size_t kept, size_t size, size_t align) {
+    (void)kept;
+    given_back++;
+    return got(realloc(old, size ? size : align));
+}
+
+void rattle_dealloc(void *old) {
+    given_back++;
+    free(old);
+}
+
+/* ---- the dice */
+
+static uint64_t dice;
+
+static uint64_t roll(uint64_t sides) {
+    dice ^= dice << 13, dice ^= dice >> 7, dice ^= dice << 17;
+    return (dice * 0x2545f4914f6cdd1d >> 11) % sides;
+}
+
+/* ---- what a call may do */
+
+static uint64_t calls;
+static const char *what = "nothing";
+
+static void fail(const char *why, uint64_t number) {
+    printf("random: call %" PRIu64 ", %s: %s: %" PRIu64 "\n", calls, what, why, number);
+    exit(1);
+}
+
+/* An answer is 0, 1 or 2, or a refusal that has a name. */
+static uint32_t answered(uint32_t answer) {
+    uint8_t text[1];
+    if (answer > 2 && c8_explain(answer, text, sizeof text) != 1) fail("an answer without a name", answer);
+    return answer;
+}
+
+/* Room for what a call writes, with bytes beyond that must stay. */
+enum { ROOM = 5000, BEYOND = 64 };
+static uint64_t room_words[(ROOM + BEYOND) / sizeof(uint64_t)]; /* aligned for words of any width */
+static uint8_t *const room = (uint8_t *)room_words;
+
+static void *clear(void) { return memset(room, 0xa5, sizeof room_words); }
+
+static void untouched(size_t from) {
+    for (size_t i = from; i < from + BEYOND; i++)
+        if (room[i] != 0xa5) fail("wrote beyond the room", i);
+}
+
+static void at_most(uint32_t length, size_t most) {
+    if (length > most) fail("too long", length);
+    untouched(most);
+}
+
+/* ---- the sessions */
+
+enum { SESSIONS = 5, MAIL = 64, OPENING = 10000 };
+static c8_session sessions[SESSIONS];
+static uint64_t openings, ticks, heard, rows, drops, refusals;
+static const char *journal;
+
+/* The last datagrams that were said. */
+static struct {
+    uint8_t bytes[C8_DATAGRAM], to;
+    uint32_t length;
+} mail[MAIL];
+static uint64_t kept;
+
+static uint8_t text[4096];
+static size_t text_length;
+
+static void any_bytes(uint8_t *bytes, size_t length) {
+    for (size_t i = 0; i < length; i++) bytes[i] = (uint8_t)roll(256);
+}
+
+/* The text of a game: mostly a good one. */
+static void any_text(void) {
+    uint8_t id[32] = {1};
+    if (roll(10)) {
+        text_length = c8_rules(3, 2000, 1, 6, id, text, sizeof text);
+        return;
+    }
+    any_bytes(id, sizeof id);
+    text_length = c8_rules((uint8_t)roll(7), (uint32_t)roll(300000), (uint8_t)roll(6), (uint8_t)roll(15), id, text,
+                           sizeof text);
+    if (roll(2) == 0) text_length = roll(text_length + 1);
+    if (roll(3) == 0 && text_length > 0) text[roll(text_length)] = (uint8_t)roll(256);
+}
+
+static uint32_t any_patience(void) {
+    static const uint32_t some[] = {0, 0, 0, 0, 0, 1, 300, UINT32_MAX};
+    return some[roll(8)];
+}
+
+static void open_one(int i) {
+    uint8_t player = i < 4 && roll(16) ? (uint8_t)(i % 3 + 1) : (uint8_t)roll(7);
+    uint64_t match = i < 3 ? 1 : roll(3);
+    uint32_t why;
+    openings++;
+    if (roll(8) == 0) {
+        int32_t file = -1, folder = -1;
+        if (roll(8) && c8_journal_open(journal, &file, &folder)) fail("no journal", 0);
+        why = c8_open_journal(text, text_length, player, match, any_patience(), file, folder, &sessions[i]);
+    } else {
+        why = c8_open(text, text_length, player, match, any_patience(), &sessions[i]);
+    }
+    if (!answered(why) && c8_ticked(&sessions[i]) && c8_epoch(&sessions[i]) == 1) fail("a new session has ticked", 0);
+}
+
+/* All three players open the same match. */
+static void open_all(void) {
+    any_text();
+    for (int i = 0; i < SESSIONS; i++)
+        if (roll(16)) open_one(i);
+}
+
+/* Delivers bytes: mostly one of the last datagrams, to the player that it is for. */
+static void deliver(c8_session *s) {
+    uint8_t bytes[300];
+    uint64_t kind = roll(16), place = (kept - roll(roll(4) ? 4 : MAIL)) % MAIL;
+    size_t length = roll(sizeof bytes + 1);
+    any_bytes(bytes, length);
+    if (kind < 14 && mail[place].length) {
+        length = mail[place].length;
+        memcpy(bytes, mail[place].bytes, length);
+        if (kind > 1) s = &sessions[mail[place].to - 1];
+        /* seldom, since players disagree for good after an input was damaged */
+        if (kind == 2 && !roll(20)) bytes[roll(length)] ^= (uint8_t)(1 << roll(8));
+        if (kind == 3) length = roll(length + 1);
+    } else if (kind == 14 && length > 4) { /* any bytes with the head of a datagram */
+        bytes[0] = 0x43, bytes[1] = 0x38, bytes[2] = (uint8_t)(1 + roll(2)), bytes[3] = (uint8_t)(1 + roll(9));
+    }
+    uint32_t answer = answered(c8_deliver(s, bytes, length));
+    heard += answer == 1;
+    drops += answer == 2;
+    refusals += answer > 2;
+}
+
+static void keep(uint32_t length, uint8_t to) {
+    if (!length) return;
+    uint64_t place = ++kept % MAIL;
+    memcpy(mail[place].bytes, room, length);
+    mail[place].length = length;
+    mail[place].to = to;
+}
+
+static void next(c8_session *s) {
+    uint8_t to = 0;
+    uint32_t length = c8_next(s, clear(), &to);
+    at_most(length, C8_DATAGRAM);
+    if (length && (to < 1 || to > 4)) fail("to nobody", to);
+    keep(length, to);
+}
+
+static void say(c8_session *s) {
+    uint8_t to = (uint8_t)roll(6);
+    uint32_t length = 0, answer = answered(c8_say(s, to, (uint8_t)roll(8), (uint8_t)roll(6), clear(), &length));
+    at_most(length, C8_DATAGRAM);
+    if (answer && length) fail("refused and said", answer);
+    keep(length, to);
+}
+
+static void step(c8_session *s) {
+    size_t words = roll(100);
+    uint32_t from = 0, count = c8_step(s, &from, clear(), words);
+    if (count > words / 4) fail("too many rows", count);
+    untouched(8 * (size_t)count);
+    untouched(2 * words);
+    if (count && from + count > c8_ticked(s)) fail("rows of the future", from + count);
+    rows += count;
+}
+
+static void read_all(c8_session *s) {
+    c8_player_state state = {0};
+    uint32_t ticked = c8_ticked(s), confirmed = c8_confirmed(s), epoch = c8_epoch(s);
+    if (confirmed > ticked || (ticked && !epoch)) fail("confirmed", confirmed);
+    bool is_closed = c8_player(s, 1, &state) == C8_CLOSED;
+    if (is_closed != (s->at == NULL)) fail("open or closed", is_closed);
+    if (is_closed && (ticked || confirmed || epoch || c8_tone(s) || !c8_is_over(s))) fail("closed", ticked);
+    answered(c8_player(s, (uint8_t)roll(7), &state));
+    c8_tone(s);
+    c8_is_over(s);
+}
+
+static void look(c8_session *s) {
+    answered(c8_screen(s, clear()));
+    untouched(C8_PICTURE);
+    answered(c8_state(s, clear()));
+    untouched(C8_STATE);
+    answered(c8_mark(s, clear()));
+    untouched(8);
+}
+
+static void make_rules(void) {
+    uint8_t id[32];
+    size_t length = roll(C8_RULES + 1);
+    any_bytes(id, sizeof id);
+    uint32_t written = c8_rules((uint8_t)roll(8), (uint32_t)roll(UINT32_MAX), (uint8_t)roll(256), (uint8_t)roll(256), id,
+                                clear(), length);
+    if (written > length) fail("rules", written);
+    untouched(length);
+}
+
+static void seal(void) {
+    uint8_t secret[32], bytes[300];
+    size_t length = roll(sizeof bytes + 1);
+    uint64_t session = roll(UINT64_MAX);
+    any_bytes(secret, sizeof secret), any_bytes(bytes, length);
+    uint32_t sealed = c8_seal(secret, session, bytes, length, clear());
+    at_most(sealed, C8_SEALED);
+    if (sealed != (length > C8_DATAGRAM ? 0 : length + 16)) fail("sealed", sealed);
+    if (sealed) {
+        if (c8_unseal(secret, session, room, sealed) != length || memcmp(room, bytes, length)) fail("not opened", length);
+        room[roll(sealed)] ^= 1;
+    }
+    if (c8_unseal(secret, session, room, sealed)) fail("opened", sealed);
+    if (c8_unseal(secret, session, bytes, length)) fail("opened", length);
+}
+
+static void explain(void) {
+    size_t length = roll(200);
+    at_most(c8_explain((uint32_t)roll(1500), clear(), length), length);
+}
+
+static void session_of(void) {
+    uint64_t live = taken - given_back, session = 0;
+    any_text();
+    answered(c8_session_of(text, text_length, roll(3), &session));
+    if (taken - given_back != live) fail("kept memory", taken - given_back - live);
+}
+
+/* Calls that change a session. */
+static void change(c8_session *s) {
+    static const uint32_t depths[] = {0, 0, 1, 5, 20, UINT32_MAX};
+    switch (roll(16)) {
+    case 0: what = "c8_leave"; if (!roll(200)) answered(c8_leave(s, (uint8_t)roll(6))); break;
+    case 1: what = "c8_decide"; if (!roll(20)) answered(c8_decide(s, (uint8_t)roll(6))); break;
+    case 2: what = "c8_checkpoint"; answered(c8_checkpoint(s)); break;
+    case 3: what = "c8_check"; answered(c8_check(s, depths[roll(6)])); break;
+    case 4: case 5: case 6: what = "c8_turn"; answered(c8_turn(s)); break;
+    case 7: case 8: case 9: what = "c8_tick"; ticks += !answered(c8_tick(s, (uint16_t)roll(65536))); break;
+    default: what = "c8_deliver"; deliver(s);
+    }
+}
+
+/* Any call but an opening, a close and c8_session_of. */
+static void call(c8_session *s) {
+    switch (roll(16)) {
+    case 0: what = "readers"; read_all(s); break;
+    case 1: what = "c8_say"; say(s); break;
+    case 2: what = "c8_explain"; explain(); break;
+    case 3: what = "c8_rules"; make_rules(); break;
+    case 4: what = "c8_seal"; if (!roll(8)) seal(); break;
+    case 5: what = "c8_state"; if (!roll(8)) look(s); break;
+    case 6: case 7: what = "c8_step"; step(s); break;
+    case 8: case 9: what = "c8_next"; next(s); break;
+    default: change(s);
+    }
+}
+
+/* A journal whose disk fails at some moment: the session is down, and sends nothing, until it is opened again. */
+static void fail_disk(void) {
+    c8_session s = {0}, again = {0};
+    int32_t file, folder;
+    struct rlimit before, limit;
+    uint32_t answer = 0;
+    what = "a disk that fails";
+    unlink(journal);
+    uint8_t id[32] = {2};
+    text_length = c8_rules(2, 1000, 0, 12, id, text, sizeof text);
+    if (c8_journal_open(journal, &file, &folder)) fail("no journal", 0);
+    if (c8_open_journal(text, text_length, 1, 1, 0, file, folder, &s)) fail("not opened", 0);
+    signal(SIGXFSZ, SIG_IGN);
+    getrlimit(RLIMIT_FSIZE, &before);
+    limit = before;
+    limit.rlim_cur = 200;
+    setrlimit(RLIMIT_FSIZE, &limit);
+    for (int i = 0; i < 12 && !answer; i++) answer = c8_tick(&s, 1);
+    if (answer != C8_DISK && answer != C8_FULL) fail("the disk did not fail", answer);
+    uint8_t to;
+    uint32_t ticked = c8_ticked(&s), length;
+    if (c8_turn(&s) || c8_next(&s, clear(), &to)) fail("a turn of a session that is down", 0);
+    if (c8_tick(&s, 1) != 405 || c8_deliver(&s, text, 3) != 816 || c8_leave(&s, 2) != 1005 || c8_decide(&s, 2) != 1105
+        || c8_checkpoint(&s) != 1204 || c8_say(&s, 2, 0, 0, clear(), &length) != 901 || c8_ticked(&s) != ticked)
+        fail("not down", ticked);
+    setrlimit(RLIMIT_FSIZE, &before);
+    c8_close(&s);
+    if (c8_journal_open(journal, &file, &folder)) fail("no journal", 1);
+    if (c8_open_journal(text, text_length, 1, 1, 0, file, folder, &again)) fail("not opened again", 1);
+    if (c8_epoch(&again) != 2) fail("epoch", c8_epoch(&again));
+    if (c8_ticked(&again) < ticked || c8_ticked(&again) > ticked + 1) fail("lost ticks", c8_ticked(&again));
+    c8_close(&again);
+    openings += 2;
+}
+
+int main(int count, char **words) {
+    uint64_t most = count > 1 ? strtoull(words[1], NULL, 10) : 1000000;
+    dice = (count > 2 ? strtoull(words[2], NULL, 10) : 1) * 0x9e3779b97f4a7c15 | 1;
+    const char *temporary = getenv("TMPDIR");
+    char folder[512], path[sizeof folder + 8];
+    snprintf(folder, sizeof folder, "%s/c8_random.XXXXXX", temporary ? temporary : "/tmp");
+    if (!mkdtemp(folder)) return perror(folder), 1;
+    snprintf(path, sizeof path, "%s/journal", folder);
+    journal = path;
+    for (; calls < most; calls++) {
+        c8_session *s = &sessions[roll(20) ? roll(4) : 4];
+        if (calls % OPENING == 0) {
+            what = "opening";
+            unlink(journal);
+            open_all();
+        } else if (roll(OPENING) == 0) {
+            what = "opening one";
+            if (!roll(3)) any_text();
+            open_one((int)(s - sessions));
+        } else if (roll(OPENING) == 0) {
+            what = "c8_close";
+            c8_close(s);
+            c8_close(s);
+        } else if (roll(100) == 0) {
+            what = "c8_session_of";
+            session_of();
+        } else {
+            uint64_t before = taken;
+            call(s);
+            if (taken != before) fail("took memory", taken - before);
+        }
+    }
+    fail_disk();
+    what = "the end";
+    for (int i = 0; i < SESSIONS; i++) c8_close(&sessions[i]);
+    if (taken - given_back > 2 * openings) fail("lost memory", taken - given_back);
+    unlink(journal);
+    rmdir(folder);
+    printf("random: %" PRIu64 " calls, fine\n", calls);
+    fprintf(stderr,
+            "openings %" PRIu64 ", ticks %" PRIu64 ", rows %" PRIu64 ", datagrams kept %" PRIu64 ", refused %" PRIu64
+            ", dropped %" PRIu64 ", blocks lost %" PRIu64 "\n",
+            openings, ticks, rows, heard, refusals, drops, taken - given_back);
+    return 0;
+}

@@ -1,0 +1,47 @@
+//! One peer of a rollback match, for any machine: the calls of `c8.h` as safe Rust.
+//!
+//! A match has two to four players. Each runs one [`Session`], ticks it once a frame with its own player's input, and
+//! carries datagrams between the sessions over any network that may lose, repeat or reorder them. The session predicts
+//! missing inputs, rolls back when a real one differs, and agrees with the others on every confirmed frame.
+//!
+//! ```
+//! use c8play_session::{Rules, Session, Steps};
+//!
+//! let rules = Rules { players: 2, frames: 600, delay: 1, window: 8, id: *b"a level of an engine, version 1 " };
+//! let mut session = Session::open(rules.text()?, 1, 7, 0)?;
+//! let mut steps = Steps::new(16);
+//! let mut states = vec![0_u64; 601];
+//!
+//! // one frame
+//! let received: Vec<Vec<u8>> = vec![];
+//! for bytes in &received {
+//!     let _ = session.deliver(bytes);
+//! }
+//! let _ = session.tick(0x0001);
+//! session.turn()?;
+//! for datagram in session.datagrams() {
+//!     let _send = (datagram.to(), &datagram[..]);
+//! }
+//! session.run(&mut steps, |frame, row| {
+//!     states[frame as usize + 1] = row.iter().fold(states[frame as usize], |sum, input| sum * 31 + u64::from(*input));
+//! });
+//! assert_eq!(session.ticked(), 1);
+//! # Ok::<(), c8play_session::Refusal>(())
+//! ```
+//!
+//! When the crate is built, the environment variable `C8PLAY_LIB` names the folders of `libc8_engine.a` and of the
+//! toolchain's `libos_c.a` and `liblibc_c.a`, separated by `:`.
+#![deny(unsafe_code)]
+#![warn(missing_debug_implementations)]
+
+mod packet;
+mod refusal;
+mod rules;
+mod session;
+mod sys;
+
+pub use packet::{Datagram, Packet, Seal};
+pub use refusal::Refusal;
+pub use rules::Rules;
+pub use session::{Datagrams, Heard, Journal, Kind, Session, Steps};
+pub use sys::PlayerState;

@@ -1,0 +1,38 @@
+//! The rules of a match.
+
+use crate::refusal::Refusal;
+use crate::session::done;
+use crate::sys;
+
+/// The longest text of [`Rules`].
+const LONGEST: usize = 256;
+
+/// The rules of a match for an engine with a machine of its own. All players need the same.
+#[derive(Clone, Copy, Debug, PartialEq, Eq, Hash)]
+pub struct Rules {
+    /// How many players there are, 2 to 4.
+    pub players: u8,
+    /// How many frames the match has, 1 to 262,144.
+    pub frames: u32,
+    /// After how many frames an input counts, 0 to 4.
+    pub delay: u8,
+    /// By how many frames a player may be ahead of the confirmed ones, 1 to 12.
+    pub window: u8,
+    /// The engine's version, its level: players with different ids do not meet.
+    pub id: [u8; 32],
+}
+
+impl Rules {
+    /// The text of these rules, for [`crate::Session::open`]. Refused with [`Refusal::GameRange`] if a number is out of
+    /// its range.
+    pub fn text(&self) -> Result<String, Refusal> {
+        if self.players > 4 {
+            return Err(Refusal::GameRange);
+        }
+        let mut text = vec![0; LONGEST];
+        let length = sys::rules(self.players, self.frames, self.delay, self.window, &self.id, &mut text);
+        text.truncate(length as usize);
+        done(sys::session_of(&text, 0, &mut 0))?;
+        Ok(String::from_utf8(text).expect("the text of a game is ASCII"))
+    }
+}

@@ -1,0 +1,310 @@
+//! One peer of a match.
+
+use crate::packet::Datagram;
+use crate::refusal::Refusal;
+use crate::sys::{self, Handle, PlayerState};
+use std::fmt;
+use std::fs::{File, OpenOptions};
+use std::io;
+use std::os::fd::OwnedFd;
+use std::path::{Path, PathBuf};
+
+/// The answer of a call that answers 0 or a refusal.
+pub(crate) fn done(answer: u32) -> Result<(), Refusal> {
+    match answer {
+        0 => Ok(()),
+        number => Err(Refusal::of(number)),
+    }
+}
+
+/// One peer of a match. It is closed when it is dropped.
+///
+/// In each frame, in this order: [`deliver`](Session::deliver) what came, [`tick`](Session::tick) the own input, make the
+/// [`turn`](Session::turn), send the [`datagrams`](Session::datagrams), and run the machine on the rows of a
+/// [`step`](Session::step).
+///
+/// Only an opening takes memory. A session may move to another thread, but is not shared between threads:
+///
+/// ```compile_fail
+/// fn is_shared<T: Sync>() {}
+/// is_shared::<c8play_session::Session>();
+/// ```
+pub struct Session {
+    handle: Handle,
+}
+
+/// What a delivery did.
+#[derive(Clone, Copy, Debug, PartialEq, Eq, Hash)]
+pub enum Heard {
+    /// It added nothing.
+    Nothing,
+    /// It added inputs or a decision.
+    Kept,
+    /// It says that player 1 has dropped this player.
+    Dropped,
+}
+
+/// A kind of datagram, for a schedule of one's own. docs/PROTOCOL.md says when each is due.
+#[derive(Clone, Copy, Debug, PartialEq, Eq, Hash)]
+pub enum Kind {
+    Hello,
+    Welcome,
+    Data,
+    /// About the leaver with this number, as are the two after it.
+    Freeze(u8),
+    Frozen(u8),
+    Cut(u8),
+}
+
+/// The file of a journal, and the folder that has its name.
+#[derive(Debug)]
+pub struct Journal {
+    file: OwnedFd,
+    folder: OwnedFd,
+}
+
+impl Journal {
+    /// Opens the file at this path to read and write, and makes it if there is none.
+    pub fn open(path: impl AsRef<Path>) -> io::Result<Journal> {
+        let file = OpenOptions::new().read(true).write(true).create(true).truncate(false).open(&path)?;
+        if !file.metadata()?.is_file() {
+            return Err(io::Error::new(io::ErrorKind::InvalidInput, "a journal is a regular file"));
+        }
+        // A link is followed first: the name to make durable is that of the file itself.
+        let real = path.as_ref().canonicalize()?;
+        let folder = File::open(real.parent().map_or(PathBuf::from("/"), Path::to_path_buf))?;
+        Ok(Journal::of(file, folder))
+    }
+
+    /// A file that is open to read and write, and its folder.
+    pub fn of(file: impl Into<OwnedFd>, folder: impl Into<OwnedFd>) -> Journal {
+        Journal { file: file.into(), folder: folder.into() }
+    }
+}
+
+impl Session {
+    /// Opens the session of a player, 1 to 4, in a match: the text of a game ([`crate::Rules::text`]) and a room, a
+    /// number that all players of the match share. Use a room once. The journal is in memory. Player 1 drops a player who
+    /// was silent for `patience` turns; 0 never. The rules of the game, some hundred bytes, are never given back.
+    pub fn open(rules: impl AsRef<[u8]>, player: u8, room: u64, patience: u32) -> Result<Session, Refusal> {
+        let (answer, handle) = Handle::open(rules.as_ref(), player, room, patience);
+        done(answer).map(|()| Session { handle })
+    }
+
+    /// The same over a journal in a file, from which a crashed program goes on where it was: with the same rules, player
+    /// and room. Ticks, deliveries and turns then wait for the disk.
+    pub fn open_journal(
+        rules: impl AsRef<[u8]>,
+        player: u8,
+        room: u64,
+        patience: u32,
+        journal: Journal,
+    ) -> Result<Session, Refusal> {
+        let files = (journal.file, journal.folder);
+        let (answer, handle) = Handle::open_journal(rules.as_ref(), player, room, patience, files);
+        done(answer).map(|()| Session { handle })
+    }
+
+    /// Processes a received datagram: any bytes. Refusals are normal, since datagrams come late, twice or from strangers:
+    /// only [`Refusal::DiskFailed`], [`Refusal::DiskFull`] and [`Refusal::Desync`] need an answer.
+    pub fn deliver(&mut self, bytes: &[u8]) -> Result<Heard, Refusal> {
+        match self.handle.deliver(bytes) {
+            0 => Ok(Heard::Nothing),
+            1 => Ok(Heard::Kept),
+            2 => Ok(Heard::Dropped),
+            number => Err(Refusal::of(number)),
+        }
+    }
+
+    /// Enters the own player's input for the next frame. After [`Refusal::Threshold`] the player is too far ahead: tick
+    /// this frame again later. [`Refusal::End`] and [`Refusal::TickDropped`] are normal too.
+    pub fn tick(&mut self, input: u16) -> Result<(), Refusal> {
+        done(self.handle.tick(input))
+    }
+
+    /// Begins a turn: player 1 drops silent players and cuts their inputs, a journal gets a part of its checkpoint (one
+    /// every 3,600 frames), and [`datagrams`](Session::datagrams) gives the turn's datagrams. Call it once a frame, also
+    /// when the tick was refused.
+    pub fn turn(&mut self) -> Result<(), Refusal> {
+        done(self.handle.turn())
+    }
+
+    /// The datagrams of this turn that are still to be sent.
+    pub fn datagrams(&mut self) -> Datagrams<'_> {
+        Datagrams { session: self }
+    }
+
+    /// Whether the match is over for this session: it was dropped, or everything was confirmed and acknowledged for more
+    /// than 120 turns.
+    pub fn is_over(&self) -> bool {
+        self.handle.is_over()
+    }
+
+    /// Writes the rows that changed to `steps`, as many as have room there. If `steps` is full, step again for the rest.
+    pub fn step(&mut self, steps: &mut Steps) {
+        steps.count = self.handle.step(&mut steps.from, &mut steps.rows) as usize;
+    }
+
+    /// Calls `run` with each frame whose row changed, in order: an engine goes back to its state before that frame, runs
+    /// its machine on the row, and keeps the state after it.
+    pub fn run(&mut self, steps: &mut Steps, mut run: impl FnMut(u32, [u16; 4])) {
+        loop {
+            self.step(steps);
+            steps.frames().for_each(|(frame, row)| run(frame, row));
+            if !steps.is_full() {
+                return;
+            }
+        }
+    }
+
+    /// For a test of an engine's machine: from now on each step goes back by `depth` frames, as far as they were not
+    /// confirmed. [`Steps`] then need room for 16 rows or more. 0 ends the test.
+    pub fn check(&mut self, depth: u32) {
+        self.handle.check(depth);
+    }
+
+    /// Ticks of the own player.
+    pub fn ticked(&self) -> u32 {
+        self.handle.ticked()
+    }
+
+    /// Frames whose inputs are final here, and equal at every undropped player.
+    pub fn confirmed(&self) -> u32 {
+        self.handle.confirmed()
+    }
+
+    /// How often the journal was opened.
+    pub fn epoch(&self) -> u32 {
+        self.handle.epoch()
+    }
+
+    /// What is known of a player, 1 to 4.
+    pub fn player(&self, player: u8) -> Result<PlayerState, Refusal> {
+        let mut state = PlayerState::default();
+        done(self.handle.player(player, &mut state))?;
+        Ok(state)
+    }
+
+    /// CHIP-8's picture: 32 rows of 8 bytes, the leftmost point in the highest bit.
+    pub fn screen(&self) -> [u8; sys::PICTURE] {
+        let mut out = [0; sys::PICTURE];
+        self.handle.screen(&mut out);
+        out
+    }
+
+    /// For how many frames CHIP-8's tone still runs.
+    pub fn tone(&self) -> u32 {
+        self.handle.tone()
+    }
+
+    /// The bytes of CHIP-8's state (docs/FORMATS.md).
+    pub fn state(&self) -> [u8; sys::STATE] {
+        let mut out = [0; sys::STATE];
+        self.handle.state(&mut out);
+        out
+    }
+
+    /// SHA-256 of CHIP-8's state, its first 8 bytes.
+    pub fn mark(&self) -> [u8; 8] {
+        let mut out = [0; 8];
+        self.handle.mark(&mut out);
+        out
+    }
+
+    /// A datagram of a kind to a player, for a schedule other than that of [`turn`](Session::turn).
+    pub fn say(&mut self, to: u8, kind: Kind) -> Result<Datagram, Refusal> {
+        let (number, leaver) = match kind {
+            Kind::Hello => (0, 0),
+            Kind::Welcome => (1, 0),
+            Kind::Data => (2, 0),
+            Kind::Freeze(leaver) => (3, leaver),
+            Kind::Frozen(leaver) => (4, leaver),
+            Kind::Cut(leaver) => (5, leaver),
+        };
+        let (mut bytes, mut length) = ([0; sys::DATAGRAM], 0);
+        done(self.handle.say(to, number, leaver, &mut bytes, &mut length))?;
+        Ok(Datagram { bytes, length: length as usize, to })
+    }
+
+    /// Player 1 drops a player.
+    pub fn leave(&mut self, leaver: u8) -> Result<(), Refusal> {
+        done(self.handle.leave(leaver))
+    }
+
+    /// Player 1 cuts the inputs of a player that it has dropped, once all who stay have answered.
+    pub fn decide(&mut self, leaver: u8) -> Result<(), Refusal> {
+        done(self.handle.decide(leaver))
+    }
+
+    /// Records the next part of a checkpoint. Returns whether it was the last one.
+    pub fn checkpoint(&mut self) -> Result<bool, Refusal> {
+        match self.handle.checkpoint() {
+            0 => Ok(false),
+            1 => Ok(true),
+            number => Err(Refusal::of(number)),
+        }
+    }
+}
+
+impl fmt::Debug for Session {
+    fn fmt(&self, f: &mut fmt::Formatter<'_>) -> fmt::Result {
+        f.debug_struct("Session")
+            .field("epoch", &self.epoch())
+            .field("ticked", &self.ticked())
+            .field("confirmed", &self.confirmed())
+            .finish()
+    }
+}
+
+/// The datagrams of a turn that are still to be sent.
+#[derive(Debug)]
+pub struct Datagrams<'s> {
+    session: &'s mut Session,
+}
+
+impl Iterator for Datagrams<'_> {
+    type Item = Datagram;
+
+    fn next(&mut self) -> Option<Datagram> {
+        let (mut bytes, mut to) = ([0; sys::DATAGRAM], 0);
+        match self.session.handle.next(&mut bytes, &mut to) {
+            0 => None,
+            length => Some(Datagram { bytes, length: length as usize, to }),
+        }
+    }
+}
+
+/// Room for the rows of a step.
+#[derive(Clone, Debug)]
+pub struct Steps {
+    rows: Vec<[u16; 4]>,
+    from: u32,
+    count: usize,
+}
+
+impl Steps {
+    /// Room for this many rows. 16 suffice for a step in each frame.
+    pub fn new(room: usize) -> Steps {
+        Steps { rows: vec![[0; 4]; room.max(1)], from: 0, count: 0 }
+    }
+
+    /// The first frame whose row changed: go back to the state before it.
+    pub fn from(&self) -> u32 {
+        self.from
+    }
+
+    /// The rows from there on, with an input of each of four players; 0 for a player that the game has not.
+    pub fn rows(&self) -> &[[u16; 4]] {
+        &self.rows[..self.count]
+    }
+
+    /// The rows with their frames.
+    pub fn frames(&self) -> impl Iterator<Item = (u32, [u16; 4])> + '_ {
+        (self.from..).zip(self.rows().iter().copied())
+    }
+
+    /// Whether there may be more rows: step again.
+    pub fn is_full(&self) -> bool {
+        self.count == self.rows.len()
+    }
+}

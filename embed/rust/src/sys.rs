@@ -1,0 +1,210 @@
+//! The calls of the C library, each behind a safe function. All `unsafe` of this crate is here.
+//!
+//! Why it is sound:
+//! - The signatures are those of `c8.h`. An array or a slice is passed as a pointer to as many elements as the library
+//!   may touch: the array types have the lengths of the header, and a slice goes with its own length.
+//! - Every bit pattern of the numbers that the library writes is valid. It writes 0 or 1 to a `bool`.
+//! - The library keeps no pointer after a call, and calls nothing back.
+//! - A [`Handle`] starts as zeros, its pointer is changed by the library alone, and it is neither copied nor cloned.
+//!   Moving it is fine: the library does not know where it is.
+//! - The library has no state but what a handle points to, so a handle may be used by any thread, one at a time (`Send`).
+//!   Calls by shared references are calls of one thread, since a handle is not `Sync`.
+#![allow(unsafe_code)]
+
+use std::cell::UnsafeCell;
+use std::os::fd::{IntoRawFd, OwnedFd};
+use std::ptr;
+
+pub const DATAGRAM: usize = 174;
+pub const SEALED: usize = 190;
+pub const PICTURE: usize = 256;
+pub const STATE: usize = 4419;
+
+/// `c8_session`.
+#[repr(C)]
+struct Raw {
+    at: *mut u8,
+}
+
+/// What a session knows of another player of its match. Of its own, only `held` and `dropped` mean something.
+#[repr(C)]
+#[derive(Clone, Copy, Debug, Default, PartialEq, Eq)]
+pub struct PlayerState {
+    /// Turns in a row without a datagram from it, with the present one.
+    pub silent: u64,
+    /// Its inputs that are here, with the empty ones of the delay.
+    pub held: u32,
+    /// Own inputs that it has acknowledged since the opening, with those of the delay.
+    pub acknowledged: u32,
+    /// Whether its link is open: inputs can be sent.
+    pub linked: bool,
+    /// Whether player 1 has dropped it, as far as is known here.
+    pub dropped: bool,
+}
+
+extern "C" {
+    fn c8_open(text: *const u8, length: usize, player: u8, room: u64, patience: u32, session: *mut Raw) -> u32;
+    fn c8_open_journal(
+        text: *const u8,
+        length: usize,
+        player: u8,
+        room: u64,
+        patience: u32,
+        file: i32,
+        folder: i32,
+        session: *mut Raw,
+    ) -> u32;
+    fn c8_close(session: *mut Raw);
+    fn c8_deliver(session: *mut Raw, bytes: *const u8, length: usize) -> u32;
+    fn c8_tick(session: *mut Raw, input: u16) -> u32;
+    fn c8_turn(session: *mut Raw) -> u32;
+    fn c8_next(session: *mut Raw, out: *mut u8, to: *mut u8) -> u32;
+    fn c8_is_over(session: *mut Raw) -> bool;
+    fn c8_step(session: *mut Raw, from: *mut u32, rows: *mut u16, words: usize) -> u32;
+    fn c8_check(session: *mut Raw, depth: u32) -> u32;
+    fn c8_rules(players: u8, frames: u32, delay: u8, window: u8, id: *const u8, out: *mut u8, length: usize) -> u32;
+    fn c8_ticked(session: *mut Raw) -> u32;
+    fn c8_confirmed(session: *mut Raw) -> u32;
+    fn c8_epoch(session: *mut Raw) -> u32;
+    fn c8_player(session: *mut Raw, player: u8, state: *mut PlayerState) -> u32;
+    fn c8_screen(session: *mut Raw, out: *mut u8) -> u32;
+    fn c8_tone(session: *mut Raw) -> u32;
+    fn c8_state(session: *mut Raw, out: *mut u8) -> u32;
+    fn c8_mark(session: *mut Raw, out: *mut u8) -> u32;
+    fn c8_say(session: *mut Raw, to: u8, kind: u8, leaver: u8, out: *mut u8, length: *mut u32) -> u32;
+    fn c8_leave(session: *mut Raw, leaver: u8) -> u32;
+    fn c8_decide(session: *mut Raw, leaver: u8) -> u32;
+    fn c8_checkpoint(session: *mut Raw) -> u32;
+    fn c8_session_of(text: *const u8, length: usize, room: u64, session: *mut u64) -> u32;
+    fn c8_seal(secret: *const u8, session: u64, datagram: *const u8, length: usize, out: *mut u8) -> u32;
+    fn c8_unseal(secret: *const u8, session: u64, packet: *const u8, length: usize) -> u32;
+    fn c8_explain(number: u32, out: *mut u8, length: usize) -> u32;
+}
+
+/// A handle, which is closed when it is dropped.
+pub struct Handle(UnsafeCell<Raw>);
+
+unsafe impl Send for Handle {}
+
+impl Drop for Handle {
+    fn drop(&mut self) {
+        unsafe { c8_close(self.0.get()) }
+    }
+}
+
+impl Handle {
+    fn closed() -> Handle {
+        Handle(UnsafeCell::new(Raw { at: ptr::null_mut() }))
+    }
+
+    pub fn open(text: &[u8], player: u8, room: u64, patience: u32) -> (u32, Handle) {
+        let handle = Handle::closed();
+        let why = unsafe { c8_open(text.as_ptr(), text.len(), player, room, patience, handle.0.get()) };
+        (why, handle)
+    }
+
+    pub fn open_journal(text: &[u8], player: u8, room: u64, patience: u32, files: (OwnedFd, OwnedFd)) -> (u32, Handle) {
+        let handle = Handle::closed();
+        let (file, folder) = (files.0.into_raw_fd(), files.1.into_raw_fd());
+        let why =
+            unsafe { c8_open_journal(text.as_ptr(), text.len(), player, room, patience, file, folder, handle.0.get()) };
+        (why, handle)
+    }
+
+    pub fn deliver(&mut self, bytes: &[u8]) -> u32 {
+        unsafe { c8_deliver(self.0.get(), bytes.as_ptr(), bytes.len()) }
+    }
+
+    pub fn tick(&mut self, input: u16) -> u32 {
+        unsafe { c8_tick(self.0.get(), input) }
+    }
+
+    pub fn turn(&mut self) -> u32 {
+        unsafe { c8_turn(self.0.get()) }
+    }
+
+    pub fn next(&mut self, out: &mut [u8; DATAGRAM], to: &mut u8) -> u32 {
+        unsafe { c8_next(self.0.get(), out.as_mut_ptr(), to) }
+    }
+
+    pub fn is_over(&self) -> bool {
+        unsafe { c8_is_over(self.0.get()) }
+    }
+
+    /// Four words in a row are an array: a slice of arrays has no gaps.
+    pub fn step(&mut self, from: &mut u32, rows: &mut [[u16; 4]]) -> u32 {
+        unsafe { c8_step(self.0.get(), from, rows.as_mut_ptr().cast(), 4 * rows.len()) }
+    }
+
+    pub fn check(&mut self, depth: u32) -> u32 {
+        unsafe { c8_check(self.0.get(), depth) }
+    }
+
+    pub fn ticked(&self) -> u32 {
+        unsafe { c8_ticked(self.0.get()) }
+    }
+
+    pub fn confirmed(&self) -> u32 {
+        unsafe { c8_confirmed(self.0.get()) }
+    }
+
+    pub fn epoch(&self) -> u32 {
+        unsafe { c8_epoch(self.0.get()) }
+    }
+
+    pub fn player(&self, player: u8, state: &mut PlayerState) -> u32 {
+        unsafe { c8_player(self.0.get(), player, state) }
+    }
+
+    pub fn screen(&self, out: &mut [u8; PICTURE]) -> u32 {
+        unsafe { c8_screen(self.0.get(), out.as_mut_ptr()) }
+    }
+
+    pub fn tone(&self) -> u32 {
+        unsafe { c8_tone(self.0.get()) }
+    }
+
+    pub fn state(&self, out: &mut [u8; STATE]) -> u32 {
+        unsafe { c8_state(self.0.get(), out.as_mut_ptr()) }
+    }
+
+    pub fn mark(&self, out: &mut [u8; 8]) -> u32 {
+        unsafe { c8_mark(self.0.get(), out.as_mut_ptr()) }
+    }
+
+    pub fn say(&mut self, to: u8, kind: u8, leaver: u8, out: &mut [u8; DATAGRAM], length: &mut u32) -> u32 {
+        unsafe { c8_say(self.0.get(), to, kind, leaver, out.as_mut_ptr(), length) }
+    }
+
+    pub fn leave(&mut self, leaver: u8) -> u32 {
+        unsafe { c8_leave(self.0.get(), leaver) }
+    }
+
+    pub fn decide(&mut self, leaver: u8) -> u32 {
+        unsafe { c8_decide(self.0.get(), leaver) }
+    }
+
+    pub fn checkpoint(&mut self) -> u32 {
+        unsafe { c8_checkpoint(self.0.get()) }
+    }
+}
+
+pub fn rules(players: u8, frames: u32, delay: u8, window: u8, id: &[u8; 32], out: &mut [u8]) -> u32 {
+    unsafe { c8_rules(players, frames, delay, window, id.as_ptr(), out.as_mut_ptr(), out.len()) }
+}
+
+pub fn session_of(text: &[u8], room: u64, session: &mut u64) -> u32 {
+    unsafe { c8_session_of(text.as_ptr(), text.len(), room, session) }
+}
+
+pub fn seal(secret: &[u8; 32], session: u64, datagram: &[u8], out: &mut [u8; SEALED]) -> u32 {
+    unsafe { c8_seal(secret.as_ptr(), session, datagram.as_ptr(), datagram.len(), out.as_mut_ptr()) }
+}
+
+pub fn unseal(secret: &[u8; 32], session: u64, packet: &[u8]) -> u32 {
+    unsafe { c8_unseal(secret.as_ptr(), session, packet.as_ptr(), packet.len()) }
+}
+
+pub fn explain(number: u32, out: &mut [u8]) -> u32 {
+    unsafe { c8_explain(number, out.as_mut_ptr(), out.len()) }
+}
