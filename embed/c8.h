@@ -18,11 +18,12 @@
  * - A pointer is not null, and points to as many bytes as its length or array bound says. Two pointers of one call do not
  *   overlap: no packet is sealed in place.
  *
- * Answers: 0 is done, unless a call says otherwise. From 101 on each number is one refusal, the same in all calls
- * (c8_explain tells its name and sentence). A refused call changes nothing, with two exceptions: after 1301 or 1302 the
- * session is down and sends nothing more (close it and open it again), and 814 means that another player's CHIP-8
- * machine differs. Nothing compares an engine's own machine: its players may exchange a hash of the state at a confirmed
- * frame. */
+ * A call whose answer is a c8_answer says 0 for done (some say 1 or 2 for more than that), and from 101 on a refusal:
+ * each has one number, the same in all calls, and c8_explain tells its name and sentence. A refused call changes nothing,
+ * with two exceptions: after 1301 or 1302 of an open session that session is down and sends nothing more (close it and open it
+ * again), and 814 means that another player's CHIP-8 machine differs. Nothing compares an engine's own machine: its
+ * players may exchange a hash of the state at a confirmed frame. All other calls return a count or a length and never
+ * refuse: at a closed session it is 0. */
 #ifndef C8_H
 #define C8_H
 
@@ -39,8 +40,12 @@ enum {
     C8_SEALED = 190,   /* the longest sealed packet */
     C8_PICTURE = 256,  /* the bytes of a CHIP-8 picture */
     C8_STATE = 4419,   /* the bytes of a CHIP-8 machine's state */
-    C8_RULES = 256     /* the longest text of c8_rules */
+    C8_RULES = 256,    /* the longest text of c8_rules */
+    C8_ROW = 4,        /* the words of a row */
+    C8_ROWS = 16       /* rows that one step needs room for at most, once the engine is up to date */
 };
+
+typedef uint32_t c8_answer;
 
 /* Some answers that a program may test for. */
 enum {
@@ -66,6 +71,9 @@ typedef struct {
     bool linked;           /* its link is open: inputs can be sent */
     bool dropped;          /* player 1 has dropped it, as far as is known here */
 } c8_player_state;
+/* Who is ahead: the own ticks that reached a player are `acknowledged` - delay, its ticks that came here `held` - delay.
+ * The own player is ahead of it by about (ticked + delay - held) - (ticked + delay - acknowledged) / 2 frames. If that
+ * stays above 1, leave out a tick now and then: it is always allowed, and the other one has fewer rollbacks. */
 
 /* ---- opening and closing */
 
@@ -73,33 +81,41 @@ typedef struct {
  * number that all players of the match share. The journal is in memory. Player 1 drops a player who was silent for
  * `patience` turns; 0 never. Opening over an open session closes that one, unless it is refused. The rules of the game,
  * some hundred bytes and its program, are never given back. Use a room once. */
-uint32_t c8_open(const uint8_t *text, size_t length, uint8_t player, uint64_t room, uint32_t patience, c8_session *);
+c8_answer c8_open(const uint8_t *text, size_t length, uint8_t player, uint64_t room, uint32_t patience, c8_session *);
 
 /* The same over a journal in a file, from which a crashed program goes on where it was: with the same text, player and
- * room. It takes two descriptors that c8_journal_open opened, and closes them, also when it refuses. */
-uint32_t c8_open_journal(const uint8_t *text, size_t length, uint8_t player, uint64_t room, uint32_t patience,
+ * room. Then the machine is back at its start: the first steps give all rows, and the next input is that of tick
+ * c8_ticked. A new match needs a new file. To open a journal again that is open here, close that session first. It takes
+ * two descriptors that c8_journal_open opened, and closes them, also when it refuses. A record waits for two syncs of the
+ * disk, often some milliseconds: such a session may want a thread of its own. */
+c8_answer c8_open_journal(const uint8_t *text, size_t length, uint8_t player, uint64_t room, uint32_t patience,
                          int32_t file, int32_t folder, c8_session *);
 
 /* Opens the file at this path to read and write, and makes it if there is none; and the folder that has its name. Returns
  * 0, or -1 with errno. It is in c8_journal.c: compile that file with the program. */
 int c8_journal_open(const char *path, int32_t *file, int32_t *folder);
 
-/* Closes a session. A closed one stays closed. */
+/* Closes a session. At a closed one it does nothing; a closed one may be opened again. */
 void c8_close(c8_session *);
 
-/* ---- a frame: deliver what came, tick, make the turn, send what is due, step */
+/* ---- a frame: deliver what came, tick, make the turn, send what is due, step
+ *
+ * Tick from the first frame on; c8_turn makes the links between the players, and a datagram names its sender. The result
+ * is final once c8_confirmed is the number of frames, but go on with turns until c8_is_over: who leaves earlier may leave
+ * another player without an end. */
 
 /* Processes a received datagram: any bytes. 0: it added nothing; 1: it added inputs or a decision; 2: it says that
  * player 1 has dropped this player. Refusals are normal, since datagrams come late, twice or from strangers: only
  * C8_DISK, C8_FULL and C8_DESYNC need an answer. */
-uint32_t c8_deliver(c8_session *, const uint8_t *bytes, size_t length);
+c8_answer c8_deliver(c8_session *, const uint8_t *bytes, size_t length);
 
-/* Enters the own player's input for the next frame: 16 bits. C8_THRESHOLD, C8_END and C8_DROPPED are normal refusals. */
-uint32_t c8_tick(c8_session *, uint16_t input);
+/* Enters the own player's next input, 16 bits. The input of tick t, from 0 on, is in row t + delay; the first rows, as
+ * many as the delay, are empty. C8_THRESHOLD, C8_END and C8_DROPPED are normal refusals. */
+c8_answer c8_tick(c8_session *, uint16_t input);
 
 /* Begins a turn: player 1 drops silent players and cuts their inputs, a journal gets a part of its checkpoint (one every
  * 3,600 frames), and c8_next gives the turn's datagrams. Call it once a frame, also when the tick was refused. */
-uint32_t c8_turn(c8_session *);
+c8_answer c8_turn(c8_session *);
 
 /* Writes the next datagram of this turn to `out`, and the number of the player that it is for to `to`. Returns its
  * length; 0 once the turn has no more. */
@@ -112,9 +128,11 @@ bool c8_is_over(c8_session *);
 /* ---- any machine */
 
 /* The rows that changed: writes to `from` the first frame whose best row the engine was not given, and to `rows` the best
- * rows from there on, four words a row (players 1 to 4; 0 for a player that the game has not). Returns how many rows: as
- * many as fit into `words` words. Call it until it returns fewer than fit; with room for 16 rows one call after each tick
- * is enough. The best row of a frame has each player's input if it is known, else the last known one.
+ * rows from there up to c8_ticked, four words a row (players 1 to 4; 0 for a player that the game has not). Returns how
+ * many rows: as many as fit into `words` words. Call it until it returns fewer than fit (not until 0: c8_check gives rows
+ * at each call); after a tick one call with room for C8_ROWS rows is enough, but not after an opening. Then the engine's
+ * state is the one before frame c8_ticked. The best row of a frame has each player's input if it is known, else the last
+ * known one.
  *
  * An engine goes back to its state before frame `from`, runs its machine on the rows, and keeps the state before each
  * frame. The next `from` is at least c8_confirmed as it is now, or as many rows as were given if these are fewer: older
@@ -122,12 +140,13 @@ bool c8_is_over(c8_session *);
 uint32_t c8_step(c8_session *, uint32_t *from, uint16_t *rows, size_t words);
 
 /* For a test of an engine's machine: from now on each step goes back by `depth` frames, as far as they were not
- * confirmed, so that an engine can compare its states. Steps then need room for 16 rows or more. 0 ends the test. */
-uint32_t c8_check(c8_session *, uint32_t depth);
+ * confirmed, so that an engine can compare its states: as long as a row equals the one that was kept for its frame, the
+ * state after it has to. Steps then need room for C8_ROWS rows or more. 0 ends the test. */
+c8_answer c8_check(c8_session *, uint32_t depth);
 
 /* Writes the text of a game for an engine with a machine of its own: 2 to 4 players, 1 to 262,144 frames, an input delay
- * of 0 to 4 frames, and a window of 1 to 12 frames that a player may be ahead. `id` is the engine's: its version, its
- * level; players with different ids do not meet. Returns the length; 0 for more than 4 players, or if the text does not
+ * of 0 to 4 frames, and a window of 1 to 12 frames: so far c8_ticked may be ahead of c8_confirmed. `id` is the engine's:
+ * its version, its level; players with different ids do not meet. Returns the length; 0 for more than 4 players, or if the text does not
  * fit (C8_RULES bytes suffice). Openings refuse the text if another number is out of its range (202). */
 uint32_t c8_rules(uint8_t players, uint32_t frames, uint8_t delay, uint8_t window, const uint8_t id[32], uint8_t *out,
                   size_t length);
@@ -138,29 +157,29 @@ uint32_t c8_ticked(c8_session *);    /* ticks of the own player; of a closed ses
 uint32_t c8_confirmed(c8_session *); /* frames whose inputs are final here, and equal at every undropped player */
 uint32_t c8_epoch(c8_session *);     /* how often the journal was opened */
 
-/* Writes what the session knows of a player. */
-uint32_t c8_player(c8_session *, uint8_t player, c8_player_state *);
+/* Writes what the session knows of a player, 1 to 4; of one that the game has not, zeros but for `acknowledged`. */
+c8_answer c8_player(c8_session *, uint8_t player, c8_player_state *);
 
 /* ---- CHIP-8's own machine, for emulators */
 
-uint32_t c8_screen(c8_session *, uint8_t out[C8_PICTURE]); /* 32 rows of 8 bytes, the leftmost point in the highest bit */
-uint32_t c8_tone(c8_session *);                            /* returns for how many frames the tone still runs */
-uint32_t c8_state(c8_session *, uint8_t out[C8_STATE]);    /* docs/FORMATS.md has the layout */
-uint32_t c8_mark(c8_session *, uint8_t out[8]);            /* SHA-256 of the state, its first 8 bytes */
+c8_answer c8_screen(c8_session *, uint8_t out[C8_PICTURE]); /* 32 rows of 8 bytes, the leftmost point the highest bit */
+uint32_t c8_tone(c8_session *);                             /* returns for how many frames the tone still runs */
+c8_answer c8_state(c8_session *, uint8_t out[C8_STATE]);    /* docs/FORMATS.md has the layout */
+c8_answer c8_mark(c8_session *, uint8_t out[8]);            /* SHA-256 of the state, its first 8 bytes */
 
 /* ---- by hand, for a schedule other than c8_turn and c8_next */
 
 /* Writes a datagram to player `to`: kind 0 HELLO, 1 WELCOME, 2 DATA, 3 FREEZE, 4 FROZEN, 5 CUT (the last three about
  * `leaver`), and its length. docs/PROTOCOL.md says when each is due. */
-uint32_t c8_say(c8_session *, uint8_t to, uint8_t kind, uint8_t leaver, uint8_t out[C8_DATAGRAM], uint32_t *length);
-uint32_t c8_leave(c8_session *, uint8_t leaver);  /* player 1 drops a player */
-uint32_t c8_decide(c8_session *, uint8_t leaver); /* player 1 cuts its inputs, once all who stay have answered */
-uint32_t c8_checkpoint(c8_session *);             /* the next part of a checkpoint; 1 for the last */
+c8_answer c8_say(c8_session *, uint8_t to, uint8_t kind, uint8_t leaver, uint8_t out[C8_DATAGRAM], uint32_t *length);
+c8_answer c8_leave(c8_session *, uint8_t leaver);  /* player 1 drops a player */
+c8_answer c8_decide(c8_session *, uint8_t leaver); /* player 1 cuts its inputs, once all who stay have answered */
+c8_answer c8_checkpoint(c8_session *);             /* the next part of a checkpoint; 1 for the last */
 
-/* ---- a secret: packets that nobody without it can make */
+/* ---- a secret: packets that nobody without it can make. It does not hide what they say. */
 
-/* The number of a match's session, which the key depends on. */
-uint32_t c8_session_of(const uint8_t *text, size_t length, uint64_t room, uint64_t *session);
+/* The number of a match's session, which the key depends on: of the text and the room of the opening, once a match. */
+c8_answer c8_session_of(const uint8_t *text, size_t length, uint64_t room, uint64_t *session);
 
 /* Writes the sealed packet of a datagram. Returns its length, 16 more than the datagram's; 0 for more than 174 bytes. */
 uint32_t c8_seal(const uint8_t secret[32], uint64_t session, const uint8_t *datagram, size_t length,
