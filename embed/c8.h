@@ -20,8 +20,8 @@
  *
  * A call whose answer is a c8_answer says 0 for done (some say 1 or 2 for more than that), and from 101 on a refusal:
  * each has one number, the same in all calls, and c8_explain tells its name and sentence. A refused call changes nothing,
- * with two exceptions: after 1301 or 1302 of an open session that session is down and sends nothing more (close it and open it
- * again), and 814 means that another player's CHIP-8 machine differs. Nothing compares an engine's own machine: its
+ * with two exceptions: after 1301 or 1302 of an open session that session is down and sends nothing more (close it and
+ * open it again), and 814 means that another player's CHIP-8 machine differs. Nothing compares an engine's own machine: its
  * players may exchange a hash of the state at a confirmed frame. All other calls return a count or a length and never
  * refuse: at a closed session it is 0. */
 #ifndef C8_H
@@ -146,8 +146,8 @@ c8_answer c8_check(c8_session *, uint32_t depth);
 
 /* Writes the text of a game for an engine with a machine of its own: 2 to 4 players, 1 to 262,144 frames, an input delay
  * of 0 to 4 frames, and a window of 1 to 12 frames: so far c8_ticked may be ahead of c8_confirmed. `id` is the engine's:
- * its version, its level; players with different ids do not meet. Returns the length; 0 for more than 4 players, or if the text does not
- * fit (C8_RULES bytes suffice). Openings refuse the text if another number is out of its range (202). */
+ * its version, its level; players with different ids do not meet. Returns the length; 0 for more than 4 players, or if
+ * the text does not fit (C8_RULES bytes suffice). Openings refuse the text if another number is out of its range (202). */
 uint32_t c8_rules(uint8_t players, uint32_t frames, uint8_t delay, uint8_t window, const uint8_t id[32], uint8_t *out,
                   size_t length);
 
