@@ -32,8 +32,18 @@ fn after(state: u64, row: &Row) -> u64 {
 
 impl<'g> Side<'g> {
     fn open(alloc: Global, game: &'g Game, number: u8) -> Option<Side<'g>> {
+        Side::open_with(alloc, game, number, None)
+    }
+
+    fn open_with(
+        alloc: Global,
+        game: &'g Game,
+        number: u8,
+        patience: Option<u64>,
+    ) -> Option<Side<'g>> {
         let disk = MemDisk::new(alloc, 100_000, 4000).ok()?;
-        let Ok(engine) = Engine::open(alloc, disk, game, Player::new(number)?, 7, None, 0) else {
+        let me = Player::new(number)?;
+        let Ok(engine) = Engine::open(alloc, disk, game, me, 7, patience, 0) else {
             return None;
         };
         let mut states = Vec::with_capacity(alloc, 100).ok()?;
@@ -157,4 +167,49 @@ fn a_test_goes_back_by_its_depth(rt: HostRuntime) {
     }
     side.engine.check(0);
     assert_eq!(&rt; side.engine.step(100).count, 0);
+}
+
+/// Player 1 drops a player who was silent for as many turns as its patience, and no sooner.
+#[test]
+fn a_silent_player_is_dropped(rt: HostRuntime) {
+    let game = game(rt.alloc()).expect(&rt, "a game");
+    let mut side = Side::open_with(rt.alloc(), &game, 1, Some(5)).expect(&rt, "a side");
+    let two = Player::new(2).expect(&rt, "a player");
+    let mut out = [0; 174];
+    for number in 1..9_u64 {
+        assert!(&rt; side.engine.turn().is_ok());
+        while_due(&mut side, &mut out);
+        assert_eq!(&rt; side.engine.peer().leaving(two), number >= 5);
+    }
+}
+
+/// Asks for the datagrams of a turn until there is none.
+fn while_due(side: &mut Side<'_>, out: &mut [u8; 174]) {
+    for _ in 0..20 {
+        if side.engine.next_datagram(out).is_none() {
+            break;
+        }
+    }
+}
+
+/// A match is not over for a player whose last inputs another player has not acknowledged.
+#[test]
+fn no_end_without_acknowledgements(rt: HostRuntime) {
+    let game = game(rt.alloc()).expect(&rt, "a game");
+    let mut one = Side::open(rt.alloc(), &game, 1).expect(&rt, "a side");
+    let mut two = Side::open(rt.alloc(), &game, 2).expect(&rt, "a side");
+    let mut out = [0; 174];
+    let mut sent = 0;
+    for number in 0..400 {
+        if one.engine.peer().now() < 58 {
+            let _sent = turn(&mut one, &mut two, number, &mut sent);
+        } else {
+            let _refused = one.engine.tick(Keys(number));
+            assert!(&rt; one.engine.turn().is_ok());
+            while_due(&mut one, &mut out);
+        }
+        let _sent = turn(&mut two, &mut one, number, &mut sent);
+    }
+    assert_eq!(&rt; one.engine.peer().confirmed(), 60);
+    assert!(&rt; !one.engine.is_over());
 }
