@@ -3,6 +3,7 @@
 use c8_disk::MemDisk;
 use c8_embed::Engine;
 use c8_game::{Game, Keys, Player, Row};
+use c8_peer::Check;
 use std::alloc::{AllocError, Global};
 use std::process::Abort;
 
@@ -32,7 +33,7 @@ fn after(state: u64, row: &Row) -> u64 {
 
 impl<'g> Side<'g> {
     fn open(alloc: Global, game: &'g Game, number: u8) -> Option<Side<'g>> {
-        Side::open_with(alloc, game, number, None)
+        Side::open_with(alloc, game, number, None, 0)
     }
 
     fn open_with(
@@ -40,10 +41,11 @@ impl<'g> Side<'g> {
         game: &'g Game,
         number: u8,
         patience: Option<u64>,
+        interval: u32,
     ) -> Option<Side<'g>> {
         let disk = MemDisk::new(alloc, 100_000, 4000).ok()?;
         let me = Player::new(number)?;
-        let Ok(engine) = Engine::open(alloc, disk, game, me, 7, patience, 0) else {
+        let Ok(engine) = Engine::open(alloc, disk, game, me, 7, patience, interval) else {
             return None;
         };
         let mut states = Vec::with_capacity(alloc, 100).ok()?;
@@ -173,7 +175,7 @@ fn a_test_goes_back_by_its_depth(rt: HostRuntime) {
 #[test]
 fn a_silent_player_is_dropped(rt: HostRuntime) {
     let game = game(rt.alloc()).expect(&rt, "a game");
-    let mut side = Side::open_with(rt.alloc(), &game, 1, Some(5)).expect(&rt, "a side");
+    let mut side = Side::open_with(rt.alloc(), &game, 1, Some(5), 0).expect(&rt, "a side");
     let two = Player::new(2).expect(&rt, "a player");
     let mut out = [0; 174];
     for number in 1..9_u64 {
@@ -212,4 +214,19 @@ fn no_end_without_acknowledgements(rt: HostRuntime) {
     }
     assert_eq!(&rt; one.engine.peer().confirmed(), 60);
     assert!(&rt; !one.engine.is_over());
+}
+
+/// No checkpoint is begun before as many frames are confirmed as its interval says.
+#[test]
+fn a_checkpoint_waits_for_its_interval(rt: HostRuntime) {
+    let game = game(rt.alloc()).expect(&rt, "a game");
+    let mut one = Side::open_with(rt.alloc(), &game, 1, None, 30).expect(&rt, "a side");
+    let mut two = Side::open(rt.alloc(), &game, 2).expect(&rt, "a side");
+    let mut sent = 0;
+    for number in 0..20 {
+        let _sent = turn(&mut one, &mut two, number, &mut sent);
+        let _sent = turn(&mut two, &mut one, number, &mut sent);
+    }
+    assert!(&rt; one.engine.peer().confirmed() > 5 && one.engine.peer().confirmed() < 30);
+    assert_eq!(&rt; one.engine.checkpoint(), Ok(Check::Piece(0)));
 }
