@@ -22,8 +22,8 @@
  * each has one number, the same in all calls, and c8_explain tells its name and sentence. A refused call changes
  * nothing, with two exceptions: after 1301 or 1302 of an open session that session is down and sends nothing more (close
  * it and open it again), and 814 means that another player's CHIP-8 machine differs. Nothing compares an engine's own
- * machine: its players may exchange a hash of the state at a confirmed frame. All other calls return a count or a length
- * and never refuse: at a closed session it is 0.
+ * machine: its players may exchange a hash of the state at a confirmed frame. All other calls that return a number
+ * never refuse: at a closed session it is 0.
  */
 #ifndef C8_H
 #define C8_H
