@@ -55,8 +55,9 @@ enum {
     C8_END = 402,       /* the last frame was ticked */
     C8_DROPPED = 403,   /* player 1 has dropped this player */
     C8_DESYNC = 814,    /* another player's CHIP-8 machine differs */
-    C8_DISK = 1301,     /* the journal's disk failed; of an opening also: another session has the journal open */
-    C8_FULL = 1302      /* the journal is full */
+    C8_DISK = 1301,     /* the journal's disk failed */
+    C8_FULL = 1302,     /* the journal is full */
+    C8_LOCKED = 1303    /* of an opening: another session has the journal open */
 };
 
 /* A session; {0} is a closed one. */

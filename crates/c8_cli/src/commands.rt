@@ -16,7 +16,7 @@ use c8_script::sim_files;
 use c8_secret::{secret_command, secret_given};
 use c8_show::show;
 use c8_threads::{rig_command, rig_given};
-use clap::{ArgMatches, Command};
+use clap::{Arg, ArgMatches, Command};
 use std::alloc::{AllocError, Global};
 use std::env::Args;
 use std::fs::File;
@@ -96,7 +96,12 @@ fn sim_command<'a>(alloc: Global) -> Result<Command<'a>, AllocError> {
         .after_help(SIM_ENDING);
     let command = with_place(alloc, command, "GAME", "The path of the game's text")?;
     let script = "The path of the script: one event a line";
-    with_explain(alloc, with_place(alloc, command, "SCRIPT", script)?)
+    let journals = Arg::new(alloc, "journals")
+        .long("journals")
+        .value_name("DIR")
+        .help("Writes each player's journal to the folder DIR at the end, as journal1 and so on");
+    let command = with_place(alloc, command, "SCRIPT", script)?;
+    with_explain(alloc, command.arg(journals)?)
 }
 
 /// Does what a command line without a mistake asks for.
@@ -124,7 +129,8 @@ where
         Some(("audit", given)) => audit_given(rt, given, out, refused),
         Some(("sim", given)) => {
             let (game, script) = (word_of(given, "GAME"), word_of(given, "SCRIPT"));
-            sim_files(rt, game, script, is_explained(given), out, refused)
+            let journals = given.get_str("journals");
+            sim_files(rt, game, script, journals, is_explained(given), out, refused)
         }
         Some(("rig", given)) => rig_given(rt, given, out, refused),
         Some(("show", given)) => {

@@ -40,12 +40,15 @@ Then each player has a line: how far it is, how many frames it has confirmed, an
 holds of each player. Each watcher that the script names has a line with its number of frames. The
 last line says whether all players that were not dropped agree.
 
+With --journals DIR, a folder that has to be there, DIR/journal1 and so on get what a read of each
+player's disk gives at the end; an empty disk gives an empty file. Without an end there are none.
+
 Refusals, each one line on standard error, as 'refused: script 1 Line':
   game 1 Line to 6 Memory: those of the command run
   script 1 Line    a line that is no event
   script 2 Memory  out of memory for the script, or while it runs
   open 5 Memory    out of memory at the start
   disk 1 Failed    a file that cannot be read or is above 16777216 bytes;
-                   output that cannot be written
+                   output or journals that cannot be written
 
 Exit status: 0 done, 1 refused, 2 a mistake in the command line, 3 disk 1 Failed";

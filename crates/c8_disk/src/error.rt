@@ -49,6 +49,9 @@ pub enum FileError {
     /// The memory for the capacity was refused.
     #[error("out of memory")]
     Memory,
+    /// Another disk has the file open, in this program or another.
+    #[error("the file is open elsewhere")]
+    Locked,
 }
 
 impl FileError {
@@ -60,6 +63,7 @@ impl FileError {
             FileError::Failed => 1,
             FileError::Full => 2,
             FileError::Memory => 3,
+            FileError::Locked => 4,
         }
     }
 
@@ -68,6 +72,7 @@ impl FileError {
             FileError::Failed => "Failed",
             FileError::Full => "Full",
             FileError::Memory => "Memory",
+            FileError::Locked => "Locked",
         }
     }
 }

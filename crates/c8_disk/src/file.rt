@@ -15,6 +15,7 @@ use held::Held;
 use std::alloc::Global;
 use std::fmt;
 use std::fs::File;
+use std::io;
 use std::rt::Files;
 pub use system::{OpenedFile, SystemFile};
 
@@ -57,6 +58,14 @@ fn reserve(alloc: Global, capacity: u32) -> Result<Vec<u8>, FileError>
     Ok(Vec::with_capacity(alloc, capacity as usize)?)
 }
 
+/// Why a file was not locked: another disk has it, or the call failed.
+fn unlocked(error: io::Error) -> FileError {
+    match error.kind() {
+        io::ErrorKind::WouldBlock => FileError::Locked,
+        _ => FileError::Failed,
+    }
+}
+
 /// Locks a file, makes its contents durable, and reads it once, from the device and not from the system's cache.
 fn read_durable<S: SystemFile>(
     file: &S,
@@ -67,7 +76,9 @@ fn read_durable<S: SystemFile>(
     ensures within { OnOk result (vec_len bytes.new ≤ capacity) }
     ensures room { vec_capacity bytes.old ≤ vec_capacity bytes.new }
 {
-    file.try_lock()?;
+    if let Err(error) = file.try_lock() {
+        return Err(unlocked(error));
+    }
     let length = file.len()?;
     if length > u64::from(capacity) {
         return Err(FileError::Full);
@@ -87,9 +98,9 @@ impl FileDisk {
     /// file stays locked as long as the disk lives. Its contents and its name are made durable, and it is read once,
     /// from the device.
     ///
-    /// `Failed`: it cannot be opened to read and write, is not a regular file, is open as a disk elsewhere, or a call
-    /// of the system failed. `Full`: it is longer than `capacity`. `Memory`: the memory was refused, and no file was
-    /// made. None of these changes a byte of the file.
+    /// `Failed`: it cannot be opened to read and write, is not a regular file, or a call of the system failed.
+    /// `Locked`: another disk has it open. `Full`: it is longer than `capacity`. `Memory`: the memory was refused, and no
+    /// file was made. None of these changes a byte of the file.
     pub fn open<R: Files<File = File> + AllocGlobal>(
         rt: &R,
         path: &str,
@@ -114,7 +125,8 @@ impl<S: SystemFile> FileDisk<S> {
     /// all that the disk may hold; its contents do not matter. Locks the file, makes its contents and its name durable,
     /// and reads it once. It takes no memory.
     ///
-    /// `Failed`: a call of the file failed. `Full`: it is longer than `capacity`. Neither changes a byte of the file.
+    /// `Failed`: a call of the file failed. `Locked`: another disk has it open. `Full`: it is longer than `capacity`. None
+    /// of these changes a byte of the file.
     pub fn over(file: S, bytes: Vec<u8>, capacity: u32) -> Result<FileDisk<S>, FileError>
         requires { capacity ≤ vec_capacity bytes }
         ensures room { IfOk result (λ disk. file_room disk ≡ capacity) }

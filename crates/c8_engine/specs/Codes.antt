@@ -4,6 +4,9 @@ use Rattle.c8_game.specs.Errors as games
 use Rattle.c8_game.specs.declared.error.GameError.{GameError}
 use Rattle.c8_disk.specs.Errors as disks
 use Rattle.c8_disk.specs.declared.error.DiskError.{DiskError}
+use Rattle.c8_disk.specs.declared.error.DiskError.TheVariants as faults
+use Rattle.c8_disk.specs.declared.error.FileError.{FileError}
+use Rattle.c8_disk.specs.declared.error.FileError.TheVariants as files
 use Rattle.c8_wire.specs.Errors as wires
 use Rattle.c8_hand.specs.Errors as hands
 use Rattle.c8_known.specs.Errors as knowns
@@ -101,3 +104,10 @@ check_code (Err checks.Down) = 1204
 abbrev pub turn_code : Result (Unit {0}) DiskError → ℕ
 turn_code (Ok done) = 0
 turn_code (Err why) = disk_code why
+
+-- A file that cannot be a journal; the last number is of one that another session has open.
+abbrev pub file_code : FileError → ℕ
+file_code files.Failed = disk_code faults.Failed
+file_code files.Full = disk_code faults.Full
+file_code files.Memory = open_code opens.Memory
+file_code files.Locked = 1303

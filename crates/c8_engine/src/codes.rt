@@ -1,6 +1,6 @@
 //! The number that each answer has in C.
 ghost use Rattle.std.specs.Prelude.{◌≡◌, ◌<◌};
-ghost use Rattle.c8_engine.specs.Codes.{closed_code, nobody_code, disk_code, game_code, open_code, tick_code, heard_code, leave_code, decide_code, check_code, turn_code};
+ghost use Rattle.c8_engine.specs.Codes.{closed_code, nobody_code, disk_code, game_code, open_code, tick_code, heard_code, leave_code, decide_code, check_code, turn_code, file_code};
 
 use c8_disk::{DiskError, FileError};
 use c8_game::GameError;
@@ -108,14 +108,17 @@ pub(crate) fn turn_code(answer: Result<(), DiskError>) -> u32
     }
 }
 
-/// A file that cannot be a journal: as a disk that failed or is full, or as an opening without memory.
+/// A file that cannot be a journal: as a disk that failed or is full, as an opening without memory, or as one that another
+/// session has open.
 pub(crate) fn file_code(error: FileError) -> u32
-    ensures { 0 < result }
+    ensures code { result ≡ file_code error }
+    ensures some { 0 < result }
 {
     match error {
         FileError::Failed => disk_code(DiskError::Failed),
         FileError::Full => disk_code(DiskError::Full),
         FileError::Memory => open_code(OpenError::Memory),
+        FileError::Locked => 1303,
     }
 }
 

@@ -1,7 +1,7 @@
 //! The names and sentences of the numbers.
 
 use arrayvec::ArrayString;
-use c8_disk::DiskError;
+use c8_disk::{DiskError, FileError};
 use c8_game::GameError;
 use c8_hand::HandError;
 use c8_known::KnownError;
@@ -215,5 +215,8 @@ fn check(number: u8, text: &mut Text) -> fmt::Result {
 }
 
 fn disk(number: u8, text: &mut Text) -> fmt::Result {
+    if number == 3 {
+        return write!(text, "Locked: {}", FileError::Locked);
+    }
     tell!(text, number, DiskError::Failed, DiskError::Full)
 }

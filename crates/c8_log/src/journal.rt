@@ -157,6 +157,13 @@ impl<D: Disk> Journal<D> {
         self.log.arm(arm);
     }
 
+    /// Returns the disk.
+    pub fn disk(&self) -> &D
+        ensures { result.now ≡ self.now.disk }
+    {
+        self.log.disk()
+    }
+
     /// Gives the disk back. Whether the pending body counts, the next opening decides.
     pub fn close(self) -> D
         ensures disk { result ≡ self.disk }

@@ -250,6 +250,13 @@ impl<D: Disk> Log<D> {
         self.disk.arm(arm);
     }
 
+    /// Returns the disk.
+    pub(crate) fn disk(&self) -> &D
+        ensures { result.now ≡ self.now.disk }
+    {
+        &self.disk
+    }
+
     /// Gives the disk back.
     pub fn close(self) -> D
         ensures { result ≡ self.disk }

@@ -125,6 +125,13 @@ impl<'g, D: Disk> Peer<'g, D> {
         self.journal.arm(arm);
     }
 
+    /// Returns the disk that holds the journal.
+    pub fn disk(&self) -> &D
+        ensures { result.now ≡ self.now.disk }
+    {
+        self.journal.disk()
+    }
+
     /// Closes the peer and returns its disk. If a record is pending, the next opening that reads the
     /// journal finds whether it stands.
     pub fn close(self) -> D

@@ -18,6 +18,7 @@ use Rattle.c8_world.specs.Run.{RunsWithMemory, HasRun}
 use Rattle.c8_world.specs.Table.{TableValue, Holds, node_of, rows_in}
 use Rattle.c8_world.specs.Turns.{AreTurns}
 use Rattle.c8_script.specs.Errors.{sim_part}
+use Rattle.c8_script.specs.Journals.{AreImages}
 use Rattle.c8_script.specs.Printed.{AreLines, ends_text}
 use Rattle.c8_script.specs.Script.{SpellsScript, IsFaultOfScript}
 use Rattle.c8_script.specs.Watched.{told_of}
@@ -38,7 +39,7 @@ pub record IsNewWorld (rules : Rules) (t : TableValue) : Type 0 where
   pub disks : (p : ℕ) → IsPlayer t.rules p → IsNewDisk CAPACITY CALLS (node_of t p)
 
 -- All events were run from a new world on, memory was enough, and these are the answers. Each event changed players and
--- disks as it must, and the ends describe the players that resulted.
+-- disks as it must, and the ends and the journals describe the players that resulted.
 pub record IsPlayed (rules : Rules) (events : List Event) (transcript : Transcript) : Type 0 where
   pub made : TableValue
   pub is_new : IsNewWorld rules made
@@ -50,6 +51,7 @@ pub record IsPlayed (rules : Rules) (events : List Event) (transcript : Transcri
   pub agree : transcript.ends.agree ≡ true
   pub five : transcript.watched.five ≡ told_of events 5 (length (rows_in left 5))
   pub six : transcript.watched.six ≡ told_of events 6 (length (rows_in left 6))
+  pub journals : AreImages left transcript.journals
 
 -- The first of the events, with these answers; each changed a new world as it must.
 pub record HasBegun (rules : Rules) (events : List Event) (answers : List Answer) : Type 0 where

@@ -1,25 +1,28 @@
 //! `c8play sim`: all players of a game in one world, driven by a script.
 
 ghost use Rattle.std.specs.Prelude.{IfOk};
-ghost use Rattle.c8_script.specs.Sim.{HasEnded};
+ghost use Rattle.c8_script.specs.Sim.{HasEnded, IsOutcomeOfSim};
 
 use crate::answers::{write_answers, write_ends};
 use crate::error::{ScriptError, SimError};
 use crate::explain::site_if;
-use crate::transcript::play_script;
-use c8_command::{Refusal, Status, Text, TextsError, read_both};
+use crate::journals::are_written;
+use crate::transcript::{Transcript, Unfinished, play_script};
+use c8_command::{Refusal, Site, Status, Text, TextsError, read_both};
 use c8_game::GameError;
 use std::alloc::Global;
 use std::io;
 use std::io::Write;
 use std::rt::Files;
 
-/// Runs the script of one file for the game of another, as `sim` does with their texts. If a file cannot be read, the
-/// refusal is the disk's, whatever the other file says. The error is a writer's.
+/// Runs the script of one file for the game of another, as `sim` does with their texts, and writes the players' journals to
+/// the folder `journals`, if there is one. If a file cannot be read, the refusal is the disk's, whatever the other file says.
+/// If a journal cannot be written, so is the refusal, and nothing is written to `out`. The error is a writer's.
 pub fn sim_files<R, W: Write, E: Write>(
     rt: &R,
     game: &str,
     script: &str,
+    journals: Option<&str>,
     explain: bool,
     out: &mut W,
     refused: &mut E,
@@ -33,13 +36,27 @@ where
             let game = Text { file, bytes };
             let (file, bytes) = (script, lines.as_slice());
             let script = Text { file, bytes };
-            sim(rt.alloc(), game, script, explain, out, refused)
+            let outcome = play_script(rt.alloc(), game.bytes, script.bytes);
+            if let Some(folder) = journals
+                && let Ok(transcript) = &outcome
+                && !leave_journals(rt, folder, transcript)
+            {
+                let site = explain.then_some(Site::File(folder));
+                return Refusal::DISK.tell_at(site, &"journals that cannot be written", refused);
+            }
+            tell_outcome(rt.alloc(), game, script, outcome, explain, out, refused)
         }
         Err(error) => {
             let site = explain.then_some(error.site(game, script));
             unread(error).tell_at(site, &error, refused)
         }
     }
+}
+
+/// Writes the journals of all players to files of a folder. Returns whether each was written.
+fn leave_journals<R: Files + AllocGlobal>(rt: &R, folder: &str, transcript: &Transcript) -> bool {
+    let players = transcript.ends.players.len();
+    are_written(rt, folder, players, &transcript.journals)
 }
 
 /// Why the texts of two files were not read.
@@ -67,7 +84,26 @@ pub fn sim<W: Write, E: Write>(
         HasEnded game.entry.bytes.now script.entry.bytes.now status
         (W.contents out.old) (W.contents out.new)) }
 {
-    match play_script(alloc, game.bytes, script.bytes) {
+    let outcome = play_script(alloc, game.bytes, script.bytes);
+    tell_outcome(alloc, game, script, outcome, explain, out, refused)
+}
+
+/// Writes the outcome of the two texts, as `sim` says.
+fn tell_outcome<W: Write, E: Write>(
+    alloc: Global,
+    game: Text<'_>,
+    script: Text<'_>,
+    outcome: Result<Transcript, Unfinished>,
+    explain: bool,
+    out: &mut W,
+    refused: &mut E,
+) -> io::Result<Status>
+    requires { IsOutcomeOfSim game.entry.bytes.now script.entry.bytes.now outcome }
+    ensures { IfOk result (λ status.
+        HasEnded game.entry.bytes.now script.entry.bytes.now status
+        (W.contents out.old) (W.contents out.new)) }
+{
+    match outcome {
         Ok(transcript) => {
             write_answers(out, &transcript.answers)?;
             write_ends(out, &transcript.ends, transcript.watched)?;

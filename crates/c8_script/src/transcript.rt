@@ -1,17 +1,23 @@
 //! Runs a script: all players of a game in one world, from empty journals on.
 
-ghost use Rattle.std.specs.Prelude.{◌≡◌, MatchResult};
+ghost use Rattle.std.specs.Prelude.{◌≡◌, true, IfOk, MatchResult};
 ghost use Rattle.c8_game.specs.GameText.{Spells};
+ghost use Rattle.c8_world.specs.Agreement.{Reads};
+ghost use Rattle.c8_world.specs.Ends.{AreEnds};
 ghost use Rattle.c8_world.specs.Run.{answers_before};
+ghost use Rattle.c8_world.specs.Table.{Holds};
+ghost use Rattle.c8_world.specs.World.{World as Moment};
+ghost use Rattle.c8_script.specs.Journals.{AreImages};
 ghost use Rattle.c8_script.specs.Script.{SpellsScript};
 ghost use Rattle.c8_script.specs.Sim.{IsCutShort, IsOutcomeOfSim, IsPlayed, IsRefusalOfSim};
 
 use crate::error::{ScriptError, SimError};
+use crate::journals::Journals;
 use crate::script::read_script;
 use crate::watched::{Watched, rows_told};
 use c8_game::Game;
 use c8_world::{Answer, Ends, Event, Report, RunError, World};
-use std::alloc::Global;
+use std::alloc::{AllocError, Global};
 
 /// The room of the match.
 pub const ROOM: u64 = 0;
@@ -22,13 +28,14 @@ pub const CAPACITY: u32 = 589_825;
 /// How many calls each player's disk serves between two stops.
 pub const CALLS: u32 = 65_536;
 
-/// The result of a match: one answer for each event, in order, how far each player is at the end, and how many rows the
-/// watchers have.
+/// The result of a match: one answer for each event, in order, how far each player is at the end, how many rows the
+/// watchers have, and the players' journals.
 #[derive(Debug, Drop)]
 pub struct Transcript {
     pub answers: Vec<Answer>,
     pub ends: Ends,
     pub watched: Watched,
+    pub journals: Journals,
 }
 
 /// Why a script was not played to its end, and the answers to the events before that; none if a text was refused.
@@ -74,14 +81,25 @@ fn play(alloc: Global, game: &Game, events: &[Event]) -> Result<Transcript, Unfi
         Ok(Report { answers }) => answers,
         Err(error) => return Err(out_of_memory(answers_before(error))),
     };
-    match world.ends(alloc) {
-        Ok(ends) => Ok(Transcript {
+    match left_by(alloc, &world) {
+        Ok((ends, journals)) => Ok(Transcript {
             answers,
             ends,
             watched: rows_told(&world, events),
+            journals,
         }),
         Err(_) => Err(out_of_memory(answers)),
     }
+}
+
+/// What a world leaves: how far each player is, and the journals.
+fn left_by(alloc: Global, world: &World<'_>) -> Result<(Ends, Journals), AllocError>
+    ensures ends { IfOk result (λ left. (w : Moment) → Holds world.now.table w
+        → (reads : Reads) × AreEnds world.now.table w reads left.0.players.items left.0.agree) }
+    ensures agree { IfOk result (λ left. left.0.agree ≡ true) }
+    ensures journals { IfOk result (λ left. AreImages world.now.table left.1) }
+{
+    Ok((world.ends(alloc)?, Journals::of(alloc, world)?))
 }
 
 /// The answers to the events before the one at which memory ran out.

@@ -3,7 +3,7 @@ use Rattle.std.specs.Prelude.{◌≡◌, ◌⊎◌, ℕ, List, [], ◌∷◌, �
 use Rattle.c8_disk.specs.declared.disk.Arm.{Arm}
 use Rattle.c8_disk.specs.declared.disk.Arm.TheVariants as arms
 use Rattle.c8_disk.specs.declared.mem_disk.MemDisk.{MemDisk}
-use Rattle.c8_disk.specs.Memory.{room_of, arms_of, value_of, new_value}
+use Rattle.c8_disk.specs.Memory.{bytes_of, room_of, arms_of, value_of, new_value}
 use Rattle.c8_world.specs.declared.event.Event as asked
 use Rattle.c8_world.specs.declared.event.Event.TheVariants as happenings
 use Rattle.c8_world.specs.declared.node.Node.{Node}
@@ -79,3 +79,8 @@ IsNewDisk capacity calls node = (disk : MemDisk) × (node ≡ Some (nodes.Away d
 abbrev pub disk_in : Node → MemDisk
 disk_in (nodes.Held peer) = peer.disk
 disk_in (nodes.Away disk) = disk
+
+-- what a read of a player's disk gives
+abbrev pub image_in : Option Node → List ℕ
+image_in None = []
+image_in (Some node) = bytes_of (disk_in node)

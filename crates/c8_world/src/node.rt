@@ -10,7 +10,7 @@ ghost use Rattle.c8_peer.specs.Runs.{crashed};
 ghost use Rattle.c8_wire.specs.checked.Read.{read};
 ghost use Rattle.c8_world.specs.Nodes.{IsNode, IsAsked, IsOpenedNode, IsSaidAt, Tells};
 ghost use Rattle.c8_world.specs.Ends.{IsStanding};
-ghost use Rattle.c8_world.specs.Disks.{setting_of, setting_of_disk, armed, disk_in};
+ghost use Rattle.c8_world.specs.Disks.{setting_of, setting_of_disk, armed, disk_in, image_in};
 ghost use Rattle.c8_world.specs.Turns.{answer_of, IsActedBy, IsOpenedAt, IsSpared, IsTold, IsNodeCrash};
 
 use crate::answer::{Answer, Counts};
@@ -251,6 +251,16 @@ impl<'g> Node<'g> {
         match self {
             Node::Held(peer) => peer.close(),
             Node::Away(disk) => disk,
+        }
+    }
+
+    /// Returns what a read of the disk gives.
+    pub(crate) fn image(&self) -> &[u8]
+        ensures { result.now ≡ image_in (Some self.now) }
+    {
+        match self {
+            Node::Held(peer) => peer.disk().bytes(),
+            Node::Away(disk) => disk.bytes(),
         }
     }
 

@@ -11,7 +11,7 @@ ghost use Rattle.c8_world.specs.World.{World, act_inside, peer_of, player_of, st
 ghost use Rattle.c8_world.specs.Events.{act_of, event_of};
 ghost use Rattle.c8_disk.specs.declared.disk.Arm.TheVariants as arms;
 ghost use Rattle.c8_world.specs.Agreement.{IsPlayer};
-ghost use Rattle.c8_world.specs.Disks.{setting_of, KeepSettings, AreArmed, for_player, arms_by, arms_taken_back, IsNewDisk};
+ghost use Rattle.c8_world.specs.Disks.{setting_of, KeepSettings, AreArmed, for_player, arms_by, arms_taken_back, IsNewDisk, image_in};
 ghost use Rattle.c8_peer.specs.State as calls;
 ghost use Rattle.c8_wire.specs.checked.Read.{read};
 ghost use Rattle.c8_world.specs.Turns.{IsActedBy, IsGiven, IsOpenedAt, IsSameNode, IsSpared, IsNodeCrash, OfNodes, IsMove, IsCarriedOut, IsNotCarriedOut, IsArmed, IsCrashed, IsFailure, IsTakenBack, IsTurn, IsTurnOut};
@@ -570,6 +570,16 @@ impl<'g> Table<'g> {
         match &self.nodes[player.place()] {
             Some(Node::Held(peer)) => Some(peer),
             _ => None,
+        }
+    }
+
+    /// Returns what a read of a player's disk gives; nothing if the game does not have the player.
+    pub(crate) fn image(&self, player: Player) -> &[u8]
+        ensures { result.now ≡ image_in (node_of self.now player.number) }
+    {
+        match &self.nodes[player.place()] {
+            Some(node) => node.image(),
+            None => &[],
         }
     }
 

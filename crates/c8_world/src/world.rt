@@ -10,7 +10,7 @@ ghost use Rattle.c8_world.specs.Headline.{IsHeadline};
 ghost use Rattle.c8_world.specs.Agreement.{Reads};
 ghost use Rattle.c8_world.specs.Ends.{AreEnds};
 ghost use Rattle.c8_world.specs.Agreement.{IsPlayer};
-ghost use Rattle.c8_world.specs.Disks.{AreArmed, AreArmedOut, IsNewDisk, arms_by, arms_in, arms_taken_back};
+ghost use Rattle.c8_world.specs.Disks.{AreArmed, AreArmedOut, IsNewDisk, image_in, arms_by, arms_in, arms_taken_back};
 ghost use Rattle.c8_world.specs.Turns.{IsTurn, IsTurnOut, AreTurns, AreFirstTurns};
 ghost use Rattle.c8_world.specs.declared.node.Node.TheVariants.{Held};
 
@@ -182,6 +182,14 @@ impl<'g> World<'g> {
         checkpoints_are_true();
         self.table.in_range();
         self.table.peer(player)
+    }
+
+    /// Returns what a read of a player's disk gives: the image of its journal. It is empty if the game does not have the
+    /// player.
+    pub fn image(&self, player: Player) -> &[u8]
+        ensures { result.now ≡ image_in (node_of self.now.table player.number) }
+    {
+        self.table.image(player)
     }
 
     /// Returns the watcher in a seat.

@@ -126,9 +126,10 @@ refusals! {
     CheckDropped = 1202,
     CheckDown = 1204,
     // the journal
-    /// The journal's disk failed, or (at an opening) another program has the journal.
     DiskFailed = 1301,
     DiskFull = 1302,
+    /// Another session has the journal open.
+    DiskLocked = 1303,
 }
 
 impl fmt::Display for Refusal {

@@ -74,7 +74,7 @@ fn a_journal_goes_on_behind_a_checkpoint() {
 fn a_journal_belongs_to_one_session() {
     let folder = Folder::new("belongs");
     let first = open(folder.journal()).unwrap();
-    assert_eq!(open(folder.journal()).err(), Some(Refusal::DiskFailed));
+    assert_eq!(open(folder.journal()).err(), Some(Refusal::DiskLocked));
     drop(first);
     let other = |player, room| Session::open_journal(rules(), player, room, 0, folder.journal()).err();
     assert_eq!(other(2, 5), Some(Refusal::WrongPlayer));

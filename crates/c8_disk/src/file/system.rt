@@ -12,7 +12,8 @@ pub trait SystemFile: FileExt + Drop {
     /// Returns how many bytes it has. Fails if it is not a regular file.
     fn len(&self) -> io::Result<u64>;
 
-    /// Takes the lock of the file. No other opening of the file can take it as long as this one lasts.
+    /// Takes the lock of the file. No other opening of the file can take it as long as this one lasts. The error's kind is
+    /// `WouldBlock` if another opening has it.
     fn try_lock(&self) -> io::Result<()>;
 
     /// Makes its bytes, its length and its other metadata durable.

@@ -43,7 +43,7 @@ static STEPS: [Step; 39] = [
     Step::Do(Call::Write(0, "abcde", None)),
     Step::Do(Call::Sync(None)),
     // The file is this disk's alone.
-    Step::Refused(FILE, 8, FileError::Failed),
+    Step::Refused(FILE, 8, FileError::Locked),
     Step::Close,
     Step::Open(FILE, 8),
     Step::Do(Call::Read(1, "bcd", None)),
@@ -64,7 +64,7 @@ static STEPS: [Step; 39] = [
     Step::MakeLink,
     Step::Open(LINK, 8),
     Step::Do(Call::Write(0, "abc", None)),
-    Step::Refused(INSIDE, 8, FileError::Failed),
+    Step::Refused(INSIDE, 8, FileError::Locked),
     Step::Close,
     Step::Holds(INSIDE, "abc"),
     Step::Refused(FOLDER, 8, FileError::Failed),

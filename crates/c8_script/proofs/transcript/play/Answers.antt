@@ -18,12 +18,12 @@ returns-in-Err c =
           (begun_out c.args.game.now c.in-Ok.world.table c.run.new.self.table c.args.events.now (answers_before c.in-Err.error) is_new out c.in-Err.ensures.turns_out),
     )
 
-pub returns-in-Ok-ends : goal.returns-in-Ok-ends
-returns-in-Ok-ends c =
+pub returns-in-Ok-left_by : goal.returns-in-Ok-left_by
+returns-in-Ok-left_by c =
     let made = c.in-Ok.ensures in
     let is_new : IsNewWorld c.args.game.now c.in-Ok.world.table = record { rules_are = made.rules; room_is = made.room; holds = made.holds; disks = made.disks } in
     let run = c.in-Ok-run.ensures.ran (start c.args.game.now) made.holds in
-    let ends = c.in-Ok-ends.ensures.ends run.world run.holds in
+    let ends = c.in-Ok-left_by.ensures.ends run.world run.holds in
     record {
       made = c.in-Ok.world.table;
       is_new = is_new;
@@ -32,9 +32,10 @@ returns-in-Ok-ends c =
       turns = c.in-Ok-run.ensures.turns;
       reads = ends.0;
       ends = ends.1;
-      agree = c.in-Ok-ends.ensures.agree;
+      agree = c.in-Ok-left_by.ensures.agree;
       five = c.rows_told.ensures.five;
       six = c.rows_told.ensures.six;
+      journals = c.in-Ok-left_by.ensures.journals;
     }
 
 pub returns : goal.returns
@@ -42,7 +43,7 @@ returns c =
     let made = c.in-Ok.ensures in
     let is_new : IsNewWorld c.args.game.now c.in-Ok.world.table = record { rules_are = made.rules; room_is = made.room; holds = made.holds; disks = made.disks } in
     let run = c.in-Ok-run.ensures.ran (start c.args.game.now) made.holds in (
-      c.out_of_memory-in-Err-ends.ensures.error,
-      rw c.out_of_memory-in-Err-ends.ensures.answers
+      c.out_of_memory-in-Err-left_by.ensures.error,
+      rw c.out_of_memory-in-Err-left_by.ensures.answers
           (begun_all c.args.game.now c.in-Ok.world.table c.run.new.self.table c.args.events.now c.in-Ok-run.field-0.answers.items is_new run c.in-Ok-run.ensures.turns),
     )

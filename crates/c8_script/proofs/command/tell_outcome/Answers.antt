@@ -10,7 +10,7 @@ use Rattle.c8_script.specs.Sim.{IsOutcomeOfSim, IsUnfinished, HasEnded}
 use Rattle.c8_script.specs.declared.transcript.Transcript.{Transcript}
 use Rattle.c8_script.specs.declared.transcript.Unfinished.{Unfinished}
 use Rattle.c8_script.proofs.PrintLemmas.{appends_then}
-use Rattle.c8_script.proofs.command.sim.Goals as goal
+use Rattle.c8_script.proofs.command.tell_outcome.Goals as goal
 
 -- the lines of these answers were written
 Wrote : List Answer → Option (List ℕ) → Option (List ℕ) → Type 0
@@ -49,10 +49,10 @@ pub returns-in_ok-write_ends-in-Ok : goal.returns-in_ok-write_ends-in-Ok
 unfolding Wrote
 returns-in_ok-write_ends-in-Ok g c =
     finished c.args.game.bytes.now c.args.script.bytes.now (g.W.Write.contents c.args.out.now) (g.W.Write.contents c.write_answers.new.out) (g.W.Write.contents c.write_ends.new.out) c.in-Ok.transcript
-    c.deref.result.now c.in-Ok.ensures c.deref.ensures.value c.in_ok-write_answers-in-Ok.ensures c.in_ok-write_ends-in-Ok.ensures
+    c.deref.result.now (subst (λ (outcome : Result Transcript Unfinished). IsOutcomeOfSim c.args.game.bytes.now c.args.script.bytes.now outcome) c.in-Ok.is c.requires) c.deref.ensures.value c.in_ok-write_answers-in-Ok.ensures c.in_ok-write_ends-in-Ok.ensures
 
 pub returns-in_ok-write_answers-in-Err : goal.returns-in_ok-write_answers-in-Err
 unfolding Wrote
 returns-in_ok-write_answers-in-Err g c =
     cut_short c.args.game.bytes.now c.args.script.bytes.now (g.W.Write.contents c.args.out.now) (g.W.Write.contents c.write_answers-in-Err.new.out) c.in-Err.unfinished c.deref-in-Err.result.now c.tell_at.result
-    c.in-Err.ensures c.deref-in-Err.ensures.value c.in_ok-write_answers-in-Err.ensures (rw (← c.from.ensures.0) c.tell_at.ensures)
+    (subst (λ (outcome : Result Transcript Unfinished). IsOutcomeOfSim c.args.game.bytes.now c.args.script.bytes.now outcome) c.in-Err.is c.requires) c.deref-in-Err.ensures.value c.in_ok-write_answers-in-Err.ensures (rw (← c.from.ensures.0) c.tell_at.ensures)
