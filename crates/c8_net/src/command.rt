@@ -12,6 +12,7 @@ use crate::arguments::{Asked, asked_of};
 use crate::error::PeerError;
 use crate::fault::{Fault, INPUT, Why, game_at};
 use crate::journal::{Journal, journal_at, warn_of_a_slow_disk};
+use crate::medium::Trouble;
 use crate::performance::Performance;
 use crate::play::{Prepared, Unprepared, perform_on, play_on, prepare};
 use crate::seals::{seal_at, warn_of_secrets};
@@ -126,13 +127,14 @@ where
         × (status ≡ status_of_outcome peer_part outcome)) }
 {
     warn_of_secrets(rt, asked, refused)?;
-    let outcome = match begun(rt, asked, input) {
+    let trouble = Trouble::none();
+    let outcome = match begun(rt, asked, input, &trouble) {
         Ok((it, journal)) => {
             let played = match journal {
                 Journal::File(disk) => play_on(rt, asked, it, disk, refused),
                 Journal::Memory(disk) => play_on(rt, asked, it, disk, refused),
             };
-            played.map_err(|error| Fault::new(rt.alloc(), error, asked.journal))
+            played.map_err(|error| Fault::of_journal(rt.alloc(), error, asked.journal, &trouble))
         }
         Err(fault) => Err(fault),
     };
@@ -156,7 +158,8 @@ where
         × (status ≡ status_of_outcome peer_part outcome)) }
 {
     warn_of_secrets(rt, asked, refused)?;
-    let outcome = match begun(rt, asked, io::empty()) {
+    let trouble = Trouble::none();
+    let outcome = match begun(rt, asked, io::empty(), &trouble) {
         Ok((it, journal)) => {
             if !asked.has_no_journal() {
                 warn_of_a_slow_disk(rt, asked.journal, refused)?;
@@ -165,7 +168,7 @@ where
                 Journal::File(disk) => perform_on(rt, asked, it, disk, performance, refused),
                 Journal::Memory(disk) => perform_on(rt, asked, it, disk, performance, refused),
             };
-            played.map_err(|error| Fault::new(rt.alloc(), error, asked.journal))
+            played.map_err(|error| Fault::of_journal(rt.alloc(), error, asked.journal, &trouble))
         }
         Err(fault) => Err(fault),
     };
@@ -222,11 +225,12 @@ pub fn refuse<E: Write>(
 /// Prepares a match, and opens the disk of its journal. Faults are found in this order: the game's file, the game, the
 /// secrets, all that `prepare` checks, a player that the game does not have, the journal's file. The journal's opening and
 /// the socket come later.
-fn begun<'a, R, I>(
+fn begun<'a, 't, R, I>(
     rt: &R,
     asked: &Asked<'_, 'a>,
     input: I,
-) -> Result<(Prepared, Journal), Fault<'a>>
+    trouble: &'t Trouble,
+) -> Result<(Prepared, Journal<'t>), Fault<'a>>
 where
     R: Files<File = File> + AllocGlobal,
     I: Read + Drop,
@@ -252,10 +256,8 @@ where
         let error = PeerError::Open(OpenError::WrongPlayer);
         return Err(Fault::new(rt.alloc(), error, asked.journal));
     }
-    match journal_at(rt, asked, &it.game) {
-        Ok(journal) => Ok((it, journal)),
-        Err(error) => Err(Fault::new(rt.alloc(), error, asked.journal)),
-    }
+    let journal = journal_at(rt, asked, &it.game, trouble)?;
+    Ok((it, journal))
 }
 
 /// Turns the refusal of `prepare` into a fault with its file.

@@ -1,6 +1,9 @@
 //! Why nothing was played, and where the fault is.
 
+ghost use Rattle.std.specs.Prelude.{◌≡◌};
+
 use crate::error::PeerError;
+use crate::medium::Trouble;
 use c8_command::{Site, Text, TextError, read_file};
 use c8_disk::DiskError;
 use c8_game::{Game, GameError};
@@ -10,6 +13,7 @@ use c8_program::{ProgramError, usual_game};
 use c8_udp::SocketError;
 use std::alloc::Global;
 use std::fs::File;
+use std::io;
 use std::rt::Files;
 use thiserror::Error;
 
@@ -36,17 +40,49 @@ pub(crate) enum Why {
     /// The bytes of a program make no game.
     #[error("{0}")]
     Program(ProgramError),
+    /// The journal is in use.
+    #[error("another program has this journal open")]
+    Locked,
+    /// The system refused a call at the file of the journal.
+    #[error("the journal's file: {0}")]
+    System(io::Error),
 }
 
 impl<'a> Fault<'a> {
     /// A fault outside the lines of a file.
-    pub(crate) fn new(alloc: Global, error: PeerError, file: &'a str) -> Self {
+    pub(crate) fn new(alloc: Global, error: PeerError, file: &'a str) -> Self
+        ensures { result.error ≡ error }
+    {
         Fault {
             error,
             file,
             text: Vec::new(alloc),
             why: None,
         }
+    }
+
+    /// A fault of a match on a journal. If its disk failed, the system's error says more.
+    pub(crate) fn of_journal(
+        alloc: Global,
+        error: PeerError,
+        journal: &'a str,
+        trouble: &Trouble,
+    ) -> Self
+        ensures { result.error ≡ error }
+    {
+        let why = match error {
+            PeerError::Disk(DiskError::Failed)
+            | PeerError::Open(OpenError::Disk(DiskError::Failed)) => trouble.last(),
+            _ => None,
+        };
+        Fault::new(alloc, error, journal).because(why.map(Why::System))
+    }
+
+    /// The same fault, with what says more.
+    pub(crate) fn because(self, why: Option<Why>) -> Self
+        ensures { result.error ≡ self.error }
+    {
+        Fault { why, ..self }
     }
 
     /// A fault in the content of a file.

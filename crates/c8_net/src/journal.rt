@@ -2,7 +2,9 @@
 
 use crate::arguments::Asked;
 use crate::error::PeerError;
-use c8_disk::{DiskError, FileDisk, FileError, MemDisk};
+use crate::fault::{Fault, Why};
+use crate::medium::{Medium, Trouble};
+use c8_disk::{DiskError, FileDisk, FileError, MemDisk, OpenedFile};
 use c8_game::Game;
 use c8_log::SLOT_LENGTH;
 use c8_peer::OpenError;
@@ -35,35 +37,59 @@ const RATE: u32 = 60;
 
 /// The disk of a journal.
 #[derive(Drop)]
-pub(crate) enum Journal {
+pub(crate) enum Journal<'t> {
     /// It is in a file, and survives a crash.
-    File(FileDisk),
+    File(FileDisk<Medium<'t>>),
     /// It is in memory, and is lost when the program ends.
     Memory(MemDisk),
 }
 
 /// Opens the journal that is asked for: a file, which is created if it is missing, or with `-` one in memory, with room
-/// for the whole game.
-pub(crate) fn journal_at<R>(
+/// for the whole game. `trouble` keeps the system's error if the file fails, now or later.
+pub(crate) fn journal_at<'a, 't, R>(
     rt: &R,
-    asked: &Asked<'_, '_>,
+    asked: &Asked<'_, 'a>,
     game: &Game,
-) -> Result<Journal, PeerError>
+    trouble: &'t Trouble,
+) -> Result<Journal<'t>, Fault<'a>>
 where
     R: Files<File = File> + AllocGlobal,
 {
     if asked.has_no_journal() {
         return match in_memory(rt.alloc(), game) {
             Ok(disk) => Ok(Journal::Memory(disk)),
-            Err(_) => Err(PeerError::Open(OpenError::Memory)),
+            Err(_) => Err(no_memory(rt.alloc(), asked.journal)),
         };
     }
-    match FileDisk::open(rt, asked.journal, JOURNAL_CAPACITY) {
+    let Ok(bytes) = Vec::with_capacity(rt.alloc(), JOURNAL_CAPACITY as usize) else {
+        return Err(no_memory(rt.alloc(), asked.journal));
+    };
+    let opened = match trouble.keep(OpenedFile::open(rt, asked.journal)) {
+        Ok(file) => FileDisk::over(Medium { file, trouble }, bytes, JOURNAL_CAPACITY),
+        Err(_) => Err(FileError::Failed),
+    };
+    match opened {
         Ok(disk) => Ok(Journal::File(disk)),
-        Err(FileError::Failed) => Err(PeerError::Disk(DiskError::Failed)),
-        Err(FileError::Full) => Err(PeerError::Disk(DiskError::Full)),
-        Err(FileError::Memory) => Err(PeerError::Open(OpenError::Memory)),
+        Err(FileError::Memory) => Err(no_memory(rt.alloc(), asked.journal)),
+        Err(FileError::Full) => {
+            let error = PeerError::Disk(DiskError::Full);
+            Err(Fault::new(rt.alloc(), error, asked.journal))
+        }
+        Err(FileError::Locked) => {
+            let error = PeerError::Disk(DiskError::Failed);
+            let fault = Fault::new(rt.alloc(), error, asked.journal);
+            Err(fault.because(Some(Why::Locked)))
+        }
+        Err(FileError::Failed) => {
+            let error = PeerError::Disk(DiskError::Failed);
+            Err(Fault::of_journal(rt.alloc(), error, asked.journal, trouble))
+        }
     }
+}
+
+/// The fault of a journal for which memory was refused.
+fn no_memory(alloc: Global, journal: &str) -> Fault<'_> {
+    Fault::new(alloc, PeerError::Open(OpenError::Memory), journal)
 }
 
 /// A disk in memory with room for a game's whole journal.

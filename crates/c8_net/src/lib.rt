@@ -14,6 +14,7 @@ mod help;
 mod journal;
 mod key_list;
 mod line;
+mod medium;
 mod pace;
 mod performance;
 mod play;

@@ -63,7 +63,7 @@ pub(crate) fn are_written<R: Files + AllocGlobal>(
         let Ok(path) = format!(in rt.alloc(); "{folder}/journal{number}") else {
             return false;
         };
-        if fs::write(rt, path.as_str(), image).is_err() {
+        if fs::write(rt, path.as_str(), *image).is_err() {
             return false;
         }
     }

@@ -577,9 +577,9 @@ impl<'g> Table<'g> {
     pub(crate) fn image(&self, player: Player) -> &[u8]
         ensures { result.now ≡ image_in (node_of self.now player.number) }
     {
-        match &self.nodes[player.place()] {
-            Some(node) => node.image(),
-            None => &[],
+        match self.nodes.get(player.place()) {
+            Some(Some(node)) => node.image(),
+            _ => &[],
         }
     }
 
