@@ -1,4 +1,4 @@
-//! What an append does to a disk at rest.
+//! The disk calls of an append.
 ghost use Rattle.std.specs.Prelude.{◌≡◌, ◌≤◌, ◌<◌, ◌+◌, ◌*◌, ◌^◌, ◌++◌, [], ◌∷◌, OnOk, IsErrOf, IsTrue, ◌↔◌};
 ghost use Rattle.c8_disk.specs.Disk.{HasCause};
 ghost use Rattle.c8_disk.specs.Runs.{LeavesOnly, IsSameDisk};
@@ -11,14 +11,14 @@ use crate::slot::{BODY_LENGTH, OPEN_GATE, SLOT, with_closed_gate};
 use crate::write::write_and_sync;
 use c8_disk::{Disk, DiskError};
 
-/// Whether one slot more, and the gate after it, fit.
+/// Returns whether one more slot, and the gate after it, fit.
 pub(crate) fn has_room(capacity: u32, count: u32) -> bool
     ensures { IsTrue result ↔ (slot_length * (count + 1) + 1 ≤ capacity) }
 {
     u64::from(SLOT) * (u64::from(count) + 1) < u64::from(capacity)
 }
 
-/// Writes a body after the closed gate, and then opens the gate.
+/// Writes a body after the closed gate, then opens the gate.
 pub(crate) fn add<D: Disk>(
     disk: &mut D,
     count: u32,
