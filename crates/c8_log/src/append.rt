@@ -11,7 +11,7 @@ use crate::slot::{BODY_LENGTH, OPEN_GATE, SLOT, with_closed_gate};
 use crate::write::write_and_sync;
 use c8_disk::{Disk, DiskError};
 
-/// Returns whether one more slot, and the gate after it, fit.
+/// Whether one slot more, and the gate after it, fit.
 pub(crate) fn has_room(capacity: u32, count: u32) -> bool
     ensures { IsTrue result ↔ (slot_length * (count + 1) + 1 ≤ capacity) }
 {
