@@ -126,7 +126,7 @@ or_first rules (Some from) = from
 abbrev pub begun_at : Rules → List Record → Origin
 begun_at rules journal = or_first rules (opened_since no_checks None journal)
 
--- ---- which may stand
+-- ---- what may come next
 
 -- the number of frames before the last checkpoint, or 0 without one
 abbrev pub frames_of : Option Origin → ℕ

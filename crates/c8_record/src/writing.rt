@@ -16,7 +16,7 @@ use c8_log::BODY_LENGTH;
 use c8_wire::{Inputs, Run};
 
 /// Returns the 143 bytes that spell a record. A form other than 0 or 2, a `Got` without inputs, or a
-/// `Check` whose run is not a digest gives bytes that [`crate::view`] refuses.
+/// `Check` whose run does not have 4 words gives bytes that [`crate::view`] refuses.
 #[tactic(auto, unfolding(crate::specs::Body::body_of))]
 pub fn body_of(lent: &Record<'_>) -> [u8; BODY_LENGTH]
     ensures body { result ≡ body_of (value_of lent.now) }

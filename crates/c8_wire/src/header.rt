@@ -93,6 +93,7 @@ impl<'a> Header<'a> {
     ghost use Rattle.c8_wire.specs.Lent.{head_of};
     ghost use Rattle.c8_wire.specs.Saying.{head_value};
 
+    /// Returns the kind of the datagram: byte 3.
     pub fn kind(&self) -> DatagramKind
         ensures { result ≡ (head_of self.now).kind }
     {
@@ -113,6 +114,7 @@ impl<'a> Header<'a> {
         u64_at(self.bytes, SESSION_AT)
     }
 
+    /// Returns the seat of the sender.
     pub fn from(&self) -> Seat
         ensures { result.number ≡ (head_of self.now).from }
     {
@@ -121,6 +123,7 @@ impl<'a> Header<'a> {
         }
     }
 
+    /// Returns the seat of the addressee.
     pub fn to(&self) -> Seat
         ensures { result.number ≡ (head_of self.now).to }
     {
@@ -129,6 +132,7 @@ impl<'a> Header<'a> {
         }
     }
 
+    /// Returns the sender's own epoch.
     pub fn sender_epoch(&self) -> u32
         ensures { result ≡ (head_of self.now).sender_epoch }
     {

@@ -55,6 +55,7 @@ pub struct ShownRows<'a> {
 impl<'a> ShownRows<'a> {
     ghost use Rattle.c8_wire.specs.Lent.{shown};
 
+    /// Returns how many rows there are, 0 to 16.
     pub fn len(&self) -> usize
         ensures count { result ≡ length (shown self.now) }
         ensures few { result ≤ MOST_ROWS }

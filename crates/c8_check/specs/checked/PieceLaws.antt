@@ -26,7 +26,7 @@ use Rattle.c8_wire.specs.checked.NumberLaws.{AreBytes-take, AreBytes-drop}
 use Rattle.c8_wire.specs.checked.WordLaws.{spelled_words, length_words_of}
 use Rattle.c8_check.specs.Checks.{save_bytes, save_length, all_pieces, before_piece, piece_length, piece_in, digest_of, Pieces, ChecksValue, origin_in, ends_well, has_shape, MayCheck}
 
--- ---- where the pieces stand
+-- ---- where the pieces are
 
 -- where a piece begins and ends
 pub piece_ends : (piece : ℕ) → piece < 36 → before_piece piece + piece_length piece ≡ before_piece (piece + 1)

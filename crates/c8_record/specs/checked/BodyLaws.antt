@@ -147,7 +147,7 @@ shaped bytes r spells =
       short = omega (arith, count, spells.has.short);
     }
 
--- ---- what is spelled of lent parts
+-- ---- the spelling of borrowed parts
 
 small_form : (form : ℕ) → IsForm form → form < 2 ^ 32
 small_form form is = ⊎_elim (λ (first : form ≡ 0). omega (arith, first)) (λ (second : form ≡ 2). omega (arith, second)) is
