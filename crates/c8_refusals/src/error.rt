@@ -120,7 +120,7 @@ pub enum Refused {
     /// The datagram is not for this peer, this match or these epochs.
     #[error("{0}")]
     Hand(HandError),
-    /// The peer cannot hold the inputs, or the end of a list cannot be there.
+    /// The peer cannot hold the inputs, or a list cannot end where the datagram says.
     #[error("{0}")]
     Known(KnownError),
     /// The datagram acknowledges more inputs than this player has entered.
@@ -129,7 +129,7 @@ pub enum Refused {
     /// Only player 1 sends it (FREEZE, CUT) or receives it (FROZEN).
     #[error("only player one says or hears this")]
     NotChair,
-    /// Player 1's journal has no LEAVE of the player, or any other journal no FREEZE.
+    /// The journal has no LEAVE of the player (player 1), or no FREEZE of it (any other player).
     #[error("the player has not been dropped here")]
     NotFrozen,
     /// The player that the datagram names cannot be dropped by it.
