@@ -1,4 +1,5 @@
--- What the records of a journal say of checkpoints: pieces of one that is under way, and the last one that is whole.
+-- What the records of a journal say about checkpoints: the pieces of the one under way, and the last
+-- complete one.
 use Rattle.std.specs.Prelude.{◌≡◌, ℕ, ◌+◌, ◌-◌, ◌*◌, ◌==◌, ◌&&◌, nat_le, nat_lt, Bool, true, List, [], ◌∷◌, ◌++◌, length, take, drop, fold, replicate, slice_index, Option, Some, None, if◌then◌else◌}
 use Rattle.sha2.specs.Sha256.{sha256}
 use Rattle.c8_game.specs.Rules.{Rules}
@@ -13,18 +14,18 @@ use Rattle.c8_known.specs.Journal.{Record, Head, Epoch, Own, Got, Freeze, Leave,
 
 -- ---- the pieces of a checkpoint
 
--- The bytes of a checkpoint: those of the machine, one more, so that they are words, and those of the marks.
+-- The bytes of a checkpoint: the machine's, a zero that makes their number even, and the marks'.
 unfoldable pub save_bytes : Origin → List ℕ
 save_bytes from = state_bytes from.machine ++ replicate 1 0 ++ marks_bytes from.marks
 
--- how many there are, and from where on they are those of the marks
+-- the number of bytes, and the offset of the marks
 abbrev pub save_length : ℕ
 save_length = 4548
 
 abbrev pub marks_place : ℕ
 marks_place = 4420
 
--- how many pieces they are cut in, which are the last of the machine's and the one of the marks
+-- the number of pieces, the last piece of the machine, and the piece of the marks
 abbrev pub all_pieces : ℕ
 all_pieces = 36
 
@@ -34,7 +35,7 @@ last_of_state = 34
 abbrev pub piece_of_marks : ℕ
 piece_of_marks = 35
 
--- how many bytes stand before a piece: a piece has 128, but the last of the machine's has 68
+-- how many bytes come before a piece; a piece has 128 bytes, the last of the machine 68
 unfoldable pub before_piece : ℕ → ℕ
 before_piece piece = if nat_le piece last_of_state then 128 * piece else (128 * piece - 60)
 
@@ -44,19 +45,20 @@ piece_length piece = if piece == last_of_state then 68 else 128
 abbrev pub piece_in : ℕ → List ℕ → List ℕ
 piece_in piece bytes = take (piece_length piece) (drop (before_piece piece) bytes)
 
--- the first 8 bytes of the digest of the machine's bytes and the marks'
+-- the first 8 bytes of the digest of the machine's bytes and the marks' bytes
 abbrev pub digest_of : List ℕ → List ℕ
 digest_of bytes = take 8 (sha256 (take state_length bytes ++ drop marks_place bytes))
 
 -- ---- what records say
 
--- pieces under way: at how many frames, how many pieces, and their bytes
+-- the pieces under way: the number of frames before the checkpoint, the number of pieces, and their
+-- bytes
 pub record Pieces : Type 0 where
   pub frames : ℕ
   pub count : ℕ
   pub bytes : List ℕ
 
--- the form of the records since the last opening, the pieces under way, and the last checkpoint that is whole
+-- the form of the records since the last opening, the pieces under way, and the last complete checkpoint
 pub record ChecksValue : Type 0 where
   pub form : ℕ
   pub under_way : Option Pieces
@@ -69,12 +71,12 @@ abbrev pub bytes_so_far : Option Pieces → List ℕ
 bytes_so_far None = []
 bytes_so_far (Some p) = p.bytes
 
--- where the last checkpoint lets a run begin
+-- where a run from the last checkpoint begins
 abbrev pub origin_in : Option Pieces → Option Origin
 origin_in None = None
 origin_in (Some p) = Some (record { frames = p.frames; machine = state_in (take state_length p.bytes); marks = marks_in p.frames (drop marks_place p.bytes) })
 
--- an opening ends what is under way
+-- an opening discards the pieces under way
 abbrev pub with_form : ChecksValue → ℕ → ChecksValue
 with_form c form = record c { form = form; under_way = None }
 
@@ -100,7 +102,7 @@ checks_of journal = fold with_check no_checks journal
 
 -- ---- where a peer began
 
--- what the last opening found: the last checkpoint before it
+-- the last checkpoint before the last opening
 abbrev pub opened_at : ChecksValue → Option Origin → Record → Option Origin
 opened_at c before (Head player form id room) = c.last
 opened_at c before (Epoch player number form) = c.last
@@ -120,23 +122,24 @@ abbrev pub or_first : Rules → Option Origin → Origin
 or_first rules None = first_origin rules
 or_first rules (Some from) = from
 
--- where the machine of a peer with this journal began to run, when it was last opened
+-- where the machine of a peer with this journal began at the last opening
 abbrev pub begun_at : Rules → List Record → Origin
 begun_at rules journal = or_first rules (opened_since no_checks None journal)
 
--- ---- which may stand
+-- ---- what may come next
 
--- at how many frames the last checkpoint was, 0 where there is none
+-- the number of frames before the last checkpoint, or 0 without one
 abbrev pub frames_of : Option Origin → ℕ
 frames_of None = 0
 frames_of (Some from) = from.frames
 
--- the piece is the next one: the first is at what is confirmed, above the last checkpoint, while none is under way
+-- The piece is the next one. If none is under way, it is the first, at the frames confirmed now, which
+-- are more than those of the last checkpoint.
 abbrev pub is_next_after : Option Pieces → ℕ → ℕ → ℕ → ℕ → Bool
 is_next_after None last sure frames piece = piece == 0 && frames == sure && nat_lt last frames
 is_next_after (Some p) last sure frames piece = nat_lt piece all_pieces && piece == p.count && frames == p.frames
 
--- it is as long as it has to be; behind the machine's bytes there is a zero, and so there are behind the marks
+-- The piece ends well: a zero follows the machine's bytes, and unused marks are zeros.
 abbrev pub ends_well : ℕ → ℕ → List ℕ → Bool
 ends_well frames piece bytes =
     if piece == last_of_state then slice_index bytes 67 == 0 else (if piece == piece_of_marks then are_marks frames bytes else true)
@@ -144,11 +147,12 @@ ends_well frames piece bytes =
 abbrev pub has_shape : ℕ → ℕ → List ℕ → Bool
 has_shape frames piece bytes = length bytes == piece_length piece && ends_well frames piece bytes
 
--- a piece may stand, where so many frames are confirmed
+-- the piece is allowed while `sure` frames are confirmed
 abbrev pub may_take : ChecksValue → ℕ → ℕ → ℕ → List ℕ → Bool
 may_take c sure frames piece bytes = c.form == 2 && is_next_after c.under_way (frames_of c.last) sure frames piece && has_shape frames piece bytes
 
--- a digest may stand: all pieces are there, it is theirs, and the bytes are those of a machine
+-- the digest is allowed: all pieces are there, it is their digest, and their bytes are those of a
+-- machine
 pub record MayCheck (c : ChecksValue) (frames : ℕ) (digest : List ℕ) : Type 0 where
   pub pieces : Pieces
   pub under_way : c.under_way ≡ Some pieces

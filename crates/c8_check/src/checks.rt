@@ -13,34 +13,35 @@ use c8_digest::{
 use c8_machine::Machine;
 use sha2::{Digest, Sha256};
 
-/// The pieces of a checkpoint.
+/// The number of pieces of a checkpoint.
 pub const PIECES: u32 = 36;
 
-/// The bytes of all pieces: the machine's, one zero, and the marks'.
+/// The number of bytes in all pieces: the machine's, one zero, and the marks'.
 const SAVE_LENGTH: usize = 4548;
 
-/// Where the bytes of the marks begin.
+/// The offset of the marks.
 const MARKS_PLACE: usize = 4420;
 
-/// The bytes of the digest that are recorded.
+/// The number of bytes of the recorded digest.
 const DIGEST_LENGTH: usize = 8;
 
-/// The last piece of the machine's bytes.
+/// The last piece of the machine.
 const LAST_OF_STATE: u32 = 34;
 
-/// The piece of the marks' bytes.
+/// The piece of the marks.
 const PIECE_OF_MARKS: u32 = 35;
 
-/// The checkpoints in the records so far: the one whose pieces are being taken, and the last whole one.
-/// It has 9 KB, so it is not `Copy`.
+/// The checkpoints in the records so far: the one under way, and the last complete one. It has 9 KB, so
+/// it is not `Copy`.
 #[derive(Drop)]
 pub struct Checks {
     /// The form of the records since the last opening.
     form: u32,
-    /// The frames of the checkpoint under way, and how many of its pieces there are; 0 if none is under way.
+    /// The frames before the checkpoint under way, and how many of its pieces are taken; 0 if none is
+    /// under way.
     frames: u32,
     count: u32,
-    /// Its bytes, those of the pieces first; the bytes after these are left over or planned.
+    /// The bytes of the taken pieces. The bytes after them are left over, or those that `begin` planned.
     bytes: [u8; SAVE_LENGTH],
     last: Option<Checkpoint>,
     ghost count_in: { count ≤ all_pieces },
@@ -49,7 +50,7 @@ pub struct Checks {
 impl Checks {
     ghost use Rattle.c8_check.specs.Seen.{value_of, plan_of};
 
-    /// Before the first record.
+    /// Creates the state before the first record.
     pub fn new() -> Self
         ensures { value_of result ≡ no_checks }
     {
@@ -62,21 +63,22 @@ impl Checks {
         }
     }
 
-    /// Lends the last checkpoint that is whole.
+    /// Returns the last complete checkpoint, if there is one.
     pub fn last(&self) -> Option<&Checkpoint>
         ensures { option_map (λ last. origin_of last.now) result ≡ (value_of self.now).last }
     {
         self.last.as_ref()
     }
 
-    /// The form of the records since the last opening.
+    /// Returns the form of the records since the last opening: 0 or 2.
     pub fn form(&self) -> u32
         ensures { result ≡ (value_of self.now).form }
     {
         self.form
     }
 
-    /// Takes the record of an opening: the records after it have this form. It ends a checkpoint under way.
+    /// Takes the record of an opening. The records after it have this form. Discards a checkpoint under
+    /// way.
     pub fn open(&mut self, form: u32)
         ensures value { value_of self.new ≡ with_form (value_of self.old) form }
         ensures none { self.new.count ≡ 0 }
@@ -85,7 +87,7 @@ impl Checks {
         self.count = 0;
     }
 
-    /// Whether a piece may be the next record while `sure` frames are confirmed.
+    /// Returns whether a piece may be the next record while `sure` frames are confirmed.
     pub fn may_take(&self, sure: u32, frames: u32, piece: u32, bytes: &[u8]) -> bool
         ensures { result ≡ may_take (value_of self.now) sure frames piece bytes.now }
     {
@@ -99,7 +101,7 @@ impl Checks {
         }
     }
 
-    /// The frames of the last whole checkpoint; 0 if there is none.
+    /// Returns the frames before the last complete checkpoint, or 0 without one.
     pub fn last_frames(&self) -> u32
         ensures { result ≡ frames_of (value_of self.now).last }
     {
@@ -109,7 +111,7 @@ impl Checks {
         }
     }
 
-    /// Takes a piece that may stand.
+    /// Takes a piece that `may_take` allows.
     pub fn take(&mut self, frames: u32, piece: u32, bytes: &[u8])
         requires { (sure : ℕ) × (may_take (value_of self.old) sure frames piece bytes.now ≡ true) }
         ensures { value_of self.new ≡ with_piece (value_of self.old) frames piece bytes.now }
@@ -119,7 +121,8 @@ impl Checks {
         self.count = piece + 1;
     }
 
-    /// Cuts a checkpoint after `frames` frames into pieces. None of them is taken yet.
+    /// Plans a checkpoint after `frames` frames: cuts it into pieces, and takes none of them yet. None
+    /// may be under way.
     pub fn begin(&mut self, frames: u32, machine: &Machine, marks: &Marks)
         requires { self.old.count ≡ 0 }
         ensures value { value_of self.new ≡ value_of self.old }
@@ -139,21 +142,21 @@ impl Checks {
         self.frames = frames;
     }
 
-    /// The number of pieces taken of the checkpoint under way; 0 if none is under way.
+    /// Returns how many pieces of the checkpoint under way are taken; 0 if none is under way.
     pub fn count(&self) -> u32
         ensures { result ≡ self.now.count }
     {
         self.count
     }
 
-    /// The frames of the checkpoint under way, or of the one that was cut.
+    /// Returns the frames before the checkpoint under way, or before the planned one.
     pub fn frames(&self) -> u32
         ensures { result ≡ self.now.frames }
     {
         self.frames
     }
 
-    /// The bytes of the piece that `advance` takes next.
+    /// Returns the bytes of the piece that `advance` takes next: 128, or 68 for piece 34.
     pub fn next_piece(&self) -> &[u8]
         requires { self.now.count < all_pieces }
         ensures bytes { result.now ≡ piece_in self.now.count (plan_of self.now) }
@@ -166,7 +169,7 @@ impl Checks {
         )
     }
 
-    /// Takes `next_piece`, as it was cut.
+    /// Takes `next_piece` as it was planned.
     pub fn advance(&mut self)
         requires { self.old.count < all_pieces }
         ensures value { value_of self.new ≡ with_piece (value_of self.old) self.old.frames
@@ -178,15 +181,15 @@ impl Checks {
         self.count += 1;
     }
 
-    /// The digest of all pieces, as they were cut.
+    /// Returns the digest of all pieces as they were planned.
     pub fn digest(&self) -> [u8; DIGEST_LENGTH]
         ensures { result ≡ digest_of (plan_of self.now) }
     {
         digest_of(&self.bytes)
     }
 
-    /// Whether a digest may be the next record: all pieces are there, it is their digest, and their bytes
-    /// spell a machine.
+    /// Returns whether a digest may be the next record: all pieces are taken, it is their digest, and
+    /// their bytes are those of a machine.
     pub fn may_check(&self, frames: u32, digest: &[u8]) -> bool
         ensures { (result ≡ true) ↔ MayCheck (value_of self.now) frames digest.now }
     {
@@ -202,7 +205,7 @@ impl Checks {
         machine_in(&self.bytes).is_some()
     }
 
-    /// Takes a digest that may stand: now the checkpoint is whole.
+    /// Takes a digest that `may_check` allows. The checkpoint is complete then.
     pub fn check(&mut self)
         requires { (frames : ℕ) × (digest : List ℕ) × MayCheck (value_of self.old) frames digest }
         ensures value { value_of self.new ≡ with_whole (value_of self.old) }
@@ -222,7 +225,7 @@ impl Checks {
     }
 }
 
-/// `size` bytes from `place` on.
+/// Returns `size` bytes from `place` on.
 fn part_of(bytes: &[u8; SAVE_LENGTH], place: usize, size: usize) -> &[u8]
     requires { place + size ≤ save_length }
     ensures bytes { result.now ≡ take size (drop place bytes.now) }
@@ -231,7 +234,7 @@ fn part_of(bytes: &[u8; SAVE_LENGTH], place: usize, size: usize) -> &[u8]
     &bytes[place..place + size]
 }
 
-/// The bytes of a checkpoint.
+/// Returns the bytes of a checkpoint.
 #[tactic(auto, unfolding(crate::specs::Checks::save_bytes))]
 fn saved(state: &[u8; STATE_LENGTH], marks: &[u8; MARKS_LENGTH]) -> [u8; SAVE_LENGTH]
     ensures { result ≡ state.now ++ replicate 1 0 ++ marks.now }
@@ -243,7 +246,7 @@ fn saved(state: &[u8; STATE_LENGTH], marks: &[u8; MARKS_LENGTH]) -> [u8; SAVE_LE
     bytes
 }
 
-/// The machine that the first bytes spell.
+/// Returns the machine in the first bytes, if they are those of one.
 fn machine_in(bytes: &[u8; SAVE_LENGTH]) -> Option<Machine>
     ensures found { IfSome result (λ machine. HasBytes (take state_length bytes.now) (state machine)) }
     ensures none { result ≡ None → (s : State) → IsState s
@@ -255,7 +258,7 @@ fn machine_in(bytes: &[u8; SAVE_LENGTH]) -> Option<Machine>
     }
 }
 
-/// The bytes of the marks.
+/// Returns the bytes of the marks.
 fn marks_in(bytes: &[u8; SAVE_LENGTH]) -> [u8; MARKS_LENGTH]
     ensures { result ≡ drop marks_place bytes.now }
 {
@@ -266,7 +269,7 @@ fn marks_in(bytes: &[u8; SAVE_LENGTH]) -> [u8; MARKS_LENGTH]
     }
 }
 
-/// The first 8 bytes of the digest over the machine's bytes and the marks'.
+/// Returns the first 8 bytes of the digest of the machine's bytes and the marks' bytes.
 fn digest_of(bytes: &[u8; SAVE_LENGTH]) -> [u8; DIGEST_LENGTH]
     ensures { result ≡ digest_of bytes.now }
 {
@@ -277,7 +280,7 @@ fn digest_of(bytes: &[u8; SAVE_LENGTH]) -> [u8; DIGEST_LENGTH]
     }
 }
 
-/// The machine's bytes and the marks'.
+/// Returns the machine's bytes followed by the marks' bytes.
 fn both_parts(bytes: &[u8; SAVE_LENGTH]) -> [u8; STATE_LENGTH + MARKS_LENGTH]
     ensures { result ≡ take state_length bytes.now ++ drop marks_place bytes.now }
 {
@@ -289,7 +292,7 @@ fn both_parts(bytes: &[u8; SAVE_LENGTH]) -> [u8; STATE_LENGTH + MARKS_LENGTH]
     parts
 }
 
-/// The number of bytes before a piece.
+/// Returns how many bytes come before a piece.
 #[tactic(auto, unfolding(crate::specs::Checks::before_piece))]
 fn before_piece(piece: u32) -> usize
     requires { piece ≤ all_pieces }
@@ -303,7 +306,7 @@ fn before_piece(piece: u32) -> usize
     }
 }
 
-/// The number of bytes of a piece.
+/// Returns how many bytes a piece has.
 #[tactic(auto, unfolding(crate::specs::Checks::piece_length))]
 fn piece_length(piece: u32) -> usize
     ensures value { result ≡ piece_length piece }
@@ -312,14 +315,14 @@ fn piece_length(piece: u32) -> usize
     if piece == LAST_OF_STATE { 68 } else { 128 }
 }
 
-/// Whether a piece has the right length, and zeros where they belong.
+/// Returns whether a piece has the right length, and zeros where it must.
 fn has_shape(frames: u32, piece: u32, bytes: &[u8]) -> bool
     ensures { result ≡ has_shape frames piece bytes.now }
 {
     bytes.len() == piece_length(piece) && ends_well(frames, piece, bytes)
 }
 
-/// Whether a piece of the right length has zeros where they belong.
+/// Returns whether a piece of the right length has zeros where it must.
 #[tactic(auto, unfolding(crate::specs::Checks::piece_length))]
 fn ends_well(frames: u32, piece: u32, bytes: &[u8]) -> bool
     requires { length bytes.now ≡ piece_length piece }

@@ -45,7 +45,7 @@ pub(crate) fn count_synced(calls: &[Call]) -> usize
     synced
 }
 
-/// Repeats a call.
+/// Applies a call.
 fn repeat(file: &mut Vec<u8>, call: &Call)
     requires lawful { are_lawful file.old.items (call.now ∷ []) ≡ true }
     requires fits { fit (vec_capacity file.old) (call.now ∷ []) ≡ true }
@@ -57,7 +57,7 @@ fn repeat(file: &mut Vec<u8>, call: &Call)
     }
 }
 
-/// Repeats the calls.
+/// Applies the calls in order.
 pub(crate) fn replay(file: &mut Vec<u8>, calls: &[Call])
     requires lawful { are_lawful file.old.items calls.now ≡ true }
     requires fits { fit (vec_capacity file.old) calls.now ≡ true }
@@ -69,7 +69,7 @@ pub(crate) fn replay(file: &mut Vec<u8>, calls: &[Call])
     }
 }
 
-/// Makes a call as a crash may leave it.
+/// Applies a call as a crash may leave it.
 fn tear_one(file: &mut Vec<u8>, call: &Call, choices: &mut Pcg32)
     requires { fit (vec_capacity file.old) (call.now ∷ []) ≡ true }
     ensures torn { TornBy (call.now ∷ []) file.old.items file.new.items }
@@ -80,7 +80,7 @@ fn tear_one(file: &mut Vec<u8>, call: &Call, choices: &mut Pcg32)
     }
 }
 
-/// Makes the calls as a crash may leave them.
+/// Applies the calls in order, as a crash may leave them.
 pub(crate) fn tear_all(file: &mut Vec<u8>, calls: &[Call], choices: &mut Pcg32)
     requires { fit (vec_capacity file.old) calls.now ≡ true }
     ensures torn { TornBy calls.now file.old.items file.new.items }

@@ -57,7 +57,7 @@ pub trait Disk {
     /// What `arm` does to the disk. For callers that know the kind of disk.
     ghost told: { Self → Arm → Self → Type 0 };
 
-    /// Returns how many bytes there are.
+    /// Returns how many bytes there are: the length that a read sees.
     fn len(&self) -> u32
         ensures { result ≡ length (seen self.now) };
 
@@ -65,15 +65,17 @@ pub trait Disk {
     fn capacity(&self) -> u32
         ensures { result ≡ capacity self.now };
 
-    /// Lends the bytes that a read gives. A kind of disk that does not hold them in memory always answers `None`.
+    /// Returns the bytes that a read gives, borrowed in place. A kind of disk that does not hold them in
+    /// memory always returns `None`.
     ///
-    /// This is not a read: it asks nothing of the disk, never fails, and does not count for `arm`. So it does not show
-    /// whether a read would fail; a caller that has to know makes the read as well.
+    /// This is not a read: it makes no call, never fails, and does not count for `arm`. So it does not
+    /// show whether a read would fail; a caller that needs to know makes the read as well.
     fn held(&self) -> Option<&[u8]>
         ensures bytes { IfSome result (λ bytes. bytes.now ≡ seen self.now) }
         ensures lent { is_some result ≡ lends };
 
-    /// Reads as many bytes as `buffer` has, from place `at` on. After an error `buffer` may hold anything.
+    /// Reads as many bytes as `buffer` has, from place `at` on. After an error the contents of `buffer`
+    /// are undefined.
     fn read_at(&mut self, at: u32, buffer: &mut [u8]) -> Result<(), DiskError>
         requires { at + length buffer.old ≤ length (seen self.old) }
         ensures read { OnOk result
@@ -89,9 +91,9 @@ pub trait Disk {
         ensures arms { arms self.new ≡ arms self.old }
         ensures does { does self.old (Reading at (length buffer.old) result) self.new };
 
-    /// Writes bytes over those from place `at` on, and past their end. Until a sync answers `Ok`, a crash may leave any
-    /// bytes in this range. A write that answers `Failed` may have done any part of its work; one that answers `Full`
-    /// did none.
+    /// Writes bytes over those from place `at` on, and past their end. Until a sync returns `Ok`, a
+    /// crash may leave any bytes in this range. A write that returns `Failed` may have done any part of
+    /// its work; one that returns `Full` did none.
     fn write_at(&mut self, at: u32, bytes: &[u8]) -> Result<(), DiskError>
         requires place { at ≤ length (seen self.old) }
         requires short { length bytes.now ≤ longest_write }
@@ -107,7 +109,7 @@ pub trait Disk {
         ensures arms { arms self.new ≡ arms self.old }
         ensures does { does self.old (Writing at bytes.now result) self.new };
 
-    /// Makes all writes durable. After an `Ok` a crash leaves what a read gives.
+    /// Makes all writes durable. After `Ok` a crash leaves what a read gives.
     fn sync(&mut self) -> Result<(), DiskError>
         ensures durable { OnOk result (Only (seen self.old) (may_leave self.new)) }
         ensures seen { seen self.new ≡ seen self.old }
@@ -121,7 +123,7 @@ pub trait Disk {
         ensures arms { arms self.new ≡ arms self.old }
         ensures does { does self.old (Syncing result) self.new };
 
-    /// Sets when calls fail from now on. It changes nothing that a read or a crash gives.
+    /// Chooses when calls fail from now on. Does not change what a read gives or what a crash may leave.
     fn arm(&mut self, arm: Arm)
         ensures seen { seen self.new ≡ seen self.old }
         ensures crash { AddsNone (may_leave self.old) (may_leave self.new) }

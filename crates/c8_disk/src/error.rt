@@ -29,6 +29,7 @@ impl DiskError {
         }
     }
 
+    /// Returns the name of the variant.
     pub fn name(self) -> &'static str {
         match self {
             DiskError::Failed => "Failed",
@@ -67,6 +68,7 @@ impl FileError {
         }
     }
 
+    /// Returns the name of the variant.
     pub fn name(self) -> &'static str {
         match self {
             FileError::Failed => "Failed",

@@ -15,9 +15,9 @@ use rand_pcg::rand_core::SeedableRng;
 use std::alloc::{AllocError, Global};
 use std::fmt;
 
-/// A disk in memory. It serves a number of calls that read, write or sync, and then fails. It keeps what it held at
-/// first and each call that changed it, so that a crash can leave whatever the model allows. All its memory is reserved
-/// when it is made.
+/// A disk in memory. It serves a number of calls that read, write or sync, and then fails. It keeps its
+/// first bytes and each call that changed them, so that a crash can leave all that the model allows.
+/// `new` reserves all its memory.
 #[derive(Drop)]
 pub struct MemDisk {
     first: Vec<u8>,
@@ -61,7 +61,8 @@ fn note(calls: &mut Vec<Call>, call: Call)
 impl MemDisk {
     ghost use Rattle.c8_disk.specs.Memory.{bytes_of, first_of, calls_of, images_of, moment_of, left_since, synced_of, calls_allowed, value_of, new_value, with_arm};
 
-    /// Makes an empty disk with room for `capacity` bytes, which serves `calls` calls.
+    /// Creates an empty disk with room for `capacity` bytes, which serves `calls` calls. Fails only if
+    /// memory is refused.
     pub fn new(alloc: Global, capacity: u32, calls: u32) -> Result<MemDisk, AllocError>
         ensures value { IfOk result (λ disk. value_of disk ≡ new_value capacity calls) }
         ensures settled { IfOk result (λ disk. Only (bytes_of disk) (images_of disk)) }
@@ -101,9 +102,9 @@ impl MemDisk {
         &self.bytes
     }
 
-    /// Crashes: returns a disk that holds an image that a crash at this moment may leave. It serves as many calls as a
-    /// new one, and no failure is armed. Pick 0 is what was last synced, pick 1 is what a read gives, any other pick
-    /// seeds a generator that chooses.
+    /// Crashes: returns a disk with an image that a crash at this moment may leave. It serves as many
+    /// calls as a new one, and no failure is armed. Pick 0 is what was last synced, pick 1 is what a
+    /// read gives, and any other pick is the seed of a generator that chooses.
     pub fn crash(self, pick: u64) -> MemDisk
         ensures image { images_of self (bytes_of result) }
         ensures between_syncs { IsBetweenSyncs (first_of self) (calls_of self) (bytes_of result) }
@@ -149,7 +150,7 @@ impl MemDisk {
     }
 }
 
-/// Replaces what a read gives by an image that a crash may leave. The first bytes are used up.
+/// Replaces what a read gives by an image that a crash may leave. Uses up the first bytes.
 fn leave_image(first: &mut Vec<u8>, bytes: &mut Vec<u8>, calls: &[Call], pick: u64)
     requires lawful { are_lawful first.old.items calls.now ≡ true }
     requires replayed { bytes.old.items ≡ content first.old.items calls.now }
@@ -213,7 +214,7 @@ impl Disk for MemDisk {
         self.room
     }
 
-    /// Lends all bytes, even if the next read is to fail.
+    /// Returns all bytes, even if the next read is to fail.
     fn held(&self) -> Option<&[u8]>
         ensures bytes { IfSome result (λ bytes. bytes.now ≡ bytes_of self.now) }
         ensures lent { is_some result ≡ true }

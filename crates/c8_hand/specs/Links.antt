@@ -1,4 +1,4 @@
--- What a peer knows of the others' epochs, which datagrams it admits, and what these change.
+-- What a peer knows of the others' epochs, which datagrams it admits, and how they change this.
 use Rattle.std.specs.Prelude.{◌≡◌, ℕ, ◌≤◌, ◌==◌, ◌&&◌, ◌||◌, ◌⊎◌, ◌≢◌, Bool, true, false, not, nat_lt, nat_le, Option, Some, None, if◌then◌else◌}
 use Rattle.c8_game.specs.Rules.{Rules, session_of}
 use Rattle.c8_game.specs.declared.wire.WireVersion.{WireVersion}
@@ -13,7 +13,7 @@ pub record LinkValue : Type 0 where
   pub known : ℕ
   pub is_open : Bool
 
--- a link to a player of whom nothing is known
+-- a link to a player without a known epoch
 abbrev pub no_link : LinkValue
 no_link = record { known = 0; is_open = false }
 
@@ -93,7 +93,7 @@ refusal_by_kind kinds.Cut = refusal_of_others
 refusal_by_kind kinds.Show = refusal_of_watching
 refusal_by_kind kinds.Seen = refusal_of_watching
 
--- Whether a datagram is from another player of the game to this one.
+-- The datagram is from another player of the game to this one.
 abbrev pub is_mine : LinksValue → HeadValue → Bool
 is_mine l head = (head.to == l.me && not (head.from == l.me)) && (nat_le 1 head.from && nat_le head.from l.players)
 
@@ -103,7 +103,7 @@ refusal l head =
     if not (head.session == l.session) then Some errors.Session
     else (if is_mine l head then refusal_by_kind head.kind (link_to l head.from) l.epoch head.sender_epoch head.addressee_epoch else Some errors.NotMine)
 
--- why a SEEN with this header is refused; None if it is admitted. A watcher has no epoch and no link
+-- why a SEEN with this header is refused; None if it is admitted. A watcher has no epoch and no link.
 unfoldable pub refusal_of_seen : LinksValue → HeadValue → Option HandError
 refusal_of_seen l head = if not (head.session == l.session) then Some errors.Session else (if head.to == l.me then None else Some errors.NotMine)
 
@@ -135,7 +135,7 @@ link_after kinds.Seen link theirs = link
 abbrev pub heard : LinksValue → HeadValue → LinksValue
 heard l head = with_link l head.from (link_after head.kind (link_to l head.from) head.sender_epoch)
 
--- ---- what clauses and laws say of these
+-- ---- used by clauses and laws
 
 -- the datagram is of this match, and from another player of it to this one
 pub record IsForMe (l : LinksValue) (head : HeadValue) : Type 0 where

@@ -10,18 +10,18 @@ pub enum HandError {
     /// The link to the sender is not open.
     #[error("no link to the sender is open")]
     NotOpen,
-    /// It is from an epoch of the sender below the known one, or (except HELLO) for an epoch of this peer below its
-    /// own; or it is a HELLO or WELCOME from epoch 0.
+    /// The datagram is from an older epoch of the sender than the known one, or (except HELLO) for an
+    /// older epoch of this peer than its own; or it is a HELLO or WELCOME from epoch 0.
     #[error("from or for an older epoch, or from none")]
     Stale,
-    /// It is for a later epoch of this peer than its own; or, except HELLO and WELCOME, from a later epoch of the
-    /// sender than the known one.
+    /// The datagram is for a later epoch of this peer than its own; or, except HELLO and WELCOME, from a
+    /// later epoch of the sender than the known one.
     #[error("from or for a later epoch than is known")]
     Ahead,
-    /// It is not addressed to this player, or its sender is this player or not a player of the game.
+    /// The datagram is not for this player, or its sender is this player or not a player of the game.
     #[error("not for this player, or from none of the others")]
     NotMine,
-    /// It is of another match.
+    /// The datagram is of another match.
     #[error("from another match")]
     Session,
 }
@@ -40,6 +40,7 @@ impl HandError {
         }
     }
 
+    /// Returns the name of the variant.
     pub fn name(self) -> &'static str {
         match self {
             HandError::NotOpen => "NotOpen",

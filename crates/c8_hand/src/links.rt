@@ -16,7 +16,7 @@ use std::marker::Model;
 #[derive(Debug, Drop)]
 pub struct Links {
     me: Player,
-    /// The player of the game with the greatest number.
+    /// The last player of the game.
     last: Player,
     version: WireVersion,
     session: u64,
@@ -72,14 +72,14 @@ impl Links {
         self.epoch
     }
 
-    /// Returns the known epoch of a player, 0 if none is known.
+    /// Returns the known epoch of a player, or 0 if none is known.
     pub fn known(&self, player: Player) -> u32
         ensures { result ≡ (link_to self.now player.number).known }
     {
         self.links[player.place()].known
     }
 
-    /// Returns the known epoch of a player, if the link to it is open.
+    /// Returns the known epoch of a player, or `None` if the link to it is not open.
     pub fn open(&self, player: Player) -> Option<u32>
         ensures { result ≡ open_epoch self.now player.number }
     {
@@ -87,9 +87,9 @@ impl Links {
         if link.is_open { Some(link.known) } else { None }
     }
 
-    /// Judges a datagram of any kind: first `Session`, then `NotMine`, then the epochs. It changes nothing. A watcher
-    /// has no epoch and no link, so `Session` and `NotMine` are all that a SEEN is judged by. The caller has to judge
-    /// the version of the datagram before.
+    /// Judges a datagram of any kind, and changes nothing. The errors come in this order: `Session`,
+    /// `NotMine`, then the epochs. A SEEN gets only the first two checks, since a watcher has no epoch
+    /// and no link. The caller checks the version before.
     pub fn admit(&self, datagram: &Datagram<'_>) -> Result<(), HandError>
         ensures judged { MatchResult result
             (λ _. admission self.now (packet_of datagram.now).head ≡ None)
@@ -173,8 +173,9 @@ impl Links {
         None
     }
 
-    /// Takes the epochs of an admitted datagram. A HELLO of a later epoch closes the link to its sender, a WELCOME
-    /// opens it, and both make the sender's epoch known. Other kinds change nothing.
+    /// Notes the epochs of a datagram that `admit` accepts. A HELLO of a later epoch closes the link to
+    /// its sender, and a WELCOME opens it; both make the sender's epoch known. Other kinds change
+    /// nothing.
     pub fn hear(&mut self, datagram: &Datagram<'_>)
         requires { admission self.old (packet_of datagram.now).head ≡ None }
         ensures heard { self.new ≡ heard self.old (packet_of datagram.now).head }
@@ -214,8 +215,8 @@ impl Links {
         }
     }
 
-    /// Makes the header of a datagram of this kind to a player or a watcher, in the version of the match. It names the
-    /// own epoch, and the known one of the addressee; 0 for a watcher.
+    /// Returns the header of a datagram of this kind to a player or a watcher, in the version of the
+    /// match. It has the own epoch and the known one of the addressee, or 0 for a watcher.
     pub fn head(&self, to: Seat, kind: DatagramKind) -> Head
         requires { are_seats kind self.now.me to.number ≡ true }
         ensures { head_value result ≡ head_to self.now to.number kind }

@@ -57,7 +57,8 @@ abbrev pub or_empty : Option ℕ → ℕ
 or_empty (Some input) = input
 or_empty None = 0
 
--- A row: an input for each of four players. A player who is not in the game counts as one of whom nothing is known.
+-- A row: an input for each of four players. A player that is not in the game counts as one without
+-- inputs.
 abbrev pub row_of : (PlayerValue → ℕ) → KnownValue → Row
 row_of input k = record { sets = map (λ q. record { 0 = input (player_in k q) }) (1 ∷ 2 ∷ 3 ∷ 4 ∷ []) }
 

@@ -10,7 +10,7 @@ differ [] others = false
 differ (input ∷ inputs) [] = false
 differ (input ∷ inputs) (other ∷ others) = not (input == other) || differ inputs others
 
--- a frozen player says its own inputs, which are no longer taken from itself
+-- a frozen player sends its own inputs, which no longer count from it
 abbrev pub is_from_leaver : KnownValue → ℕ → ℕ → Bool
 is_from_leaver k player teller = teller == player && is_frozen_in k player
 
@@ -22,7 +22,7 @@ misfit k player start words =
     else (if differ (drop start (player_in k player).held) words then Some errors.Differs
     else None))
 
--- why inputs that a player says are refused; None if they are not
+-- why inputs from a player are refused; None if they are not
 unfoldable pub refusal : KnownValue → ℕ → ℕ → ℕ → List ℕ → Option KnownError
 refusal k player teller start words = if is_from_leaver k player teller then Some errors.FromLeaver else misfit k player start words
 

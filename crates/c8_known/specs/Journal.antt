@@ -1,11 +1,11 @@
--- What a journal says. A journal is the list of its records, oldest first; what it says depends on the whole list.
+-- What a journal says. A journal is the list of its records, oldest first.
 use Rattle.std.specs.Prelude.{ℕ, List, [], ◌∷◌, ◌++◌, length, Bool, true, false, ◌==◌, if◌then◌else◌, Option, ◌-◌, slice_index, replicate}
 use Rattle.std.specs.List.{count_by, flat_map, list_any, slice_get}
 use Rattle.c8_game.specs.Rules.{Rules}
 
--- A record, with all that its bytes say. Head, Epoch, Own, State and Check name the player whose journal it is, the
--- others the player whom they are about. A start is the place of the record's inputs in that player's list. A form is 0
--- or 2, that of the records from there on: form 2 also has State and Check.
+-- A record with all its fields. Head, Epoch, Own, State and Check name the journal's own player, the
+-- others the player that they are about. A start is the place of the record's inputs in that player's
+-- list. A form is 0 or 2 and holds for the records that follow: form 2 also has State and Check.
 pub data Record : Type 0 where
   -- the player whose journal this is, and the match: the game's id in 32 bytes, and the room
   Head : (player : ℕ) → (form : ℕ) → (id : List ℕ) → (room : ℕ) → Record
@@ -15,9 +15,9 @@ pub data Record : Type 0 where
   Own : (player : ℕ) → (start : ℕ) → (word : ℕ) → Record
   -- key sets of another player came
   Got : (player : ℕ) → (start : ℕ) → (words : List ℕ) → Record
-  -- from here on the player's inputs are taken from player 1 alone
+  -- from here on the player's inputs are taken from player 1 only
   Freeze : (player : ℕ) → Record
-  -- player 1 dropped the player; in another player's journal: this player itself was dropped
+  -- player 1 dropped the player; in any other journal: the own player was dropped
   Leave : (player : ℕ) → Record
   -- the player's list of inputs ends at a length, and these are its last inputs
   Cut : (player : ℕ) → (length : ℕ) → (start : ℕ) → (words : List ℕ) → Record
@@ -28,7 +28,7 @@ pub data Record : Type 0 where
 
 -- ---- what one record says
 
--- the player whom it names
+-- the player that it names
 abbrev pub player_of : Record → ℕ
 player_of (Head player form id room) = player
 player_of (Epoch player number form) = player

@@ -22,18 +22,18 @@ pub record KnownValue : Type 0 where
   pub ticks : ℕ
   pub players : List PlayerValue
 
--- a player of whom nothing is known
+-- a player without known inputs
 abbrev pub nobody : PlayerValue
 nobody = record { held = []; frozen = false; leaving = false; cut = None }
 
--- what is known of a player (players are numbered from 1; player 0, which nobody asks for, would be player 1)
+-- what is known of a player; players are numbered from 1, and player 0 is never used
 abbrev pub player_in : KnownValue → ℕ → PlayerValue
 player_in k q = slice_index_or k.players (q - 1) nobody
 
 abbrev pub count_in : KnownValue → ℕ → ℕ
 count_in k q = length (player_in k q).held
 
--- the journal has a FREEZE or a LEAVE of the player: its inputs are no longer taken from itself
+-- the journal has a FREEZE or a LEAVE of the player: its inputs no longer count from it
 abbrev pub is_frozen_of : PlayerValue → Bool
 is_frozen_of p = p.frozen || p.leaving
 
@@ -120,7 +120,7 @@ pub record IsOfGame (rules : Rules) (me : ℕ) (k : KnownValue) : Type 0 where
   pub limit : k.limit ≡ limit_of rules
   pub player : k.me ≡ me
 
--- the player whom the record names is in the game
+-- the player that the record names is in the game
 pub record NamesPlayer (rules : Rules) (r : Record) : Type 0 where
   pub from_one : 1 ≤ player_of r
   pub in_game : player_of r ≤ rules.players

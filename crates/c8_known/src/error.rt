@@ -7,16 +7,16 @@ use thiserror::Error;
 /// Why a run of inputs is refused.
 #[derive(Clone, Copy, Debug, PartialEq, Eq, Hash, Error)]
 pub enum KnownError {
-    /// It starts after the inputs that are held.
+    /// The run starts after the inputs that are held.
     #[error("inputs before these are missing")]
     Gap,
-    /// It comes from the player itself, which is frozen: its inputs are taken from player 1 alone.
+    /// The run comes from a frozen player, whose inputs are taken from player 1 only.
     #[error("from a player who leaves")]
     FromLeaver,
-    /// It has an input that differs from the held one.
+    /// The run has an input that differs from the held one.
     #[error("an input differs from the one that is held")]
     Differs,
-    /// It ends after the last input that the game can have.
+    /// The run ends after the last input that the game can have.
     #[error("inputs after the end of the game")]
     Full,
 }
@@ -34,6 +34,7 @@ impl KnownError {
         }
     }
 
+    /// Returns the name of the variant.
     pub fn name(self) -> &'static str {
         match self {
             KnownError::Gap => "Gap",

@@ -16,7 +16,7 @@ use std::alloc::{AllocError, Global};
 use std::fmt;
 use std::marker::Model;
 
-/// What one player knows of the inputs of all players. The memory for a whole game is reserved when it is made.
+/// What one player knows of the inputs of all players. `new` reserves the memory for a whole game.
 #[derive(Drop)]
 pub struct Known {
     me: Player,
@@ -50,7 +50,8 @@ impl fmt::Debug for Known {
 }
 
 impl Known {
-    /// Makes what player `me` knows before its journal has a record: the empty sets of the delay.
+    /// Creates what player `me` knows before its journal has a record: the empty sets of the delay.
+    /// Fails only if memory is refused.
     pub fn new(alloc: Global, game: &Game, me: Player) -> Result<Known, AllocError>
         requires { me.number ≤ game.now.players }
         ensures value { IfOk result (λ known. known ≡ known_of game.now me.number []) }
@@ -66,7 +67,7 @@ impl Known {
         })
     }
 
-    /// Returns the player who knows this.
+    /// Returns the own player.
     pub fn me(&self) -> Player
         ensures value { result.number ≡ self.now.me }
         ensures known { IsKnown self.now }
@@ -103,7 +104,7 @@ impl Known {
         self.ticks
     }
 
-    /// Returns how many inputs of a player are held, with those of the delay.
+    /// Returns how many inputs of a player are held, including those of the delay.
     pub fn count(&self, player: Player) -> u32
         requires { Plays self.now player.number }
         ensures value { result ≡ count_in self.now player.number }
@@ -112,7 +113,7 @@ impl Known {
         self.tables[player.place()].inputs.len() as u32
     }
 
-    /// Lends a player's inputs from place `from` up to place `to` of its list.
+    /// Returns a player's inputs from place `from` up to, but not including, place `to` of its list.
     pub fn inputs(&self, player: Player, from: u32, to: u32) -> &[u16]
         requires plays { Plays self.now player.number }
         requires order { from ≤ to }
@@ -149,7 +150,7 @@ impl Known {
         self.tables[player.place()].leaving
     }
 
-    /// Returns the length at which the player's list is cut, if it is.
+    /// Returns the length at which the player's list is cut; `None` if it is not cut.
     pub fn cut_of(&self, player: Player) -> Option<u32>
         requires { Plays self.now player.number }
         ensures { result ≡ (player_in self.now player.number).cut }
@@ -213,8 +214,9 @@ impl Known {
         }
     }
 
-    /// Judges a run of a player's inputs from `start` on, said by player `teller`, and lends the part that is not held
-    /// yet. It changes nothing. The errors are checked in this order: `FromLeaver`, `Full`, `Gap`, `Differs`.
+    /// Judges a run of a player's inputs from `start` on, sent by player `teller`, and returns the part
+    /// that is not held yet. Changes nothing. The errors come in this order: `FromLeaver`, `Full`,
+    /// `Gap`, `Differs`.
     #[tactic(auto, unfolding(crate::specs::Fresh::refusal))]
     pub fn fresh<'a>(
         &self,
@@ -266,7 +268,7 @@ impl Known {
         self.ticks += 1;
     }
 
-    /// Adds inputs of another player after those that are held.
+    /// Appends inputs to the list of another player. The list is not cut.
     pub fn take(&mut self, player: Player, run: Run<'_>)
         requires plays { Plays self.old player.number }
         requires other { player.number ≢ self.old.me }
@@ -280,7 +282,7 @@ impl Known {
         hold_run(&mut self.tables[player.place()].inputs, run);
     }
 
-    /// Freezes the player: from here on its inputs are taken from player 1 alone.
+    /// Freezes the player: from here on its inputs are taken from player 1 only.
     pub fn freeze(&mut self, player: Player)
         requires { Plays self.old player.number }
         ensures value { self.new ≡ with_record self.old (Freeze player.number) }
@@ -290,7 +292,7 @@ impl Known {
         self.tables[player.place()].frozen = true;
     }
 
-    /// Notes that player 1 dropped the player; in another player's journal, that this player itself was dropped.
+    /// Notes that player 1 dropped the player; in any other journal, that the own player was dropped.
     pub fn leave(&mut self, player: Player)
         requires { Plays self.old player.number }
         ensures value { self.new ≡ with_record self.old (Leave player.number) }
@@ -300,7 +302,7 @@ impl Known {
         self.tables[player.place()].leaving = true;
     }
 
-    /// Cuts the list of another player, who is frozen, at its present length.
+    /// Cuts the list of another player, which is frozen, at its present length.
     pub fn cut(&mut self, player: Player, length: u32)
         requires plays { Plays self.old player.number }
         requires other { player.number ≢ self.old.me }

@@ -14,7 +14,7 @@ pub fn one_record_more()
         → known_of rules me (journal ++ r ∷ []) ≡ with_record (known_of rules me journal) r }
 {}
 
-/// What is known of a player is what the journal says of it.
+/// What is known of a player is what the journal says about it.
 pub fn known_is_what_the_journal_says()
     ensures { (rules : Rules) (me q : ℕ) (journal : List Record) → 1 ≤ q → q ≤ rules.players
         → player_in (known_of rules me journal) q ≡ said_of rules q journal }
@@ -26,7 +26,7 @@ pub fn what_is_still_known_chains()
     ensures more { (a b c : KnownValue) → IsStillKnown a b → IsStillKnown b c → IsStillKnown a c }
 {}
 
-/// A record of a player of the game takes nothing back, unless it adds inputs to a list that is cut.
+/// A record about a player of the game takes nothing back, unless it adds inputs to a list that is cut.
 pub fn a_record_takes_nothing_back()
     ensures own { (k : KnownValue) (start word : ℕ) → IsKnown k
         → IsStillKnown k (with_record k (Own k.me start word)) }
@@ -60,8 +60,8 @@ pub fn what_is_known_stays_sound()
         → IsKnown (with_record k (Cut q K start words)) }
 {}
 
-/// A record that cuts a list and adds its last inputs says what two records say: one that adds them, and one that only
-/// cuts.
+/// A record that cuts a list and adds its last inputs says the same as two records: one that adds them,
+/// and one that only cuts.
 pub fn a_cut_is_a_run_and_an_end()
     ensures { (k : KnownValue) (q K start later : ℕ) (words : List ℕ) → Plays k q
         → with_record k (Cut q K start words)

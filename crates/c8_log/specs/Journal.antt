@@ -4,8 +4,8 @@ use Rattle.c8_disk.specs.declared.disk.Disk.{Ghosts}
 use Rattle.c8_log.specs.Slots.{kept}
 use Rattle.c8_log.specs.Log.{LogValue, KeepsWithOrWithout}
 
--- A journal: its disk, the bodies that it keeps, the one that was refused and of which the next
--- opening decides, and whether it is down.
+-- A journal: its disk, the bodies that it keeps, the pending body (refused; the next opening decides
+-- whether it counts), and whether it is down.
 pub record JournalValue (D : Type 0) : Type 0 where
   pub disk : D
   pub bodies : List (List ℕ)
@@ -17,14 +17,13 @@ abbrev pub KeepsBodies : List (List ℕ) → Option (List ℕ) → List ℕ → 
 KeepsBodies bodies None image = kept image ≡ bodies
 KeepsBodies bodies (Some body) image = KeepsWithOrWithout bodies body image
 
--- each image does
+-- so does each image
 abbrev pub AllKeepBodies : List (List ℕ) → Option (List ℕ) → (List ℕ → Type 0) → Type 0
 AllKeepBodies bodies pending images =
     (image : List ℕ) → images image → KeepsBodies bodies pending image
 
 module _ {D : Type 0} (g : Ghosts D) where
-  -- the journal over a log, of which this was refused: it keeps as many of the bodies that a read
-  -- gives as the log counts
+  -- The journal over a log, with this pending body. It keeps the first `count` bodies that a read gives.
   abbrev pub journal_over : LogValue D → List (List ℕ) → JournalValue D
   journal_over log refused = record {
     disk = log.disk;
@@ -33,7 +32,7 @@ module _ {D : Type 0} (g : Ghosts D) where
     is_down = log.down;
   }
 
-  -- What every journal is, where its log counts so many bodies.
+  -- What holds for every journal whose log counts this many bodies.
   pub record IsJournal (journal : JournalValue D) (count : ℕ) : Type 0 where
     pub count_is : count ≡ length journal.bodies
     pub keeps : AllKeepBodies journal.bodies journal.pending (g.may_leave journal.disk)

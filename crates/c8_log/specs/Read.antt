@@ -1,4 +1,4 @@
--- What a read of a log does, whatever it reads.
+-- The part that all reads of a log share.
 use Rattle.std.specs.Prelude.{◌≡◌, ◌<◌, ◌↔◌, true, false, Result, OnOk, OnErr, IsErrOf}
 use Rattle.c8_disk.specs.declared.disk.Disk.{Ghosts}
 use Rattle.c8_disk.specs.Runs.{ReadsOnly}
@@ -8,9 +8,9 @@ use Rattle.c8_log.specs.declared.error.LogError.TheVariants.{Failed, Full, Down}
 use Rattle.c8_log.specs.Log.{LogValue, IsAtRest}
 use Rattle.c8_log.specs.Asked.{told_by}
 
--- Nothing is written, and a crash at any moment of the call leaves what a crash before it could have left. A log that is up
--- makes one read of its disk. At Ok it stays up, as it was. At Failed the disk failed, and the log goes down. A log that was
--- down answers Down, and stays as it was.
+-- A read writes nothing, and a crash at any moment of the call leaves what a crash before it could have
+-- left. If the log is up, it makes one disk read. After Ok it is up and unchanged; after Failed it is
+-- down. If it was down, the answer is Down and nothing changes.
 pub record HasRead {D T : Type 0} (g : Ghosts D) (old new : LogValue D) (result : Result T LogError) : Type 0 where
   pub reads : ReadsOnly g old.disk new.disk
   pub asks : old.down ≡ false → Asks g (Reads 1) (told_by result) old.disk new.disk

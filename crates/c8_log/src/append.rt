@@ -1,4 +1,4 @@
-//! What an append does to a disk at rest.
+//! The disk calls of an append.
 ghost use Rattle.std.specs.Prelude.{◌≡◌, ◌≤◌, ◌<◌, ◌+◌, ◌*◌, ◌^◌, ◌++◌, [], ◌∷◌, OnOk, IsErrOf, IsTrue, ◌↔◌};
 ghost use Rattle.c8_disk.specs.Disk.{HasCause};
 ghost use Rattle.c8_disk.specs.Runs.{LeavesOnly, IsSameDisk};
@@ -18,7 +18,7 @@ pub(crate) fn has_room(capacity: u32, count: u32) -> bool
     u64::from(SLOT) * (u64::from(count) + 1) < u64::from(capacity)
 }
 
-/// Writes a body after the closed gate, and then opens the gate.
+/// Writes a body after the closed gate, then opens the gate.
 pub(crate) fn add<D: Disk>(
     disk: &mut D,
     count: u32,

@@ -1,4 +1,4 @@
-//! A block: room for the slots that are read of a disk at once, and those that were read into it.
+//! A block: the buffer for slots that one disk call reads.
 ghost use Rattle.std.specs.Prelude.{◌≡◌, ◌==◌, ◌<◌, ◌/◌, length};
 ghost use Rattle.c8_log.specs.Slots.{body_of, slot_length};
 
@@ -6,16 +6,16 @@ use crate::image::body_at;
 use crate::slot::{SLOT_LENGTH, Slot};
 use std::fmt;
 
-/// How many slots a block has room for.
+/// How many slots fit into a block.
 pub const BLOCK_SLOTS: usize = 32;
 
-/// How many bytes a block has.
+/// The length of a block in bytes.
 pub const BLOCK_LENGTH: usize = SLOT_LENGTH * BLOCK_SLOTS;
 
-/// The same, among the places of a disk.
+/// The same, as a distance on a disk.
 pub(crate) const BLOCK: u32 = BLOCK_LENGTH as u32;
 
-/// Room for what is read of a log at once.
+/// A buffer for one read of a log: 32 slots, 4608 bytes. Reuse one for all reads.
 #[derive(Drop)]
 pub struct Block {
     pub(crate) bytes: [u8; BLOCK_LENGTH],
@@ -27,7 +27,7 @@ impl Default for Block {
     }
 }
 
-/// Its name alone: what it has room for is no value of its own.
+/// Shows only the name.
 impl fmt::Debug for Block {
     fn fmt<W: fmt::Write>(&self, f: &mut fmt::Formatter<W>) -> fmt::Result {
         f.write_str("Block")
@@ -35,7 +35,7 @@ impl fmt::Debug for Block {
 }
 
 impl Block {
-    /// An empty one.
+    /// Creates an empty block.
     pub fn new() -> Block {
         Block {
             bytes: [0; BLOCK_LENGTH],
@@ -43,13 +43,13 @@ impl Block {
     }
 }
 
-/// Slots that were read: their bytes, one slot after the other, lent out of the block.
+/// The slots that a read gave, borrowed from the block.
 #[derive(Clone, Copy)]
 pub struct Slots<'b> {
     pub bytes: &'b [u8],
 }
 
-/// How many slots there are.
+/// Shows how many slots there are.
 impl<'b> fmt::Debug for Slots<'b> {
     fn fmt<W: fmt::Write>(&self, f: &mut fmt::Formatter<W>) -> fmt::Result {
         let count = self.len();
@@ -58,21 +58,21 @@ impl<'b> fmt::Debug for Slots<'b> {
 }
 
 impl<'b> Slots<'b> {
-    /// How many slots there are.
+    /// Returns how many slots there are.
     pub fn len(&self) -> usize
         ensures { result ≡ length self.now.bytes.now / slot_length }
     {
         self.bytes.len() / SLOT_LENGTH
     }
 
-    /// Whether there is none.
+    /// Returns whether there are no slots.
     pub fn is_empty(&self) -> bool
         ensures { result ≡ (length self.now.bytes.now / slot_length == 0) }
     {
         self.len() == 0
     }
 
-    /// Slot `i` of them, 0 for the first. Its body is lent out of the block.
+    /// Returns slot `i`, from 0. Its body borrows from the block.
     pub fn get(&self, i: usize) -> Slot<'b>
         requires { i < length self.now.bytes.now / slot_length }
         ensures { result.body.now ≡ body_of self.now.bytes.now i }

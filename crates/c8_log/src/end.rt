@@ -1,4 +1,4 @@
-//! Where the kept slots of a disk end.
+//! Finds where the kept slots of a disk end.
 ghost use Rattle.std.specs.Prelude.{◌≡◌, ◌<◌, ◌≤◌, ◌+◌, ◌*◌, ◌/◌, ◌^◌, false, length, take, drop, is_some, IfSome, IfOk, IsErrOf};
 ghost use Rattle.c8_disk.specs.Disk.{HasCause};
 ghost use Rattle.c8_disk.specs.Runs.{ReadsOnly};
@@ -12,14 +12,14 @@ use crate::image::kept_len;
 use crate::slot::{OPEN_GATE, SLOT, SLOT_LENGTH};
 use c8_disk::{Disk, DiskError};
 
-/// How many slots are kept, and whether the gate after them is there and closed.
+/// How many slots are kept, and whether the gate after them exists and is closed.
 #[derive(Clone, Copy)]
 pub(crate) struct End {
     pub(crate) count: u32,
     pub(crate) closed: bool,
 }
 
-/// Finds the end of the kept slots: in place on a disk that lends its bytes, else by reading blocks.
+/// Finds the end of the kept slots: in memory if the disk lends its bytes, else by reading blocks.
 pub(crate) fn find_end<D: Disk>(disk: &mut D) -> Result<End, DiskError>
     ensures count { IfOk result (λ end. end.count ≡ kept_count (D.seen disk.old)) }
     ensures closed { IfOk result (λ end. end.closed ≡ has_closed_gate (D.seen disk.old)) }
@@ -36,7 +36,7 @@ pub(crate) fn find_end<D: Disk>(disk: &mut D) -> Result<End, DiskError>
     }
 }
 
-/// Finds it in the bytes that a disk lends. `None` if the disk lends none.
+/// Finds the end in the bytes that the disk lends. Returns `None` if it lends none.
 fn end_held<D: Disk>(disk: &D) -> Option<End>
     ensures lent { is_some result ≡ D.lends }
     ensures count { IfSome result (λ end. end.count ≡ kept_count (D.seen disk.now)) }
@@ -51,7 +51,7 @@ fn end_held<D: Disk>(disk: &D) -> Option<End>
     }
 }
 
-/// Finds it by reads, a block at a time, up to the block in which it lies.
+/// Finds the end by reading block after block, up to the one that contains it.
 fn read_end<D: Disk>(disk: &mut D) -> Result<End, DiskError>
     ensures count { IfOk result (λ end. end.count ≡ kept_count (D.seen disk.old)) }
     ensures closed { IfOk result (λ end. end.closed ≡ has_closed_gate (D.seen disk.old)) }
@@ -79,7 +79,7 @@ fn read_end<D: Disk>(disk: &mut D) -> Result<End, DiskError>
     })
 }
 
-/// Reads one block, which the disk's end may cut short, and finds the end of its kept slots.
+/// Reads one block, or less at the end of the disk, and finds the end of its kept slots.
 fn end_in<D: Disk>(disk: &mut D, at: u32, block: &mut Block) -> Result<End, DiskError>
     requires { at ≤ length (D.seen disk.old) }
     ensures count { IfOk result (λ end.
@@ -97,7 +97,7 @@ fn end_in<D: Disk>(disk: &mut D, at: u32, block: &mut Block) -> Result<End, Disk
     Ok(end_of(part))
 }
 
-/// Finds the end of the kept slots of some bytes.
+/// Finds the end of the kept slots in these bytes.
 fn end_of(bytes: &[u8]) -> End
     requires { length bytes.now < 2 ^ 32 }
     ensures count { result.count ≡ kept_count bytes.now }

@@ -1,28 +1,28 @@
-//! Why a call of a log is refused.
+//! Why a log refuses a call.
 ghost use Rattle.std.specs.Prelude.{◌≡◌};
 ghost use Rattle.c8_log.specs.Errors.{number_of};
 
 use c8_disk::DiskError;
 use thiserror::Error;
 
-/// Why a call of a log was refused. After any of these `append` and `read` are refused, until the
-/// log is opened again.
+/// Why a log refuses a call. After any of these the log is down: `append` and `read` return `Down` until
+/// the log is opened again.
 #[derive(Clone, Copy, Debug, PartialEq, Eq, Hash, Error)]
 pub enum LogError {
-    /// The disk failed. What was to be written may stand or not: the next opening decides.
+    /// The disk failed. A body that was being appended may count or not: the next opening decides.
     #[error("the disk failed")]
     Failed,
-    /// There is no room for one more body, or, at an opening, for the gate after the last one.
-    /// Nothing was written.
+    /// There is no room for one more body and the gate after it; or, in `open`, for the gate after the
+    /// last body. Nothing was written.
     #[error("the log is full")]
     Full,
-    /// An earlier `append` or `read` was refused. An opening never answers this.
+    /// An earlier `append` or `read` failed. `open` never returns this.
     #[error("the log is down until it is opened again")]
     Down,
 }
 
 impl LogError {
-    /// The number that stands for it in what a program prints.
+    /// Returns the number that programs print for this error.
     pub fn number(self) -> u8
         ensures { result ≡ number_of self }
     {
@@ -33,6 +33,7 @@ impl LogError {
         }
     }
 
+    /// Returns the name of the variant.
     pub fn name(self) -> &'static str {
         match self {
             LogError::Failed => "Failed",

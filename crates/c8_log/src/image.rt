@@ -1,10 +1,11 @@
-//! What the bytes of an image keep, for replaying them without a disk.
+//! Reads bodies from the bytes of an image, without a disk.
 ghost use Rattle.std.specs.Prelude.{◌≡◌, ◌<◌, ◌≤◌, ◌+◌, ◌*◌, length, slice_get, Some};
 ghost use Rattle.c8_log.specs.Slots.{is_open, body_of, kept, slot_length};
 
 use crate::slot::{BODY_LENGTH, OPEN_GATE, SLOT_LENGTH};
 
-/// How many bodies the bytes of an image keep.
+/// Returns how many bodies an image keeps: those of the slots before the first that is not whole or not
+/// open.
 pub fn kept_len(image: &[u8]) -> usize
     ensures { result ≡ length (kept image.now) }
 {
@@ -17,7 +18,7 @@ pub fn kept_len(image: &[u8]) -> usize
     whole
 }
 
-/// Whether a whole slot is open.
+/// Returns whether the gate of a whole slot is open.
 fn stands_open(image: &[u8], n: usize) -> bool
     requires { slot_length * n + slot_length ≤ length image.now }
     ensures { result ≡ is_open image.now n }
@@ -25,7 +26,7 @@ fn stands_open(image: &[u8], n: usize) -> bool
     image[SLOT_LENGTH * n] == OPEN_GATE
 }
 
-/// Lends body `n` of those that the bytes of an image keep.
+/// Returns body `n` of those that an image keeps, from 0, borrowed from the image.
 pub fn kept_body(image: &[u8], n: usize) -> &[u8; BODY_LENGTH]
     requires { n < length (kept image.now) }
     ensures { slice_get (kept image.now) n ≡ Some result.now }
@@ -33,7 +34,7 @@ pub fn kept_body(image: &[u8], n: usize) -> &[u8; BODY_LENGTH]
     body_at(image, n)
 }
 
-/// Lends the body of a whole slot.
+/// Returns the body of a whole slot, borrowed from the image.
 pub(crate) fn body_at(image: &[u8], n: usize) -> &[u8; BODY_LENGTH]
     requires { slot_length * n + slot_length ≤ length image.now }
     ensures { result.now ≡ body_of image.now n }

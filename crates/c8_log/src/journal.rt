@@ -1,4 +1,4 @@
-//! The journal: a log as the list of its bodies.
+//! The journal: a log whose contract speaks of a list of bodies.
 ghost use Rattle.std.specs.Prelude.{◌≡◌, ◌<◌, ◌≤◌, ◌+◌, ◌*◌, ◌++◌, [], ◌∷◌, ◌↔◌, ◌==◌, true, false, length, OnOk, OnErr, IsErrOf};
 ghost use Rattle.c8_disk.specs.Disk.{AddsNone};
 ghost use Rattle.c8_disk.specs.Runs.{LeavesOnly, IsSameDisk};
@@ -12,13 +12,13 @@ use c8_disk::{Arm, Disk, DiskError, GhostList};
 use std::fmt;
 use std::marker::Model;
 
-/// A [`Log`] as the list of the bodies that it keeps. Whatever happens to the disk, and whenever it
-/// does, the next opening finds the bodies for which `append` answered `Ok`, and at most one after
-/// them: the one that was refused.
+/// A [`Log`] whose contract speaks only of the list of bodies that it keeps. Disk failures and crashes
+/// can come at any moment. The next opening finds all bodies for which `append` returned `Ok`, and at
+/// most one more after them: the refused one.
 #[derive(Drop)]
 pub struct Journal<D: Disk> {
     log: Log<D>,
-    /// The body that was refused, for clauses alone.
+    /// The refused body, only for clauses.
     refused: GhostList<[u8; BODY_LENGTH]>,
 }
 
@@ -33,7 +33,7 @@ impl<D: Disk> Model for Journal<D> {
         (journal_over D.Disk journal.log journal.refused.items) journal.log.count };
 }
 
-/// How many bodies it keeps, and whether it is down.
+/// Shows how many bodies it keeps, and whether it is down.
 impl<D: Disk> fmt::Debug for Journal<D> {
     fn fmt<W: fmt::Write>(&self, f: &mut fmt::Formatter<W>) -> fmt::Result {
         let count = self.log.len();
@@ -45,8 +45,8 @@ impl<D: Disk> fmt::Debug for Journal<D> {
 impl<D: Disk> Journal<D> {
     ghost use Rattle.c8_log.specs.Journal.{KeepsBodies, AllKeepBodies};
 
-    /// The journal of a log that is up, with the bodies that the log keeps. Read them before, by
-    /// [`Log::read_block`]: a journal lends none.
+    /// Wraps a log that is up. The journal keeps the log's bodies. Read them before this call, with
+    /// [`Log::read_block`]: a journal has no reads.
     pub fn over(log: Log<D>) -> Journal<D>
         requires { log.down ≡ false }
         ensures { result ≡ record {
@@ -64,27 +64,27 @@ impl<D: Disk> Journal<D> {
         }
     }
 
-    /// How many bodies it keeps.
+    /// Returns how many bodies it keeps.
     pub fn len(&self) -> u32
         ensures { result ≡ length self.now.bodies }
     {
         self.log.len()
     }
 
-    /// Whether it keeps no body.
+    /// Returns whether it keeps no bodies.
     pub fn is_empty(&self) -> bool
         ensures { result ≡ (length self.now.bodies == 0) }
     {
         self.log.is_empty()
     }
 
-    /// Whether an `append` was refused. It takes no more bodies then: it is to be closed, and its
-    /// disk opened anew.
+    /// Returns whether an `append` was refused. If so, close the journal and open its disk again: it
+    /// takes no more bodies.
     pub fn is_down(&self) -> bool
         ensures value { result ≡ self.now.is_down }
 
-        // What is so of every journal: what a crash now leaves, and that none is pending while it
-        // is up.
+        // What holds for every journal: what a crash now leaves, and that no body is pending while it is
+        // up.
         ensures keeps { AllKeepBodies self.now.bodies self.now.pending (D.may_leave self.now.disk) }
         ensures up { self.now.is_down ≡ false → self.now.pending ≡ None }
         ensures still { LeavesOnly D.Disk self.now.disk self.now.disk
@@ -93,9 +93,9 @@ impl<D: Disk> Journal<D> {
         self.log.is_down()
     }
 
-    /// Adds a body, while the journal is up. At `Ok` it is kept from then on, whenever a crash
-    /// comes. After an error the journal is down, and the body is pending: after `Failed` the next
-    /// opening decides whether it counts, after `Full` nothing was written.
+    /// Appends a body and syncs it. Needs a journal that is up. After `Ok` every crash keeps the body.
+    /// After an error the journal is down and the body is pending: after `Failed` the next opening
+    /// decides whether it counts; after `Full` nothing was written.
     pub fn append(&mut self, body: &[u8; BODY_LENGTH]) -> Result<(), DiskError>
         requires { self.old.is_down ≡ false }
 
@@ -109,8 +109,7 @@ impl<D: Disk> Journal<D> {
           is_down = true;
         }) }
 
-        // A crash at any moment of the call leaves the bodies from before it, with the new one or
-        // without.
+        // A crash at any moment of the call leaves the earlier bodies, with the new one or without.
         ensures any_moment { LeavesOnly D.Disk self.old.disk self.new.disk
             (KeepsBodies self.old.bodies (Some body.now)) }
 
@@ -124,7 +123,7 @@ impl<D: Disk> Journal<D> {
         ensures changes { D.changes self.new.disk ≤ D.changes self.old.disk + 4 }
         ensures same { IsSameDisk D.Disk self.old.disk self.new.disk }
 
-        // Which calls of the disk it makes, until one of them is refused.
+        // Which disk calls it makes, up to the first that is refused.
         ensures asks { Asks D.Disk (AppendWithin (D.capacity self.old.disk)
             (length self.old.bodies) body.now) result self.old.disk self.new.disk }
     {
@@ -138,7 +137,7 @@ impl<D: Disk> Journal<D> {
         Err(error)
     }
 
-    /// Says when the disk's calls fail from now on.
+    /// Arms the disk: chooses which of its calls fail from now on.
     pub fn arm(&mut self, arm: Arm)
         ensures value { self.new ≡ record self.old { disk = self.new.disk } }
         ensures any_moment { LeavesOnly D.Disk self.old.disk self.new.disk
@@ -164,7 +163,7 @@ impl<D: Disk> Journal<D> {
         self.log.disk()
     }
 
-    /// Gives the disk back. Whether the pending body counts, the next opening decides.
+    /// Closes the journal and returns the disk. The next opening decides whether a pending body counts.
     pub fn close(self) -> D
         ensures disk { result ≡ self.disk }
 

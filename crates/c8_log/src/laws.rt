@@ -1,4 +1,4 @@
-//! Laws of logs, each the contract of a function that does nothing.
+//! Laws of logs. Each is the contract of a function that does nothing.
 ghost use Rattle.std.specs.Prelude.{◌≡◌, ◌≤◌, ℕ, List, [], ◌∷◌, ◌++◌};
 ghost use Rattle.c8_disk.specs.Runs.{LeavesOnly};
 ghost use Rattle.c8_log.specs.Slots.{kept, IsKept};
@@ -7,16 +7,16 @@ ghost use Rattle.c8_log.specs.Journal.{KeepsBodies, AllKeepBodies};
 
 use c8_disk::Disk;
 
-/// The kept bodies are those of the open slots before the first that is not open, and no other list
-/// is.
+/// The kept bodies are those of the open slots before the first that is not open. No other list of
+/// bodies is kept.
 pub fn kept_is_least()
     ensures is { (image : List ℕ) → IsKept image (kept image) }
     ensures only { (image : List ℕ) (bodies : List (List ℕ))
         → IsKept image bodies → bodies ≡ kept image }
 {}
 
-/// If each image since a moment keeps one of some lists of bodies, so it is after an `append`, with
-/// its list added.
+/// If each image since a moment keeps one of some lists of bodies, the same holds after an `append`,
+/// with its list added.
 pub fn appends_add_one_list<D: Disk>()
     ensures { (old new : D) (t : ℕ) (lists : List (List (List ℕ))) (body : List ℕ)
         → t ≤ D.moment old
@@ -25,8 +25,7 @@ pub fn appends_add_one_list<D: Disk>()
         → SinceKeeps D.Disk new t (lists ++ (kept (D.seen old) ++ body ∷ []) ∷ []) }
 {}
 
-/// And so it is after an `append` of a journal that is up: before the call each image keeps its
-/// bodies.
+/// The same for an `append` of a journal that is up: before the call each image keeps its bodies.
 pub fn journals_add_one_list<D: Disk>()
     ensures { (old new : D) (t : ℕ) (lists : List (List (List ℕ)))
         (bodies : List (List ℕ)) (body : List ℕ) → t ≤ D.moment old
@@ -35,7 +34,7 @@ pub fn journals_add_one_list<D: Disk>()
         → SinceKeeps D.Disk new t (lists ++ (bodies ++ body ∷ []) ∷ []) }
 {}
 
-/// And after an opening or a `read`, with none added.
+/// The same for an opening or a `read`, which add no list.
 pub fn openings_and_reads_add_no_list<D: Disk>()
     ensures opening { (old new : D) (t : ℕ) (lists : List (List (List ℕ))) → t ≤ D.moment old
         → SinceKeeps D.Disk old t lists → LeavesOnly D.Disk old new (KeepsOneOf (D.may_leave old))

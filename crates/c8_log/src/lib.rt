@@ -1,12 +1,13 @@
-//! A list of bodies of 143 bytes on a disk that may stop, fail or crash at any moment, inside any
-//! call. It keeps each body that it acknowledged, and at most one more, whole.
+//! A list of bodies of 143 bytes on a disk that can stop, fail or crash at any moment, also inside a
+//! call. It keeps each acknowledged body, and at most one more, whole.
 //!
-//! [`Log`] is the list, over any [`c8_disk::Disk`]; its slots are read a [`Block`] at a time.
-//! [`kept_body`] lends a body out of the bytes of a disk. Crates above take a [`Journal`] over a log
-//! that is open: its contract speaks of lists of bodies alone. What the bytes keep stands in
-//! `specs/Slots.antt`, what a call leaves of a disk in `specs/Log.antt`, what a read does in
-//! `specs/Read.antt`, which calls of a disk a log makes in `specs/Asked.antt`, what a journal is in
-//! `specs/Journal.antt`. What crates above conclude from the contracts stands in [`laws`].
+//! [`Log`] is the list, over any [`c8_disk::Disk`]. A read gives up to one [`Block`] of slots.
+//! [`kept_body`] reads a body from the bytes of a disk. Crates above wrap an open log in a [`Journal`],
+//! whose contract speaks only of lists of bodies. docs/FORMATS.md specifies the bytes.
+//!
+//! `specs/Slots.antt` defines what the bytes keep, `specs/Log.antt` what a call leaves on a disk,
+//! `specs/Read.antt` a read, `specs/Asked.antt` the disk calls of a log, and `specs/Journal.antt` a
+//! journal. [`laws`] has further facts for crates above.
 #![tactic(auto)]
 
 mod append;

@@ -1,4 +1,4 @@
-//! The log, over a disk that it owns.
+//! The log, which owns its disk.
 ghost use Rattle.std.specs.Prelude.{◌≡◌, ◌≢◌, ◌<◌, ◌≤◌, ◌+◌, ◌*◌, ◌^◌, ◌++◌, [], ◌∷◌, ◌↔◌, ◌==◌, true, false, ℕ, length, take, drop, slice_get, Some, IfOk, OnOk, IfErr, OnErr, IsErrOf};
 ghost use Rattle.c8_disk.specs.Disk.{AddsNone};
 ghost use Rattle.c8_disk.specs.Runs.{LeavesOnly, IsSameDisk};
@@ -15,8 +15,8 @@ use c8_disk::{Arm, Disk};
 use std::fmt;
 use std::marker::Model;
 
-/// A list of bodies of 143 bytes each on a disk. Each body for which `append` answered `Ok` is
-/// kept, whatever happens.
+/// A list of bodies of 143 bytes each on a disk. Disk failures and crashes never lose a body for which
+/// `append` returned `Ok`.
 #[derive(Drop)]
 pub struct Log<D: Disk> {
     disk: D,
@@ -35,7 +35,7 @@ impl<D: Disk> Model for Log<D> {
         IsLog D.Disk (record { disk = log.disk; count = log.count; down = log.down }) };
 }
 
-/// How many bodies it counts, and whether it is down.
+/// Shows how many bodies it counts, and whether it is down.
 impl<D: Disk> fmt::Debug for Log<D> {
     fn fmt<W: fmt::Write>(&self, f: &mut fmt::Formatter<W>) -> fmt::Result {
         let count = self.count;
@@ -48,11 +48,13 @@ impl<D: Disk> Log<D> {
     ghost use Rattle.c8_log.specs.Log.{KeepsOneOf, KeepsWithOrWithout, IsAtRest, IsLeftByOpening, IsLeftByAppend, disk_after, has_closed_gate, repaired, with_slot};
     ghost use Rattle.c8_log.specs.Read.{HasRead};
 
-    /// Opens the log that a disk holds, and closes the gate after its last body if that was left
-    /// open or is missing. It finds the last body in the bytes that the disk lends; of a disk that
-    /// lends none it reads block after block. At an error the disk is given back, and it keeps what
-    /// it kept. Drop a disk that a failure takes down for good, as it does a
-    /// [`c8_disk::FileDisk`], and open it again by its path.
+    /// Opens the log on a disk: syncs the disk, finds the last body, and closes the gate after it if
+    /// that gate is open or missing. It looks for the last body in memory if the disk lends its bytes,
+    /// else it reads block after block.
+    ///
+    /// An error returns the disk, which keeps the same bodies as before. `Full` means that there is no
+    /// room for the closed gate. Some disks are down for good after a failure, such as
+    /// [`c8_disk::FileDisk`]: drop such a disk and open it again by its path.
     pub fn open(disk: D) -> Result<Log<D>, (LogError, D)>
         ensures at_rest { IfOk result (λ log. IsAtRest D.Disk log) }
         ensures up { IfOk result (λ log. log.down ≡ false) }
@@ -63,7 +65,7 @@ impl<D: Disk> Log<D> {
         ensures any_moment { LeavesOnly D.Disk disk (disk_after result)
             (KeepsOneOf (D.may_leave disk)) }
 
-        // When each error comes, and what it leaves. It doesn't give up by itself.
+        // When each error comes, and what it leaves. An error always has a cause.
         ensures failed { IfErr result (λ refusal.
             refusal.0 ≡ LogError.Failed → D.failures disk < D.failures refusal.1) }
         ensures full { IfErr result (λ refusal.
@@ -80,7 +82,7 @@ impl<D: Disk> Log<D> {
             → D.changes (disk_after result) ≡ D.changes disk + 1 }
         ensures same { IsSameDisk D.Disk disk (disk_after result) }
 
-        // Which calls of the disk it makes, until one of them is refused.
+        // Which disk calls it makes, up to the first that is refused.
         ensures asks { Asks D.Disk (Opening D.lends (D.seen disk)) (told_by_opening result)
             disk (disk_after result) }
     {
@@ -95,8 +97,8 @@ impl<D: Disk> Log<D> {
         }
     }
 
-    /// How many bodies the log counts: those that it was opened with, and one for each `append`
-    /// that answered `Ok`.
+    /// Returns how many bodies the log counts: those that its opening found, and one for each `append`
+    /// that returned `Ok`.
     pub fn len(&self) -> u32
         ensures count { result ≡ self.now.count }
         ensures at_rest { self.now.down ≡ false → IsAtRest D.Disk self.now }
@@ -104,14 +106,14 @@ impl<D: Disk> Log<D> {
         self.count
     }
 
-    /// Whether it keeps no body.
+    /// Returns whether the log counts no bodies.
     pub fn is_empty(&self) -> bool
         ensures { result ≡ (self.now.count == 0) }
     {
         self.count == 0
     }
 
-    /// Whether an `append` or a `read` was refused since it was opened.
+    /// Returns whether an `append` or a `read` failed since the opening.
     pub fn is_down(&self) -> bool
         ensures down { result ≡ self.now.down }
         ensures at_rest { self.now.down ≡ false → IsAtRest D.Disk self.now }
@@ -119,9 +121,9 @@ impl<D: Disk> Log<D> {
         self.down
     }
 
-    /// Adds a body, and answers the number of its slot. At `Ok` the body is on the disk: from then
-    /// on each crash leaves it. After an error the log is down: after `Failed` the next opening
-    /// decides whether the body counts, after `Full` and `Down` it was not written.
+    /// Appends a body, syncs it, and returns the number of its slot, from 0. After `Ok` every crash
+    /// keeps the body. After an error the log is down. After `Failed` the next opening decides whether
+    /// the body counts; after `Full` and `Down` it was not written.
     pub fn append(&mut self, body: &[u8; BODY_LENGTH]) -> Result<u32, LogError>
         ensures slot { IfOk result (λ slot. slot ≡ self.old.count) }
         ensures count { OnOk result (self.new.count ≡ self.old.count + 1) }
@@ -132,8 +134,8 @@ impl<D: Disk> Log<D> {
             (D.seen self.new.disk ≡ with_slot (D.seen self.old.disk) self.old.count body.now) }
         ensures at_rest { OnOk result (IsAtRest D.Disk self.new) }
 
-        // A crash at any moment of the call, where the log was up, leaves the bodies from before
-        // it, with the new one or without.
+        // If the log was up, a crash at any moment of the call leaves the earlier bodies, with the new
+        // one or without.
         ensures any_moment { self.old.down ≡ false → LeavesOnly D.Disk self.old.disk self.new.disk
             (KeepsWithOrWithout (kept (D.seen self.old.disk)) body.now) }
 
@@ -155,7 +157,7 @@ impl<D: Disk> Log<D> {
         ensures changes { D.changes self.new.disk ≤ D.changes self.old.disk + 4 }
         ensures same { IsSameDisk D.Disk self.old.disk self.new.disk }
 
-        // Which calls of the disk it makes, where the log was up, until one of them is refused.
+        // If the log was up: which disk calls it makes, up to the first that is refused.
         ensures asks { self.old.down ≡ false → Asks D.Disk
             (AppendWithin (D.capacity self.old.disk) self.old.count body.now)
             (told_by result) self.old.disk self.new.disk }
@@ -174,7 +176,7 @@ impl<D: Disk> Log<D> {
         Ok(count)
     }
 
-    /// Reads body `n` into the block, and lends it. After an error the log is down.
+    /// Reads body `n`, from 0, into the block and returns it. After an error the log is down.
     pub fn read<'b>(&mut self, n: u32, block: &'b mut Block) -> Result<Slot<'b>, LogError>
         requires { n < self.old.count }
 
@@ -188,7 +190,7 @@ impl<D: Disk> Log<D> {
         }
     }
 
-    /// Reads the slots from `n` on into the block, up to 32 of them, and lends them out of it. After an
+    /// Reads up to 32 slots from `n` on into the block, with one disk read, and returns them. After an
     /// error the log is down.
     pub fn read_block<'b>(&mut self, n: u32, block: &'b mut Block) -> Result<Slots<'b>, LogError>
         requires { n < self.old.count }
@@ -204,7 +206,7 @@ impl<D: Disk> Log<D> {
         self.read_slots(n, many, block)
     }
 
-    /// Reads `many` slots from `n` on into the block, and lends them out of it.
+    /// Reads `many` slots from `n` on into the block and returns them.
     fn read_slots<'b>(
         &mut self,
         n: u32,
@@ -233,7 +235,7 @@ impl<D: Disk> Log<D> {
         })
     }
 
-    /// Says when the disk's calls fail from now on.
+    /// Arms the disk: chooses which of its calls fail from now on.
     pub fn arm(&mut self, arm: Arm)
         ensures log { self.new ≡ record self.old { disk = self.new.disk } }
         ensures seen { D.seen self.new.disk ≡ D.seen self.old.disk }
@@ -257,7 +259,7 @@ impl<D: Disk> Log<D> {
         &self.disk
     }
 
-    /// Gives the disk back.
+    /// Closes the log and returns the disk.
     pub fn close(self) -> D
         ensures { result ≡ self.disk }
     {

@@ -1,5 +1,4 @@
-//! What an opening does to a disk: a sync, the search for the end, and the repair of the gate
-//! there.
+//! The disk calls of an opening: a sync, the search for the end, and the repair of the gate there.
 ghost use Rattle.std.specs.Prelude.{◌≡◌, ◌<◌, ◌≤◌, ◌+◌, ◌*◌, ◌^◌, true, false, length, IfOk, OnOk, IfErr, IsErrOf};
 ghost use Rattle.c8_disk.specs.Disk.{Only, HasCause};
 ghost use Rattle.c8_disk.specs.Runs.{LeavesOnly, IsSameDisk};
@@ -13,7 +12,7 @@ use crate::slot::{CLOSED_GATE, SLOT};
 use crate::write::write_and_sync;
 use c8_disk::{Disk, DiskError};
 
-/// Brings a disk to rest, and counts the slots that it keeps.
+/// Syncs and repairs a disk, and returns how many slots it keeps.
 pub(crate) fn settle<D: Disk>(disk: &mut D) -> Result<u32, DiskError>
     ensures up { IfOk result (IsUp D.Disk disk.new) }
     ensures repaired { OnOk result (D.seen disk.new ≡ repaired (D.seen disk.old)) }
@@ -36,7 +35,7 @@ pub(crate) fn settle<D: Disk>(disk: &mut D) -> Result<u32, DiskError>
     Ok(end.count)
 }
 
-/// Closes the gate after the kept slots, unless it stands closed.
+/// Closes the gate after the kept slots, unless it is closed.
 fn repair<D: Disk>(disk: &mut D, end: End) -> Result<(), DiskError>
     requires count { end.count ≡ kept_count (D.seen disk.old) }
     requires closed { end.closed ≡ has_closed_gate (D.seen disk.old) }

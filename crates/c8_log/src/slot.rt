@@ -1,29 +1,29 @@
-//! A slot: a gate, and a body after it.
+//! A slot: a gate and a body after it.
 ghost use Rattle.std.specs.Prelude.{◌≡◌, [], ◌∷◌, ◌++◌};
 ghost use Rattle.c8_log.specs.Slots.{closed_gate};
 
-/// How many bytes a body has.
+/// The length of a body in bytes.
 pub const BODY_LENGTH: usize = 143;
 
-/// How many bytes a slot has: its gate, and a body.
+/// The length of a slot in bytes: its gate and its body.
 pub const SLOT_LENGTH: usize = 144;
 
-/// The same, among the places of a disk.
+/// The same, as a distance on a disk.
 pub(crate) const SLOT: u32 = SLOT_LENGTH as u32;
 
-/// The gate of a slot that counts.
+/// The gate of a slot that counts. Any other value means that the gate is closed.
 pub const OPEN_GATE: u8 = 0xa5;
 
-/// Any other gate is closed, and this one is written.
+/// The value that is written to close a gate.
 pub const CLOSED_GATE: u8 = 0;
 
-/// A slot that was read. It lends the body out of the block.
+/// A slot that was read. Its body borrows from the block.
 #[derive(Clone, Copy, Debug)]
 pub struct Slot<'b> {
     pub body: &'b [u8; BODY_LENGTH],
 }
 
-/// A body, and the closed gate of the slot after it.
+/// Returns a body and the closed gate of the next slot.
 pub(crate) fn with_closed_gate(body: &[u8; BODY_LENGTH]) -> [u8; SLOT_LENGTH]
     ensures { result ≡ body.now ++ closed_gate ∷ [] }
 {

@@ -1,4 +1,4 @@
-//! The unit of which a log's changes are made.
+//! The write that every change of a log is made of.
 ghost use Rattle.std.specs.Prelude.{◌≡◌, ◌<◌, ◌≤◌, ◌+◌, length, OnOk, IsErrOf};
 ghost use Rattle.c8_disk.specs.Disk.{Only, Writes, HasCause, longest_write};
 ghost use Rattle.c8_disk.specs.Runs.{LeavesOnly, IsSameDisk};
@@ -8,7 +8,7 @@ ghost use Rattle.c8_log.specs.checked.Written.{IsBeforeOrTorn};
 
 use c8_disk::{Disk, DiskError};
 
-/// Writes, and puts what was written on the disk.
+/// Writes bytes and syncs them.
 pub(crate) fn write_and_sync<D: Disk>(disk: &mut D, at: u32, bytes: &[u8]) -> Result<(), DiskError>
     requires place { at ≤ length (D.seen disk.old) }
     requires short { length bytes.now ≤ longest_write }

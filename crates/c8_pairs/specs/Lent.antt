@@ -1,4 +1,4 @@
--- What a caller sees of a run that is lent from its bytes.
+-- What a caller sees of a run that borrows from its bytes.
 use Rattle.std.specs.Prelude.{ℕ, List, ◌++◌, drop, replicate}
 use Rattle.c8_pairs.specs.Pairs.{words_in}
 use Rattle.c8_pairs.specs.Reading.{pairs_at}
@@ -17,6 +17,6 @@ touched run = words_in (pairs_at run.bytes.now)
 abbrev pub words : Pairs → List ℕ
 words run = drop run.skip (touched run)
 
--- what is left of a run: the rest of a pair, and the inputs of the pairs after it
+-- what is left of an iteration: the rest of a pair, and the inputs of the pairs after it
 abbrev pub words_left : PairsIter → List ℕ
 words_left w = replicate w.times w.keys ++ words_in (pairs_at w.rest.now)

@@ -1,4 +1,4 @@
--- What a caller sees of inputs that are to be said.
+-- What a caller sees of inputs to be written.
 use Rattle.std.specs.Prelude.{List}
 use Rattle.c8_pairs.specs.declared.pair.Pair.{Pair}
 use Rattle.c8_pairs.specs.declared.stretches.Stretches.{Stretches}

@@ -1,9 +1,9 @@
-//! Runs of inputs in pairs: each stretch of equal key sets is how many they are, and which.
+//! Runs of inputs as pairs. A pair is a stretch of equal key sets: its length and the key set.
 //!
-//! [`Pairs`] is a run that is lent from the bytes of its pairs, and may begin within the first one. [`Stretches`]
-//! are the pairs of inputs, one after the other, as they are to be written; [`fits`] is how many of the first
-//! inputs one run has room for. Which pairs a run has, and the bytes that spell them, stand in
-//! `specs/Pairs.antt`; when bytes are those of a run, in `specs/Reading.antt`.
+//! [`Pairs`] reads a run in place from the bytes of its pairs; it can begin inside the first pair.
+//! [`Stretches`] iterates over the pairs of inputs to be written, and [`fits`] returns how many inputs
+//! fit into one run. `specs/Pairs.antt` defines the pairs of a run and their bytes, `specs/Reading.antt`
+//! which bytes are a run. docs/PROTOCOL.md specifies the format.
 #![tactic(auto)]
 
 pub mod laws;

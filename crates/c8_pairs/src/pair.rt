@@ -1,6 +1,6 @@
 //! One pair.
 
-/// A stretch of equal inputs: how many, and which key set.
+/// A stretch of equal inputs: its length, 1 to 64 in a run, and its key set.
 #[derive(Clone, Copy, Debug, PartialEq, Eq)]
 pub struct Pair {
     pub times: u8,

@@ -1,17 +1,17 @@
-//! A run of inputs, lent from the bytes of pairs.
+//! A run of inputs, borrowed from the bytes of its pairs.
 ghost use Rattle.std.specs.Prelude.{[], ◌∷◌, ◌≡◌, ◌≤◌, ◌<◌, ◌+◌, ◌*◌, ◌%◌, ◌^◌, ◌==◌, ◌&&◌, ℕ, true, List, length, drop, slice_get, slice_index, Option, Some, None, IfSome, IfNone, false};
 ghost use Rattle.std.specs.Iterator.{YieldsFirst, item_count};
 ghost use Rattle.c8_pairs.specs.Pairs.{pairs_of, words_in, pairs_bytes, spelling};
 ghost use Rattle.c8_pairs.specs.Reading.{pairs_at, well_after, count_in, are_run, is_begun};
 
-/// The most inputs that a run has.
+/// The most inputs in a run.
 pub const LONGEST_RUN: usize = 64;
 
-/// The most pairs that a run has.
+/// The most pairs in a run.
 pub const MOST_PAIRS: usize = 42;
 
-/// Inputs of one player in frames that follow each other, at most 64, as pairs: how many, and which key
-/// set. Two are equal that have the same bytes and begin at the same place.
+/// Consecutive inputs of one player, at most 64, as pairs. A pair has three bytes: its length, and its
+/// key set with the high byte first. `==` compares the bytes, the start and the length, not the inputs.
 #[derive(Clone, Copy, Debug, PartialEq, Eq)]
 pub struct Pairs<'a> {
     bytes: &'a [u8],
@@ -31,7 +31,8 @@ pub struct Pairs<'a> {
 impl<'a> Pairs<'a> {
     ghost use Rattle.c8_pairs.specs.Lent.{words, touched, spelled, words_left};
 
-    /// The run of so many inputs whose pairs these bytes are known to be.
+    /// Wraps bytes that are known to be the pairs of a run of `count` inputs. See [`Pairs::read`] for
+    /// bytes that are not known to be.
     pub fn new(bytes: &'a [u8], count: usize) -> Pairs<'a>
         requires whole { length bytes.now % 3 ≡ 0 }
         requires short { length bytes.now ≤ 3 * MOST_PAIRS }
@@ -49,8 +50,9 @@ impl<'a> Pairs<'a> {
         }
     }
 
-    /// The run of `count` inputs that these bytes spell. `None` if a pair has no inputs, if two neighbours
-    /// have the same key set, or if all pairs together do not have `count` inputs.
+    /// Reads the run of `count` inputs from its bytes: at most 42 pairs of three bytes. Returns `None`
+    /// if a pair has no inputs, if two neighbours have the same key set, or if the pairs do not have
+    /// `count` inputs in all.
     pub fn read(bytes: &'a [u8], count: usize) -> Option<Pairs<'a>>
         requires whole { length bytes.now % 3 ≡ 0 }
         requires short { length bytes.now ≤ 3 * MOST_PAIRS }
@@ -69,7 +71,7 @@ impl<'a> Pairs<'a> {
         Some(Pairs::new(bytes, count))
     }
 
-    /// How many inputs there are, each a set of 16 keys.
+    /// Returns how many inputs there are, 0 to 64. Each is a set of 16 keys.
     pub fn len(&self) -> usize
         ensures count { result ≡ length (words self.now) }
         ensures few { result ≤ LONGEST_RUN }
@@ -84,7 +86,7 @@ impl<'a> Pairs<'a> {
         self.count == 0
     }
 
-    /// How many inputs of the first pair come before the run: 0 for an empty run.
+    /// Returns how many inputs of the first pair come before the run; 0 for an empty run.
     pub fn skip(&self) -> usize
         ensures words { words self.now ≡ drop result (touched self.now) }
         ensures begun { is_begun result (pairs_of (touched self.now)) ≡ true }
@@ -92,7 +94,7 @@ impl<'a> Pairs<'a> {
         self.skip
     }
 
-    /// The bytes of the pairs that the run touches, as they came.
+    /// Returns the bytes of all pairs that the run touches, as they were received: at most 126.
     pub fn bytes(&self) -> &'a [u8]
         ensures slice { result.now ≡ spelled self.now }
         ensures spells { spelling (touched self.now) ≡ result.now }
@@ -102,7 +104,7 @@ impl<'a> Pairs<'a> {
         bytes
     }
 
-    /// The input at a place, the first being 0.
+    /// Returns the input at a place, from 0. This walks over the pairs.
     pub fn get(&self, place: usize) -> u16
         requires { place < length (words self.now) }
         ensures { slice_get (words self.now) place ≡ Some result }
@@ -114,7 +116,7 @@ impl<'a> Pairs<'a> {
         }
     }
 
-    /// The inputs from a place on, lent from the same bytes.
+    /// Returns the inputs from a place on, borrowed from the same bytes. `place` may be the length.
     pub fn from_place(&self, place: usize) -> Pairs<'a>
         requires { place ≤ length (words self.now) }
         ensures words { words result ≡ drop place (words self.now) }
@@ -128,7 +130,7 @@ impl<'a> Pairs<'a> {
         }
     }
 
-    /// The inputs in order.
+    /// Iterates over the inputs in order.
     pub fn iter(&self) -> PairsIter<'a>
         ensures { words_left result ≡ words self.now }
     {
@@ -147,11 +149,11 @@ impl<'a> Pairs<'a> {
     }
 }
 
-/// The inputs of a run, one after the other.
+/// An iterator over the inputs of a run.
 #[derive(Clone, Copy, Debug, PartialEq, Eq)]
 pub struct PairsIter<'a> {
     rest: &'a [u8],
-    /// How many more there are of the pair at hand, and which key set.
+    /// How many inputs of the current pair are left; `keys` is its key set.
     times: usize,
     keys: u16,
     ghost well: { well_after None (pairs_at rest.now) ≡ true },
@@ -189,7 +191,7 @@ struct First<'a> {
     rest: &'a [u8],
 }
 
-/// The first pair, where there are bytes enough for one.
+/// Returns the first pair, or `None` for fewer than three bytes.
 #[tactic(auto, unfolding(crate::specs::Reading::pairs_at), using(crate::specs::checked::PairLaws::well_tail, crate::specs::checked::PairLaws::some_at))]
 fn first_of(bytes: &[u8]) -> Option<First<'_>>
     ensures pair { IfSome result (λ first. pairs_at bytes.entry.now
@@ -212,9 +214,9 @@ fn first_of(bytes: &[u8]) -> Option<First<'_>>
     }
 }
 
-/// Whether bytes are the pairs of a run of `count` inputs: each pair has an input, no two neighbours have
-/// the same key set, and all pairs together have `count` inputs. It ignores one or two bytes after the
-/// last pair. It walks at most 42 pairs, and is private: other crates call [`Pairs::read`].
+/// Returns whether bytes are the pairs of a run of `count` inputs: no pair is empty, no two neighbours
+/// have the same key set, and the pairs have `count` inputs in all. It ignores one or two bytes after
+/// the last pair. It walks at most 42 pairs, and is private: other crates call [`Pairs::read`].
 fn is_run(bytes: &[u8], count: usize) -> bool
     requires { length bytes.now ≤ 3 * MOST_PAIRS }
     ensures { result ≡ are_run (pairs_at bytes.now) count }
@@ -222,7 +224,7 @@ fn is_run(bytes: &[u8], count: usize) -> bool
     is_run_after(None, bytes, count)
 }
 
-/// Whether bytes are pairs that may follow a key set, of so many inputs in all.
+/// Returns whether bytes are pairs that may follow one with key set `last`, with `count` inputs in all.
 fn is_run_after(last: Option<u16>, bytes: &[u8], count: usize) -> bool
     ensures { result ≡ (well_after last (pairs_at bytes.now)
         && (count_in (pairs_at bytes.now) == count)) }
@@ -236,7 +238,8 @@ fn is_run_after(last: Option<u16>, bytes: &[u8], count: usize) -> bool
     }
 }
 
-/// The pairs from the one on in which a place lies, and how many of its inputs come before that.
+/// Returns the pairs from the one on that contains `place`, and how many of its inputs come before
+/// `place`.
 fn begun_at(bytes: &[u8], place: usize) -> (&[u8], usize)
     requires { place ≤ count_in (pairs_at bytes.now) }
     ensures words { drop result.1 (words_in (pairs_at result.0.now))

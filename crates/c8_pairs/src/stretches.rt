@@ -1,4 +1,4 @@
-//! The pairs of inputs that are to be said.
+//! The pairs of inputs to be written.
 ghost use Rattle.std.specs.Prelude.{slice_get, [], ◌∷◌, ◌++◌, ◌≡◌, ◌≤◌, ◌<◌, ℕ, true, length, take, drop, replicate, Option, Some, None};
 ghost use Rattle.std.specs.Iterator.{YieldsFirst, item_count};
 ghost use Rattle.c8_pairs.specs.Pairs.{pairs_of};
@@ -7,7 +7,7 @@ ghost use Rattle.c8_pairs.specs.Reading.{well_after, pairs_after};
 use crate::pair::Pair;
 use crate::run::{LONGEST_RUN, MOST_PAIRS};
 
-/// The pairs of inputs, one after the other.
+/// An iterator over the pairs of inputs.
 #[derive(Clone, Copy, Debug, PartialEq, Eq)]
 pub struct Stretches<'a> {
     rest: &'a [u16],
@@ -17,7 +17,7 @@ pub struct Stretches<'a> {
 impl<'a> Stretches<'a> {
     ghost use Rattle.c8_pairs.specs.Saying.{pairs_left};
 
-    /// The pairs of these inputs, which are at most 64.
+    /// Iterates over the pairs of these inputs, at most 64.
     pub fn new(words: &'a [u16]) -> Stretches<'a>
         requires { length words.now ≤ LONGEST_RUN }
         ensures { pairs_left result ≡ pairs_of words.entry.now }
@@ -48,7 +48,7 @@ impl<'a> Iterator for Stretches<'a> {
     }
 }
 
-/// How many inputs in front are this key set.
+/// Returns how many inputs at the front are this key set.
 fn same_in_front(words: &[u16], keys: u16) -> usize
     ensures within { result ≤ length words.now }
     ensures some { slice_get words.now 0 ≡ Some keys → 0 < result }
@@ -61,7 +61,7 @@ fn same_in_front(words: &[u16], keys: u16) -> usize
     }
 }
 
-/// How many of the first inputs one run has room for: at most 64, in at most 42 pairs.
+/// Returns how many inputs, from the first on, fit into one run: at most 64, in at most 42 pairs.
 pub fn fits(words: &[u16]) -> usize
     ensures within { result ≤ length words.now }
     ensures few { result ≤ LONGEST_RUN }
@@ -72,7 +72,8 @@ pub fn fits(words: &[u16]) -> usize
     room_for(None, words, LONGEST_RUN, MOST_PAIRS)
 }
 
-/// How many inputs there is room for, after a key set: at most so many, with so many new pairs.
+/// Returns how many inputs fit after an input with key set `last`: at most `inputs`, in at most `pairs`
+/// new pairs.
 fn room_for(last: Option<u16>, words: &[u16], inputs: usize, pairs: usize) -> usize
     ensures within { result ≤ length words.now }
     ensures few { result ≤ inputs }

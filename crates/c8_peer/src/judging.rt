@@ -13,8 +13,7 @@ use c8_game::{Game, Player};
 use c8_known::Known;
 use c8_refusals::{DecideError, LeaveError, TickError};
 
-/// Checks whether the own player may tick. The refusals are found in the order `Dropped`, `End`,
-/// `Threshold`.
+/// Checks whether the own player may tick. The refusals are found in the order `Dropped`, `End`, `Threshold`.
 #[tactic(auto, unfolding(crate::specs::Calls::tick))]
 pub(crate) fn judge_tick(game: &Game, known: &Known) -> Result<(), TickError>
     ensures judged { (m : states.Memory) (keys : ℕ) → MatchResult result

@@ -4,8 +4,7 @@ ghost use Rattle.c8_peer.specs.Asked.{wire_of};
 
 use c8_game::Player;
 
-/// A kind of datagram for another player. `Freeze`, `Frozen` and `Cut` name the leaver that they are
-/// about.
+/// A kind of datagram for another player. `Freeze`, `Frozen` and `Cut` name the leaver that they are about.
 #[derive(Clone, Copy, Debug, PartialEq, Eq, Hash)]
 pub enum Kind {
     /// Asks for a link.
@@ -26,7 +25,6 @@ pub enum Kind {
 }
 
 impl Kind {
-    /// Returns the wire format's kind.
     pub(crate) fn wire(self) -> c8_wire::DatagramKind
         ensures { result ≡ wire_of self }
     {

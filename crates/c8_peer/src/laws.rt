@@ -29,8 +29,7 @@ use c8_disk::Disk;
 use c8_refusals::{OpenError, Refused, Unsayable};
 use c8_wire::laws::what_is_read_is_spelled;
 
-/// A true datagram stays true. If a journal makes it true, so does every longer journal that the
-/// rules allow.
+/// A true datagram stays true. If a journal makes it true, so does every longer journal that the rules allow.
 pub fn what_is_true_stays()
     ensures { (rules : Rules) (me room : ℕ) (journal rest : List Record) (p : Packet)
         → AreInRange rules → 1 ≤ me → me ≤ rules.players
@@ -72,10 +71,9 @@ pub fn openings_are_lawful()
         → HasTrueChecks rules me (found ++ opening_record rules room me found ∷ []) }
 {}
 
-/// The steps of an open peer follow the rules. `keeps`: the rules allow what it records. `memory`,
-/// `grows`: its memory stays in order, also with that record. `checks`: true checkpoints stay true.
-/// `says`, `spelled`: what it says is true of its journal and has a spelling. DATA needs true
-/// checkpoints for this, since it carries a mark.
+/// The steps of an open peer follow the rules. `keeps`: the rules allow what it records. `memory`, `grows`: its
+/// memory stays in order, also with that record. `checks`: true checkpoints stay true. `says`, `spelled`: what it
+/// says is true of its journal and has a spelling. DATA needs true checkpoints for this, since it carries a mark.
 pub fn steps_are_lawful()
     ensures keeps { (rules : Rules) (me room : ℕ) (journal : List Record) (m : Memory)
         (call : Call) (r : Record)
@@ -289,8 +287,7 @@ pub fn calls_are_deeds<D: Disk>()
 /// What a read of a peer's disk finds.
 ///
 /// - `reading`: a read now gives the journal, with the pending record or without.
-/// - `bodies`, `records`: a crash now leaves an image that keeps one of these two, and the next
-///   opening finds it.
+/// - `bodies`, `records`: a crash now leaves an image that keeps one of these two, and the next opening finds it.
 /// - `inside`: a crash inside a call leaves an image that keeps what a stop in a run finds.
 pub fn what_disks_tell<D: Disk>()
     ensures reading { (p : PeerValue D) → IsSound D.Disk p
@@ -312,8 +309,7 @@ pub fn what_disks_tell<D: Disk>()
 /// - `settled`: if a crash of a disk leaves only what a read gives, the disk has the journal of each
 ///   state whose journal a read gives (`Tells`).
 /// - `opened`: an opening that succeeds is such a deed.
-/// - `refused`: so is one that is refused, and the disk that it leaves has the journal of the state
-///   after it.
+/// - `refused`: so is one that is refused, and the disk that it leaves has the journal of the state after it.
 /// - `inside`: a crash inside an opening leaves an image that keeps what a stop in a run finds.
 pub fn openings_are_deeds<D: Disk>()
     ensures settled { (disk : D) (s : State) (finds : Bool)

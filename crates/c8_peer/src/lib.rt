@@ -3,10 +3,9 @@
 //! A peer is a journal on a disk and a memory that it loses at each restart. Each call is one step:
 //! it answers, adds at most one record to the journal and says at most one datagram.
 //!
-//! The definitions are in `specs/`: the state in `State.antt`, deliveries in `Hearing.antt`, sayings
-//! in `Saying.antt`, the other calls in `Calls.antt`, the step in `Steps.antt`, openings in
-//! `Opening.antt`, and when a datagram is true in `Truth.antt`. `Peer.antt` has the contract that
-//! all calls share.
+//! The definitions are in `specs/`: the state in `State.antt`, deliveries in `Hearing.antt`, sayings in
+//! `Saying.antt`, the other calls in `Calls.antt`, the step in `Steps.antt`, openings in `Opening.antt`, and when a
+//! datagram is true in `Truth.antt`. `Peer.antt` has the contract that all calls share.
 //!
 //! In the code, `judging`, `hearing` and `saying` decide what a call does and change nothing; `peer`
 //! does it. `laws` has what follows from the definitions.

@@ -98,7 +98,6 @@ impl Memory {
         }
     }
 
-    /// Notes how many rows a watcher has acknowledged.
     pub(crate) fn seen(&mut self, watcher: Watcher, rows: u32)
         ensures { self.new ≡ record self.old {
           seen = with_seen self.old.seen watcher.number rows;
@@ -107,7 +106,6 @@ impl Memory {
         self.watchers.tell(watcher, rows);
     }
 
-    /// Notes that the machine of another peer differs.
     pub(crate) fn raise_alarm(&mut self)
         ensures { self.new ≡ record self.old { alarm = true } }
     {

@@ -44,7 +44,7 @@ use std::marker::Model;
 /// If the disk refuses a record, the peer is down and its readers answer as before the call. Close
 /// it and open it again: the next opening that reads the journal finds whether the record stands.
 ///
-/// Only the opening takes memory.
+/// Only the opening allocates.
 #[derive(Drop)]
 pub struct Peer<'g, D: Disk> {
     game: &'g Game,

@@ -20,8 +20,7 @@ use c8_known::Known;
 use c8_refusals::Unsayable;
 use c8_wire::{Body, MOST_ROWS, fits};
 
-/// Checks whether the peer may say `kind` to player `to`. The refusals are in the order of
-/// `Unsayable`, after `Down`.
+/// Checks whether the peer may say `kind` to player `to`. The refusals are in the order of `Unsayable`, after `Down`.
 #[tactic(auto, unfolding(crate::specs::Saying::say))]
 pub(crate) fn judge_saying(
     known: &Known,
@@ -92,7 +91,7 @@ fn lacks_link(memory: &Memory, to: Player, kind: Kind) -> bool
     }
 }
 
-/// Builds the body of a datagram that [`judge_saying`] accepts. Its inputs are lent from `known`.
+/// Builds the body of a datagram that [`judge_saying`] accepts. It borrows its inputs from `known`.
 pub(crate) fn message<'a>(
     known: &'a Known,
     memory: &Memory,

@@ -38,8 +38,7 @@ impl Watchers {
         }
     }
 
-    /// Notes that a watcher has acknowledged this number of rows. The last number counts, even if it
-    /// is lower.
+    /// Notes that a watcher has acknowledged this number of rows. The last number counts, even if it is lower.
     pub(crate) fn tell(&mut self, watcher: Watcher, rows: u32)
         ensures { self.new ≡ with_seen self.old watcher.number rows }
     {

@@ -1,4 +1,4 @@
--- Which record may stand after which others in the journal of a player.
+-- Which record may follow which others in a player's journal.
 use Rattle.std.specs.Prelude.{ℕ, ◌+◌, ◌≡◌, ◌≢◌, ◌<◌, ◌≤◌, List, length, take, true, false, Option, Some, None}
 use Rattle.std.specs.List.{slice_get}
 use Rattle.c8_game.specs.Rules.{Rules, id_of}
@@ -11,8 +11,8 @@ use Rattle.c8_digest.specs.Origin.{Origin, IsOrigin}
 use Rattle.c8_check.specs.Checks.{Pieces, ChecksValue, all_pieces, before_piece, checks_of, may_take, MayCheck}
 use Rattle.c8_record.specs.Body.{HasSpelling}
 
--- What the records before say, as far as the rules ask: how many there are, the last epoch, what they say of checkpoints, and what
--- is known by them.
+-- What the rules need from the earlier records: their number, the last epoch, what they say about
+-- checkpoints, and what they make known.
 pub record Past : Type 0 where
   pub count : ℕ
   pub epoch : ℕ
@@ -22,21 +22,21 @@ pub record Past : Type 0 where
 abbrev pub past_of : Rules → ℕ → List Record → Past
 past_of rules me before = record { count = length before; epoch = epoch before; checks = checks_of before; known = known_of rules me before }
 
--- HEAD: the first, of this match and this player
+-- HEAD: the first record, of this match and this player
 pub record MayHead (rules : Rules) (room : ℕ) (past : Past) (player : ℕ) (id : List ℕ) (named : ℕ) : Type 0 where
   pub first : past.count ≡ 0
   pub of_game : id ≡ id_of rules
   pub in_room : named ≡ room
   pub own : player ≡ past.known.me
 
--- EPOCH: above the last one, and once records are of the second form they stay so
+-- EPOCH: greater than the last one; after the second form the first does not come back
 pub record MayEpoch (k : KnownValue) (last : ℕ) (checks : ChecksValue) (player number form : ℕ) : Type 0 where
   pub own : player ≡ k.me
   pub above : last < number
   pub second : checks.form ≡ 2 → form ≡ 2
 
--- OWN: the next own input, with fewer ticks than frames and fewer than a window past the confirmed ones, by no player who
--- has been dropped
+-- OWN: the next own input. There are fewer ticks than frames, fewer than a window past the confirmed
+-- frames, and the player has not been dropped.
 pub record MayOwn (rules : Rules) (k : KnownValue) (player start : ℕ) : Type 0 where
   pub own : player ≡ k.me
   pub next : start ≡ count_in k player
@@ -44,28 +44,28 @@ pub record MayOwn (rules : Rules) (k : KnownValue) (player start : ℕ) : Type 0
   pub window : k.ticks < confirmed k + rules.window
   pub stays : (player_in k player).leaving ≡ false
 
--- GOT: the next inputs of another player, within the limit, as long as its list is not cut
+-- GOT: the next inputs of another player, within the limit; the player's list is not cut
 pub record MayGot (k : KnownValue) (player start : ℕ) (words : List ℕ) : Type 0 where
   pub other : player ≢ k.me
   pub next : start ≡ count_in k player
   pub within : start + length words ≤ k.limit
   pub uncut : (player_in k player).cut ≡ None
 
--- FREEZE: elsewhere than at player one, once, of another player who is not player one
+-- FREEZE: not in player one's journal; once, of another player that is not player one
 pub record MayFreeze (k : KnownValue) (player : ℕ) : Type 0 where
   pub other : player ≢ k.me
   pub not_one : player ≢ 1
   pub elsewhere : k.me ≢ 1
   pub once : (player_in k player).frozen ≡ false
 
--- LEAVE: once, at player one of another player, elsewhere of the own one
+-- LEAVE: once; in player one's journal of another player, else of the own player
 pub record MayLeave (k : KnownValue) (player : ℕ) : Type 0 where
   pub not_one : player ≢ 1
   pub elsewhere : k.me ≢ 1 → player ≡ k.me
   pub once : (player_in k player).leaving ≡ false
 
--- CUT: once, of another player than player one, of whom a LEAVE stands at player one and a FREEZE elsewhere, with the last
--- inputs before the cut, which is within the limit
+-- CUT: once, of another player that is not player one. Player one's journal has a LEAVE of it, any other
+-- a FREEZE. The record has the last inputs before the cut, and the cut is within the limit.
 pub record MayCut (k : KnownValue) (player cut start : ℕ) (words : List ℕ) : Type 0 where
   pub other : player ≢ k.me
   pub not_one : player ≢ 1
@@ -76,12 +76,12 @@ pub record MayCut (k : KnownValue) (player cut start : ℕ) (words : List ℕ) :
   pub elsewhere : k.me ≢ 1 → (player_in k player).frozen ≡ true
   pub once : (player_in k player).cut ≡ None
 
--- STATE: the next piece of a checkpoint, by the own player
+-- STATE: the next piece of a checkpoint, of the own player
 pub record MayState (k : KnownValue) (checks : ChecksValue) (player frames piece : ℕ) (words : List ℕ) : Type 0 where
   pub own : player ≡ k.me
   pub next : may_take checks (confirmed k) frames piece (words_bytes words) ≡ true
 
--- CHECK: the digest of all its pieces, by the own player
+-- CHECK: the digest of all pieces, of the own player
 pub record MayEnd (k : KnownValue) (checks : ChecksValue) (player frames : ℕ) (words : List ℕ) : Type 0 where
   pub own : player ≡ k.me
   pub whole : MayCheck checks frames (words_bytes words)
@@ -120,8 +120,9 @@ IsOpening (Cut player length start words) = ⊥
 IsOpening (State player frames piece words) = ⊥
 IsOpening (Check player frames words) = ⊥
 
--- A record that the rules allow: it can be spelled, its player is one of the game, and what its kind asks is so; the first
--- is a HEAD, and after its own LEAVE a player other than player one adds openings alone.
+-- A record that the rules allow. It can be spelled, its player is in the game, and the rule of its kind
+-- holds. The first record is a HEAD. After its own LEAVE, a player other than player one adds only
+-- openings.
 pub record IsAllowedAfter (rules : Rules) (room : ℕ) (past : Past) (r : Record) : Type 0 where
   pub spelled : HasSpelling r
   pub plays : Plays past.known (player_of r)
@@ -129,7 +130,7 @@ pub record IsAllowedAfter (rules : Rules) (room : ℕ) (past : Past) (r : Record
   pub begins : past.count ≡ 0 → IsHead r
   pub dropped : past.known.me ≢ 1 → (player_in past.known past.known.me).leaving ≡ true → IsOpening r
 
--- The rules allow the record after some records by which this is known.
+-- The rules allow the record after some records that make exactly this known.
 pub record CanFollow (k : KnownValue) (r : Record) : Type 0 where
   pub rules : Rules
   pub room : ℕ
@@ -145,9 +146,10 @@ IsAllowed rules me room before r = IsAllowedAfter rules room (past_of rules me b
 abbrev pub IsJournal : Rules → ℕ → ℕ → List Record → Type 0
 IsJournal rules me room journal = (n : ℕ) (r : Record) → slice_get journal n ≡ Some r → IsAllowed rules me room (take n journal) r
 
--- What the rules make of one player q in the journal of `me`: of player one neither a FREEZE nor a LEAVE stands; at player
--- one no FREEZE stands, and elsewhere a LEAVE of the own player alone, of whom no FREEZE stands; and who is cut leaves, by a
--- LEAVE at player one and by a FREEZE elsewhere.
+-- What the rules ensure for a player q in the journal of `me`. Player one has no FREEZE and no LEAVE.
+-- Player one's journal has no FREEZE. Any other journal has only a LEAVE of its own player, and no
+-- FREEZE of that player. A player that is cut has a LEAVE in player one's journal and a FREEZE in any
+-- other.
 pub record IsOrderlyOf (me q : ℕ) (p : PlayerValue) : Type 0 where
   pub one_stays : q ≡ 1 → (p.frozen ≡ false) × (p.leaving ≡ false)
   pub at_one : me ≡ 1 → p.frozen ≡ false
@@ -159,11 +161,11 @@ pub record IsOrderlyOf (me q : ℕ) (p : PlayerValue) : Type 0 where
 abbrev pub IsOrderly : KnownValue → Type 0
 IsOrderly k = (q : ℕ) → 1 ≤ q → IsOrderlyOf k.me q (player_in k q)
 
--- A checkpoint, if there is one, is at frames that are confirmed, and one that a machine can have come to.
+-- A checkpoint, if there is one, is at a confirmed frame, and a machine can have reached it.
 abbrev pub IsInOrder : Option Origin → KnownValue → Type 0
 IsInOrder last k = (from : Origin) → last ≡ Some from → (from.frames ≤ confirmed k) × IsOrigin from
 
--- Pieces are at frames that are confirmed, no more than there can be, bytes, and as many as they have to be.
+-- The pieces are of a confirmed frame, not too many, and they are bytes of the right total length.
 pub record ArePieces (p : Pieces) (k : KnownValue) : Type 0 where
   pub confirmed_is : p.frames ≤ confirmed k
   pub few : p.count ≤ all_pieces

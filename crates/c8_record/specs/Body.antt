@@ -1,4 +1,4 @@
--- How a record is spelled in the 143 bytes of a slot's body.
+-- The spelling of a record in the 143 bytes of a slot's body.
 use Rattle.std.specs.Prelude.{ℕ, ◌-◌, ◌*◌, ◌/◌, ◌^◌, ◌≡◌, ◌<◌, ◌≤◌, ◌==◌, ◌⊎◌, if◌then◌else◌, List, [], ◌∷◌, ◌++◌, length, take, drop, replicate, slice_index, map}
 use Rattle.byteorder.specs.Endian.{big_bytes}
 use Rattle.c8_wire.specs.Packet.{AreBytes, AreWords}
@@ -8,15 +8,15 @@ use Rattle.c8_wire.specs.Spelling.{words_bytes}
 use Rattle.c8_check.specs.Checks.{all_pieces}
 use Rattle.c8_known.specs.Journal.{Record, Head, Epoch, Own, Got, Freeze, Leave, Cut, State, Check}
 
--- where the run stands
+-- where the run begins
 abbrev pub run_place : ℕ
 run_place = 12
 
--- the bytes from there on: room for the longest run, and three more
+-- the bytes from there on: the longest run and three more
 abbrev pub run_room : ℕ
 run_room = 131
 
--- What stands in a body, whatever its kind: the kind, a player, a number, a start, and the bytes of a run.
+-- The fields that every body has: the kind, a player, a number, a start, and the bytes of a run.
 pub record Fields : Type 0 where
   pub kind : ℕ
   pub player : ℕ
@@ -24,9 +24,9 @@ pub record Fields : Type 0 where
   pub start : ℕ
   pub run : List ℕ
 
--- The fields of each kind of record; a number that a kind has no use for is 0, and a run is empty. A HEAD's number is the
--- epoch that it begins, and its run is the game's id and the room; of a HEAD and an EPOCH the start is the form of what follows. A
--- CHECK's start is the number of the pieces.
+-- The fields of each kind. An unused number is 0, and an unused run is empty. A HEAD's number is the
+-- epoch that it begins, and its run is the game's id and the room. The start of a HEAD or an EPOCH is
+-- the form of the records that follow. A CHECK's start is the number of pieces.
 abbrev pub fields_of : Record → Fields
 fields_of (Head player form id room) = record { kind = 1; player = player; number = 1; start = form; run = id ++ big_bytes 8 room }
 fields_of (Epoch player number form) = record { kind = 2; player = player; number = number; start = form; run = [] }
@@ -38,8 +38,8 @@ fields_of (Cut player length start words) = record { kind = 7; player = player; 
 fields_of (State player frames piece words) = record { kind = 8; player = player; number = frames; start = piece; run = words_bytes words }
 fields_of (Check player frames words) = record { kind = 9; player = player; number = frames; start = all_pieces; run = words_bytes words }
 
--- The fields in 143 bytes, where the run is not too long, each number with its most significant byte first: the run comes
--- after the number of its words, and after the run there are zeros.
+-- The fields in 143 bytes, if the run is not too long. Numbers are big-endian. The number of the run's
+-- words comes before the run, and zeros after it.
 abbrev pub field_bytes : Fields → List ℕ
 field_bytes f =
     f.kind ∷ f.player ∷ big_bytes 4 f.number ++ big_bytes 4 f.start ++ big_bytes 2 (length f.run / 2) ++ f.run ++ replicate (run_room - length f.run) 0
@@ -47,7 +47,7 @@ field_bytes f =
 unfoldable pub body_of : Record → List ℕ
 body_of r = field_bytes (fields_of r)
 
--- the form of records is the first or the second
+-- a form is the first or the second: 0 or 2
 abbrev pub IsForm : ℕ → Type 0
 IsForm form = (form ≡ 0) ⊎ (form ≡ 2)
 
@@ -55,8 +55,8 @@ IsForm form = (form ≡ 0) ⊎ (form ≡ 2)
 abbrev pub digest_words : ℕ
 digest_words = 4
 
--- the parts that are a kind's own: a game's id has 32 bytes, a room fits 8, a word fits 2, a GOT has an input at least, and a CHECK
--- the words of a digest
+-- What a kind needs: a game's id has 32 bytes, a room 8, a word 2; a GOT has at least one input; a CHECK
+-- has the words of a digest.
 abbrev pub HasParts : Record → Type 0
 HasParts (Head player form id room) = IsForm form × (length id ≡ 32) × AreBytes id × (room < 2 ^ 64)
 HasParts (Epoch player number form) = IsForm form
@@ -77,7 +77,7 @@ pub record HasSpelling (r : Record) : Type 0 where
   pub short : length (fields_of r).run ≤ 2 * longest_run
   pub parts : HasParts r
 
--- these bytes spell the record
+-- these bytes are the spelling of the record
 pub record Spells (bytes : List ℕ) (r : Record) : Type 0 where
   pub has : HasSpelling r
   pub is : bytes ≡ body_of r
@@ -88,8 +88,8 @@ pub record Spells (bytes : List ℕ) (r : Record) : Type 0 where
 abbrev pub run_at : List ℕ → List ℕ
 run_at bytes = words_of (take (2 * number_at 10 2 bytes) (drop run_place bytes))
 
--- The record that bytes would spell, whose kind is told by the first byte: any but 1 to 8 is taken for a CHECK's. Whether they
--- spell it is for `Spells` to say.
+-- The record that bytes can spell. The first byte decides its kind: any value but 1 to 8 is read as a
+-- CHECK. `Spells` says whether the bytes really spell it.
 unfoldable pub record_of : List ℕ → Record
 record_of bytes =
     if slice_index bytes 0 == 1 then Head (slice_index bytes 1) (number_at 6 4 bytes) (take 32 (drop run_place bytes)) (number_at 44 8 bytes)

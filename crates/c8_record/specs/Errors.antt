@@ -1,4 +1,4 @@
--- The numbers of the refusals: those that a program prints where an opening is refused for them.
+-- The numbers that programs print for an opening that is refused for one of these reasons.
 use Rattle.std.specs.Prelude.{ℕ}
 use Rattle.c8_record.specs.declared.error.ReplayError.{ReplayError}
 use Rattle.c8_record.specs.declared.error.ReplayError.TheVariants as errors

@@ -1,4 +1,4 @@
--- What a caller sees of a record that is lent from a body.
+-- What a caller sees of a record that borrows from a body.
 use Rattle.std.specs.Prelude.{ℕ, ◌≡◌, ◌<◌, List, length, take, drop}
 use Rattle.c8_game.specs.declared.wire.WireVersion.TheVariants as versions
 use Rattle.c8_wire.specs.Lent.{version_of, words, spelled}
@@ -7,7 +7,7 @@ use Rattle.c8_record.specs.declared.record.Record.{Record}
 use Rattle.c8_record.specs.declared.record.Record.TheVariants as lent
 use Rattle.c8_record.specs.Body.{run_place, IsForm, digest_words}
 
--- the record that it is
+-- the value of the record
 abbrev pub value_of : Record → journals.Record
 value_of (lent.Head player form id room) = journals.Head player.number form id.now room
 value_of (lent.Epoch player number form) = journals.Epoch player.number number form
@@ -19,7 +19,7 @@ value_of (lent.Cut player cut start run) = journals.Cut player.number cut start 
 value_of (lent.State player frames piece run) = journals.State player.number frames piece (words run)
 value_of (lent.Check player frames run) = journals.Check player.number frames (words run)
 
--- what it lends is the slice of the body where it stands
+-- the borrowed parts are slices of the body
 abbrev pub IsSliceOf : List ℕ → Record → Type 0
 IsSliceOf body (lent.Head player form id room) = id.now ≡ take 32 (drop run_place body)
 IsSliceOf body (lent.Epoch player number form) = Unit {0}
@@ -31,7 +31,7 @@ IsSliceOf body (lent.Cut player cut start run) = spelled run ≡ take (length (s
 IsSliceOf body (lent.State player frames piece run) = spelled run ≡ take (length (spelled run)) (drop run_place body)
 IsSliceOf body (lent.Check player frames run) = spelled run ≡ take (length (spelled run)) (drop run_place body)
 
--- its inputs, where it has some, are lent from bytes that spell them two bytes each, as bodies have them
+-- its inputs, if it has some, borrow from bytes in version 1, as in every body
 abbrev pub IsOfWords : Record → Type 0
 IsOfWords (lent.Head player form id room) = Unit {0}
 IsOfWords (lent.Epoch player number form) = Unit {0}
@@ -43,8 +43,8 @@ IsOfWords (lent.Cut player cut start run) = version_of run ≡ versions.One
 IsOfWords (lent.State player frames piece run) = version_of run ≡ versions.One
 IsOfWords (lent.Check player frames run) = version_of run ≡ versions.One
 
--- What a spelling asks of its parts: a form is the first or the second, a Got has an input at least, and a Check the words of a
--- digest.
+-- What a spelling needs: a form is the first or the second, a Got has at least one input, and a Check
+-- has the words of a digest.
 abbrev pub IsComplete : Record → Type 0
 IsComplete (lent.Head player form id room) = IsForm form
 IsComplete (lent.Epoch player number form) = IsForm form

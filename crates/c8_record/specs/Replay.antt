@@ -1,4 +1,4 @@
--- What a list of bodies says when it is replayed, or why it is refused.
+-- What a replay of a list of bodies gives, or why it is refused.
 use Rattle.std.specs.Prelude.{ℕ, ◌+◌, ◌-◌, ◌*◌, ◌≡◌, ◌≢◌, ◌<◌, ◌≤◌, ◌⊎◌, List, length, take, Result, Ok, Err, Some, Bool, true, false}
 use Rattle.std.specs.List.{slice_get, All}
 use Rattle.c8_game.specs.Rules.{Rules, id_of}
@@ -22,15 +22,15 @@ pub record AreJournalBodies (rules : Rules) (me room : ℕ) (bodies : List (List
 abbrev pub BeginsWithHead : List (List ℕ) → ℕ → List ℕ → ℕ → Type 0
 BeginsWithHead bodies player id room = (body : List ℕ) × (form : ℕ) × (slice_get bodies 0 ≡ Some body) × Spells body (Head player form id room)
 
--- Body n is the first that spells no record, or one that is not allowed there.
+-- Body n is the first that does not spell a record, or whose record is not allowed there.
 pub record IsFirstBad (rules : Rules) (me room : ℕ) (bodies : List (List ℕ)) (n : ℕ) : Type 0 where
   pub within : n < length bodies
   pub before : AreJournalBodies rules me room (take n bodies)
   pub bad : (body : List ℕ) (r : Record) → slice_get bodies n ≡ Some body → Spells body r → IsAllowed rules me room (records_of (take n bodies)) r → ⊥
 
--- Why bodies are refused: the first is a HEAD of another game or room; it is one of this game and room, and of another
--- player; or else, by its number,
--- the first body that spells no record or one that is not allowed there.
+-- Why bodies are refused. The first is a HEAD of another game or room; or it is a HEAD of this game and
+-- room, and of another player; or else body n is the first that does not spell a record or whose record
+-- is not allowed there.
 abbrev pub IsRefusal : Rules → ℕ → ℕ → List (List ℕ) → ReplayError → Type 0
 IsRefusal rules me room bodies WrongGame =
     (player : ℕ) × (id : List ℕ) × (named : ℕ) × BeginsWithHead bodies player id named × ((id ≢ id_of rules) ⊎ (named ≢ room))
@@ -39,19 +39,19 @@ IsRefusal rules me room bodies (BadRecord n) =
     IsFirstBad rules me room bodies n × ((player : ℕ) (id : List ℕ) (named : ℕ) → BeginsWithHead bodies player id named → n ≢ 0)
 IsRefusal rules me room bodies (Disk why) = ⊥
 
--- how many bodies were taken before the refused one (nobody asks it of a disk's failure, which depends on the disk)
+-- how many bodies were taken before the refused one; never used for a failure of the disk
 abbrev pub taken_before : ReplayError → ℕ
 taken_before WrongGame = 0
 taken_before WrongPlayer = 0
 taken_before (BadRecord n) = n
 taken_before (Disk why) = 0
 
--- what the records of these bodies make known, and what they say of checkpoints
+-- what the records of these bodies make known, and what they say about checkpoints
 abbrev pub AreSaid : Rules → ℕ → List (List ℕ) → KnownValue → ChecksValue → Type 0
 AreSaid rules me bodies known checks = (known ≡ known_of rules me (records_of bodies)) × (checks ≡ checks_of (records_of bodies))
 
--- What a replay answers, makes known and notes of checkpoints: what all records say, and the last epoch, 0 if there is none;
--- or the refusal, and what the records before the refused one say.
+-- The result of a replay. Either all records are taken, and the answer is the last epoch, or 0 without
+-- records. Or a body is refused, and the records before it are taken.
 abbrev pub IsReplayed : Rules → ℕ → ℕ → List (List ℕ) → Result ℕ ReplayError → KnownValue → ChecksValue → Type 0
 IsReplayed rules me room bodies (Ok last) known checks =
     AreJournalBodies rules me room bodies × (known ≡ known_of rules me (records_of bodies)) × (last ≡ epoch (records_of bodies)) × (checks ≡ checks_of (records_of bodies))
@@ -66,7 +66,7 @@ is_failed (Err WrongPlayer) = false
 is_failed (Err (BadRecord n)) = false
 is_failed (Err (Disk why)) = true
 
--- what the disk answered, by what a replay does
+-- the answer of the disk, read from the result of a replay
 abbrev pub told_by : Result ℕ ReplayError → Answer
 told_by (Ok last) = Ok tt
 told_by (Err WrongGame) = Ok tt
@@ -74,8 +74,8 @@ told_by (Err WrongPlayer) = Ok tt
 told_by (Err (BadRecord n)) = Ok tt
 told_by (Err (Disk why)) = Err why
 
--- The same of bodies that are read from a disk, block after block. If the disk fails, the bodies of the blocks before were
--- taken: they are in order, and what is known and noted is what they say.
+-- The same for bodies that are read from a disk, block after block. If the disk fails, the bodies of the
+-- earlier blocks are in order and taken.
 abbrev pub IsReplayedFromDisk : Rules → ℕ → ℕ → List (List ℕ) → Result ℕ ReplayError → KnownValue → ChecksValue → Type 0
 IsReplayedFromDisk rules me room bodies (Err (Disk why)) known checks =
     (why ≡ Failed) × (k : ℕ) × (block_slots * k < length bodies) × AreJournalBodies rules me room (take (block_slots * k) bodies)
@@ -85,8 +85,8 @@ IsReplayedFromDisk rules me room bodies (Err WrongPlayer) known checks = IsRepla
 IsReplayedFromDisk rules me room bodies (Err (BadRecord n)) known checks = IsReplayed rules me room bodies (Err (BadRecord n)) known checks
 IsReplayedFromDisk rules me room bodies (Ok last) known checks = IsReplayed rules me room bodies (Ok last) known checks
 
--- How many bodies a replay looks at: all, or those up to the one that it refuses. Where the disk fails, those before the last
--- of them are in order.
+-- How many bodies a replay looks at: all, or those up to the refused one. If the disk fails, the bodies
+-- before the last of them are in order.
 abbrev pub LooksAt : Rules → ℕ → ℕ → List (List ℕ) → Result ℕ ReplayError → ℕ → Type 0
 LooksAt rules me room bodies (Ok last) n = n ≡ length bodies
 LooksAt rules me room bodies (Err WrongGame) n = n ≡ 1
@@ -94,6 +94,6 @@ LooksAt rules me room bodies (Err WrongPlayer) n = n ≡ 1
 LooksAt rules me room bodies (Err (BadRecord bad)) n = n ≡ bad + 1
 LooksAt rules me room bodies (Err (Disk why)) n = (n ≤ length bodies) × AreJournalBodies rules me room (take (n - 1) bodies)
 
--- which calls of a disk it makes: a read of each block in which these bodies lie
+-- the disk calls of a replay: a read of each block with one of these bodies
 abbrev pub ReplayRun : Rules → ℕ → ℕ → List (List ℕ) → Result ℕ ReplayError → Run
 ReplayRun rules me room bodies result calls answer = (n : ℕ) × LooksAt rules me room bodies result n × Reads (blocks_of n) calls answer

@@ -1,4 +1,4 @@
-//! Whether a record may stand after those before it.
+//! Whether a record may follow the earlier ones.
 ghost use Rattle.std.specs.Prelude.{◌≡◌, ◌≢◌, ◌↔◌, ℕ, true, MatchResult};
 ghost use Rattle.c8_game.specs.Rules.{id_of};
 ghost use Rattle.c8_known.specs.Known.{Plays, IsKnown, IsOfGame};
@@ -18,7 +18,7 @@ use c8_game::{Game, Player};
 use c8_known::Known;
 use c8_wire::Run;
 
-/// Judges the next record of a replay, by what is known and noted so far.
+/// Judges the next record of a replay by what is known and noted so far.
 pub(crate) fn judge(
     replay: &Replay<'_>,
     checks: &Checks,
@@ -81,7 +81,7 @@ fn judge_first(
     Ok(())
 }
 
-/// Whether a record may stand after others.
+/// Returns whether a record may follow the earlier ones.
 fn may_follow(replay: &Replay<'_>, checks: &Checks, known: &Known, lent: &Record<'_>) -> bool
     requires later { replay.now.count ≢ 0 }
     requires spelled { HasSpelling (value_of lent.now) }

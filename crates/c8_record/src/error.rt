@@ -5,26 +5,27 @@ ghost use Rattle.c8_record.specs.Errors.{number_of};
 use c8_disk::DiskError;
 use thiserror::Error;
 
-/// Why a journal is refused.
+/// Why a journal is refused. `WrongGame` and `WrongPlayer` come first, in this order.
 #[derive(Clone, Copy, Debug, PartialEq, Eq, Hash, Error)]
 pub enum ReplayError {
-    /// It begins with a HEAD of another game or another room.
+    /// The first record is a HEAD of another game or another room.
     #[error("a journal of another game or room")]
     WrongGame,
-    /// It begins with a HEAD of another player.
+    /// The first record is a HEAD of another player.
     #[error("a journal of another player")]
     WrongPlayer,
-    /// The body of this number, counted from 0, is the first that spells no record, or one that the
-    /// rules don't allow there.
+    /// The body with this number, from 0, is the first that does not spell a record, or whose record is
+    /// not allowed there.
     #[error("body {0} is no record that may stand there")]
     BadRecord(usize),
-    /// The disk failed while it was read.
+    /// The disk failed during the replay.
     #[error("the disk failed")]
     Disk(DiskError),
 }
 
 impl ReplayError {
-    /// The number that a program prints where an opening is refused for it; an opening has more.
+    /// Returns the number that programs print for an opening that is refused for this reason. Openings
+    /// have further reasons, with numbers of their own.
     pub fn number(self) -> u8
         ensures { result ≡ number_of self }
     {
@@ -36,6 +37,7 @@ impl ReplayError {
         }
     }
 
+    /// Returns the name of the variant.
     pub fn name(self) -> &'static str {
         match self {
             ReplayError::WrongGame => "WrongGame",

@@ -1,4 +1,4 @@
-//! What a record makes known.
+//! Adds a record to what is known.
 ghost use Rattle.std.specs.Prelude.{◌≡◌};
 ghost use Rattle.c8_known.specs.Known.{with_record, IsKnown};
 ghost use Rattle.c8_known.specs.Growth.{IsStillKnown};
@@ -8,7 +8,8 @@ ghost use Rattle.c8_record.specs.Lent.{value_of};
 use crate::record::Record;
 use c8_known::Known;
 
-/// Makes known what a record says that the rules allow after those by which this is known.
+/// Adds to `known` what a record says. The caller ensures that the rules allow the record after those
+/// that `known` comes from.
 pub fn make_known(known: &mut Known, lent: &Record<'_>)
     requires { CanFollow known.old (value_of lent.now) }
     ensures value { known.new ≡ with_record known.old (value_of lent.now) }

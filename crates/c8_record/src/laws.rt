@@ -1,5 +1,5 @@
-//! What callers may rest on that is no single call's: laws of records and journals, each the
-//! contract of a function that does nothing.
+//! Laws of records and journals that no single call can promise. Each is the contract of a function that
+//! does nothing.
 ghost use Rattle.std.specs.Prelude.{◌≡◌, ◌≢◌, ℕ, ◌+◌, ◌<◌, ◌≤◌, List, [], ◌∷◌, ◌++◌, length, map};
 ghost use Rattle.c8_game.specs.Rules.{Rules, AreInRange};
 ghost use Rattle.c8_known.specs.Journal.{Record, epoch};
@@ -13,16 +13,15 @@ ghost use Rattle.c8_record.specs.declared.error.ReplayError.{ReplayError};
 ghost use Rattle.c8_record.specs.Allowed.{IsAllowed, IsJournal, IsOrderly, AreInOrder};
 ghost use Rattle.c8_record.specs.Replay.{AreJournalBodies, IsRefusal};
 
-/// A record that can be spelled has one spelling, of 143 bytes, which is read as that record and no
-/// other.
+/// A record that can be spelled has one spelling, of 143 bytes, which reads back as that record only.
 pub fn a_spelling_reads_back()
     ensures length { (r : Record) → HasSpelling r → length (body_of r) ≡ 143 }
     ensures back { (r : Record) → HasSpelling r → record_of (body_of r) ≡ r }
     ensures only { (body : List ℕ) (r : Record) → Spells body r → r ≡ record_of body }
 {}
 
-/// The bodies of a journal are the spellings of its records, and the spellings of a journal's
-/// records are bodies of it.
+/// The bodies of a journal are the spellings of its records, and the spellings of a journal's records
+/// are its bodies.
 pub fn bodies_are_the_spellings()
     ensures bodies { (rules : Rules) (me room : ℕ) (bodies : List (List ℕ))
         → AreJournalBodies rules me room bodies → map body_of (records_of bodies) ≡ bodies }
@@ -33,7 +32,7 @@ pub fn bodies_are_the_spellings()
         → AreJournalBodies rules me room (map body_of journal) }
 {}
 
-/// A journal with an allowed record more is a journal, and so is what a journal begins with.
+/// A journal with one more allowed record is a journal. A prefix of a journal is a journal.
 pub fn journals_grow_by_one()
     ensures none { (rules : Rules) (me room : ℕ) → IsJournal rules me room [] }
     ensures more { (rules : Rules) (me room : ℕ) (journal : List Record) (r : Record)
@@ -51,8 +50,8 @@ pub fn journals_grow_by_one()
         → checks_of (journal ++ r ∷ []) ≡ with_check (checks_of journal) r }
 {}
 
-/// What a journal says is sound, and nothing of it is taken back by a longer one: the confirmed
-/// rows of a journal begin those of every longer journal.
+/// What a journal says is sound, and no longer journal takes it back: its confirmed rows are a prefix of
+/// those of each longer journal.
 pub fn what_a_journal_says_stays()
     ensures known { (rules : Rules) (me room : ℕ) (journal : List Record) → AreInRange rules
         → 1 ≤ me → me ≤ rules.players → IsJournal rules me room journal
@@ -66,26 +65,27 @@ pub fn what_a_journal_says_stays()
         (confirmed_rows (known_of rules me (journal ++ rest))) }
 {}
 
-/// The bodies of a journal are refused for nothing: a replay of them fails with the disk alone.
+/// The bodies of a journal are never refused: only the disk can make a replay fail.
 pub fn journals_are_not_refused()
     ensures { (rules : Rules) (me room : ℕ) (bodies : List (List ℕ)) (error : ReplayError)
         → AreJournalBodies rules me room bodies → IsRefusal rules me room bodies error → ⊥ }
 {}
 
-/// Bodies that are refused are refused for one reason alone.
+/// Refused bodies have only one reason.
 pub fn a_refusal_has_one_reason()
     ensures { (rules : Rules) (me room : ℕ) (bodies : List (List ℕ)) (one other : ReplayError)
         → IsRefusal rules me room bodies one → IsRefusal rules me room bodies other
         → one ≡ other }
 {}
 
-/// Who may leave in whose journal, and who is cut leaves.
+/// Who can be dropped in whose journal. A player that is cut has been dropped.
 pub fn leavers_are_orderly()
     ensures { (rules : Rules) (me room : ℕ) (journal : List Record)
         → IsJournal rules me room journal → IsOrderly (known_of rules me journal) }
 {}
 
-/// No player runs further ahead of the frames that its journal confirms than the game's window.
+/// A journal's player is never further than the game's window ahead of the frames that the journal
+/// confirms.
 pub fn journals_stay_within_the_window()
     ensures { (rules : Rules) (me room : ℕ) (journal : List Record) → AreInRange rules
         → 1 ≤ me → me ≤ rules.players → IsJournal rules me room journal
@@ -93,8 +93,8 @@ pub fn journals_stay_within_the_window()
         ≤ confirmed (known_of rules me journal) + rules.window }
 {}
 
-/// The checkpoints of a journal are at frames that it confirms, and such as a machine can have come
-/// to; so is where the machine of a peer with this journal began.
+/// The checkpoints of a journal are at frames that it confirms, and a machine can have reached them. The
+/// same holds for the beginning of the machine of a peer with this journal.
 pub fn checkpoints_are_in_order()
     ensures checks { (rules : Rules) (me room : ℕ) (journal : List Record) → AreInRange rules
         → 1 ≤ me → me ≤ rules.players → IsJournal rules me room journal

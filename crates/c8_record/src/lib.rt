@@ -1,11 +1,12 @@
-//! The records of a journal: how each is spelled in the 143 bytes of a slot's body, which may stand
-//! after which others, and what a peer knows once it has read its journal again.
+//! The records of a journal: the spelling of each in the 143 bytes of a slot's body, the rules of their
+//! order, and what a peer knows after it reads its journal.
 //!
-//! `view` lends a record from a body, `body_of` spells one; `make_known` notes what a record says
-//! that the rules allow; `replay` and `replay_bytes` read a whole journal, from a log and from the
-//! bytes of a disk. The definitions are in `specs/` (the spelling in `Body.antt`, the rules in
-//! `Allowed.antt`, what a replay gives in `Replay.antt`), and `laws` has what follows from them.
-//! Nothing here takes memory.
+//! `view` reads a record from a body in place, and `body_of` writes one. `make_known` adds a record to
+//! what is known. `replay` reads a whole journal from a log, `replay_bytes` from the bytes of a disk.
+//! docs/FORMATS.md specifies the bytes and the rules.
+//!
+//! `specs/Body.antt` defines the spelling, `Allowed.antt` the rules, and `Replay.antt` the result of a
+//! replay. `laws` has what follows from them. Nothing here allocates.
 #![tactic(auto)]
 
 mod allowed;

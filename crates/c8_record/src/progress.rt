@@ -1,7 +1,7 @@
-//! How far a replay has come.
+//! The progress of a replay.
 use c8_game::Game;
 
-/// A replay: the match whose journal it reads, how many records it has taken, and their last epoch.
+/// A replay: the match of its journal, how many records it has taken, and the last epoch in them.
 #[derive(Clone, Copy)]
 pub(crate) struct Replay<'a> {
     pub(crate) game: &'a Game,

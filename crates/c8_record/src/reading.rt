@@ -1,4 +1,4 @@
-//! Which record a body spells.
+//! Reads a record from a body.
 ghost use Rattle.std.specs.Prelude.{◌≡◌, ◌<◌, ◌*◌, ◌↔◌, true, take, drop, MatchOption, IfSome};
 ghost use Rattle.c8_wire.specs.Lent.{version_of, words, spelled};
 ghost use Rattle.c8_game.specs.declared.wire.WireVersion.TheVariants as versions;
@@ -14,7 +14,8 @@ use c8_game::{Keys, Player};
 use c8_log::BODY_LENGTH;
 use c8_wire::{LONGEST_RUN, Run, u16_at, u32_at, u64_at};
 
-/// The record that a body spells, lent from it; none if it spells none.
+/// Reads a record in place; the result borrows from the body. Returns `None` if the body is not the
+/// spelling of a record. It does not check whether the rules allow the record.
 pub fn view(body: &[u8; BODY_LENGTH]) -> Option<Record<'_>>
     ensures value { MatchOption result ((r : journals.Record) → Spells body.now r → ⊥)
         (λ lent. Spells body.now (value_of lent)) }
@@ -28,8 +29,8 @@ pub fn view(body: &[u8; BODY_LENGTH]) -> Option<Record<'_>>
     Some(lent)
 }
 
-/// What the body would spell by its kind, and none where a field of it alone says that it spells
-/// nothing.
+/// Returns the record that the body spells if it spells one. Returns `None` if a field alone shows that
+/// it spells none.
 #[tactic(auto, unfolding(crate::specs::Body::record_of))]
 fn read(body: &[u8; BODY_LENGTH]) -> Option<Record<'_>>
     ensures value { MatchOption result ((r : journals.Record) → Spells body.now r → ⊥)
@@ -83,7 +84,7 @@ fn read(body: &[u8; BODY_LENGTH]) -> Option<Record<'_>>
     }
 }
 
-/// The game's id, where the body is that of a `Head`.
+/// Returns the game's id in the body of a `Head`.
 fn id_of(body: &[u8; BODY_LENGTH]) -> &[u8; 32]
     ensures { result.now ≡ take 32 (drop run_place body.now) }
 {
@@ -94,7 +95,7 @@ fn id_of(body: &[u8; BODY_LENGTH]) -> &[u8; 32]
     }
 }
 
-/// The run of the body, none where its count says that it is too long.
+/// Returns the run in the body, or `None` if its count is above 64.
 fn run_of(body: &[u8; BODY_LENGTH]) -> Option<Run<'_>>
     ensures slice { MatchOption result (longest_run < number_at 10 2 body.now)
         (λ run. spelled run ≡ take (2 * number_at 10 2 body.now) (drop run_place body.now)) }
@@ -110,7 +111,7 @@ fn run_of(body: &[u8; BODY_LENGTH]) -> Option<Run<'_>>
     Some(Run::new(run))
 }
 
-/// Whether it has all that a spelling asks of its parts.
+/// Returns whether the record has what its kind needs to be spelled.
 fn is_complete(lent: &Record<'_>) -> bool
     ensures { (result ≡ true) ↔ IsComplete lent.now }
 {

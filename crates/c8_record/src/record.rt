@@ -1,4 +1,4 @@
-//! A record, lent from the body of a slot or from the datagram that brings it.
+//! A record, borrowed from a body or from a datagram.
 ghost use Rattle.std.specs.Prelude.{◌≡◌};
 ghost use Rattle.c8_known.specs.Journal.{player_of};
 ghost use Rattle.c8_record.specs.Lent.{value_of};
@@ -6,29 +6,29 @@ ghost use Rattle.c8_record.specs.Lent.{value_of};
 use c8_game::{Keys, Player};
 use c8_wire::Run;
 
-/// Where a run stands in a body.
+/// The offset of the run in a body.
 pub(crate) const RUN_PLACE: usize = 12;
 
 /// How many words the digest in a `Check` has.
 pub(crate) const DIGEST_WORDS: usize = 4;
 
-/// A record. Its words, and the id in a `Head`, are lent from where they stand: in a body, or in the
-/// datagram that brings them.
+/// A record of a journal. Its run, and the id in a `Head`, borrow from the body or the datagram that has
+/// them.
 ///
-/// `Head`, `Epoch`, `Own`, `State` and `Check` are of the player whose journal it is, the others of the
-/// player whom they name. A start is the place in the player's list of inputs where the record's inputs
-/// stand. A form is 0 or 2: that of the records from there on, of which the second has `State` and `Check`
-/// too.
+/// `player` is the owner of the journal in `Head`, `Epoch`, `Own`, `State` and `Check`, and the player
+/// that the record is about in all others. `start` is the place of the record's first input in that
+/// player's list of inputs. `form` is 0 or 2, and holds for the records that follow: only form 2 has
+/// `State` and `Check`. docs/FORMATS.md has the bytes and the rules of each kind.
 #[derive(Clone, Copy, Debug, PartialEq, Eq)]
 pub enum Record<'a> {
-    /// Whose journal this is, and of which match.
+    /// The first record: the owner of the journal, the game's id and the room. It begins epoch 1.
     Head {
         player: Player,
         form: u32,
         id: &'a [u8; 32],
         room: u64,
     },
-    /// The peer was opened again, for the time that the number says; a `Head` is the first.
+    /// The peer was opened again and begins epoch `number`.
     Epoch {
         player: Player,
         number: u32,
@@ -40,36 +40,37 @@ pub enum Record<'a> {
         start: u32,
         keys: Keys,
     },
-    /// Inputs of another player came.
+    /// Inputs of another player, at least one.
     Got {
         player: Player,
         start: u32,
         run: Run<'a>,
     },
-    /// The player's inputs are taken from player one alone from here on.
+    /// Player one has dropped this player: from here on, its inputs are taken from player one only.
     Freeze {
         player: Player,
     },
-    /// Player one lets the player go; in another player's journal, that player has been dropped.
+    /// Player one drops this player. In any other journal: player one has dropped the own player.
     Leave {
         player: Player,
     },
-    /// The player's list of inputs ends at a length, and these are the last, if they weren't held.
+    /// The player's list of inputs ends at `length`. `run` has the last inputs, if they were not held
+    /// yet.
     Cut {
         player: Player,
         length: u32,
         start: u32,
         run: Run<'a>,
     },
-    /// A piece of a checkpoint after so many confirmed frames: of the machine's bytes and its marks', as
-    /// c8_check cuts them.
+    /// Piece number `piece`, from 0, of a checkpoint after `frames` confirmed frames. `c8_check` cuts
+    /// the machine's bytes and its marks into pieces.
     State {
         player: Player,
         frames: u32,
         piece: u32,
         run: Run<'a>,
     },
-    /// All pieces of it stand, and this is their digest.
+    /// The checkpoint after `frames` frames is complete. `run` is the digest of all its pieces.
     Check {
         player: Player,
         frames: u32,
@@ -78,7 +79,7 @@ pub enum Record<'a> {
 }
 
 impl Record<'_> {
-    /// Of whom it is.
+    /// Returns the player that the record names.
     pub fn player(&self) -> Player
         ensures { result.number ≡ player_of (value_of self.now) }
     {

@@ -1,4 +1,4 @@
-//! What a journal says, read again from its beginning.
+//! Reads a journal from its beginning.
 ghost use Rattle.std.specs.Prelude.{◌≡◌, ◌≢◌, ◌<◌, ◌≤◌, ◌+◌, ◌/◌, ◌^◌, ℕ, List, [], false, true, length, Err, MatchResult, IfOk, IfErr, OnOk, OnErr};
 ghost use Rattle.c8_disk.specs.Runs.{ReadsOnly};
 ghost use Rattle.c8_disk.specs.Asks.{Asks};
@@ -22,13 +22,13 @@ use c8_game::Game;
 use c8_known::Known;
 use c8_log::{BLOCK_SLOTS, BODY_LENGTH, Block, Log, Slots, kept_body, kept_len};
 
-/// Reads the journal that a log keeps into `known`, which knows nothing yet, and into `checks`, which are
-/// new. It reads a block of slots at a time. The answer is the last epoch, 0 if the log keeps no record.
+/// Reads the journal in a log, block after block, and returns the last epoch, or 0 without records.
+/// `known` must be empty and `checks` new; the call fills them. It writes nothing.
 ///
-/// `WrongGame` and `WrongPlayer` are judged first of all, by the first record; `BadRecord` names
-/// the first body that spells no record or one that the rules don't allow there. After one of these
-/// `known` and `checks` have what the records before that body say; after `Disk`, what the records of
-/// the blocks before the one that failed say. Nothing is written; after `Disk` the log is down.
+/// `WrongGame` and `WrongPlayer` come first, from the first record. `BadRecord` has the number of the
+/// first body that does not spell a record or whose record is not allowed there. After one of these,
+/// `known` and `checks` have what the records before that body say. After `Disk` they have what the
+/// blocks before the failed one say, and the log is down.
 pub fn replay<D: Disk>(
     log: &mut Log<D>,
     game: &Game,
@@ -70,7 +70,7 @@ pub fn replay<D: Disk>(
     Ok(epoch)
 }
 
-/// Does the same with the bodies that the bytes of a disk keep. It never answers `Disk`.
+/// Like [`replay`], for the bodies in the bytes of a disk. Never returns `Disk`.
 pub fn replay_bytes(
     image: &[u8],
     game: &Game,
@@ -96,8 +96,8 @@ pub fn replay_bytes(
     Ok(epoch)
 }
 
-/// Takes the next bodies, those of slots that were read together, and answers the last epoch then. What
-/// it ensures holds for whatever bodies have these next (`AreNext`).
+/// Takes the bodies of slots that one read gave, and returns the last epoch. Its contract holds for all
+/// lists of bodies that have these next (`AreNext`).
 fn take_slots(
     replay: &Replay<'_>,
     known: &mut Known,
@@ -136,7 +136,7 @@ fn take_slots(
     Ok(epoch)
 }
 
-/// Takes the next body, and answers the last epoch then. A body that is refused changes nothing.
+/// Takes the next body, and returns the last epoch. A refused body changes nothing.
 fn take_body(
     replay: &Replay<'_>,
     known: &mut Known,
@@ -161,7 +161,7 @@ fn take_body(
     Ok(epoch_after(replay.epoch, &lent))
 }
 
-/// Notes what a record says of checkpoints that may be said after those that have said this.
+/// Notes what a record says about checkpoints. The record must be allowed after those noted so far.
 fn note(checks: &mut Checks, lent: &Record<'_>)
     requires may { MaySay (value_in checks.old) (value_of lent.now) }
     requires words { IsOfWords lent.now }
@@ -180,7 +180,7 @@ fn note(checks: &mut Checks, lent: &Record<'_>)
     }
 }
 
-/// The last epoch after a record.
+/// Returns the last epoch after a record.
 fn epoch_after(epoch: u32, lent: &Record<'_>) -> u32
     ensures { result ≡ epoch_after epoch (value_of lent.now) }
 {

@@ -1,4 +1,4 @@
-//! The body that spells a record.
+//! Writes the body of a record.
 ghost use Rattle.std.specs.Prelude.{◌≡◌, ◌≤◌, ◌*◌, ◌/◌, ◌↔◌, ◌∷◌, ◌++◌, true, drop, length};
 ghost use Rattle.c8_known.specs.Journal.{Head, Epoch, Own, Got, Cut, State, Check};
 ghost use Rattle.c8_wire.specs.Packet.{AreWords};
@@ -15,7 +15,8 @@ use c8_game::{Keys, Player};
 use c8_log::BODY_LENGTH;
 use c8_wire::{Inputs, Run};
 
-/// The body that spells a record. The body of a `Got` without inputs spells no record.
+/// Returns the 143 bytes that spell a record. A form other than 0 or 2, a `Got` without inputs, or a
+/// `Check` whose run does not have 4 words gives bytes that [`crate::view`] refuses.
 #[tactic(auto, unfolding(crate::specs::Body::body_of))]
 pub fn body_of(lent: &Record<'_>) -> [u8; BODY_LENGTH]
     ensures body { result ≡ body_of (value_of lent.now) }
@@ -61,7 +62,7 @@ pub fn body_of(lent: &Record<'_>) -> [u8; BODY_LENGTH]
     }
 }
 
-/// Whether a body is the one that spells a record.
+/// Returns whether a body is the spelling of a record.
 pub(crate) fn is_body_of(body: &[u8; BODY_LENGTH], lent: &Record<'_>) -> bool
     ensures is { (result ≡ true) ↔ (body.now ≡ body_of (value_of lent.now)) }
     ensures spells { result ≡ true → IsComplete lent.now → Spells body.now (value_of lent.now) }
@@ -133,7 +134,7 @@ fn check_body(player: Player, frames: u32, run: Run<'_>) -> [u8; BODY_LENGTH]
     spell_inputs(9, player, frames, PIECES, run)
 }
 
-/// What the run of a `Head` says: the game's id and the room.
+/// Returns the run of a `Head`: the game's id and the room.
 fn match_run(id: &[u8; 32], room: u64) -> [u8; 40]
     ensures { result ≡ id.now ++ big_bytes 8 room }
 {
@@ -144,7 +145,7 @@ fn match_run(id: &[u8; 32], room: u64) -> [u8; 40]
     run
 }
 
-/// The body that has these fields.
+/// Returns the body with these fields.
 fn spell(kind: u8, player: Player, number: u32, start: u32, run: &[u8]) -> [u8; BODY_LENGTH]
     requires { length run.now ≤ 2 * longest_run }
     ensures { result ≡ field_bytes (record {
@@ -162,7 +163,7 @@ fn spell(kind: u8, player: Player, number: u32, start: u32, run: &[u8]) -> [u8; 
     body
 }
 
-/// The body that has these fields, and a run of inputs, two bytes each: in whichever version it came.
+/// Returns the body with these fields and a run of inputs, two bytes each, in whichever version it came.
 fn spell_inputs(
     kind: u8,
     player: Player,
@@ -201,7 +202,7 @@ fn put_inputs(mut inputs: Inputs<'_>, out: &mut [u8])
     put_inputs(inputs, rest);
 }
 
-/// What stands before the run: the other fields, and how many words the run has.
+/// Returns the bytes before the run: the other fields, and how many words the run has.
 fn head_of(kind: u8, player: Player, number: u32, start: u32, length: usize) -> [u8; RUN_PLACE]
     requires { length ≤ 2 * longest_run }
     ensures { result ≡ kind ∷ player.number ∷ big_bytes 4 number ++ big_bytes 4 start

@@ -1,4 +1,4 @@
--- The numbers of the refusals, as a program prints them.
+-- The numbers of the refusals, as programs print them.
 use Rattle.std.specs.Prelude.{ℕ}
 use Rattle.c8_wire.specs.Errors as wires
 use Rattle.c8_hand.specs.Errors as hands

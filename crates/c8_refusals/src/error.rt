@@ -8,7 +8,7 @@ use c8_known::KnownError;
 use c8_wire::WireError;
 use thiserror::Error;
 
-/// Why a peer was not opened. The disk comes back with the refusal.
+/// Why a peer was not opened. The refusal returns the disk.
 #[derive(Clone, Copy, Debug, PartialEq, Eq, Hash, Error)]
 pub enum OpenError {
     /// The journal begins with a HEAD of another game or room. It has not changed.
@@ -17,11 +17,11 @@ pub enum OpenError {
     /// The journal begins with a HEAD of another player, or the game has no such player. The journal has not changed.
     #[error("no journal of this player, or no player of the game")]
     WrongPlayer,
-    /// The body of this number, counted from 0, is the first that spells no record, or one that may not stand there.
-    /// The journal has not changed.
+    /// The body with this number, from 0, is the first that does not spell a record, or whose record is
+    /// not allowed there. The journal has not changed.
     #[error("body {0} is no record that may stand there")]
     BadRecord(usize),
-    /// The last epoch is the greatest there is. The journal has not changed.
+    /// The last epoch is the greatest possible. The journal has not changed.
     #[error("the epochs are spent")]
     EpochsSpent,
     /// Memory ran out, before the disk was touched.
@@ -48,6 +48,7 @@ impl OpenError {
         }
     }
 
+    /// Returns the name of the variant.
     pub fn name(self) -> &'static str {
         match self {
             OpenError::WrongGame => "WrongGame",
@@ -95,6 +96,7 @@ impl TickError {
         }
     }
 
+    /// Returns the name of the variant.
     pub fn name(self) -> &'static str {
         match self {
             TickError::Threshold => "Threshold",
@@ -109,28 +111,28 @@ impl TickError {
 /// Why a datagram was refused. Only `Desync` and `Disk` change anything.
 #[derive(Clone, Copy, Debug, PartialEq, Eq, Hash, Error)]
 pub enum Refused {
-    /// The bytes are no datagram.
+    /// The bytes are not a datagram.
     #[error("{0}")]
     Wire(WireError),
-    /// It is in another version of the format than the game names.
+    /// The datagram is in another version of the format than the game's.
     #[error("not in the version of datagrams that the game names")]
     OtherWire,
-    /// It is not for this peer, this match or these epochs.
+    /// The datagram is not for this peer, this match or these epochs.
     #[error("{0}")]
     Hand(HandError),
-    /// Its inputs cannot be held, or the end of a list that it names cannot stand.
+    /// The peer cannot hold the inputs, or a list cannot end where the datagram says.
     #[error("{0}")]
     Known(KnownError),
-    /// It acknowledges more inputs than this player has entered.
+    /// The datagram acknowledges more inputs than this player has entered.
     #[error("more inputs are acknowledged than there are")]
     BadAck,
-    /// Only player 1 says it (FREEZE, CUT) or hears it (FROZEN).
+    /// Only player 1 sends it (FREEZE, CUT) or receives it (FROZEN).
     #[error("only player one says or hears this")]
     NotChair,
-    /// At player 1 the journal has no LEAVE of the player, elsewhere no FREEZE.
+    /// The journal has no LEAVE of the player (player 1), or no FREEZE of it (any other player).
     #[error("the player has not been dropped here")]
     NotFrozen,
-    /// The player that it names cannot leave by it.
+    /// The player that the datagram names cannot be dropped by it.
     #[error("this player does not leave so")]
     WrongLeaver,
     /// The sender's machine differs from this peer's after the same number of frames. The alarm stands until the next
@@ -170,6 +172,7 @@ impl Refused {
         }
     }
 
+    /// Returns the name of the variant.
     pub fn name(self) -> &'static str {
         match self {
             Refused::Wire(error) => error.name(),
@@ -227,6 +230,7 @@ impl Unsayable {
         }
     }
 
+    /// Returns the name of the variant.
     pub fn name(self) -> &'static str {
         match self {
             Unsayable::Down => "Down",
@@ -278,6 +282,7 @@ impl LeaveError {
         }
     }
 
+    /// Returns the name of the variant.
     pub fn name(self) -> &'static str {
         match self {
             LeaveError::NotChair => "NotChair",
@@ -325,6 +330,7 @@ impl DecideError {
         }
     }
 
+    /// Returns the name of the variant.
     pub fn name(self) -> &'static str {
         match self {
             DecideError::NotLeaving => "NotLeaving",
@@ -336,7 +342,7 @@ impl DecideError {
     }
 }
 
-/// Why nothing of a checkpoint was recorded. Only `Disk` changes anything.
+/// Why a checkpoint call recorded nothing. Only `Disk` changes anything.
 #[derive(Clone, Copy, Debug, PartialEq, Eq, Hash, Error)]
 pub enum CheckError {
     /// No checkpoint is under way, and no frame was confirmed after the last one.
@@ -367,6 +373,7 @@ impl CheckError {
         }
     }
 
+    /// Returns the name of the variant.
     pub fn name(self) -> &'static str {
         match self {
             CheckError::Nothing => "Nothing",

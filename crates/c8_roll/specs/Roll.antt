@@ -32,8 +32,8 @@ mark_after rules k n = record { frame = n; mark = mark_of (serial rules (rows_be
 abbrev pub marks_up_to : Rules → KnownValue → ℕ → List FrameMark
 marks_up_to rules k n = kept (map (λ m. mark_after rules k (mark_step * m)) (range_with_len 0 (n / mark_step + 1)))
 
--- A roll: the game, how many ticks the own player has made, the shown machine, how many frames are confirmed, the
--- machine after these, and the marks.
+-- A roll: the game, how many ticks the own player has made, the shown machine, how many frames are
+-- confirmed, the machine after these, and the marks.
 pub record RollValue : Type 0 where
   pub rules : Rules
   pub ticks : ℕ
@@ -75,7 +75,7 @@ pub record IsRollSince (from : Origin) (before : KnownValue) (v : RollValue) : T
   pub starts : from.frames ≤ confirmed before
   pub is : v ≡ roll_since v.rules from before
 
--- For whatever knowledge the old roll is the roll of: if all of it is still known, the new roll is the roll of what is
--- known now, run from the same origin.
+-- If the old roll is that of some knowledge, and all of this is still known, then the new roll is that
+-- of what is known now, run from the same origin.
 abbrev pub GrowsTo : RollValue → RollValue → KnownValue → Type 0
 GrowsTo old new now = (from : Origin) (before : KnownValue) → IsRollSince from before old → IsStillKnown before now → new ≡ roll_since old.rules from now

@@ -33,7 +33,8 @@ impl<'g> fmt::Debug for Roll<'g> {
 impl<'g> Roll<'g> {
     ghost use Rattle.c8_roll.specs.Seen.{value_of, rows_run, last_run_of};
 
-    /// Makes the roll of what is known. It runs all frames, and reserves all its memory.
+    /// Creates the roll of what is known. Runs all frames, and reserves all its memory. Fails only if
+    /// memory is refused.
     pub fn open(alloc: Global, game: &'g Game, known: &Known) -> Result<Roll<'g>, AllocError>
         ensures roll { IfOk result (λ roll. value_of roll ≡ roll_of game.entry.now known.now) }
         ensures ticks { IfOk result (λ roll. (value_of roll).ticks ≡ known.now.ticks) }
@@ -44,9 +45,9 @@ impl<'g> Roll<'g> {
         Roll::open_at(alloc, game, known, &Checkpoint::start(game))
     }
 
-    /// Makes the roll of what is known, and runs it from a checkpoint on. If the checkpoint is on the way
-    /// (`IsOnTheWay`: its machine and marks are those of the run of the confirmed rows), this is the roll that `open`
-    /// makes. It reserves all its memory.
+    /// Creates the roll of what is known, and runs it from a checkpoint on. The result is that of `open`
+    /// if the checkpoint is on the way (`IsOnTheWay`): its machine and marks are those of the run of the
+    /// confirmed rows. Reserves all its memory.
     pub fn open_at(
         alloc: Global,
         game: &'g Game,
@@ -66,8 +67,8 @@ impl<'g> Roll<'g> {
         Ok(Roll::over(game, known, from, Buffers::new(alloc, game)?))
     }
 
-    /// Makes the roll of what is known in memory that is already reserved, and runs it from a checkpoint on. It takes
-    /// no memory.
+    /// Creates the roll of what is known in memory that is already reserved, and runs it from a
+    /// checkpoint on. Allocates nothing.
     pub fn over(game: &'g Game, known: &Known, from: &Checkpoint, buffers: Buffers) -> Roll<'g>
         requires room { buffers ≡ game.now.window + 1 }
         requires confirmed { from.now.frames ≤ confirmed known.now }
@@ -85,8 +86,8 @@ impl<'g> Roll<'g> {
         Roll { timeline, marks }
     }
 
-    /// Goes on by one tick of the own player: runs the new frame, and resimulates from the oldest frame whose best
-    /// guess changed.
+    /// Advances by one tick of the own player: runs the new frame, and resimulates from the oldest frame
+    /// whose best guess changed.
     pub fn advance(&mut self, known: &Known)
         requires { known.now.ticks ≡ (value_of self.old).ticks + 1 }
         ensures grows { GrowsTo (value_of self.old) (value_of self.new) known.now }

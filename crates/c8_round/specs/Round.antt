@@ -49,7 +49,7 @@ is_ready c k leaver =
     (player_in k leaver).leaving
     && list_all (λ q. not (is_stayer k q) || has_answered (count_in k leaver) (report_of c leaver q)) (range_with_len 1 (length k.players))
 
--- ---- what laws say of these
+-- ---- used by laws
 
 -- a player has answered with at most as many inputs as player 1 holds
 pub record HasAnswered (c : ChairValue) (k : KnownValue) (leaver q : ℕ) : Type 0 where
@@ -57,17 +57,18 @@ pub record HasAnswered (c : ChairValue) (k : KnownValue) (leaver q : ℕ) : Type
   pub told : report_of c leaver q ≡ Some held
   pub few : held ≤ count_in k leaver
 
--- An answer was there before, or is the one that came.
+-- The answer was there before, or it is the new one.
 abbrev pub IsOldOrNew : ChairValue → ℕ → ℕ → ℕ → ℕ → ℕ → ℕ → Type 0
 IsOldOrNew c leaver stayer held l s n = (report_of c l s ≡ Some n) ⊎ ((l - 1 ≡ leaver - 1) × (s - 1 ≡ stayer - 1) × (n ≡ held))
 
--- The start of the inputs that a CUT brings to a player: after those that it answered to hold.
+-- The start of the inputs in a CUT to a player: after those that it answered to hold.
 abbrev pub owed : ChairValue → KnownValue → ℕ → ℕ → ℕ
 owed c k stayer leaver = min (count_in k leaver) (or_delay k (report_of c leaver stayer))
 
 -- ---- a player that stays
 
--- the greatest number of each leaver's inputs that player 1 said it holds, none before it said one; player 1 first
+-- For each leaver, player 1 first: the greatest number of its inputs that player 1 said it holds; none
+-- before the first.
 pub record StayerValue : Type 0 where
   pub haves : List (Option ℕ)
 
@@ -80,6 +81,6 @@ have_of v leaver = slice_index_or v.haves (leaver - 1) None
 abbrev pub with_have : StayerValue → ℕ → ℕ → StayerValue
 with_have v leaver have = record { haves = slice_set v.haves (leaver - 1) (raised (have_of v leaver) have) }
 
--- The start of the inputs that an answer brings to player 1: after those that it said it holds.
+-- The start of the inputs in an answer to player 1: after those that it said it holds.
 abbrev pub answer_from : StayerValue → KnownValue → ℕ → ℕ
 answer_from v k leaver = min (or_delay k (have_of v leaver)) (count_in k leaver)

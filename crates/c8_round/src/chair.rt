@@ -41,8 +41,9 @@ impl Chair {
         *answer = Some(raised(*answer, held));
     }
 
-    /// Returns whether the leaver may be cut: player 1 has a LEAVE of it, and each other player without a LEAVE has
-    /// answered with at most as many inputs as player 1 holds. A player that has not answered is waited for.
+    /// Returns whether the leaver may be cut: player 1 has a LEAVE of it, and each other player without
+    /// a LEAVE has answered with at most as many inputs as player 1 holds. The round waits for a player
+    /// that has not answered.
     #[tactic(auto, unfolding(crate::specs::Round::is_ready))]
     pub fn ready(&self, leaver: Player, known: &Known) -> bool
         requires { Plays known.now leaver.number }
@@ -65,7 +66,7 @@ impl Chair {
         true
     }
 
-    /// Returns whether the round waits for nothing from a player.
+    /// Returns whether the round needs nothing more from a player.
     fn is_settled(&self, player: Player, leaver: Player, known: &Known) -> bool
         requires leaver { Plays known.now leaver.number }
         requires player { Plays known.now player.number }
@@ -82,7 +83,7 @@ impl Chair {
         }
     }
 
-    /// Returns the start of the inputs that a CUT brings to a player: after those that it answered to hold.
+    /// Returns the start of the inputs in a CUT to a player: after those that it answered to hold.
     pub fn owed(&self, stayer: Player, leaver: Player, known: &Known) -> u32
         requires { Plays known.now leaver.number }
         ensures { result ≡ owed self.now known.now stayer.number leaver.number }

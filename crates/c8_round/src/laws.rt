@@ -14,7 +14,7 @@ pub fn ready_means_all_have_answered()
         → (player_in k q).leaving ≡ false → HasAnswered c k leaver q }
 {}
 
-/// An answer was there before, or is the one that came.
+/// An answer was there before, or it is the new one.
 pub fn a_report_changes_one_place()
     ensures { (c : ChairValue) (leaver stayer held l s n : ℕ)
         → report_of (with_report c leaver stayer held) l s ≡ Some n

@@ -40,7 +40,7 @@ impl Stayer {
         *known = Some(raised(*known, have));
     }
 
-    /// Returns the start of the inputs that an answer brings to player 1: after those that it said it holds.
+    /// Returns the start of the inputs in an answer to player 1: after those that it said it holds.
     pub fn from(&self, leaver: Player, known: &Known) -> u32
         requires { Plays known.now leaver.number }
         ensures { result ≡ answer_from self.now known.now leaver.number }

@@ -1,4 +1,4 @@
--- What a watcher had and still has, what it takes, and rows of one list.
+-- What a watcher keeps, what it takes, and rows of one list.
 use Rattle.std.specs.Prelude.{◌≡◌, ◌+◌, ◌≤◌, List, length, drop, false, true}
 use Rattle.c8_game.specs.declared.row.Row.{Row}
 use Rattle.c8_known.specs.Growth.{Begins, Stands}
@@ -6,15 +6,15 @@ use Rattle.c8_wire.specs.Packet.{ShowMessage, Packet}
 use Rattle.c8_wire.specs.Packet as packets
 use Rattle.c8_spectator.specs.Watching.{WatchValue, is_of_other_match, are_of_game, differ}
 
--- it watches the same match from the same seat, and has all its rows still
+-- it watches the same match from the same seat, and still has all its rows
 pub record IsStillWatched (old new : WatchValue) : Type 0 where
   pub rules : new.rules ≡ old.rules
   pub room : new.room ≡ old.room
   pub seat : new.seat ≡ old.seat
   pub rows : Begins old.rows new.rows
 
--- A packet is taken if it is a SHOW of the match to this seat, with rows of the game that leave no gap and differ from
--- none that the watcher has.
+-- A packet is taken if it is a SHOW of the match to this seat, with rows of the game that leave no gap
+-- and agree with all rows that the watcher has.
 pub record IsTaken (w : WatchValue) (p : Packet) : Type 0 where
   pub shown : ShowMessage
   pub message : p.message ≡ packets.Show shown
@@ -25,6 +25,6 @@ pub record IsTaken (w : WatchValue) (p : Packet) : Type 0 where
   pub after : shown.start ≤ length w.rows
   pub same : differ (drop shown.start w.rows) shown.rows ≡ false
 
--- if a packet shows rows, these are in the list at their place
+-- if a packet shows rows, the list has them at their frames
 pub record ShowsRowsOf (truth : List Row) (p : Packet) : Type 0 where
   pub stand : (m : ShowMessage) → p.message ≡ packets.Show m → Stands m.start m.rows truth

@@ -32,7 +32,7 @@ first_watch rules room seat = record { rules = rules; room = room; seat = seat; 
 abbrev pub is_of_other_match : WatchValue → HeadValue → Bool
 is_of_other_match w head = not (head.session == session_of w.rules w.room) || not (version_number head.version == version_number w.rules.wire)
 
--- players who are not in the game hold no keys
+-- only players of the game have keys
 abbrev pub is_of_game : Rules → Row → Bool
 is_of_game rules row = list_all (λ place. nat_lt place rules.players || set_at row place == 0) (0 ∷ 1 ∷ 2 ∷ 3 ∷ [])
 
@@ -49,8 +49,8 @@ differ [] others = false
 differ (row ∷ rows) [] = false
 differ (row ∷ rows) (other ∷ others) = not (are_same row other) || differ rows others
 
--- why rows are refused: one has keys of a player who is not in the game; they go beyond the last frame; there is a gap
--- before them; or one differs from the row that was taken
+-- Why rows are refused: one has keys of a player that is not in the game; they go beyond the last frame;
+-- there is a gap before them; or one differs from the row that was taken.
 unfoldable pub refusal_of_rows : WatchValue → ShowMessage → Option WatchError
 refusal_of_rows w m =
     if not (are_of_game w.rules m.rows) then Some errors.Absent
@@ -78,7 +78,7 @@ refusal w p = if is_of_other_match w p.head then Some errors.Session else refusa
 abbrev pub fresh_rows : WatchValue → ShowMessage → List Row
 fresh_rows w m = drop (length w.rows - m.start) m.rows
 
--- the new rows of a message: only a SHOW has some
+-- the new rows of a message; only a SHOW has any
 abbrev pub rows_in : WatchValue → Message → List Row
 rows_in w packets.Hello = []
 rows_in w (packets.Welcome ack) = []
@@ -110,7 +110,7 @@ abbrev pub hear : WatchValue → Result Packet WireError → Watched
 hear w (Err error) = record { answer = Err (refusals.Wire error); watch = w }
 hear w (Ok p) = unless_refused w p.message (refusal w p)
 
--- ---- what a watcher says
+-- ---- what a watcher sends
 
 -- a watcher acknowledges to player 1 how many rows it has; both epochs are 0
 abbrev pub seen : WatchValue → Packet

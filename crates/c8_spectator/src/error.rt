@@ -8,13 +8,13 @@ use thiserror::Error;
 /// Why a watcher does not take a datagram: the first of these that applies, in this order.
 #[derive(Clone, Copy, Debug, PartialEq, Eq, Hash, Error)]
 pub enum WatchError {
-    /// It is of another match, or in another version of the format than the game's.
+    /// The datagram is of another match, or in another version of the format than the game's.
     #[error("from another match, or in another version of the format")]
     Session,
-    /// It is not a SHOW, or not for this seat.
+    /// The datagram is not a SHOW, or not for this seat.
     #[error("no rows for this watcher")]
     NotMine,
-    /// A row has keys of a player who is not in the game.
+    /// A row has keys of a player that is not in the game.
     #[error("keys of a player who is not in the game")]
     Absent,
     /// The rows go beyond the last frame of the game.
@@ -43,6 +43,7 @@ impl WatchError {
         }
     }
 
+    /// Returns the name of the variant.
     pub fn name(self) -> &'static str {
         match self {
             WatchError::Session => "Session",

@@ -6,7 +6,7 @@ ghost use Rattle.c8_spectator.specs.Watching.{is_of_game, are_of_game, are_same,
 use c8_game::{Game, Keys, Row};
 use c8_wire::ShownRows;
 
-/// Returns whether no row has keys of a player who is not in the game.
+/// Returns whether no row has keys of a player that is not in the game.
 pub(crate) fn are_of_game(game: &Game, rows: ShownRows<'_>) -> bool
     ensures { result ≡ are_of_game game.now (shown rows.entry) }
 {
@@ -18,7 +18,7 @@ pub(crate) fn are_of_game(game: &Game, rows: ShownRows<'_>) -> bool
     true
 }
 
-/// Returns whether a row has no keys of a player who is not in the game.
+/// Returns whether a row has no keys of a player that is not in the game.
 fn is_of_game(game: &Game, row: &Row) -> bool
     ensures { result ≡ is_of_game game.now row.now }
 {

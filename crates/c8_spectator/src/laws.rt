@@ -26,8 +26,8 @@ pub fn what_is_still_watched_chains()
         → IsStillWatched a c }
 {}
 
-/// A packet is taken exactly if it is a SHOW of the match to this seat, with rows of the game that leave no gap and
-/// differ from none that the watcher has. The watcher then has all its rows.
+/// A packet is taken exactly if it is a SHOW of the match to this seat, with rows of the game that leave
+/// no gap and agree with all rows that the watcher has. The watcher then has all its rows.
 pub fn what_is_taken()
     ensures is { (w : WatchValue) (p : Packet) (taken : Taken)
         → (hear w (Ok p)).answer ≡ Ok taken → IsTaken w p }
@@ -55,8 +55,9 @@ pub fn rows_stay_within_the_game()
         → length (hear w told).watch.rows ≤ (hear w told).watch.rules.frames }
 {}
 
-/// If a watcher is shown only rows of one list, each at its frame, its rows are the beginning of that list, and no
-/// packet is refused because a row differs. Packets that are not a SHOW may say anything.
+/// If all rows shown to a watcher are rows of one list, each at its frame, its rows are the beginning of
+/// that list, and no packet is refused because a row differs. Packets that are not a SHOW may say
+/// anything.
 pub fn what_is_shown_of_one_list_begins_it()
     ensures shown { (truth : List Row) (w : WatchValue) (p : Packet) (m : ShowMessage)
         → p.message ≡ packets.Show m → Begins w.rows truth → Stands m.start m.rows truth

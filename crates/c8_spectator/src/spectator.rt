@@ -30,7 +30,7 @@ pub const SEEN_LENGTH: usize = 28;
 pub struct Spectator<'g> {
     game: &'g Game,
     room: u64,
-    /// The session of the game and the room, which every datagram of the match has.
+    /// The session: a number of the game and the room, which every datagram of the match has.
     session: u64,
     seat: Watcher,
     rows: Vec<Row>,
@@ -69,8 +69,8 @@ impl<'g> fmt::Debug for Spectator<'g> {
 }
 
 impl<'g> Spectator<'g> {
-    /// Makes a watcher without rows. It reserves the memory for all rows of the game; it fails only if memory is
-    /// refused.
+    /// Creates a watcher without rows, and reserves the memory for all rows of the game. Fails only if
+    /// memory is refused.
     pub fn open(
         alloc: Global,
         game: &'g Game,
@@ -128,7 +128,8 @@ impl<'g> Spectator<'g> {
         &self.shown
     }
 
-    /// Starts over: drops all rows, keeps the reserved memory, and puts the machine before its first frame.
+    /// Starts over: drops all rows, and sets the machine back to before frame 0. Keeps the reserved
+    /// memory.
     pub fn begin_again(&mut self)
         ensures { self.new ≡ first_watch self.old.rules self.old.room self.old.seat }
     {
@@ -136,8 +137,8 @@ impl<'g> Spectator<'g> {
         self.shown = Machine::start(self.game);
     }
 
-    /// Takes a datagram: any bytes, of any length. They are read in place. The errors of the wire come first, then
-    /// those of `WatchError` in its order. A refused datagram changes nothing.
+    /// Takes a datagram: any bytes, of any length, read in place. The errors of the wire come first,
+    /// then those of `WatchError` in its order. A refused datagram changes nothing.
     pub fn hear(&mut self, bytes: &[u8]) -> Result<Taken, NotTaken>
         ensures answer { result ≡ (hear self.old (read bytes.now)).answer }
         ensures watch { self.new ≡ (hear self.old (read bytes.now)).watch }
@@ -237,8 +238,8 @@ impl<'g> Spectator<'g> {
         let _kept = self.rows.push(row);
     }
 
-    /// Writes a SEEN to player 1, which says how many rows the watcher has, to the beginning of `out`. Returns its
-    /// length; the bytes after it do not change.
+    /// Writes a SEEN to player 1, with the number of rows that the watcher has, to the front of `out`.
+    /// Returns its length in bytes, 28. The bytes after it do not change.
     pub fn seen(&self, out: &mut [u8; LONGEST_DATAGRAM]) -> usize
         ensures spelled { Spells (take result out.new) (seen self.now) }
         ensures length { result ≡ SEEN_LENGTH }

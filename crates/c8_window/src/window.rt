@@ -40,8 +40,8 @@ impl Window {
         self.acked[player.place()]
     }
 
-    /// Takes a player's acknowledgement of the first `count` own inputs. It is refused, and changes nothing, if there
-    /// are fewer own inputs. A count below an earlier one changes nothing.
+    /// Takes a player's acknowledgement of the first `count` own inputs. Fails, and changes nothing, if
+    /// there are fewer own inputs. A count below an earlier one changes nothing.
     pub fn ack(&mut self, player: Player, count: u32, known: &Known) -> Result<(), BadAck>
         ensures judged { MatchResult result
             (λ _. count ≤ count_in known.now known.now.me)
@@ -61,7 +61,7 @@ impl Window {
         Ok(())
     }
 
-    /// Lends the own inputs that a player has not acknowledged, at most the first 64 of them.
+    /// Returns the own inputs that a player has not acknowledged, at most the first 64 of them.
     pub fn pending<'a>(&self, player: Player, known: &'a Known) -> &'a [u16]
         ensures pending { result.now ≡ pending_of self.now known.entry.now player.number }
         ensures most { length result.now ≤ LONGEST_RUN }

@@ -1,4 +1,4 @@
--- What a caller sees of a datagram that is lent from its bytes.
+-- What a caller sees of a datagram that borrows from its bytes.
 use Rattle.std.specs.Prelude.{ℕ, ◌≡◌, ◌*◌, ◌/◌, ◌==◌, Bool, List, length, drop}
 use Rattle.c8_game.specs.declared.row.Row.{Row}
 use Rattle.c8_game.specs.declared.wire.WireVersion.{WireVersion}
@@ -29,7 +29,7 @@ use Rattle.c8_wire.specs.Kinds.{run_place}
 use Rattle.c8_wire.specs.Packet.{HeadValue, DataMessage, FreezeMessage, LeaverMessage, ShowMessage, Packet}
 use Rattle.c8_wire.specs.Reading.{number_at, head_at, data_at, freeze_at, leaver_at, show_at, packet_at, rows_at, words_of}
 
--- the bytes that the datagram is lent from, all of them
+-- the bytes that the datagram borrows from, all of them
 abbrev pub bytes_of : Datagram → List ℕ
 bytes_of (datagrams.Hello lent) = lent.bytes.now
 bytes_of (datagrams.Welcome lent) = lent.bytes.now
@@ -75,7 +75,7 @@ show_of lent = show_at lent.bytes.now
 abbrev pub seen_of : Seen → ℕ
 seen_of lent = number_at 24 4 lent.bytes.now
 
--- the rows of a SHOW: those that its bytes from the thirtieth on spell
+-- the rows of a SHOW, decoded from byte 30 on
 abbrev pub shown : ShownRows → List Row
 shown rows = rows_at rows.count 30 rows.bytes.now
 
@@ -86,7 +86,7 @@ key_sets run = words_of run.bytes.now
 abbrev pub key_sets_left : WordsIter → List ℕ
 key_sets_left iterator = words_of iterator.rest.now
 
--- the version in which a run is spelled
+-- the version in which a run is encoded
 abbrev pub version_of : Run → WireVersion
 version_of (runs.Words run) = versions.One
 version_of (runs.Pairs run) = versions.Two
@@ -96,27 +96,27 @@ abbrev pub words : Run → List ℕ
 words (runs.Words run) = key_sets run
 words (runs.Pairs run) = pairs.words run
 
--- its bytes: in version 2 those of the whole pairs that it touches
+-- its bytes; in version 2 those of all pairs that it touches
 abbrev pub spelled : Run → List ℕ
 spelled (runs.Words run) = run.bytes.now
 spelled (runs.Pairs run) = pairs.spelled run
 
--- all inputs that these bytes spell: in version 2 the run may begin within their first pair
+-- all inputs in these bytes; in version 2 the run can begin inside their first pair
 abbrev pub touched : Run → List ℕ
 touched (runs.Words run) = key_sets run
 touched (runs.Pairs run) = pairs.touched run
 
--- so many inputs of the first pair may come before the run: there are none before one in version 1
+-- this many inputs of the first pair come before the run; in version 1 there are none
 abbrev pub is_begun_at : ℕ → Run → Bool
 is_begun_at skip (runs.Words run) = skip == 0
 is_begun_at skip (runs.Pairs run) = is_begun skip (pairs_of (pairs.touched run))
 
--- the slice of a datagram's bytes that is its run
+-- the part of a datagram's bytes that is its run
 abbrev pub run_slice : DatagramKind → List ℕ → List ℕ
 run_slice kind bytes = drop (run_place kind) bytes
 
--- a run from an input on has the same version, and its bytes are the last ones of the whole run's: all from that input on
--- in version 1, whole pairs in version 2
+-- A run from an input on has the same version and the last bytes of the whole run: all from that input
+-- on in version 1, whole pairs in version 2.
 abbrev pub IsSliceFrom : Run → ℕ → Run → Type 0
 IsSliceFrom (runs.Words run) place (runs.Words part) = part.bytes.now ≡ drop (2 * place) run.bytes.now
 IsSliceFrom (runs.Words run) place (runs.Pairs part) = ⊥

@@ -1,4 +1,4 @@
--- What a datagram says, apart from the bytes that spell it.
+-- What a datagram says, apart from its bytes.
 use Rattle.std.specs.Prelude.{◌≡◌, ℕ, ◌+◌, ◌^◌, ◌<◌, ◌≤◌, nat_le, Bool, true, List, length, slice_index, IfSome}
 use Rattle.std.specs.List.{slice_get}
 use Rattle.c8_game.specs.Rules.{most_frames, most_inputs, set_at}
@@ -11,8 +11,8 @@ use Rattle.c8_wire.specs.declared.kinds.DatagramKind.TheVariants as kinds
 use Rattle.c8_wire.specs.Sizes.{longest_run, most_rows, most_pairs}
 use Rattle.c8_wire.specs.Seats.{are_seats}
 
--- Which kind of datagram in which version who says to whom, in which match, and the epochs of both. Who says it and
--- who is addressed are seats, the numbers of players 1 to 4 and of watchers 5 and 6.
+-- The kind, the version, the match, the sender, the addressee and their epochs. Sender and addressee are
+-- seats: players 1 to 4, watchers 5 and 6.
 pub record HeadValue : Type 0 where
   pub kind : DatagramKind
   pub version : WireVersion
@@ -22,7 +22,7 @@ pub record HeadValue : Type 0 where
   pub sender_epoch : ℕ
   pub addressee_epoch : ℕ
 
--- the sender's own inputs from a place on, how many it holds of the addressee's, and its newest mark
+-- the sender's own inputs from a place on, how many of the addressee's it holds, and its newest mark
 pub record DataMessage : Type 0 where
   pub ack : ℕ
   pub mark_frame : ℕ
@@ -30,25 +30,25 @@ pub record DataMessage : Type 0 where
   pub start : ℕ
   pub words : List ℕ
 
--- a player leaves, and the sender has so many of its inputs
+-- player one drops a player, and holds this many of its inputs
 pub record FreezeMessage : Type 0 where
   pub leaver : ℕ
   pub have : ℕ
 
--- the inputs of a player who leaves from a place on, and how many the sender holds (FROZEN) or all
--- who stay are to have (CUT)
+-- The inputs of a dropped player from a place on. `length` is how many the sender holds (FROZEN), or how
+-- many count for all who stay (CUT).
 pub record LeaverMessage : Type 0 where
   pub leaver : ℕ
   pub length : ℕ
   pub start : ℕ
   pub words : List ℕ
 
--- rows of a match from a frame on, the key sets of four players in each
+-- rows of a match from a frame on, four key sets in each
 pub record ShowMessage : Type 0 where
   pub start : ℕ
   pub rows : List Row
 
--- WELCOME says how many of the addressee's inputs the sender holds, SEEN how many rows
+-- WELCOME acknowledges inputs of the addressee, SEEN acknowledges rows
 pub data Message : Type 0 where
   Hello : Message
   Welcome : (ack : ℕ) → Message
@@ -73,7 +73,7 @@ kind_of (Cut m) = kinds.Cut
 kind_of (Show m) = kinds.Show
 kind_of (Seen ack) = kinds.Seen
 
--- a run of not too many inputs that ends at a place, or before
+-- a run that is not too long and ends at a place or before
 pub record IsRun (start : ℕ) (words : List ℕ) (end : ℕ) : Type 0 where
   pub short : length words ≤ longest_run
   pub within : start + length words ≤ end
@@ -83,7 +83,7 @@ pub record IsDataMessage (m : DataMessage) : Type 0 where
   pub mark_frame : m.mark_frame ≤ most_inputs
   pub run : IsRun m.start m.words most_inputs
 
--- player one never leaves
+-- player one is never dropped
 pub record IsFreezeMessage (m : FreezeMessage) : Type 0 where
   pub leaver_from_two : 2 ≤ m.leaver
   pub leaver_to_four : m.leaver ≤ 4
@@ -95,7 +95,7 @@ pub record IsLeaverMessage (m : LeaverMessage) : Type 0 where
   pub length : m.length ≤ most_inputs
   pub run : IsRun m.start m.words m.length
 
--- not too many rows, all of frames that a game may have
+-- not too many rows, all within the frames of a game
 pub record IsShowMessage (m : ShowMessage) : Type 0 where
   pub short : length m.rows ≤ most_rows
   pub within : m.start + length m.rows ≤ most_frames
@@ -130,7 +130,7 @@ AreRows rows = (place : ℕ) → IfSome (slice_get rows place) IsRow
 abbrev pub IsMark : List ℕ → Type 0
 IsMark mark = (length mark ≡ 8) × AreBytes mark
 
--- what else a message may say has room where it is spelled
+-- the other fields of a message fit into their bytes
 abbrev pub Fits : Message → Type 0
 Fits Hello = Unit {0}
 Fits (Welcome ack) = Unit {0}
@@ -141,12 +141,12 @@ Fits (Cut m) = AreWords m.words
 Fits (Show m) = AreRows m.rows
 Fits (Seen ack) = Unit {0}
 
--- there is room for the bytes of a run: in version 2 it has at most 42 stretches of equal key sets
+-- whether the bytes of a run fit: in version 2 it has at most 42 stretches of equal key sets
 abbrev pub has_few_stretches : WireVersion → List ℕ → Bool
 has_few_stretches versions.One words = true
 has_few_stretches versions.Two words = nat_le (length (pairs_of words)) most_pairs
 
--- there is room for those of a message
+-- whether the bytes of a message fit
 abbrev pub has_room : WireVersion → Message → Bool
 has_room version Hello = true
 has_room version (Welcome ack) = true
@@ -157,7 +157,7 @@ has_room version (Cut m) = has_few_stretches version m.words
 has_room version (Show m) = true
 has_room version (Seen ack) = true
 
--- A header between two who may say such a datagram to each other, its numbers fitting their places.
+-- A header between two seats that may exchange such a datagram. Its numbers fit into their bytes.
 pub record IsHead (head : HeadValue) : Type 0 where
   pub session : head.session < 2 ^ 64
   pub seats : are_seats head.kind head.from head.to ≡ true

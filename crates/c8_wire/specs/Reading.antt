@@ -1,4 +1,4 @@
--- What stands where in a datagram's bytes.
+-- What the bytes of a datagram mean.
 use Rattle.std.specs.Prelude.{ℕ, zero, suc, ◌+◌, ◌*◌, ◌==◌, List, [], ◌∷◌, take, drop, slice_index, Option, if◌then◌else◌}
 use Rattle.byteorder.specs.Endian.{big_number}
 use Rattle.c8_wire.specs.declared.kinds.DatagramKind.{DatagramKind}
@@ -12,7 +12,7 @@ use Rattle.c8_wire.specs.Sizes.{row_length}
 use Rattle.c8_wire.specs.Kinds.{kind_of_code}
 use Rattle.c8_wire.specs.Packet.{HeadValue, DataMessage, FreezeMessage, LeaverMessage, ShowMessage, Message, Hello, Welcome, Data, Freeze, Frozen, Cut, Show, Seen, Packet}
 
--- the number in so many bytes from a place on
+-- the big-endian number in this many bytes from a place on
 unfoldable pub number_at : ℕ → ℕ → List ℕ → ℕ
 number_at place width bytes = big_number width (drop place bytes)
 
@@ -20,7 +20,7 @@ number_at place width bytes = big_number width (drop place bytes)
 abbrev pub kind_at : List ℕ → Option DatagramKind
 kind_at bytes = kind_of_code (slice_index bytes 3)
 
--- the version of a number, which is 1 or 2
+-- the version with this number, which is 1 or 2
 abbrev pub version_named : ℕ → WireVersion
 version_named number = if number == 2 then versions.Two else versions.One
 
@@ -28,7 +28,7 @@ version_named number = if number == 2 then versions.Two else versions.One
 abbrev pub version_at : List ℕ → WireVersion
 version_at bytes = version_named (slice_index bytes 2)
 
--- the length of the body, as the header says it
+-- the length of the body, as the header gives it
 abbrev pub size_at : List ℕ → ℕ
 size_at bytes = number_at 14 2 bytes
 
@@ -43,18 +43,18 @@ head_at kind bytes = record {
   addressee_epoch = number_at 20 4 bytes;
 }
 
--- the key sets that bytes spell, two bytes each
+-- the key sets in bytes, two bytes each
 unfoldable pub words_of : List ℕ → List ℕ
 words_of [] = []
 words_of (high ∷ []) = []
 words_of (high ∷ low ∷ rest) = (high * 256 + low) ∷ words_of rest
 
--- the inputs of a run, by the bytes that spell them
+-- the inputs of a run, decoded from its bytes
 abbrev pub inputs_of : WireVersion → List ℕ → List ℕ
 inputs_of versions.One bytes = words_of bytes
 inputs_of versions.Two bytes = words_in (pairs_at bytes)
 
--- the run of a datagram, which begins at a place and ends with the bytes
+-- the run of a datagram, from a place to the end of the bytes
 abbrev pub run_at : ℕ → List ℕ → List ℕ
 run_at place bytes = inputs_of (version_at bytes) (drop place bytes)
 
@@ -78,14 +78,14 @@ leaver_at bytes = record {
   words = run_at 36 bytes;
 }
 
--- the row that stands at a place: the key sets of four players, two bytes each
+-- the row at a place: the key sets of four players, two bytes each
 abbrev pub row_at : ℕ → List ℕ → Row
 row_at place bytes = record {
   sets = record { 0 = number_at place 2 bytes } ∷ record { 0 = number_at (2 + place) 2 bytes }
       ∷ record { 0 = number_at (4 + place) 2 bytes } ∷ record { 0 = number_at (6 + place) 2 bytes } ∷ [];
 }
 
--- so many rows from a place on
+-- this many rows from a place on
 unfoldable pub rows_at : ℕ → ℕ → List ℕ → List Row
 rows_at zero place bytes = []
 rows_at (suc count) place bytes = row_at place bytes ∷ rows_at count (row_length + place) bytes

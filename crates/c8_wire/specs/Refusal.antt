@@ -1,4 +1,4 @@
--- The table of refusals: where each applies, and which is answered.
+-- The table of refusals: when each applies, and which one is the answer.
 use Rattle.std.specs.Prelude.{ℕ, ◌+◌, ◌*◌, ◌==◌, ◌||◌, ◌&&◌, Bool, false, not, ◌-◌, ◌%◌, drop, nat_lt, nat_le, List, [], ◌∷◌, ◌++◌, length, slice_index, Option, Some, None, is_none, find, if◌then◌else◌}
 use Rattle.c8_game.specs.Rules.{most_frames, most_inputs}
 use Rattle.c8_game.specs.declared.wire.WireVersion.{WireVersion}
@@ -13,12 +13,12 @@ use Rattle.c8_wire.specs.Kinds.{fixed_size, has_run, has_rows, names_leaver, run
 use Rattle.c8_wire.specs.Seats.{is_within, are_seats}
 use Rattle.c8_wire.specs.Reading.{number_at, version_at, kind_at, size_at}
 
--- the body is not as long as the header says, or not as its kind wants
+-- the length of the body differs from what the header says or from what the kind needs
 abbrev pub is_misfit : DatagramKind → List ℕ → Bool
 is_misfit kind bytes = not (length bytes == header_length + size_at bytes)
     || (if has_run kind || has_rows kind then nat_lt (size_at bytes) (fixed_size kind) else not (size_at bytes == fixed_size kind))
 
--- The header does not name two who may say such a datagram to each other, or the leaver is none who may leave.
+-- Sender and addressee cannot exchange such a datagram, or the leaver is not 2 to 4.
 abbrev pub misnames_players : DatagramKind → List ℕ → Bool
 misnames_players kind bytes = (names_leaver kind && not (is_within 2 4 (slice_index bytes 24)))
     || not (are_seats kind (slice_index bytes 12) (slice_index bytes 13))
@@ -27,7 +27,7 @@ misnames_players kind bytes = (names_leaver kind && not (is_within 2 4 (slice_in
 abbrev pub fills_reserved : DatagramKind → List ℕ → Bool
 fills_reserved kind bytes = names_leaver kind && not (slice_index bytes 25 == 0)
 
--- the start and the length of a run, or of rows, stand in the last six bytes of the fixed part
+-- the start and the count of a run, or of rows, are the last six bytes of the fixed part
 abbrev pub start_at : DatagramKind → List ℕ → ℕ
 start_at kind bytes = number_at (18 + fixed_size kind) 4 bytes
 
@@ -37,12 +37,13 @@ count_at kind bytes = number_at (22 + fixed_size kind) 2 bytes
 abbrev pub run_end : DatagramKind → List ℕ → ℕ
 run_end kind bytes = start_at kind bytes + count_at kind bytes
 
--- so many bytes are not those of so many inputs: two bytes each in version 1; in version 2 whole pairs, not too many
+-- A run of this many inputs cannot have this many bytes: two for each in version 1; at most 42 whole
+-- pairs in version 2.
 abbrev pub has_wrong_size : WireVersion → ℕ → ℕ → Bool
 has_wrong_size versions.One count size = not (size == 2 * count)
 has_wrong_size versions.Two count size = not (size % 3 == 0) || nat_lt (3 * most_pairs) size
 
--- the run is too long, or its bytes, which end the body, are not as many as it may have
+-- the run is too long, or has a wrong number of bytes; it ends the body
 abbrev pub miscounts_run : DatagramKind → List ℕ → Bool
 miscounts_run kind bytes =
     nat_lt longest_run (count_at kind bytes) || has_wrong_size (version_at bytes) (count_at kind bytes) (size_at bytes - fixed_size kind)
@@ -55,7 +56,8 @@ miscounts_rows kind bytes =
 abbrev pub miscounts : DatagramKind → List ℕ → Bool
 miscounts kind bytes = if has_rows kind then miscounts_rows kind bytes else (has_run kind && miscounts_run kind bytes)
 
--- in version 2, a pair is of no inputs, two neighbours have the same key set, or they are not of so many inputs in all
+-- in version 2: a pair has no inputs, two neighbours have the same key set, or the total is not the
+-- count
 abbrev pub are_no_run : WireVersion → ℕ → List ℕ → Bool
 are_no_run versions.One count bytes = false
 are_no_run versions.Two count bytes = not (are_run (pairs_at bytes) count)
@@ -63,8 +65,8 @@ are_no_run versions.Two count bytes = not (are_run (pairs_at bytes) count)
 abbrev pub mispairs : DatagramKind → List ℕ → Bool
 mispairs kind bytes = has_run kind && are_no_run (version_at bytes) (count_at kind bytes) (drop (run_place kind) bytes)
 
--- a number of inputs is above what a list of inputs may have, or one of rows above what a game may have; or a run or rows go
--- past the end
+-- A number of inputs is above the most that a list can have, or one of rows above the most that a game
+-- can have, or a run or rows end too late.
 abbrev pub goes_beyond : DatagramKind → List ℕ → Bool
 goes_beyond kinds.Hello bytes = false
 goes_beyond kinds.Welcome bytes = nat_lt most_inputs (number_at 24 4 bytes)
@@ -76,12 +78,12 @@ goes_beyond kinds.Cut bytes = nat_lt most_inputs (number_at 26 4 bytes) || nat_l
 goes_beyond kinds.Show bytes = nat_lt most_frames (run_end kinds.Show bytes)
 goes_beyond kinds.Seen bytes = nat_lt most_frames (number_at 24 4 bytes)
 
--- whether there is a kind, and the test holds of it
+-- whether there is a kind and the test is true for it
 abbrev pub is_kind_and : Option DatagramKind → (DatagramKind → Bool) → Bool
 is_kind_and None test = false
 is_kind_and (Some kind) test = test kind
 
--- Whether a refusal's condition holds of the bytes; the later ones want the kind.
+-- Whether a refusal applies to the bytes. The later ones need the kind.
 unfoldable pub applies : WireError → Option DatagramKind → List ℕ → Bool
 applies errors.Short kind bytes = nat_lt (length bytes) header_length
 applies errors.Magic kind bytes = not (number_at 0 2 bytes == 0x4338)
@@ -94,17 +96,17 @@ applies errors.Count kind bytes = is_kind_and kind (λ k. miscounts k bytes)
 applies errors.Pairs kind bytes = is_kind_and kind (λ k. mispairs k bytes)
 applies errors.Beyond kind bytes = is_kind_and kind (λ k. goes_beyond k bytes)
 
--- the refusals in the order of the table: four on the header, six that want its kind
+-- the refusals in the order of the table: four for the header, then six that need the kind
 abbrev pub front_refusals : List WireError
 front_refusals = errors.Short ∷ errors.Magic ∷ errors.Version ∷ errors.Kind ∷ []
 
 abbrev pub body_refusals : List WireError
 body_refusals = errors.Length ∷ errors.Player ∷ errors.Reserved ∷ errors.Count ∷ errors.Pairs ∷ errors.Beyond ∷ []
 
--- the first of these refusals that applies, None where none does
+-- the first of these refusals that applies, or None
 abbrev pub first_of : List WireError → Option DatagramKind → List ℕ → Option WireError
 first_of refusals kind bytes = find (λ error. applies error kind bytes) refusals
 
--- the refusal of the bytes, None where they are a datagram
+-- the refusal of the bytes, or None if they are a datagram
 unfoldable pub refusal : List ℕ → Option WireError
 refusal bytes = first_of (front_refusals ++ body_refusals) (kind_at bytes) bytes

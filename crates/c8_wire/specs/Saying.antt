@@ -1,4 +1,4 @@
--- The packet that a caller asks to be written, and what may be said.
+-- The packet that a caller asks to write, and which requests are allowed.
 use Rattle.std.specs.Prelude.{◌≡◌, true}
 use Rattle.c8_wire.specs.declared.header.Head.{Head}
 use Rattle.c8_wire.specs.declared.said.Body.{Body}
@@ -31,8 +31,8 @@ message_of (bodies.Seen ack) = Seen ack
 abbrev pub packet_said : Said → Packet
 packet_said said = record { head = head_value said.head; message = message_of said.body }
 
--- This may be said: the header names the kind of the body, whose numbers keep to their bounds, and whose
--- run has room in the header's version. What else makes it a packet its types give.
+-- The caller may ask for this: the header names the kind of the body, the numbers of the body are in
+-- range, and its run fits in the header's version. The types ensure the rest of a packet.
 pub record MaySay (said : Said) : Type 0 where
   pub kind : said.head.kind ≡ kind_of (message_of said.body)
   pub message : IsMessage (message_of said.body)

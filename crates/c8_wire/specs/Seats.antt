@@ -1,4 +1,4 @@
--- The seats of those who say datagrams and are addressed: the players 1 to 4, and the watchers 5 and 6.
+-- The seats of senders and addressees: players 1 to 4, watchers 5 and 6.
 use Rattle.std.specs.Prelude.{ℕ, ◌==◌, ◌&&◌, Bool, not, nat_le}
 use Rattle.c8_wire.specs.declared.kinds.DatagramKind.{DatagramKind}
 use Rattle.c8_wire.specs.declared.kinds.DatagramKind.TheVariants as kinds
@@ -15,8 +15,8 @@ is_watcher seat = is_within 5 6 seat
 abbrev pub are_two_players : ℕ → ℕ → Bool
 are_two_players from to = (is_player from && is_player to) && not (from == to)
 
--- who may say a datagram of a kind to whom: one player to another; but player one says SHOW to a watcher, who says SEEN to
--- player one
+-- Who may send a kind to whom: a player to another player. Exceptions: player one sends SHOW to a
+-- watcher, and a watcher sends SEEN to player one.
 abbrev pub are_seats : DatagramKind → ℕ → ℕ → Bool
 are_seats kinds.Hello from to = are_two_players from to
 are_seats kinds.Welcome from to = are_two_players from to

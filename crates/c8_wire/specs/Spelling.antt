@@ -1,4 +1,4 @@
--- The one spelling of each packet, each number with its most significant byte first.
+-- The one spelling of each packet. Numbers are big-endian.
 use Rattle.std.specs.Prelude.{◌≡◌, ℕ, List, [], ◌∷◌, ◌++◌, length}
 use Rattle.std.specs.List.{flat_map}
 use Rattle.byteorder.specs.Endian.{big_bytes}
@@ -11,7 +11,7 @@ use Rattle.c8_pairs.specs.Pairs as pairs
 use Rattle.c8_wire.specs.Kinds.{code_of}
 use Rattle.c8_wire.specs.Packet.{HeadValue, LeaverMessage, ShowMessage, Message, Hello, Welcome, Data, Freeze, Frozen, Cut, Show, Seen, Packet, IsPacket}
 
--- The header of a datagram whose body has so many bytes. Byte 2 is the number of the version.
+-- The header of a datagram whose body has `size` bytes. Byte 2 is the number of the version.
 abbrev pub header_bytes : HeadValue → ℕ → List ℕ
 header_bytes head size =
     0x43 ∷ 0x38 ∷ version_number head.version ∷ code_of head.kind ∷ [] ++ big_bytes 8 head.session ++ head.from ∷ head.to ∷ []
@@ -25,16 +25,17 @@ words_bytes words = flat_map (big_bytes 2) words
 abbrev pub SpellsWords : List ℕ → List ℕ → Type 0
 SpellsWords bytes words = bytes ≡ words_bytes words
 
--- the inputs of a run: the key set of each in version 1, a pair for each stretch of equal ones in version 2
+-- the inputs of a run: two bytes for each in version 1, a pair for each stretch of equal ones in version
+-- 2
 abbrev pub inputs_bytes : WireVersion → List ℕ → List ℕ
 inputs_bytes versions.One words = words_bytes words
 inputs_bytes versions.Two words = pairs.spelling words
 
--- a run: where it starts, how many inputs it has, and these
+-- a run: its start, its count, its inputs
 abbrev pub run_bytes : WireVersion → ℕ → List ℕ → List ℕ
 run_bytes version start words = big_bytes 4 start ++ big_bytes 2 (length words) ++ inputs_bytes version words
 
--- a player who leaves, a byte 0, a number of its inputs, and a run of them
+-- the leaver, a byte 0, a number of its inputs, and a run of them
 abbrev pub leaver_bytes : WireVersion → LeaverMessage → List ℕ
 leaver_bytes version m = m.leaver ∷ 0 ∷ [] ++ big_bytes 4 m.length ++ run_bytes version m.start m.words
 
@@ -45,7 +46,7 @@ row_bytes row = flat_map (λ (keys : Keys). big_bytes 2 keys.0) row.sets
 abbrev pub rows_bytes : List Row → List ℕ
 rows_bytes rows = flat_map row_bytes rows
 
--- rows: where they start, how many there are, and these
+-- rows: their start, their count, the rows
 abbrev pub show_bytes : ShowMessage → List ℕ
 show_bytes m = big_bytes 4 m.start ++ big_bytes 2 (length m.rows) ++ rows_bytes m.rows
 
@@ -62,7 +63,7 @@ body_bytes version (Seen ack) = big_bytes 4 ack
 unfoldable pub spelling : Packet → List ℕ
 spelling p = header_bytes p.head (length (body_bytes p.head.version p.message)) ++ body_bytes p.head.version p.message
 
--- these bytes are the datagram that says this
+-- these bytes are the datagram with this content
 pub record Spells (bytes : List ℕ) (p : Packet) : Type 0 where
   pub packet : IsPacket p
   pub spelled : bytes ≡ spelling p

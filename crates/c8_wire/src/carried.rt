@@ -1,4 +1,4 @@
-//! How much one datagram carries.
+//! How many inputs fit into one datagram.
 ghost use Rattle.std.specs.Prelude.{◌≡◌, ◌≤◌, ℕ, true, length, take};
 ghost use Rattle.c8_wire.specs.Packet.{has_few_stretches};
 ghost use Rattle.c8_wire.specs.Carried.{are_carried, fits_in};
@@ -6,8 +6,8 @@ ghost use Rattle.c8_wire.specs.Carried.{are_carried, fits_in};
 use crate::sizes::LONGEST_RUN;
 use c8_game::WireVersion;
 
-/// How many of the first inputs one datagram carries: at most 64, in version 2 in at most 42 stretches
-/// of equal key sets.
+/// Returns how many inputs of `words`, from the first on, fit into one datagram: at most 64, in version
+/// 2 in at most 42 stretches of equal key sets. At least 1 unless `words` is empty.
 pub fn fits(version: WireVersion, words: &[u16]) -> usize
     ensures value { result ≡ fits_in version words.now }
     ensures within { result ≤ length words.now }

@@ -1,4 +1,4 @@
-//! DATA, lent from its bytes.
+//! DATA, borrowed from its bytes.
 ghost use Rattle.std.specs.Prelude.{◌≡◌, ◌≤◌, ◌+◌, length, drop, false};
 ghost use Rattle.std.proofs.Props.{props};
 ghost use Rattle.c8_wire.specs.declared.kinds.DatagramKind.TheVariants as kinds;
@@ -12,7 +12,7 @@ use crate::run::Run;
 use crate::version::version_in;
 use c8_game::MOST_INPUTS;
 
-/// The sender's inputs.
+/// A DATA datagram: the sender's inputs, an acknowledgement and a mark.
 #[derive(Clone, Copy, Debug, PartialEq, Eq)]
 pub struct Data<'a> {
     pub(crate) bytes: &'a [u8],
@@ -27,7 +27,7 @@ impl<'a> Data<'a> {
     ghost use Rattle.c8_wire.specs.Lent.{bytes_of, data_of, version_of, words, spelled, touched, run_slice};
     ghost use Rattle.c8_wire.specs.declared.datagram.Datagram.TheVariants as datagrams;
 
-    /// How many inputs of the addressee the sender holds.
+    /// Returns how many of the addressee's inputs the sender holds.
     pub fn ack(&self) -> u32
         ensures value { result ≡ (data_of self.now).ack }
         ensures most { result ≤ MOST_INPUTS }
@@ -35,7 +35,7 @@ impl<'a> Data<'a> {
         u32_at(self.bytes, ACK_AT)
     }
 
-    /// How many confirmed frames the mark stands for.
+    /// Returns the number of confirmed frames that the mark is for.
     pub fn mark_frame(&self) -> u32
         ensures value { result ≡ (data_of self.now).mark_frame }
         ensures most { result ≤ MOST_INPUTS }
@@ -43,7 +43,7 @@ impl<'a> Data<'a> {
         u32_at(self.bytes, MARK_FRAME_AT)
     }
 
-    /// The mark of that many confirmed frames.
+    /// Returns the 8 bytes of the sender's mark after `mark_frame` confirmed frames.
     pub fn mark(&self) -> [u8; 8]
         ensures { result ≡ (data_of self.now).mark }
     {
@@ -54,7 +54,7 @@ impl<'a> Data<'a> {
         [*a, *b, *c, *d, *e, *f, *g, *h]
     }
 
-    /// The place of the run's first input in the sender's inputs.
+    /// Returns the place of the run's first input in the sender's inputs.
     pub fn start(&self) -> u32
         ensures value { result ≡ (data_of self.now).start }
         ensures within { result + length (data_of self.now).words ≤ MOST_INPUTS }
@@ -62,7 +62,7 @@ impl<'a> Data<'a> {
         u32_at(self.bytes, DATA_START_AT)
     }
 
-    /// The inputs, lent from the bytes that came: those after the first 46.
+    /// Returns the inputs, borrowed from the received bytes from byte 46 on.
     pub fn run(&self) -> Run<'a>
         ensures version { version_of result ≡ version_at (bytes_of (datagrams.Data self.now)) }
         ensures words { words result ≡ (data_of self.now).words }

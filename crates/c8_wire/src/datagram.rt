@@ -8,7 +8,7 @@ use crate::kinds::DatagramKind;
 use crate::leaving::{Cut, Freeze, Frozen};
 use crate::showing::{Seen, Show};
 
-/// A datagram that lies in the bytes that came.
+/// A valid datagram, borrowed from the received bytes. Nothing is copied.
 #[derive(Clone, Copy, Debug, PartialEq, Eq)]
 pub enum Datagram<'a> {
     Hello(Hello<'a>),
@@ -24,6 +24,7 @@ pub enum Datagram<'a> {
 impl<'a> Datagram<'a> {
     ghost use Rattle.c8_wire.specs.Lent.{head_of, packet_of};
 
+    /// Returns the header, which all kinds share.
     pub fn header(&self) -> Header<'a>
         ensures { head_of result ≡ (packet_of self.now).head }
     {

@@ -1,4 +1,4 @@
-//! HELLO and WELCOME, lent from their bytes.
+//! HELLO and WELCOME, borrowed from their bytes.
 ghost use Rattle.std.specs.Prelude.{◌≡◌, ◌≤◌, length};
 ghost use Rattle.std.proofs.Props.{props};
 ghost use Rattle.c8_wire.specs.declared.kinds.DatagramKind.TheVariants as kinds;
@@ -9,7 +9,7 @@ use crate::layout::ACK_AT;
 use crate::numbers::u32_at;
 use c8_game::MOST_INPUTS;
 
-/// The sender asks for a link. It says nothing beside its header.
+/// A HELLO datagram: the sender asks for a link. It has no body.
 #[derive(Clone, Copy, Debug, PartialEq, Eq)]
 pub struct Hello<'a> {
     pub(crate) bytes: &'a [u8],
@@ -17,7 +17,7 @@ pub struct Hello<'a> {
     pub(crate) ghost spelled: { Spells bytes.now (packet_at kinds.Hello bytes.now) } by { Prim.hlevel props },
 }
 
-/// The sender answers a HELLO, which opens the addressee's link.
+/// A WELCOME datagram: the answer to a HELLO. It opens the addressee's link.
 #[derive(Clone, Copy, Debug, PartialEq, Eq)]
 pub struct Welcome<'a> {
     pub(crate) bytes: &'a [u8],
@@ -28,7 +28,7 @@ pub struct Welcome<'a> {
 impl<'a> Welcome<'a> {
     ghost use Rattle.c8_wire.specs.Lent.{ack_of};
 
-    /// How many inputs of the addressee the sender holds.
+    /// Returns how many of the addressee's inputs the sender holds.
     pub fn ack(&self) -> u32
         ensures value { result ≡ ack_of self.now }
         ensures most { result ≤ MOST_INPUTS }

@@ -1,5 +1,4 @@
-//! The header of a datagram: who says it to whom, in which match and epochs, and in which version of
-//! the format.
+//! The header of a datagram: sender, addressee, match, epochs, and version of the format.
 ghost use Rattle.std.specs.Prelude.{◌≡◌, ◌≤◌, true, false, length, MatchOption};
 ghost use Rattle.c8_wire.specs.Reading.{kind_at, head_at};
 ghost use Rattle.c8_wire.specs.Packet.{IsHead};
@@ -12,7 +11,7 @@ use crate::version::version_in;
 use crate::watcher::Watcher;
 use c8_game::{Player, WireVersion};
 
-/// Who says a datagram, or is addressed: a player, 1 to 4, or a watcher, 5 or 6.
+/// The sender or the addressee of a datagram: a player, 1 to 4, or a watcher, 5 or 6.
 #[derive(Clone, Copy, Debug, PartialEq, Eq, Hash)]
 pub struct Seat {
     pub number: u8,
@@ -23,7 +22,7 @@ pub struct Seat {
 impl Seat {
     ghost use Rattle.c8_wire.specs.Seats.{is_player, is_watcher};
 
-    /// The player whose seat it is; `None` for that of a watcher.
+    /// Returns the player in this seat; `None` if it is a watcher's.
     pub fn player(self) -> Option<Player>
         ensures { MatchOption result (is_player self.number ≡ false)
             (λ player. player.number ≡ self.number) }
@@ -37,7 +36,7 @@ impl Seat {
         }
     }
 
-    /// The watcher whose seat it is; `None` for that of a player.
+    /// Returns the watcher in this seat; `None` if it is a player's.
     pub fn watcher(self) -> Option<Watcher>
         ensures { MatchOption result (is_watcher self.number ≡ false)
             (λ watcher. watcher.number ≡ self.number) }
@@ -66,7 +65,7 @@ impl From<Watcher> for Seat {
     }
 }
 
-/// What a header says, but for the length of the body.
+/// The fields of a header by value, without the length of the body.
 #[derive(Clone, Copy, Debug, PartialEq, Eq, Hash)]
 pub struct Head {
     pub kind: DatagramKind,
@@ -76,12 +75,12 @@ pub struct Head {
     pub from: Seat,
     pub to: Seat,
     pub sender_epoch: u32,
-    /// 0 if the sender doesn't know it.
+    /// 0 if the sender does not know it.
     pub addressee_epoch: u32,
     pub ghost seats: { are_seats kind from.number to.number ≡ true },
 }
 
-/// The header of a datagram. A field is read from the bytes when it is asked for.
+/// The header of a datagram. Each accessor decodes its field from the bytes.
 #[derive(Clone, Copy, Debug, PartialEq, Eq)]
 pub struct Header<'a> {
     pub(crate) kind: DatagramKind,
@@ -94,13 +93,14 @@ impl<'a> Header<'a> {
     ghost use Rattle.c8_wire.specs.Lent.{head_of};
     ghost use Rattle.c8_wire.specs.Saying.{head_value};
 
+    /// Returns the kind of the datagram: byte 3.
     pub fn kind(&self) -> DatagramKind
         ensures { result ≡ (head_of self.now).kind }
     {
         self.kind
     }
 
-    /// The version of the format in which it is spelled.
+    /// Returns the version of the format: 1 or 2, in byte 2.
     pub fn version(&self) -> WireVersion
         ensures { result ≡ (head_of self.now).version }
     {
@@ -114,6 +114,7 @@ impl<'a> Header<'a> {
         u64_at(self.bytes, SESSION_AT)
     }
 
+    /// Returns the seat of the sender.
     pub fn from(&self) -> Seat
         ensures { result.number ≡ (head_of self.now).from }
     {
@@ -122,6 +123,7 @@ impl<'a> Header<'a> {
         }
     }
 
+    /// Returns the seat of the addressee.
     pub fn to(&self) -> Seat
         ensures { result.number ≡ (head_of self.now).to }
     {
@@ -130,20 +132,21 @@ impl<'a> Header<'a> {
         }
     }
 
+    /// Returns the sender's own epoch.
     pub fn sender_epoch(&self) -> u32
         ensures { result ≡ (head_of self.now).sender_epoch }
     {
         u32_at(self.bytes, SENDER_EPOCH_AT)
     }
 
-    /// The addressee's epoch as the sender knows it, 0 if it doesn't.
+    /// Returns the addressee's epoch as the sender knows it; 0 if the sender does not know it.
     pub fn addressee_epoch(&self) -> u32
         ensures { result ≡ (head_of self.now).addressee_epoch }
     {
         u32_at(self.bytes, ADDRESSEE_EPOCH_AT)
     }
 
-    /// All that the header says, by value.
+    /// Returns all fields by value.
     pub fn head(&self) -> Head
         ensures { head_value result ≡ head_of self.now }
     {

@@ -5,31 +5,31 @@ ghost use Rattle.std.specs.Bool.{OnTrue};
 use crate::error::WireError;
 use std::fmt;
 
-/// What a datagram is for. Its number is byte 3 of the datagram.
+/// The kind of a datagram. Its number is byte 3.
 #[derive(Clone, Copy, Debug, PartialEq, Eq, Hash)]
 pub enum DatagramKind {
     /// The sender asks for a link.
     Hello = 1,
-    /// The sender answers a HELLO, which opens the addressee's link.
+    /// The answer to a HELLO. It opens the addressee's link.
     Welcome = 2,
     /// The sender's inputs.
     Data = 3,
-    /// The sender tells that a player leaves.
+    /// Player one drops a player.
     Freeze = 4,
-    /// The inputs that the sender holds of a player who leaves.
+    /// The inputs of a dropped player that the sender holds.
     Frozen = 5,
-    /// How many inputs of a player who has left count, and some of them.
+    /// How many inputs of a dropped player count, and some of them.
     Cut = 6,
-    /// Rows of the match, for one who watches it.
+    /// Rows of the match, for a watcher.
     Show = 7,
-    /// How many rows one who watches has.
+    /// How many rows a watcher has.
     Seen = 8,
 }
 
 impl DatagramKind {
     ghost use Rattle.c8_wire.specs.Kinds.{code_of, kind_of_code, fixed_size, has_run, has_rows, names_leaver};
 
-    /// The kind that has this number, if one has.
+    /// Returns the kind with this number, or `None`.
     #[tactic(auto, unfolding(crate::specs::Kinds::kind_of_code))]
     pub(crate) fn from_code(code: u8) -> Option<DatagramKind>
         ensures { result ≡ kind_of_code code }
@@ -47,14 +47,14 @@ impl DatagramKind {
         }
     }
 
-    /// The kind's number, which is byte 3 of its datagrams.
+    /// Returns the number of the kind: byte 3 of its datagrams.
     pub fn code(self) -> u8
         ensures { result ≡ code_of self }
     {
         self as u8
     }
 
-    /// Its name in capital letters, as `HELLO`.
+    /// Returns the name in capital letters, for example `HELLO`.
     pub fn name(self) -> &'static str {
         match self {
             DatagramKind::Hello => "HELLO",
@@ -68,7 +68,8 @@ impl DatagramKind {
         }
     }
 
-    /// How many bytes of the body stand before its run or its rows, or in all where it has none.
+    /// Returns the length in bytes of the body before its run or rows; of the whole body if the kind has
+    /// neither.
     pub(crate) fn fixed_size(self) -> usize
         ensures value { result ≡ fixed_size self }
         ensures greatest { result ≤ 22 }
@@ -82,7 +83,7 @@ impl DatagramKind {
         }
     }
 
-    /// Whether the body ends with a run.
+    /// Returns whether the body ends with a run of inputs.
     pub(crate) fn has_run(self) -> bool
         ensures value { result ≡ has_run self }
         ensures room { OnTrue result (12 ≤ fixed_size self) }
@@ -97,14 +98,14 @@ impl DatagramKind {
         }
     }
 
-    /// Whether the body ends with rows.
+    /// Returns whether the body ends with rows.
     pub(crate) fn has_rows(self) -> bool
         ensures { result ≡ has_rows self }
     {
         self == DatagramKind::Show
     }
 
-    /// Whether the body begins with a player who leaves, and a byte 0.
+    /// Returns whether the body begins with a dropped player and a byte 0.
     pub(crate) fn names_leaver(self) -> bool
         ensures value { result ≡ names_leaver self }
         ensures room { OnTrue result (6 ≤ fixed_size self) }
@@ -127,7 +128,7 @@ impl TryFrom<u8> for DatagramKind {
 
     ghost try_from_gives = { IsKindOf };
 
-    /// The kind that has this number; `WireError::Kind` if none has.
+    /// Returns the kind with this number; `WireError::Kind` if there is none.
     fn try_from(code: u8) -> Result<DatagramKind, WireError> {
         DatagramKind::from_code(code).ok_or(WireError::Kind)
     }

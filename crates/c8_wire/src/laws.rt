@@ -1,5 +1,5 @@
-//! What callers may rest on that is no single call's: laws of datagrams, each the contract of a
-//! function that does nothing.
+//! Laws of datagrams that no single call can promise. Each is the contract of a function that does
+//! nothing.
 ghost use Rattle.std.specs.Prelude.{◌≡◌, ℕ, ◌*◌, ◌%◌, ◌<◌, ◌≤◌, List, length, take, true, None, Ok, Err, Some};
 ghost use Rattle.c8_game.specs.declared.wire.WireVersion.{WireVersion};
 ghost use Rattle.c8_game.specs.declared.wire.WireVersion.TheVariants as versions;
@@ -17,13 +17,13 @@ pub fn bytes_spell_one_packet()
     ensures { (bytes : List ℕ) (p q : Packet) → Spells bytes p → Spells bytes q → p ≡ q }
 {}
 
-/// What is spelled is not refused, and is read as what it says.
+/// The spelling of a packet is not refused, and reads back as that packet.
 pub fn what_is_spelled_is_read()
     ensures read { (bytes : List ℕ) (p : Packet) → Spells bytes p → read bytes ≡ Ok p }
     ensures refusal { (bytes : List ℕ) (p : Packet) → Spells bytes p → refusal bytes ≡ None }
 {}
 
-/// What is read is spelled, and so is what nothing refuses.
+/// Bytes that are read, or that no refusal applies to, are the spelling of a packet.
 pub fn what_is_read_is_spelled()
     ensures read { (bytes : List ℕ) (p : Packet) → AreBytes bytes
         → read bytes ≡ Ok p → Spells bytes p }
@@ -31,7 +31,7 @@ pub fn what_is_read_is_spelled()
         → refusal bytes ≡ None → (p : Packet) × Spells bytes p }
 {}
 
-/// What is not read has the first refusal that applies.
+/// Bytes that are not a datagram get the first refusal that applies.
 pub fn what_is_not_read_is_refused()
     ensures found { (bytes : List ℕ) (error : WireError)
         → read bytes ≡ Err error → refusal bytes ≡ Some error }
@@ -39,8 +39,8 @@ pub fn what_is_not_read_is_refused()
         → refusal bytes ≡ Some error → read bytes ≡ Err error }
 {}
 
-/// Key sets are read again from their bytes, two bytes each, and bytes are those of what is read
-/// from them: the inputs of a run in version 1, and of a record.
+/// Key sets, two bytes each, survive a round trip in both directions. The runs of version 1 and the
+/// records use them.
 pub fn words_are_their_bytes()
     ensures again { (words : List ℕ) → AreWords words → words_of (words_bytes words) ≡ words }
     ensures spelled { (bytes : List ℕ) → length bytes % 2 ≡ 0 → AreBytes bytes
@@ -56,8 +56,9 @@ pub fn a_datagram_is_short()
         → p.head.version ≡ versions.Two → length bytes ≤ longest_datagram_in_pairs }
 {}
 
-/// What one datagram carries of some inputs is a beginning of them that is a run with room: at most 64, and
-/// no beginning that is longer is one. It is not empty where they are not, and in version 1 it is the first 64.
+/// The inputs that one datagram carries are the longest prefix that fits: at most 64 inputs, in version
+/// 2 in at most 42 stretches. The prefix is empty only if there are no inputs. In version 1 it is the
+/// first 64.
 pub fn a_datagram_carries_what_fits()
     ensures few { (version : WireVersion) (words : List ℕ)
         → length (carried version words) ≤ longest_run }

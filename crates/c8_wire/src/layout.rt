@@ -1,10 +1,10 @@
-//! Where each field of a datagram stands, from its first byte on. What reads and what writes
-//! datagrams has no other place of these numbers.
+//! The offset of each field from the first byte of a datagram. The reader and the writer both take the
+//! numbers from here.
 
-/// What every datagram begins with.
+/// The first two bytes of every datagram.
 pub(crate) const MAGIC: [u8; 2] = [0x43, 0x38];
 
-/// The byte that stands between a leaver and its number of inputs.
+/// The byte between the dropped player and its number of inputs.
 pub(crate) const RESERVED: u8 = 0;
 
 // The header.
@@ -63,8 +63,8 @@ pub(crate) const ROW_LENGTH: usize = 8;
 
 pub(crate) const SEEN_ACK_AT: usize = 24;
 
-// The start and the count of a run, or of rows, end the fixed part of a body: they stand so far past
-// its length.
+// The start and the count of a run, or of rows, are the last six bytes of the fixed part of a body. Add
+// the length of the fixed part to these offsets.
 pub(crate) const START_PAST_FIXED: usize = 18;
 
 pub(crate) const COUNT_PAST_FIXED: usize = 22;

@@ -1,4 +1,4 @@
-//! FREEZE, FROZEN and CUT, which tell of a player who leaves, lent from their bytes.
+//! FREEZE, FROZEN and CUT, the datagrams about a dropped player (the leaver), borrowed from their bytes.
 ghost use Rattle.std.specs.Prelude.{◌≡◌, ◌≤◌, ◌+◌, length, drop, slice_index, false};
 ghost use Rattle.std.proofs.Props.{props};
 ghost use Rattle.c8_wire.specs.declared.kinds.DatagramKind.TheVariants as kinds;
@@ -12,8 +12,7 @@ use crate::run::Run;
 use crate::version::version_in;
 use c8_game::{MOST_INPUTS, Player};
 
-/// What the three have in common: the leaver, a number of its inputs and, but for FREEZE, a run of
-/// them.
+/// The common part: the leaver, a number of its inputs and, except in FREEZE, a run of them.
 #[derive(Clone, Copy, Debug, PartialEq, Eq)]
 pub(crate) struct Leaving<'a> {
     pub(crate) bytes: &'a [u8],
@@ -66,7 +65,7 @@ impl<'a> Leaving<'a> {
     }
 }
 
-/// The sender tells that a player leaves. That it is player one is judged by who takes it.
+/// A FREEZE datagram: player one drops a player. The receiver checks that the sender is player one.
 #[derive(Clone, Copy, Debug, PartialEq, Eq)]
 pub struct Freeze<'a> {
     pub(crate) view: Leaving<'a>,
@@ -77,7 +76,7 @@ pub struct Freeze<'a> {
 impl<'a> Freeze<'a> {
     ghost use Rattle.c8_wire.specs.Lent.{freeze_of};
 
-    /// The player who leaves, never player one.
+    /// Returns the dropped player: 2 to 4.
     pub fn leaver(&self) -> Player
         ensures value { result.number ≡ (freeze_of self.now).leaver }
         ensures from_two { 2 ≤ result.number }
@@ -85,7 +84,7 @@ impl<'a> Freeze<'a> {
         self.view.leaver()
     }
 
-    /// How many inputs of the leaver player one holds.
+    /// Returns how many inputs of the leaver player one holds.
     pub fn have(&self) -> u32
         ensures value { result ≡ (freeze_of self.now).have }
         ensures most { result ≤ MOST_INPUTS }
@@ -94,7 +93,7 @@ impl<'a> Freeze<'a> {
     }
 }
 
-/// What the sender holds of a player who leaves.
+/// A FROZEN datagram: the inputs of a dropped player that the sender holds.
 #[derive(Clone, Copy, Debug, PartialEq, Eq)]
 pub struct Frozen<'a> {
     pub(crate) view: Leaving<'a>,
@@ -109,7 +108,7 @@ impl<'a> Frozen<'a> {
     ghost use Rattle.c8_wire.specs.Lent.{bytes_of, frozen_of, version_of, words, spelled, touched, run_slice};
     ghost use Rattle.c8_wire.specs.declared.datagram.Datagram.TheVariants as datagrams;
 
-    /// The player who leaves, never player one.
+    /// Returns the dropped player: 2 to 4.
     pub fn leaver(&self) -> Player
         ensures value { result.number ≡ (frozen_of self.now).leaver }
         ensures from_two { 2 ≤ result.number }
@@ -117,7 +116,7 @@ impl<'a> Frozen<'a> {
         self.view.leaver()
     }
 
-    /// How many inputs of the leaver the sender holds.
+    /// Returns how many inputs of the leaver the sender holds.
     pub fn held(&self) -> u32
         ensures value { result ≡ (frozen_of self.now).length }
         ensures most { result ≤ MOST_INPUTS }
@@ -125,7 +124,7 @@ impl<'a> Frozen<'a> {
         self.view.inputs()
     }
 
-    /// The place of the run's first input in the leaver's inputs.
+    /// Returns the place of the run's first input in the leaver's inputs.
     pub fn start(&self) -> u32
         ensures value { result ≡ (frozen_of self.now).start }
         ensures within { result + length (frozen_of self.now).words ≤ (frozen_of self.now).length }
@@ -133,7 +132,7 @@ impl<'a> Frozen<'a> {
         self.view.start()
     }
 
-    /// Inputs of the leaver, lent from the bytes that came: those after the first 36.
+    /// Returns inputs of the leaver, borrowed from the received bytes from byte 36 on.
     pub fn run(&self) -> Run<'a>
         ensures version { version_of result ≡ version_at (bytes_of (datagrams.Frozen self.now)) }
         ensures words { words result ≡ (frozen_of self.now).words }
@@ -145,7 +144,7 @@ impl<'a> Frozen<'a> {
     }
 }
 
-/// How many inputs a player who has left is to have at all who stay.
+/// A CUT datagram: how many inputs of a dropped player count for all who stay.
 #[derive(Clone, Copy, Debug, PartialEq, Eq)]
 pub struct Cut<'a> {
     pub(crate) view: Leaving<'a>,
@@ -160,7 +159,7 @@ impl<'a> Cut<'a> {
     ghost use Rattle.c8_wire.specs.Lent.{bytes_of, cut_of, version_of, words, spelled, touched, run_slice};
     ghost use Rattle.c8_wire.specs.declared.datagram.Datagram.TheVariants as datagrams;
 
-    /// The player who has left, never player one.
+    /// Returns the dropped player: 2 to 4.
     pub fn leaver(&self) -> Player
         ensures value { result.number ≡ (cut_of self.now).leaver }
         ensures from_two { 2 ≤ result.number }
@@ -168,7 +167,7 @@ impl<'a> Cut<'a> {
         self.view.leaver()
     }
 
-    /// How many inputs of the leaver count.
+    /// Returns how many inputs of the leaver count.
     pub fn length(&self) -> u32
         ensures value { result ≡ (cut_of self.now).length }
         ensures most { result ≤ MOST_INPUTS }
@@ -176,7 +175,7 @@ impl<'a> Cut<'a> {
         self.view.inputs()
     }
 
-    /// The place of the run's first input in the leaver's inputs.
+    /// Returns the place of the run's first input in the leaver's inputs.
     pub fn start(&self) -> u32
         ensures value { result ≡ (cut_of self.now).start }
         ensures within { result + length (cut_of self.now).words ≤ (cut_of self.now).length }
@@ -184,7 +183,7 @@ impl<'a> Cut<'a> {
         self.view.start()
     }
 
-    /// Inputs of the leaver, lent from the bytes that came: those after the first 36.
+    /// Returns inputs of the leaver, borrowed from the received bytes from byte 36 on.
     pub fn run(&self) -> Run<'a>
         ensures version { version_of result ≡ version_at (bytes_of (datagrams.Cut self.now)) }
         ensures words { words result ≡ (cut_of self.now).words }

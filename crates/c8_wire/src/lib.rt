@@ -1,15 +1,14 @@
-//! Datagrams: what peers say to each other and to those who watch, read where it lies and written.
+//! Reads and writes the datagrams that peers exchange, and those for watchers.
 //!
-//! `view` lends the parts of a datagram from the bytes that came; `write` spells one; `fits` is how many
-//! inputs one carries. There are two versions of the format, which differ in byte 2 and in how a run of
-//! inputs is spelled; a [`Run`] speaks of inputs in both.
+//! `view` reads a datagram in place, without copies; `write` writes one; `fits` returns how many inputs
+//! fit into one. The two versions of the format differ in byte 2 and in how they encode a run of inputs.
+//! A [`Run`] has the same methods in both. docs/PROTOCOL.md specifies the format.
 //!
-//! What a datagram says is a `Packet` (`specs/Packet.antt`); its one spelling in its version, the first
-//! refusal of bytes that spell nothing, and what one datagram carries are in `specs/Spelling.antt`,
-//! `specs/Refusal.antt` and `specs/Carried.antt`. `specs/checked/Read.antt` joins spelling and refusal,
-//! for callers; `laws` has what else callers may rest on, and `specs/checked/WordLaws.antt`,
-//! `NumberLaws.antt`, `RunLaws.antt` and `CarriedLaws.antt` what their proofs may cite. Nothing here
-//! takes memory.
+//! `specs/Packet.antt` defines what a datagram says (a `Packet`), `specs/Spelling.antt` its one spelling
+//! in each version, `specs/Refusal.antt` the first refusal of bytes that are not a datagram, and
+//! `specs/Carried.antt` how many inputs fit. `specs/checked/Read.antt` joins spelling and refusal for
+//! callers. `laws` has further facts for callers; their proofs can cite `specs/checked/WordLaws.antt`,
+//! `NumberLaws.antt`, `RunLaws.antt` and `CarriedLaws.antt`. Nothing here allocates.
 #![tactic(auto)]
 
 mod carried;

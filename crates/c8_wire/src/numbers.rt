@@ -1,10 +1,10 @@
-//! Numbers in bytes, the most significant byte first.
+//! Big-endian numbers in bytes.
 ghost use Rattle.std.specs.Prelude.{◌≡◌, ◌+◌, ◌≤◌, length};
 ghost use Rattle.c8_wire.specs.Reading.{number_at};
 
 use byteorder::{BigEndian, ByteOrder};
 
-/// The number in the 2 bytes from a place on.
+/// Returns the number in the 2 bytes at `place`.
 #[tactic(auto, unfolding(crate::specs::Reading::number_at))]
 pub fn u16_at(bytes: &[u8], place: usize) -> u16
     requires { place + 2 ≤ length bytes.now }
@@ -14,7 +14,7 @@ pub fn u16_at(bytes: &[u8], place: usize) -> u16
     BigEndian::read_u16(rest)
 }
 
-/// The number in the 4 bytes from a place on.
+/// Returns the number in the 4 bytes at `place`.
 #[tactic(auto, unfolding(crate::specs::Reading::number_at))]
 pub fn u32_at(bytes: &[u8], place: usize) -> u32
     requires { place + 4 ≤ length bytes.now }
@@ -24,7 +24,7 @@ pub fn u32_at(bytes: &[u8], place: usize) -> u32
     BigEndian::read_u32(rest)
 }
 
-/// The number in the 8 bytes from a place on.
+/// Returns the number in the 8 bytes at `place`.
 #[tactic(auto, unfolding(crate::specs::Reading::number_at))]
 pub fn u64_at(bytes: &[u8], place: usize) -> u64
     requires { place + 8 ≤ length bytes.now }

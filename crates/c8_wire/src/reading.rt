@@ -1,4 +1,4 @@
-//! Bytes are a datagram, or refused.
+//! Reads a datagram from bytes, or refuses it.
 ghost use Rattle.std.specs.Prelude.{◌≡◌, ◌+◌, ◌<◌, ◌≤◌, not, false, length, Option, Some, None, Ok, Err, MatchResult, IfOk, IfErr, OnOk, IsOkAnd};
 ghost use Rattle.c8_wire.specs.Kinds.{fixed_size};
 ghost use Rattle.std.specs.Bool.{OnFalse};
@@ -28,18 +28,19 @@ use crate::version::version_in;
 use c8_game::{MOST_FRAMES, MOST_INPUTS, WireVersion};
 use c8_pairs::{MOST_PAIRS, Pairs};
 
-/// The datagram that the bytes spell, lent from them; else the first refusal of `WireError`.
+/// Reads a datagram in place. The bytes may have any length and content; the result borrows from them.
+/// On failure, returns the first `WireError` that applies, in the order of its variants.
 pub fn view(bytes: &[u8]) -> Result<Datagram<'_>, WireError>
-    // The answer is what the bytes say.
+    // The answer is that of the definitions.
     ensures answer { MatchResult result
         (λ datagram. read bytes.now ≡ Ok (packet_of datagram))
         (λ error. read bytes.now ≡ Err error) }
-    // What is answered is spelled by the bytes.
+    // If it finds a datagram, the bytes spell it.
     ensures found { IfOk result (λ datagram. Spells bytes.now (packet_of datagram)) }
-    // What the bytes spell is answered.
+    // If the bytes spell a datagram, it finds it.
     ensures only { (p : Packet) → Spells bytes.now p
         → IsOkAnd result (λ datagram. packet_of datagram ≡ p) }
-    // Nothing refuses what is answered, and what is refused has that refusal first.
+    // It refuses exactly if a refusal applies, with the first one.
     ensures refused { MatchResult result
         (λ _. refusal bytes.now ≡ None)
         (λ error. refusal bytes.now ≡ Some error) }
@@ -49,7 +50,7 @@ pub fn view(bytes: &[u8]) -> Result<Datagram<'_>, WireError>
     Ok(datagram_of(kind, bytes))
 }
 
-/// The datagram of this kind that the bytes spell.
+/// Returns the datagram of this kind that the bytes spell.
 fn datagram_of(kind: DatagramKind, bytes: &[u8]) -> Datagram<'_>
     requires kind { kind_at bytes.now ≡ Some kind }
     requires accepted { refusal bytes.now ≡ None }
@@ -75,7 +76,7 @@ fn datagram_of(kind: DatagramKind, bytes: &[u8]) -> Datagram<'_>
     }
 }
 
-/// The kind of the datagram that the bytes spell.
+/// Returns the kind if the bytes spell a datagram; otherwise the first refusal.
 fn checked_kind(bytes: &[u8]) -> Result<DatagramKind, WireError>
     ensures { MatchResult result
         (λ kind. (kind_at bytes.now ≡ Some kind) × (refusal bytes.now ≡ None))
@@ -113,7 +114,7 @@ fn named_kind(bytes: &[u8]) -> Result<DatagramKind, WireError>
     }
 }
 
-/// The first of the other refusals that applies to a datagram of this kind.
+/// Returns the first of the other six refusals that applies to a datagram of this kind.
 #[tactic(auto, unfolding(crate::specs::Refusal::applies))]
 fn body_refusal(kind: DatagramKind, bytes: &[u8]) -> Option<WireError>
     requires { HEADER_LENGTH ≤ length bytes.now }
@@ -140,7 +141,7 @@ fn body_refusal(kind: DatagramKind, bytes: &[u8]) -> Option<WireError>
     None
 }
 
-/// Whether the body is not as long as the header says, or not as its kind wants.
+/// Returns whether the length of the body differs from what the header says or from what the kind needs.
 fn is_misfit(kind: DatagramKind, bytes: &[u8]) -> bool
     requires { HEADER_LENGTH ≤ length bytes.now }
     ensures value { result ≡ is_misfit kind bytes.now }
@@ -154,8 +155,7 @@ fn is_misfit(kind: DatagramKind, bytes: &[u8]) -> bool
     is_misfit
 }
 
-/// Whether the header does not name two who may say such a datagram to each other, or the leaver is none
-/// who may leave.
+/// Returns whether sender and addressee cannot exchange such a datagram, or the leaver is not 2 to 4.
 fn misnames_players(kind: DatagramKind, bytes: &[u8]) -> bool
     requires { HEADER_LENGTH + fixed_size kind ≤ length bytes.now }
     ensures { result ≡ misnames_players kind bytes.now }
@@ -166,7 +166,7 @@ fn misnames_players(kind: DatagramKind, bytes: &[u8]) -> bool
     names_none || !are_seats(kind, from, to)
 }
 
-/// Whether one in the first seat may say a datagram of this kind to one in the second.
+/// Returns whether seat `from` may send a datagram of this kind to seat `to`.
 fn are_seats(kind: DatagramKind, from: u8, to: u8) -> bool
     ensures { result ≡ are_seats kind from to }
 {
@@ -194,7 +194,7 @@ fn is_watcher(seat: u8) -> bool
     5 <= seat && seat <= 6
 }
 
-/// Whether the byte after the leaver is not 0.
+/// Returns whether the byte after the leaver is not 0.
 fn fills_reserved(kind: DatagramKind, bytes: &[u8]) -> bool
     requires { HEADER_LENGTH + fixed_size kind ≤ length bytes.now }
     ensures { result ≡ fills_reserved kind bytes.now }
@@ -202,7 +202,7 @@ fn fills_reserved(kind: DatagramKind, bytes: &[u8]) -> bool
     kind.names_leaver() && bytes[RESERVED_AT] != RESERVED
 }
 
-/// Whether a run or rows are too many, or their bytes not as many as they may have.
+/// Returns whether there are too many inputs or rows, or a wrong number of bytes for them.
 fn miscounts(kind: DatagramKind, bytes: &[u8]) -> bool
     requires long { HEADER_LENGTH + fixed_size kind ≤ length bytes.now }
     requires size { fixed_size kind ≤ size_at bytes.now }
@@ -215,7 +215,7 @@ fn miscounts(kind: DatagramKind, bytes: &[u8]) -> bool
     }
 }
 
-/// Whether the run is longer than 64, or its bytes are not as many as it may have.
+/// Returns whether the run has more than 64 inputs, or a wrong number of bytes.
 fn miscounts_run(kind: DatagramKind, bytes: &[u8]) -> bool
     requires long { HEADER_LENGTH + fixed_size kind ≤ length bytes.now }
     requires size { fixed_size kind ≤ size_at bytes.now }
@@ -226,7 +226,7 @@ fn miscounts_run(kind: DatagramKind, bytes: &[u8]) -> bool
     count > LONGEST_RUN || has_wrong_size(version_in(bytes), count, size)
 }
 
-/// Whether the rows are more than 16, or have not eight bytes each.
+/// Returns whether there are more than 16 rows, or not eight bytes for each.
 fn miscounts_rows(kind: DatagramKind, bytes: &[u8]) -> bool
     requires { HEADER_LENGTH + fixed_size kind ≤ length bytes.now }
     ensures { result ≡ miscounts_rows kind bytes.now }
@@ -236,7 +236,7 @@ fn miscounts_rows(kind: DatagramKind, bytes: &[u8]) -> bool
     count > MOST_ROWS || size != kind.fixed_size() + ROW_LENGTH * count
 }
 
-/// Whether so many bytes are not those of so many inputs.
+/// Returns whether a run of `count` inputs cannot have `size` bytes in this version.
 fn has_wrong_size(version: WireVersion, count: usize, size: usize) -> bool
     requires { count < 65536 }
     ensures { result ≡ has_wrong_size version count size }
@@ -247,8 +247,8 @@ fn has_wrong_size(version: WireVersion, count: usize, size: usize) -> bool
     }
 }
 
-/// Whether the bytes that end the body are not the pairs of a run, in version 2. There are few of them:
-/// `miscounts` refused more.
+/// Returns whether, in version 2, the end of the body is not the pairs of a run. There are at most 42
+/// pairs here: `miscounts` has refused more.
 fn mispairs(kind: DatagramKind, bytes: &[u8]) -> bool
     requires long { HEADER_LENGTH + fixed_size kind ≤ length bytes.now }
     requires fits { is_misfit kind bytes.now ≡ false }
@@ -260,7 +260,8 @@ fn mispairs(kind: DatagramKind, bytes: &[u8]) -> bool
     kind.has_run() && version_in(bytes) == WireVersion::Two && Pairs::read(run, count).is_none()
 }
 
-/// Whether a number of inputs or of rows is above what a game may have, or a run or rows go past the end.
+/// Returns whether a number of inputs or rows is above what a game can have, or a run or rows end too
+/// late.
 fn goes_beyond(kind: DatagramKind, bytes: &[u8]) -> bool
     requires { HEADER_LENGTH + fixed_size kind ≤ length bytes.now }
     ensures { result ≡ goes_beyond kind bytes.now }
@@ -286,7 +287,7 @@ fn goes_beyond(kind: DatagramKind, bytes: &[u8]) -> bool
     }
 }
 
-/// The place after a run's last input, or after the last row.
+/// Returns the place after the last input of the run, or after the last row.
 fn run_end(kind: DatagramKind, bytes: &[u8]) -> u64
     requires { HEADER_LENGTH + fixed_size kind ≤ length bytes.now }
     ensures { result ≡ run_end kind bytes.now }

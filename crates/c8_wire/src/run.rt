@@ -1,4 +1,4 @@
-//! A run of inputs, lent from the bytes that spell it in either version.
+//! A run of inputs, borrowed from its bytes in either version.
 ghost use Rattle.std.specs.Prelude.{◌≡◌, ◌+◌, ◌*◌, ◌%◌, ◌^◌, ◌==◌, ◌<◌, ◌≤◌, ℕ, true, false, length, drop, Some, slice_get, slice_index, MatchOption};
 ghost use Rattle.std.specs.Iterator.{YieldsFirst, item_count};
 ghost use Rattle.c8_game.specs.declared.wire.WireVersion.TheVariants as versions;
@@ -12,18 +12,18 @@ use crate::words::{Words, WordsIter};
 use c8_game::WireVersion;
 use c8_pairs::{Pairs, PairsIter};
 
-/// Inputs of one player in frames that follow each other, at most 64. Two are equal that have the same
-/// bytes in the same version and begin at the same place of them: not every two of the same inputs are.
+/// Consecutive inputs of one player, at most 64. `==` compares the bytes, the version and the start, not
+/// the inputs: two runs of the same inputs can differ.
 #[derive(Clone, Copy, Debug, PartialEq, Eq)]
 pub enum Run<'a> {
-    /// Version 1: a key set for each input.
+    /// Version 1: two bytes for each input.
     Words(Words<'a>),
-    /// Version 2: a pair for each stretch of equal key sets.
+    /// Version 2: a pair of three bytes for each stretch of equal key sets.
     Pairs(Pairs<'a>),
 }
 
 impl<'a> Run<'a> {
-    /// The run in version 1 whose inputs these bytes spell, two bytes each.
+    /// Wraps bytes as a run in version 1: two bytes for each input, at most 64 inputs.
     pub fn new(bytes: &'a [u8]) -> Run<'a>
         requires even { length bytes.now % 2 ≡ 0 }
         requires short { length bytes.now ≤ 2 * LONGEST_RUN }
@@ -34,7 +34,7 @@ impl<'a> Run<'a> {
         Run::Words(Words::new(bytes))
     }
 
-    /// The run of so many inputs that these bytes are known to be in a version.
+    /// Wraps bytes that are known to be a run of `count` inputs in this version.
     pub(crate) fn of(version: WireVersion, count: usize, bytes: &'a [u8]) -> Run<'a>
         requires few { count ≤ LONGEST_RUN }
         requires sized { has_wrong_size version count (length bytes.now) ≡ false }
@@ -50,7 +50,7 @@ impl<'a> Run<'a> {
         }
     }
 
-    /// The version in which its bytes spell it.
+    /// Returns the version in which the run is encoded.
     pub fn version(&self) -> WireVersion
         ensures { result ≡ version_of self.now }
     {
@@ -60,7 +60,7 @@ impl<'a> Run<'a> {
         }
     }
 
-    /// How many inputs there are, each a set of 16 keys.
+    /// Returns how many inputs there are, 0 to 64. Each is a set of 16 keys.
     pub fn len(&self) -> usize
         ensures count { result ≡ length (words self.now) }
         ensures short { result ≤ LONGEST_RUN }
@@ -78,7 +78,7 @@ impl<'a> Run<'a> {
         self.len() == 0
     }
 
-    /// The input at a place, the first being 0. In version 2 it costs a walk over the pairs.
+    /// Returns the input at a place, from 0. In version 2 this walks over the pairs.
     pub fn get(&self, place: usize) -> u16
         requires { place < length (words self.now) }
         ensures { slice_get (words self.now) place ≡ Some result }
@@ -89,7 +89,7 @@ impl<'a> Run<'a> {
         }
     }
 
-    /// The inputs from a place on, lent from the same bytes.
+    /// Returns the inputs from a place on, borrowed from the same bytes. `place` may be the length.
     pub fn from_place(&self, place: usize) -> Run<'a>
         requires { place ≤ length (words self.now) }
         ensures version { version_of result ≡ version_of self.now }
@@ -102,7 +102,7 @@ impl<'a> Run<'a> {
         }
     }
 
-    /// The inputs in order, in one walk.
+    /// Iterates over the inputs in order. The whole iteration is one walk over the bytes.
     pub fn iter(&self) -> Inputs<'a>
         ensures { words_left result ≡ words self.now }
     {
@@ -112,8 +112,8 @@ impl<'a> Run<'a> {
         }
     }
 
-    /// The bytes that spell the run, as they came. In version 2 they are whole pairs, of which the run
-    /// may begin within the first: `skip` says where.
+    /// Returns the bytes of the run as they were received, at most 128. In version 2 they are whole
+    /// pairs, and the run can begin inside the first: see [`Run::skip`].
     pub fn bytes(&self) -> &'a [u8]
         ensures slice { result.now ≡ spelled self.now }
         ensures spells { inputs_bytes (version_of self.now) (touched self.now) ≡ result.now }
@@ -125,7 +125,8 @@ impl<'a> Run<'a> {
         }
     }
 
-    /// How many inputs of the first pair come before the run: 0 in version 1, and for an empty run.
+    /// Returns how many inputs of the first pair come before the run; 0 in version 1 and for an empty
+    /// run.
     pub fn skip(&self) -> usize
         ensures words { words self.now ≡ drop result (touched self.now) }
         ensures begun { is_begun_at result self.now ≡ true }
@@ -137,7 +138,7 @@ impl<'a> Run<'a> {
     }
 }
 
-/// The inputs of a run, one after the other.
+/// An iterator over the inputs of a run.
 #[derive(Clone, Copy, Debug, PartialEq, Eq)]
 pub enum Inputs<'a> {
     Words(WordsIter<'a>),

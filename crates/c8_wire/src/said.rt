@@ -1,18 +1,18 @@
-//! What is to be said.
+//! What a datagram to be written says.
 use crate::header::Head;
 use c8_game::{Player, Row};
 
-/// What is to be said, by kind. A run is lent from the inputs that it is taken from.
+/// The body to be written, by kind. A run or rows are borrowed from the caller.
 #[derive(Clone, Copy, Debug, PartialEq, Eq)]
 pub enum Body<'a> {
     /// The sender asks for a link.
     Hello,
-    /// The sender answers a HELLO, and holds `ack` inputs of the addressee.
+    /// The answer to a HELLO. The sender holds `ack` inputs of the addressee.
     Welcome {
         ack: u32,
     },
-    /// The sender's inputs from `start` on. It holds `ack` inputs of the addressee, and `mark` is
-    /// that of its first `mark_frame` confirmed frames.
+    /// The sender's inputs from `start` on. The sender holds `ack` inputs of the addressee. `mark` is
+    /// the mark after its first `mark_frame` confirmed frames.
     Data {
         ack: u32,
         mark_frame: u32,
@@ -20,19 +20,19 @@ pub enum Body<'a> {
         start: u32,
         run: &'a [u16],
     },
-    /// A player leaves, of whom player one holds `have` inputs.
+    /// Player one drops `leaver` and holds `have` of its inputs.
     Freeze {
         leaver: Player,
         have: u32,
     },
-    /// The leaver's inputs from `start` on, of which the sender holds `held`.
+    /// The leaver's inputs from `start` on. The sender holds `held` inputs of the leaver.
     Frozen {
         leaver: Player,
         held: u32,
         start: u32,
         run: &'a [u16],
     },
-    /// The leaver's inputs from `start` on, of which all who stay are to have `length`.
+    /// The leaver's inputs from `start` on. The first `length` of its inputs count for all who stay.
     Cut {
         leaver: Player,
         length: u32,
@@ -50,7 +50,7 @@ pub enum Body<'a> {
     },
 }
 
-/// A datagram that is to be written.
+/// A datagram to be written. `head.kind` must be the kind of `body`.
 #[derive(Clone, Copy, Debug, PartialEq, Eq)]
 pub struct Said<'a> {
     pub head: Head,

@@ -1,4 +1,4 @@
-//! SHOW and SEEN, by which a match is watched, lent from their bytes.
+//! SHOW and SEEN, the datagrams for watchers, borrowed from their bytes.
 ghost use Rattle.std.specs.Prelude.{◌≡◌, ◌≤◌, ◌<◌, ◌+◌, ◌*◌, ◌==◌, length, Some};
 ghost use Rattle.std.specs.List.{slice_get};
 ghost use Rattle.std.proofs.Props.{props};
@@ -11,7 +11,7 @@ use crate::numbers::{u16_at, u32_at};
 use crate::sizes::MOST_ROWS;
 use c8_game::{Keys, MOST_FRAMES, Row};
 
-/// Player one shows a watcher rows of the match.
+/// A SHOW datagram: player one sends rows of the match to a watcher.
 #[derive(Clone, Copy, Debug, PartialEq, Eq)]
 pub struct Show<'a> {
     pub(crate) bytes: &'a [u8],
@@ -23,7 +23,7 @@ pub struct Show<'a> {
 impl<'a> Show<'a> {
     ghost use Rattle.c8_wire.specs.Lent.{show_of, shown};
 
-    /// The frame of the first row.
+    /// Returns the frame of the first row.
     pub fn start(&self) -> u32
         ensures value { result ≡ (show_of self.now).start }
         ensures within { result + length (show_of self.now).rows ≤ MOST_FRAMES }
@@ -31,7 +31,7 @@ impl<'a> Show<'a> {
         u32_at(self.bytes, SHOW_START_AT)
     }
 
-    /// The rows, lent from the bytes that came: those after the first 30.
+    /// Returns the rows, borrowed from the received bytes from byte 30 on: at most 16.
     pub fn rows(&self) -> ShownRows<'a>
         ensures rows { shown result ≡ (show_of self.now).rows }
         ensures few { length (shown result) ≤ MOST_ROWS }
@@ -43,7 +43,7 @@ impl<'a> Show<'a> {
     }
 }
 
-/// The rows of a SHOW, each read from its bytes when it is asked for.
+/// The rows of a SHOW. `get` decodes one from the bytes.
 #[derive(Clone, Copy, Debug, PartialEq, Eq)]
 pub struct ShownRows<'a> {
     pub(crate) bytes: &'a [u8],
@@ -55,6 +55,7 @@ pub struct ShownRows<'a> {
 impl<'a> ShownRows<'a> {
     ghost use Rattle.c8_wire.specs.Lent.{shown};
 
+    /// Returns how many rows there are, 0 to 16.
     pub fn len(&self) -> usize
         ensures count { result ≡ length (shown self.now) }
         ensures few { result ≤ MOST_ROWS }
@@ -68,7 +69,7 @@ impl<'a> ShownRows<'a> {
         self.count == 0
     }
 
-    /// The row at a place, the first being 0.
+    /// Returns the row at a place, from 0.
     #[tactic(auto, using(crate::proofs::ShowLemmas::length_of_rows))]
     pub fn get(&self, place: usize) -> Row
         requires { place < length (shown self.now) }
@@ -78,7 +79,7 @@ impl<'a> ShownRows<'a> {
     }
 }
 
-/// The row that stands at a place: the key sets of four players, two bytes each.
+/// Decodes the row at a place: the key sets of four players, two bytes each.
 fn row_at(bytes: &[u8], place: usize) -> Row
     requires { place + ROW_LENGTH ≤ length bytes.now }
     ensures { result ≡ row_at place bytes.now }
@@ -93,7 +94,7 @@ fn row_at(bytes: &[u8], place: usize) -> Row
     }
 }
 
-/// A watcher tells player one how many rows it has.
+/// A SEEN datagram: a watcher acknowledges rows to player one.
 #[derive(Clone, Copy, Debug, PartialEq, Eq)]
 pub struct Seen<'a> {
     pub(crate) bytes: &'a [u8],
@@ -104,7 +105,7 @@ pub struct Seen<'a> {
 impl<'a> Seen<'a> {
     ghost use Rattle.c8_wire.specs.Lent.{seen_of};
 
-    /// How many rows the watcher has.
+    /// Returns how many rows the watcher has.
     pub fn ack(&self) -> u32
         ensures value { result ≡ seen_of self.now }
         ensures most { result ≤ MOST_FRAMES }

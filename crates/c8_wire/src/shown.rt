@@ -1,4 +1,4 @@
-//! Datagrams as people read them.
+//! Datagrams as text.
 use crate::datagram::Datagram;
 use crate::header::Header;
 use crate::run::Run;
@@ -6,8 +6,8 @@ use crate::showing::Show;
 use c8_game::WireVersion;
 use std::fmt;
 
-/// What it says, field by field in lines, with no line feed after the last: the version where it is
-/// version 2, and a run by its inputs in either.
+/// Shows the fields in lines, without a line feed after the last. The version is shown only if it is 2.
+/// A run is shown as its inputs, four hexadecimal digits each, in both versions.
 impl<'a> fmt::Display for Datagram<'a> {
     fn fmt<W: fmt::Write>(&self, f: &mut fmt::Formatter<W>) -> fmt::Result {
         show_header(f, self.header())?;

@@ -1,16 +1,16 @@
-//! How long datagrams and what they carry may be.
+//! The greatest lengths of datagrams and their contents.
 
-/// How many bytes a header has.
+/// The length of a header, in bytes.
 pub const HEADER_LENGTH: usize = 24;
 
-/// The most bytes that a body has: that of a DATA of 64 inputs in version 1.
+/// The greatest length of a body, in bytes: a DATA of 64 inputs in version 1.
 pub(crate) const LONGEST_BODY: usize = 150;
 
-/// The most bytes that a datagram has.
+/// The greatest length of a datagram, in bytes.
 pub const LONGEST_DATAGRAM: usize = 174;
 
-/// The most rows that a SHOW has.
+/// The most rows in a SHOW.
 pub const MOST_ROWS: usize = 16;
 
-/// The most inputs that a run has.
+/// The most inputs in a run.
 pub const LONGEST_RUN: usize = 64;

@@ -1,9 +1,9 @@
-//! Those who watch a match.
+//! The watchers of a match.
 ghost use Rattle.std.specs.Prelude.{◌≡◌, ◌≤◌, ◌<◌, ◌⊎◌, IfSome, IfNone};
 
 use std::fmt;
 
-/// One who watches a match from seat 5 or 6. Watchers are no players: nothing they say changes the match.
+/// A watcher in seat 5 or 6. A watcher is not a player: nothing that it sends changes the match.
 #[derive(Clone, Copy, Debug, PartialEq, Eq, PartialOrd, Ord, Hash)]
 pub struct Watcher {
     pub number: u8,
@@ -12,7 +12,7 @@ pub struct Watcher {
 }
 
 impl Watcher {
-    /// The watcher in the seat of a number, 5 or 6; none for any other number.
+    /// Returns the watcher in seat 5 or 6; `None` for any other number.
     pub fn new(number: u8) -> Option<Self>
         ensures some { IfSome result (λ watcher. watcher.number ≡ number) }
         ensures none { IfNone result ((number < 5) ⊎ (6 < number)) }
@@ -25,7 +25,7 @@ impl Watcher {
     }
 }
 
-/// The number of the watcher's seat.
+/// Shows the number of the seat.
 impl fmt::Display for Watcher {
     fn fmt<W: fmt::Write>(&self, f: &mut fmt::Formatter<W>) -> fmt::Result {
         write!(f, "{}", self.number)

@@ -1,4 +1,4 @@
-//! A run in version 1, lent from bytes: a key set for each input.
+//! A run in version 1, borrowed from its bytes.
 ghost use Rattle.std.specs.Prelude.{◌≡◌, ◌+◌, ◌*◌, ◌%◌, ◌^◌, ◌<◌, ◌≤◌, ℕ, length, drop, Some, slice_get, slice_index};
 ghost use Rattle.std.specs.Iterator.{YieldsFirst, item_count};
 ghost use Rattle.c8_wire.specs.Spelling.{SpellsWords};
@@ -7,7 +7,7 @@ ghost use Rattle.c8_wire.specs.Reading.{words_of};
 use crate::numbers::u16_at;
 use crate::sizes::LONGEST_RUN;
 
-/// Inputs of one player in frames that follow each other, at most 64, two bytes each.
+/// Consecutive inputs of one player, at most 64, two bytes each.
 #[derive(Clone, Copy, Debug, PartialEq, Eq)]
 pub struct Words<'a> {
     pub(crate) bytes: &'a [u8],
@@ -20,7 +20,7 @@ pub struct Words<'a> {
 impl<'a> Words<'a> {
     ghost use Rattle.c8_wire.specs.Lent.{key_sets, key_sets_left};
 
-    /// The run whose inputs these bytes spell.
+    /// Wraps bytes as a run, two bytes for each input.
     pub(crate) fn new(bytes: &'a [u8]) -> Words<'a>
         requires even { length bytes.now % 2 ≡ 0 }
         requires short { length bytes.now ≤ 2 * LONGEST_RUN }
@@ -30,7 +30,7 @@ impl<'a> Words<'a> {
         Words { bytes }
     }
 
-    /// How many inputs there are.
+    /// Returns how many inputs there are.
     #[tactic(auto, using(crate::specs::checked::WordLaws::length_words_of))]
     pub(crate) fn len(&self) -> usize
         ensures count { result ≡ length (key_sets self.now) }
@@ -40,7 +40,7 @@ impl<'a> Words<'a> {
         self.bytes.len() / 2
     }
 
-    /// The input at a place, the first being 0.
+    /// Returns the input at a place, from 0.
     #[tactic(auto, using(crate::specs::checked::WordLaws::length_words_of, crate::specs::checked::WordLaws::slice_get_words_of))]
     pub(crate) fn get(&self, place: usize) -> u16
         requires { place < length (key_sets self.now) }
@@ -49,7 +49,7 @@ impl<'a> Words<'a> {
         u16_at(self.bytes, 2 * place)
     }
 
-    /// The inputs from a place on, lent from the same bytes.
+    /// Returns the inputs from a place on, borrowed from the same bytes.
     #[tactic(auto, using(crate::specs::checked::WordLaws::length_words_of, crate::specs::checked::WordLaws::drop_words_of))]
     pub(crate) fn from_place(&self, place: usize) -> Words<'a>
         requires { place ≤ length (key_sets self.now) }
@@ -60,14 +60,14 @@ impl<'a> Words<'a> {
         Words::new(bytes)
     }
 
-    /// The inputs in order.
+    /// Iterates over the inputs in order.
     pub(crate) fn iter(&self) -> WordsIter<'a>
         ensures { key_sets_left result ≡ key_sets self.now }
     {
         WordsIter { rest: self.bytes }
     }
 
-    /// The bytes that spell the run, as they came.
+    /// Returns the bytes of the run as they were received.
     #[tactic(auto, using(crate::specs::checked::WordLaws::length_of_words))]
     pub(crate) fn bytes(&self) -> &'a [u8]
         ensures slice { result.now ≡ self.now.bytes.now }
@@ -79,7 +79,7 @@ impl<'a> Words<'a> {
     }
 }
 
-/// The inputs of a run, one after the other.
+/// An iterator over the inputs of a run.
 #[derive(Clone, Copy, Debug, PartialEq, Eq)]
 pub struct WordsIter<'a> {
     pub(crate) rest: &'a [u8],

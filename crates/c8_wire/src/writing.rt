@@ -1,4 +1,4 @@
-//! What is said is written as the bytes that spell it.
+//! Writes datagrams.
 ghost use Rattle.std.specs.Prelude.{◌≡◌, true, ℕ, [], ◌∷◌, ◌+◌, ◌*◌, ◌^◌, ◌<◌, ◌≤◌, slice_index, ◌++◌, length, take, drop};
 ghost use Rattle.byteorder.specs.Endian.{big_bytes};
 ghost use Rattle.arrayvec.specs.ArrayVec.{array_vec_len};
@@ -16,8 +16,9 @@ use arrayvec::ArrayVec;
 use c8_game::{Keys, Player, Row, WireVersion};
 use c8_pairs::Stretches;
 
-/// Writes a datagram to the front of `out`, and answers its length: 24 to 174, in version 2 to 172. The
-/// bytes after it stay.
+/// Writes a datagram to the front of `out` and returns its length in bytes: 24 to 174, in version 2 at
+/// most 172. The bytes after it do not change. It cannot fail: the caller ensures that the header names
+/// the body's kind, that the numbers are in range and that the run fits (`MaySay`).
 pub fn write(said: &Said<'_>, out: &mut [u8; LONGEST_DATAGRAM]) -> usize
     requires { MaySay said.now }
     ensures spelled { Spells (take result out.new) (packet_said said.now) }
@@ -104,7 +105,7 @@ fn put_body(version: WireVersion, body: &Body<'_>, out: &mut ArrayVec<u8, LONGES
     }
 }
 
-/// Appends a player who leaves, a byte 0 and a number of its inputs.
+/// Appends the leaver, a byte 0 and a number of its inputs.
 fn put_leaver(leaver: &Player, inputs: u32, out: &mut ArrayVec<u8, LONGEST_DATAGRAM>)
     requires { array_vec_len out.old + 6 ≤ LONGEST_DATAGRAM }
     ensures { out.new.items ≡ out.old.items ++ (leaver.now.number ∷ 0 ∷ [] ++ big_bytes 4 inputs) }
@@ -113,7 +114,7 @@ fn put_leaver(leaver: &Player, inputs: u32, out: &mut ArrayVec<u8, LONGEST_DATAG
     put(&inputs.to_be_bytes(), out);
 }
 
-/// Appends a run: where it starts, how many inputs it has, and these.
+/// Appends a run: its start, its count, its inputs.
 fn put_run(version: WireVersion, start: u32, run: &[u16], out: &mut ArrayVec<u8, LONGEST_DATAGRAM>)
     requires space { array_vec_len out.old + 6 + 2 * LONGEST_RUN ≤ LONGEST_DATAGRAM }
     requires few { length run.now ≤ LONGEST_RUN }

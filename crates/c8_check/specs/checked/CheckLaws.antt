@@ -1,4 +1,4 @@
--- Checked, not believed: what a journal says of checkpoints with one record more.
+-- Checked, not believed: what a journal with one more record says about checkpoints.
 use Rattle.std.proofs.Common.{◌≡◌, List, [], ◌∷◌, ◌++◌, Option, None, refl}
 use Rattle.std.specs.Prelude.{fold}
 use Rattle.c8_digest.specs.Origin.{Origin}

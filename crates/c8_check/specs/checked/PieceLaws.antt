@@ -1,4 +1,4 @@
--- Checked, not believed: the pieces of a checkpoint, and what they are together.
+-- Checked, not believed: the pieces of a checkpoint, and the whole of them.
 use Rattle.std.proofs.Common.{◌≡◌, inl, inr, ℕ, zero, suc, ◌+◌, ◌-◌, ◌*◌, ◌%◌, ◌^◌, ◌<◌, ◌≤◌, List, [], ◌∷◌, ◌++◌, length, map, take, drop, true, Option, Some, None, refl, sym, ap, ◌∙◌, arith, length-append}
 use Rattle.std.specs.Prelude.{replicate, slice_index, IfSome}
 use Rattle.std.specs.List.{slice_get, flat_map, range_with_len}
@@ -26,9 +26,9 @@ use Rattle.c8_wire.specs.checked.NumberLaws.{AreBytes-take, AreBytes-drop}
 use Rattle.c8_wire.specs.checked.WordLaws.{spelled_words, length_words_of}
 use Rattle.c8_check.specs.Checks.{save_bytes, save_length, all_pieces, before_piece, piece_length, piece_in, digest_of, Pieces, ChecksValue, origin_in, ends_well, has_shape, MayCheck}
 
--- ---- where the pieces stand
+-- ---- where the pieces are
 
--- a piece stands between two places
+-- where a piece begins and ends
 pub piece_ends : (piece : ℕ) → piece < 36 → before_piece piece + piece_length piece ≡ before_piece (piece + 1)
 unfolding before_piece piece_length
 piece_ends piece within = elim (cases_lt piece 34) [
@@ -66,7 +66,7 @@ sized piece = elim (cases_eq piece 34) [
   | inr other ↦ rw (ne_eqb piece 34 other) (record { few = omega arith; even = refl })
 ]
 
--- how long a piece of so many bytes is
+-- the length of a piece
 pub piece_whole : (piece : ℕ) (bytes : List ℕ) → length bytes ≡ save_length → piece < all_pieces → length (piece_in piece bytes) ≡ piece_length piece
 piece_whole piece bytes long within =
     let place : ℕ = before_piece piece in
@@ -82,7 +82,7 @@ take_parts a b xs =
     ap (λ (front : List ℕ). front ++ take b (drop a xs)) (sym (take-take a (a + b) xs (omega arith)))
     ∙ ap (λ (rest : List ℕ). take a whole ++ rest) (sym (drop-take a b xs)) ∙ take-append-drop a whole
 
--- with the next piece there are as many bytes as stand before the one behind it
+-- with the next piece there are as many bytes as come before the piece after it
 pub pieces_more : (piece : ℕ) (bytes : List ℕ) → length bytes ≡ save_length → piece < all_pieces → take (before_piece piece) bytes ++ piece_in piece bytes ≡ take (before_piece (piece + 1)) bytes
 pieces_more piece bytes long within =
     take_parts (before_piece piece) (piece_length piece) bytes ∙ ap (λ (n : ℕ). take n bytes) (piece_ends piece within)
@@ -160,7 +160,7 @@ state_low s is =
     let stack = both_low (both_low numbers (more_low depth none_low)) (places_low (places s.stack)) in
     both_low (both_low stack (rows_low (λ y. columns s.screen y 64) 0 32)) (rest_low s is)
 
--- marks, eight bytes each
+-- marks of eight bytes each
 record AreLong (marks : List FrameMark) : Type 0 where
   long : length (flat_map (λ m. m.mark) marks) ≡ 8 * length marks
   bytes : AreLow (flat_map (λ m. m.mark) marks)
@@ -216,7 +216,7 @@ saved from is =
 pub saved_long : (from : Origin) → IsOrigin from → length (save_bytes from) ≡ save_length
 saved_long from is = (saved from is).long
 
--- each of them is a byte
+-- all bytes of a checkpoint are bytes
 pub saved_low : (from : Origin) → IsOrigin from → AreBytes (save_bytes from)
 unfolding save_bytes
 saved_low from is = (both_low (both_low (state_low from.machine is.machine_is) (zeros_low 1)) (marks_room from.frames from.marks is.marks_are).bytes).low
@@ -264,19 +264,19 @@ piece_ends_well from piece is = elim (cases_eq piece 34) [
   ])
 ]
 
--- each piece has the shape that it has to have
+-- each piece has the right shape
 pub piece_fits : (from : Origin) (piece : ℕ) → IsOrigin from → piece < all_pieces → has_shape from.frames piece (piece_in piece (save_bytes from)) ≡ true
 piece_fits from piece is within =
     rw (eq-eqb (length (piece_in piece (save_bytes from))) (piece_length piece) (piece_long from piece is within)) (piece_ends_well from piece is)
 
 -- ---- all of them
 
--- once all pieces are there, their bytes are the whole
+-- all pieces together are the bytes of the checkpoint
 pub whole_bytes : (from : Origin) (p : Pieces) → IsOrigin from → p.count ≡ all_pieces → p.bytes ≡ take (before_piece p.count) (save_bytes from) → p.bytes ≡ save_bytes from
 whole_bytes from p is all so_far =
     so_far ∙ take_all (before_piece p.count) (save_bytes from) (omega (arith, ap before_piece all, all_before, saved_long from is))
 
--- and they tell where it was
+-- and give its frames, machine and marks
 pub whole_origin : (from : Origin) (p : Pieces) → IsOrigin from → p.frames ≡ from.frames → p.count ≡ all_pieces → p.bytes ≡ take (before_piece p.count) (save_bytes from) → origin_in (Some p) ≡ Some from
 whole_origin from p is same all so_far =
     let whole = whole_bytes from p is all so_far in
@@ -286,7 +286,7 @@ whole_origin from p is same all so_far =
     ap (λ (n : ℕ). marks_in n (drop 4420 p.bytes)) same ∙ ap (marks_in from.frames) (ap (drop 4420) whole ∙ save.marks) ∙ read_again from.frames from.marks is.marks_are in
     λ i. Some (record { frames = same i; machine = machine i; marks = marks i })
 
--- and their digest may stand
+-- and their digest is allowed
 pub whole_may_check : (c : ChecksValue) (from : Origin) (p : Pieces) → IsOrigin from → c.under_way ≡ Some p → p.frames ≡ from.frames → p.count ≡ all_pieces → p.bytes ≡ take (before_piece p.count) (save_bytes from) → MayCheck c p.frames (digest_of p.bytes)
 whole_may_check c from p is under_way same all so_far = record {
   pieces = p;
@@ -301,7 +301,7 @@ whole_may_check c from p is under_way same all so_far = record {
 
 -- ---- as words
 
--- a piece and a digest are whole words
+-- a piece and a digest are a whole number of words
 pub piece_words : (from : Origin) (piece : ℕ) → IsOrigin from → piece < all_pieces → words_bytes (words_of (piece_in piece (save_bytes from))) ≡ piece_in piece (save_bytes from)
 piece_words from piece is within =
     let bytes : List ℕ = save_bytes from in

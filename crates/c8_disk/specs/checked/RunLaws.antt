@@ -35,7 +35,7 @@ module _ {D : Type 0} (g : Ghosts D) where
     before = λ t image le left. ⊎_elim (first.before t image le) (λ p. inr p) (second.before t image (omega (arith, le, first.later)) left);
   }
 
-  -- what holds for all images since an earlier moment goes on to hold through a run
+  -- what holds for all images since an earlier moment also holds through a run
   pub since_earlier : (old new : D) (P : List ℕ → Type 0) (t : ℕ) → t ≤ g.moment old → ((image : List ℕ) → g.left_since old t image → P image) → LeavesOnly g old new P
       → (image : List ℕ) → g.left_since new t image → P image
   since_earlier old new P t le so_far run image left = ⊎_elim (so_far image) (λ p. p) (run.before t image le left)

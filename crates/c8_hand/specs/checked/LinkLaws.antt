@@ -69,7 +69,7 @@ none_within : {A : Type 0} (test : Bool) (x : A) (others : Option A) → cond te
 none_within true x others e = (refl, e)
 none_within false x others e = absurd cc
 
--- what is known of an admitted datagram
+-- what holds for an admitted datagram
 record IsAdmitted (l : LinksValue) (head : HeadValue) : Type 0 where
   session : not (head.session == l.session) ≡ false
   mine : is_mine l head ≡ true
@@ -117,7 +117,7 @@ linked_by_kind kinds.Cut link own theirs mine none hello welcome = linked link o
 linked_by_kind kinds.Show link own theirs mine none hello welcome = absurd cc
 linked_by_kind kinds.Seen link own theirs mine none hello welcome = absurd cc
 
--- no SHOW and no SEEN passes as from a player
+-- no SHOW and no SEEN is admitted as a player's
 among_players : (kind : DatagramKind) (link : LinkValue) (own theirs mine : ℕ) → refusal_by_kind kind link own theirs mine ≡ None → (kind ≢ kinds.Show) × (kind ≢ kinds.Seen)
 among_players kind link own theirs mine none =
     (λ is. let never = ap (λ (k : DatagramKind). refusal_by_kind k link own theirs mine) (sym is) ∙ none in absurd cc, λ is. let never = ap (λ (k : DatagramKind). refusal_by_kind k link own theirs mine) (sym is) ∙ none in absurd cc)
@@ -159,11 +159,11 @@ of_player l head other = as_player head.kind l head other
 pub of_watcher : (l : LinksValue) (head : HeadValue) → head.kind ≡ kinds.Seen → admission l head ≡ refusal_of_seen l head
 of_watcher l head seen = ap (λ (kind : DatagramKind). refusal_as kind l head) seen
 
--- what passes for a player's is admitted
+-- what is admitted as a player's is admitted
 pub player_admitted : (l : LinksValue) (head : HeadValue) → refusal l head ≡ None → admission l head ≡ None
 player_admitted l head none = of_player l head (admitted_players l head none).1 ∙ none
 
--- what is admitted is a SEEN, or passes for a player's
+-- an admitted datagram is a SEEN or a player's
 by_kinds : (kind : DatagramKind) (l : LinksValue) (head : HeadValue) → refusal_as kind l head ≡ None → (kind ≡ kinds.Seen) ⊎ (refusal l head ≡ None)
 by_kinds kinds.Hello l head none = inr none
 by_kinds kinds.Welcome l head none = inr none
@@ -177,7 +177,7 @@ by_kinds kinds.Seen l head none = inl refl
 pub seen_or_player : (l : LinksValue) (head : HeadValue) → admission l head ≡ None → (head.kind ≡ kinds.Seen) ⊎ (refusal l head ≡ None)
 seen_or_player l head none = by_kinds head.kind l head none
 
--- a SEEN that is admitted is for this player
+-- an admitted SEEN is for this player
 pub admitted_seen : (l : LinksValue) (head : HeadValue) → refusal_of_seen l head ≡ None → head.to ≡ l.me
 unfolding refusal_of_seen
 admitted_seen l head none =

@@ -38,7 +38,7 @@ leave_next q journal r = leave_more q journal (r ∷ []) ∙ ap (λ (b : Bool). 
 pub leave_stays : (q : ℕ) (journal more : List Record) → has_leave q journal ≡ true → has_leave q (journal ++ more) ≡ true
 leave_stays q journal more is = leave_more q journal more ∙ or_first (has_leave q journal) (list_any (lets_go q) more) is
 
--- a player who has not been dropped now had not been dropped before
+-- a player that has not been dropped now had not been dropped before
 pub had_stayed : (q : ℕ) (journal more : List Record) → has_leave q (journal ++ more) ≡ false → has_leave q journal ≡ false
 had_stayed q journal more none = (or_parts (has_leave q journal) (list_any (lets_go q) more) (sym (leave_more q journal more) ∙ none)).0
 

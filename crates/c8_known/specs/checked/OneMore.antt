@@ -46,7 +46,7 @@ same_player h f l c = λ i. record { held = h i; frozen = f i; leaving = l i; cu
 said_more : (rules : Rules) (q : ℕ) (journal : List Record) (r : Record) → said_of rules q (journal ++ r ∷ []) ≡ after (said_of rules q journal) q r
 said_more rules q journal r = same_player (held_next rules q journal r) (freeze_next q journal r) (leave_next q journal r) (cut_of_more q journal r)
 
--- a record that says nothing of a player changes nothing for it
+-- a record that is not about a player changes nothing for it
 after_none : (p : PlayerValue) (q : ℕ) (r : Record) → words_of q r ≡ [] → freezes q r ≡ false → lets_go q r ≡ false → cuts_of q r ≡ [] → after p q r ≡ p
 after_none p q r words freeze leave cuts =
     same_player (rw words (append-nil p.held)) (rw freeze (or-false p.frozen)) (rw leave (or-false p.leaving)) (rw cuts refl)
@@ -63,7 +63,7 @@ after_other p q (Leave player) other = after_none p q (Leave player) refl refl (
 after_other p q (Cut player K start words) other =
     after_none p q (Cut player K start words) (rw (ne_eqb player q other) refl) refl refl (rw (ne_eqb player q other) refl)
 
--- how a record changes the player whom it names
+-- how a record changes the player that it names
 or_true : (b : Bool) → (b || true) ≡ true
 or_true true = refl
 or_true false = refl

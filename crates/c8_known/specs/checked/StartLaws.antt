@@ -8,7 +8,7 @@ use Rattle.c8_known.specs.Journal as journals
 use Rattle.c8_known.specs.Known.{PlayerValue, nobody, player_in, count_in, said_of, known_of, IsKnown}
 use Rattle.c8_known.specs.checked.OneMore.{player_known}
 
--- a player of whom only the empty sets of the delay are held
+-- a player with only the empty sets of the delay
 abbrev pub at_start : ℕ → PlayerValue
 at_start delay = record { held = replicate delay 0; frozen = false; leaving = false; cut = None }
 

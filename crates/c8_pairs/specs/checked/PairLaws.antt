@@ -19,13 +19,13 @@ in_same word p pairs same = rw (eq-eqb word p.keys same) refl
 in_apart : (word : ℕ) (p : Pair) (pairs : List Pair) → word ≢ p.keys → in_front word (p ∷ pairs) ≡ record { times = 1; keys = word } ∷ p ∷ pairs
 in_apart word p pairs apart = rw (ne_eqb word p.keys apart) refl
 
--- where there are no inputs there are no pairs
+-- no inputs have no pairs
 pub no_pairs : (words : List ℕ) → length words ≡ 0 → pairs_of words ≡ []
 unfolding pairs_of
 no_pairs [] none = refl
 no_pairs (word ∷ words) none = absurd (omega (arith, none))
 
--- the pairs of inputs say these inputs
+-- the pairs of inputs stand for these inputs
 front_says : (word : ℕ) (pairs : List Pair) → words_in (in_front word pairs) ≡ word ∷ words_in pairs
 front_says word [] = refl
 front_says word (p ∷ pairs) =
@@ -41,7 +41,7 @@ unfolding pairs_of
 pairs_say [] = refl
 pairs_say (word ∷ words) = front_says word (pairs_of words) ∙ ap (λ (ws : List ℕ). word ∷ ws) (pairs_say words)
 
--- well formed pairs are those of the inputs that they say
+-- well formed pairs are the pairs of the inputs that they stand for
 front_new : (keys : ℕ) (pairs : List Pair) → well_after (Some keys) pairs ≡ true → in_front keys pairs ≡ record { times = 1; keys = keys } ∷ pairs
 front_new keys [] well = refl
 front_new keys (p ∷ pairs) well =
@@ -151,11 +151,11 @@ read_back (p ∷ pairs) small =
     let keys : get_or (big_bytes 2 p.keys) 0 0 * 256 + get_or (big_bytes 2 p.keys) 1 0 ≡ p.keys = omega (arith, whole) in
     ap (λ (k : ℕ). record { times = p.times; keys = k } ∷ pairs_at (pairs_bytes pairs)) keys ∙ ap (λ (ps : List Pair). p ∷ ps) (read_back pairs small.1)
 
--- what spells a run has its pairs
+-- the spelling of a run has its pairs
 pub pairs_at-spelling : (words : List ℕ) → ((i : ℕ) → get_or words i 0 < 2 ^ 16) → pairs_at (spelling words) ≡ pairs_of words
 pairs_at-spelling words small = read_back (pairs_of words) (small_of words small)
 
--- bytes in threes spell the pairs that they say
+-- bytes in threes are the spelling of their pairs
 pub spelled_pairs : (bytes : List ℕ) → length bytes % 3 ≡ 0 → ((i : ℕ) → get_or bytes i 0 < 2 ^ 8) → pairs_bytes (pairs_at bytes) ≡ bytes
 unfolding pairs_at
 spelled_pairs [] whole fits = refl
@@ -188,7 +188,7 @@ begins_with : (word : ℕ) (words : List ℕ) → Begins word (pairs_of (word �
 unfolding pairs_of
 begins_with word words = front_begins word (pairs_of words)
 
--- where the next input is another one a new pair begins
+-- an input that differs from the one before begins a new pair
 apart_of : (keys word : ℕ) (words : List ℕ) → keys ≢ word → well_after (Some keys) (pairs_of (word ∷ words)) ≡ true
 apart_of keys word words apart =
     let begins = begins_with word words in
@@ -230,7 +230,7 @@ pub apart_here : (keys : ℕ) (words : List ℕ) → (get_or words 0 0 ≡ keys 
 apart_here keys [] apart some = absurd (omega (arith, some))
 apart_here keys (word ∷ words) apart some = apart_of keys word words (λ e. apart (sym e))
 
--- the first stretch of inputs, and the pairs of those after it
+-- the first stretch of inputs, and the pairs of the inputs after it
 pub stretch_from : (keys times : ℕ) (words : List ℕ) → 0 < times → words ≡ replicate times keys ++ drop times words → well_after (Some keys) (pairs_of (drop times words)) ≡ true
     → pairs_of words ≡ record { times = times; keys = keys } ∷ pairs_of (drop times words)
 stretch_from keys zero words some same apart = absurd (omega (arith, some))
@@ -250,7 +250,7 @@ slice_index_more : (front words : List ℕ) (most : ℕ) → ((i : ℕ) → get_
 slice_index_more [] words most fits i = fits i
 slice_index_more (w ∷ front) words most fits i = slice_index_more front words most (λ k. fits (suc k)) i
 
--- the inputs of the pairs after the first one have 16 bits too
+-- the inputs of the pairs after the first have 16 bits too
 pub sets_after : (p : Pair) (pairs : List Pair) → ((i : ℕ) → get_or (words_in (p ∷ pairs)) i 0 < 2 ^ 16) → (i : ℕ) → get_or (words_in pairs) i 0 < 2 ^ 16
 sets_after p pairs fits = slice_index_more (replicate p.times p.keys) (words_in pairs) (2 ^ 16) fits
 
@@ -259,7 +259,7 @@ replicated zero keys words small fits i = fits i
 replicated (suc times) keys words small fits zero = small
 replicated (suc times) keys words small fits (suc i) = replicated times keys words small fits i
 
--- bytes say inputs of 16 bits
+-- the inputs in bytes have 16 bits
 pub sets_of : (bytes : List ℕ) → ((i : ℕ) → get_or bytes i 0 < 2 ^ 8) → (i : ℕ) → get_or (words_in (pairs_at bytes)) i 0 < 2 ^ 16
 unfolding pairs_at
 sets_of [] fits i = omega arith
@@ -270,12 +270,12 @@ sets_of (times ∷ high ∷ low ∷ rest) fits i =
 
 -- ---- runs and what spells them
 
--- what spells a run is taken for one
+-- the spelling of a run passes as one
 pub spelling_is_run : (words : List ℕ) → ((i : ℕ) → get_or words i 0 < 2 ^ 16) → are_run (pairs_at (spelling words)) (length words) ≡ true
 spelling_is_run words small =
     ap (λ (pairs : List Pair). are_run pairs (length words)) (pairs_at-spelling words small) ∙ rw (well_of words, eq-eqb (count_in (pairs_of words)) (length words) (count_of words)) refl
 
--- Bytes that are those of a run of so many inputs: they spell its inputs, which are so many.
+-- Bytes of a run of `count` inputs: they are the spelling of its inputs, and there are `count` of them.
 pub record IsSpelled (bytes : List ℕ) (count : ℕ) : Type 0 where
   pub spells : spelling (words_in (pairs_at bytes)) ≡ bytes
   pub many : length (words_in (pairs_at bytes)) ≡ count

@@ -60,10 +60,9 @@ impl<'g, D: Disk> Peer<'g, D> {
         }
     }
 
-    /// Cuts a leaver's list and returns its length: as many inputs as player one holds. Only player
-    /// one can, once all who stay have answered that they hold no more. Refusals are found in the
-    /// order `Down`, `NotLeaving`, `Already`, `NotReady`, `Disk`. After `Disk` the peer is down; any
-    /// other refusal changes nothing.
+    /// Cuts a leaver's list and returns its length: as many inputs as player one holds. Only player one can, once all
+    /// who stay have answered that they hold no more. Refusals are found in the order `Down`, `NotLeaving`,
+    /// `Already`, `NotReady`, `Disk`. After `Disk` the peer is down; any other refusal changes nothing.
     pub fn decide(&mut self, leaver: Player) -> Result<u32, DecideError>
         ensures { IsAnswered D.Disk self.old (Decide leaver.number) (Decided result) self.new }
     {

@@ -69,14 +69,13 @@ impl<'g, D: Disk> Peer<'g, D> {
         }
     }
 
-    /// Returns whether a datagram has another wire version than the game.
     fn is_of_other_wire(&self, datagram: &Datagram<'_>) -> bool
         ensures { result ≡ is_of_other_wire self.now.rules (packet_of datagram.now).head }
     {
         datagram.header().version().number() != self.game.wire().number()
     }
 
-    /// Takes a datagram of the game's version that the links admit.
+    /// Takes an admitted datagram of the game's version.
     fn hear(&mut self, datagram: &Datagram<'_>) -> Result<Heard, Refused>
         requires up { self.old.state.mode ≡ Open }
         requires stays { (player_in (known_by self.old) self.old.me).leaving ≡ false }
@@ -111,7 +110,7 @@ impl<'g, D: Disk> Peer<'g, D> {
         }
     }
 
-    /// Returns the sender of a datagram that the links admit.
+    /// Returns the sender of an admitted datagram.
     fn sender_of(&self, datagram: &Datagram<'_>) -> Player
         requires { IsForMe self.now.state.memory.links (packet_of datagram.now).head }
         ensures from { result.number ≡ (packet_of datagram.now).head.from }
@@ -125,7 +124,6 @@ impl<'g, D: Disk> Peer<'g, D> {
         sender
     }
 
-    /// Judges an admitted datagram of a player.
     fn judge<'a>(&self, sender: Player, datagram: &Datagram<'a>) -> Result<Verdict<'a>, Refused>
         requires from { sender.number ≡ (packet_of datagram.now).head.from }
         requires plays { Plays (known_by self.now) sender.number }
@@ -138,8 +136,7 @@ impl<'g, D: Disk> Peer<'g, D> {
         judge(&self.known, self.roll.marks(), sender, datagram)
     }
 
-    /// Notes in memory what a datagram of a player says besides inputs. Call it after the last
-    /// refusal.
+    /// Notes in memory what an admitted datagram says besides inputs. Call it after the last refusal.
     fn note(&mut self, sender: Player, datagram: &Datagram<'_>)
         requires from { sender.number ≡ (packet_of datagram.now).head.from }
         requires admitted { refusal self.old.state.memory.links (packet_of datagram.now).head
@@ -192,7 +189,6 @@ impl<'g, D: Disk> Peer<'g, D> {
         }
     }
 
-    /// Notes how many rows a watcher has acknowledged.
     fn note_seen(&mut self, watcher: Watcher, rows: u32)
         requires { rows ≤ confirmed (known_by self.old) }
         ensures { self.new ≡ record self.old {

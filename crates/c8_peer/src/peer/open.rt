@@ -134,8 +134,7 @@ fn beginning(game: &Game, checks: &Checks) -> Checkpoint
     }
 }
 
-/// Reads the journal on a disk into the empty `known` and the new `checks`. Returns the log and the
-/// last epoch.
+/// Reads the journal on a disk into the empty `known` and the new `checks`. Returns the log and the last epoch.
 fn read_journal<D: Disk>(
     disk: D,
     game: &Game,
@@ -203,8 +202,7 @@ fn begin_epoch<D: Disk>(
     }
 }
 
-/// Builds the body of an opening's record: a HEAD for a new journal, else an EPOCH with the number
-/// after `last`.
+/// Builds the body of an opening's record: a HEAD for a new journal, else an EPOCH with the number after `last`.
 fn opening_body(game: &Game, room: u64, me: Player, last: u32, is_first: bool) -> [u8; BODY_LENGTH]
     requires { last < last_epoch }
     ensures { (bodies : List (List ℕ)) → is_first ≡ (length bodies == 0)

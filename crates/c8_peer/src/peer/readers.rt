@@ -36,7 +36,6 @@ impl<'g, D: Disk> Peer<'g, D> {
         self.known.players()
     }
 
-    /// Returns whether the game has this player.
     fn plays(&self, player: Player) -> bool
         ensures { result ≡ is_player (known_by self.now) player.number }
     {
@@ -77,8 +76,7 @@ impl<'g, D: Disk> Peer<'g, D> {
         self.known.count(player)
     }
 
-    /// Returns how many own inputs a player has acknowledged since the last opening; at first those
-    /// of the delay.
+    /// Returns how many own inputs a player has acknowledged since the last opening; at first those of the delay.
     pub fn acked(&self, player: Player) -> u32
         ensures value { result ≡ acked_of self.now.state.memory.acks player.number }
         ensures within { result ≤ count_in (known_by self.now) self.now.me }
@@ -148,10 +146,9 @@ impl<'g, D: Disk> Peer<'g, D> {
     /// Returns how many frames the last record made the peer simulate. A call that records nothing
     /// simulates none and leaves the number.
     ///
-    /// An opening simulates as many as the journal has ticks after the last checkpoint. A call
-    /// simulates all frames from the oldest whose best guess the record changed; if it changed none,
-    /// only a tick's new frame. These are at most `window`, in a tick one more, and none for a
-    /// checkpoint.
+    /// An opening simulates as many as the journal has ticks after the last checkpoint. A call simulates all frames
+    /// from the oldest whose best guess the record changed; if it changed none, only a tick's new frame. These are at
+    /// most `window`, in a tick one more, and none for a checkpoint.
     pub fn last_run(&self) -> u32
         ensures value { result ≡ self.now.last_run }
         ensures ahead { (known_by self.now).ticks
@@ -163,8 +160,8 @@ impl<'g, D: Disk> Peer<'g, D> {
         self.roll.last_run()
     }
 
-    /// Returns after how many frames the last complete checkpoint is, where the next opening begins;
-    /// 0 if there is none.
+    /// Returns the number of frames before the last complete checkpoint, where the next opening begins;
+    /// 0 without one.
     pub fn last_checkpoint(&self) -> u32
         ensures { result ≡ frames_of (checks_of self.now.state.journal).last }
     {

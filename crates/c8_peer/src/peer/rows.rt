@@ -1,4 +1,4 @@
-//! The calls that tell rows: `rows`, which lends the confirmed ones, and `best_row`.
+//! The readers of rows: `rows`, which borrows the confirmed ones, and `best_row`.
 ghost use Rattle.std.specs.Prelude.{◌≡◌, ◌≤◌, ◌<◌, ◌==◌, take, length};
 ghost use Rattle.c8_known.specs.Known.{player_in};
 ghost use Rattle.c8_known.specs.Confirmed.{confirmed, row, best_row};
@@ -9,7 +9,7 @@ use c8_game::{Player, Row};
 use c8_known::Known;
 use std::marker::Model;
 
-/// The confirmed rows of a peer, lent. They never change again.
+/// The confirmed rows of a peer, borrowed from it. They never change.
 #[derive(Drop)]
 pub struct Rows<'a> {
     known: &'a Known,
@@ -54,9 +54,8 @@ impl<'a> Rows<'a> {
         self.known.row(frame)
     }
 
-    /// Lends a player's inputs of the confirmed frames, one per frame, as far as they are held. Past
-    /// the end of a cut list the inputs are empty sets and are not lent, so there can be fewer than
-    /// confirmed frames.
+    /// Borrows a player's inputs of the confirmed frames, one per frame, as far as the peer holds them. Past the end
+    /// of a cut list the inputs are empty sets and not in the slice, so it can be shorter than the confirmed frames.
     pub fn inputs(&self, player: Player) -> &'a [u16]
         requires { player.number ≤ length self.now.players }
         ensures { result.now ≡ take (confirmed self.now) (player_in self.now player.number).held }
@@ -69,7 +68,7 @@ impl<'a> Rows<'a> {
 impl<'g, D: Disk> Peer<'g, D> {
     ghost use Rattle.c8_peer.specs.Peer.{known_by};
 
-    /// Lends the confirmed rows.
+    /// Borrows the confirmed rows.
     pub fn rows(&self) -> Rows<'_>
         ensures known { result ≡ known_by self.now }
         ensures players { length result.players ≡ self.now.rules.players }

@@ -1,4 +1,4 @@
--- Checked, not believed: a record that is spelled is read again, and bodies and records tell of each other.
+-- Checked, not believed: the spelling of a record reads back, and so do lists of bodies and records.
 use Rattle.std.proofs.Common.{◌≡◌, ℕ, zero, suc, ◌*◌, ◌-◌, ◌/◌, ◌^◌, ◌<◌, ◌≤◌, List, [], ◌∷◌, ◌++◌, length, map, take, drop, ⊎_elim, refl, sym, ap, subst, ◌∙◌, arith}
 use Rattle.std.specs.Prelude.{slice_index, replicate}
 use Rattle.std.specs.List.{All}
@@ -36,7 +36,7 @@ count_is : (f : Fields) → length f.run ≤ 128 → number_at 10 2 (field_bytes
 unfolding number_at after_start zeros_of
 count_is f short = big_number-reads_back 2 (length f.run / 2) (f.run ++ zeros_of f.run) (omega (arith, short))
 
--- the words that the run spells
+-- the words of the run
 run_is : (f : Fields) (words : List ℕ) → f.run ≡ words_bytes words → length f.run ≤ 128 → AreWords words → run_at (field_bytes f) ≡ words
 unfolding zeros_of
 run_is f words is short fits =
@@ -147,7 +147,7 @@ shaped bytes r spells =
       short = omega (arith, count, spells.has.short);
     }
 
--- ---- what is spelled of lent parts
+-- ---- the spelling of borrowed parts
 
 small_form : (form : ℕ) → IsForm form → form < 2 ^ 32
 small_form form is = ⊎_elim (λ (first : form ≡ 0). omega (arith, first)) (λ (second : form ≡ 2). omega (arith, second)) is
@@ -172,7 +172,7 @@ own_spells bytes player start word is from to low fits = record {
   is = is;
 }
 
--- what spells a run's words
+-- the spelling of a run's words
 pub got_spells : (bytes : List ℕ) (player start : ℕ) (words : List ℕ) → bytes ≡ body_of (Got player start words)
     → 1 ≤ player → player ≤ 4 → start < 2 ^ 32 → AreWords words → length words ≤ 64 → 1 ≤ length words → Spells bytes (Got player start words)
 got_spells bytes player start words is from to low sets few some = record {
@@ -201,7 +201,7 @@ check_spells bytes player frames words is from to low sets four = record {
   is = is;
 }
 
--- a record that is spelled has all that a spelling asks of its parts
+-- the value of a borrowed record with a spelling has what a spelling needs
 pub complete : (lent : Lent) → HasSpelling (value_of lent) → IsComplete lent
 complete (lents.Head player form id room) has = has.parts.0
 complete (lents.Epoch player number form) has = has.parts
@@ -213,7 +213,7 @@ complete (lents.Cut player cut start run) has = tt
 complete (lents.State player frames piece run) has = tt
 complete (lents.Check player frames run) has = has.parts.0
 
--- where a body spells a record, that is the one that its parts are
+-- if a body spells a record, that record is the value of its borrowed parts
 pub spells_lent : (bytes : List ℕ) (lent : Lent) (r : Record) → value_of lent ≡ record_of bytes → Spells bytes r → Spells bytes (value_of lent)
 spells_lent bytes lent r is spells = subst (λ (s : Record). Spells bytes s) (sym (is ∙ reads_back bytes r spells)) spells
 

@@ -1,4 +1,5 @@
--- Checked, not believed: the checkpoints of a journal are in order, and so is where a machine began.
+-- Checked, not believed: the checkpoints of a journal are in order, and so is the beginning of a
+-- machine.
 use Rattle.std.proofs.Common.{◌≡◌, inl, inr, ℕ, zero, suc, ◌+◌, ◌<◌, ◌≤◌, ◌^◌, List, [], ◌∷◌, ◌++◌, length, drop, true, Option, Some, None, refl, sym, ap, subst, ◌∙◌, append_assoc, arith}
 use Rattle.std.proofs.lemmas.Bool.{cases_lt, cases_eq, and_parts, eqb-true, ltb-true, le-leb, ne_eqb}
 use Rattle.std.proofs.lemmas.List.{append-nil, length-append, length-drop}
@@ -54,7 +55,7 @@ piece_ends piece below = elim (cases_lt piece 34) [
   ]
 ]
 
--- what the next piece asks of the pieces before it
+-- what the next piece needs from the pieces before it
 record IsNext (pieces : Option Pieces) (frames piece sure : ℕ) : Type 0 where
   low : frames ≤ sure
   within : piece < 36
@@ -79,7 +80,7 @@ next_piece (Some p) k last frames piece before next =
       bytes = are.bytes;
     }
 
--- with the next piece they are in order
+-- the pieces stay in order with the next one
 one_piece : (c : ChecksValue) (k : KnownValue) (frames piece : ℕ) (bytes : List ℕ) → AreInOrder c k → may_take c (confirmed k) frames piece bytes ≡ true → AreBytes bytes
     → ArePieces (record { frames = frames; count = piece + 1; bytes = bytes_so_far c.under_way ++ bytes }) k
 one_piece c k frames piece bytes are may low =

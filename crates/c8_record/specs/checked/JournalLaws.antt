@@ -56,7 +56,7 @@ pub journal_begins : (rules : Rules) (me room : ℕ) (journal more : List Record
 journal_begins rules me room journal more is n r e =
     subst (λ (before : List Record). IsAllowed rules me room before r) (take-append-le n journal more (omega (arith, slice_get_within journal n r e))) (is n r (place_before journal more n r e))
 
--- the record after a beginning of a journal is allowed there
+-- the record after a prefix of a journal is allowed there
 pub next_allowed : (rules : Rules) (me room : ℕ) (journal : List Record) (r : Record) (more : List Record) → IsJournal rules me room (journal ++ r ∷ more) → IsAllowed rules me room journal r
 next_allowed rules me room journal r more is =
     subst (λ (before : List Record). IsAllowed rules me room before r) (take-append_seam journal (r ∷ more)) (is (length journal) r (place_here journal r more))
@@ -153,11 +153,11 @@ still_with rules room past (Cut player cut start words) known may = cut_still pa
 still_with rules room past (State player frames piece words) known may = still_same past.known
 still_with rules room past (Check player frames words) known may = still_same past.known
 
--- what is known by a journal with one record more
+-- what a journal with one more record makes known
 pub known_more : (rules : Rules) (me room : ℕ) (journal : List Record) (r : Record) → IsAllowed rules me room journal r → known_of rules me (journal ++ r ∷ []) ≡ with_record (known_of rules me journal) r
 known_more rules me room journal r may = one_more rules me journal r (names_player rules room (past_of rules me journal) r (players_known rules me journal) may)
 
--- What a journal says is known, and still known by each longer journal.
+-- What a journal makes known is sound, and each longer journal keeps it.
 pub record HasGrown (rules : Rules) (me : ℕ) (early late : List Record) : Type 0 where
   pub known : IsKnown (known_of rules me late)
   pub still : IsStillKnown (known_of rules me early) (known_of rules me late)

@@ -1,4 +1,4 @@
--- Checked, not believed: what the rules make of leavers.
+-- Checked, not believed: what the rules ensure for dropped players.
 use Rattle.std.proofs.Common.{◌≡◌, inl, inr, ⊎_elim, ℕ, ◌+◌, ◌-◌, List, [], ◌∷◌, ◌++◌, true, false, None, refl, sym, ap, subst, append_assoc, arith}
 use Rattle.std.proofs.lemmas.Bool.{cases_eq}
 use Rattle.std.proofs.lemmas.List.{append-nil}
@@ -19,7 +19,7 @@ orderly_changed k ticks q p orderly plays new other from =
       | inr apart ↦ rw (player_other k ticks q p other (λ e. apart (omega (arith, e, from, plays.from_one)))) (orderly other from)
     ]
 
--- inputs change nothing of this
+-- inputs do not change this
 longer : (me q : ℕ) (p : PlayerValue) (words : List ℕ) → IsOrderlyOf me q p → IsOrderlyOf me q (with_words p words)
 longer me q p words o = record {
   one_stays = o.one_stays;
@@ -84,7 +84,7 @@ orderly_from rules me room (r ∷ more) journal is orderly =
     subst (λ (all : List Record). IsOrderly (known_of rules me all)) split
     (orderly_from rules me room more (journal ++ r ∷ []) (subst (λ (all : List Record). IsJournal rules me room all) (sym split) is) one)
 
--- nothing but inputs is known at first
+-- at first only inputs are known
 nothing_said : (me q : ℕ) (p : PlayerValue) → p.frozen ≡ false → p.leaving ≡ false → p.cut ≡ None → IsOrderlyOf me q p
 nothing_said me q p stays remains uncut = record {
   one_stays = λ one. (stays, remains);

@@ -1,4 +1,4 @@
--- Checked, not believed: a journal's records and the bodies that spell them, and that these are refused for nothing.
+-- Checked, not believed: the bodies of a journal spell its records and are never refused.
 use Rattle.std.proofs.Common.{◌≡◌, ◌<◌, inl, inr, ⊎_elim, ℕ, zero, suc, List, [], ◌∷◌, map, take, slice_index_or, Some, refl, sym, ap, subst, ◌∙◌, arith}
 use Rattle.std.proofs.lemmas.Bool.{cases_lt}
 use Rattle.std.specs.List.{slice_get, All}
@@ -67,7 +67,7 @@ in_front (first ∷ rest) zero n body before is = absurd (omega (arith, before))
 in_front (first ∷ rest) (suc m) zero body before is = is
 in_front (first ∷ rest) (suc m) (suc n) body before is = in_front rest m n body (omega (arith, before)) is
 
--- of two first bad bodies neither is the earlier
+-- two first bad bodies are the same
 no_earlier : (rules : Rules) (me room : ℕ) (bodies : List (List ℕ)) (n m : ℕ) → n < m → IsFirstBad rules me room bodies n → IsFirstBad rules me room bodies m → ⊥
 no_earlier rules me room bodies n m before one other =
     let body = slice_index_or bodies n [] in
@@ -88,7 +88,7 @@ one_first_bad rules me room bodies n m one other = elim (cases_lt n m) [
   ]
 ]
 
--- one body that begins is one HEAD
+-- two HEADs in the same first body are the same
 record IsOneHead (p q : ℕ) (id other : List ℕ) (room named : ℕ) : Type 0 where
   player : p ≡ q
   game : id ≡ other
@@ -100,11 +100,11 @@ one_head bodies p q id other room named (body, form, first, spells) (again, anot
     let head : Head p form id room ≡ Head q another other named = one_record body (Head p form id room) (Head q another other named) spells (subst (λ (b : List ℕ). Spells b (Head q another other named)) same spelled) in
     record { player = cc; game = cc; match = cc }
 
--- a HEAD that begins all begins the first n, unless n is 0
+-- a HEAD at the beginning of all is at the beginning of the first n, unless n is 0
 begins_front : (bodies : List (List ℕ)) (n player : ℕ) (id : List ℕ) (room : ℕ) → 0 < n → BeginsWithHead bodies player id room → BeginsWithHead (take n bodies) player id room
 begins_front bodies n player id room some (body, form, first, spells) = (body, form, in_front bodies n 0 body some first, spells)
 
--- a HEAD that is wrong is no body after which another one is the first bad
+-- a wrong HEAD leaves no later first bad body
 no_bad_after_game : (rules : Rules) (me room : ℕ) (bodies : List (List ℕ)) (n : ℕ) → IsRefusal rules me room bodies WrongGame → IsRefusal rules me room bodies (BadRecord n) → ⊥
 no_bad_after_game rules me room bodies n (player, id, named, head, other) (bad, no_head) =
     let nonzero = no_head player id named head in

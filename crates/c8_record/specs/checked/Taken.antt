@@ -1,4 +1,5 @@
--- Checked, not believed: what one body more gives in a replay. Contracts of private functions cite it, and no other.
+-- Checked, not believed: what one more body does in a replay. Only contracts of private functions cite
+-- it.
 use Rattle.std.specs.Prelude.{ℕ, ◌≡◌, ◌≢◌, ◌⊎◌, ◌<◌, ◌≤◌, ◌+◌, ◌/◌, List, length, take, Some, true}
 use Rattle.std.specs.List.{slice_get}
 use Rattle.c8_log.specs.Slots.{slot_length, body_of}
@@ -14,7 +15,7 @@ use Rattle.c8_record.specs.declared.progress.Replay.{Replay}
 use Rattle.c8_record.specs.declared.error.ReplayError.{ReplayError}
 use Rattle.c8_record.specs.declared.error.ReplayError.TheVariants.{WrongGame, WrongPlayer, BadRecord, Disk}
 
--- what stands before the record that a replay takes next
+-- what comes before the next record of a replay
 abbrev pub past_in : Replay → ChecksValue → KnownValue → Past
 past_in replay checks known = record { count = replay.count; epoch = replay.epoch; checks = checks; known = known }
 
@@ -30,7 +31,7 @@ epoch_after before (Cut player length start words) = before
 epoch_after before (State player frames piece words) = before
 epoch_after before (Check player frames words) = before
 
--- the record is a HEAD of which this is so
+-- the record is a HEAD with this property
 abbrev pub IsHeadWith : (ℕ → List ℕ → ℕ → Type 0) → Record → Type 0
 IsHeadWith P (Head player form id room) = P player id room
 IsHeadWith P (Epoch player number form) = ⊥
@@ -63,7 +64,7 @@ IsUnfitBody rules room past body (BadRecord n) =
     (n ≡ past.count) × ((r : Record) → Spells body r → past.count ≡ 0 → IsHead r → ⊥) × ((r : Record) → Spells body r → IsAllowedAfter rules room past r → ⊥)
 IsUnfitBody rules room past body (Disk why) = ⊥
 
--- what a record says of checkpoints, if it says something, may be said after these
+-- if the record says something about checkpoints, it is allowed after these
 abbrev pub MaySay : ChecksValue → Record → Type 0
 MaySay checks (Head player form id room) = Unit {0}
 MaySay checks (Epoch player number form) = Unit {0}
@@ -75,7 +76,7 @@ MaySay checks (Cut player length start words) = Unit {0}
 MaySay checks (State player frames piece words) = (sure : ℕ) × (may_take checks sure frames piece (words_bytes words) ≡ true)
 MaySay checks (Check player frames words) = MayCheck checks frames (words_bytes words)
 
--- what a body that is taken gives
+-- the result of a body that is taken
 pub record IsTaken (rules : Rules) (room : ℕ) (past : Past) (body : List ℕ) (new : KnownValue) (checks : ChecksValue) (later : ℕ) : Type 0 where
   pub sound : IsKnown past.known
   pub spelled : Spells body (record_of body)
@@ -93,11 +94,11 @@ pub record IsReadTo (rules : Rules) (me room : ℕ) (bodies : List (List ℕ)) (
   pub saved : checks ≡ checks_of (records_of (take n bodies))
   pub epoch : last ≡ epoch (records_of (take n bodies))
 
--- the slots of these bytes have the bodies after the first n
+-- the slots in these bytes have the bodies after the first n
 abbrev pub AreNext : List (List ℕ) → ℕ → List ℕ → Type 0
 AreNext bodies n bytes = (i : ℕ) → i < length bytes / slot_length → slice_get bodies (n + i) ≡ Some (body_of bytes i)
 
--- the first n of some player's bodies are taken, and these slots have the next ones
+-- the first n of a player's bodies are taken, and these slots have the next ones
 pub record HasNext (rules : Rules) (room n last : ℕ) (now : KnownValue) (checks : ChecksValue) (bytes : List ℕ) : Type 0 where
   pub me : ℕ
   pub bodies : List (List ℕ)

@@ -29,7 +29,7 @@ pub map_same_between : (g f : ℕ → FrameMark) (a n : ℕ) → ((i : ℕ) → 
 map_same_between g f a zero same = refl
 map_same_between g f a (suc n) same = rw (same a (omega arith) (omega arith), map_same_between g f (a + 1) n (λ i low to. same i (omega (arith, low)) (omega (arith, to)))) refl
 
--- the last of the marks at the first multiples, which is among the last sixteen
+-- the last of the marks at the first multiples is among the last sixteen
 newest_kept : (f : ℕ → FrameMark) (n : ℕ) → newest_of (kept (map f (range_with_len 0 (n + 1)))) ≡ Some (f n)
 newest_kept f n =
     let put : List FrameMark = map f (range_with_len 0 (n + 1)) in
@@ -76,7 +76,7 @@ roll_marks rules from k v is = ap (λ (r : RollValue). r.marks) is
 
 -- ---- an origin on the way
 
--- to keep of what is kept and more is to keep of all
+-- to keep the last sixteen twice, before and after adding more, is to keep the last sixteen of all
 kept_more : (old more : List FrameMark) → kept (kept old ++ more) ≡ kept (old ++ more)
 kept_more old more =
     let gone : ℕ = length old - 16 in

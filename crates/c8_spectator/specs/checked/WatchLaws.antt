@@ -1,4 +1,5 @@
--- Checked, not believed: what a watcher takes, and that its rows begin a list if it is shown rows of that list only.
+-- Checked, not believed: what a watcher takes, and that its rows begin a list if all rows shown to it
+-- are of that list.
 use Rattle.std.proofs.Common.{◌≡◌, ◌≢◌, ℕ, ◌+◌, ◌-◌, ◌<◌, ◌≤◌, ◌||◌, List, [], ◌∷◌, ◌++◌, length, drop, Bool, true, false, not, cond, Option, Some, None, Result, Ok, Err, refl, sym, ap, subst, ◌∙◌, append_assoc, inl, inr, arith}
 use Rattle.std.specs.Prelude.{◌==◌, nat_lt}
 use Rattle.std.proofs.Math.Seq.{drop-append_seam}

@@ -17,7 +17,7 @@ none_carried : (version : WireVersion) (words : List ℕ) → are_carried versio
 none_carried versions.One words = refl
 none_carried versions.Two words = ap (λ (ps : List Pair). nat_le (length ps) most_pairs) (no_pairs [] refl)
 
--- what is carried is a run that has room
+-- the carried inputs fit
 pub carried_passes : (version : WireVersion) (words : List ℕ) → are_carried version (carried version words) ≡ true
 unfolding fits_in
 carried_passes version words = greatest_passes (λ n. are_carried version (take n words)) (length words) (none_carried version words)
@@ -36,7 +36,7 @@ pub fits_most : (version : WireVersion) (words : List ℕ) (n : ℕ) → n ≤ l
 unfolding fits_in
 fits_most version words n within passes = greatest_is (λ k. are_carried version (take k words)) (length words) n within passes
 
--- the greatest number of inputs that is carried
+-- the number carried is the greatest that fits
 pub fits_is : (version : WireVersion) (words : List ℕ) (n : ℕ) → n ≤ length words → are_carried version (take n words) ≡ true
     → ((k : ℕ) → k ≤ length words → are_carried version (take k words) ≡ true → k ≤ n) → n ≡ fits_in version words
 fits_is version words n within passes most =
@@ -44,11 +44,11 @@ fits_is version words n within passes most =
     let below = most (fits_in version words) (fits_within version words) (carried_passes version words) in
     omega (arith, above, below)
 
--- so many are carried that are few, in few stretches
+-- a number of inputs fits if it is at most 64 and they have few enough stretches
 pub few_carried : (version : WireVersion) (words : List ℕ) (n : ℕ) → n ≤ longest_run → has_few_stretches version (take n words) ≡ true → are_carried version (take n words) ≡ true
 few_carried version words n few room = rw (le-leb (length (take n words)) longest_run (omega (arith, length-take n words, few))) room
 
--- in version 1 they are the first 64
+-- in version 1 the first 64 fit
 few_of_words : (words : List ℕ) (n : ℕ) → n ≤ length words → are_carried versions.One (take n words) ≡ true → n ≤ longest_run
 few_of_words words n within passes =
     let few = leb-true (length (take n words)) longest_run (and_parts _ _ passes).0 in
@@ -89,7 +89,7 @@ some_carried version words some =
     let first = fits_most version words 1 some (one_carried version words) in
     omega (arith, length-take (fits_in version words) words, first, some)
 
--- in version 2 they are the most of few inputs in few stretches
+-- in version 2 the number is the greatest with few enough inputs and stretches
 pub fits_pairs : (words : List ℕ) (n : ℕ) → n ≤ length words → n ≤ longest_run → length (pairs_of (take n words)) ≤ most_pairs
     → ((k : ℕ) → k ≤ length words → k ≤ longest_run → length (pairs_of (take k words)) ≤ most_pairs → k ≤ n) → n ≡ fits_in versions.Two words
 fits_pairs words n within few pairs most =

@@ -1,4 +1,5 @@
--- Checked, not believed: the greatest number that passes a test is within its bound, passes where 0 does, and no greater one does.
+-- Checked, not believed: the greatest number that passes a test is within its bound; it passes if 0
+-- does; no greater one does.
 use Rattle.std.proofs.Common.{◌≡◌, ℕ, zero, suc, ◌≤◌, Bool, true, false, cond, refl, sym, ap, ◌∙◌, inl, inr, arith}
 use Rattle.std.proofs.lemmas.Bool.{cases_lt, both_ways}
 use Rattle.c8_wire.specs.Greatest.{greatest}

@@ -1,4 +1,4 @@
--- Checked, not believed: a number that was read from bytes is spelled by these bytes.
+-- Checked, not believed: the bytes that a number was read from are its spelling.
 use Rattle.std.proofs.Common.{◌≡◌, ℕ, zero, suc, ◌+◌, ◌*◌, ◌^◌, ◌<◌, ◌≤◌, List, [], ◌∷◌, ◌++◌, length, take, drop, sym, ap, ◌∙◌, inl, inr, arith}
 use Rattle.std.specs.Int.{byte_at}
 use Rattle.std.proofs.Math.Nat.{mod-lt, mod-eq_of_lt}
@@ -32,7 +32,7 @@ AreBytes-big_bytes zero x i = omega arith
 AreBytes-big_bytes (suc n) x zero = byte_at-lt n x
 AreBytes-big_bytes (suc n) x (suc i) = AreBytes-big_bytes n x i
 
--- as many bytes that are the same number are the same bytes
+-- two lists of bytes with the same length and the same number are equal
 same_from_number : (n : ℕ) (xs ys : List ℕ) → length xs ≡ n → length ys ≡ n → AreBytes xs → AreBytes ys → big_number n xs ≡ big_number n ys → xs ≡ ys
 same_from_number zero xs ys p q f g e = nil_from_length xs p ∙ sym (nil_from_length ys q)
 same_from_number (suc n) [] ys p q f g e = absurd (omega arith)
@@ -50,7 +50,7 @@ big_bytes-big_number n bytes long fits =
     ap (big_from 0 n) (sym (append-nil (big_bytes n x))) ∙ big_from-bytes n x [] ∙ mod-eq_of_lt (big_from-lt 0 n bytes fits) ∙ sym (big_from-take 0 n n bytes (omega arith)) in
     same_from_number n (big_bytes n x) (take n bytes) (length-bytes_high_first n x) (omega (arith, length-take n bytes)) (AreBytes-big_bytes n x) (AreBytes-take n bytes fits) again
 
--- the bytes from a place on are those of the number there, and the rest
+-- the bytes from a place on are those of the number there, followed by the rest
 pub spelled_at : (place width next : ℕ) (bytes : List ℕ) → place + width ≡ next → next ≤ length bytes → AreBytes bytes → drop place bytes ≡ big_bytes width (number_at place width bytes) ++ drop next bytes
 unfolding number_at
 spelled_at place width next bytes ends long fits =
@@ -58,7 +58,7 @@ spelled_at place width next bytes ends long fits =
     let after : drop width (drop place bytes) ≡ drop next bytes = drop-drop width place bytes ∙ ap (λ (k : ℕ). drop k bytes) ends in
     sym (take-append-drop width (drop place bytes)) ∙ ap (λ (front : List ℕ). front ++ drop width (drop place bytes)) (sym back) ∙ ap (λ (rest : List ℕ). big_bytes width (big_number width (drop place bytes)) ++ rest) after
 
--- a number of so many bytes is below its limit
+-- a number of this many bytes is below its limit
 pub number_at-lt : (place width : ℕ) (bytes : List ℕ) → AreBytes bytes → number_at place width bytes < 256 ^ width
 unfolding number_at
 number_at-lt place width bytes fits = big_from-lt 0 width (drop place bytes) (AreBytes-drop place bytes fits)

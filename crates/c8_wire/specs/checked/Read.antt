@@ -1,5 +1,6 @@
--- What bytes say, as one answer: the packet that they spell, or else the first refusal. That it is
--- just that, `laws::what_is_spelled_is_read`, `what_is_read_is_spelled` and `what_is_not_read_is_refused` say.
+-- Bytes read as one answer: the packet that they spell, or the first refusal. The laws
+-- `what_is_spelled_is_read`, `what_is_read_is_spelled` and `what_is_not_read_is_refused` say that it is
+-- exact.
 use Rattle.std.specs.Prelude.{ℕ, List, Option, Some, None, Result, Ok, Err}
 use Rattle.c8_wire.specs.declared.error.WireError.{WireError}
 use Rattle.c8_wire.specs.declared.error.WireError.TheVariants as errors
@@ -8,7 +9,7 @@ use Rattle.c8_wire.specs.Packet.{Packet}
 use Rattle.c8_wire.specs.Reading.{kind_at, packet_at}
 use Rattle.c8_wire.specs.Refusal.{refusal}
 
--- bytes of no kind are refused, so the third line is never met
+-- bytes without a kind are refused, so the third line never applies
 abbrev pub answer : Option WireError → Option DatagramKind → List ℕ → Result Packet WireError
 answer (Some error) kind bytes = Err error
 answer None (Some kind) bytes = Ok (packet_at kind bytes)

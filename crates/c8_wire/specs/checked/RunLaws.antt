@@ -14,14 +14,14 @@ use Rattle.c8_wire.specs.Reading.{inputs_of}
 use Rattle.c8_wire.specs.Refusal.{has_wrong_size, are_no_run}
 use Rattle.c8_wire.specs.checked.WordLaws.{length_of_words, spelled_words, words_of-spelled, words_of-lt, length-spelled_words}
 
--- bytes that nothing refuses as a run of so many inputs: they spell its inputs, which are so many, each of 16 bits
+-- Bytes that no refusal of a run applies to: they spell `count` inputs of 16 bits each.
 pub record AreRun (version : WireVersion) (count : ℕ) (bytes : List ℕ) : Type 0 where
   pub spells : inputs_bytes version (inputs_of version bytes) ≡ bytes
   pub many : length (inputs_of version bytes) ≡ count
   pub room : has_few_stretches version (inputs_of version bytes) ≡ true
   pub sets : AreWords (inputs_of version bytes)
 
--- how many bytes those of a run are
+-- how many bytes a run in version 1 has
 pub size_of_words : (count size : ℕ) → has_wrong_size versions.One count size ≡ false → size ≡ 2 * count
 size_of_words count size right = grind (arith, nat_tests)
 
@@ -50,12 +50,12 @@ are_run_of versions.Two count bytes fits sized paired =
       sets = sets_of bytes fits;
     }
 
--- what spells inputs is read as these inputs
+-- the spelling of inputs reads back as these inputs
 pub inputs_again : (version : WireVersion) (words : List ℕ) → AreWords words → inputs_of version (inputs_bytes version words) ≡ words
 inputs_again versions.One words sets = words_of-spelled words sets
 inputs_again versions.Two words sets = ap words_in (pairs_at-spelling words sets) ∙ pairs_say words
 
--- and not refused, where there is room for them
+-- and has the right size, if the inputs fit
 pub right_size : (version : WireVersion) (words : List ℕ) → has_few_stretches version words ≡ true → has_wrong_size version (length words) (length (inputs_bytes version words)) ≡ false
 right_size versions.One words room = let size = length-spelled_words words in grind (arith, nat_tests)
 right_size versions.Two words room =
@@ -67,7 +67,7 @@ pub are_paired : (version : WireVersion) (words : List ℕ) → AreWords words �
 are_paired versions.One words sets = refl
 are_paired versions.Two words sets = ap not (spelling_is_run words sets)
 
--- how long they are
+-- how many bytes it has at most
 pub few_bytes : (version : WireVersion) (words : List ℕ) → length words ≤ 64 → has_few_stretches version words ≡ true → length (inputs_bytes version words) ≤ 128
 few_bytes versions.One words few room = omega (arith, length-spelled_words words)
 few_bytes versions.Two words few room = omega (arith, length_spelled (pairs_of words), leb-true (length (pairs_of words)) 42 room)

@@ -35,7 +35,7 @@ drop_words_of (suc place) (high ∷ low ∷ rest) =
     let moved : 2 * suc place ≡ suc (suc (2 * place)) = omega arith in
     ap (λ (k : ℕ). words_of (drop k (high ∷ low ∷ rest))) moved ∙ drop_words_of place rest
 
--- the bytes of an even number of them spell their words
+-- an even number of bytes is the spelling of its words
 pub spelled_words : (bytes : List ℕ) → length bytes % 2 ≡ 0 → AreBytes bytes → flat_map (big_bytes 2) (words_of bytes) ≡ bytes
 unfolding words_of
 spelled_words [] even fits = refl
@@ -45,7 +45,7 @@ spelled_words (high ∷ low ∷ rest) even fits =
     let others = spelled_words rest (omega arith) (λ i. fits (suc (suc i))) in
     ap (λ (front : List ℕ). front ++ flat_map (big_bytes 2) (words_of rest)) back ∙ ap (λ (tail : List ℕ). high ∷ low ∷ tail) others
 
--- words that are spelled are read again
+-- the spelling of words reads back as these words
 pub words_of-spelled : (words : List ℕ) → ((i : ℕ) → get_or words i 0 < 2 ^ 16) → words_of (flat_map (big_bytes 2) words) ≡ words
 unfolding words_of
 words_of-spelled [] fits = refl
@@ -61,7 +61,7 @@ words_of-lt (high ∷ []) fits i = omega arith
 words_of-lt (high ∷ low ∷ rest) fits zero = omega (arith, fits 0, fits 1)
 words_of-lt (high ∷ low ∷ rest) fits (suc i) = words_of-lt rest (λ k. fits (suc (suc k))) i
 
--- a run's bytes are twice as many as its words
+-- a run has twice as many bytes as words
 pub length-spelled_words : (words : List ℕ) → length (flat_map (big_bytes 2) words) ≡ 2 * length words
 length-spelled_words [] = refl
 length-spelled_words (word ∷ words) = omega (arith, length-spelled_words words)
