@@ -14,8 +14,8 @@ use std::io;
 use std::io::Write;
 use std::rt::Files;
 
-/// Runs the script of one file for the game of another, as `sim` does with their texts. If a file cannot be read, the
-/// refusal is the disk's, whatever the other file says. The error is a writer's.
+/// Reads a game and a script from two files, and runs them as [`sim`] does. If a file cannot be read, the refusal is
+/// the disk's, whatever the other file says. The error is a writer's.
 pub fn sim_files<R, W: Write, E: Write>(
     rt: &R,
     game: &str,
