@@ -35,12 +35,12 @@ some_same x y same = cc
 
 -- ---- the world in which all readings have a place
 
--- What the first reading makes known is known in the world, and what is known there is known by the second reading.
+-- The world knows what the first reading makes known, and the second reading makes known what the world knows.
 pub record StandsIn (rules : Rules) (w : World) (p : ℕ) (r : Readings) : Type 0 where
   pub first : IsStillKnown (known_of rules p r.first) (known_by rules w p)
   pub later : IsStillKnown (known_by rules w p) (known_of rules p r.later)
 
--- all journals that are given stand in a world to which some list of events leads
+-- all given journals are backed by one world to which some list of events leads
 pub record IsCommon (rules : Rules) (room : ℕ) (e : Evidence) : Type 0 where
   pub world : World
   pub reached : IsReached rules room world

@@ -74,17 +74,17 @@ abbrev pub IsPendingOpening : ℕ → Option Record → Type 0
 IsPendingOpening me None = Unit {0}
 IsPendingOpening me (Some r) = IsOpeningOf me r
 
--- record x, which was pending after these records, is pending still
+-- record x was pending after these records, and still is
 pub record Waits (before : List Record) (x : Record) (s : State) : Type 0 where
   pub journal : s.journal ≡ before
   pub pending : s.pending ≡ Some x
   pub mode : s.mode ≢ states.Open
 
--- it is pending still, or in the journal
+-- record x is still pending, or is in the journal
 abbrev pub Keeps : List Record → Record → State → Type 0
 Keeps before x s = Waits before x s ⊎ Begins (before ++ x ∷ []) s.journal
 
--- it was lost, and nothing but an opening came next
+-- record x was lost, and at most the record of an opening came next
 pub record IsWithout (me : ℕ) (before : List Record) (s : State) : Type 0 where
   pub journal : s.journal ≡ before
   pub pending : IsPendingOpening me s.pending
@@ -191,7 +191,7 @@ opened_lacks rules room me before s finds (NotRead why) lacks = unread_lacks me 
 opened_lacks rules room me before s finds (Unfit error) lacks = crash_lacks me before s (found s finds) (lacks_read me before s finds lacks)
 opened_lacks rules room me before s finds Spent lacks = crash_lacks me before s (found s finds) (lacks_read me before s finds lacks)
 
--- What becomes of record x: as long as it is kept, it is kept or lost by each step, and what is lost stays lost.
+-- What becomes of record x: each step keeps or loses it, and a lost record stays lost.
 pub record Fares (me : ℕ) (before : List Record) (x : Record) (s t : State) : Type 0 where
   pub kept : Keeps before x s → Keeps before x t ⊎ Lacks me before t
   pub lost : Lacks me before s → Lacks me before t
@@ -231,7 +231,7 @@ get_last : {X : Type 0} (xs : List X) (x : X) → slice_get (xs ++ x ∷ []) (le
 get_last [] x = refl
 get_last (y ∷ xs) x = get_last xs x
 
--- of two records after the same others there is one
+-- two records after the same records are equal
 pub same_next : (before all : List Record) (x y : Record) → Begins (before ++ x ∷ []) all → Begins (before ++ y ∷ []) all → x ≡ y
 same_next before all x y one other =
     let at_x = begins_get (before ++ x ∷ []) all (length before) x one (get_last before x) in
@@ -239,7 +239,7 @@ same_next before all x y one other =
     let same : Some x ≡ Some y = sym at_x ∙ at_y in
     cc
 
--- and there is one at all
+-- a list with one more record does not begin the shorter list
 pub never_shorter : (before : List Record) (x : Record) → Begins (before ++ x ∷ []) before → ⊥
 never_shorter before x begins =
     let long = begins_length (before ++ x ∷ []) before begins in

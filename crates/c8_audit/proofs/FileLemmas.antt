@@ -1,4 +1,4 @@
--- The journals of all files, one file after the other.
+-- The journals of all files, file by file.
 use Rattle.std.proofs.Common.{◌≡◌, ◌≢◌, ℕ, zero, suc, ◌+◌, ◌-◌, ◌<◌, ◌≤◌, ◌⊎◌, inl, inr, ⊎_elim, List, [], ◌∷◌, ◌++◌, length, map, take, min, length-take, Bool, true, false, Option, Some, None, refl, sym, ap, subst, ◌∙◌, arith, slice_set, slice_index_or}
 use Rattle.std.specs.Prelude.{◌==◌, option_map}
 use Rattle.std.specs.List.{slice_get}

@@ -1,4 +1,4 @@
--- Journals that are given are of players of the game.
+-- The given journals are of players of the game.
 use Rattle.std.proofs.Common.{◌≡◌, ℕ, ◌≤◌, Some, arith}
 use Rattle.c8_game.specs.Rules.{Rules}
 use Rattle.c8_known.specs.Known.{Plays}

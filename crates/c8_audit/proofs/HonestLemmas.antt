@@ -153,7 +153,7 @@ adopt_is rules w finds (suc n) q nodes within few plays =
 
 -- ---- one player's readings
 
--- an opening says nothing of inputs
+-- the record of an opening has no inputs
 opening_adds_nothing : (rules : Rules) (p : ℕ) (journal : List Record) (x : Record) → IsPlayer rules p → IsOpeningOf p x → known_of rules p (journal ++ x ∷ []) ≡ known_of rules p journal
 opening_adds_nothing rules p journal x plays opening =
     let from = plays.from_one in
@@ -173,8 +173,8 @@ opening_adds_nothing rules p journal x plays opening =
     unchanged k (StateRecord player frames piece words) is = absurd is
     unchanged k (Check player frames words) is = absurd is
 
--- What the first reading makes known is known by some records with which a read of the disk begins at the moment between, and
--- the second reading begins with that read.
+-- At the moment `between`, a read of the disk begins with records that make known what the first reading makes known.
+-- The second reading begins with that read.
 pub record IsBacked (rules : Rules) (p : ℕ) (between : World) (finds : Bool) (r : Readings) : Type 0 where
   pub before : List Record
   pub begins : Begins before (found (peer_of between p) finds)
@@ -189,7 +189,7 @@ by_journal : (rules : Rules) (p : ℕ) (between : World) (r : Readings) (before 
     → Begins before (journal_of between p) → Begins (journal_of between p) r.later → Backed rules p between r
 by_journal rules p between r before known begins ends = (false, record { before = before; begins = begins; known = known; ends = ends })
 
--- the pending record that was found is pending still
+-- the pending record that the first reading found is still pending
 by_pending : (rules : Rules) (p : ℕ) (between : World) (r : Readings) (before : List Record) (x : Record) → r.first ≡ before ++ x ∷ [] → Begins r.first r.later
     → Waits before x (peer_of between p) → Backed rules p between r
 by_pending rules p between r before x first continues waits =
@@ -204,7 +204,7 @@ by_pending rules p between r before x first continues waits =
       },
     )
 
--- it was lost, so it was the record of an opening
+-- that record was lost, so it was the record of an opening
 by_opening : (rules : Rules) (p : ℕ) (between : World) (r : Readings) (before : List Record) (x : Record) → IsPlayer rules p → r.first ≡ before ++ x ∷ [] → Begins r.first r.later
     → Begins before (journal_of between p) → Begins (journal_of between p) r.later → HasOpening p before r.later ⊎ (r.later ≡ before) → Backed rules p between r
 by_opening rules p between r before x plays first continues begins ends (inl has) =

@@ -14,7 +14,7 @@ use Rattle.c8_audit.specs.declared.fault.Question.TheVariants.{Entered, Agreed}
 below_next : (k n : ℕ) → k < n + 1 → (k < n) ⊎ (k ≡ n)
 below_next k n below = elim (cases_lt k n) [ inl less ↦ inl less | inr more ↦ inr (omega (arith, below, more)) ]
 
--- not after: before, or at the same place
+-- not after means before, or at the same place
 up_to : (f g : ℕ) → f ≤ g → (f < g) ⊎ (f ≡ g)
 up_to f g le = elim (cases_lt f g) [ inl less ↦ inl less | inr more ↦ inr (omega (arith, le, more)) ]
 
@@ -84,7 +84,7 @@ up_to_own : (one other frame' other' : ℕ) (frame : ℕ) → (frame < frame') �
 up_to_own one other frame' other' frame (inl less) = inl less
 up_to_own one other frame' other' frame (inr same) = inr (same.0, inr (refl, same.1))
 
--- of a fault that is not after another one, which is of a lower player
+-- a fault that is not after another one, which is of a lower player
 up_to_next : (frame one other frame' one' other' : ℕ) → frame ≤ frame' → one < one' → IsUpTo frame one other frame' one' other'
 up_to_next frame one other frame' one' other' order lower = ⊎_elim (λ less. inl less) (λ same. inr (same, inl lower)) (up_to frame frame' order)
 

@@ -1,4 +1,4 @@
--- The least of some counts of confirmed frames.
+-- The least count of confirmed frames.
 use Rattle.std.specs.Prelude.{◌≡◌, ℕ, ◌<◌, ◌≤◌, min, Option, Some, None}
 use Rattle.c8_known.specs.Confirmed.{confirmed}
 use Rattle.c8_audit.specs.Journals.{Seen, AllSeen, Stays}
@@ -8,7 +8,7 @@ lesser_of least None = least
 lesser_of None (Some s) = Some (confirmed s.first)
 lesser_of (Some n) (Some s) = Some (min n (confirmed s.first))
 
--- the least count of the stayers below a number is one of theirs, and no one's is less
+-- N is the least count of the stayers with numbers below `end`: the count of one of them, and no one's is less
 pub record IsCountBelow (all : AllSeen) (end N : ℕ) : Type 0 where
   pub player : ℕ
   pub seen : Seen

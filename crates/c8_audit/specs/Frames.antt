@@ -1,4 +1,4 @@
--- The first frame in which two players' knowledge fails a test.
+-- The first frame in which the journals of two players fail a check.
 use Rattle.std.specs.Prelude.{◌≡◌, ◌≢◌, ℕ, ◌<◌, Option, Some, None}
 use Rattle.c8_known.specs.Known.{KnownValue, player_in}
 use Rattle.c8_known.specs.Confirmed.{input_of, confirmed, row}
@@ -8,7 +8,7 @@ use Rattle.c8_audit.specs.Verdicts.{IsEntered}
 abbrev pub WasEntered : KnownValue → Option ℕ → KnownValue → ℕ → ℕ → Type 0
 WasEntered by cut own q frame = IsEntered cut own q frame (input_of (player_in by q) frame)
 
--- the first confirmed frame in which it was not
+-- the first confirmed frame whose input was not entered
 abbrev pub IsFirstNever : KnownValue → Option ℕ → KnownValue → ℕ → Option ℕ → Type 0
 IsFirstNever by cut own q None = (frame : ℕ) → frame < confirmed by → WasEntered by cut own q frame
 IsFirstNever by cut own q (Some first) =

@@ -1,4 +1,4 @@
--- The journals of a match, one file after the other.
+-- The journals of a match, file by file.
 use Rattle.std.specs.Prelude.{◌≡◌, ℕ, ◌≤◌, ◌<◌, ◌==◌, List, Bool, true, false, Option, Some, None}
 use Rattle.std.specs.List.{slice_get}
 use Rattle.c8_game.specs.Rules.{Rules}
@@ -9,7 +9,7 @@ use Rattle.c8_audit.specs.declared.error.GatherError.{GatherError}
 use Rattle.c8_audit.specs.declared.error.GatherError.TheVariants.{File, Journals}
 use Rattle.c8_audit.specs.declared.journal.Journal.{Journal}
 
--- and one more file
+-- the readings with one more file
 abbrev pub with_file : Evidence → List ℕ → List ℕ → Evidence
 with_file e first later p = or_else (e p) (only_in first later p)
 
@@ -18,7 +18,7 @@ seen_or (Some s) of other = Some s
 seen_or None true other = Some other
 seen_or None false other = None
 
--- and one more journal
+-- what is known with one more journal
 abbrev pub with_journal : AllSeen → Journal → AllSeen
 with_journal all j p = seen_or (all p) (j.first.me == p) (seen j)
 
@@ -27,13 +27,13 @@ pub record IsGathered (rules : Rules) (e : Evidence) (journals : List (Option Jo
   pub seen_is : (p : ℕ) → 1 ≤ p → all_seen journals p ≡ seen_in rules e p
   pub read : (p : ℕ) (r : Readings) → 1 ≤ p → e p ≡ Some r → (room : ℕ) × IsReadTwice rules room p r
 
--- The same of the journals of a whole match: they can be judged, and player 1's is among them.
+-- The journals of all files: they can be judged, and player 1's is among them.
 pub record AreGathered (rules : Rules) (e : Evidence) (journals : List (Option Journal)) : Type 0 where
   pub gathered : IsGathered rules e journals
   pub of_game : AreOfGame rules (all_seen journals)
   pub one : (s : Seen) × Stays (all_seen journals) 1 s
 
--- why they are not judged
+-- why the journals cannot be judged
 abbrev pub IsNotGathered : Rules → List (List ℕ) → List (List ℕ) → GatherError → Type 0
 IsNotGathered rules firsts laters (File place why) = (first : List ℕ) × (later : List ℕ) × (slice_get firsts place ≡ Some first) × (slice_get laters place ≡ Some later) × IsUnread rules first later why
 IsNotGathered rules firsts laters Journals = Unit {0}

@@ -1,4 +1,4 @@
--- What the readings of an honest match's journals are, and how journals stand in a world.
+-- The readings of an honest match's journals, and readings that are journals of a world.
 use Rattle.std.specs.Prelude.{◌≡◌, ℕ, List, Bool, Option, Some}
 use Rattle.c8_game.specs.Rules.{Rules}
 use Rattle.c8_known.specs.Growth.{Begins}
@@ -7,9 +7,9 @@ use Rattle.c8_world.specs.World.{World, Event, Answer, Chain, IsReached, peer_of
 use Rattle.c8_world.specs.Agreement.{IsPlayer}
 use Rattle.c8_audit.specs.Journals.{Readings, Evidence}
 
--- A player's journal was read at one moment of a match and once more at another one. A moment of the whole match lies
--- between, and any events may happen on the way to it and from it on. Each reading finds the pending record or not. What
--- the first reading found has not been lost: the second one begins with it.
+-- A player's journal was read twice. The world `between` is a moment of the match between the two readings; any events
+-- may happen before and after it. Each reading finds the pending record or not. The second reading begins with the
+-- first, so no record that the first one found was lost.
 pub record WasReadTwice (rules : Rules) (room : ℕ) (between : World) (p : ℕ) (r : Readings) : Type 0 where
   pub first_at : World
   pub first_reached : IsReached rules room first_at
@@ -26,7 +26,7 @@ pub record WasReadTwice (rules : Rules) (room : ℕ) (between : World) (p : ℕ)
   pub later_is : r.later ≡ found (peer_of later_at p) later_finds
   pub continues : Begins r.first r.later
 
--- The journals are those of peers of one match, player 1's among them. All were read before any was read once more.
+-- The journals are those of peers of one match, player 1's among them. All first readings come before all second ones.
 pub record IsHonest (rules : Rules) (room : ℕ) (e : Evidence) : Type 0 where
   pub between : World
   pub one : Readings
@@ -34,7 +34,7 @@ pub record IsHonest (rules : Rules) (room : ℕ) (e : Evidence) : Type 0 where
   pub players : (p : ℕ) (r : Readings) → e p ≡ Some r → IsPlayer rules p
   pub read : (p : ℕ) (r : Readings) → e p ≡ Some r → WasReadTwice rules room between p r
 
--- The journals that are given stand in two worlds: the first readings in one, the second ones in the other.
+-- The first readings are the journals of one world, the second ones those of another.
 pub record AreOfWorlds (rules : Rules) (e : Evidence) (earlier later : World) : Type 0 where
   pub one : Readings
   pub one_given : e 1 ≡ Some one

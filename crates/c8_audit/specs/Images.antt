@@ -1,4 +1,4 @@
--- The journals that files keep, by the bytes that two readings of each file gave.
+-- The journals that files keep, by the bytes of two readings of each file.
 use Rattle.std.specs.Prelude.{◌≡◌, ◌⊎◌, ℕ, ◌≤◌, ◌==◌, List, [], ◌∷◌, Bool, true, false, Option, Some, None, if◌then◌else◌}
 use Rattle.c8_game.specs.Rules.{Rules}
 use Rattle.c8_known.specs.Growth.{Begins}
@@ -32,7 +32,7 @@ abbrev pub or_else : Option Readings → Option Readings → Option Readings
 or_else (Some r) other = Some r
 or_else None other = other
 
--- of each player, the readings of the first file whose first record names it
+-- for each player the readings of the first file whose first record names that player
 unfoldable pub evidence_in : List (List ℕ) → List (List ℕ) → Evidence
 evidence_in [] laters p = None
 evidence_in (first ∷ firsts) [] p = None
@@ -46,7 +46,7 @@ pub record IsReadTwice (rules : Rules) (room p : ℕ) (r : Readings) : Type 0 wh
   pub later_is : IsJournal rules p room r.later
   pub continues : Begins r.first r.later
 
--- why a file's journal is not read: a reading is refused, or the second one does not begin with the first
+-- why a file is at fault: a reading is refused, or the second one does not begin with the first
 abbrev pub IsUnread : Rules → List ℕ → List ℕ → Unread → Type 0
 IsUnread rules first later (Journal error) = IsRefusalOfJournal rules None (kept first) error ⊎ ((room : ℕ) × IsRefusalOfJournal rules (Some room) (kept later) error)
 IsUnread rules first later Changed = Begins (kept first) (kept later) → ⊥

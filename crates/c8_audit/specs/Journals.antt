@@ -1,4 +1,4 @@
--- The journals of a match that are given. Each is read twice: first all of them, and then all once more.
+-- The given journals of a match. All of them are read once, and then all of them a second time.
 use Rattle.std.specs.Prelude.{◌≡◌, ℕ, ◌≤◌, List, Bool, false, Option, Some, None, option_map}
 use Rattle.c8_game.specs.Rules.{Rules}
 use Rattle.c8_digest.specs.Origin.{Origin}
@@ -6,16 +6,16 @@ use Rattle.c8_known.specs.Journal.{Record}
 use Rattle.c8_known.specs.Known.{KnownValue, player_in, known_of, IsOfGame}
 use Rattle.c8_check.specs.Checks.{checks_of}
 
--- what two readings of a player's journal gave
+-- two readings of a player's journal
 pub record Readings : Type 0 where
   pub first : List Record
   pub later : List Record
 
--- of each player, if its journal is given, what the readings gave
+-- the readings of each player whose journal is given
 abbrev pub Evidence : Type 0
 Evidence = ℕ → Option Readings
 
--- What is known by these readings: by each of them, and the last checkpoint of the first.
+-- What each of the two readings makes known, and the last checkpoint of the first.
 pub record Seen : Type 0 where
   pub first : KnownValue
   pub later : KnownValue
@@ -24,7 +24,7 @@ pub record Seen : Type 0 where
 abbrev pub seen_of : Rules → ℕ → Readings → Seen
 seen_of rules p r = record { first = known_of rules p r.first; later = known_of rules p r.later; last = (checks_of r.first).last }
 
--- of each player, if its journal is given, what is known
+-- what is known of each player whose journal is given
 abbrev pub AllSeen : Type 0
 AllSeen = ℕ → Option Seen
 

@@ -1,4 +1,4 @@
--- Which marks a checkpoint keeps, one frame after the other.
+-- The marks of a checkpoint, frame by frame.
 use Rattle.std.specs.Prelude.{◌≡◌, ℕ, ◌+◌, ◌*◌, ◌<◌, ◌≤◌, List, take, drop, Option, Some, None}
 use Rattle.c8_game.specs.Rules.{Rules}
 use Rattle.c8_machine.specs.Serial.{serial}
@@ -10,7 +10,7 @@ use Rattle.c8_digest.specs.Origin.{Origin}
 use Rattle.c8_roll.specs.Roll.{IsOnTheWay}
 use Rattle.c8_audit.specs.Journals.{Seen}
 
--- Marks after some number of frames, as bytes: if they have one for a frame, it is this.
+-- These bytes are the marks after `frames` frames. If they have a mark for `frame`, it is this one.
 abbrev pub HasMark : ℕ → List ℕ → ℕ → List ℕ → Type 0
 HasMark frames marks frame mark = (k : ℕ) → k < marks_after frames → mark_step * (forgotten_after frames + k) ≡ frame → take mark_length (drop (mark_length * k) marks) ≡ mark
 

@@ -1,4 +1,4 @@
--- What an audit looks for, one question after the other.
+-- How an audit searches for the least fault of a question.
 use Rattle.std.specs.Prelude.{◌≡◌, ℕ, ◌<◌, ◌≤◌, ◌⊎◌, Option, Some, None, nat_le, if◌then◌else◌}
 use Rattle.c8_audit.specs.Journals.{Seen, AllSeen, Stays}
 use Rattle.c8_audit.specs.Verdicts.{IsUnentered, IsDifference, IsUpTo}
@@ -11,12 +11,12 @@ abbrev pub IsStayer : AllSeen → ℕ → Option Seen → Type 0
 IsStayer all p None = (s : Seen) → Stays all p s → ⊥
 IsStayer all p (Some s) = Stays all p s
 
--- the question is answered with no in this frame, for these players
+-- the answer for these players in this frame is no
 abbrev pub IsFault : Question → AllSeen → ℕ → ℕ → ℕ → Type 0
 IsFault Entered all frame one other = IsUnentered all frame one other
 IsFault Agreed all frame one other = IsDifference all frame one other
 
--- the first frame in which it is, for two players; none, if there is none
+-- the first frame in which the answer for two players is no; none, if there is no such frame
 abbrev pub IsFirstFrame : Question → AllSeen → ℕ → ℕ → Option ℕ → Type 0
 IsFirstFrame question all one other None = (frame : ℕ) → IsFault question all frame one other → ⊥
 IsFirstFrame question all one other (Some first) = IsFault question all first one other × ((frame : ℕ) → IsFault question all frame one other → first ≤ frame)
@@ -48,7 +48,7 @@ IsLeast question all (Some least) =
     IsFault question all least.frame least.one.number least.other.number
     × ((frame one other : ℕ) → IsFault question all frame one other → IsUpTo least.frame least.one.number least.other.number frame one other)
 
--- the earlier of two faults; the first, if they are of the same frame
+-- the earlier of two faults; of two in the same frame the first
 abbrev pub earlier_of : Option Fault → Option Fault → Option Fault
 earlier_of None found = found
 earlier_of (Some least) None = Some least

@@ -1,5 +1,5 @@
--- When the inputs in the journals of a match were entered, when their checkpoints are true, and when they agree; and the
--- least fault, if they do not.
+-- When each verdict of an audit is yes: the inputs in the journals were entered, the checkpoints are true, the players
+-- agree. And the least fault, if a verdict is no.
 use Rattle.std.specs.Prelude.{◌≡◌, ◌≢◌, ℕ, ◌<◌, ◌≤◌, ◌⊎◌, List, Option, Some}
 use Rattle.std.specs.List.{slice_get}
 use Rattle.c8_game.specs.Rules.{Rules}
@@ -18,13 +18,13 @@ pub record IsEntered (cut : Option ℕ) (own : KnownValue) (q frame : ℕ) (inpu
   pub is : input ≡ Some word
   pub entered : (slice_get (player_in own q).held frame ≡ Some word) ⊎ ((word ≡ 0) × (K : ℕ) × (cut ≡ Some K) × (K ≤ frame))
 
--- Each input that a journal counts as confirmed by its first reading, and whose player's journal is given, was entered, by
--- the second readings of that player's journal and of player 1's.
+-- Each input that a first reading counts as confirmed was entered, if the journal of its player is given: by the second
+-- readings of that journal and of player 1's.
 abbrev pub AreEntered : AllSeen → Type 0
 AreEntered all = (p q frame : ℕ) (by own : Seen) → IsGiven all p by → IsGiven all q own → frame < confirmed by.first
     → IsEntered (cut_in all q) own.later q frame (input_of (player_in by.first q) frame)
 
--- player p's journal counts an input of player q in a frame as confirmed that was not entered
+-- player p's journal counts an input in a frame as confirmed that player q did not enter
 pub record IsUnentered (all : AllSeen) (frame q p : ℕ) : Type 0 where
   pub by : Seen
   pub own : Seen
@@ -66,7 +66,7 @@ pub record IsDifference (all : AllSeen) (frame p r : ℕ) : Type 0 where
   pub other_counts : frame < confirmed other.first
   pub rows : row one.first frame ≢ row other.first frame
 
--- N frames are confirmed by all who were not dropped, and by one of them no more
+-- every undropped player has confirmed N frames, and one of them no more
 pub record IsLeastCount (all : AllSeen) (N : ℕ) : Type 0 where
   pub player : ℕ
   pub seen : Seen
@@ -76,8 +76,8 @@ pub record IsLeastCount (all : AllSeen) (N : ℕ) : Type 0 where
 
 -- ---- the least fault
 
--- a frame and two players do not come after others: an earlier frame is less, then an earlier first player, then an earlier
--- second one
+-- the order of faults, by frame, then by the first player, then by the second one: the first fault is not after the
+-- second
 abbrev pub IsUpTo : ℕ → ℕ → ℕ → ℕ → ℕ → ℕ → Type 0
 IsUpTo frame p r frame' p' r' = (frame < frame') ⊎ ((frame ≡ frame') × ((p < p') ⊎ ((p ≡ p') × (r ≤ r'))))
 

@@ -12,8 +12,8 @@ use crate::journal::{Journal, journal_of};
 use c8_game::Player;
 use c8_known::Known;
 
-/// The first frame that both players count as confirmed with different inputs. None, unless `one` is the lower number and
-/// neither was dropped.
+/// Returns the first frame that both players count as confirmed with different inputs. `None` if there is no such
+/// frame, if `one` is not the lower number, or if a player was dropped.
 pub(crate) fn first_difference(
     journals: &[Option<Journal>],
     one: Player,
@@ -31,7 +31,7 @@ pub(crate) fn first_difference(
     }
 }
 
-/// The journal of a player who was not dropped, if it is given.
+/// Returns the player's journal, if it is given and the player was not dropped.
 pub(crate) fn stayer(journals: &[Option<Journal>], player: Player) -> Option<&Journal>
     requires { (rules : Rules) × AreOfGame rules (all_seen journals.now) }
     ensures { IsStayer (all_seen journals.now) player.number (option_map (λ journal. seen journal.now) result) }
@@ -42,7 +42,7 @@ pub(crate) fn stayer(journals: &[Option<Journal>], player: Player) -> Option<&Jo
     }
 }
 
-/// Whether player 1 dropped the player, by the second reading of player 1's journal.
+/// Returns whether player 1 dropped the player, by the second reading of player 1's journal.
 pub fn is_dropped(journals: &[Option<Journal>], player: Player) -> bool
     requires { (rules : Rules) × AreOfGame rules (all_seen journals.now) }
     ensures { result ≡ is_dropped (all_seen journals.now) player.number }
@@ -53,7 +53,7 @@ pub fn is_dropped(journals: &[Option<Journal>], player: Player) -> bool
     }
 }
 
-/// The first frame that both count as confirmed with different rows.
+/// Returns the first frame that both count as confirmed with different rows.
 fn first_different(a: &Known, b: &Known) -> Option<u32>
     ensures { IsFirstDifferent a.now b.now result }
 {

@@ -1,4 +1,4 @@
-//! The laws about all peers of a match, in one place.
+//! Laws of c8_world, in one place.
 ghost use Rattle.c8_audit.specs.checked.Below.{AreWorldsLawful};
 
 /// Collects the laws of c8_world that the laws of audits need.

@@ -1,4 +1,4 @@
-//! How many frames all confirm, and the machine after them.
+//! Counts the frames that all players confirm, and hashes the machine after them.
 
 ghost use Rattle.std.specs.Prelude.{◌≡◌, ◌≤◌, option_map};
 ghost use Rattle.sha2.specs.Sha256.{sha256};
@@ -21,7 +21,7 @@ use c8_known::Known;
 use c8_machine::Machine;
 use sha2::{Digest, Sha256};
 
-/// How many frames each player who was not dropped counts as confirmed, by the first readings.
+/// Returns how many frames every undropped player has confirmed, by the first readings: the least of their counts.
 pub fn least_count(journals: &[Option<Journal>]) -> u32
     requires of_game { (rules : Rules) × AreOfGame rules (all_seen journals.now) }
     requires one { (one : Seen) × Stays (all_seen journals.now) 1 one }
@@ -37,7 +37,7 @@ pub fn least_count(journals: &[Option<Journal>]) -> u32
     }
 }
 
-/// The lesser of a number and of a journal's confirmed frames, if there are these.
+/// Returns the lesser of a number and a journal's confirmed frames; if one of the two is missing, the other.
 fn lesser(least: Option<u32>, journal: Option<&Journal>) -> Option<u32>
     ensures { result ≡ lesser_of least (option_map (λ journal. seen journal.now) journal.entry) }
 {
@@ -51,7 +51,7 @@ fn lesser(least: Option<u32>, journal: Option<&Journal>) -> Option<u32>
     }
 }
 
-/// SHA-256 (FIPS 180-4) over the bytes of the machine's state after so many frames that player 1 confirms.
+/// Returns SHA-256 (FIPS 180-4) over the machine's state bytes after the first `frames` frames that player 1 confirms.
 pub fn digest_of(game: &Game, journals: &[Option<Journal>], frames: u32) -> [u8; 32]
     requires one { (one : Seen) × Stays (all_seen journals.now) 1 one }
     requires count { IsLeastCount (all_seen journals.now) frames }
@@ -66,7 +66,7 @@ pub fn digest_of(game: &Game, journals: &[Option<Journal>], frames: u32) -> [u8;
     Sha256::digest(bytes.as_slice())
 }
 
-/// The machine after so many confirmed frames.
+/// Returns the machine after the first `frames` confirmed frames.
 fn machine_after(game: &Game, known: &Known, frames: u32) -> Machine
     requires { frames ≤ confirmed known.now }
     ensures { state result ≡ serial game.now (rows_below known.now frames) }

@@ -1,4 +1,4 @@
-//! Whether the inputs that journals count as confirmed were entered.
+//! Checks that the players entered the inputs that journals count as confirmed.
 
 ghost use Rattle.std.specs.Prelude.{◌≡◌, ◌<◌, ◌↔◌, true, Some};
 ghost use Rattle.std.specs.List.{slice_get};
@@ -15,7 +15,7 @@ use crate::journal::{Journal, journal_of};
 use c8_game::Player;
 use c8_known::Known;
 
-/// The first frame whose input of `player` the journal of `by` counts as confirmed, though it was not entered.
+/// Returns the first frame that the journal of `by` counts as confirmed with an input that `player` did not enter.
 pub(crate) fn first_unentered(
     journals: &[Option<Journal>],
     player: Player,
@@ -31,7 +31,7 @@ pub(crate) fn first_unentered(
     }
 }
 
-/// The length at which player 1 cut the player's list, by the second reading of player 1's journal.
+/// Returns the length at which player 1 cut the player's list, by the second reading of player 1's journal.
 pub fn cut_of(journals: &[Option<Journal>], player: Player) -> Option<u32>
     requires { (rules : Rules) × AreOfGame rules (all_seen journals.now) }
     ensures { result ≡ cut_in (all_seen journals.now) player.number }
@@ -42,7 +42,7 @@ pub fn cut_of(journals: &[Option<Journal>], player: Player) -> Option<u32>
     }
 }
 
-/// The first confirmed frame whose input of `player` was not entered.
+/// Returns the first confirmed frame with an input that `player` did not enter.
 fn first_never(by: &Known, cut: Option<u32>, own: &Known, player: Player) -> Option<u32>
     requires by { Plays by.now player.number }
     requires own { Plays own.now player.number }
@@ -56,7 +56,7 @@ fn first_never(by: &Known, cut: Option<u32>, own: &Known, player: Player) -> Opt
     None
 }
 
-/// Whether a confirmed input is what the player entered, or empty from the cut on.
+/// Returns whether a confirmed input is what the player entered, or is empty and not before the cut.
 fn was_entered(by: &Known, cut: Option<u32>, own: &Known, player: Player, frame: u32) -> bool
     requires by { Plays by.now player.number }
     requires own { Plays own.now player.number }
@@ -82,7 +82,7 @@ fn input(known: &Known, player: Player, frame: u32) -> u16
     known.row(frame).sets[player.place()].0
 }
 
-/// The input that is held at a place of a player's list, if there is one.
+/// Returns the input of a player in a frame, if the journal has it.
 fn held(known: &Known, player: Player, frame: u32) -> Option<u16>
     requires { Plays known.now player.number }
     ensures { result ≡ slice_get (player_in known.now player.number).held frame }

@@ -1,12 +1,12 @@
-//! Why journals are not judged.
+//! Why an audit refuses journals.
 
 use c8_image::JournalError;
 use thiserror::Error;
 
-/// Why a file's journal is not read.
+/// Why a file has no journal that can be judged.
 #[derive(Clone, Copy, Debug, PartialEq, Eq, Error)]
 pub enum Unread {
-    /// A reading of it is refused.
+    /// One of the readings is refused as a journal.
     #[error("{0}")]
     Journal(JournalError),
     /// The second reading does not begin with the first.
@@ -14,10 +14,10 @@ pub enum Unread {
     Changed,
 }
 
-/// Why the journals of a match are not judged.
+/// Why the journals of a match cannot be judged.
 #[derive(Clone, Copy, Debug, PartialEq, Eq, Error)]
 pub enum GatherError {
-    /// The journal of the file of this number, counted from 0, is not read.
+    /// The file with this number, counted from 0, is at fault.
     #[error("{1}")]
     File(usize, Unread),
     #[error("two journals of one player, none of player 1, or two rooms")]

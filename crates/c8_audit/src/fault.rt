@@ -1,22 +1,22 @@
-//! What an audit looks for in pairs of journals.
+//! The faults that an audit finds in pairs of journals.
 
 use c8_game::Player;
 
-/// What is asked of two players in a frame.
+/// What an audit checks of two players in a frame.
 #[derive(Clone, Copy, Debug, PartialEq, Eq)]
 pub enum Question {
-    /// Whether the input of the one that the other one's journal counts as confirmed was entered.
+    /// Whether the first player entered the input that the second player's journal counts as confirmed.
     Entered,
-    /// Whether both, who were not dropped, have the same inputs.
+    /// Whether both have the same inputs; asked only of players who were not dropped.
     Agreed,
 }
 
-/// Where a question is answered with no.
+/// Where the answer is no.
 #[derive(Clone, Copy, Debug, PartialEq, Eq)]
 pub struct Fault {
     pub frame: u32,
-    /// The player whose input was not entered; or the first of two who differ.
+    /// The player who did not enter the input, or the first of two players who differ.
     pub one: Player,
-    /// The player whose journal counts that input as confirmed; or the second of two who differ.
+    /// The player whose journal counts that input as confirmed, or the second of two players who differ.
     pub other: Player,
 }

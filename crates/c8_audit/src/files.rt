@@ -1,4 +1,4 @@
-//! The journals of a match, out of two readings of each file.
+//! Reads the journals of a match from two readings of each file.
 
 ghost use Rattle.std.specs.Prelude.{◌≡◌, ◌≤◌, ◌↔◌, ℕ, length, map, Some, true, IfOk, IfErr, OnOk};
 ghost use Rattle.c8_audit.specs.Gathered.{IsGathered, AreGathered, IsNotGathered, with_file, with_journal};
@@ -18,16 +18,17 @@ use std::alloc::Global;
 pub struct Gathered {
     /// By place, player 1's at place 0.
     pub journals: [Option<Journal>; MOST_PLAYERS],
-    /// How many files keep no record: of players who never began.
+    /// How many files keep no record, because their players never began.
     pub empty: usize,
     /// The room of the first journal.
     room: Option<u64>,
-    /// Whether two journals are of one player, or of two rooms.
+    /// Whether two journals are of the same player, or of different rooms.
     is_mixed: bool,
 }
 
-/// Reads the journals that files keep, by the bytes that a first and a second reading of each file gave. A file without a record
-/// is passed over. The errors are checked in this order: those of each file, in order; `Journals`.
+/// Reads the journals from the bytes of files. `firsts` has the first reading of each file, `laters` the second. A file
+/// without a record is skipped. The first faulty file gives the error `File`, with its place. If no file is at fault,
+/// the error is `Journals` if two journals are of one player or of different rooms, or if player 1's is missing.
 pub fn gather(
     alloc: Global,
     game: &Game,
@@ -89,7 +90,7 @@ impl Gathered {
     }
 }
 
-/// Puts a journal at its player's place. Returns false, and leaves it, if the place is taken.
+/// Puts a journal at its player's place, and returns whether the place was free. A taken place does not change.
 fn put(journals: &mut [Option<Journal>; MOST_PLAYERS], journal: Journal) -> bool
     ensures { (p : ℕ) → 1 ≤ p
         → all_seen journals.new p ≡ with_journal (all_seen journals.old) journal p }

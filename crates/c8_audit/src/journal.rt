@@ -1,4 +1,4 @@
-//! The journals of a match, as they were read.
+//! The journals of a match, as an audit reads them.
 
 ghost use Rattle.std.specs.Prelude.{◌≡◌, option_map};
 ghost use Rattle.c8_audit.specs.Read.{seen, all_seen};
@@ -8,7 +8,7 @@ use c8_check::Checks;
 use c8_game::Player;
 use c8_known::Known;
 
-/// What two readings of a player's journal make known.
+/// A player's journal, by two readings of its file.
 #[derive(Drop)]
 pub struct Journal {
     /// What the first reading makes known.
@@ -21,7 +21,7 @@ pub struct Journal {
     pub tally: Tally,
 }
 
-/// The journal of a player, if it is given. Player 1's is at place 0.
+/// Returns the journal of a player, if it is given. Player 1's is at place 0.
 pub fn journal_of(journals: &[Option<Journal>], player: Player) -> Option<&Journal>
     ensures { option_map (λ journal. seen journal.now) result ≡ all_seen journals.now player.number }
 {

@@ -1,4 +1,4 @@
-//! What the verdicts of an audit mean. Each law is the contract of a function that only calls laws of the crates below.
+//! What the verdicts of an audit mean. Each law is the contract of a function that calls only laws of the crates below.
 ghost use Rattle.std.specs.Prelude.{◌≡◌, ℕ, ◌^◌, ◌<◌, Some};
 ghost use Rattle.c8_game.specs.Rules.{Rules, AreInRange};
 ghost use Rattle.c8_known.specs.Known.{player_in};
@@ -13,15 +13,15 @@ ghost use Rattle.c8_audit.specs.Verdicts.{AreEntered, AreTrue, AreAgreed, IsLeas
 
 use crate::below::worlds_are_lawful;
 
-/// A yes means agreement, whoever wrote the journals: what the theorem about worlds says of one moment holds of them. The
-/// first readings are the journals of one world, the second ones those of another.
+/// A yes means agreement, whoever wrote the journals. What the theorem about worlds states for one moment holds for the
+/// first readings as the journals of one world, and the second readings as those of another.
 ///
-/// - `entered`: each input that a journal counts as confirmed is what its player entered, or empty from that player's cut
-///   on, as far as that player's journal is given.
+/// - `entered`: each input that a journal counts as confirmed is what its player entered, or empty from that player's
+///   cut on, as far as that player's journal is given.
 /// - `checks`: the last checkpoints are true.
-/// - `agree`: two players who were not dropped have the same inputs and the same machine, up to the frames that both count
-///   as confirmed.
-/// - `result`: so all who were not dropped have the same rows up to the least count of all.
+/// - `agree`: two players who were not dropped have the same inputs and the same machine, up to the frames that both
+///   count as confirmed.
+/// - `result`: so all undropped players have the same rows up to the least of their counts.
 pub fn a_yes_means_agreement()
     ensures entered { (rules : Rules) (e : Evidence) (w v : World) → AreOfWorlds rules e w v
         → AreEntered (seen_in rules e)
@@ -40,14 +40,14 @@ pub fn a_yes_means_agreement()
         → rows_below a.first N ≡ rows_below b.first N }
 {}
 
-/// An honest match is never accused, whichever of its journals are given beside player 1's. They were read at any moments,
-/// all of them before any was read once more, and each second reading begins with the first (`IsHonest`).
+/// An honest match is never accused, whichever journals are given beside player 1's. They may be read at any moments,
+/// if all first readings come before all second ones, and each second reading begins with the first (`IsHonest`).
 ///
 /// - `entered`, `checks`, `agree`: each verdict is yes.
 /// - `journals`: no reading is refused.
 ///
-/// The premise on the second readings is needed. A disk that refused a record may lose it at a crash, after a reading found
-/// it; then the peer may record another one in its place.
+/// The premise on the second readings is needed. A disk that refused a record may lose it at a crash after a first
+/// reading found it. Then the peer may record another one in its place.
 pub fn an_honest_match_is_never_accused()
     ensures entered { (rules : Rules) (room : ℕ) (e : Evidence) → AreInRange rules → room < 2 ^ 64
         → IsHonest rules room e → AreEntered (seen_in rules e) }

@@ -1,10 +1,11 @@
 //! Judges the journals of a match: whether the inputs in them were entered, whether their checkpoints are true, and
 //! whether the players who were not dropped agree.
 //!
-//! [`gather`] takes journals from the bytes that two readings of each file gave, [`judge`] is the whole audit of them, and
-//! [`digest_of`] the digest of the result. `specs/Journals.antt` says what is read of journals, `Images.antt` of which files,
-//! `Verdicts.antt` when each verdict is yes and which fault a no names, `Honest.antt` which journals an honest match leaves.
-//! [`laws`] has what follows: a yes means agreement, and an honest match is never accused.
+//! [`gather`] reads the journals from the bytes of files; each file is read twice. [`judge`] audits the journals, and
+//! [`digest_of`] returns the digest of the final machine. `specs/Images.antt` says which journal a file keeps,
+//! `Journals.antt` what the journals make known, `Verdicts.antt` when each verdict is yes and which fault a no names,
+//! `Honest.antt` which journals an honest match leaves. [`laws`] has what follows: a yes means agreement, and an honest
+//! match is never accused.
 #![tactic(auto)]
 
 mod agreed;

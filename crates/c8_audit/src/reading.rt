@@ -1,4 +1,4 @@
-//! One player's journal, out of two readings of its file.
+//! Reads one player's journal from two readings of its file.
 
 ghost use Rattle.std.specs.Prelude.{◌≡◌, ◌↔◌, true, IfOk, IfErr};
 ghost use Rattle.c8_known.specs.Growth.{Begins};
@@ -22,8 +22,8 @@ pub(crate) struct Reading {
     pub(crate) journal: Journal,
 }
 
-/// Reads the journal that the bytes of a file keep, by a first and by a second reading of it. The errors are checked in this
-/// order: what refuses the first reading, what refuses the second one, `Changed`.
+/// Reads a journal from two readings of its file. Errors are checked in this order: the first reading is refused, the
+/// second one is refused, `Changed`.
 pub(crate) fn read_twice(
     alloc: Global,
     game: &Game,
@@ -54,7 +54,7 @@ pub(crate) fn read_twice(
     Ok(joined(one, two, tally_of(first)))
 }
 
-/// What two readings of a journal make known.
+/// Joins two readings of a journal.
 fn joined(one: KeptJournal, two: KeptJournal, tally: Tally) -> Reading
     ensures room { result.room ≡ one.room }
     ensures first { result.journal.first ≡ one.known }
@@ -81,7 +81,7 @@ fn joined(one: KeptJournal, two: KeptJournal, tally: Tally) -> Reading
     Reading { room, journal }
 }
 
-/// Whether an image keeps what another one keeps, and maybe more after it.
+/// Returns whether the records of `later` begin with those of `first`.
 fn goes_on(first: &[u8], later: &[u8]) -> bool
     ensures { (result ≡ true) ↔ Begins (kept first.now) (kept later.now) }
 {

@@ -1,4 +1,4 @@
-//! The least fault of all players.
+//! Searches for the least fault of all players.
 
 ghost use Rattle.std.specs.Prelude.{◌≡◌};
 ghost use Rattle.c8_game.specs.Rules.{Rules};
@@ -12,10 +12,10 @@ use crate::fault::{Fault, Question};
 use crate::journal::Journal;
 use c8_game::Player;
 
-/// One more than the greatest number of a player.
+/// One more than the highest player number.
 pub const PLAYERS_END: u8 = 5;
 
-/// The least fault: that of the earliest frame, of these that of the least `one`, and of these that of the least `other`.
+/// Returns the least fault: faults are ordered by frame, then by `one`, then by `other`.
 pub(crate) fn least_fault(question: Question, journals: &[Option<Journal>]) -> Option<Fault>
     requires { (rules : Rules) × AreOfGame rules (all_seen journals.now) }
     ensures { IsLeast question (all_seen journals.now) result }
@@ -27,7 +27,7 @@ pub(crate) fn least_fault(question: Question, journals: &[Option<Journal>]) -> O
     least
 }
 
-/// The least fault of one player: that of the earliest frame, and of these that of the least other player.
+/// Returns the least fault of one player, ordered by frame and then by the other player.
 fn least_of(question: Question, journals: &[Option<Journal>], one: Player) -> Option<Fault>
     requires { (rules : Rules) × AreOfGame rules (all_seen journals.now) }
     ensures { IsLeastOf question (all_seen journals.now) one.number PLAYERS_END result }
@@ -42,7 +42,7 @@ fn least_of(question: Question, journals: &[Option<Journal>], one: Player) -> Op
     least
 }
 
-/// The first fault of two players.
+/// Returns the first fault of two players.
 fn first_fault(
     question: Question,
     journals: &[Option<Journal>],
@@ -59,7 +59,7 @@ fn first_fault(
     Some(Fault { frame, one, other })
 }
 
-/// The earlier of two faults; the first, if they are of the same frame.
+/// Returns the earlier of two faults; of two in the same frame the first.
 fn earlier(least: Option<Fault>, found: Option<Fault>) -> Option<Fault>
     ensures { result ≡ earlier_of least found }
 {

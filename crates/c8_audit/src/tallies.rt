@@ -1,4 +1,4 @@
-//! How many records a reading keeps.
+//! Counts the records of a reading.
 
 ghost use Rattle.std.specs.Prelude.{◌≡◌, length};
 ghost use Rattle.c8_log.specs.Slots.{kept};
@@ -6,7 +6,7 @@ ghost use Rattle.c8_log.specs.Slots.{kept};
 use c8_log::{kept_body, kept_len};
 use c8_record::{Record, view};
 
-/// What a reading keeps.
+/// The records of a reading, counted.
 #[derive(Clone, Copy, Debug, Default, PartialEq, Eq)]
 pub struct Tally {
     /// How many records.

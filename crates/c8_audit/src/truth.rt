@@ -1,4 +1,4 @@
-//! Whether the checkpoints in journals are true.
+//! Checks the checkpoints in journals.
 
 ghost use Rattle.std.specs.Prelude.{◌≡◌, ◌≢◌, ℕ, ◌+◌, ◌*◌, ◌<◌, ◌↔◌, true, take, drop, option_map, MatchOption};
 ghost use Rattle.c8_machine.specs.State.{state};
@@ -23,7 +23,7 @@ use c8_machine::Machine;
 /// The most marks that a checkpoint keeps.
 const MOST_MARKS: u32 = 16;
 
-/// The first player the last checkpoint of whose journal is not that of the serial run of the confirmed rows.
+/// Returns the first player whose journal has a last checkpoint that differs from the serial run of its confirmed rows.
 pub(crate) fn first_untrue(game: &Game, journals: &[Option<Journal>]) -> Option<Player>
     requires { AreOfGame game.now (all_seen journals.now) }
     ensures { MatchOption result (AreTrue game.now (all_seen journals.now))
@@ -38,7 +38,7 @@ pub(crate) fn first_untrue(game: &Game, journals: &[Option<Journal>]) -> Option<
     None
 }
 
-/// Whether the last checkpoint of a journal is true, if the journal is given and has one.
+/// Returns whether a journal's last checkpoint is true. True also without a journal or a checkpoint.
 fn is_true(game: &Game, journal: Option<&Journal>) -> bool
     ensures { (result ≡ true) ↔ IsTrueAt game.now (option_map (λ journal. seen journal.now) journal.entry) }
 {
@@ -51,7 +51,7 @@ fn is_true(game: &Game, journal: Option<&Journal>) -> bool
     }
 }
 
-/// Whether the confirmed rows lead to a checkpoint, run from the first frame on.
+/// Runs the confirmed rows from the first frame on, and returns whether they lead to the checkpoint.
 fn is_on_the_way(game: &Game, known: &Known, last: &Checkpoint) -> bool
     ensures { (result ≡ true) ↔ IsOnTheWay game.now known.now (origin_of last.now) }
 {
@@ -68,7 +68,8 @@ fn is_on_the_way(game: &Game, known: &Known, last: &Checkpoint) -> bool
     has_mark(&machine, last, last.frames) && is_same(&machine, &last.machine)
 }
 
-/// Whether a checkpoint has the machine's mark for a frame, if it keeps one for that frame.
+/// Returns whether a checkpoint's mark for a frame is the machine's. True if the checkpoint keeps no mark for that
+/// frame.
 fn has_mark(machine: &Machine, last: &Checkpoint, frame: u32) -> bool
     ensures { (result ≡ true)
         ↔ HasMark last.now.frames last.now.marks frame (mark_of (state machine.now)) }
@@ -79,7 +80,7 @@ fn has_mark(machine: &Machine, last: &Checkpoint, frame: u32) -> bool
     }
 }
 
-/// The place of the mark for a frame among those that are kept after `frames` frames.
+/// Returns the place of a frame's mark among the marks that are kept after `frames` frames.
 fn mark_place(frames: u32, frame: u32) -> Option<usize>
     ensures { MatchOption result
         ((k : ℕ) → k < marks_after frames → mark_step * (forgotten_after frames + k) ≢ frame)

@@ -13,17 +13,18 @@ use crate::search::least_fault;
 use crate::truth::first_untrue;
 use c8_game::{Game, Player};
 
-/// What an audit says of the journals of a match.
+/// The verdicts of an audit.
 #[derive(Clone, Copy, Debug, PartialEq, Eq)]
 pub struct Verdicts {
-    /// The least input that a journal counts as confirmed and that was not entered: by its frame, then by its player, then
-    /// by whose journal it is.
+    /// The first input that a journal counts as confirmed although its player did not enter it. Inputs are ordered by
+    /// frame, then by player, then by the journal's player.
     pub unentered: Option<Fault>,
     /// The first player whose journal's last checkpoint is not true.
     pub untrue: Option<Player>,
-    /// The least difference: by its frame, then by the two players, of whom `one` has the lower number.
+    /// The first difference between two undropped players, ordered by frame and then by the two players. `one` has the
+    /// lower number.
     pub difference: Option<Fault>,
-    /// How many frames are confirmed by all who were not dropped.
+    /// How many frames every undropped player has confirmed.
     pub count: u32,
 }
 
@@ -49,7 +50,7 @@ pub fn judge(game: &Game, journals: &[Option<Journal>]) -> Verdicts
     }
 }
 
-/// The least input that was not entered.
+/// Returns the first input that was not entered.
 fn unentered(journals: &[Option<Journal>]) -> Option<Fault>
     requires { (rules : Rules) × AreOfGame rules (all_seen journals.now) }
     ensures { MatchOption result (AreEntered (all_seen journals.now))
@@ -59,7 +60,7 @@ fn unentered(journals: &[Option<Journal>]) -> Option<Fault>
     least_fault(Question::Entered, journals)
 }
 
-/// The least difference.
+/// Returns the first difference.
 fn difference(journals: &[Option<Journal>]) -> Option<Fault>
     requires { (rules : Rules) × AreOfGame rules (all_seen journals.now) }
     ensures agreed { IfNone result ((rules : Rules) → AreAgreed rules (all_seen journals.now)) }

@@ -1,4 +1,4 @@
--- When a session has no more to do.
+-- When a session is over.
 use Rattle.std.specs.Prelude.{◌≡◌, ◌⊎◌, ◌<◌, true}
 use Rattle.c8_known.specs.Known.{player_in}
 use Rattle.c8_peer.specs.Peer.{known_by}

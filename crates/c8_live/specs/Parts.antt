@@ -1,4 +1,4 @@
--- What a queue hands on, in order; some of it may be lost.
+-- What a queue passes on. It keeps the order and may lose items.
 use Rattle.std.specs.Prelude.{◌≡◌, ◌⊎◌, ℕ, List, [], ◌∷◌, ◌++◌}
 
 -- the first list is the second one with some elements left out

@@ -24,7 +24,8 @@ pub record HasRunOn {D : Type 0} (disk : Ghosts D) (old new : PeerValue D) : Typ
   pub run : IsRun old.rules old.room old.me old.state (map does calls) answers new.state
   pub disk_is : IsSameDisk disk old.disk new.disk
 
--- After such a run one more call, answered as its contract says, whose record the disk refused for this reason.
+-- A run, and one more call that is answered as its contract says. The disk refused the record of that call for this
+-- reason.
 pub record IsStopped {D : Type 0} (disk : Ghosts D) (old new : PeerValue D) (why : DiskError) : Type 0 where
   pub before : PeerValue D
   pub ran : HasRunOn disk old before
@@ -33,7 +34,7 @@ pub record IsStopped {D : Type 0} (disk : Ghosts D) (old new : PeerValue D) (why
   pub answered : IsAnswered disk before call reply new
   pub refused : luck_of reply ≡ Refuses why
 
--- why a session cannot go on; about a failure of the wire it says nothing
+-- why a session cannot go on; nothing is claimed for a failure of the wire
 abbrev pub IsEnd : {D : Type 0} → Ghosts D → PeerValue D → PeerValue D → SessionError → Type 0
 IsEnd disk old new (Disk why) = IsStopped disk old new why
 IsEnd disk old new (Wire failed) = Unit {0}

@@ -1,11 +1,11 @@
-//! What the threads of a peer count, for other threads to read.
+//! Counts of a peer's threads, for other threads to read.
 use crate::session::Session;
 use c8_disk::Disk;
 use c8_game::{MOST_PLAYERS, Player};
 use c8_transport::Losses;
 use std::sync::atomic::{AtomicBool, AtomicU64, Ordering};
 
-/// How far a peer is, beside what is confirmed, which its board shows.
+/// How far a peer is, except for its confirmed frames, which its board shows.
 #[derive(Clone, Copy, Debug, PartialEq, Eq)]
 pub struct Standing {
     /// How many frames it has ticked.
@@ -18,9 +18,9 @@ pub struct Standing {
     pub heard: [u64; MOST_PLAYERS],
     /// Whether another player's machine differed.
     pub is_alarmed: bool,
-    /// How many packets were lost: an inlet was full, or the network reported an error that passes.
+    /// How many packets were lost, because an inlet was full or the network reported a temporary error.
     pub lost: u64,
-    /// How many packets came from elsewhere than a player or watcher of the match.
+    /// How many packets came from an address of no player or watcher of the match.
     pub foreign: u64,
     /// How many packets were not sealed with the key of the match.
     pub unsealed: u64,
@@ -65,7 +65,7 @@ impl Counters {
         }
     }
 
-    /// Notes the turn that a session has just made, and how many packets its wire has lost so far.
+    /// Notes the last turn of a session, and how many packets its wire has lost so far.
     pub fn note<D: Disk>(&self, session: &Session<'_, D>, lost: u64) {
         let peer = session.peer();
         let rollbacks = session.rollbacks();
@@ -87,12 +87,12 @@ impl Counters {
         }
     }
 
-    /// Adds packets that the inbox had no place for.
+    /// Counts packets for which the inbox had no place.
     pub fn lose(&self, packets: u64) {
         self.lost_in.fetch_add(packets, Ordering::SeqCst);
     }
 
-    /// Notes what the wire to the network has lost and turned away so far.
+    /// Notes how many packets the wire has lost and rejected so far.
     pub fn note_wire(&self, losses: Losses) {
         self.lost_there.store(losses.lost, Ordering::SeqCst);
         self.foreign.store(losses.foreign, Ordering::SeqCst);

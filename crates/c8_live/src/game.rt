@@ -27,21 +27,23 @@ use c8_record::laws::checkpoints_are_in_order;
 use c8_transport::{Gate, Wire, Worker};
 use std::alloc::{AllocError, Global};
 
-/// Gives the key sets of a player, one a turn.
+/// A source of a player's key sets, one a turn.
 pub trait KeySource {
     /// The key set to enter in the next turn, or `None` to leave out the tick.
     fn next_keys(&mut self) -> Option<Keys>;
 
-    /// Notes that the peer took the key set that `next_keys` gave last. Without this call the set was refused, and is
-    /// wanted again.
+    /// Notes that the peer took the last key set of `next_keys`. Without this call the peer refused it, and the source
+    /// should return it again.
     fn taken(&mut self);
 }
 
-/// Makes at most `turns` turns of a session, each with the next key set of a source, until the session is over, a
-/// viewer of the board asks for the end, or the gate ends it. Returns how many it made. The pen publishes what is
-/// confirmed before the first turn, and after each that confirmed more; after each turn the counters note it. The board's run begins where the peer's machine began, so if the checkpoints of the peer's
-/// journal are true, the board shows the serial run (`true_checks_show_the_serial_run`). The error is the disk's or the
-/// wire's; the pen then still shows what was confirmed before that turn.
+/// Makes at most `turns` turns of a session, each with the next key set of a source. It ends earlier if the session is
+/// over, a viewer of the board asks for the end, or the gate ends it. Returns how many turns it made.
+///
+/// The pen publishes the confirmed machine before the first turn, and after each turn that confirmed more. The counters
+/// note every turn. The board's run begins where the peer's machine began, so if the checkpoints of the peer's journal
+/// are true, the board shows the serial run (`true_checks_show_the_serial_run`). The error is the disk's or the wire's;
+/// the pen then still shows what was confirmed before that turn.
 pub fn game_worker<D: Disk, K: KeySource, W: Wire, G: Gate>(
     session: &mut Session<'_, D>,
     keys: &mut K,
@@ -100,7 +102,7 @@ fn turn_with<D: Disk, K: KeySource, W: Wire>(
     Ok(())
 }
 
-/// Opens a board that shows what is confirmed at a peer, with its pen and 1 to 4 viewers. The board's run begins where
+/// Opens a board that shows what a peer has confirmed, with its pen and 1 to 4 viewers. The board's run begins where
 /// the peer's machine began. The error is that memory ran out.
 pub fn open_board<D: Disk>(
     alloc: Global,
@@ -154,8 +156,8 @@ fn open_at<D: Disk>(
     Board::open(alloc, game, count, machine, viewers)
 }
 
-/// Publishes what is confirmed at a peer, unless these are the frames that were published last. Returns how many frames
-/// are published then. To publish takes a hash of the machine's state, so it is done only where the count has moved.
+/// Publishes what a peer has confirmed, unless it was published before. Returns how many frames are published now.
+/// Publishing hashes the machine's state, so it happens only after the count has changed.
 fn publish_more<D: Disk>(peer: &Peer<'_, D>, published: u32, board: &Board, pen: &mut Pen) -> u32
     requires published { published ≡ length pen.old.rows }
     requires board { pen.old.board ≡ board.now }
@@ -174,7 +176,7 @@ fn publish_more<D: Disk>(peer: &Peer<'_, D>, published: u32, board: &Board, pen:
     publish(peer, board, pen)
 }
 
-/// Publishes what is confirmed at a peer, and returns how many frames these are.
+/// Publishes what a peer has confirmed, and returns how many frames that is.
 fn publish<D: Disk>(peer: &Peer<'_, D>, board: &Board, pen: &mut Pen) -> u32
     requires board { pen.old.board ≡ board.now }
     requires game { pen.old.game ≡ peer.now.rules }

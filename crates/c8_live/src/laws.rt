@@ -1,4 +1,4 @@
-//! Facts for callers that no single call states.
+//! Facts for callers that belong to no single call.
 ghost use Rattle.std.specs.Prelude.{◌≡◌, ◌≢◌, ℕ, ◌+◌, List, [], ◌∷◌, ◌++◌, length, Some, Ok};
 ghost use Rattle.c8_peer.specs.Lawful.{IsCall};
 ghost use Rattle.c8_peer.specs.Peer.{PeerValue, IsAnswered, IsSaid, IsSound, known_by, begun_by};
@@ -184,7 +184,7 @@ pub fn turns_run_on<D: Disk, W: Wire>()
     runs_join();
 }
 
-/// What a queue hands on: nothing (`none`), one packet that may be lost (`once`), one list after another (`joined`).
+/// What a queue passes on: nothing (`none`), one packet that may be lost (`once`), one list after another (`joined`).
 pub fn handings_on_join()
     ensures none { (from from_now to to_now : List (List ℕ)) → from_now ≡ from → to_now ≡ to
         → IsHandedOn from from_now to to_now }

@@ -2,14 +2,13 @@
 //! repeat datagrams.
 //!
 //! [`Session`] is the loop: each call of [`Session::turn`] hears, enters a key set and speaks over a `Wire` of
-//! c8_transport. [`Progress`] and [`tell_end`] print how far the peer is and how it ended. c8_peer decides what each call
-//! does, and c8_schedule which call comes when. The contract
-//! of `Session::turn` says that a turn changes its peer by these calls alone, in their order, and that its wire takes
-//! nothing but what the peer said.
+//! c8_transport. c8_peer decides what each call does, and c8_schedule when each call comes. The contract of
+//! `Session::turn` says that a turn changes its peer by these calls alone, in their order, and that its wire takes only
+//! what the peer said. [`Progress`] and [`tell_end`] print how far the peer is and how it ended.
 //!
-//! A peer may run in two threads. [`game_worker`] makes the turns of a session with the key sets of a [`KeySource`], and
-//! publishes on a board what is confirmed ([`open_board`] opens a board for a peer). [`net_worker`] moves packets between
-//! a wire and the inlets of a [`Relay`], the wire of the game thread. [`Counters`] show others how far they are.
+//! A peer may run in two threads. [`game_worker`] makes the turns of a session with the key sets of a [`KeySource`],
+//! and publishes the confirmed machine on a board, which [`open_board`] opens. [`net_worker`] moves packets between a
+//! wire and the inlets of a [`Relay`], the wire of the game thread. [`Counters`] show other threads how far both are.
 #![tactic(auto)]
 
 mod counters;

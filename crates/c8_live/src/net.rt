@@ -14,12 +14,13 @@ use std::time::Duration;
 /// How many packets an inlet between the two workers holds.
 pub const PLACES: usize = 64;
 
-/// How many milliseconds the net worker waits for a packet at most, before it looks whether it has to end.
+/// The longest wait of the net worker for a packet, in milliseconds. Then it checks whether it has to end.
 const LONGEST_WAIT: u64 = 20;
 
-/// Moves packets until the gate ends it: from the wire into the inbox, and from the outbox to the wire. If the inbox is
-/// full, the packet is lost and counted. Once it has taken all packets that had come, it waits at the wire for more; whoever
-/// fills the outbox ends this wait, if it has to. The error is the wire's; what was moved before it stays moved.
+/// Moves packets from the wire into the inbox, and from the outbox to the wire, until the gate ends it. If the inbox is
+/// full, the packet is lost and counted. When no packet is left at the wire, it waits there for at most 20 ms. If the
+/// outbox must not wait that long, whoever fills it ends the wait. The error is the wire's; packets that were moved
+/// before it stay moved.
 pub fn net_worker<R: Wait, W: Wire, G: Gate>(
     rt: &R,
     wire: &mut W,
@@ -52,7 +53,7 @@ pub fn net_worker<R: Wait, W: Wire, G: Gate>(
     Ok(())
 }
 
-/// Waits for the next packet, if all that had come were taken.
+/// Waits for the next packet, if none was left.
 fn rest<W: Wire>(wire: &mut W, is_all: bool)
     ensures sent { W.sent wire.new ≡ W.sent wire.old }
     ensures received { W.received wire.new ≡ W.received wire.old }

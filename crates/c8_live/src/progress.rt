@@ -40,11 +40,11 @@ impl Progress {
         }
     }
 
-    /// Writes a line if a second has passed since the last one; call it often, with the number of confirmed frames. A
+    /// Writes a line if a second has passed since the last one. Call it often, with the number of confirmed frames. A
     /// line is like `ticked 96, confirmed 88, rollbacks 3, longest 5, player 2 silent for 16 ms`. The first two are
     /// numbers of frames. The rollbacks are those since the last line, and the longest one's frames. For each other
-    /// player follows the time since it was last heard, then `2 packets lost`, `12 packets from elsewhere` and `3 packets
-    /// not sealed` if there were any since the start, and `the machines differ` while the alarm stands.
+    /// player follows the time since it was last heard, then `2 packets lost`, `12 packets from elsewhere` and `3
+    /// packets not sealed` if there were any since the start, and `the machines differ` while the alarm stands.
     pub fn tell<E: Write>(
         &mut self,
         out: &mut E,

@@ -94,10 +94,10 @@ impl<'g, D: Disk> Session<'g, D> {
         self.peer.dropped() || self.schedule.has_rested()
     }
 
-    /// Makes one turn. The peer hears at most 256 packets of the wire, enters `keys` (with `None` it does not tick), drops
-    /// silent players and cuts if it is player 1, records at most one part of a checkpoint, and speaks. Returns whether
-    /// the key set was taken: the peer refuses it at the window's limit, after the last frame, and when it is down or
-    /// dropped; enter it again in the next turn. An error of the disk or of the wire ends the session.
+    /// Makes one turn. The peer hears at most 256 packets of the wire, enters `keys` (with `None` it does not tick),
+    /// drops silent players and cuts if it is player 1, records at most one part of a checkpoint, and speaks. Returns
+    /// whether the key set was taken: the peer refuses it at the window's limit, after the last frame, and when it is
+    /// down or dropped; enter it again in the next turn. An error of the disk or of the wire ends the session.
     pub fn turn<W: Wire>(&mut self, keys: Option<Keys>, wire: &mut W) -> Result<bool, SessionError>
         ensures turn { IsTurn D.Disk W.Wire self.old.peer self.new.peer wire.old wire.new }
         ensures handed_in { IfOk result (λ taken. HasHandedIn D.Disk W.Wire keys taken
@@ -186,14 +186,15 @@ impl<'g, D: Disk> Session<'g, D> {
         }
     }
 
-    /// Player 1 drops this player in the next turn, however long it has been silent. At another player it changes nothing.
+    /// Makes player 1 drop this player in the next turn, whether or not it is silent. On another player's session it
+    /// changes nothing.
     pub fn give_up(&mut self, player: Player)
         ensures { self.new.peer ≡ self.old.peer }
     {
         self.schedule.give_up(player);
     }
 
-    /// Drops the players who have been silent for `patience` turns, or were given up, if this is player 1.
+    /// If this is player 1, drops the players who have been silent for `patience` turns, and those of `give_up`.
     fn let_go(&mut self) -> Result<(), SessionError>
         ensures ran { HasDone D.Disk LetsGo self.old.peer self.new.peer }
         ensures end { IfErr result (IsEnd D.Disk self.old.peer self.new.peer) }
@@ -211,7 +212,7 @@ impl<'g, D: Disk> Session<'g, D> {
         Ok(())
     }
 
-    /// Cuts the leavers whose drop round is ready, if this is player 1.
+    /// If this is player 1, cuts the leavers whose drop round is ready.
     fn cut(&mut self) -> Result<(), SessionError>
         ensures ran { HasDone D.Disk Cuts self.old.peer self.new.peer }
         ensures end { IfErr result (IsEnd D.Disk self.old.peer self.new.peer) }
@@ -246,7 +247,7 @@ impl<'g, D: Disk> Session<'g, D> {
         }
     }
 
-    /// Sends each other player what is due, and shows the watchers what they lack.
+    /// Sends each other player the datagrams that are due, and the watchers the rows that they lack.
     fn speak<W: Wire>(&self, wire: &mut W) -> Result<(), WireFailed>
         ensures spoke { HasSpoken D.Disk W.Wire self.now.peer wire.old wire.new }
     {
@@ -259,7 +260,7 @@ impl<'g, D: Disk> Session<'g, D> {
         self.show(wire)
     }
 
-    /// Sends a player all that is due to it in this turn.
+    /// Sends a player every datagram that is due in this turn.
     fn speak_to<W: Wire>(&self, wire: &mut W, to: Player) -> Result<(), WireFailed>
         ensures spoke { HasSpoken D.Disk W.Wire self.now.peer wire.old wire.new }
     {

@@ -35,8 +35,8 @@ IsNoKeys input (Open error) = ⊥
 IsNoKeys input (Disk why) = why ≡ disks.Failed
 IsNoKeys input (Socket error) = ⊥
 
--- Why a match of a game of so many players cannot begin, in this order: a wrong number of addresses of other players; an
--- address that is refused, without saying which; a fault of standard input.
+-- Why a match of this many players cannot begin, in this order: a wrong number of addresses of other players; a refused
+-- address, which is not named; a fault of standard input.
 abbrev pub IsNoMatch : ℕ → Option (List ℕ) → ℕ → PeerError → Type 0
 IsNoMatch players input remotes (Game error) = ⊥
 IsNoMatch players input remotes (Secret error) = ⊥
@@ -71,13 +71,13 @@ module _ {D : Type 0} (g : Ghosts D) (disk : D) (rules : Rules) (room me : ℕ) 
     pub machine : state played.machine ≡ run_since rules (begun_by first) (confirmed_rows (known_by last))
     pub serial_is : HasTrueLast rules me (records_of (bodies_found g disk)) → state played.machine ≡ serial rules (confirmed_rows (known_by last))
 
-  -- the journal was opened, and memory for the rest of a match is missing
+  -- the journal was opened, and memory ran out for the rest of the match
   abbrev pub IsWithoutRoom : OpenError → Type 0
   IsWithoutRoom error = (error ≡ opens.Memory) × (first : PeerValue D) × IsOpened g disk rules room me first
 
-  -- The journal's opening was refused; or memory for the rest ran out; or the peer ran on until its disk failed and
-  -- refused a record; or the system started no thread, and the journal was opened alone. About a socket that failed this
-  -- says nothing.
+  -- Why a match ended early: the journal's opening was refused; or memory for the rest ran out; or the peer ran on
+  -- until its disk failed and refused a record; or the system started no thread, so that only the journal was opened.
+  -- Nothing is claimed for a socket that failed.
   abbrev pub HasFailed : PeerError → Type 0
   HasFailed (Game error) = ⊥
   HasFailed (Secret error) = ⊥

@@ -29,9 +29,9 @@ pub struct Asked<'m, 'a> {
     pub has_room: bool,
     /// How many turns the session makes at most.
     pub turns: u64,
-    /// After how many silent turns player 1 drops a player; `None` for never.
+    /// How many silent turns make player 1 drop a player; `None` for never.
     pub patience: Option<u64>,
-    /// The session ends once this many frames are confirmed; `None` for never.
+    /// How many confirmed frames end the session; `None` for no such limit.
     pub stop: Option<u64>,
     /// After how many confirmed frames the peer makes the next checkpoint; 0 for never.
     pub checkpoint: u32,
@@ -41,7 +41,7 @@ pub struct Asked<'m, 'a> {
     pub explain: bool,
 }
 
-/// The journal that stands for none: it is kept in memory.
+/// The word for no journal file: the journal is kept in memory.
 const NO_JOURNAL: &str = "-";
 
 impl Asked<'_, '_> {
@@ -191,12 +191,12 @@ pub fn asked_for<'m, 'a>(given: &'m ArgMatches<'a>, player: Player) -> Asked<'m,
     }
 }
 
-/// A number of frames as 32 bits; no game has as many frames as the greatest.
+/// A number of frames in 32 bits. A larger one becomes the greatest, which no game reaches.
 fn interval_of(frames: u64) -> u32 {
     u32::try_from(frames).unwrap_or(u32::MAX)
 }
 
-/// The number that an option was given, or its default.
+/// The number of an option, or its default.
 pub fn number_of(given: &ArgMatches<'_>, name: &str) -> Option<u64> {
     given.get_one::<u64>(name)
 }

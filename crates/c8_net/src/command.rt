@@ -32,8 +32,8 @@ use std::sync::Wait;
 use std::thread::Threads;
 use std::time::Clock;
 
-/// Runs `peer` as the command line asks. Says on `refused` that it reads keys, if nobody has redirected its input. The
-/// error is a writer's.
+/// Runs `peer` as the command line asks. If the input is a terminal, it writes to `refused` that it reads keys from
+/// there. The error is a writer's.
 pub fn peer_given<R, I, W, E>(
     rt: &R,
     given: &ArgMatches<'_>,
@@ -65,8 +65,8 @@ where
     }
 }
 
-/// Plays what a command line asks for by a performance, unless [`peer_given`] would refuse the line. The error is a
-/// writer's.
+/// Plays a match by a performance, as the command line asks. It refuses the command lines that [`peer_given`] refuses.
+/// The error is a writer's.
 pub fn perform_given<R, P, W, E>(
     rt: &R,
     asked: &Asked<'_, '_>,
@@ -92,7 +92,7 @@ fn refuse_line<E: Write>(mistake: &str, refused: &mut E) -> io::Result<Status> {
     Ok(Status::CommandLine)
 }
 
-/// Why what was asked for does not fit together, if it does not.
+/// Returns why the options do not fit together; `None` if they do.
 fn mistake_in(asked: &Asked<'_, '_>) -> Option<&'static str> {
     let [five, six] = asked.watchers;
     if !asked.player.is_chair() && (five.is_some() || six.is_some()) {
@@ -101,7 +101,7 @@ fn mistake_in(asked: &Asked<'_, '_>) -> Option<&'static str> {
     if asked.watch_secret.is_some() && (asked.secret.is_none() || !asked.player.is_chair()) {
         return Some("--watch-secret is for player 1 alone, beside --secret");
     }
-    // A journal in memory is empty at each start: in a room that was used before, the others take its epochs for old ones.
+    // A journal in memory is empty at each start. In a used room the others would take its epochs for old ones.
     if asked.has_no_journal() && !asked.has_room {
         return Some("without a journal ('-') --room has to be given, a new one for each match");
     }
@@ -223,8 +223,8 @@ pub fn refuse<E: Write>(
 }
 
 /// Prepares a match, and opens the disk of its journal. Faults are found in this order: the game's file, the game, the
-/// secrets, all that `prepare` checks, a player that the game does not have, the journal's file. The journal's opening and
-/// the socket come later.
+/// secrets, all that `prepare` checks, a player that the game does not have, the journal's file. The journal's opening
+/// and the socket come later.
 fn begun<'a, 't, R, I>(
     rt: &R,
     asked: &Asked<'_, 'a>,
@@ -251,7 +251,7 @@ where
         Ok(it) => it,
         Err(it) => return Err(at_start(it)),
     };
-    // The opening would refuse it too, but only after a journal was made.
+    // The opening would refuse it too, but only after it has made a journal.
     if asked.player.number > it.game.players() {
         let error = PeerError::Open(OpenError::WrongPlayer);
         return Err(Fault::new(rt.alloc(), error, asked.journal));

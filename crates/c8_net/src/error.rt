@@ -13,7 +13,7 @@ use c8_sealed::SecretError;
 use c8_udp::{SocketError, SocketFault};
 use thiserror::Error;
 
-/// Why the command `peer` refuses, or ends before its game does.
+/// Why the command `peer` refuses, or ends before its game.
 #[derive(Clone, Copy, Debug, PartialEq, Eq, Error)]
 pub enum PeerError {
     /// The text of the game has a fault.

@@ -1,4 +1,4 @@
-//! Why nothing was played, and where the fault is.
+//! The fault for which nothing was played, and its place.
 
 ghost use Rattle.std.specs.Prelude.{◌≡◌};
 
@@ -27,11 +27,11 @@ pub struct Fault<'a> {
     pub(crate) file: &'a str,
     /// The content of the file, if a line of it may be at fault.
     pub(crate) text: Vec<u8>,
-    /// What says more than the error, if anything does.
+    /// The detail of the error, if there is one.
     pub(crate) why: Option<Why>,
 }
 
-/// What says more than an error of the command.
+/// The detail of an error of the command.
 #[derive(Clone, Copy, Debug, Error)]
 pub(crate) enum Why {
     /// A text was not read.
@@ -124,11 +124,11 @@ impl<'a> Fault<'a> {
     }
 }
 
-/// The end of the name of a file that has the bytes of a program in place of a game's text.
+/// The name of a file ends so if it has the bytes of a program, and not a game's text.
 const PROGRAM: &[u8] = b".ch8";
 
-/// Reads the game in a file: its text, or of a program's bytes the game with the usual settings. Faults are found in this
-/// order: the file, the game.
+/// Reads the game in a file: a game's text, or the bytes of a program, which get the usual settings. Faults are found
+/// in this order: the file, the game.
 pub fn game_at<'a, R>(rt: &R, path: &'a str) -> Result<Game, Fault<'a>>
 where
     R: Files<File = File> + AllocGlobal,
@@ -151,7 +151,7 @@ where
     }
 }
 
-/// The address that cannot be read, in place of a file; nothing if it is empty.
+/// The site of an address that cannot be read, in place of a file; no site if the word is empty.
 fn address_site<'a>(no_address: Option<&'a str>) -> Site<'a> {
     match no_address {
         Some(word) if !word.is_empty() => Site::File(word),

@@ -1,4 +1,4 @@
-//! Where a journal is kept: in a file, or in memory.
+//! The disk of a journal: a file, or memory.
 
 use crate::arguments::Asked;
 use crate::error::PeerError;
@@ -18,10 +18,11 @@ use std::{fs, io};
 /// How many bytes a journal in a file may have.
 const JOURNAL_CAPACITY: u32 = 1_073_741_824;
 
-/// How many records a journal in memory takes beside one for each frame and player: openings, epochs, drop rounds.
+/// How many records a journal in memory has room for besides one for each frame and player: openings, epochs, drop
+/// rounds.
 const SPARE_RECORDS: u32 = 1024;
 
-/// How many calls of the disk a record takes, and an opening.
+/// How many calls of the disk a record takes; below, how many an opening takes.
 const CALLS_OF_RECORD: u32 = 4;
 
 const CALLS_OF_OPENING: u32 = 16;
@@ -44,8 +45,8 @@ pub(crate) enum Journal<'t> {
     Memory(MemDisk),
 }
 
-/// Opens the journal that is asked for: a file, which is created if it is missing, or with `-` one in memory, with room
-/// for the whole game. `trouble` keeps the system's error if the file fails, now or later.
+/// Opens the journal of the command line: a file, which is created if it is missing, or with `-` memory with room for
+/// the whole game. `trouble` keeps the system's error if the file fails, now or later.
 pub(crate) fn journal_at<'a, 't, R>(
     rt: &R,
     asked: &Asked<'_, 'a>,
@@ -105,8 +106,8 @@ fn in_memory(alloc: Global, game: &Game) -> Result<MemDisk, AllocError> {
     MemDisk::new(alloc, bytes, calls)
 }
 
-/// Writes a line to `out` if the disk of a journal is too slow for a match of two at sixty frames a second. The error is the
-/// writer's.
+/// Writes a line to `out` if the disk of a journal is too slow for a match of two at sixty frames a second. The error
+/// is the writer's.
 pub(crate) fn warn_of_a_slow_disk<R, E>(rt: &R, journal: &str, out: &mut E) -> io::Result<()>
 where
     R: Files<File = File> + Clock,
@@ -123,7 +124,7 @@ where
     Ok(())
 }
 
-/// How long `TIMED` syncs of a file take, each after its time has changed; `None` if that cannot be measured.
+/// Measures how long `TIMED` syncs of a file take, each after a change of the file's time; `None` if that fails.
 fn syncs_at<R: Files<File = File> + Clock>(rt: &R, path: &str) -> Option<Duration> {
     let file = fs::open(rt, path).ok()?;
     let begun = rt.monotonic().ok()?;
@@ -134,8 +135,8 @@ fn syncs_at<R: Files<File = File> + Clock>(rt: &R, path: &str) -> Option<Duratio
     Some(rt.monotonic().ok()?.saturating_sub(begun))
 }
 
-/// How many milliseconds the journal takes in a frame of a match of two, if a sync takes so long and that is more than a
-/// frame has.
+/// Returns how many milliseconds the journal needs in each frame of a match of two, by the measured syncs. `None` if
+/// that fits a frame.
 pub fn slow_frame(sync: Duration) -> Option<u128> {
     let frame = sync.saturating_mul(SYNCS_OF_FRAME);
     if frame > Duration::from_secs(1) / RATE {

@@ -3,7 +3,7 @@
 use c8_game::Keys;
 use c8_live::KeySource;
 
-/// The key sets of a text, one a tick. After the last one no key is held.
+/// The key sets of a text, one a tick. After the last one no key is down.
 #[derive(Drop)]
 pub(crate) struct KeyList {
     sets: Vec<Keys>,

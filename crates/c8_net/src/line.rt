@@ -1,4 +1,4 @@
-//! The way to the other players and the watchers.
+//! The wire to the other players and the watchers.
 
 use crate::error::Unopened;
 use c8_sealed::Seal;
@@ -6,7 +6,7 @@ use c8_udp::{Addresses, Bell, PolledUdp, SocketFault, Udp};
 use std::io::ErrorKind;
 use std::net::Net;
 
-/// How the other players and the watchers of a match are reached, and with what packets are sealed, if it has a secret.
+/// The addresses of the other players and the watchers, and the seal of a match with a secret.
 #[derive(Drop)]
 pub struct Line {
     pub addresses: Addresses,
@@ -14,7 +14,8 @@ pub struct Line {
 }
 
 impl Line {
-    /// Opens the socket. In a match with a secret it gives packets from whatever address, since they have to open.
+    /// Opens the socket. In a match with a secret it returns packets from any address, because the seal shows who
+    /// sent them.
     pub fn open<R: Net>(&self, rt: &R) -> Result<Udp, SocketFault> {
         let udp = Udp::open(rt, &self.addresses)?;
         if self.seal.is_some() {
@@ -24,7 +25,7 @@ impl Line {
         }
     }
 
-    /// Opens the socket, and lets it wait; with its bell.
+    /// Opens the socket as a wire that can wait, with its bell.
     pub(crate) fn open_polled<R>(&self, rt: &R) -> Result<(PolledUdp, Bell), Unopened>
     where
         R: Net + AllocGlobal,

@@ -1,4 +1,4 @@
-//! When the threads of a peer go on, and when they end.
+//! Paces the threads of a peer, and ends them.
 use c8_transport::{Gate, Worker};
 use c8_udp::Bell;
 use std::sync::atomic::{AtomicBool, Ordering};
@@ -8,12 +8,12 @@ use std::time::{Clock, Duration};
 /// How many microseconds the game thread sleeps after a turn.
 const GAME_PAUSE: u64 = 1000;
 
-/// How often the game thread looks for the viewer's thread, which as a rule runs at once.
+/// The most checks of the game thread for the viewer's thread. As a rule that thread runs at once.
 const MOST_LOOKS: u16 = 5000;
 
-/// Lets the game thread sleep after each turn, and rings the bell of the wire then, so that the net thread sends what
-/// the turn said. The net thread waits at its wire. The game thread ends when the net thread has ended. The net thread
-/// ends one turn after the game thread, so that it sends the last datagrams.
+/// Paces both threads. After each turn of the game thread it rings the bell of the wire, so that the net thread sends
+/// the turn's datagrams, and the game thread sleeps. The net thread waits at its wire. The game thread ends when the
+/// net thread has ended. The net thread ends one turn after the game thread, so that it sends the last datagrams.
 #[derive(Drop)]
 pub(crate) struct Pace<'r, R> {
     rt: &'r R,
@@ -42,8 +42,8 @@ impl<'r, R: Clock> Pace<'r, R> {
         self.has_viewer.store(true, Ordering::SeqCst);
     }
 
-    /// Whether the viewer's thread runs, or begins within some seconds. If the system starts no thread, `thread::join`
-    /// runs it after the caller's, which would wait for ever.
+    /// Waits some seconds for the viewer's thread, and returns whether it runs. The limit is needed: if the system
+    /// starts no thread, `thread::join` runs the viewer after the caller, which would wait forever.
     pub(crate) fn has_viewer(&self) -> bool {
         for _ in 0..MOST_LOOKS {
             if self.has_viewer.load(Ordering::SeqCst) {

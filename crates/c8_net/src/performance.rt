@@ -1,4 +1,4 @@
-//! How a match is played once its journal is open.
+//! Plays a match once its journal is open.
 
 ghost use Rattle.std.specs.Prelude.{◌≡◌, IfOk};
 ghost use Rattle.c8_peer.specs.Peer.{PeerValue};
@@ -23,7 +23,7 @@ pub struct Ended<'g, D: Disk> {
 }
 
 impl<'g, D: Disk> Ended<'g, D> {
-    /// Adds whether another thread could use the wire to the end; if it could not, that ended the session.
+    /// Adds the result of the net thread: if its wire failed, that ended the session.
     pub(crate) fn after(self, moved: Result<(), WireFailed>) -> Ended<'g, D>
         ensures { (first : PeerValue D) → HasEnded D.Disk first self.entry.session.peer self.entry.turns
             → HasEnded D.Disk first result.session.peer result.turns }

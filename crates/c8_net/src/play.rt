@@ -1,4 +1,4 @@
-//! A match over UDP: what it takes to begin, and how it is played on a journal.
+//! A match over UDP: reads what it needs, and plays it on a journal.
 
 ghost use Rattle.std.specs.Prelude.{◌≡◌, ◌+◌, ℕ, length, IfOk, IfErr, IfSome};
 ghost use Rattle.c8_game.specs.Rules.{Rules};
@@ -31,7 +31,7 @@ use std::sync::Wait;
 use std::thread::Threads;
 use std::time::Clock;
 
-/// What a match takes before its journal is opened.
+/// What a match needs before its journal is opened.
 #[derive(Drop)]
 pub struct Prepared {
     pub game: Game,
@@ -59,8 +59,8 @@ impl Unprepared {
     }
 }
 
-/// Reads what a match of a game takes: the addresses of players and watchers, and the key sets of `input`; with a seal
-/// addresses may be learnt. Faults are found in this order: the number of remotes, the addresses, the reader, its key sets.
+/// Reads the addresses of players and watchers, and the key sets of `input`. With a seal addresses may be learnt.
+/// Faults are found in this order: the number of remotes, the addresses, the reader, its key sets.
 pub fn prepare<I: Read + Drop>(
     alloc: Global,
     game: Game,

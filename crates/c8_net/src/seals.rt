@@ -17,7 +17,7 @@ use std::io;
 use std::io::Write;
 use std::rt::Files;
 
-/// Writes a line for each secret that others may read.
+/// Writes a line for each secret file that other users may read.
 pub(crate) fn warn_of_secrets<R, E>(
     rt: &R,
     asked: &Asked<'_, '_>,
@@ -107,7 +107,7 @@ where
     secret_in(rt, path).map_err(|fault| secret_fault(rt.alloc(), fault, path))
 }
 
-/// Why a secret was not read, as a fault of its file.
+/// The fault of a secret's file that was not read.
 fn secret_fault<'a>(alloc: Global, fault: SecretFault, path: &'a str) -> Fault<'a> {
     match fault {
         SecretFault::Refused(error) => Fault::new(alloc, PeerError::Secret(error), path),

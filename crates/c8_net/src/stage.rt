@@ -27,7 +27,7 @@ use std::time::{Clock, Duration};
 /// How many milliseconds the viewer sleeps between two looks.
 const VIEWER_PAUSE: u64 = 5;
 
-/// What it takes to play a session in threads: the ends of two inlets, and a board.
+/// The parts for a session in threads: the ends of two inlets, and a board.
 #[derive(Drop)]
 pub(crate) struct Stage {
     relay: Relay,
@@ -153,8 +153,8 @@ impl Stage {
     }
 }
 
-/// Starts the net thread, and runs the game thread, which is the caller's. If the viewer's thread or the net thread does
-/// not start, no turn is made.
+/// Starts the net thread, and runs the game thread, which is the caller's. If the viewer's thread or the net thread
+/// does not start, no turn is made.
 fn move_and_turn<'g, R, D, K, W>(
     rt: &R,
     turns: u64,
@@ -279,7 +279,7 @@ fn watch<R: Clock + Wait, E: Write>(
 }
 
 impl<'b> Onlooker<'b> {
-    /// Looks once and returns how many frames are confirmed. Asks for the end if these are `enough`.
+    /// Looks once, and returns how many frames are confirmed. If at least `enough` are, it asks for the end.
     pub(crate) fn look(&mut self, enough: Option<u64>) -> u32 {
         let confirmed = self.board.look(&mut self.viewer).count();
         if let Some(enough) = enough

@@ -43,7 +43,8 @@ use std::sync::Wait;
 use std::thread::Threads;
 use std::time::Clock;
 
-/// Runs `watch` as the command line asks. `--screen` is refused unless standard output is a terminal. The error is a writer's.
+/// Runs `watch` as the command line asks. `--screen` is refused unless standard output is a terminal. The error is a
+/// writer's.
 pub fn watch_given<R, W, E>(
     rt: &R,
     given: &ArgMatches<'_>,
@@ -140,8 +141,8 @@ where
     }
 }
 
-/// Watches a match of a game over a wire; the machine at the end is the serial run of the rows that were taken. `Open`
-/// means that memory ran out, `Socket` that the wire failed or that the system starts no thread.
+/// Watches a match of a game over a wire. Returns the machine of the serial run of the rows that were taken. The error
+/// `Open` means that memory ran out, `Socket` that the wire failed or that the system starts no thread.
 pub fn watch_on<R, W, O>(
     rt: &R,
     asked: &WatchAsked<'_>,

@@ -1,4 +1,4 @@
--- What is known of a keyboard after bytes and more bytes.
+-- How the bytes of a keyboard join.
 use Rattle.std.proofs.Common.{◌≡◌, ◌<◌, ◌+◌, ℕ, suc, length, take, get_or, arith, List, [], ◌∷◌, ◌++◌, Option, Some, None, refl, ap, sym, ◌∙◌, append_assoc}
 use Rattle.std.proofs.Math.Seq.{take-suc}
 use Rattle.c8_terminal.specs.declared.signal.Signal.{Signal}

@@ -1,4 +1,4 @@
--- How a caller sees a desk: the keyboard, what was written on the screen, and what that shows.
+-- A desk as a caller sees it: the keyboard, the text written to the screen, and the points that it shows.
 use Rattle.std.specs.Prelude.{◌≡◌, ◌⊎◌, ℕ, true, List, ◌++◌, Option, None, Some}
 use Rattle.c8_screen.specs.Points.{Points}
 use Rattle.c8_terminal.specs.Decoder.{read_by}

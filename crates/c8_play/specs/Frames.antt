@@ -22,7 +22,7 @@ use Rattle.c8_play.specs.Desk.{typing, drawn_at, IsSameDesk, MayForget, HasShown
 abbrev pub points_shown : {D : Type 0} → PeerValue D → Points
 points_shown p = (run_since p.rules (begun_by p) (best_rows (known_by p))).screen
 
--- what is handed in: these keys, or none if the tick is left out
+-- what a turn enters: these keys, or none if the tick is left out
 abbrev pub unless_left_out : Bool → Keys → Option Keys
 unless_left_out true keys = None
 unless_left_out false keys = Some keys
@@ -45,8 +45,8 @@ pub record HasWaited {D W C : Type 0} (disk : DiskGhosts D) (wire : WireGhosts W
   pub same : IsSameDesk console old new
 
 module _ {D W C : Type 0} (disk : DiskGhosts D) (wire : WireGhosts W) (console : ConsoleGhosts C) (window patience : ℕ) where
-  -- The bytes of the keys are read, and the peer makes one turn. It hands in the keys that are held, unless the tick is
-  -- left out; `HasLed` says when, by the counts before and after the frame. Nothing is written at the desk. The desk
+  -- The desk reads the bytes of the keys, and the peer makes one turn. The turn enters the held keys, unless the tick
+  -- is left out; `HasLed` says when, by the counts before and after the frame. Nothing is written at the desk. The desk
   -- may forget what its screen shows, when the person asks to repaint it.
   pub record HasPlayed (p q : PeerValue D) (before after : W) (old new : Desk C) (led leads : ℕ) : Type 0 where
     pub read : Typing
@@ -77,12 +77,12 @@ module _ {D W C : Type 0} (disk : DiskGhosts D) (wire : WireGhosts W) (console :
       × AreFrames fewer p played before between old rested led so_far
       × HasWaited disk wire console played ready between due rested awake × IsFrame ready q due after awake new so_far leads
 
--- as many frames are confirmed as are enough, if a number is given
+-- at least `enough` frames are confirmed, if a number is given
 abbrev pub IsEnough : {D : Type 0} → Option ℕ → PeerValue D → Type 0
 IsEnough None p = ⊥
 IsEnough (Some enough) p = enough ≤ confirmed (known_by p)
 
--- a match ended because all its turns are made, its session is over, enough is confirmed, or the person has left
+-- why a match ended: all its turns are made, its session is over, enough frames are confirmed, or the person has left
 abbrev pub IsEndOfPlay : {D C : Type 0} → Asked → ℕ → Session D → Desk C → Type 0
 IsEndOfPlay asked made session desk =
     (made ≡ asked.turns) ⊎ IsOver session ⊎ IsEnough asked.stop session.peer ⊎ (desk.has_left ≡ true)

@@ -1,4 +1,4 @@
--- When a player is ahead of the others, for how long, and which ticks it leaves out.
+-- When and for how long a player is ahead of the others, and which ticks it leaves out.
 use Rattle.std.specs.Prelude.{◌≡◌, ℕ, ◌+◌, ◌/◌, ◌<◌, ◌≤◌, ◌↔◌, Bool, false, IsTrue, None}
 use Rattle.c8_known.specs.Journal.{ticks}
 use Rattle.c8_known.specs.Known.{player_in, count_in}

@@ -24,7 +24,7 @@ abbrev pub after_signals : ℕ → List Signal → ℕ → Press → Press
 after_signals hold [] key p = p
 after_signals hold (signal ∷ signals) key p = after_signals hold signals key (noted hold signal key p)
 
--- These bytes came, and each key has noted what they tell.
+-- These bytes came, and each key has noted their signals.
 pub record HasCome (bytes : List ℕ) (old new : Typing) : Type 0 where
   pub typed : new.typed ≡ old.typed ++ bytes
   pub read : new.read ≡ read_after bytes old.read

@@ -9,8 +9,8 @@ use c8_game::{Game, Row};
 use c8_keys::Played;
 use c8_machine::Machine;
 
-/// Plays a game at a desk, a frame at a time, until its last frame, for `frames` frames, or until the person ends it.
-/// Returns how many frames were played, and the machine of the serial run of the keys that were held in them.
+/// Plays a game at a desk, frame by frame: to its last frame, for `frames` frames, or until the person quits. Returns
+/// how many frames were played, and the machine of the serial run of the keys that were held in them.
 pub fn play_alone<C: Console>(game: &Game, desk: &mut Desk<C>, frames: u64) -> Played
     ensures played { IsPlayedAlone C.Console game.now result desk.old desk.new }
     ensures few { result.frames ≤ frames }

@@ -14,7 +14,7 @@ pub struct Gone;
 
 /// A keyboard, a screen and a clock.
 pub trait Console {
-    /// The bytes of the keys that `keys` gave, oldest first.
+    /// The bytes that `keys` returned, oldest first.
     ghost typed: { Self → List ℕ };
 
     /// The text that it has written since the screen was prepared.
@@ -45,7 +45,7 @@ pub trait Console {
         ensures typed { typed self.new ≡ typed self.old }
         ensures drawn { IfOk result (λ _. drawn self.new ≡ drawn self.old ++ text.now) };
 
-    /// From now on a packet that comes to this source ends a rest.
+    /// Registers a source: from now on a packet from it ends a rest.
     fn wake_at<S: Source>(&mut self, source: &mut S)
         ensures typed { typed self.new ≡ typed self.old }
         ensures drawn { drawn self.new ≡ drawn self.old };

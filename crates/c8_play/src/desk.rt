@@ -18,10 +18,10 @@ use c8_terminal::{Decoder, Held, Painter, Signal};
 use mio::event::Source;
 use std::time::Duration;
 
-/// How many reads of the keys one frame makes at most, so that a flood of them cannot stop it.
+/// The most reads of keys in one frame, so that a flood of keys cannot stop the game.
 const MOST_READS: u8 = 64;
 
-/// An escape that nothing follows for this many milliseconds is the key itself, and not the start of a sequence that a
+/// An escape without a next byte for this many milliseconds is the key itself. Otherwise it may start a sequence that a
 /// read has split.
 const SILENCE: u64 = 25;
 
@@ -50,7 +50,7 @@ pub struct Desk<C> {
     has_left: bool,
     /// Whether something else may have been written on the screen.
     is_spoilt: bool,
-    /// Whether the person gives up another player, by control-D.
+    /// Whether the person has asked by control-D to give another player up.
     gives_up: bool,
 }
 
@@ -73,7 +73,7 @@ impl<C: Console> Desk<C> {
         }
     }
 
-    /// From now on a packet that comes to this source ends a rest.
+    /// Registers a source: from now on a packet from it ends a rest.
     pub fn wake_at<S: Source>(&mut self, source: &mut S)
         ensures { IsSameDesk C.Console self.old self.new }
     {
@@ -140,7 +140,7 @@ impl<C: Console> Desk<C> {
         let _keys = self.held.frame();
     }
 
-    /// Reads the bytes that have come. An escape that nothing has followed for `SILENCE` is the key itself.
+    /// Reads the bytes that have come. An escape without a next byte for `SILENCE` is the key itself.
     fn read(&mut self, now: Duration)
         ensures read { HasRead (typing C.Console self.old) (typing C.Console self.new) }
         ensures seen { MayForget self.old self.new }
@@ -209,7 +209,7 @@ impl<C: Console> Desk<C> {
         }
     }
 
-    /// Does what a signal asks for.
+    /// Obeys a signal.
     fn obey(&mut self, signal: Signal)
         requires { IsOfKeypad signal }
         ensures read { self.new.decoder ≡ self.old.decoder }
@@ -231,8 +231,8 @@ impl<C: Console> Desk<C> {
         self.held.note(signal);
     }
 
-    /// Whether the row below the screen must be written again, because something else may stand there; then resets
-    /// this.
+    /// Returns whether the row below the screen must be written again, because something else may have been written
+    /// there. Then resets this.
     pub fn take_spoilt(&mut self) -> bool
         ensures { IsSameDesk C.Console self.old self.new }
     {
@@ -241,7 +241,7 @@ impl<C: Console> Desk<C> {
         is_spoilt
     }
 
-    /// Whether the person has given up the player whom the match waits for; then resets this.
+    /// Returns whether the person has asked to give up the player for whom the match waits. Then resets this.
     pub fn take_gives_up(&mut self) -> bool
         ensures { IsSameDesk C.Console self.old self.new }
     {

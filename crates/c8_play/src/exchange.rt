@@ -1,11 +1,11 @@
-//! What goes through a console, for proofs.
+//! The input and output of a console, for proofs.
 
 ghost use Rattle.std.specs.Prelude.{◌≡◌, ◌++◌, []};
 
 use c8_disk::GhostList;
 
-/// The bytes that keys have sent, and the text that was written, oldest first. It has no bytes: a console that stores
-/// neither holds one, and defines its `typed` and `drawn` by it.
+/// The bytes that keys have sent, and the text that was written, oldest first. It takes no space at run time. A console
+/// that stores neither can hold one, and define its `typed` and `drawn` by it.
 #[derive(Debug, Drop)]
 pub struct Exchange {
     pub typed: GhostList<u8>,

@@ -10,14 +10,15 @@ use c8_disk::Disk;
 use c8_game::Player;
 use c8_peer::Peer;
 
-/// For how many consecutive frames a player was more than half the window ahead of another player's newest input.
+/// Counts the consecutive frames in which a player was more than half the window ahead of another player's newest
+/// input.
 ///
-/// Each player has a clock of their own. The player with the fastest clock sees all the rollbacks, so it waits: it
-/// leaves out one tick a second while it is ahead.
+/// Each player has its own clock. The player with the fastest clock has all the rollbacks, so it waits: it leaves out
+/// one tick a second while it is ahead.
 #[derive(Clone, Copy, Debug, PartialEq, Eq)]
 pub struct Lead {
     window: u8,
-    /// After how many consecutive frames ahead a tick is left out, that one included.
+    /// In a row of this many frames ahead, the last one's tick is left out.
     patience: u8,
     frames: u8,
 }
@@ -36,8 +37,8 @@ impl Lead {
         }
     }
 
-    /// Counts this frame, and returns whether its tick is left out: the player is ahead now, and was in all frames of
-    /// the last second. Then a new second begins.
+    /// Counts this frame, and returns whether its tick is left out: the player is ahead now, and was ahead in all
+    /// frames of the last second. The count restarts when a tick is left out, and when the player is not ahead.
     pub fn leaves_out<D: Disk>(&mut self, peer: &Peer<'_, D>) -> bool
         ensures window { window_of self.new ≡ window_of self.old }
         ensures patience { patience_of self.new ≡ patience_of self.old }
@@ -61,7 +62,7 @@ impl Lead {
         true
     }
 
-    /// Restarts the count after a refused tick: a player that waits for the others does not wait again.
+    /// Restarts the count after a refused tick: a player that has just waited for the others does not wait again.
     pub fn has_waited(&mut self)
         ensures window { window_of self.new ≡ window_of self.old }
         ensures patience { patience_of self.new ≡ patience_of self.old }
@@ -70,7 +71,7 @@ impl Lead {
         self.frames = 0;
     }
 
-    /// Whether the player is ahead of another.
+    /// Whether the player is more than half the window ahead of another.
     fn is_ahead<D: Disk>(&self, peer: &Peer<'_, D>) -> bool
         ensures { IsTrue result ↔ IsAhead (window_of self.now) peer.now }
     {
@@ -126,7 +127,7 @@ fn other<D: Disk>(peer: &Peer<'_, D>, number: u8) -> Option<Player>
     }
 }
 
-/// Whether fewer inputs are known of a player than of the one found so far, if any.
+/// Whether fewer inputs are known of a player than of the one found so far. True if none was found.
 fn is_fewer<D: Disk>(peer: &Peer<'_, D>, player: Player, found: Option<Player>) -> bool
     ensures fewer { IsTrue result → IfSome found (λ it. count_in (known_by peer.now) player.number
         < count_in (known_by peer.now) it.number) }

@@ -25,10 +25,10 @@ use std::io::Write;
 use std::net::Net;
 use std::time::Clock;
 
-/// How often a peer listens before a frame at most, so that a flood of packets cannot stop it.
+/// How often a peer listens before a frame at most, so that a flood of packets cannot stop the game.
 const MOST_RESTS: u16 = 1000;
 
-/// The performance at a console: one turn a frame, which enters the keys that are held.
+/// Performs a match at a console: each frame makes one turn, which enters the held keys.
 #[derive(Drop)]
 pub struct Live<C> {
     pub console: C,
@@ -62,7 +62,8 @@ impl<C: Console + Drop> Performance for Live<C> {
     }
 }
 
-/// Plays a session over a wire at a desk, and tells what `--progress` asks for.
+/// Plays a session over a wire at a desk. With `--progress` it writes at the end how late frames were, and how many
+/// packets it rejected.
 fn play_over<'g, D: Disk, W: Wire + Drop, C: Console + Drop, E: Write>(
     wire: W,
     desk: Desk<C>,
@@ -110,8 +111,8 @@ fn tell_turned_away<E: Write>(out: &mut E, losses: Losses) -> io::Result<()> {
     Ok(())
 }
 
-/// Plays a session of this game at a desk, one turn a frame, until it is over, its turns are made, as many frames are
-/// confirmed as `--stop` asks for, or the person ends it. Between two frames the peer listens. A player that was ahead
+/// Plays a session of this game at a desk, one turn a frame. It ends when the session is over, its turns are made,
+/// `--stop` frames are confirmed, or the person leaves. Between two frames the peer listens. A player that was ahead
 /// for a second, `rate` frames, leaves out a tick. Returns how many turns were made. The error is the disk's or the
 /// wire's.
 pub fn play_frames<D: Disk, W: Wire, C: Console>(
@@ -146,7 +147,7 @@ pub fn play_frames<D: Disk, W: Wire, C: Console>(
     Ok(made)
 }
 
-/// Whether as many frames are confirmed as are enough.
+/// Whether at least `enough` frames are confirmed; false without a number.
 fn is_enough<D: Disk>(peer: &Peer<'_, D>, enough: Option<u64>) -> bool
     ensures { IsTrue result ↔ IsEnough enough peer.now }
 {
@@ -202,10 +203,10 @@ fn play_frame<D: Disk, W: Wire, C: Console>(
     Ok(())
 }
 
-/// What became of the keys that are held in a frame.
+/// What a frame did with the held keys.
 #[derive(Clone, Copy, PartialEq, Eq)]
 enum Entry {
-    /// They were entered.
+    /// The peer took them.
     Taken,
     /// This player is ahead, and leaves out a tick.
     LeftOut,
@@ -213,7 +214,7 @@ enum Entry {
     Refused,
 }
 
-/// Makes the turn of a frame, which hands in the keys that are held, unless this player leaves out a tick.
+/// Makes the turn of a frame. It enters the held keys, unless this player leaves out a tick.
 fn enter<D: Disk, W: Wire, C: Console>(
     session: &mut Session<'_, D>,
     wire: &mut W,
@@ -241,8 +242,8 @@ fn enter<D: Disk, W: Wire, C: Console>(
     }
 }
 
-/// Shows the picture of a frame. If the player is at the window's limit, the row says that it waits for the player with
-/// the fewest known inputs, and player 1 may give that one up.
+/// Shows the picture of a frame. At the window's limit the row says that the match waits for the player with the fewest
+/// known inputs, and player 1 may give that player up.
 fn show<D: Disk, C: Console>(
     session: &mut Session<'_, D>,
     desk: &mut Desk<C>,
@@ -265,7 +266,7 @@ fn show<D: Disk, C: Console>(
     );
 }
 
-/// The player whom the match waits for, if it waits.
+/// Returns the player for whom the match waits, if it waits.
 fn waited_for<D: Disk>(session: &Session<'_, D>, entry: Entry) -> Option<Player> {
     let peer = session.peer();
     if entry == Entry::Refused && peer.confirmed() < session.frames() {
@@ -275,7 +276,7 @@ fn waited_for<D: Disk>(session: &Session<'_, D>, entry: Entry) -> Option<Player>
     }
 }
 
-/// Gives up the player whom the match waits for, if the person wants that, and has said it twice.
+/// Gives up the player for whom the match waits, once the person has asked for it twice.
 fn consider<D: Disk, C: Console>(
     session: &mut Session<'_, D>,
     desk: &mut Desk<C>,

@@ -8,13 +8,13 @@ use std::io;
 use std::io::Write;
 use std::time::Duration;
 
-/// How many characters the text has at most: in a match of two, as a terminal of 64 columns shows them, and in a match
-/// of more.
+/// The most characters of the text in a match of two, so that it fits a terminal of 64 columns; then the most in a
+/// larger match.
 const LONGEST_OF_TWO: usize = 64;
 
 const LONGEST: usize = 80;
 
-/// How many bytes the row has at most, those that move the cursor and clear the row included.
+/// The most bytes of the row, with those that move the cursor and clear the row.
 pub const LONGEST_ROW: usize = 90;
 
 /// Moves the cursor to the first column of row 17, below the screen, and clears the row. It comes before the text,
@@ -24,7 +24,7 @@ const CLEAR: &[u8] = b"\x1b[17;1H\x1b[K";
 /// How many seconds lie between two updates of the numbers.
 const EVERY: u64 = 1;
 
-/// After so many seconds of a player's silence the row tells player 1 how to drop it.
+/// After this many seconds of a player's silence the row tells player 1 how to drop that player.
 const LONG: u128 = 3;
 
 /// How many milliseconds a second has.
@@ -38,12 +38,12 @@ struct Numbers {
     /// The rollbacks of the last second, and the most frames that one of them simulated again.
     rollbacks: u64,
     longest: u64,
-    /// For how many milliseconds nothing was heard of each player, by place.
+    /// How many milliseconds each player has been silent, by place.
     silent: [u128; MOST_PLAYERS],
     is_alarmed: bool,
 }
 
-/// How far a match is, by numbers that are updated once a second, and which player it waits for.
+/// The row: how far a match is, by numbers that are updated once a second, and the player for whom it waits.
 #[derive(Drop)]
 pub struct StatusRow {
     me: Player,
@@ -58,7 +58,7 @@ pub struct StatusRow {
     rollbacks: u64,
     longest: u64,
     numbers: Numbers,
-    /// The player whom one more control-D drops.
+    /// The player that one more control-D drops.
     asked: Option<Player>,
     /// What the terminal shows in the row.
     shown: ArrayVec<u8, LONGEST_ROW>,
@@ -82,7 +82,7 @@ impl StatusRow {
         }
     }
 
-    /// Notes the turn that a session has just made, or what it has just heard.
+    /// Notes the last turn of a session, or what it has just heard.
     pub fn note<D: Disk>(&self, session: &Session<'_, D>) {
         self.counters.note(session, 0);
     }
@@ -92,7 +92,8 @@ impl StatusRow {
         self.shown.clear();
     }
 
-    /// Takes a control-D while the match waits for a player. Returns that player at the second one, if this is player 1.
+    /// Takes a control-D while the match waits for a player. If this is player 1, the second control-D returns that
+    /// player.
     pub fn give_up(&mut self, waits: Option<Player>) -> Option<Player> {
         let player = waits.filter(|_| self.me.is_chair())?;
         if self.asked == Some(player) {
@@ -103,18 +104,23 @@ impl StatusRow {
         None
     }
 
-    /// The bytes that make the terminal show how far the match is, by all that was noted; none if it already does.
+    /// Returns the bytes that make the terminal show how far the match is; none if it shows that already.
     pub fn row(&mut self, now: Duration, confirmed: u32, waits: Option<Player>) -> &[u8] {
         let standing = self.counters.take();
         self.row_of(now, confirmed, &standing, waits)
     }
 
-    /// The bytes of the row for a peer that is this far. The text is like `423/421  waits for 2  2: 16 ms  back 3,
-    /// longest 5`: how many frames are ticked and confirmed; `the machines differ` while the alarm stands; the player
-    /// that the match waits for, which changes at once, with whole seconds of its silence, as `waits for 2: 12 s`, and at
-    /// player 1 how to drop it; how long each other player has been silent; how often the peer rolled back in the last
-    /// second, and the most frames that one rollback simulated again. The text is cut off after 64 characters, or after 80
-    /// with more than two players.
+    /// Returns the bytes of the row for a peer that is this far. The text is like
+    /// `423/421  waits for 2  2: 16 ms  back 3, longest 5`. Its parts, in this order:
+    ///
+    /// - how many frames are ticked and confirmed;
+    /// - `the machines differ`, while the alarm stands;
+    /// - the player for whom the match waits, with whole seconds of its silence, as `waits for 2: 12 s`; this part
+    ///   changes at once, and tells player 1 how to drop the player;
+    /// - how long each other player has been silent;
+    /// - how often the peer rolled back in the last second, and the most frames that one rollback simulated again.
+    ///
+    /// The text is cut off after 64 characters, or after 80 with more than two players.
     pub fn row_of(
         &mut self,
         now: Duration,

@@ -36,7 +36,7 @@ pub struct Terminal<'r, R> {
     screen: File,
     poll: Poll,
     events: Events,
-    /// The last time that the clock gave.
+    /// The last time of the clock.
     last: Duration,
     exchange: Exchange,
 }
@@ -83,7 +83,7 @@ impl<'r, R: Clock> Console for Terminal<'r, R> {
     }
 
     fn now(&mut self) -> Duration {
-        // If the clock cannot be read, no time has passed.
+        // If the clock cannot be read, the last time counts.
         self.last = self.rt.monotonic().unwrap_or(self.last);
         self.last
     }
@@ -109,7 +109,7 @@ impl<'r, R: Clock> Console for Terminal<'r, R> {
     }
 
     fn wake_at<S: Source>(&mut self, source: &mut S) {
-        // If this fails, packets are taken when the next frame is due.
+        // If this fails, the game takes packets when the next frame is due.
         let _ = self
             .poll
             .registry()

@@ -44,7 +44,7 @@ record Digits (n : ℕ) : Type 0 where
   plain : All IsPlain (a ∷ b ∷ c ∷ d ∷ [])
   end : d ≢ 13
 
--- what is a digit is no line feed, and no carriage return
+-- a digit is no line feed and no carriage return
 not_feed : (c d : ℕ) → hex_digit_value c ≡ Some d → c ≢ 10
 not_feed c d value is = let none : None ≡ Some d = ap hex_digit_value (sym is) ∙ value in cc
 

@@ -25,12 +25,12 @@ use Rattle.c8_replay.specs.declared.error.ReplayFault.TheVariants.{Game, Journal
 use Rattle.c8_replay.specs.declared.showing.Shown.{Shown}
 use Rattle.c8_replay.specs.declared.showing.Shown.TheVariants.{Report, Keys, Page}
 
--- how many of the confirmed frames are shown: all, or as many as are asked for
+-- how many of the confirmed frames are shown: all, or `to` of them
 abbrev pub IsFrames : ℕ → Option ℕ → ℕ → Type 0
 IsFrames confirmed None frames = frames ≡ confirmed
 IsFrames confirmed (Some to) frames = (frames ≡ to) × (to ≤ confirmed)
 
--- more are asked for than are confirmed
+-- fewer frames are confirmed than `to`
 abbrev pub IsBeyond : ℕ → Option ℕ → ℕ → Type 0
 IsBeyond confirmed None count = ⊥
 IsBeyond confirmed (Some to) count = (count ≡ confirmed) × (confirmed < to)
@@ -40,14 +40,14 @@ pub record IsRunOfRows (rules : Rules) (rows : List Row) (played : Played) : Typ
   pub frames : played.frames ≡ length rows
   pub machine : state played.machine ≡ serial rules rows
 
--- In the form that is asked for: the serial run of the rows; or the rows as key lines, which spell them. Nothing is said of
--- what a page has besides the run.
+-- What is shown of some rows in a form: the machine of their serial run, or key lines that spell them. A page has the
+-- machine too; its text is not specified.
 abbrev pub IsShown : Rules → Form → List Row → Shown → Type 0
 IsShown rules form rows (Report played) = (form ≡ forms.Report) × IsRunOfRows rules rows played
 IsShown rules form rows (Keys text) = (form ≡ forms.Keys) × (text.items ≡ keys_text rules.players rows) × SpellRows rules text.items rows
 IsShown rules form rows (Page played page) = (form ≡ forms.Page) × IsRunOfRows rules rows played
 
--- The image keeps a journal, and this is shown of its first confirmed rows.
+-- The image keeps a journal, and this is what is shown of its first confirmed rows.
 pub record IsShownOf (rules : Rules) (image : List ℕ) (wish : Wish) (shown : Shown) : Type 0 where
   pub known : KnownValue
   pub journal : IsJournalOf rules wish.room (kept image) known

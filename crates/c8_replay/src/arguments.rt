@@ -5,24 +5,24 @@ use c8_front::{is_explained, with_explain, with_place, word_of};
 use clap::{Arg, ArgAction, ArgMatches, Command, value_parser};
 use std::alloc::{AllocError, Global};
 
-/// What is to be shown of a journal.
+/// What `replay` shows of a journal.
 #[derive(Clone, Copy, Debug, PartialEq, Eq)]
 pub struct Wish {
-    /// The room whose journal it has to be; `None` for any.
+    /// The room that the journal must have; `None` for any.
     pub room: Option<u64>,
     /// How many confirmed rows are shown; `None` for all.
     pub to: Option<u64>,
     pub form: Form,
 }
 
-/// In which form rows are shown.
+/// The form in which `replay` shows rows.
 #[derive(Clone, Copy, Debug, PartialEq, Eq)]
 pub enum Form {
-    /// By the machine after them.
+    /// The machine after them.
     Report,
     /// As key lines.
     Keys,
-    /// By a page for a browser, and the machine after them.
+    /// A page for a browser, and the machine after them.
     Page,
 }
 
@@ -36,7 +36,7 @@ pub struct Asked<'a> {
     pub wish: Wish,
     /// The path of the page to write, if any.
     pub page: Option<&'a str>,
-    /// At how many frames a second the match is shown in the terminal, if it is.
+    /// With `--screen` the frames a second at which the terminal shows the match.
     pub screen: Option<u8>,
     /// Whether to print a second line that says where a refusal's fault is.
     pub explain: bool,

@@ -22,8 +22,9 @@ use std::rt::Files;
 use std::time::Clock;
 use std::{fs, io};
 
-/// Reads the files of the command line, and shows the journal, as `replay` does with their bytes. If a file cannot be
-/// read, the refusal is the disk's, whatever the other file says. The error is a writer's.
+/// Reads the files of the command line, and shows the journal: on the terminal with `--screen`, on a page with
+/// `--page`, and on `out` as [`replay`] does. If a file cannot be read, the refusal is the disk's, whatever the other
+/// file says. The error is a writer's.
 pub fn replay_given<R, W: Write, E: Write>(
     rt: &R,
     given: &ArgMatches<'_>,
@@ -40,7 +41,7 @@ where
     }
 }
 
-/// Does the same with the bytes of the files, and writes the page, if one is asked for.
+/// Shows the journal that the bytes of a file keep, and writes the page if the command line asks for one.
 fn replay_files<R, W: Write, E: Write>(
     rt: &R,
     asked: &Asked<'_>,
@@ -71,8 +72,8 @@ where
     print(shown, out)
 }
 
-/// Shows the match in the terminal of the process, and then prints the report. Without a terminal it refuses the command
-/// line.
+/// Shows the match on the terminal of the process, and then prints the report. Without a terminal it refuses the
+/// command line.
 fn screen_files<R, W: Write, E: Write>(
     rt: &R,
     asked: &Asked<'_>,
@@ -95,7 +96,7 @@ where
     }
 }
 
-/// Writes a page to its file. A page in the file of the game or of the journal is not written.
+/// Writes a page to its file, and returns whether that succeeded. It never overwrites the game or the journal.
 fn is_written<R: Files + AllocGlobal>(rt: &R, asked: &Asked<'_>, path: &str, page: &[u8]) -> bool {
     path != asked.game && path != asked.journal && fs::write(rt, path, page).is_ok()
 }
@@ -122,9 +123,9 @@ fn refuse_files<E: Write>(
     }
 }
 
-/// Shows the journal that the bytes of an image keep, by the game that a text spells: writes the report of the machine, or
-/// the key lines, to `out`, and no page. A refusal is one line on `refused`, with a second one for `--explain`, and leaves `out` as it
-/// was. The error is a writer's.
+/// Shows the journal that the bytes of an image keep, for the game that a text spells. Writes the report of the machine
+/// or the key lines to `out`; it writes no page. A refusal is one line on `refused`; `--explain` adds a second line,
+/// and `out` does not change. The error is a writer's.
 pub fn replay<W: Write, E: Write>(
     alloc: Global,
     asked: &Asked<'_>,
@@ -156,7 +157,7 @@ fn refuse<E: Write>(
     fault.tell_at(site, refused)
 }
 
-/// Writes what is shown; of a page, the report of its machine.
+/// Writes the key lines, or the report of the machine. Of a page it writes the report too.
 fn print<W: Write>(shown: Shown, out: &mut W) -> io::Result<Status>
     ensures { IfOk result (IsPrinted shown (W.contents out.old) (W.contents out.new)) }
 {

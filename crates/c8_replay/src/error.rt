@@ -19,7 +19,7 @@ pub enum ReplayFault {
     /// The journal is refused.
     #[error("{0}")]
     Journal(JournalError),
-    /// Fewer frames are confirmed than are asked for: this many.
+    /// Only this many frames are confirmed, fewer than `--to` asks for.
     #[error("{0} frames are confirmed")]
     Beyond(u32),
 }

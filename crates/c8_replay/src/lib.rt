@@ -1,9 +1,11 @@
 //! The command `replay`: reads the journal of a player, and shows the match that it confirms.
 //!
-//! [`show_journal`] is the command over values: it takes the text of a game and the bytes of a journal, and answers the machine
-//! after the confirmed frames, their rows as key lines, or a page that shows them. [`replay`] prints that;
-//! [`replay_given`] reads both files first. The definitions are in `specs/`: `Journal.antt` says which journal an image keeps and why it is refused,
-//! `KeyText.antt` how rows are printed, `Replay.antt` what the command answers. [`laws`] has what follows.
+//! [`show_journal`] takes the text of a game and the bytes of a journal, and returns the machine after the confirmed
+//! frames, their rows as key lines, or a page that shows them. [`replay`] prints that. [`replay_given`] reads both
+//! files, and with `--screen` plays the match on the terminal first.
+//!
+//! `specs/Replay.antt` says what the command answers, `specs/KeyText.antt` how rows are printed. c8_image says which
+//! journal an image keeps, and why it is refused (`Journal.antt`). [`laws`] has what follows.
 #![tactic(auto)]
 
 mod arguments;

@@ -17,11 +17,12 @@ use c8_screen::{HEIGHT, Screen};
 use std::alloc::{AllocError, Global};
 use std::io::Write;
 
-/// How many bytes of a screen are a row of it.
+/// How many bytes a row of the screen has.
 const ROW_BYTES: u8 = 8;
 
-/// Adds a page that shows the first confirmed rows: the key sets as entered, where players were dropped, and how each frame
-/// changes the screen. Answers the machine after the rows.
+/// Makes a page that shows the first confirmed rows: the entered key sets, the frames from which players are dropped,
+/// and how each frame changes the screen. Returns the machine after the rows, and the page. The error is that memory
+/// ran out.
 pub(crate) fn add_page(
     alloc: Global,
     game: &Game,
@@ -44,8 +45,8 @@ pub(crate) fn add_page(
     Ok((played, page))
 }
 
-/// Adds a line for each player who was dropped: the player, and the first frame without its keys. Of the own player that is
-/// the frame after the confirmed ones.
+/// Adds a line for each player who was dropped: the player, and the first frame without its keys. If the journal's own
+/// player was dropped and its journal has no cut, that is the frame after the confirmed ones.
 fn add_drops(page: &mut Vec<u8>, known: &Known) -> Result<(), AllocError> {
     let (me, end) = (known.me(), known.confirmed());
     for number in 1..known.players() + 1 {
@@ -83,7 +84,7 @@ fn add_sets(page: &mut Vec<u8>, sets: &[Keys]) -> Result<(), AllocError> {
     Ok(())
 }
 
-/// Adds what each of the first confirmed rows changes of the screen. Answers the machine after them.
+/// Adds how each of the first confirmed rows changes the screen. Returns the machine after them.
 fn add_pictures(
     page: &mut Vec<u8>,
     game: &Game,

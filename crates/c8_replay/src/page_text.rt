@@ -1,4 +1,5 @@
-//! The fixed parts of the page that shows a match. Its data stand between them, in elements that a browser does not run.
+//! The fixed parts of the page that shows a match. Its data stand between them, in elements that a browser does not
+//! run.
 
 /// From the beginning to the number of players.
 pub(crate) const BEFORE_PLAYERS: &str = r#"<!DOCTYPE html>
@@ -37,14 +38,14 @@ input[type=range] { width: 100%; margin: 0.5rem 0 0; }
 <p>Space plays and pauses, . steps a frame, the arrows go back and forth by a second, digits by tenths of the match.</p>
 <script type="text/plain" id="players">"#;
 
-/// Between the number of players and the drops, each a line of a player and a frame.
+/// Between the number of players and the drops. A drop is a line with a player and a frame.
 pub(crate) const BEFORE_DROPS: &str = "</script>\n<script type=\"text/plain\" id=\"drops\">";
 
-/// Between the drops and the key sets: four digits a player, for each frame.
+/// Between the drops and the key sets, which have four digits for each player of each frame.
 pub(crate) const BEFORE_KEYS: &str = "</script>\n<script type=\"text/plain\" id=\"keys\">";
 
-/// Between the key sets and the changes of the pictures. A comma ends the changes of a frame. A change is four digits: two
-/// for the place of a byte of the screen, and two for its bits that change.
+/// Between the key sets and the changes of the pictures. A comma ends the changes of a frame. A change is four digits:
+/// two for the place of a byte of the screen, and two for its bits that change.
 pub(crate) const BEFORE_PICTURES: &str = "</script>\n<script type=\"text/plain\" id=\"pictures\">";
 
 /// From the changes of the pictures to the end.

@@ -1,4 +1,4 @@
-//! A match on the screen of a console.
+//! Shows a match on a console.
 
 ghost use Rattle.std.specs.Prelude.{◌≡◌, ◌≤◌};
 ghost use Rattle.c8_known.specs.Confirmed.{confirmed, rows_below};
@@ -16,8 +16,8 @@ use c8_known::Known;
 use c8_play::Console;
 use std::alloc::Global;
 
-/// Shows the journal that the bytes of an image keep on a console, until the person there ends it. The errors are those of
-/// `show_journal`; then nothing was drawn.
+/// Shows the match of a journal's bytes on a console, until the person there quits. The errors are those of
+/// `show_journal`; after an error nothing was drawn.
 pub(crate) fn screen_journal<C: Console + Drop>(
     alloc: Global,
     game: &[u8],
@@ -37,7 +37,7 @@ pub(crate) fn screen_journal<C: Console + Drop>(
     Ok(())
 }
 
-/// Shows the first confirmed rows: each picture is the screen of the serial run of some of them.
+/// Shows the first `frames` confirmed rows. Each picture is the screen after the serial run of some of them.
 fn screen_rows<C: Console>(game: &Game, known: &Known, frames: u32, rate: u8, seat: &mut Seat<C>)
     requires { frames ≤ confirmed known.now }
 {
@@ -56,7 +56,7 @@ fn screen_rows<C: Console>(game: &Game, known: &Known, frames: u32, rate: u8, se
     }
 }
 
-/// Ends if that is asked for. Returns whether the match stands still then.
+/// Obeys the keys that quit or pause. Returns whether the match is paused now.
 fn obeyed<C: Console>(ask: Option<Ask>, is_paused: bool, seat: &mut Seat<C>) -> bool {
     match ask {
         Some(Ask::Quit) => {
@@ -69,7 +69,7 @@ fn obeyed<C: Console>(ask: Option<Ask>, is_paused: bool, seat: &mut Seat<C>) -> 
     }
 }
 
-/// The frame to show next: that to which the keys lead, or the next one if the match goes on.
+/// Returns the frame to show next: the one to which a key leads, otherwise the next one if the match goes on.
 fn goal_of(ask: Option<Ask>, goes_on: bool, at: u32, frames: u32, rate: u8) -> u32
     ensures { result ≤ frames }
 {
@@ -80,7 +80,7 @@ fn goal_of(ask: Option<Ask>, goes_on: bool, at: u32, frames: u32, rate: u8) -> u
     }
 }
 
-/// Goes from the run of some rows to that of so many.
+/// Moves from one frame to another. To go back it runs all rows again.
 fn moved(game: &Game, known: &Known, from: Played, frames: u32) -> Played
     requires run { IsRunOfRows game.now (rows_below known.now from.frames) from }
     requires within { frames ≤ confirmed known.now }

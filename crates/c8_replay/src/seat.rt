@@ -1,4 +1,4 @@
-//! A console on which a match is shown.
+//! A console that shows a match.
 
 ghost use Rattle.std.specs.Prelude.{◌≤◌};
 
@@ -14,7 +14,7 @@ use std::time::Duration;
 /// The longest rest in milliseconds, so that keys are read soon at any rate.
 const LONGEST_REST: u64 = 15;
 
-/// An escape that nothing follows for this many milliseconds is the key itself.
+/// An escape without a next byte for this many milliseconds is the key itself.
 const SILENCE: u64 = 25;
 
 /// A console with its painter, the clock of its frames, and the keys that have come.
@@ -26,14 +26,14 @@ pub(crate) struct Seat<C> {
     strokes: Strokes,
     /// When the last byte came.
     last: Duration,
-    /// The row under the picture, and how many frames it tells of, if it was written.
+    /// The text of the row under the picture, and the frame that it shows, if it was written.
     row: Vec<u8>,
     told: Option<u32>,
     has_left: bool,
 }
 
 impl<C: Console> Seat<C> {
-    /// Prepares a console for so many frames a second. If that fails, the person counts as gone.
+    /// Prepares a console for `rate` frames a second. If that fails, the person counts as gone.
     pub(crate) fn new(alloc: Global, console: C, rate: u8) -> Seat<C>
         requires { 1 ≤ rate }
     {
@@ -52,12 +52,12 @@ impl<C: Console> Seat<C> {
         }
     }
 
-    /// Whether the person has left, or wants to end.
+    /// Returns whether the person has left, or wants to quit.
     pub(crate) fn has_left(&self) -> bool {
         self.has_left
     }
 
-    /// Paints a screen, and under it how many frames came before it, and of how many.
+    /// Paints a screen, and under it the row `at/frames`.
     pub(crate) fn show(&mut self, screen: &Screen, at: u32, frames: u32) {
         self.painter.paint(screen);
         let is_drawn = is_written(&mut self.console, self.painter.bytes());
@@ -66,19 +66,19 @@ impl<C: Console> Seat<C> {
         }
     }
 
-    /// Writes the row under the picture, unless it is there, and returns whether that succeeded.
+    /// Writes the row under the picture, unless it shows this frame already. Returns whether that succeeded.
     fn is_told(&mut self, at: u32, frames: u32) -> bool {
         if self.told == Some(at) {
             return true;
         }
         self.told = Some(at);
         self.row.clear();
-        // Without memory the row stays as it was.
+        // If memory runs out, the row is cut off.
         let _ = write!(self.row, "\x1b[17;1H{at}/{frames}\x1b[K");
         is_written(&mut self.console, &self.row)
     }
 
-    /// Waits for a short time, and returns whether a frame is due then, and begins.
+    /// Waits for at most `LONGEST_REST`. If a frame is due then, it begins the frame and returns true.
     pub(crate) fn wait(&mut self) -> bool {
         let left = self.beat.left(self.console.now());
         self.console
@@ -91,7 +91,7 @@ impl<C: Console> Seat<C> {
         true
     }
 
-    /// Reads the keys that have come, up to the first that asks for something.
+    /// Reads the keys that have come, and returns what the last of them asks for, if anything.
     pub(crate) fn asked(&mut self) -> Option<Ask> {
         let mut byte = [0; KEY_BYTES];
         let now = self.console.now();
@@ -112,7 +112,7 @@ impl<C: Console> Seat<C> {
         asked
     }
 
-    /// Notes that the person wants to end.
+    /// Notes that the person wants to quit.
     pub(crate) fn leave(&mut self) {
         self.has_left = true;
     }

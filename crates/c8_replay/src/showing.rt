@@ -29,9 +29,10 @@ pub enum Shown {
     Page(Played, Vec<u8>),
 }
 
-/// Shows the journal that the bytes of an image keep: the serial run of its confirmed rows, or these rows as key lines;
-/// of the first `wish.to` rows, if a number is asked for. The run begins at the first frame, whatever checkpoints the
-/// journal has. The errors are checked in this order: the text of the game, the journal, `Beyond`.
+/// Shows the journal that the bytes of an image keep, in the form of `wish`: the machine of the serial run of its
+/// confirmed rows, or the rows as key lines. If `wish.to` is a number, it shows only that many rows. The run begins at
+/// the first frame, whatever checkpoints the journal has. Errors are checked in this order: the text of the game, the
+/// journal, `Beyond`.
 pub fn show_journal(
     alloc: Global,
     game: &[u8],
@@ -43,7 +44,7 @@ pub fn show_journal(
     show_read(alloc, Game::read(alloc, game), image, wish)
 }
 
-/// The same for a game that was read, or why it was not.
+/// Does the same for a game that was read, or returns why it was not.
 fn show_read(
     alloc: Global,
     game: Result<Game, GameError>,
@@ -58,15 +59,15 @@ fn show_read(
     show_rows(alloc, &game, &known, frames, wish.form)
 }
 
-/// How many frames are shown: as many as are asked for, else all that are confirmed. The error is how many are confirmed,
-/// if that is less.
+/// Returns how many frames to show: `to`, or without it all confirmed frames. If fewer than `to` are confirmed, the
+/// error is their number.
 pub(crate) fn frames_of(game: &Game, known: &Known, to: Option<u64>) -> Result<u32, u32>
     requires { IsOfGame game.now known.now.me known.now }
     ensures few { IfOk result (λ frames. frames ≤ game.now.frames) }
     ensures frames { MatchResult result (IsFrames (confirmed known.now) to) (IsBeyond (confirmed known.now) to) }
 {
     let (me, confirmed) = (known.me(), known.confirmed());
-    // So it has made no more ticks than the game has frames.
+    // So the player's inputs, and with them the confirmed frames, are at most the game's frames.
     prove!(known.count(me) <= game.limit());
     match to {
         None => Ok(confirmed),
@@ -100,7 +101,7 @@ fn show_rows(
     shown.map_err(|_| ReplayFault::Journal(JournalError::Memory))
 }
 
-/// The machine after the first confirmed rows, run from the first frame on.
+/// Runs the first confirmed rows from frame 0 on, and returns the machine after them.
 pub(crate) fn run_rows(game: &Game, known: &Known, frames: u32) -> Played
     requires { frames ≤ confirmed known.now }
     ensures run { IsRunOfRows game.now (rows_below known.now frames) result }

@@ -1,4 +1,4 @@
-//! What a person at the keyboard asks for while a match is shown.
+//! The keys of a person who watches a match, and what they ask for.
 
 ghost use Rattle.std.specs.Prelude.{◌≤◌};
 
@@ -9,18 +9,18 @@ pub(crate) enum Ask {
     Pause,
     /// To show the next frame, and pause.
     Step,
-    /// To go back by a second.
+    /// To go back one second.
     Back,
-    /// To go forth by a second.
+    /// To go forward one second.
     Forth,
-    /// To go to a place of the match, in tenths of it.
+    /// To go to this tenth of the match, 0 to 9.
     Tenth(u8),
-    /// To end.
+    /// To quit.
     Quit,
 }
 
 impl Ask {
-    /// The frame to which this leads from another one, of so many, at so many frames a second.
+    /// Returns the frame to which this leads from the frame `at` of `frames`, at `rate` frames a second.
     pub(crate) fn goal(self, at: u32, frames: u32, rate: u8) -> u32
         ensures { result ≤ frames }
     {
@@ -39,7 +39,7 @@ const ESCAPE: u8 = 0x1b;
 
 const CONTROL_C: u8 = 0x03;
 
-/// The bytes of the keys so far, as far as they have not told what they ask for.
+/// The incomplete key sequence that was read so far.
 #[derive(Clone, Copy, Debug, PartialEq, Eq)]
 pub(crate) enum Strokes {
     /// None.
@@ -70,7 +70,7 @@ impl Strokes {
         }
     }
 
-    /// Notes that nothing has followed for a while: an escape was the key itself.
+    /// Notes that no byte follows: a lone escape was the key itself.
     pub(crate) fn pause(&mut self) -> Option<Ask> {
         match *self {
             Strokes::Escape => {
@@ -82,7 +82,7 @@ impl Strokes {
     }
 }
 
-/// What a byte asks for that is a key by itself.
+/// Returns what a one-byte key asks for.
 fn asked_by(byte: u8) -> Option<Ask> {
     match byte {
         b' ' => Some(Ask::Pause),

@@ -1,4 +1,4 @@
--- The peers that come back agree, as they are the peers of a world.
+-- The peers that the threads return agree, because they are the peers of a world.
 use Rattle.std.proofs.Common.{◌≡◌, ◌<◌, ◌^◌, ◌+◌, ◌-◌, ℕ, List, length, map, Option, Some, None, Bool, true, false, refl, sym, ap, subst, ◌∙◌, arith}
 use Rattle.std.specs.Prelude.{slice_index_or, option_map}
 use Rattle.std.specs.List.{slice_get}

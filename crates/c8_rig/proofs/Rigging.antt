@@ -1,4 +1,4 @@
--- What comes back from all threads.
+-- What all threads return.
 use Rattle.std.proofs.Common.{◌≡◌, ◌<◌, ◌^◌, ◌+◌, ◌-◌, ℕ, List, [], ◌++◌, length, map, Option, Some, None, Ok, Err, ⊎_elim, refl, sym, ap, subst, ◌∙◌, arith, append-nil}
 use Rattle.std.specs.Prelude.{slice_index_or, option_map, Result, IfOk, IfSome}
 use Rattle.std.specs.List.{slice_get, range_with_len}

@@ -22,7 +22,7 @@ use Rattle.c8_rig.specs.declared.gathering.Gathering.TheVariants.{Gathered, Torn
 abbrev pub IsDiskFor : ℕ → MemDisk → Type 0
 IsDiskFor turns disk = value_of disk ≡ new_value (144 * (turns + 2) + 1) (4 * turns + 16)
 
--- What a thread does to an entry without notes, on an empty disk. If it comes back with a peer, the entry's notes lead
+-- What a thread does to an entry without notes, on an empty disk. If the thread returns a peer, the entry's notes lead
 -- to that peer, and the peer made their calls on this disk.
 pub record HasWorked (rules : Rules) (disk : MemDisk) (before after : EntryValue) (peer : Option (PeerValue MemDisk)) : Type 0 where
   pub ether : after.ether ≡ before.ether
@@ -37,7 +37,8 @@ pub record IsMadeBy (rules : Rules) (turns player : ℕ) (notes : List NoteValue
   pub new_disk : IsDiskFor turns disk
   pub played : HasPlayedOn ghosts rules player disk notes q
 
--- Player i + 1 came back with an entry and a peer: the notes lead to the peer, and their calls made it on a new disk.
+-- The thread of player i + 1 returned an entry and a peer. The notes lead to the peer, and their calls made it on a new
+-- disk.
 pub record IsPlayedAt (rules : Rules) (turns : ℕ) (ether : TableId) (entries : List EntryValue) (peers : List (PeerValue MemDisk)) (i : ℕ) : Type 0 where
   pub entry : EntryValue
   pub there : slice_get entries i ≡ Some entry

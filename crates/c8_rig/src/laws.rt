@@ -27,8 +27,8 @@ pub fn a_log_is_a_world()
     what_is_spelled_is_read();
 }
 
-/// Any two moments of such a log agree, as any two moments of a match do: one after a front of the log, the other some
-/// notes later.
+/// Any two moments of such a log agree, as any two moments of a match do. The earlier one comes after a front of the
+/// log, the later one after some more notes.
 pub fn moments_of_a_log_agree()
     ensures { (rules : Rules) (room : ℕ) (front between rest : List NoteValue)
         (states : ℕ → State)

@@ -25,16 +25,16 @@ struct Job {
     disk: MemDisk,
 }
 
-/// What a thread comes back with.
+/// What a thread returns.
 #[derive(Drop)]
 struct Played<'g> {
     entry: Entry,
     peer: Option<Peer<'g, MemDisk>>,
 }
 
-/// Plays a match in room 0: each player in a thread of its own, over one ether, on an empty disk. Each takes `turns`
-/// turns, drawn by a generator of the seed and the player's number, as long as the gate lets it. The error is that
-/// memory ran out, or that an opening was refused.
+/// Plays a match in room 0. Each player has a thread of its own and an empty disk, and all share one ether. Each makes
+/// `turns` turns, which a generator draws from the seed and the player's number, unless the gate ends it earlier. The
+/// error is that memory ran out, or that an opening was refused.
 pub fn rig<'g, R: Threads + Wait + Sync, G: Watch + Sync>(
     rt: &R,
     alloc: Global,
@@ -126,7 +126,7 @@ fn work_at<'g, B: Room, R: Wait, G: Watch>(
     Played { entry, peer }
 }
 
-/// The entries and the peers, or `None` if a thread came back without a peer.
+/// Returns the entries and the peers, or `None` if a thread returned no peer.
 fn parted<'g>(
     alloc: Global,
     played: Vec<Played<'g>>,
@@ -149,7 +149,7 @@ fn parted<'g>(
     Ok(Some((entries, peers)))
 }
 
-/// Joins what all threads came back with.
+/// Joins what all threads returned.
 fn together<'g, B: Room>(
     alloc: Global,
     game: &Game,

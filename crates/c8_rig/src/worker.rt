@@ -110,7 +110,7 @@ impl<'a, 'g, B: Room, R: Wait, D: Disk> Seat<'a, 'g, B, R, D> {
         Ok(())
     }
 
-    /// The other player at this place in the order of their numbers, counted round.
+    /// Returns the other player at a place, in order of number, modulo how many others there are.
     fn other(&self, place: u32) -> Player {
         let others = u32::from(self.peer.players()).saturating_sub(1).max(1);
         let before = place % others + 1;
@@ -122,7 +122,7 @@ impl<'a, 'g, B: Room, R: Wait, D: Disk> Seat<'a, 'g, B, R, D> {
         player(number)
     }
 
-    /// Says this to the other player that the next word names.
+    /// Says this to another player, which the next word picks.
     fn say_to_one(&mut self, kind: Kind) -> Result<(), AllocError>
         ensures { HasPlayed D.Disk self.old.entry self.old.peer self.new.entry self.new.peer }
     {
@@ -131,7 +131,8 @@ impl<'a, 'g, B: Room, R: Wait, D: Disk> Seat<'a, 'g, B, R, D> {
         self.say(to, kind)
     }
 
-    /// Takes part in a drop round: player 1 drops, cuts and says FREEZE or CUT, the others answer.
+    /// Takes part in a drop round: player 1 drops a player, cuts its list, or says FREEZE or CUT. Any other player
+    /// answers.
     fn drop_round(&mut self) -> Result<(), AllocError>
         ensures { HasPlayed D.Disk self.old.entry self.old.peer self.new.entry self.new.peer }
     {
@@ -177,7 +178,7 @@ impl<'a, 'g, B: Room, R: Wait, D: Disk> Seat<'a, 'g, B, R, D> {
         }
     }
 
-    /// Makes `turns` turns, as long as the gate lets it and memory lasts.
+    /// Makes `turns` turns. It stops earlier if the gate ends it or memory runs out.
     fn play<G: Watch>(&mut self, turns: u64, gate: &G)
         ensures { HasPlayed D.Disk self.old.entry self.old.peer self.new.entry self.new.peer }
     {

@@ -23,7 +23,7 @@ appends_then (Some xs) (Some ys) (Some zs) a b x y = y ∙ ap (λ (t : List ℕ)
 
 -- ---- answers
 
--- A text was written, and with the lines of the remaining answers it is the lines of all.
+-- A text was written. The lines of the remaining answers complete it to the lines of all answers.
 pub record LinesSoFar (u v : Option (List ℕ)) (answers : List Answer) (i : ℕ) : Type 0 where
   pub text : List ℕ
   pub appended : Appends u v text
@@ -49,7 +49,7 @@ lines_all u v answers i all before =
 
 -- ---- ends
 
--- A text was written, and with the lines of the remaining players it is the lines of all.
+-- A text was written. The lines of the remaining players complete it to the lines of all players.
 pub record TalliesSoFar (u v : Option (List ℕ)) (players : ℕ) (tallies : List Tally) (i : ℕ) : Type 0 where
   pub text : List ℕ
   pub appended : Appends u v text

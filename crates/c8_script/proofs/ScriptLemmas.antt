@@ -1,4 +1,4 @@
--- The words of a line are read as what they spell, and as nothing else.
+-- The code reads the words of a line as what they spell, and as nothing else.
 use Rattle.std.proofs.Common.{◌≡◌, ℕ, suc, zero, ◌+◌, ◌-◌, ◌<◌, ◌≤◌, ◌⊎◌, Bool, true, false, ◌&&◌, cond, nat_lt, Option, Some, None, option_map, List, [], ◌∷◌, length, get_or, codes, refl, sym, ap, subst, ◌∙◌, arith, lit≤, inl, inr}
 use Rattle.std.proofs.Math.Bridge.{le_prop}
 use Rattle.std.proofs.lemmas.Bool.{and_parts, cond-true, le-leb, leb-true}

@@ -38,8 +38,8 @@ pub record IsNewWorld (rules : Rules) (t : TableValue) : Type 0 where
   pub holds : Holds t (start rules)
   pub disks : (p : ℕ) → IsPlayer t.rules p → IsNewDisk CAPACITY CALLS (node_of t p)
 
--- All events were run from a new world on, memory was enough, and these are the answers. Each event changed players and
--- disks as it must, and the ends and the journals describe the players that resulted.
+-- A new world ran all events, memory was enough, and these are the answers. Each event changed players and disks as its
+-- definition says, and the ends and the journals describe the players after the last one.
 pub record IsPlayed (rules : Rules) (events : List Event) (transcript : Transcript) : Type 0 where
   pub made : TableValue
   pub is_new : IsNewWorld rules made
@@ -53,7 +53,7 @@ pub record IsPlayed (rules : Rules) (events : List Event) (transcript : Transcri
   pub six : transcript.watched.six ≡ told_of events 6 (length (rows_in left 6))
   pub journals : AreImages left transcript.journals
 
--- The first of the events, with these answers; each changed a new world as it must.
+-- The first of the events, with these answers. Each changed a new world as its definition says.
 pub record HasBegun (rules : Rules) (events : List Event) (answers : List Answer) : Type 0 where
   pub before : List Event
   pub after : List Event
@@ -63,7 +63,7 @@ pub record HasBegun (rules : Rules) (events : List Event) (answers : List Answer
   pub left : TableValue
   pub turns : AreTurns before answers made left
 
--- The first of the events were run from a new world on, and these are the answers; none if memory ran out at once.
+-- A new world ran the first of the events, and these are the answers. If memory ran out at once there are none.
 pub record IsBegun (rules : Rules) (events : List Event) (answers : List Answer) : Type 0 where
   pub before : List Event
   pub after : List Event
@@ -109,7 +109,7 @@ IsPrinted (Err unfinished) text = AreLines 1 unfinished.answers.items text
 abbrev pub part_of_unfinished : Unfinished → Part
 part_of_unfinished unfinished = sim_part unfinished.error
 
--- `sim` ended like this: the two texts have an outcome; it answers its status, and has appended its text to the output.
+-- How `sim` ended: the two texts have an outcome. `sim` returned its status, and appended its text to the output.
 pub record HasEnded (game script : List ℕ) (status : Status) (old new : Option (List ℕ)) : Type 0 where
   pub outcome : Result Transcript Unfinished
   pub is_outcome : IsOutcomeOfSim game script outcome

@@ -15,9 +15,9 @@ use std::io;
 use std::io::Write;
 use std::rt::Files;
 
-/// Runs the script of one file for the game of another, as `sim` does with their texts, and writes the players' journals to
-/// the folder `journals`, if there is one. If a file cannot be read, the refusal is the disk's, whatever the other file says.
-/// If a journal cannot be written, so is the refusal, and nothing is written to `out`. The error is a writer's.
+/// Reads a game and a script from two files, and runs them as [`sim`] does. It writes the players' journals to the folder
+/// `journals`, if there is one. If a file cannot be read, the refusal is the disk's, whatever the other file says. If a
+/// journal cannot be written, so is the refusal, and nothing is written to `out`. The error is a writer's.
 pub fn sim_files<R, W: Write, E: Write>(
     rt: &R,
     game: &str,

@@ -6,7 +6,7 @@ use c8_command::{Site, Text};
 use c8_game::{Game, GameError, Lines};
 use std::alloc::{AllocError, Global};
 
-/// Where the fault is that makes `sim` refuse its two texts, if `explain` is true.
+/// Finds the fault for which `sim` refuses its two texts, if `explain` is true.
 pub(crate) fn site_if<'a>(
     explain: bool,
     alloc: Global,

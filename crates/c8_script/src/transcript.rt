@@ -38,15 +38,16 @@ pub struct Transcript {
     pub journals: Journals,
 }
 
-/// Why a script was not played to its end, and the answers to the events before that; none if a text was refused.
+/// Why a script was not played to its end, and the answers to the events before that moment. If a text was refused
+/// there are no answers.
 #[derive(Debug, Drop)]
 pub struct Unfinished {
     pub answers: Vec<Answer>,
     pub error: SimError,
 }
 
-/// Runs `script` for the players of the game that `game` spells, in a new world. `Memory` of the script is also the
-/// error if memory runs out while the events run.
+/// Runs `script` for the players of the game that `game` spells, in a new world. If memory runs out while the events
+/// run, the error is `Memory` of the script.
 pub fn play_script(alloc: Global, game: &[u8], script: &[u8]) -> Result<Transcript, Unfinished>
     ensures { IsOutcomeOfSim game.now script.now result }
 {

@@ -47,7 +47,7 @@ where
     }
 }
 
-/// Plays a match of the game in a file, as `rig` does with its text. With `script` it first creates the script's file,
+/// Reads a game from a file, and plays a match of it as [`rig`] does. With `script` it first creates the script's file,
 /// if the text spells a game and the script is another file. The error is a writer's.
 pub fn rig_file<R, W, E>(
     rt: &R,
@@ -91,7 +91,7 @@ where
     }
 }
 
-/// The system does not start as many threads as there are players.
+/// The refusal if the system starts fewer threads than the match needs.
 const NO_THREAD: Refusal = Refusal {
     part: Part::Socket,
     number: 4,
@@ -103,8 +103,8 @@ const NO_THREAD_SENTENCE: &str = "the system starts no more threads";
 /// How many milliseconds a thread sleeps while others are started.
 const PAUSE: u64 = 1;
 
-/// Whether the system starts so many threads, and one more, side by side. Where it starts none, `rig` would play one player
-/// after another.
+/// Returns whether the system starts `players` + 1 threads at the same time. On a system that starts no threads `rig`
+/// would play the players one after another.
 fn has_threads<R: Clock + Threads + Wait + Sync>(rt: &R, players: u8) -> bool {
     let is_over = AtomicBool::new(false);
     let common = &is_over;
@@ -139,10 +139,10 @@ fn is_same_file<R: Files<File = File>>(rt: &R, one: &str, other: &str) -> bool {
     }
 }
 
-/// Plays a match of the game that a text spells: each player in a thread of its own, with `turns` turns drawn by a
-/// generator of the seed. Writes the log as a script, if there is a `script`, and then the verdict to `out`. A refusal
-/// is one line on `refused`, with a second one for `--explain`. With `progress` it also writes there how the log grows.
-/// The error is a writer's.
+/// Plays a match of the game that a text spells. Each player has a thread of its own, and makes `turns` turns, which a
+/// generator draws from the seed. Writes the log to `script`, if there is one, and then the verdict to `out`. A refusal
+/// is one line on `refused`; `--explain` adds a second line. With `progress` it also writes to `refused` how the log
+/// grows. The error is a writer's.
 pub fn rig<R, S, W, E>(
     rt: &R,
     asked: &Asked<'_>,
@@ -217,7 +217,7 @@ fn write_to<S: Write>(alloc: Global, script: &mut S, log: &[Note]) -> Result<(),
     script.write_all(&text).map_err(|_| RigError::Script)
 }
 
-/// Plays the match, and meanwhile prints how the log grows, if asked for.
+/// Plays the match. If asked to, it prints meanwhile how the log grows.
 fn gathered<'g, R, E>(
     rt: &R,
     asked: &Asked<'_>,

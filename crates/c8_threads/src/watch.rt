@@ -15,7 +15,7 @@ const PAUSE: u64 = 5;
 /// How many seconds lie between two lines.
 const EVERY: u64 = 1;
 
-/// How many notes each player has, and whether the match is over.
+/// Counts the notes of each player, and notes the end of the match.
 #[derive(Drop)]
 pub(crate) struct Counts {
     notes: [AtomicU64; MOST_PLAYERS],
@@ -35,7 +35,7 @@ impl Counts {
         }
     }
 
-    /// Ends `tell`.
+    /// Makes `tell` end.
     pub(crate) fn end(&self) {
         self.is_over.store(true, Ordering::SeqCst);
     }
@@ -67,7 +67,7 @@ impl Counts {
     }
 }
 
-/// No player has to wait.
+/// Counts notes, and holds no player back.
 impl Gate for Counts {
     fn before(&self, _: Worker, _: u64) -> bool {
         true

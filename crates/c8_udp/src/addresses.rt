@@ -22,7 +22,7 @@ const NO_ADDRESS: &str = "-";
 pub enum Remote {
     /// At this address.
     At(SocketAddr),
-    /// At the address from which its packets come, once one has come. It needs a match with a secret.
+    /// At the address from which its packets come, once the first has come. This needs a match with a secret.
     Learnt,
 }
 
@@ -37,9 +37,9 @@ pub struct Addresses {
 
 impl Addresses {
     /// Reads the addresses of a player: the own one, those of the other players in order of number, and those of the
-    /// watchers in seats 5 and 6, if there are any. `-` stands for an address that is learnt. `Remotes` if there is not one
-    /// for each other player; otherwise `Address` if one cannot be read, or cannot be reached from the own address: it has
-    /// port 0, or is of another IP version; or if it is `-` and none may be learnt.
+    /// watchers in seats 5 and 6, if there are any. `-` stands for an address that is learnt. The error is `Remotes` if
+    /// the number of other players is wrong. Otherwise it is `Address` if an address cannot be read, cannot be reached
+    /// from the own one (port 0, or another IP version), or is `-` although none may be learnt.
     pub fn read(
         players: u8,
         me: Player,
@@ -73,8 +73,8 @@ impl Addresses {
         })
     }
 
-    /// Reads a watcher's own address, and player 1's. `Address` if one cannot be read, or if player 1's cannot be reached
-    /// from the own one.
+    /// Reads a watcher's own address, and player 1's. `Address` if one cannot be read, or if player 1's cannot be
+    /// reached from the own one.
     pub fn of_player_one(local: &str, one: &str) -> Result<Addresses, SocketError>
         ensures { IfErr result (λ error. error ≡ SocketError.Address) }
     {
@@ -87,7 +87,7 @@ impl Addresses {
         })
     }
 
-    /// Where each player and watcher is sent to at first, in order of their numbers.
+    /// The first contact of each player and watcher, in order of number.
     pub(crate) fn contacts(&self) -> [Contact; MOST_SEATS] {
         let [one, two, three, four] = self.others;
         let [five, six] = self.watchers;
@@ -102,7 +102,7 @@ impl Addresses {
     }
 }
 
-/// Where a player or watcher is sent to before anything has come from it.
+/// The contact of a player or watcher from which nothing has come yet.
 fn contact(remote: Option<Remote>) -> Contact {
     match remote {
         None => Contact::Nobody,
@@ -116,7 +116,7 @@ pub(crate) fn is_same(one: SocketAddr, other: SocketAddr) -> bool {
     one.port() == other.port() && one.ip().to_canonical() == other.ip().to_canonical()
 }
 
-/// The first of these words that is refused as an address, if any; they are judged as by [`Addresses::read`].
+/// Returns the first of these words that [`Addresses::read`] refuses as an address, if any.
 pub fn refused_address<'a>(
     local: &'a str,
     remotes: &[&'a str],
@@ -162,7 +162,7 @@ fn place_of(place: usize, me: Player) -> usize
     }
 }
 
-/// Reads how another player or a watcher is reached; an address has to be reachable from the own one.
+/// Reads how another player or a watcher is reached. An address must be reachable from the own one.
 fn remote_of(word: &str, local: SocketAddr, may_learn: bool) -> Result<Remote, SocketError>
     ensures { IfErr result (λ error. error ≡ SocketError.Address) }
 {

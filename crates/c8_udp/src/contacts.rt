@@ -1,25 +1,25 @@
-//! Where the players and watchers of a match are sent to, and how an address is learnt.
+//! The addresses to which packets for a player or watcher go, and how an address is learnt.
 
 use crate::addresses::is_same;
 use std::net::SocketAddr;
 use std::time::Duration;
 
-/// A player from whose address nothing has come for so many seconds may speak from another one.
+/// After this many seconds without a packet from its address, a player may continue from another address.
 const SILENCE: u64 = 2;
 
-/// Where a player or watcher is sent to.
+/// Where packets for a player or watcher go.
 #[derive(Clone, Copy, Debug, PartialEq, Eq)]
 pub(crate) enum Contact {
     /// Nowhere: there is no such player or watcher here.
     Nobody,
-    /// To an address that is given, and stays.
+    /// To an address of the command line, which never changes.
     Named(SocketAddr),
     /// To the address from which its packets come.
     Learnt(Whereabouts),
 }
 
 impl Contact {
-    /// Whether it has this address by its name.
+    /// Whether this is the named address of the contact.
     pub(crate) fn is_named(self, from: SocketAddr) -> bool {
         match self {
             Contact::Named(address) => is_same(address, from),
@@ -27,7 +27,7 @@ impl Contact {
         }
     }
 
-    /// The contact after a packet of it has come from an address.
+    /// The contact after a packet of this player came from an address.
     pub(crate) fn heard(self, from: SocketAddr, now: Duration) -> Contact {
         match self {
             Contact::Learnt(whereabouts) => Contact::Learnt(whereabouts.heard(from, now)),
@@ -45,13 +45,13 @@ impl Contact {
     }
 }
 
-/// From where a player's packets have come. While two addresses speak for it, both are sent to, so that a recorded packet
-/// which somebody sends again from elsewhere takes nothing from the player.
+/// The addresses from which a player's packets have come. While two of them are active, packets go to both. So nobody
+/// can cut a player off by replaying its packet from another address.
 #[derive(Clone, Copy, Debug, PartialEq, Eq)]
 pub(crate) struct Whereabouts {
-    /// The known address, which is always sent to.
+    /// The known address; packets always go there.
     known: Option<Voice>,
-    /// Another address, sent to as long as it speaks.
+    /// A second address; packets go there too until it is silent.
     other: Option<Voice>,
 }
 
@@ -63,14 +63,14 @@ struct Voice {
 }
 
 impl Voice {
-    /// Whether nothing has come from it for a while.
+    /// Whether nothing has come from it for `SILENCE` seconds.
     fn is_silent(self, now: Duration) -> bool {
         now.saturating_sub(self.last) >= Duration::from_secs(SILENCE)
     }
 }
 
 impl Whereabouts {
-    /// Nothing has come yet.
+    /// No address is known yet.
     pub(crate) fn unknown() -> Whereabouts {
         Whereabouts {
             known: None,
@@ -78,8 +78,8 @@ impl Whereabouts {
         }
     }
 
-    /// Notes where a packet has come from. Another address than the known one counts once that is silent, and takes its
-    /// place once it alone goes on to speak.
+    /// Notes the address of a packet. A second address is accepted once the known one is silent. It becomes the known
+    /// one with its next packet, if the known one is still silent and the second is not.
     fn heard(self, from: SocketAddr, now: Duration) -> Whereabouts {
         let voice = Voice {
             address: from,
@@ -100,12 +100,12 @@ impl Whereabouts {
         self.heard_elsewhere(voice, known, now)
     }
 
-    /// Notes that a packet has come from another address than the known one.
+    /// Notes a packet from an address other than the known one.
     fn heard_elsewhere(self, voice: Voice, known: Voice, now: Duration) -> Whereabouts {
         match self.other {
             Some(other) if is_same(other.address, voice.address) => {
                 if known.is_silent(now) && !other.is_silent(now) {
-                    // They change places: the player may come back to the address that was known.
+                    // They swap, because the player may return to the earlier address.
                     Whereabouts {
                         known: Some(voice),
                         other: Some(known),

@@ -7,7 +7,7 @@ use std::io;
 use std::io::ErrorKind;
 use thiserror::Error;
 
-/// Why the system refuses a socket.
+/// Why the system refuses to open a socket.
 #[derive(Clone, Copy, Debug, PartialEq, Eq, Error)]
 pub enum SocketFault {
     #[error("the own address is in use by another socket")]
@@ -23,7 +23,7 @@ pub enum SocketFault {
 }
 
 impl SocketFault {
-    /// The fault of a socket that could not be opened with this error.
+    /// Returns the fault for an error of the system.
     pub fn of(error: &io::Error) -> SocketFault {
         match error.kind() {
             ErrorKind::AddrInUse => SocketFault::InUse,

@@ -1,9 +1,9 @@
 //! Datagrams between peers over UDP.
 //!
-//! [`Udp`] is the `Wire` of a match over one socket: it sends to the addresses of the other players and the watchers
-//! ([`Addresses`]), and gives packets that come from these addresses alone. Below a wire that opens sealed packets it gives
-//! all packets, and learns addresses that are not named (`contacts`). A [`PolledUdp`] can also wait for a packet,
-//! until a [`Bell`] rings. A [`Socket`] is what a [`Udp`] asks of the system; a test can put its own in its place.
+//! [`Udp`] is the `Wire` of a match over one socket. It sends to the addresses of the other players and the watchers
+//! ([`Addresses`]), and returns only packets that come from these addresses. Below a wire that opens sealed packets it
+//! returns all packets, and learns addresses that are not named (`contacts`). A [`PolledUdp`] can also wait for a
+//! packet, until a [`Bell`] rings. A [`Socket`] is what a [`Udp`] needs of the system; a test can supply its own.
 #![tactic(auto)]
 
 mod addresses;

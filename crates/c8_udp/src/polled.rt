@@ -14,7 +14,7 @@ const PACKETS: Token = Token(0);
 
 const RING: Token = Token(1);
 
-/// How many reports one poll makes at most; there are two sources.
+/// The most events of one poll: one for each of the two sources.
 const MOST_EVENTS: usize = 2;
 
 /// A UDP wire whose `wait` ends when a packet comes, or when the bell rings.
@@ -32,15 +32,15 @@ pub struct Bell {
 }
 
 impl Bell {
-    /// Ends the wait that is under way, or else the next one.
+    /// Ends the present wait, or the next one if nobody waits.
     pub fn ring(&self) {
-        // If this fails, the wait ends when its time is up.
+        // If this fails, the wait ends at its timeout.
         let _ = self.waker.wake();
     }
 }
 
 impl PolledUdp {
-    /// Lets a wire wait, and returns its bell too. Fails if the system has no means of waiting, or if memory runs out
+    /// Makes a wire that can wait, and its bell. Fails if the system cannot poll, or if memory runs out
     /// (`OutOfMemory`).
     pub fn over<R: Net + AllocGlobal>(rt: &R, udp: Udp) -> io::Result<(PolledUdp, Bell)> {
         let mut udp = udp;
@@ -66,7 +66,7 @@ impl Wire for PolledUdp {
     }
 
     fn wait(&mut self, most: Duration) {
-        // If this fails, the wire waits for nothing.
+        // If this fails, the wire does not wait.
         let _ = self.poll.poll(&mut self.events, Some(most));
     }
 

@@ -1,4 +1,4 @@
-//! What a wire asks of the system.
+//! What a wire needs of the system.
 
 ghost use Rattle.std.specs.Prelude.{IfOk};
 ghost use Rattle.std.specs.Counts.{IsPrefixLen};
@@ -7,13 +7,13 @@ use mio::net::UdpSocket;
 use std::io;
 use std::net::SocketAddr;
 
-/// A socket for datagrams, whose calls answer `WouldBlock` where they would wait.
+/// A non-blocking socket for datagrams: its calls fail with `WouldBlock` instead of waiting.
 pub trait Socket {
     /// Sends a datagram.
     fn send_to(&self, datagram: &[u8], to: SocketAddr) -> io::Result<usize>;
 
-    /// Takes the next packet, and returns its length and the sender's address. Of a longer packet it gives the first
-    /// bytes, as many as the buffer holds.
+    /// Receives the next packet, and returns its length and the sender's address. A packet longer than the buffer is
+    /// cut to the buffer's length.
     fn recv_from(&self, packet: &mut [u8]) -> io::Result<(usize, SocketAddr)>
         ensures { IfOk result (λ r. IsPrefixLen r.0 packet.new) };
 }

@@ -1,4 +1,4 @@
-//! The way to the other players and the watchers over one UDP socket.
+//! The wire to the other players and the watchers over one UDP socket.
 
 ghost use Rattle.std.specs.Prelude.{◌≡◌, ◌<◌};
 
@@ -16,22 +16,21 @@ use std::io::ErrorKind;
 use std::net::{Net, SocketAddr};
 use std::time::Duration;
 
-/// How many packets from elsewhere, and reports of lost datagrams, `receive` passes over at most before it says that
-/// nothing has come. So a flood from elsewhere cannot hold up a turn for long, and few of its packets stand before those
-/// of the match.
+/// The most packets from unknown addresses and reports of lost datagrams that `receive` skips before it returns `None`.
+/// The limit keeps a flood from holding up a turn for long. It is high, so that the match's own packets get through.
 const MOST_SKIPPED: u16 = 4096;
 
-/// A UDP socket, and where the other players and the watchers are sent to. It gives packets from their addresses alone,
-/// unless it hears all. An error of the network that passes is a lost datagram; only a socket that was closed fails.
+/// A UDP socket, and the contacts of the other players and the watchers. It returns only packets from their addresses,
+/// unless `hears_all` is set. A temporary error of the network counts as a lost datagram; only a closed socket fails.
 #[derive(Drop)]
 pub struct Udp<S = UdpSocket> {
     socket: S,
     contacts: [Contact; MOST_SEATS],
-    /// Whether it gives packets from whatever address.
+    /// Whether it returns packets from any address.
     hears_all: bool,
-    /// Where the packet came from that was given last.
+    /// The address of the last packet that it returned.
     from: Option<SocketAddr>,
-    /// The time, as it was last told.
+    /// The time of the last `tell_time`.
     now: Duration,
     traffic: Traffic,
     losses: Losses,
@@ -48,7 +47,7 @@ impl Udp<UdpSocket> {
 }
 
 impl<S> Udp<S> {
-    /// Uses a socket that is already open, whatever its address.
+    /// Makes a wire over an open socket, whatever its local address is.
     pub fn over(socket: S, addresses: &Addresses) -> Udp<S> {
         Udp {
             socket,
@@ -61,8 +60,8 @@ impl<S> Udp<S> {
         }
     }
 
-    /// The wire that gives packets from whatever address. The wire above it has to know whose they are: it tells each
-    /// sender whose packet opens.
+    /// Makes the wire return packets from any address. The wire above it finds out who sent a packet, and reports it by
+    /// `tell_sender`.
     pub fn hearing_all(self) -> Udp<S>
         ensures { result.traffic ≡ self.traffic }
     {
@@ -76,7 +75,7 @@ impl<S> Udp<S> {
         &self.socket
     }
 
-    /// Whether it gives packets that come from an address.
+    /// Whether it returns packets from an address.
     fn hears(&self, from: SocketAddr) -> bool {
         if self.hears_all {
             return true;
@@ -94,14 +93,14 @@ impl<S> Udp<S> {
         self.contacts[place_of_seat(seat)].addresses(self.now)
     }
 
-    /// Counts a datagram that the network has lost.
+    /// Counts a datagram that the network lost.
     fn lose(&mut self)
         ensures { self.new.traffic ≡ self.old.traffic }
     {
         self.losses.lost = self.losses.lost.saturating_add(1);
     }
 
-    /// Counts a packet from elsewhere.
+    /// Counts a packet from an unknown address.
     fn turn_away(&mut self)
         ensures { self.new.traffic ≡ self.old.traffic }
     {
@@ -109,7 +108,7 @@ impl<S> Udp<S> {
     }
 }
 
-/// A poll reports the socket when a packet has come.
+/// Lets a poll wait for packets at the socket.
 impl<S: Source> Source for Udp<S> {
     ghost keeps = { λ old new. new.traffic ≡ old.traffic };
 
@@ -189,7 +188,7 @@ impl<S: Socket> Wire for Udp<S> {
                 Ok(_) => self.turn_away(),
                 Err(error) if error.kind() == ErrorKind::WouldBlock => return Ok(None),
                 Err(error) if is_closed(&error) => return Err(WireFailed),
-                // The system reports by any later call that a datagram was lost; packets may wait behind the report.
+                // The system may report a lost datagram at any later call. Packets may wait behind that report.
                 Err(_) => self.lose(),
             }
         }
@@ -212,8 +211,8 @@ impl<S: Socket> Wire for Udp<S> {
     }
 }
 
-/// Whether the socket is gone for good. Every other error passes: no room, nobody listens, no way to a host or network,
-/// a firewall that refuses, an address that an interface has lost.
+/// Whether the socket is closed. Every other error is temporary: no buffer space, nobody listens, a host or network is
+/// unreachable, a firewall refuses, an interface has lost its address.
 fn is_closed(error: &io::Error) -> bool {
     error
         .raw_os_error()

@@ -21,9 +21,9 @@ use Rattle.c8_world.specs.Agreement.{IsPlayer}
 abbrev pub HoldsNoMore : Rules → (ℕ → List Record) → ℕ → ℕ → ℕ → Type 0
 HoldsNoMore rules J s L n = (count rules L (J s) ≤ n) ⊎ ((K : ℕ) × (cut_of L (J 1) ≡ Some K) × (count rules L (J s) ≤ K))
 
--- J has each player's journal. The rules allow it. What it holds of a player is the beginning of what that player
--- entered. Each cut is player 1's too. If player 1 has a cut, each who stays froze the leaver with no more inputs. A
--- FREEZE keeps a count as it was until there is a cut.
+-- J has each player's journal. The rules allow each journal. The inputs that it holds of a player are the beginning of
+-- what that player entered. Player 1's journal has each cut. If player 1 has a cut, each stayer froze the leaver with
+-- no more inputs. After a FREEZE a count stays the same until there is a cut.
 pub record AreSound (rules : Rules) (room : ℕ) (J : ℕ → List Record) : Type 0 where
   pub valid : (p : ℕ) → IsPlayer rules p → IsJournal rules p room (J p)
   pub begins : (p q : ℕ) → IsPlayer rules p → IsPlayer rules q → Begins (held rules q (J p)) (held rules q (J q))

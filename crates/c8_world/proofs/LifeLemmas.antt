@@ -155,7 +155,7 @@ other_act (act_ofs.Hear number watcher) p other e = cc e
 other_act (act_ofs.Seen watcher) p other e = cc e
 other_act (act_ofs.Fresh watcher) p other e = cc e
 
--- what a run that ran out of memory has lived: the events so far, and what the last event adds
+-- the events that a run without enough memory adds to a life: those so far, and what the last event adds
 pub lived_on : (old mid new : WorldValue) (events : List asked.Event) (i : ℕ) (event : asked.Event) (told : List codes.Answer) → i < length events → event ≡ slice_index_or events i event
     → mid.events ≡ old.events ++ take i events → mid.answers ≡ old.answers ++ told → IsRefusedMemory event mid new → HasLivedOn old events told new
 lived_on old mid new events i event told within is events_are answers_are refused = record {
@@ -169,7 +169,7 @@ lived_on old mid new events i event told within is events_are answers_are refuse
   answers_are = refused.answers_are ∙ ap (λ (xs : List codes.Answer). xs ++ refused.told) answers_are;
 }
 
--- nothing has been lived
+-- no event has happened yet
 pub lived_none : (w : WorldValue) (events : List asked.Event) (told : List codes.Answer) → told ≡ [] → HasLivedOn w events told w
 lived_none w events told none = record {
   before = [];

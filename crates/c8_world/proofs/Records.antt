@@ -197,7 +197,7 @@ fits_got rules room J p q at start words sound plays q_plays may from stands fro
 cut_here : (q K L : ℕ) → slice_get (if q == q then K ∷ [] else []) 0 ≡ Some L → K ≡ L
 cut_here q K L is = let e = rw (self q) at is in cc
 
--- a CUT in another journal than player 1's, which has that cut
+-- a CUT in a journal of a player other than player 1; player 1's journal has the same cut
 pub fits_cut : (rules : Rules) (room : ℕ) (J : ℕ → List Record) (p q K at start : ℕ) (words : List ℕ) → AreSound rules room J → IsPlayer rules p → IsPlayer rules q → p ≢ 1
     → MayAdd rules room J p (Cut q K at (drop (count rules q (J p) - start) words)) → start ≤ count rules q (J p) → Stands start words (held rules q (J q))
     → cut_of q (J 1) ≡ Some K → count rules q (J p) + length (drop (count rules q (J p) - start) words) ≤ K

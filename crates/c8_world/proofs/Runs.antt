@@ -1,5 +1,5 @@
--- How a match is computed: what an event does to a world, if the sessions are equal and the marks agree, as a function
--- that reduces; and why a list of such events is a chain.
+-- Computes matches: a function that reduces to what an event does to a world, if the sessions are equal and the marks
+-- agree. A list of such events is a chain.
 use Rattle.std.proofs.Common.{◌≡◌, ℕ, ◌<◌, ◌^◌, List, [], ◌∷◌, Bool, true, false, Option, Some, None, Ok, refl, ap, subst, ◌∙◌, arith}
 use Rattle.std.specs.Prelude.{◌&&◌, not, nat_lt, if◌then◌else◌}
 use Rattle.std.specs.List.{slice_get}
@@ -99,7 +99,7 @@ mark_for t (packets.Cut c) = None
 mark_for t (packets.Show shown) = None
 mark_for t (packets.Seen ack) = None
 
--- those of a datagram, and the peer's own
+-- the session and mark of a datagram, and those of the peer
 abbrev pub named_in : Packet → Marks
 named_in packet = record { session = packet.head.session; mark = mark_in packet.message }
 
@@ -173,7 +173,7 @@ after_here rules room w (Do act) h = acted_here rules room w act h
 after_here rules room w (Stop act calls pick) h =
     record { answer = Stopped; world = crashed rules (acted_here rules room w act h).world (player_of act) h.leaves }
 
--- those of the datagram that an act delivers, and the own ones of the player who gets it
+-- the session and mark of the datagram that an act delivers, and those of the player who gets it
 abbrev pub named_of : Option Packet → Option Marks
 named_of None = None
 named_of (Some packet) = Some (named_in packet)

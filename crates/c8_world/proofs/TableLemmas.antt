@@ -107,7 +107,7 @@ placed_holds old new w p s said node rules_same room_same plays holds reached is
       six = rows.1 ∙ holds.six;
     }
 
--- it can happen, and memory is there
+-- the event can happen, and no memory is refused
 abbrev pub CanDo : Rules → ℕ → World → Event → Answer → World → Type 0
 CanDo rules room w event told v = (can : CanHappen rules room w event told v) × HadMemory can.happening
 

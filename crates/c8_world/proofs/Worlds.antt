@@ -444,7 +444,7 @@ fresh_awake rules room p J said n lawful = record {
   links = λ q is. absurd (both_ways (link_to (no_links rules p room n) q).is_open (no_link_open rules room p n q) is);
 }
 
--- of two changes of a peer the second counts
+-- the second of two changes of a peer replaces the first
 placed_twice : (w : World) (p : ℕ) (s t : State) (new : List Packet) → placed (placed w p s []) p t new ≡ placed w p t new
 placed_twice w p s t new = λ i. record w { peers = set-set w.peers (p - 1) s t i; said = append-nil w.said i ++ new }
 

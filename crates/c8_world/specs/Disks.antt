@@ -37,7 +37,7 @@ KeepSettings old new = (p : ℕ) → IsPlayer old.rules p → setting_at new p �
 abbrev pub armed : List Arm → Setting → Setting
 armed more s = record s { arms = s.arms ++ more }
 
--- The capacities stay, and each player's disk was armed with these values more.
+-- The capacities stay, and each player's disk was armed with these further values.
 abbrev pub AreArmed : (ℕ → List Arm) → TableValue → TableValue → Type 0
 AreArmed more old new = (p : ℕ) → IsPlayer old.rules p → setting_at new p ≡ armed (more p) (setting_at old p)
 
@@ -45,8 +45,8 @@ AreArmed more old new = (p : ℕ) → IsPlayer old.rules p → setting_at new p 
 abbrev pub for_player : ℕ → List Arm → ℕ → List Arm
 for_player player more p = if nat_eq p player then more else []
 
--- How an event arms the disks: not at all; but for a stop the player's own disk fails after that many calls, and for a
--- failure once after that many.
+-- How an event arms the disks. A stop arms the player's own disk to fail from that many calls on, a failure to fail one
+-- call after that many. Any other event arms no disk.
 abbrev pub arms_by : asked.Event → ℕ → List Arm
 arms_by (happenings.Do act) = λ p. []
 arms_by (happenings.Stop act calls pick) = for_player (player_of (act_of act)) (arms.Stop calls ∷ [])
@@ -62,8 +62,8 @@ arms_taken_back (happenings.Do act) = λ p. []
 arms_taken_back (happenings.Stop act calls pick) = for_player (player_of (act_of act)) (arms.Stop calls ∷ arms.Off ∷ [])
 arms_taken_back (happenings.Fail act calls) = for_player (player_of (act_of act)) (arms.Once calls ∷ arms.Off ∷ [])
 
--- How a run that ran out of memory armed the disks: as the events before do, and, if memory was refused at an event and
--- not for the report, as that event does.
+-- How a run that ran out of memory armed the disks: as the events before that moment do. If memory was refused at an
+-- event, and not for the report, that event armed them too.
 pub record AreArmedOut (events : List asked.Event) (old new : TableValue) : Type 0 where
   pub before : List asked.Event
   pub after : List asked.Event

@@ -42,14 +42,14 @@ AreSameRows a b = rows_below a (both a b) ≡ rows_below b (both a b)
 
 -- ---- the end of a world
 
--- Whether the pending record counts: not if the node has a peer; if the peer is away, exactly if a read of its disk
--- finds it.
+-- Whether the pending record counts. It does if the peer is away and a read of its disk finds the record, and in no
+-- other case.
 abbrev pub IsRead : State → Option Node → Bool → Type 0
 IsRead s None finds = ⊥
 IsRead s (Some (nodes.Held peer)) finds = finds ≡ false
 IsRead s (Some (nodes.Away disk)) finds = Keeps (found s finds) (bytes_of disk)
 
--- What a player at a node knows: what its journal says.
+-- A player at a node knows what its journal says.
 abbrev pub IsStanding : Rules → ℕ → State → Option Node → Standing → Type 0
 IsStanding rules p s node standing = (finds : Bool) × (known_at standing ≡ known_of rules p (found s finds)) × IsRead s node finds
 

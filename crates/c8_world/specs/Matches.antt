@@ -294,8 +294,8 @@ eleventh =
 abbrev pub told : List Line
 told = brings three 23 1 1 3 1 (cut_from 0 (replicate 10 0x0002)) Out ++ done (Do (Tick 3 0x0000)) (Told (Ticked (Err ticks.Dropped))) ∷ []
 
--- Players 1 and 3 both count eleven frames as confirmed, and do not agree: player 3 has been dropped. Players 1 and 2
--- agree.
+-- Players 1 and 3 both count eleven frames as confirmed and do not agree, because player 3 has been dropped. Players 1
+-- and 2 agree.
 pub record DiffersWhenDropped : Type 0 where
   pub end : World
   pub leads : Leads three (start three) (play ++ let_go ++ answers ++ cuts ++ eleventh) end

@@ -75,7 +75,7 @@ abbrev pub IsSaidAt : Rules → ℕ → ℕ → State → Call → Option (Resul
 IsSaidAt rules room p s call None bytes = s.mode ≢ Open
 IsSaidAt rules room p s call (Some result) bytes = (s.mode ≡ Open) × IsSaying rules p s call result bytes
 
--- An opening at a node: nothing is done if the peer is open; else it ends in one of the ways that it may.
+-- An opening at a node whose peer is not open. It ends in one of the ways that the definitions allow.
 pub record IsOpening (rules : Rules) (room p : ℕ) (s : State) (result : Result ℕ OpenError) (node : Node) : Type 0 where
   pub not_open : s.mode ≢ Open
   pub finds : Bool

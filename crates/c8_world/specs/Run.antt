@@ -67,8 +67,8 @@ pub record HasRunOut (old : TableValue) (w : World) (events : List asked.Event) 
   pub left : IsLeftBy (act_inside (event_of event)) then now
   pub holds : Holds new now
 
--- What an event at which memory was refused adds to a life: nothing; but if its act is an opening, an opening that was
--- answered with Memory.
+-- What an event adds to a life if memory was refused at it. An opening adds an opening that was answered with Memory,
+-- any other act adds nothing.
 abbrev pub IsAdded : asked.Event → List asked.Event → List codes.Answer → Type 0
 IsAdded event more told =
     (((p : ℕ) → act_inside (event_of event) ≢ Open p) × (more ≡ []) × (told ≡ []))
@@ -82,8 +82,8 @@ pub record IsRefusedMemory (event : asked.Event) (old new : WorldValue) : Type 0
   pub events_are : new.events ≡ old.events ++ more
   pub answers_are : new.answers ≡ old.answers ++ told
 
--- What a run that ran out of memory adds to a life: nothing if memory was refused for the report; else the events
--- before one, and what that one adds.
+-- What a run that ran out of memory adds to a life. If memory was refused for the report, it adds nothing. Otherwise it
+-- adds the events before the one at which memory was refused, and what that one adds.
 pub record HasLivedOn (old : WorldValue) (events : List asked.Event) (told : List codes.Answer) (new : WorldValue) : Type 0 where
   pub before : List asked.Event
   pub after : List asked.Event

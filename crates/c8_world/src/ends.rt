@@ -119,9 +119,9 @@ impl<'w, 'g> Standing<'w, 'g> {
     }
 }
 
-/// Returns whether all players that player 1 has not dropped have the same rows, up to the frames that each two of them
-/// count as confirmed. `standings` are those of all players of a match, player 1's first. A caller with the peers of a
-/// match uses this as [`crate::World::ends`] does for a world.
+/// Returns whether every two players that player 1 has not dropped have the same rows, up to the frames that both count
+/// as confirmed. `standings` has one item for each player of a match, player 1's first. [`crate::World::ends`] does
+/// this for a world; call it yourself if you have the peers of a match.
 pub fn all_agree(standings: &[Standing<'_, '_>]) -> bool
     requires few { length standings.now ≤ 4 }
     ensures { (result ≡ true) ↔ HaveAgreed standings.now }

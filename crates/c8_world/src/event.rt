@@ -32,7 +32,7 @@ pub enum Act {
     Fresh(Watcher),
 }
 
-/// An act, or one inside which its player stops, or one inside which its disk fails once.
+/// An act. Its player may stop inside it, or its disk may fail once.
 #[derive(Clone, Copy, Debug, PartialEq, Eq, Hash)]
 pub enum Event {
     Do(Act),
@@ -66,7 +66,7 @@ impl Event {
     ghost use Rattle.c8_world.specs.Events.{act_of, event_of};
     ghost use Rattle.c8_world.specs.World.{act_inside};
 
-    /// Returns the act, whether or not its player stops inside or its disk fails.
+    /// Returns the act, without its stop or failure.
     pub fn act(self) -> Act
         ensures { act_of result ≡ act_inside (event_of self) }
     {

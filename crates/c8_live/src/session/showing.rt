@@ -1,4 +1,4 @@
-//! What player 1 shows to watchers.
+//! Sends rows from player 1 to watchers.
 
 ghost use Rattle.std.specs.Prelude.{◌≡◌};
 ghost use Rattle.c8_live.specs.Turns.{HasSpoken};
@@ -17,8 +17,8 @@ pub(super) struct Watchers {
 }
 
 impl<'g, D: Disk> Session<'g, D> {
-    /// From now on shows a watcher what is confirmed: one SHOW a turn, from the first row that it has not acknowledged.
-    /// A peer other than player 1's shows nothing.
+    /// Starts to show a watcher the confirmed rows: one SHOW a turn, from the first row that the watcher has not
+    /// acknowledged. Only player 1's peer shows rows.
     pub fn show_to(&mut self, watcher: Watcher)
         ensures { self.new.peer ≡ self.old.peer }
     {
@@ -29,7 +29,7 @@ impl<'g, D: Disk> Session<'g, D> {
         }
     }
 
-    /// Shows each watcher what it lacks.
+    /// Shows each watcher the rows that it lacks.
     pub(super) fn show<W: Wire>(&self, wire: &mut W) -> Result<(), WireFailed>
         ensures spoke { HasSpoken D.Disk W.Wire self.now.peer wire.old wire.new }
     {

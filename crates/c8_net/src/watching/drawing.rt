@@ -11,16 +11,16 @@ use std::time::{Clock, Duration};
 /// How many pictures are due a second.
 const RATE: u8 = 60;
 
-/// Draws the screen, if wanted, sixty times a second by the clock, each picture by one write of the rows of text that
-/// have changed. Every sixtieth picture is drawn whole, because the terminal does not report a changed window size.
-/// After a write has failed it draws no more.
+/// Draws the screen, if wanted, sixty times a second by the clock. Each picture is one write of the rows of text that
+/// have changed. Every sixtieth picture is drawn whole, because the terminal does not report a new window size. After a
+/// write has failed it draws no more.
 #[derive(Drop)]
 pub(super) struct Drawing<'r, 'w, R, W> {
     rt: &'r R,
     out: &'w mut W,
     painter: Painter,
     beat: Beat,
-    /// The last time that the clock gave.
+    /// The last time of the clock.
     last: Duration,
     /// How many pictures were drawn since the last whole one.
     since_whole: u8,
