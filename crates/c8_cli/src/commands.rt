@@ -130,7 +130,15 @@ where
         Some(("sim", given)) => {
             let (game, script) = (word_of(given, "GAME"), word_of(given, "SCRIPT"));
             let journals = given.get_str("journals");
-            sim_files(rt, game, script, journals, is_explained(given), out, refused)
+            sim_files(
+                rt,
+                game,
+                script,
+                journals,
+                is_explained(given),
+                out,
+                refused,
+            )
         }
         Some(("rig", given)) => rig_given(rt, given, out, refused),
         Some(("show", given)) => {

@@ -13,10 +13,9 @@ use crate::{Arm, Disk, DiskError, FileError, GhostList};
 use health::Health;
 use held::Held;
 use std::alloc::Global;
-use std::fmt;
 use std::fs::File;
-use std::io;
 use std::rt::Files;
+use std::{fmt, io};
 pub use system::{OpenedFile, SystemFile};
 
 /// A disk in a file.

@@ -54,7 +54,13 @@ fn each_refusal_has_its_number_name_and_text(rt: HostRuntime) {
         file_tells(alloc, FileError::Failed, 1, "Failed", UNUSABLE)
             && file_tells(alloc, FileError::Full, 2, "Full", LONG)
             && file_tells(alloc, FileError::Memory, 3, "Memory", "out of memory")
-            && file_tells(alloc, FileError::Locked, 4, "Locked", "the file is open elsewhere")
+            && file_tells(
+                alloc,
+                FileError::Locked,
+                4,
+                "Locked",
+                "the file is open elsewhere"
+            )
     );
     assert!(rt;
         log_tells(alloc, LogError::Failed, 1, "Failed", "the disk failed")
