@@ -22,6 +22,8 @@ pub struct Asked<'m, 'a> {
     pub watchers: [Option<&'a str>; MOST_WATCHERS],
     /// The path of the players' secret, if the match has one.
     pub secret: Option<&'a str>,
+    /// The text of the players' secret, if it was not read from a file.
+    pub digits: Option<&'m [u8]>,
     /// The path of the watchers' secret, if the match has one; for player 1 only.
     pub watch_secret: Option<&'a str>,
     pub room: u64,
@@ -37,6 +39,10 @@ pub struct Asked<'m, 'a> {
     pub checkpoint: u32,
     /// Whether to print each second how far the peer is.
     pub progress: bool,
+    /// Whether to print at the end how the match ended.
+    pub says_end: bool,
+    /// Whether the terminal's bell stays silent when a tone begins.
+    pub is_muted: bool,
     /// Whether to print a second line that says where a refusal's fault is.
     pub explain: bool,
 }
@@ -179,6 +185,7 @@ pub fn asked_for<'m, 'a>(given: &'m ArgMatches<'a>, player: Player) -> Asked<'m,
         remotes: given.get_strs("REMOTE"),
         watchers: [given.get_str("watch5"), given.get_str("watch6")],
         secret: given.get_str("secret"),
+        digits: None,
         watch_secret: given.get_str("watch-secret"),
         room: number_of(given, "room").unwrap_or(0),
         has_room: given.contains_id("room"),
@@ -187,6 +194,8 @@ pub fn asked_for<'m, 'a>(given: &'m ArgMatches<'a>, player: Player) -> Asked<'m,
         stop: number_of(given, "stop"),
         checkpoint: interval_of(number_of(given, "checkpoint").unwrap_or(0)),
         progress: given.get_flag("progress"),
+        says_end: given.get_flag("progress"),
+        is_muted: true,
         explain: is_explained(given),
     }
 }

@@ -232,7 +232,7 @@ fn outcome_of<D: Disk + Drop, E: Write>(
         Ok(made) => made,
         Err(error) => return Err(PeerError::from(error)),
     };
-    if asked.progress {
+    if asked.says_end {
         let _ = tell_end(progress, made, &session);
     }
     machines_begin_where_they_did::<D>();

@@ -2,7 +2,7 @@
 
 use crate::arguments::Asked;
 use crate::error::PeerError;
-use crate::fault::{Fault, Why};
+use crate::fault::{Fault, INPUT, Why};
 use c8_command::TextError;
 use c8_disk::DiskError;
 use c8_game::Game;
@@ -46,10 +46,11 @@ pub(crate) fn seal_at<'a, R>(
 where
     R: Files<File = File> + AllocGlobal,
 {
-    let Some(path) = asked.secret else {
-        return Ok(None);
+    let players = match (asked.digits, asked.secret) {
+        (Some(digits), _) => digits_read(rt.alloc(), digits)?,
+        (None, Some(path)) => secret_at(rt, path)?,
+        (None, None) => return Ok(None),
     };
-    let players = secret_at(rt, path)?;
     let secrets = match asked.watch_secret {
         None => Secrets {
             players: Some(players),
@@ -97,6 +98,11 @@ fn seal_of(secrets: &Secrets, seat: Seat, session: u64) -> Seal {
         seat,
         session,
     }
+}
+
+/// The secret that standard input gave.
+fn digits_read<'a>(alloc: Global, digits: &[u8]) -> Result<Secret, Fault<'a>> {
+    Secret::read(digits).map_err(|error| Fault::new(alloc, PeerError::Secret(error), INPUT))
 }
 
 /// The secret in a file.

@@ -56,6 +56,7 @@ where
         remotes: Some(&[remote]),
         watchers: [None, None],
         secret: None,
+        digits: None,
         watch_secret: None,
         room: 3,
         has_room: true,
@@ -64,6 +65,8 @@ where
         stop,
         checkpoint: 0,
         progress: true,
+        says_end: false,
+        is_muted: true,
         explain: false,
     };
     let mut log = Log::new(rt.alloc());

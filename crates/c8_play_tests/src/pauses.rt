@@ -93,6 +93,7 @@ where
         remotes: Some(&[remote]),
         watchers: [None, None],
         secret: None,
+        digits: None,
         watch_secret: None,
         room: 3,
         has_room: true,
@@ -101,6 +102,8 @@ where
         stop: None,
         checkpoint: 0,
         progress: false,
+        says_end: false,
+        is_muted: true,
         explain: false,
     };
     let none = [None, None];

@@ -106,6 +106,7 @@ fn asked_for(row: Row) -> Asked<'static, 'static> {
         remotes: None,
         watchers: [None, None],
         secret: None,
+        digits: None,
         watch_secret: None,
         room: 0,
         has_room: true,
@@ -114,6 +115,8 @@ fn asked_for(row: Row) -> Asked<'static, 'static> {
         stop: row.stop,
         checkpoint: 0,
         progress: false,
+        says_end: false,
+        is_muted: true,
         explain: false,
     }
 }
